@@ -1,0 +1,170 @@
+-- Which sheets are accepted, and how many fields they have (document 01, "The sheet" and refusals 2 and 3).
+-- The first bad field decides; in one field 2 goes before 3. Assumes nothing.
+use Prim.Native.Nat.{ℕ, zero, suc, _+_, _-_, _^_}
+use mathlib.Core.Bool.{Bool, true, false, cond, _&&_, _||_, not}
+use mathlib.Core.List.{List, [], _∷_}
+use lib.ListN.{length}
+use lib.Dec.{leb, ltb, eqb}
+use Rattle.tlv.specs.Outcome.{Outcome, refused, done}
+use Rattle.tlv.specs.Lists.{exists}
+use Rattle.tlv.specs.Bytes.{leAt}
+use Rattle.tlv.specs.Limits.{fieldLimit, unitLimit, stringLimit, reasonLimit, depthLimit}
+use Rattle.tlv.specs.Fields.{Field, FieldList, end, cut, more, fields}
+
+-- what the fields so far leave to check the next one against
+pub record Context : Type 0 where
+  pub previous : ℕ    -- the tag of the last field, 0 before the first
+  pub count : ℕ       -- fields so far
+  pub units : ℕ       -- units so far
+  pub unitEnd : ℕ     -- where the last unit ends
+  pub unitLength : ℕ  -- its length
+  pub offset : ℕ      -- the least offset that the next entry may have
+  pub depth : ℕ       -- the largest depth that the next entry may have
+
+abbrev pub start : Context
+start = record { previous = 0; count = 0; units = 0; unitEnd = 0; unitLength = 0; offset = 0; depth = 0 }
+
+-- ---- the order: "A unit is 10, at most one 11, any 12; then optionally 13 and, only after one, any 14, at most one 1c, any 15, any 16; then entries, .."
+
+-- the tags that may stand after a tag
+unfoldable pub after : ℕ → List ℕ
+after t =
+    cond (eqb t 0x10) (0x10 ∷ 0x11 ∷ 0x12 ∷ 0x13 ∷ 0x17 ∷ [])
+    (cond (eqb t 0x11 || eqb t 0x12) (0x10 ∷ 0x12 ∷ 0x13 ∷ 0x17 ∷ [])
+    (cond (eqb t 0x13 || eqb t 0x14) (0x10 ∷ 0x14 ∷ 0x1c ∷ 0x15 ∷ 0x16 ∷ 0x17 ∷ [])
+    (cond (eqb t 0x1c || eqb t 0x15) (0x10 ∷ 0x15 ∷ 0x16 ∷ 0x17 ∷ [])
+    (cond (eqb t 0x16) (0x10 ∷ 0x16 ∷ 0x17 ∷ [])
+    (cond (eqb t 0x17 || eqb t 0x18) (0x10 ∷ 0x17 ∷ 0x18 ∷ 0x19 ∷ 0x1a ∷ [])
+    (cond (eqb t 0x19) (0x10 ∷ 0x17 ∷ 0x19 ∷ 0x1a ∷ [])
+    (cond (eqb t 0x1a) (0x10 ∷ 0x17 ∷ [])
+    (0x10 ∷ []))))))))
+
+unfoldable pub mayFollow : ℕ → ℕ → Bool
+mayFollow previous t = exists (eqb t) (after previous)
+
+-- ---- the shape of each field, by itself and against the fields before it
+
+abbrev pub isWord : ℕ → Bool
+isWord n = eqb n 4 || eqb n 8
+
+abbrev pub isVersion : ℕ → Bool
+isVersion n = leb 2 n && leb n 5
+
+abbrev pub isFlag : ℕ → Bool
+isFlag n = leb n 1
+
+-- 10 unit: section offset, length, version (1 byte, 2 to 5), word size (1 byte, 4 or 8).
+-- "Offset + length must not pass 2^64 − 1; units ascend without overlap."
+unfoldable pub unitShaped : Context → List ℕ → Bool
+unitShaped c p =
+    eqb (length p) 18 && isVersion (leAt 1 p 16) && isWord (leAt 1 p 17)
+    && ltb (leAt 8 p 0 + leAt 8 p 8) (2 ^ 64) && leb (c .unitEnd) (leAt 8 p 0)
+
+-- 12 executable range: start, end
+unfoldable pub textShaped : List ℕ → Bool
+textShaped p = eqb (length p) 16
+
+-- 13 line header: offset, header length, version, word size, opcode base (1 byte each), then any number of standard opcode lengths
+unfoldable pub headerShaped : List ℕ → Bool
+headerShaped p = leb 19 (length p) && isVersion (leAt 1 p 16) && isWord (leAt 1 p 17)
+
+-- 14 directory: a failed flag, the string
+unfoldable pub directoryShaped : List ℕ → Bool
+directoryShaped p = leb 1 (length p) && isFlag (leAt 1 p 0)
+
+-- 15 file and 1c file 0: a failed flag, the directory number, the string
+unfoldable pub fileShaped : List ℕ → Bool
+fileShaped p = leb 9 (length p) && isFlag (leAt 1 p 0)
+
+-- 16 row: address, file number, line, kind (1 byte: 0 plain, 1 end of sequence, 2 failed here): where the kind stands
+abbrev pub rowKindAt : ℕ
+rowKindAt = 24
+
+unfoldable pub rowShaped : List ℕ → Bool
+rowShaped p = eqb (length p) (rowKindAt + 1) && leb (leAt 1 p rowKindAt) 2
+
+-- 17 entry: offset in unit, depth (2 bytes), tag (2 bytes). "Entry offsets rise and stay below the length.
+-- The first entry has depth 0, later ones 1 to the previous plus 1."
+unfoldable pub entryShaped : Context → List ℕ → Bool
+entryShaped c p =
+    eqb (length p) 12 && leb (c .offset) (leAt 8 p 0) && ltb (leAt 8 p 0) (c .unitLength)
+    && leb (leAt 2 p 8) (c .depth) && (leb 1 (leAt 2 p 8) || eqb (c .depth) 0)
+
+-- the value of an attribute by its kind: 3 string, 10 failed (no value), else a number
+unfoldable pub valueShaped : ℕ → ℕ → Bool
+valueShaped kind n =
+    cond (eqb kind 3) true
+    (cond (eqb kind 10) (eqb n 0)
+    (leb 1 kind && leb kind 9 && eqb n 8))
+
+-- 18 attribute: name (2 bytes), kind (1 byte), value
+unfoldable pub attributeShaped : List ℕ → Bool
+attributeShaped p = leb 3 (length p) && valueShaped (leAt 1 p 2) (length p - 3)
+
+-- 19 range: start, end, tombstone flag
+unfoldable pub rangeShaped : List ℕ → Bool
+rangeShaped p = eqb (length p) 17 && isFlag (leAt 1 p 16)
+
+-- 1a range failure: stage (1 byte, "0 before any range, 1 after those given"; "stage 0 only with no 19"), reason
+unfoldable pub failureShaped : ℕ → List ℕ → Bool
+failureShaped previous p = leb 1 (length p) && isFlag (leAt 1 p 0) && (eqb (leAt 1 p 0) 1 || not (eqb previous 0x19))
+
+-- the payload of a field of tag t
+unfoldable pub payloadShaped : Context → ℕ → List ℕ → Bool
+payloadShaped c t p =
+    cond (eqb t 0x10) (unitShaped c p)
+    (cond (eqb t 0x11) true
+    (cond (eqb t 0x12) (textShaped p)
+    (cond (eqb t 0x13) (headerShaped p)
+    (cond (eqb t 0x14) (directoryShaped p)
+    (cond (eqb t 0x15 || eqb t 0x1c) (fileShaped p)
+    (cond (eqb t 0x16) (rowShaped p)
+    (cond (eqb t 0x17) (entryShaped c p)
+    (cond (eqb t 0x18) (attributeShaped p)
+    (cond (eqb t 0x19) (rangeShaped p)
+    (cond (eqb t 0x1a) (failureShaped (c .previous) p)
+    false))))))))))
+
+-- 2: a field that is no breach of the grammar
+unfoldable pub shaped : Context → Field → Bool
+shaped c f = mayFollow (c .previous) (f .tag) && payloadShaped c (f .tag) (f .payload)
+
+-- ---- 3: over 65,536 fields or 256 units in a sheet, a string or reason over 4,096 bytes, an entry depth over 1,024
+
+unfoldable pub payloadLimited : Context → ℕ → List ℕ → Bool
+payloadLimited c t p =
+    cond (eqb t 0x10) (ltb (c .units) unitLimit)
+    (cond (eqb t 0x11) (leb (length p) stringLimit)
+    (cond (eqb t 0x14) (leb (length p - 1) stringLimit)
+    (cond (eqb t 0x15 || eqb t 0x1c) (leb (length p - 9) stringLimit)
+    (cond (eqb t 0x17) (leb (leAt 2 p 8) depthLimit)
+    (cond (eqb t 0x18) (not (eqb (leAt 1 p 2) 3) || leb (length p - 3) stringLimit)
+    (cond (eqb t 0x1a) (leb (length p - 1) reasonLimit)
+    true))))))
+
+unfoldable pub limited : Context → Field → Bool
+limited c f = ltb (c .count) fieldLimit && payloadLimited c (f .tag) (f .payload)
+
+-- ---- the whole sheet
+
+unfoldable pub next : Context → Field → Context
+next c f =
+    let t = f .tag in
+    let p = f .payload in
+    cond (eqb t 0x10)
+        (record { previous = t; count = c .count + 1; units = c .units + 1; unitEnd = leAt 8 p 0 + leAt 8 p 8
+            ; unitLength = leAt 8 p 8; offset = 0; depth = 0 })
+    (cond (eqb t 0x17)
+        (record { previous = t; count = c .count + 1; units = c .units; unitEnd = c .unitEnd
+            ; unitLength = c .unitLength; offset = leAt 8 p 0 + 1; depth = leAt 2 p 8 + 1 })
+        (record { previous = t; count = c .count + 1; units = c .units; unitEnd = c .unitEnd
+            ; unitLength = c .unitLength; offset = c .offset; depth = c .depth }))
+
+-- the number of fields, or the refusal that the first bad field gives
+unfoldable pub checkFrom : Context → FieldList → Outcome ℕ
+checkFrom c end = done (c .count)
+checkFrom c cut = refused 2
+checkFrom c (more f fs) = cond (shaped c f) (cond (limited c f) (checkFrom (next c f) fs) (refused 3)) (refused 2)
+
+unfoldable pub checkSheet : List ℕ → Outcome ℕ
+checkSheet s = checkFrom start (fields s)

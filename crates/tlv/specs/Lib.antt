@@ -1,0 +1,10 @@
+pub mod Outcome
+pub mod Lists
+pub mod Bytes
+pub mod Limits
+pub mod Fields
+pub mod Grammar
+pub mod Model
+pub mod Output
+pub mod Reader
+pub mod Fits

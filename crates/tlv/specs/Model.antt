@@ -1,0 +1,159 @@
+-- A sheet as units and entries (document 01, "The sheet"): what the import reads of a sheet that the grammar accepts. Assumes nothing.
+use Prim.Native.Nat.{ℕ, zero, suc, _+_}
+use mathlib.Core.Bool.{Bool, true, false}
+use mathlib.Core.List.{List, [], _∷_, map}
+use mathlib.Core.Option.{Option, none, some}
+use lib.ListN.{length, drop}
+use lib.Dec.{eqb}
+use Rattle.tlv.specs.declared.model.AddressRange.{AddressRange}
+use Rattle.tlv.specs.Outcome.{Outcome, refused, done}
+use Rattle.tlv.specs.Lists.{mapOption}
+use Rattle.tlv.specs.Bytes.{leAt}
+use Rattle.tlv.specs.Fields.{Field, Group, Groups, grouped, payloads, payloadOf, fields, wholeFields}
+use Rattle.tlv.specs.Grammar.{rowKindAt}
+
+-- an attribute: its name, its kind, the number that its value spells, and its value's bytes
+pub record Attribute : Type 0 where
+  pub name : ℕ
+  pub kind : ℕ
+  pub value : ℕ
+  pub text : List ℕ
+
+-- a range of an entry, with the decoder's word on whether its start is a tombstone
+pub record EntryRange : Type 0 where
+  pub range : AddressRange
+  pub tombstone : Bool
+
+-- where reading an entry's ranges failed: before any (0) or after those given (1), and why
+pub record RangeFailure : Type 0 where
+  pub stage : ℕ
+  pub reason : List ℕ
+
+pub record Entry : Type 0 where
+  pub offset : ℕ
+  pub depth : ℕ
+  pub tag : ℕ
+  pub attributes : List Attribute
+  pub ranges : List EntryRange
+  pub failure : Option RangeFailure
+
+pub record LineHeader : Type 0 where
+  pub offset : ℕ
+  pub headerLength : ℕ
+  pub version : ℕ
+  pub wordSize : ℕ
+  pub opcodeBase : ℕ
+  pub opcodeLengths : List ℕ
+
+pub record Directory : Type 0 where
+  pub failed : Bool
+  pub path : List ℕ
+
+pub record HeaderFile : Type 0 where
+  pub failed : Bool
+  pub directory : ℕ
+  pub path : List ℕ
+
+-- kind 0 plain, 1 end of sequence, 2 failed here
+pub record LineRow : Type 0 where
+  pub address : ℕ
+  pub file : ℕ
+  pub line : ℕ
+  pub kind : ℕ
+
+pub record CompilationUnit : Type 0 where
+  pub offset : ℕ
+  pub length : ℕ
+  pub version : ℕ
+  pub wordSize : ℕ
+  pub directory : Option (List ℕ)
+  pub text : List AddressRange       -- the executable ranges
+  pub header : Option LineHeader
+  pub directories : List Directory
+  pub fileZero : Option HeaderFile   -- file 0 before version 5
+  pub files : List HeaderFile
+  pub rows : List LineRow
+  pub entries : List Entry
+
+-- ---- the fields' payloads
+
+abbrev pub flagAt : List ℕ → ℕ → Bool
+flagAt p i = eqb (leAt 1 p i) 1
+
+-- 12
+unfoldable pub rangeOf : List ℕ → AddressRange
+rangeOf p = record { start = leAt 8 p 0; end = leAt 8 p 8 }
+
+-- 13
+unfoldable pub headerOf : List ℕ → LineHeader
+headerOf p = record
+    { offset = leAt 8 p 0; headerLength = leAt 8 p 8; version = leAt 1 p 16; wordSize = leAt 1 p 17
+    ; opcodeBase = leAt 1 p 18; opcodeLengths = drop 19 p }
+
+-- 14
+unfoldable pub directoryOf : List ℕ → Directory
+directoryOf p = record { failed = flagAt p 0; path = drop 1 p }
+
+-- 15 and 1c
+unfoldable pub fileOf : List ℕ → HeaderFile
+fileOf p = record { failed = flagAt p 0; directory = leAt 8 p 1; path = drop 9 p }
+
+-- 16
+unfoldable pub rowOf : List ℕ → LineRow
+rowOf p = record { address = leAt 8 p 0; file = leAt 8 p 8; line = leAt 8 p 16; kind = leAt 1 p rowKindAt }
+
+-- 18
+unfoldable pub attributeOf : List ℕ → Attribute
+attributeOf p = record { name = leAt 2 p 0; kind = leAt 1 p 2; value = leAt 8 p 3; text = drop 3 p }
+
+-- 19
+unfoldable pub entryRangeOf : List ℕ → EntryRange
+entryRangeOf p = record { range = rangeOf p; tombstone = flagAt p 16 }
+
+-- 1a
+unfoldable pub failureOf : List ℕ → RangeFailure
+failureOf p = record { stage = leAt 1 p 0; reason = drop 1 p }
+
+-- 17 and what follows it
+unfoldable pub entryOf : Group → Entry
+entryOf g =
+    let p = g .head .payload in
+    record
+        { offset = leAt 8 p 0; depth = leAt 2 p 8; tag = leAt 2 p 10
+        ; attributes = map attributeOf (payloads 0x18 (g .rest))
+        ; ranges = map entryRangeOf (payloads 0x19 (g .rest))
+        ; failure = mapOption failureOf (payloadOf 0x1a (g .rest)) }
+
+-- 10 and what follows it: the fields before the first entry, and the entries
+unfoldable pub unitOf : Group → CompilationUnit
+unitOf g =
+    let p = g .head .payload in
+    let own = grouped 0x17 (g .rest) .before in
+    record
+        { offset = leAt 8 p 0; length = leAt 8 p 8; version = leAt 1 p 16; wordSize = leAt 1 p 17
+        ; directory = payloadOf 0x11 own
+        ; text = map rangeOf (payloads 0x12 own)
+        ; header = mapOption headerOf (payloadOf 0x13 own)
+        ; directories = map directoryOf (payloads 0x14 own)
+        ; fileZero = mapOption fileOf (payloadOf 0x1c own)
+        ; files = map fileOf (payloads 0x15 own)
+        ; rows = map rowOf (payloads 0x16 own)
+        ; entries = map entryOf (grouped 0x17 (g .rest) .groups) }
+
+-- the units of a sheet
+unfoldable pub units : List ℕ → List CompilationUnit
+units s = map unitOf (grouped 0x10 (wholeFields (fields s)) .groups)
+
+-- ---- where rows and ranges come from
+
+-- the rows of a unit with its line program: what the decoder has read
+unfoldable pub lineRows : CompilationUnit → List ℕ → Outcome (List LineRow)
+lineRows u program = done (u .rows)
+
+-- die_ranges: an entry's ranges, and where reading them failed
+pub record DieRanges : Type 0 where
+  pub given : List EntryRange
+  pub failure : Option RangeFailure
+
+unfoldable pub dieRanges : Entry → DieRanges
+dieRanges e = record { given = e .ranges; failure = e .failure }

@@ -1,0 +1,124 @@
+-- Reading trays back (document 01, "Trays use the same field shape"): total on any bytes, none where they are not in that form. Assumes nothing.
+use Prim.Native.Nat.{ℕ, zero, suc, _+_, _-_}
+use mathlib.Core.Bool.{Bool, true, false, cond, _&&_, _||_, not}
+use mathlib.Core.List.{List, [], _∷_, map}
+use mathlib.Core.Option.{Option, none, some}
+use lib.ListN.{length, take, drop}
+use lib.Dec.{leb, ltb, eqb}
+use Rattle.tlv.specs.declared.model.AddressRange.{AddressRange}
+use Rattle.tlv.specs.declared.model.FileIndex.{FileIndex}
+use Rattle.tlv.specs.declared.model.LineEntry.{LineEntry}
+use Rattle.tlv.specs.Lists.{exists, mapOption}
+use Rattle.tlv.specs.Bytes.{leAt}
+use Rattle.tlv.specs.Fields.{Field, FieldList, end, cut, more, fields, wholeFields, Group, Groups, grouped, payloads}
+use Rattle.tlv.specs.Model.{rangeOf}
+use Rattle.tlv.specs.Output.{FileEntry, InlineNode, CallSite, Function, WarningKind, rejectedRange, invalidStatementSequence, lineSequenceMismatch, missingLineFile, unrepresentableLine, missingInlineCallFile, invalidInlineCallLine, invalidDeclarationFile, invalidDeclarationLine, Warning, malformedRanges, about}
+
+-- ---- the form of a records tray
+
+-- the tags that may stand after a tag: rows before nodes before call sites, a range or more after each node
+unfoldable pub recordsAfter : ℕ → List ℕ
+recordsAfter t =
+    cond (eqb t 0x41 || eqb t 0x42) (0x41 ∷ 0x42 ∷ 0x43 ∷ 0x45 ∷ [])
+    (cond (eqb t 0x43) (0x44 ∷ [])
+    (cond (eqb t 0x44) (0x41 ∷ 0x43 ∷ 0x44 ∷ 0x45 ∷ [])
+    (cond (eqb t 0x45) (0x41 ∷ 0x45 ∷ [])
+    (0x41 ∷ []))))
+
+-- the start is below the end
+unfoldable pub rangeFormed : List ℕ → Bool
+rangeFormed p = ltb (leAt 8 p 0) (leAt 8 p 8)
+
+-- the payload of a field of tag t; `depth` is the largest that the next node may have. A function's first node has depth 0, later ones 1 or more, none more than 256
+unfoldable pub recordsFormed : ℕ → ℕ → List ℕ → Bool
+recordsFormed depth t p =
+    cond (eqb t 0x41) (leb 16 (length p) && rangeFormed p)
+    (cond (eqb t 0x42) (eqb (length p) 16)
+    (cond (eqb t 0x43) (leb 10 (length p) && leb (leAt 2 p 0) depth && leb (leAt 2 p 0) 256 && (leb 1 (leAt 2 p 0) || eqb depth 0))
+    (cond (eqb t 0x44) (eqb (length p) 16 && rangeFormed p)
+    (cond (eqb t 0x45) (leb 9 (length p))
+    false))))
+
+-- the largest depth of the next node, after a field
+unfoldable pub depthAfter : ℕ → Field → ℕ
+depthAfter depth f = cond (eqb (f .tag) 0x41) 0 (cond (eqb (f .tag) 0x43) (leAt 2 (f .payload) 0 + 1) depth)
+
+-- fields that follow a field of tag `previous` (0 before the first)
+unfoldable pub recordsForm : ℕ → ℕ → FieldList → Bool
+recordsForm previous depth end = not (eqb previous 0x43)
+recordsForm previous depth cut = false
+recordsForm previous depth (more f fs) =
+    exists (eqb (f .tag)) (recordsAfter previous) && recordsFormed depth (f .tag) (f .payload)
+    && recordsForm (f .tag) (depthAfter depth f) fs
+
+-- ---- what a records tray says
+
+unfoldable pub lineOf : List ℕ → LineEntry
+lineOf p = record { address = leAt 8 p 0; file = record { 0 = leAt 4 p 8 }; line = leAt 4 p 12 }
+
+unfoldable pub nodeOf : Group → InlineNode
+nodeOf g =
+    let p = g .head .payload in
+    record { depth = leAt 2 p 0; callFile = record { 0 = leAt 4 p 2 }; callLine = leAt 4 p 6; name = drop 10 p; ranges = map rangeOf (payloads 0x44 (g .rest)) }
+
+unfoldable pub siteOf : List ℕ → CallSite
+siteOf p = record { returnOffset = leAt 8 p 0; pattern = drop 9 p }
+
+unfoldable pub functionOf : Group → Function
+functionOf g =
+    let p = g .head .payload in
+    record
+        { range = rangeOf p; name = drop 16 p; lines = map lineOf (payloads 0x42 (g .rest))
+        ; inline = map nodeOf (grouped 0x43 (g .rest) .groups); callSites = map siteOf (payloads 0x45 (g .rest)) }
+
+unfoldable pub readRecords : List ℕ → Option (List Function)
+readRecords tray = cond (recordsForm 0 0 (fields tray)) (some (map functionOf (grouped 0x41 (wholeFields (fields tray)) .groups))) none
+
+-- ---- files and warnings: each field by itself
+
+module _ {A : Type 0} where
+  abbrev pub consOption : Option A → Option (List A) → Option (List A)
+  consOption none r = none
+  consOption (some a) none = none
+  consOption (some a) (some as′) = some (a ∷ as′)
+
+  unfoldable pub readEach : (Field → Option A) → FieldList → Option (List A)
+  readEach f end = some []
+  readEach f cut = none
+  readEach f (more x fs) = consOption (f x) (readEach f fs)
+
+unfoldable pub fileEntryOf : Field → Option FileEntry
+fileEntryOf f =
+    let p = f .payload in
+    let n = leAt 2 p 0 in
+    cond (eqb (f .tag) 0x40 && leb (2 + n) (length p)) (some (record { directory = take n (drop 2 p); basename = drop (2 + n) p })) none
+
+unfoldable pub readFiles : List ℕ → Option (List FileEntry)
+readFiles tray = readEach fileEntryOf (fields tray)
+
+-- the kind of a number
+unfoldable pub kindOf : ℕ → Option WarningKind
+kindOf n =
+    cond (eqb n 3) (some rejectedRange)
+    (cond (eqb n 4) (some invalidStatementSequence)
+    (cond (eqb n 5) (some lineSequenceMismatch)
+    (cond (eqb n 6) (some missingLineFile)
+    (cond (eqb n 7) (some unrepresentableLine)
+    (cond (eqb n 8) (some missingInlineCallFile)
+    (cond (eqb n 9) (some invalidInlineCallLine)
+    (cond (eqb n 10) (some invalidDeclarationFile)
+    (cond (eqb n 11) (some invalidDeclarationLine)
+    none))))))))
+
+-- 1 and 2 have a reason, the others two numbers
+unfoldable pub warningOf : Field → Option Warning
+warningOf f =
+    let p = f .payload in
+    let k = leAt 1 p 0 in
+    cond (eqb (f .tag) 0x46 && leb 1 (length p))
+        (cond (eqb k 1 || eqb k 2) (some (malformedRanges (eqb k 2) (drop 1 p)))
+        (cond (eqb (length p) 17) (mapOption (λ kind. about kind (leAt 8 p 1) (leAt 8 p 9)) (kindOf k)) none))
+        none
+
+unfoldable pub readWarnings : List ℕ → Option (List Warning)
+readWarnings tray = readEach warningOf (fields tray)

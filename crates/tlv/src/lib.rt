@@ -1,0 +1,2 @@
+// Type-length-value fields: what a sheet says, and what the trays are given.
+pub mod model;
