@@ -1,0 +1,7 @@
+pub mod Standard
+pub mod Program
+pub mod Paths
+pub mod Files
+pub mod Lines
+pub mod Rows
+pub mod Conforms

@@ -1,0 +1,106 @@
+-- Paths of files (the Rust's split_path, is_absolute_path, append_path, and the path that intern_file makes). Assumes nothing.
+use Prim.Native.Nat.{ℕ, zero, suc, _+_, _-_}
+use mathlib.Core.Bool.{Bool, true, false, cond, _&&_, _||_, not}
+use mathlib.Core.List.{List, [], _∷_, _++_}
+use mathlib.Core.Option.{Option, none, some}
+use lib.ListN.{length, take, drop}
+use lib.Dec.{leb, ltb, eqb}
+use Rattle.tlv.specs.Outcome.{Outcome, refused, done, _>>=_}
+use Rattle.tlv.specs.Lists.{exists, at, isEmpty}
+use Rattle.tlv.specs.Model.{CompilationUnit, LineHeader, Directory, HeaderFile}
+use Rattle.tlv.specs.Output.{FileEntry}
+use Rattle.lines.specs.Standard.{slash}
+
+abbrev pub backslash : ℕ
+backslash = 0x5c
+
+unfoldable pub isSeparator : ℕ → Bool
+isSeparator b = eqb b slash || eqb b backslash
+
+-- ---- split_path
+
+-- how many bytes stand before the byte after the last slash; 0 without a slash
+unfoldable pub baseStart : List ℕ → ℕ
+baseStart [] = 0
+baseStart (b ∷ s) = cond (ltb 0 (baseStart s)) (baseStart s + 1) (cond (eqb b slash) 1 0)
+
+unfoldable pub basenameOf : List ℕ → List ℕ
+basenameOf path = drop (baseStart path) path
+
+-- what stands before the last slash; where that is the first byte, the slash
+unfoldable pub directoryName : List ℕ → List ℕ
+directoryName path = cond (leb (baseStart path) 1) (take (baseStart path) path) (take (baseStart path - 1) path)
+
+-- ---- is_absolute_path
+
+unfoldable pub startsWith : ℕ → List ℕ → Bool
+startsWith b [] = false
+startsWith b (x ∷ s) = eqb x b
+
+unfoldable pub endsWith : ℕ → List ℕ → Bool
+endsWith b [] = false
+endsWith b (x ∷ []) = eqb x b
+endsWith b (x ∷ y ∷ s) = endsWith b (y ∷ s)
+
+-- a drive: a byte, a colon and a separator
+unfoldable pub isDrive : List ℕ → Bool
+isDrive [] = false
+isDrive (a ∷ []) = false
+isDrive (a ∷ b ∷ []) = false
+isDrive (a ∷ b ∷ c ∷ s) = eqb b 0x3a && isSeparator c
+
+-- a share: two equal separators, another byte, and a separator after it
+unfoldable pub isShare : List ℕ → Bool
+isShare [] = false
+isShare (a ∷ []) = false
+isShare (a ∷ b ∷ []) = false
+isShare (a ∷ b ∷ c ∷ s) = isSeparator a && eqb a b && not (isSeparator c) && exists isSeparator s
+
+unfoldable pub isAbsolute : List ℕ → Bool
+isAbsolute p = startsWith slash p || isDrive p || isShare p
+
+-- ---- append_path: one path below another, with a slash between where neither has one
+
+unfoldable pub appendPath : List ℕ → List ℕ → List ℕ
+appendPath path [] = path
+appendPath [] (b ∷ s) = b ∷ s
+appendPath (a ∷ path) (b ∷ s) =
+    cond (endsWith slash (a ∷ path) || startsWith slash (b ∷ s)) ((a ∷ path) ++ (b ∷ s)) ((a ∷ path) ++ (slash ∷ b ∷ s))
+
+-- ---- intern_file
+
+abbrev pub orEmpty : Option (List ℕ) → List ℕ
+orEmpty none = []
+orEmpty (some s) = s
+
+-- a directory that is not there is empty; a failed one refuses
+abbrev pub readDirectory : Option Directory → Outcome (List ℕ)
+readDirectory none = done []
+readDirectory (some d) = cond (d .failed) (refused 6) (done (d .path))
+
+-- the directory of a number: before version 5 number 0 is the compilation directory, which is put before it later, and the table numbers from 1
+unfoldable pub namedDirectory : CompilationUnit → ℕ → ℕ → Outcome (List ℕ)
+namedDirectory u version n =
+    cond (ltb version 5)
+        (cond (eqb n 0) (done []) (readDirectory (at (u .directories) (n - 1))))
+        (readDirectory (at (u .directories) n))
+
+-- a file's directory is one below the compilation directory: not directory 0 from version 5 on, which is that directory itself, nor an absolute one
+unfoldable pub needsCompilation : ℕ → ℕ → List ℕ → Bool
+needsCompilation version n directory = (ltb version 5 || not (eqb n 0)) && not (isAbsolute directory)
+
+-- the directory of a file with a relative path: `own` below the directory that its number names, and that below the compilation directory
+unfoldable pub joinedDirectory : ℕ → ℕ → List ℕ → List ℕ → List ℕ → List ℕ
+joinedDirectory version n compilation directory own =
+    appendPath (appendPath (cond (needsCompilation version n directory) compilation []) directory) own
+
+-- the file of a table entry: none for an empty path or one that ends in a slash
+unfoldable pub fileEntry : CompilationUnit → LineHeader → HeaderFile → Outcome (Option FileEntry)
+fileEntry u h f =
+    let own = directoryName (f .path) in
+    let base = basenameOf (f .path) in
+    cond (f .failed) (refused 6)
+    (cond (isEmpty base) (done none)
+    (cond (isAbsolute (f .path)) (done (some (record { directory = own; basename = base })))
+    (namedDirectory u (h .version) (f .directory) >>= λ d.
+    done (some (record { directory = joinedDirectory (h .version) (f .directory) (orEmpty (u .directory)) d own; basename = base })))))
