@@ -8,3 +8,4 @@ pub mod Model
 pub mod Output
 pub mod Reader
 pub mod Fits
+pub mod Accepted
