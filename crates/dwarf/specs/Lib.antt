@@ -1,0 +1,6 @@
+pub mod Ranges
+pub mod Tree
+pub mod Import
+pub mod Answer
+pub mod Agree
+pub mod Demand

@@ -4,4 +4,5 @@ pub mod Paths
 pub mod Files
 pub mod Lines
 pub mod Rows
+pub mod RowsAgree
 pub mod Conforms

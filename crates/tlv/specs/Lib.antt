@@ -1,4 +1,5 @@
 pub mod Outcome
+pub mod Addresses
 pub mod Lists
 pub mod Bytes
 pub mod Limits

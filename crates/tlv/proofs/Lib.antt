@@ -1,0 +1,9 @@
+pub mod ListLaws
+pub mod ByteLaws
+pub mod FieldLaws
+pub mod GroupLaws
+pub mod PayloadLaws
+pub mod RecordFields
+pub mod RecordGroups
+pub mod RecordForm
+pub mod ReadBack
