@@ -19,7 +19,7 @@ use Rattle.dwarf.specs.Ranges.{coalesceRanges}
 -- ---- which ranges are kept
 
 -- r lies inside one of ps (AddressRange::contains_range, of a nonempty r)
-unfoldable pub liesIn : List AddressRange → AddressRange → Bool
+abbrev pub liesIn : List AddressRange → AddressRange → Bool
 liesIn [] r = false
 liesIn (p ∷ ps) r = (leb (p .start) (r .start) && leb (r .end) (p .end)) || liesIn ps r
 

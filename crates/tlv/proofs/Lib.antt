@@ -7,3 +7,7 @@ pub mod RecordFields
 pub mod RecordGroups
 pub mod RecordForm
 pub mod ReadBack
+pub mod AcceptedLists
+pub mod AcceptedFields
+pub mod AcceptedGroups
+pub mod AcceptedUnits

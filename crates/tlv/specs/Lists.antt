@@ -77,10 +77,3 @@ module _ {A : Type 0} (P : A → Type 0) where
   abbrev pub All : List A → Type 0
   All [] = Unit {0}
   All (x ∷ xs) = P x × All xs
-
--- the same elements, each as often, in another order
-pub data Shuffle {A : Type 0} : List A → List A → Type 0 where
-  unchanged : {xs : List A} → Shuffle xs xs
-  later : {x : A} {xs ys : List A} → Shuffle xs ys → Shuffle (x ∷ xs) (x ∷ ys)
-  swap : {x y : A} {xs : List A} → Shuffle (x ∷ y ∷ xs) (y ∷ x ∷ xs)
-  both : {xs ys zs : List A} → Shuffle xs ys → Shuffle ys zs → Shuffle xs zs

@@ -1,0 +1,14 @@
+pub mod AnyLaws
+pub mod RangeLaws
+pub mod StackMachine
+pub mod ListAgree
+pub mod KeepLaws
+pub mod Chain
+pub mod Numbers
+pub mod MachineLaws
+pub mod Loop
+pub mod ListDemand
+pub mod ListUnique
+pub mod Shift
+pub mod UnitDemand
+pub mod OneJudgement

@@ -1,0 +1,11 @@
+pub mod Lists
+pub mod Leb128
+pub mod Operands
+pub mod Beside
+pub mod Instructions
+pub mod Programs
+pub mod LastSlash
+pub mod Joining
+pub mod Directories
+pub mod Paths
+pub mod Bounds
