@@ -12,3 +12,5 @@ pub mod ListUnique
 pub mod Shift
 pub mod UnitDemand
 pub mod OneJudgement
+pub mod Cases
+pub mod Printed

@@ -4,3 +4,5 @@ pub mod Import
 pub mod Answer
 pub mod Agree
 pub mod Demand
+pub mod Cases
+pub mod Printed
