@@ -14,3 +14,8 @@ pub mod UnitDemand
 pub mod OneJudgement
 pub mod Cases
 pub mod Printed
+pub mod Refusals
+pub mod Positions
+pub mod Adding
+pub mod Subjects
+pub mod Records

@@ -9,3 +9,12 @@ pub mod Joining
 pub mod Directories
 pub mod Paths
 pub mod Bounds
+pub mod Refusals
+pub mod OutcomeLaws
+pub mod AllLaws
+pub mod OrderLaws
+pub mod PathBounds
+pub mod FileBounds
+pub mod RunBounds
+pub mod LineBounds
+pub mod RowLaws

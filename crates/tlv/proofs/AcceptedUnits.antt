@@ -5,6 +5,7 @@ use mathlib.Core.List.{List, [], _∷_, map}
 use Prim.Native.Nat.{ℕ, suc}
 use native.Mathlib.Numerals.{add-one}
 use lib.Dec.{eqb}
+use lib.ListN.{length-map}
 use borrow.Author.Tests.{eqb-true, ne-eqb}
 use Rattle.tlv.specs.Lists.{All}
 use Rattle.tlv.specs.Bytes.{leAt}
@@ -16,6 +17,7 @@ use Rattle.tlv.proofs.AcceptedLists.{all-map, given-map}
 use Rattle.tlv.proofs.AcceptedFields.{Passed, AllPassed, shape-is, limit-is, promised-all, promised-first}
 use Rattle.tlv.proofs.AcceptedFields.{unit-promise, directory-promise, text-promise, directories-promise, file-promise, file-zero-promise}
 use Rattle.tlv.proofs.AcceptedFields.{row-promise, attribute-promise, range-promise, failure-promise, entry-from, entry-within, entry-step, entry-depth}
+use Rattle.tlv.proofs.AcceptedCounts.{few-payloads}
 use Rattle.tlv.proofs.AcceptedGroups.{Without, Passage, fields-bytes, checked-passed, grouped-passed}
 
 -- ---- what a field leaves for the next
@@ -106,6 +108,7 @@ unit-accepted g h =
       fileZero = given-map (λ d. String (d .path)) fileOf (payloadOf 0x1c own) (promised-first 0x1c _ file-zero-promise c′ own o);
       files = all-map (λ d. String (d .path)) fileOf (payloads 0x15 own) (promised-all 0x15 _ file-promise c′ own o);
       rows = all-map RowAccepted rowOf (payloads 0x16 own) (promised-all 0x16 _ row-promise c′ own o);
+      few = simp length-map (few-payloads 0x16 c′ own o);
       entries = es .each;
       ordered = es .ordered;
     }

@@ -10,4 +10,6 @@ pub mod ReadBack
 pub mod AcceptedLists
 pub mod AcceptedFields
 pub mod AcceptedGroups
+pub mod AcceptedCounts
 pub mod AcceptedUnits
+pub mod RefusalLaws

@@ -8,9 +8,9 @@ use Rattle.tlv.specs.declared.model.AddressRange.{AddressRange}
 use Rattle.tlv.specs.Outcome.{Outcome, done}
 use Rattle.tlv.specs.Lists.{All}
 use Rattle.tlv.specs.Bytes.{Bytes}
-use Rattle.tlv.specs.Limits.{stringLimit, reasonLimit, depthLimit}
+use Rattle.tlv.specs.Limits.{fieldLimit, stringLimit, reasonLimit, depthLimit}
 use Rattle.tlv.specs.Grammar.{checkSheet}
-use Rattle.tlv.specs.Model.{Attribute, EntryRange, RangeFailure, Entry, LineHeader, Directory, HeaderFile, LineRow, CompilationUnit, units}
+use Rattle.tlv.specs.Model.{Attribute, EntryRange, RangeFailure, Entry, Directory, HeaderFile, LineRow, CompilationUnit, units}
 
 abbrev pub Small : AddressRange → Type 0
 Small r = (r .start < 2 ^ 64) × (r .end < 2 ^ 64)
@@ -57,6 +57,7 @@ pub record UnitAccepted (u : CompilationUnit) : Type 0 where
   pub fileZero : Given (λ f. String (f .path)) (u .fileZero)
   pub files : All (λ f. String (f .path)) (u .files)
   pub rows : All RowAccepted (u .rows)
+  pub few : length (u .rows) ≤ fieldLimit
   pub entries : All (EntryAccepted (u .length)) (u .entries)
   pub ordered : Ordered 0 0 (u .entries)
 

@@ -1,0 +1,156 @@
+-- The rows that a function takes stay in its range, never fall, never repeat a neighbour, and fit their fields. Assumes nothing.
+use mathlib.Core.Path.{_≡_, refl, ap}
+use mathlib.Core.Bool.{Bool, true, false, cond, _&&_}
+use mathlib.Core.List.{List, [], _∷_, _++_}
+use mathlib.Core.Option.{Option, none, some}
+use Prim.Native.Nat.{ℕ, _^_, _≤_, _<_}
+use native.Mathlib.Omega.{arith}
+use borrow.Author.Tests.{leb-true, ltb-true, eq-eqb}
+use lib.Dec.{leb, ltb}
+use Rattle.tlv.specs.declared.model.AddressRange.{AddressRange}
+use Rattle.tlv.specs.declared.model.FileIndex.{FileIndex}
+use Rattle.tlv.specs.declared.model.LineEntry.{LineEntry}
+use Rattle.tlv.specs.Addresses.{RangeHolds, Nonempty}
+use Rattle.tlv.specs.Lists.{All, filter, first, last, orElse}
+use Rattle.tlv.specs.Accepted.{Given}
+use Rattle.tlv.specs.Fits.{LineFits}
+use Rattle.tlv.proofs.ListLaws.{all-map}
+use Rattle.lines.specs.Lines.{SequencedLine, LineSequenceRange, UnitLines, sameLine, dropAfter, dropNeighbours}
+use Rattle.lines.specs.Rows.{contains, belongs, compactLineRows, ownRows, movedTo, earlierIn, earlierRow, startsLate, selectedSequence, rowsFor, forRange}
+use Rattle.lines.specs.RowsAgree.{Rising, Repeats, Distinct, RowsAgree}
+use Rattle.lines.proofs.Bounds.{LinesFit}
+use Rattle.lines.proofs.AllLaws.{all-append, all-filter, all-last, all-image, all-drop-neighbours}
+use Rattle.lines.proofs.OrderLaws.{ascending-lower, ascending-from, ascending-filter, ascending-image, ascending-drop-neighbours}
+
+-- ---- no neighbour repeats
+
+repeats-same : (x y : LineEntry) → Repeats x y → sameLine x y ≡ true
+repeats-same x y h = rw (eq-eqb (x .file .0) (y .file .0) (ap (λ (i : FileIndex). i .0) (h .0)), eq-eqb (x .line) (y .line) (h .1))
+
+drop-after-distinct : (x : LineEntry) (ys : List LineEntry) → Distinct (x ∷ dropAfter sameLine x ys)
+unfolding dropAfter
+drop-after-distinct x [] = tt
+drop-after-distinct x (y ∷ ys) = go (sameLine x y) refl (drop-after-distinct x ys) (drop-after-distinct y ys)
+  where
+    differ : sameLine x y ≡ false → ¬ Repeats x y
+    differ e r = let s = repeats-same x y r in let z : _≡_ {A = ℕ} 0 1 = cc in omega arith
+
+    go : (b : Bool) → sameLine x y ≡ b → Distinct (x ∷ dropAfter sameLine x ys) → Distinct (y ∷ dropAfter sameLine y ys)
+        → Distinct (x ∷ cond b (dropAfter sameLine x ys) (y ∷ dropAfter sameLine y ys))
+    go true e h k = h
+    go false e h k = (differ e, k)
+
+compact-distinct : (ls : List LineEntry) → Distinct (compactLineRows ls)
+unfolding compactLineRows dropNeighbours
+compact-distinct [] = tt
+compact-distinct (x ∷ xs) = drop-after-distinct x xs
+
+-- ---- the table's rows in a range, and the row put first
+
+contains-holds : (r : AddressRange) (a : ℕ) (more : Bool) → contains r a && more ≡ true → RangeHolds r a
+unfolding contains
+contains-holds r a more = go (leb (r .start) a) refl (ltb a (r .end)) refl
+  where
+    go : (b : Bool) → leb (r .start) a ≡ b → (c : Bool) → ltb a (r .end) ≡ c → b && c && more ≡ true → RangeHolds r a
+    go true e true d h = (leb-true (r .start) a e, ltb-true a (r .end) d)
+    go true e false d h = let z : _≡_ {A = ℕ} 0 1 = cc in absurd (omega arith)
+    go false e c d h = let z : _≡_ {A = ℕ} 0 1 = cc in absurd (omega arith)
+
+-- a row in the range, whose numbers fit
+abbrev OwnFits : AddressRange → LineEntry → Type 0
+OwnFits r x = RangeHolds r (x .address) × LineFits x
+
+-- a row at an address, whose other numbers fit
+record MovedFits (a : ℕ) (x : LineEntry) : Type 0 where
+  pub address : x .address ≡ a
+  pub file : x .file .0 < 2 ^ 32
+  pub line : x .line < 2 ^ 32
+
+moved-fit : (a : ℕ) (o : Option SequencedLine) → Given (λ x. LineFits (x .entry)) o → All (MovedFits a) (movedTo a o)
+moved-fit a none f = tt
+moved-fit a (some x) f = (record { address = refl; file = f .file; line = f .line }, tt)
+
+moved-rising : (a : ℕ) (o : Option SequencedLine) (ls : List LineEntry) → Rising a ls → Rising a (movedTo a o ++ ls)
+moved-rising a none ls h = h
+moved-rising a (some x) ls h = (omega arith, h)
+
+module _ (l : UnitLines) (fits : LinesFit l) (a : ℕ) (s : Option ℕ) where
+  -- the last earlier row, moved to a, and a list that it is put before
+  earlier-fit : (o : Option LineSequenceRange) → All (MovedFits a) (earlierIn l a s o)
+  earlier-fit none = tt
+  earlier-fit (some q) = moved-fit a (last before (l .entries)) (all-last (λ x. LineFits (x .entry)) before (l .entries) (fits .entries))
+    where
+      before : SequencedLine → Bool
+      before x = ltb (x .entry .address) a && belongs (orElse s (q .statementSequence)) (x .statementSequence)
+
+  earlier-rising : (o : Option LineSequenceRange) (ls : List LineEntry) → Rising a ls → Rising a (earlierIn l a s o ++ ls)
+  earlier-rising none ls h = h
+  earlier-rising (some q) ls h =
+      moved-rising a (last (λ x. ltb (x .entry .address) a && belongs (orElse s (q .statementSequence)) (x .statementSequence)) (l .entries)) ls h
+
+-- ---- the rows of a function
+
+module _ (l : UnitLines) (fits : LinesFit l) (r : AddressRange) (s : Option ℕ) where
+  own : SequencedLine → Bool
+  own x = contains r (x .entry .address) && belongs s (x .statementSequence)
+
+  own-fit : All (OwnFits r) (ownRows l r s)
+  unfolding ownRows own
+  own-fit = all-image (OwnFits r) (λ x. x .entry) (filter own (l .entries))
+      (all-map (filter own (l .entries)) one (all-filter (λ x. LineFits (x .entry)) own (l .entries) (fits .entries)))
+    where
+      one : (x : SequencedLine) → LineFits (x .entry) × (own x ≡ true) → OwnFits r (x .entry)
+      one x h = (contains-holds r (x .entry .address) (belongs s (x .statementSequence)) (h .1), h .0)
+
+  own-rising : Rising (r .start) (ownRows l r s)
+  unfolding ownRows own
+  own-rising =
+      ascending-from (λ x. x .address) (r .start) 0 (ownRows l r s) (all-map (ownRows l r s) (λ x h. h .0 .0) own-fit)
+          (ascending-image (λ x. x .address) (λ x. x .entry) 0 (filter own (l .entries)) (ascending-filter (λ x. x .entry .address) own 0 (l .entries) (fits .sorted)))
+
+  -- the first sequence that covers the start
+  covering : Option LineSequenceRange
+  covering = first (λ q. belongs s (q .statementSequence) && contains (q .range) (r .start)) (l .sequences)
+
+  -- a row is one of the table's in the range, or one moved to the start
+  rows-all : (P : LineEntry → Type 0)
+      → ((x : LineEntry) → OwnFits r x → P x) → ((x : LineEntry) → MovedFits (r .start) x → P x) → All P (rowsFor l r s)
+  unfolding rowsFor compactLineRows earlierRow covering
+  rows-all P f g = all-drop-neighbours P sameLine _ (go (startsLate (r .start) (ownRows l r s)))
+    where
+      owned : All P (ownRows l r s)
+      owned = all-map (ownRows l r s) f own-fit
+
+      go : (b : Bool) → All P (cond b (earlierRow l r s ++ ownRows l r s) (ownRows l r s))
+      go true = all-append P (earlierRow l r s) (ownRows l r s) (all-map (earlierRow l r s) g (earlier-fit l fits (r .start) s covering)) owned
+      go false = owned
+
+  rows-rising : Rising (r .start) (rowsFor l r s)
+  unfolding rowsFor compactLineRows earlierRow covering
+  rows-rising = ascending-drop-neighbours (λ x. x .address) sameLine (r .start) _ (go (startsLate (r .start) (ownRows l r s)))
+    where
+      go : (b : Bool) → Rising (r .start) (cond b (earlierRow l r s ++ ownRows l r s) (ownRows l r s))
+      go true = earlier-rising l fits (r .start) s covering (ownRows l r s) own-rising
+      go false = own-rising
+
+  rows-distinct : Distinct (rowsFor l r s)
+  unfolding rowsFor
+  rows-distinct = compact-distinct _
+
+pub rows-agree : (l : UnitLines) (r : AddressRange) (requested : Option ℕ) → LinesFit l → Nonempty r → RowsAgree r (forRange l r requested .rows)
+unfolding forRange
+rows-agree l r requested fits filled =
+    let s = selectedSequence l requested in
+    record
+        { within = rows-all l fits r s (λ x. RangeHolds r (x .address)) (λ x h. h .0) (λ x h. omega (arith, h .address))
+        ; rising = ascending-lower (λ x. x .address) 0 (r .start) (rowsFor l r s) (omega arith) (rows-rising l fits r s)
+        ; distinct = rows-distinct l fits r s }
+
+pub rows-fit : (l : UnitLines) (r : AddressRange) (requested : Option ℕ) → LinesFit l → r .end ≤ 2 ^ 64 → Nonempty r → All LineFits (forRange l r requested .rows)
+unfolding forRange
+rows-fit l r requested fits small filled =
+    rows-all l fits r (selectedSequence l requested) LineFits (λ x h. h .1) (λ x h. record { address = omega (arith, h .address); file = h .file; line = h .line })
+
+-- the row of a declaration
+pub one-row-agrees : (r : AddressRange) (l : LineEntry) → Nonempty r → l .address ≡ r .start → RowsAgree r (l ∷ [])
+one-row-agrees r l filled e = record { within = (omega arith, tt); rising = (omega arith, tt); distinct = tt }
