@@ -19,3 +19,9 @@ pub mod Positions
 pub mod Adding
 pub mod Subjects
 pub mod Records
+pub mod WalkPlaces
+pub mod WalkSteps
+pub mod WalkMachine
+pub mod WalkRefusals
+pub mod WalkFinishes
+pub mod Demand

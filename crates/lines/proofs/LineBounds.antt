@@ -18,8 +18,8 @@ use Rattle.tlv.specs.Fits.{LineFits, WarningFits}
 use Rattle.lines.specs.Program.{lineSequenceOffsets}
 use Rattle.lines.specs.Files.{FileTable, internFile, Indexed, internHeaderFiles, get, insertIndex, headerFile}
 use Rattle.lines.specs.Lines.{RawLine, Run, runRows, SequencedLine, Converted, withWarning, withLine, convertLine, convertInterned, convertLookedUp, convertKnown, convertRow, convertRows, sortRows, sameRow, Collected, mismatch, unitLines, collectHeader, collectFrom, collectLines}
-use Rattle.lines.proofs.Bounds.{TableFits, IndexFits, IndicesFit, IndexedFits, LinesFit, CollectedFits}
-use Rattle.lines.proofs.OutcomeLaws.{bind-done, done-is}
+use Rattle.lines.proofs.Bounds.{TableFits, IndexFits, IndicesFit, IndexedFits, Sorted, LinesFit, CollectedFits}
+use Rattle.lines.proofs.OutcomeLaws.{bind-done, with-done, done-is}
 use Rattle.lines.proofs.AllLaws.{all-append, all-set, all-drop-neighbours}
 use Rattle.lines.proofs.OrderLaws.{ascending-drop-neighbours, sort-sorted, all-sort}
 use Rattle.lines.proofs.FileBounds.{intern-file-fits, intern-header-fits, get-fits, header-file-string}
@@ -94,10 +94,13 @@ mismatch-fits n m k l = go (eqb m n)
     go true = tt
     go false = ((k, l), tt)
 
+unit-lines-sorted : (offsets : List ℕ) (run : Run) (c : Converted) → Sorted 0 (unitLines offsets run c .entries)
+unit-lines-sorted offsets run c = ascending-drop-neighbours (λ x. x .entry .address) sameRow 0 (sortRows (c .lines)) (sort-sorted (c .lines))
+
 unit-lines-fit : (offsets : List ℕ) (run : Run) (c : Converted) → ConvertedFits c → LinesFit (unitLines offsets run c)
 unit-lines-fit offsets run c f = record
     { entries = all-drop-neighbours EntryFits sameRow (sortRows (c .lines)) (all-sort EntryFits (c .lines) (f .lines))
-    ; sorted = ascending-drop-neighbours (λ x. x .entry .address) sameRow 0 (sortRows (c .lines)) (sort-sorted (c .lines))
+    ; sorted = unit-lines-sorted offsets run c
     ; files = f .indices }
 
 module _ (u : CompilationUnit) (program : List ℕ) (t : FileTable) (c : Collected) (accepted : UnitAccepted u)
@@ -139,3 +142,24 @@ pub collect-fits : (u : CompilationUnit) (program : List ℕ) (t : FileTable) (c
     → UnitAccepted u → length (u .rows) < 2 ^ 64 → length program < 2 ^ 64 → TableFits t → collectLines u program t ≡ done c → CollectedFits c
 unfolding collectLines
 collect-fits u program t c a k l f = collect-from-fits u program t c a k l f (u .header)
+
+-- ---- the table is sorted, whatever the unit
+
+module _ (u : CompilationUnit) (program : List ℕ) (t : FileTable) (c : Collected) where
+  header-sorted : (h : LineHeader) → collectHeader u h program t ≡ done c → Sorted 0 (c .lines .entries)
+  unfolding collectHeader
+  header-sorted h q =
+      with-done (lineRows u program) _ q λ rows _ q₁.
+      with-done (runRows rows 0 []) _ q₁ λ run _ q₂.
+      with-done (lineSequenceOffsets h program) _ q₂ λ offsets _ q₃.
+      with-done (internHeaderFiles u h t) _ q₃ λ i _ q₄.
+      with-done (convertRows u h offsets (run .lines) (record { table = i .table; indices = i .indices; lines = []; warnings = mismatch (run .count) (length offsets) })) _ q₄ λ d _ q₅.
+      subst (λ (x : Collected). Sorted 0 (x .lines .entries)) (done-is q₅) (unit-lines-sorted offsets run d)
+
+  from-sorted : (o : Option LineHeader) → collectFrom u program t o ≡ done c → Sorted 0 (c .lines .entries)
+  from-sorted none q = subst (λ (x : Collected). Sorted 0 (x .lines .entries)) (done-is q) tt
+  from-sorted (some h) q = header-sorted h q
+
+pub sorted-lines : (u : CompilationUnit) (program : List ℕ) (t : FileTable) (c : Collected) → collectLines u program t ≡ done c → Sorted 0 (c .lines .entries)
+unfolding collectLines
+sorted-lines u program t c = from-sorted u program t c (u .header)

@@ -23,3 +23,9 @@ module _ {A B : Type 0} where
   unfolding _>>=_
   bind-refused {n} (refused m) f e = let q : m ≡ n = cc in inl (ap refused q)
   bind-refused (done a) f e = inr (a, refl, e)
+
+  -- the same, handed on: both steps are done, and what follows is shown of the first one's value
+  pub with-done : (x : Outcome A) (f : A → Outcome B) {c : B} {P : Type 0} → (x >>= f) ≡ done c → ((a : A) → x ≡ done a → f a ≡ done c → P) → P
+  unfolding _>>=_
+  with-done (refused n) f e p = refused-not e
+  with-done (done a) f e p = p a refl e

@@ -14,11 +14,11 @@ use Rattle.tlv.specs.Addresses.{RangeHolds, Nonempty}
 use Rattle.tlv.specs.Lists.{All, filter, first, last, orElse}
 use Rattle.tlv.specs.Accepted.{Given}
 use Rattle.tlv.specs.Fits.{LineFits}
-use Rattle.tlv.proofs.ListLaws.{all-map}
+use Rattle.tlv.proofs.ListLaws.{all-map, all-each}
 use Rattle.lines.specs.Lines.{SequencedLine, LineSequenceRange, UnitLines, sameLine, dropAfter, dropNeighbours}
 use Rattle.lines.specs.Rows.{contains, belongs, compactLineRows, ownRows, movedTo, earlierIn, earlierRow, startsLate, selectedSequence, rowsFor, forRange}
 use Rattle.lines.specs.RowsAgree.{Rising, Repeats, Distinct, RowsAgree}
-use Rattle.lines.proofs.Bounds.{LinesFit}
+use Rattle.lines.proofs.Bounds.{Sorted, LinesFit}
 use Rattle.lines.proofs.AllLaws.{all-append, all-filter, all-last, all-image, all-drop-neighbours}
 use Rattle.lines.proofs.OrderLaws.{ascending-lower, ascending-from, ascending-filter, ascending-image, ascending-drop-neighbours}
 
@@ -56,73 +56,73 @@ contains-holds r a more = go (leb (r .start) a) refl (ltb a (r .end)) refl
     go true e false d h = let z : _≡_ {A = ℕ} 0 1 = cc in absurd (omega arith)
     go false e c d h = let z : _≡_ {A = ℕ} 0 1 = cc in absurd (omega arith)
 
--- a row in the range, whose numbers fit
-abbrev OwnFits : AddressRange → LineEntry → Type 0
-OwnFits r x = RangeHolds r (x .address) × LineFits x
+-- what is known of a row's file and line, whatever its address
+module _ (Q : FileIndex → ℕ → Type 0) where
+  abbrev Known : SequencedLine → Type 0
+  Known x = Q (x .entry .file) (x .entry .line)
 
--- a row at an address, whose other numbers fit
-record MovedFits (a : ℕ) (x : LineEntry) : Type 0 where
-  pub address : x .address ≡ a
-  pub file : x .file .0 < 2 ^ 32
-  pub line : x .line < 2 ^ 32
+  -- a row in the range
+  abbrev Own : AddressRange → LineEntry → Type 0
+  Own r x = RangeHolds r (x .address) × Q (x .file) (x .line)
 
-moved-fit : (a : ℕ) (o : Option SequencedLine) → Given (λ x. LineFits (x .entry)) o → All (MovedFits a) (movedTo a o)
-moved-fit a none f = tt
-moved-fit a (some x) f = (record { address = refl; file = f .file; line = f .line }, tt)
+  -- a row that was moved to an address
+  abbrev Moved : ℕ → LineEntry → Type 0
+  Moved a x = (x .address ≡ a) × Q (x .file) (x .line)
+
+  moved-known : (a : ℕ) (o : Option SequencedLine) → Given Known o → All (Moved a) (movedTo a o)
+  moved-known a none f = tt
+  moved-known a (some x) f = ((refl, f), tt)
 
 moved-rising : (a : ℕ) (o : Option SequencedLine) (ls : List LineEntry) → Rising a ls → Rising a (movedTo a o ++ ls)
 moved-rising a none ls h = h
 moved-rising a (some x) ls h = (omega arith, h)
 
-module _ (l : UnitLines) (fits : LinesFit l) (a : ℕ) (s : Option ℕ) where
-  -- the last earlier row, moved to a, and a list that it is put before
-  earlier-fit : (o : Option LineSequenceRange) → All (MovedFits a) (earlierIn l a s o)
-  earlier-fit none = tt
-  earlier-fit (some q) = moved-fit a (last before (l .entries)) (all-last (λ x. LineFits (x .entry)) before (l .entries) (fits .entries))
-    where
-      before : SequencedLine → Bool
-      before x = ltb (x .entry .address) a && belongs (orElse s (q .statementSequence)) (x .statementSequence)
-
-  earlier-rising : (o : Option LineSequenceRange) (ls : List LineEntry) → Rising a ls → Rising a (earlierIn l a s o ++ ls)
-  earlier-rising none ls h = h
-  earlier-rising (some q) ls h =
-      moved-rising a (last (λ x. ltb (x .entry .address) a && belongs (orElse s (q .statementSequence)) (x .statementSequence)) (l .entries)) ls h
+earlier-rising : (l : UnitLines) (a : ℕ) (s : Option ℕ) (o : Option LineSequenceRange) (ls : List LineEntry) → Rising a ls → Rising a (earlierIn l a s o ++ ls)
+earlier-rising l a s none ls h = h
+earlier-rising l a s (some q) ls h =
+    moved-rising a (last (λ x. ltb (x .entry .address) a && belongs (orElse s (q .statementSequence)) (x .statementSequence)) (l .entries)) ls h
 
 -- ---- the rows of a function
 
-module _ (l : UnitLines) (fits : LinesFit l) (r : AddressRange) (s : Option ℕ) where
+module _ (Q : FileIndex → ℕ → Type 0) (l : UnitLines) (known : All (Known Q) (l .entries)) (sorted : Sorted 0 (l .entries)) (r : AddressRange) (s : Option ℕ) where
   own : SequencedLine → Bool
   own x = contains r (x .entry .address) && belongs s (x .statementSequence)
 
-  own-fit : All (OwnFits r) (ownRows l r s)
+  own-known : All (Own Q r) (ownRows l r s)
   unfolding ownRows own
-  own-fit = all-image (OwnFits r) (λ x. x .entry) (filter own (l .entries))
-      (all-map (filter own (l .entries)) one (all-filter (λ x. LineFits (x .entry)) own (l .entries) (fits .entries)))
+  own-known = all-image (Own Q r) (λ x. x .entry) (filter own (l .entries)) (all-map (filter own (l .entries)) one (all-filter (Known Q) own (l .entries) known))
     where
-      one : (x : SequencedLine) → LineFits (x .entry) × (own x ≡ true) → OwnFits r (x .entry)
+      one : (x : SequencedLine) → Known Q x × (own x ≡ true) → Own Q r (x .entry)
       one x h = (contains-holds r (x .entry .address) (belongs s (x .statementSequence)) (h .1), h .0)
 
   own-rising : Rising (r .start) (ownRows l r s)
   unfolding ownRows own
   own-rising =
-      ascending-from (λ x. x .address) (r .start) 0 (ownRows l r s) (all-map (ownRows l r s) (λ x h. h .0 .0) own-fit)
-          (ascending-image (λ x. x .address) (λ x. x .entry) 0 (filter own (l .entries)) (ascending-filter (λ x. x .entry .address) own 0 (l .entries) (fits .sorted)))
+      ascending-from (λ x. x .address) (r .start) 0 (ownRows l r s) (all-map (ownRows l r s) (λ x h. h .0 .0) own-known)
+          (ascending-image (λ x. x .address) (λ x. x .entry) 0 (filter own (l .entries)) (ascending-filter (λ x. x .entry .address) own 0 (l .entries) sorted))
 
   -- the first sequence that covers the start
   covering : Option LineSequenceRange
   covering = first (λ q. belongs s (q .statementSequence) && contains (q .range) (r .start)) (l .sequences)
 
+  -- the last earlier row, moved to the start
+  earlier-known : (o : Option LineSequenceRange) → All (Moved Q (r .start)) (earlierIn l (r .start) s o)
+  earlier-known none = tt
+  earlier-known (some q) = moved-known Q (r .start) (last before (l .entries)) (all-last (Known Q) before (l .entries) known)
+    where
+      before : SequencedLine → Bool
+      before x = ltb (x .entry .address) (r .start) && belongs (orElse s (q .statementSequence)) (x .statementSequence)
+
   -- a row is one of the table's in the range, or one moved to the start
-  rows-all : (P : LineEntry → Type 0)
-      → ((x : LineEntry) → OwnFits r x → P x) → ((x : LineEntry) → MovedFits (r .start) x → P x) → All P (rowsFor l r s)
+  rows-all : (P : LineEntry → Type 0) → ((x : LineEntry) → Own Q r x → P x) → ((x : LineEntry) → Moved Q (r .start) x → P x) → All P (rowsFor l r s)
   unfolding rowsFor compactLineRows earlierRow covering
   rows-all P f g = all-drop-neighbours P sameLine _ (go (startsLate (r .start) (ownRows l r s)))
     where
       owned : All P (ownRows l r s)
-      owned = all-map (ownRows l r s) f own-fit
+      owned = all-map (ownRows l r s) f own-known
 
       go : (b : Bool) → All P (cond b (earlierRow l r s ++ ownRows l r s) (ownRows l r s))
-      go true = all-append P (earlierRow l r s) (ownRows l r s) (all-map (earlierRow l r s) g (earlier-fit l fits (r .start) s covering)) owned
+      go true = all-append P (earlierRow l r s) (ownRows l r s) (all-map (earlierRow l r s) g (earlier-known covering)) owned
       go false = owned
 
   rows-rising : Rising (r .start) (rowsFor l r s)
@@ -130,26 +130,35 @@ module _ (l : UnitLines) (fits : LinesFit l) (r : AddressRange) (s : Option ℕ)
   rows-rising = ascending-drop-neighbours (λ x. x .address) sameLine (r .start) _ (go (startsLate (r .start) (ownRows l r s)))
     where
       go : (b : Bool) → Rising (r .start) (cond b (earlierRow l r s ++ ownRows l r s) (ownRows l r s))
-      go true = earlier-rising l fits (r .start) s covering (ownRows l r s) own-rising
+      go true = earlier-rising l (r .start) s covering (ownRows l r s) own-rising
       go false = own-rising
 
-  rows-distinct : Distinct (rowsFor l r s)
-  unfolding rowsFor
-  rows-distinct = compact-distinct _
+rows-distinct : (l : UnitLines) (r : AddressRange) (s : Option ℕ) → Distinct (rowsFor l r s)
+unfolding rowsFor
+rows-distinct l r s = compact-distinct _
 
-pub rows-agree : (l : UnitLines) (r : AddressRange) (requested : Option ℕ) → LinesFit l → Nonempty r → RowsAgree r (forRange l r requested .rows)
+abbrev Anything : FileIndex → ℕ → Type 0
+Anything i n = Unit {0}
+
+pub rows-agree : (l : UnitLines) (r : AddressRange) (requested : Option ℕ) → Sorted 0 (l .entries) → Nonempty r → RowsAgree r (forRange l r requested .rows)
 unfolding forRange
-rows-agree l r requested fits filled =
+rows-agree l r requested sorted filled =
     let s = selectedSequence l requested in
+    let known = all-each (l .entries) (λ x. tt) in
     record
-        { within = rows-all l fits r s (λ x. RangeHolds r (x .address)) (λ x h. h .0) (λ x h. omega (arith, h .address))
-        ; rising = ascending-lower (λ x. x .address) 0 (r .start) (rowsFor l r s) (omega arith) (rows-rising l fits r s)
-        ; distinct = rows-distinct l fits r s }
+        { within = rows-all Anything l known sorted r s (λ x. RangeHolds r (x .address)) (λ x h. h .0) (λ x h. omega (arith, h .0))
+        ; rising = ascending-lower (λ x. x .address) 0 (r .start) (rowsFor l r s) (omega arith) (rows-rising Anything l known sorted r s)
+        ; distinct = rows-distinct l r s }
+
+abbrev Fitting : FileIndex → ℕ → Type 0
+Fitting i n = (i .0 < 2 ^ 32) × (n < 2 ^ 32)
 
 pub rows-fit : (l : UnitLines) (r : AddressRange) (requested : Option ℕ) → LinesFit l → r .end ≤ 2 ^ 64 → Nonempty r → All LineFits (forRange l r requested .rows)
 unfolding forRange
 rows-fit l r requested fits small filled =
-    rows-all l fits r (selectedSequence l requested) LineFits (λ x h. h .1) (λ x h. record { address = omega (arith, h .address); file = h .file; line = h .line })
+    rows-all Fitting l (all-map (l .entries) (λ x h. (h .file, h .line)) (fits .entries)) (fits .sorted) r (selectedSequence l requested) LineFits
+        (λ x h. record { address = omega (arith, h .0); file = h .1 .0; line = h .1 .1 })
+        (λ x h. record { address = omega (arith, h .0); file = h .1 .0; line = h .1 .1 })
 
 -- the row of a declaration
 pub one-row-agrees : (r : AddressRange) (l : LineEntry) → Nonempty r → l .address ≡ r .start → RowsAgree r (l ∷ [])
