@@ -22,8 +22,9 @@ use Rattle.lines.proofs.RowLaws.{rows-agree}
 use Rattle.lines.proofs.LineBounds.{sorted-lines}
 use Rattle.dwarf.specs.Import.{State, importUnit}
 use Rattle.dwarf.specs.Answer.{Inputs, oversize, workNeeded, initialState, dwarfOf, importChosen, importOf, Written, written, fitting, outcomeOf, Answer, answerOf, trayAfter, After, after}
-use Rattle.dwarf.specs.Demand.{RecordAgrees, Pointwise, subjects, UnitAgrees, Units, Lent, StateFits, Producing, Finished, Demand}
+use Rattle.dwarf.specs.Demand.{RecordAgrees, Pointwise, subjects, UnitAgrees, Units, Lent, Finished, Demand}
 use Rattle.dwarf.proofs.Refusals.{refusals}
+use Rattle.dwarf.proofs.ImportBounds.{producing}
 use Rattle.dwarf.proofs.WalkMachine.{walk-tree, walk-treeless}
 use Rattle.dwarf.proofs.Records.{units-agree}
 
@@ -92,7 +93,7 @@ held : (part : Written → List ℕ) (size : Answer → ℕ) → ((w : Written) 
 unfolding trayAfter
 held part size sizes tray o w e = rw (e, sizes w) (take-at (part w) (drop (length (part w)) tray) (length (part w)) refl)
 
-module _ (producing : Producing) (i : Inputs) (l : Lent i) where
+module _ (i : Inputs) (l : Lent i) where
   read : (s : State) → importOf i ≡ done s → outcomeOf i ≡ done (written s) → Finished i
   unfolding after written answerOf
   read s q o =
@@ -114,6 +115,6 @@ module _ (producing : Producing) (i : Inputs) (l : Lent i) where
   by-outcome (refused n) e z = absurd (omega (arith, refusals i n e))
   by-outcome (done w) e z = finished w e
 
-pub demand : Producing → Demand
+pub demand : Demand
 unfolding after
-demand producing i l z = by-outcome producing i l (outcomeOf i) refl z
+demand i l z = by-outcome i l (outcomeOf i) refl z

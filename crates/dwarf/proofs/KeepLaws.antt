@@ -89,7 +89,7 @@ module _ (ps : List AddressRange) (P : AddressRange → Type 0) where
       go true p = inr p
       go false p = p
 
-fit-fits : (ps rs : List AddressRange) → All (Fits ps) (fit ps rs)
+pub fit-fits : (ps rs : List AddressRange) → All (Fits ps) (fit ps rs)
 unfolding fit
 fit-fits ps [] = tt
 fit-fits ps (r ∷ rs) = go (ltb (r .start) (r .end) && liesIn ps r) refl (fit-fits ps rs)

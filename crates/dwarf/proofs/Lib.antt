@@ -25,3 +25,6 @@ pub mod WalkMachine
 pub mod WalkRefusals
 pub mod WalkFinishes
 pub mod Demand
+pub mod NodeBounds
+pub mod TreeBounds
+pub mod ImportBounds

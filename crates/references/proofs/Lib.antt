@@ -1,1 +1,4 @@
 pub mod Refusals
+pub mod Giving
+pub mod NameBounds
+pub mod DeclarationBounds
