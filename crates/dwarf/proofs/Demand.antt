@@ -99,12 +99,16 @@ module _ (i : Inputs) (l : Lent i) where
   read s q o =
       let c = was-chosen i s q in
       let f = producing i s l q in
-      record
-          { state = s; imported = q
-          ; records = ap readRecords (held (λ w. w .records) (λ a. a .records) (λ w. refl) (i .records) (outcomeOf i) (written s) o) ∙ records-back (s .records) (f .records)
-          ; files = ap readFiles (held (λ w. w .files) (λ a. a .files) (λ w. refl) (i .files) (outcomeOf i) (written s) o) ∙ files-back (s .table .entries) (f .files)
-          ; warnings = ap readWarnings (held (λ w. w .warnings) (λ a. a .warnings) (λ w. refl) (i .warnings) (outcomeOf i) (written s) o) ∙ warnings-back (s .warnings) (f .warnings)
-          ; unit = c .unit; chosen = c .chosen; agree = agrees i s l c }
+      record {
+        state = s;
+        imported = q;
+        records = ap readRecords (held (λ w. w .records) (λ a. a .records) (λ w. refl) (i .records) (outcomeOf i) (written s) o) ∙ records-back (s .records) (f .records);
+        files = ap readFiles (held (λ w. w .files) (λ a. a .files) (λ w. refl) (i .files) (outcomeOf i) (written s) o) ∙ files-back (s .table .entries) (f .files);
+        warnings = ap readWarnings (held (λ w. w .warnings) (λ a. a .warnings) (λ w. refl) (i .warnings) (outcomeOf i) (written s) o) ∙ warnings-back (s .warnings) (f .warnings);
+        unit = c .unit;
+        chosen = c .chosen;
+        agree = agrees i s l c;
+      }
 
   finished : (w : Written) → outcomeOf i ≡ done w → Finished i
   unfolding outcomeOf

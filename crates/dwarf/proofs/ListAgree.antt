@@ -102,4 +102,3 @@ TreeAnswer f us s (refused k) = (k ≡ 14) × TooDeep f us s
 -- demand 3, for the tree of the subprogram s with the range f
 abbrev pub TreeDemand : Type 0
 TreeDemand = (f : AddressRange) (us : List TreeEntry) (s : ℕ) → Steps us → s < length us → TreeAnswer f us s (tree f (belowOf us s))
-

@@ -98,9 +98,13 @@ pub record Written (q : ImportContext) (k : Subject) (f : Function) : Type 0 whe
 module _ (q : ImportContext) (n : ℕ) (e : Entry) (es : List Entry) (place : drop n (q .unit .entries) ≡ e ∷ es) (sub : isSubprogram e ≡ true) where
   module _ (name : List ℕ) (found : resolveName (q .dwarf) (q .unit) e ≡ done name) (named : isEmpty name ≡ false) where
     abbrev recordOf : AddressRange → Option LineEntry → Descendants → Function
-    recordOf r l x = record
-        { range = r; name = name; lines = linesWith r l (forRange (q .lines) r (statementSequenceOffset (q .unit) e) .rows)
-        ; inline = rooted name r (x .inlines); callSites = x .callSites }
+    recordOf r l x = record {
+      range = r;
+      name = name;
+      lines = linesWith r l (forRange (q .lines) r (statementSequenceOffset (q .unit) e) .rows);
+      inline = rooted name r (x .inlines);
+      callSites = x .callSites;
+    }
 
     -- a live range adds one record
     one-range : (r : AddressRange) (s t : State) → isLiveRange (q .unit .text) r ≡ true → importRange q e (descendantsOf (e .depth) es) name r s ≡ done t
@@ -111,8 +115,19 @@ module _ (q : ImportContext) (n : ℕ) (e : Entry) (es : List Entry) (place : dr
         with-done (declarationIf q e (s .table) (s .warnings ++ ws) (forRange (q .lines) r (statementSequenceOffset (q .unit) e) .rows)) _ h₁ λ d _ h₂.
         with-done (extractSubprogramDetails (detailContext q r) (descendantsOf (e .depth) es)) _ h₂ λ x w h₃.
         adds-one (Written q) (subject n r) (recordOf r (d .found) x) (sym (records-same h₃)) (record {
-          source = e; after = es; place = place; subprogram = sub; name = found; named = named; live = l; range = refl;
-          found = d .found; lines = refl; walk = x; walked = w; inline = refl;
+          source = e;
+          after = es;
+          place = place;
+          subprogram = sub;
+          name = found;
+          named = named;
+          live = l;
+          range = refl;
+          found = d .found;
+          lines = refl;
+          walk = x;
+          walked = w;
+          inline = refl;
         })
 
     abbrev liveSubjects : List AddressRange → List Subject
@@ -128,8 +143,8 @@ module _ (q : ImportContext) (n : ℕ) (e : Entry) (es : List Entry) (place : dr
         go : (l : Bool) → isLiveRange (q .unit .text) (r .range) ≡ l → (b : Bool) → isTombstone (q .unit .text) r ≡ b
             → ((x : State) → importRanges q e (descendantsOf (e .depth) es) name rs x ≡ done t → Adds (Written q) (liveSubjects (map (λ y. y .range) rs)) (x .records) (t .records))
             → cond b (importRanges q e (descendantsOf (e .depth) es) name rs (rejected [] s))
-                (cond l (importRange q e (descendantsOf (e .depth) es) name (r .range) s >>= importRanges q e (descendantsOf (e .depth) es) name rs)
-                (importRanges q e (descendantsOf (e .depth) es) name rs (rejected (about rejectedRange (r .range .start) (r .range .end) ∷ []) s))) ≡ done t
+            (cond l (importRange q e (descendantsOf (e .depth) es) name (r .range) s >>= importRanges q e (descendantsOf (e .depth) es) name rs)
+            (importRanges q e (descendantsOf (e .depth) es) name rs (rejected (about rejectedRange (r .range .start) (r .range .end) ∷ []) s))) ≡ done t
             → Adds (Written q) (map (subject n) (cond l (r .range ∷ filter (isLiveRange (q .unit .text)) (map (λ y. y .range) rs)) (filter (isLiveRange (q .unit .text)) (map (λ y. y .range) rs)))) (s .records) (t .records)
         go true l true b ih k = false-true (sym (live-stands (q .unit .text) r l) ∙ b)
         go true l false b ih k = with-done (importRange q e (descendantsOf (e .depth) es) name (r .range) s) _ k λ x h₁ h₂.
@@ -145,7 +160,7 @@ module _ (q : ImportContext) (n : ℕ) (e : Entry) (es : List Entry) (place : dr
     by-failure (some f) s t h = go (eqb (f .stage) 0) h
       where
         go : (b : Bool) → cond b (done (rejected (malformedRanges false (f .reason) ∷ []) s))
-                (importRanges q e (descendantsOf (e .depth) es) name (dieRanges e .given) s >>= λ t. done (rejected (malformedRanges true (f .reason) ∷ []) t)) ≡ done t
+            (importRanges q e (descendantsOf (e .depth) es) name (dieRanges e .given) s >>= λ t. done (rejected (malformedRanges true (f .reason) ∷ []) t)) ≡ done t
             → Adds (Written q) (liveSubjects (cond b [] (map (λ r. r .range) (dieRanges e .given)))) (s .records) (t .records)
         go true k = adds-none (Written q) (sym (records-same k))
         go false k = with-done (importRanges q e (descendantsOf (e .depth) es) name (dieRanges e .given) s) _ k λ x h₁ h₂.

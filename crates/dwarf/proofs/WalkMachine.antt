@@ -56,10 +56,12 @@ module _ (c : DetailContext) (e : Entry) (es : List Entry) (st : List InlineFram
 
     pushed-on : Clean c e → keptOf c e (finishInlines (e .depth) st) ≡ m ∷ ms → length (finishInlines (e .depth) st) < 256 → (o : Outcome Descendants) → Walk c es opened (before ++ (made ∷ [])) o → Walk c (e ∷ es) st before o
     unfolding treeEntry
-    pushed-on k q l (done x) h = record
-        { clean = (k, h .clean); nodes = made ∷ h .nodes
-        ; ran = run-node (c .functionRange) st (treeOf c e) (map (treeOf c) es) m ms q l ∙ ap (andThen made) (h .ran)
-        ; inlines = h .inlines ∙ append-assoc before (made ∷ []) (h .nodes) }
+    pushed-on k q l (done x) h = record {
+      clean = (k, h .clean);
+      nodes = made ∷ h .nodes;
+      ran = run-node (c .functionRange) st (treeOf c e) (map (treeOf c) es) m ms q l ∙ ap (andThen made) (h .ran);
+      inlines = h .inlines ∙ append-assoc before (made ∷ []) (h .nodes);
+    }
     pushed-on k q l (refused n) (inl h) = inl (h .0, run-node (c .functionRange) st (treeOf c e) (map (treeOf c) es) m ms q l ∙ ap (andThen made) (h .1))
     pushed-on k q l (refused n) (inr h) = inr (inr h)
 

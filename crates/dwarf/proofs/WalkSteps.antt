@@ -143,11 +143,13 @@ module _ (c : DetailContext) (e : Entry) (w : Descendants) where
 
   -- the state with one more node open
   abbrev opened : List ℕ → AddressRange → List AddressRange → CallFile → CallLine → Descendants
-  opened name r rs file line = record
-      { inlineStack = record { dieDepth = e .depth; ranges = r ∷ rs } ∷ w .inlineStack
-      ; inlines = w .inlines ++ (record { depth = suc (length (w .inlineStack)); callFile = file .file; callLine = line .line; name = name; ranges = r ∷ rs } ∷ [])
-      ; callSiteStack = w .callSiteStack; callSites = w .callSites
-      ; warnings = w .warnings ++ (file .warnings ++ line .warnings) }
+  opened name r rs file line = record {
+    inlineStack = record { dieDepth = e .depth; ranges = r ∷ rs } ∷ w .inlineStack;
+    inlines = w .inlines ++ (record { depth = suc (length (w .inlineStack)); callFile = file .file; callLine = line .line; name = name; ranges = r ∷ rs } ∷ []);
+    callSiteStack = w .callSiteStack;
+    callSites = w .callSites;
+    warnings = w .warnings ++ (file .warnings ++ line .warnings);
+  }
 
   push-is : (name : List ℕ) (r : AddressRange) (rs : List AddressRange) (file : CallFile) (line : CallLine) → callFileOf c e ≡ done file → callLineOf c e ≡ done line →
       pushInline c e name (r ∷ rs) w ≡ cond (ltb (length (w .inlineStack)) 256) (done (opened name r rs file line)) (refused 14)

@@ -112,9 +112,10 @@ pub record After : Type 0 where
 
 -- contract b's right-hand side: the answer, the trays and work after a call. "The work slice holds only 0 after every call."
 unfoldable pub after : Inputs → After
-after i = record
-    { answer = answerOf (outcomeOf i)
-    ; records = trayAfter (λ w. w .records) (i .records) (outcomeOf i)
-    ; files = trayAfter (λ w. w .files) (i .files) (outcomeOf i)
-    ; warnings = trayAfter (λ w. w .warnings) (i .warnings) (outcomeOf i)
-    ; work = replicate (length (i .work)) 0 }
+after i = record {
+  answer = answerOf (outcomeOf i);
+  records = trayAfter (λ w. w .records) (i .records) (outcomeOf i);
+  files = trayAfter (λ w. w .files) (i .files) (outcomeOf i);
+  warnings = trayAfter (λ w. w .warnings) (i .warnings) (outcomeOf i);
+  work = replicate (length (i .work)) 0;
+}

@@ -39,8 +39,8 @@ readRanges e (some f) = cond (eqb (f .stage) 0) [] (rangesOf e)
 unfoldable pub subjectsOf : Dwarf → CompilationUnit → ℕ → Entry → List Subject
 subjectsOf d u n e =
     cond (isSubprogram e && not (isEmpty (foundName (resolveName d u e))))
-        (map (λ r. record { number = n; range = r }) (filter (isLiveRange (u .text)) (readRanges e (dieRanges e .failure))))
-        []
+    (map (λ r. record { number = n; range = r }) (filter (isLiveRange (u .text)) (readRanges e (dieRanges e .failure))))
+    []
 
 unfoldable pub subjectsFrom : Dwarf → CompilationUnit → ℕ → List Entry → List Subject
 subjectsFrom d u n [] = []

@@ -68,9 +68,12 @@ isTombstone text r = (eqb (r .range .start) 0 || r .tombstone) && not (exists (�
 unfoldable pub rejected : List Warning → State → State
 rejected ws s =
     let t = s .stats in
-    record
-        { table = s .table; records = s .records; warnings = s .warnings ++ ws
-        ; stats = record { functions = t .functions; lineRows = t .lineRows; inlineNodes = t .inlineNodes; rejectedRanges = saturated (t .rejectedRanges + 1) } }
+    record {
+      table = s .table;
+      records = s .records;
+      warnings = s .warnings ++ ws;
+      stats = record { functions = t .functions; lineRows = t .lineRows; inlineNodes = t .inlineNodes; rejectedRanges = saturated (t .rejectedRanges + 1) };
+    }
 
 -- ---- one record
 
@@ -96,19 +99,30 @@ rooted name r [] = []
 rooted name r (n ∷ ns) = record { depth = 0; callFile = fileIndex 0; callLine = 0; name = name; ranges = r ∷ [] } ∷ n ∷ ns
 
 abbrev pub detailContext : ImportContext → AddressRange → DetailContext
-detailContext q r = record
-    { dwarf = q .dwarf; unit = q .unit; functionRange = r; fileIndices = q .lines .files
-    ; includeInlines = q .includeInlines; includeCallSites = q .includeCallSites }
+detailContext q r = record {
+  dwarf = q .dwarf;
+  unit = q .unit;
+  functionRange = r;
+  fileIndices = q .lines .files;
+  includeInlines = q .includeInlines;
+  includeCallSites = q .includeCallSites;
+}
 
 -- the record joins the others, and is counted
 unfoldable pub addFunction : Function → ℕ → State → State
 addFunction f nodes s =
     let t = s .stats in
-    record
-        { table = s .table; records = s .records ++ (f ∷ []); warnings = s .warnings
-        ; stats = record
-            { functions = saturated (t .functions + 1); lineRows = saturated (t .lineRows + length (f .lines))
-            ; inlineNodes = saturated (t .inlineNodes + nodes); rejectedRanges = t .rejectedRanges } }
+    record {
+      table = s .table;
+      records = s .records ++ (f ∷ []);
+      warnings = s .warnings;
+      stats = record {
+        functions = saturated (t .functions + 1);
+        lineRows = saturated (t .lineRows + length (f .lines));
+        inlineNodes = saturated (t .inlineNodes + nodes);
+        rejectedRanges = t .rejectedRanges;
+      };
+    }
 
 -- a live range of a subprogram becomes a record
 unfoldable pub importRange : ImportContext → Entry → List Entry → List ℕ → AddressRange → State → Outcome State
@@ -119,9 +133,9 @@ importRange q e below name r s =
     declarationIf q e (s .table) (s .warnings ++ ws) (own .rows) >>= λ d.
     extractSubprogramDetails (detailContext q r) below >>= λ x.
     done (addFunction
-        (record { range = r; name = name; lines = linesWith r (d .found) (own .rows); inline = rooted name r (x .inlines); callSites = x .callSites })
-        (length (x .inlines))
-        (record { table = d .table; records = s .records; warnings = d .warnings ++ x .warnings; stats = s .stats }))
+    (record { range = r; name = name; lines = linesWith r (d .found) (own .rows); inline = rooted name r (x .inlines); callSites = x .callSites })
+    (length (x .inlines))
+    (record { table = d .table; records = s .records; warnings = d .warnings ++ x .warnings; stats = s .stats }))
 
 -- ---- subprograms
 
@@ -157,12 +171,12 @@ unfoldable pub importUnitDetails : ImportContext → List Entry → State → Ou
 importUnitDetails q [] s = done s
 importUnitDetails q (e ∷ es) s =
     cond (isSubprogram e)
-        (importSubprogram q e (descendantsOf (e .depth) es) s >>= importUnitDetails q es)
-        (importUnitDetails q es s)
+    (importSubprogram q e (descendantsOf (e .depth) es) s >>= importUnitDetails q es)
+    (importUnitDetails q es s)
 
 -- import_unit
 unfoldable pub importUnit : Dwarf → CompilationUnit → List ℕ → Bool → Bool → State → Outcome State
 importUnit d u program inlines callSites s =
     collectLines u program (s .table) >>= λ c.
     importUnitDetails (record { dwarf = d; unit = u; lines = c .lines; includeInlines = inlines; includeCallSites = callSites }) (u .entries)
-        (record { table = c .table; records = s .records; warnings = s .warnings ++ c .warnings; stats = s .stats })
+    (record { table = c .table; records = s .records; warnings = s .warnings ++ c .warnings; stats = s .stats })

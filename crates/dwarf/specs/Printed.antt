@@ -33,9 +33,19 @@ lineProgram = 0x00 ∷ 0x01 ∷ 0x01 ∷ []
 
 -- the listing program's call: work of 57,344 bytes, trays of 32,768, ordinal 0, both switches on, first file 1. What they held before is not 0
 abbrev pub call : Inputs
-call = record
-    { main = mainSheet; supplementary = []; program = lineProgram; ordinal = 0; inlines = true; callSites = true; firstFile = 1
-    ; work = replicate 57344 0xaa; records = replicate 32768 0xbb; files = replicate 32768 0xcc; warnings = replicate 32768 0xdd }
+call = record {
+  main = mainSheet;
+  supplementary = [];
+  program = lineProgram;
+  ordinal = 0;
+  inlines = true;
+  callSites = true;
+  firstFile = 1;
+  work = replicate 57344 0xaa;
+  records = replicate 32768 0xbb;
+  files = replicate 32768 0xcc;
+  warnings = replicate 32768 0xdd;
+}
 
 -- the records tray, a line of the listing a line
 abbrev pub recordsTray : List ℕ
@@ -55,12 +65,13 @@ filesTray = 0x40 ∷ 0x0b ∷ 0x00 ∷ 0x04 ∷ 0x00 ∷ 0x2f ∷ 0x73 ∷ 0x72 
 
 -- stats 1 2 1 0
 abbrev pub printedAfter : After
-printedAfter = record
-    { answer = record { refusal = 0; records = 131; files = 14; warnings = 0; stats = record { functions = 1; lineRows = 2; inlineNodes = 1; rejectedRanges = 0 } }
-    ; records = recordsTray ++ replicate (32768 - 131) 0xbb
-    ; files = filesTray ++ replicate (32768 - 14) 0xcc
-    ; warnings = replicate 32768 0xdd
-    ; work = replicate 57344 0 }
+printedAfter = record {
+  answer = record { refusal = 0; records = 131; files = 14; warnings = 0; stats = record { functions = 1; lineRows = 2; inlineNodes = 1; rejectedRanges = 0 } };
+  records = recordsTray ++ replicate (32768 - 131) 0xbb;
+  files = filesTray ++ replicate (32768 - 14) 0xcc;
+  warnings = replicate 32768 0xdd;
+  work = replicate 57344 0;
+}
 
 abbrev pub Printed : Type 0
 Printed = after call ≡ printedAfter

@@ -73,10 +73,13 @@ finishCallSites depth w = w .callSites ++ map (λ f. f .callSite) (takeWhile (en
 
 -- the entries that end before one of this depth are closed
 unfoldable pub finish : ℕ → Descendants → Descendants
-finish depth w = record
-    { inlineStack = finishInlines depth (w .inlineStack); inlines = w .inlines
-    ; callSiteStack = dropWhile (endsHere depth) (w .callSiteStack); callSites = finishCallSites depth w
-    ; warnings = w .warnings }
+finish depth w = record {
+  inlineStack = finishInlines depth (w .inlineStack);
+  inlines = w .inlines;
+  callSiteStack = dropWhile (endsHere depth) (w .callSiteStack);
+  callSites = finishCallSites depth w;
+  warnings = w .warnings;
+}
 
 -- ---- call sites
 
@@ -91,8 +94,8 @@ siteAt c e none = done none
 siteAt c e (some a) =
     cond (eqb (a .kind) 10) (refused 6)
     (cond (eqb (a .kind) 9 && contains (c .functionRange) (a .value))
-        (siteWithOrigin c e (a .value - c .functionRange .start) (attribute e 0x7f))
-        (done none))
+    (siteWithOrigin c e (a .value - c .functionRange .start) (attribute e 0x7f))
+    (done none))
 
 -- make_call_site
 unfoldable pub makeCallSite : DetailContext → Entry → Outcome (Option CallSite)
@@ -100,9 +103,13 @@ makeCallSite c e = siteAt c e (attribute e 0x7d)
 
 abbrev pub pushCallSite : Entry → Descendants → Option CallSite → Descendants
 pushCallSite e w none = w
-pushCallSite e w (some s) = record
-    { inlineStack = w .inlineStack; inlines = w .inlines
-    ; callSiteStack = record { dieDepth = e .depth; callSite = s } ∷ w .callSiteStack; callSites = w .callSites; warnings = w .warnings }
+pushCallSite e w (some s) = record {
+  inlineStack = w .inlineStack;
+  inlines = w .inlines;
+  callSiteStack = record { dieDepth = e .depth; callSite = s } ∷ w .callSiteStack;
+  callSites = w .callSites;
+  warnings = w .warnings;
+}
 
 -- ---- inline nodes
 
@@ -147,12 +154,14 @@ pushInline c e name (r ∷ rs) w =
     callFileOf c e >>= λ file.
     callLineOf c e >>= λ line.
     cond (ltb (length (w .inlineStack)) inlineDepthLimit)
-        (done (record
-            { inlineStack = record { dieDepth = e .depth; ranges = r ∷ rs } ∷ w .inlineStack
-            ; inlines = w .inlines ++ (record { depth = suc (length (w .inlineStack)); callFile = file .file; callLine = line .line; name = name; ranges = r ∷ rs } ∷ [])
-            ; callSiteStack = w .callSiteStack; callSites = w .callSites
-            ; warnings = w .warnings ++ (file .warnings ++ line .warnings) }))
-        (refused 14)
+    (done (record {
+      inlineStack = record { dieDepth = e .depth; ranges = r ∷ rs } ∷ w .inlineStack;
+      inlines = w .inlines ++ (record { depth = suc (length (w .inlineStack)); callFile = file .file; callLine = line .line; name = name; ranges = r ∷ rs } ∷ []);
+      callSiteStack = w .callSiteStack;
+      callSites = w .callSites;
+      warnings = w .warnings ++ (file .warnings ++ line .warnings);
+    }))
+    (refused 14)
 
 -- the ranges of the innermost open node or, without one, the function's
 abbrev pub parentRanges : AddressRange → List InlineFrame → List AddressRange
@@ -164,8 +173,8 @@ unfoldable pub makeInlineNode : DetailContext → Entry → Descendants → Outc
 makeInlineNode c e w = resolveName (c .dwarf) (c .unit) e >>= λ name.
     cond (isEmpty name) (done w)
     (cond (isNone (dieRanges e .failure))
-        (pushInline c e name (coalesceRanges (fit (parentRanges (c .functionRange) (w .inlineStack)) (rangesOf e))) w)
-        (refused 6))
+    (pushInline c e name (coalesceRanges (fit (parentRanges (c .functionRange) (w .inlineStack)) (rangesOf e))) w)
+    (refused 6))
 
 -- ---- collect_descendants
 

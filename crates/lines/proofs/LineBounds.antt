@@ -60,7 +60,7 @@ convert-interned-fits : (offsets : List ℕ) (r : RawLine) (c : Converted) (t : 
 convert-interned-fits offsets r c t none raw f k number = f
 convert-interned-fits offsets r c t (some file) raw f k number =
     convert-line-fits offsets r file (record { table = t; indices = insertIndex (c .indices) (r .file) file; lines = c .lines; warnings = c .warnings }) raw number
-        (record { table = k; indices = all-set (Given IndexFits) (c .indices) (r .file) (some file) number (f .indices); lines = f .lines; warnings = f .warnings })
+    (record { table = k; indices = all-set (Given IndexFits) (c .indices) (r .file) (some file) number (f .indices); lines = f .lines; warnings = f .warnings })
 
 module _ (u : CompilationUnit) (h : LineHeader) (offsets : List ℕ) (accepted : UnitAccepted u) where
   convert-row-fits : (r : RawLine) (c d : Converted) → RawFits r → ConvertedFits c → convertRow u h offsets r c ≡ done d → ConvertedFits d
@@ -98,10 +98,11 @@ unit-lines-sorted : (offsets : List ℕ) (run : Run) (c : Converted) → Sorted 
 unit-lines-sorted offsets run c = ascending-drop-neighbours (λ x. x .entry .address) sameRow 0 (sortRows (c .lines)) (sort-sorted (c .lines))
 
 unit-lines-fit : (offsets : List ℕ) (run : Run) (c : Converted) → ConvertedFits c → LinesFit (unitLines offsets run c)
-unit-lines-fit offsets run c f = record
-    { entries = all-drop-neighbours EntryFits sameRow (sortRows (c .lines)) (all-sort EntryFits (c .lines) (f .lines))
-    ; sorted = unit-lines-sorted offsets run c
-    ; files = f .indices }
+unit-lines-fit offsets run c f = record {
+  entries = all-drop-neighbours EntryFits sameRow (sortRows (c .lines)) (all-sort EntryFits (c .lines) (f .lines));
+  sorted = unit-lines-sorted offsets run c;
+  files = f .indices;
+}
 
 module _ (u : CompilationUnit) (program : List ℕ) (t : FileTable) (c : Collected) (accepted : UnitAccepted u)
     (rows-few : length (u .rows) < 2 ^ 64) (program-short : length program < 2 ^ 64) (fits : TableFits t) where
@@ -132,7 +133,7 @@ module _ (u : CompilationUnit) (program : List ℕ) (t : FileTable) (c : Collect
         let i = bind-done (internHeaderFiles u h t) (converted (b .0) (s .0)) (s .2) in
         let run = run-rows-fit (u .rows) 0 [] (b .0) (accepted .rows) tt (b .1) in
         converted-fits (b .0) (s .0) (i .0) (record { lines = run .lines; count = omega (arith, run .count) })
-            (offsets-few h program (s .0) (s .1)) (intern-header-fits u h t (i .0) accepted fits (i .1)) (i .2)
+        (offsets-few h program (s .0) (s .1)) (intern-header-fits u h t (i .0) accepted fits (i .1)) (i .2)
 
   collect-from-fits : (o : Option LineHeader) → collectFrom u program t o ≡ done c → CollectedFits c
   collect-from-fits none q = subst CollectedFits (done-is q) (record { table = fits; lines = record { entries = tt; sorted = tt; files = tt }; warnings = tt })

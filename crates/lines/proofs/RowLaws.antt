@@ -99,7 +99,7 @@ module _ (Q : FileIndex → ℕ → Type 0) (l : UnitLines) (known : All (Known 
   unfolding ownRows own
   own-rising =
       ascending-from (λ x. x .address) (r .start) 0 (ownRows l r s) (all-map (ownRows l r s) (λ x h. h .0 .0) own-known)
-          (ascending-image (λ x. x .address) (λ x. x .entry) 0 (filter own (l .entries)) (ascending-filter (λ x. x .entry .address) own 0 (l .entries) sorted))
+      (ascending-image (λ x. x .address) (λ x. x .entry) 0 (filter own (l .entries)) (ascending-filter (λ x. x .entry .address) own 0 (l .entries) sorted))
 
   -- the first sequence that covers the start
   covering : Option LineSequenceRange
@@ -145,10 +145,11 @@ unfolding forRange
 rows-agree l r requested sorted filled =
     let s = selectedSequence l requested in
     let known = all-each (l .entries) (λ x. tt) in
-    record
-        { within = rows-all Anything l known sorted r s (λ x. RangeHolds r (x .address)) (λ x h. h .0) (λ x h. omega (arith, h .0))
-        ; rising = ascending-lower (λ x. x .address) 0 (r .start) (rowsFor l r s) (omega arith) (rows-rising Anything l known sorted r s)
-        ; distinct = rows-distinct l r s }
+    record {
+      within = rows-all Anything l known sorted r s (λ x. RangeHolds r (x .address)) (λ x h. h .0) (λ x h. omega (arith, h .0));
+      rising = ascending-lower (λ x. x .address) 0 (r .start) (rowsFor l r s) (omega arith) (rows-rising Anything l known sorted r s);
+      distinct = rows-distinct l r s;
+    }
 
 abbrev Fitting : FileIndex → ℕ → Type 0
 Fitting i n = (i .0 < 2 ^ 32) × (n < 2 ^ 32)
@@ -157,8 +158,8 @@ pub rows-fit : (l : UnitLines) (r : AddressRange) (requested : Option ℕ) → L
 unfolding forRange
 rows-fit l r requested fits small filled =
     rows-all Fitting l (all-map (l .entries) (λ x h. (h .file, h .line)) (fits .entries)) (fits .sorted) r (selectedSequence l requested) LineFits
-        (λ x h. record { address = omega (arith, h .0); file = h .1 .0; line = h .1 .1 })
-        (λ x h. record { address = omega (arith, h .0); file = h .1 .0; line = h .1 .1 })
+    (λ x h. record { address = omega (arith, h .0); file = h .1 .0; line = h .1 .1 })
+    (λ x h. record { address = omega (arith, h .0); file = h .1 .0; line = h .1 .1 })
 
 -- the row of a declaration
 pub one-row-agrees : (r : AddressRange) (l : LineEntry) → Nonempty r → l .address ≡ r .start → RowsAgree r (l ∷ [])

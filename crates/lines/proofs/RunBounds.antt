@@ -75,8 +75,8 @@ sequences-few (suc k) h base whole from (o ∷ s) l q =
     branch : Passed → Bool → Bool → Outcome (List ℕ)
     branch t ends fits =
         cond ends
-            (cond fits (sequencesWithin k h base whole (here t) (t .rest) >>= λ l. done (from ∷ l)) (refused 12))
-            (sequencesWithin k h base whole from (t .rest))
+        (cond fits (sequencesWithin k h base whole (here t) (t .rest) >>= λ l. done (from ∷ l)) (refused 12))
+        (sequencesWithin k h base whole from (t .rest))
 
     turn : Passed → Outcome (List ℕ)
     turn t = branch t (t .ends) (ltb (here t) (2 ^ 64))

@@ -45,10 +45,11 @@ startOf (x ∷ xs) = x .address
 -- the rows of the open sequence, number n, that ends at `end` are closed; a sequence exists only where it starts below its end
 abbrev pub closeSequence : List RawLine → ℕ → ℕ → Run → Run
 closeSequence opened end n run =
-    record
-        { lines = opened ++ run .lines
-        ; sequences = cond (ltb (startOf opened) end) (record { range = record { start = startOf opened; end = end }; sequence = n } ∷ run .sequences) (run .sequences)
-        ; count = run .count }
+    record {
+      lines = opened ++ run .lines;
+      sequences = cond (ltb (startOf opened) end) (record { range = record { start = startOf opened; end = end }; sequence = n } ∷ run .sequences) (run .sequences);
+      count = run .count;
+    }
 
 -- `opened` are the rows of the open sequence; rows after the last end of sequence are dropped
 unfoldable pub runRows : List LineRow → ℕ → List RawLine → Outcome Run
@@ -90,8 +91,8 @@ withLine c l = record { table = c .table; indices = c .indices; lines = c .lines
 unfoldable pub convertLine : List ℕ → RawLine → FileIndex → Converted → Converted
 convertLine offsets r file c =
     cond (ltb (r .line) (2 ^ 32))
-        (withLine c (record { entry = record { address = r .address; file = file; line = r .line }; statementSequence = at offsets (r .sequence) }))
-        (withWarning c (about unrepresentableLine (r .address) (r .line)))
+    (withLine c (record { entry = record { address = r .address; file = file; line = r .line }; statementSequence = at offsets (r .sequence) }))
+    (withWarning c (about unrepresentableLine (r .address) (r .line)))
 
 -- a file that was looked up for a row; one with no path drops the row silently
 abbrev pub convertInterned : List ℕ → RawLine → Converted → FileTable → Option FileIndex → Converted
@@ -164,10 +165,11 @@ abbrev pub mismatch : ℕ → ℕ → List Warning
 mismatch sequences offsets = cond (eqb offsets sequences) [] (about lineSequenceMismatch sequences offsets ∷ [])
 
 abbrev pub unitLines : List ℕ → Run → Converted → UnitLines
-unitLines offsets run c = record
-    { entries = dropNeighbours sameRow (sortRows (c .lines))
-    ; files = c .indices
-    ; sequences = map (λ s. record { range = s .range; statementSequence = at offsets (s .sequence) }) (run .sequences) }
+unitLines offsets run c = record {
+  entries = dropNeighbours sameRow (sortRows (c .lines));
+  files = c .indices;
+  sequences = map (λ s. record { range = s .range; statementSequence = at offsets (s .sequence) }) (run .sequences);
+}
 
 unfoldable pub collectHeader : CompilationUnit → LineHeader → List ℕ → FileTable → Outcome Collected
 collectHeader u h program t =
@@ -176,7 +178,7 @@ collectHeader u h program t =
     lineSequenceOffsets h program >>= λ offsets.
     internHeaderFiles u h t >>= λ i.
     convertRows u h offsets (run .lines)
-        (record { table = i .table; indices = i .indices; lines = []; warnings = mismatch (run .count) (length offsets) }) >>= λ c.
+    (record { table = i .table; indices = i .indices; lines = []; warnings = mismatch (run .count) (length offsets) }) >>= λ c.
     done (record { table = c .table; lines = unitLines offsets run c; warnings = c .warnings })
 
 -- without field 13 there are no lines, and the program is not read

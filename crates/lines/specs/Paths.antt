@@ -82,8 +82,8 @@ readDirectory (some d) = cond (d .failed) (refused 6) (done (d .path))
 unfoldable pub namedDirectory : CompilationUnit → ℕ → ℕ → Outcome (List ℕ)
 namedDirectory u version n =
     cond (ltb version 5)
-        (cond (eqb n 0) (done []) (readDirectory (at (u .directories) (n - 1))))
-        (readDirectory (at (u .directories) n))
+    (cond (eqb n 0) (done []) (readDirectory (at (u .directories) (n - 1))))
+    (readDirectory (at (u .directories) n))
 
 -- a file's directory is one below the compilation directory: not directory 0 from version 5 on, which is that directory itself, nor an absolute one
 unfoldable pub needsCompilation : ℕ → ℕ → List ℕ → Bool

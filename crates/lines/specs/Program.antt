@@ -77,8 +77,8 @@ sequencesWithin (suc k) h base whole from [] = done []
 sequencesWithin (suc k) h base whole from (o ∷ s) = skip h whole o s >>= λ t.
     let here = base + placeOf whole (t .rest) in
     cond (t .ends)
-        (cond (ltb here (2 ^ 64)) (sequencesWithin k h base whole here (t .rest) >>= λ l. done (from ∷ l)) (refused 12))
-        (sequencesWithin k h base whole from (t .rest))
+    (cond (ltb here (2 ^ 64)) (sequencesWithin k h base whole here (t .rest) >>= λ l. done (from ∷ l)) (refused 12))
+    (sequencesWithin k h base whole from (t .rest))
 
 -- scan_line_sequence_offsets: the sequences of a program that begins at `base`
 unfoldable pub scanLineSequenceOffsets : Opcodes → ℕ → List ℕ → Outcome (List ℕ)

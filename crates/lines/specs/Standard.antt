@@ -119,8 +119,8 @@ sequencesWithin (suc k) h base whole from [] = some []
 sequencesWithin (suc k) h base whole from (o ∷ s) = andThen (instruction h o s) (λ t.
     let here = base + (whole - length (t .rest)) in
     cond (t .ends)
-        (mapOption (λ l. from ∷ l) (sequencesWithin k h base whole here (t .rest)))
-        (sequencesWithin k h base whole from (t .rest)))
+    (mapOption (λ l. from ∷ l) (sequencesWithin k h base whole here (t .rest)))
+    (sequencesWithin k h base whole from (t .rest)))
 
 unfoldable pub sequences : Opcodes → ℕ → List ℕ → Option (List ℕ)
 sequences h base program = sequencesWithin (length program) h base (length program) base program
@@ -144,8 +144,8 @@ relativeTo directory path = cond (isFull path) path (directory ++ (slash ∷ pat
 unfoldable pub directoryPath : ℕ → List ℕ → List (List ℕ) → ℕ → Option (List ℕ)
 directoryPath version compilation table n =
     cond (leb 5 version)
-        (cond (eqb n 0) (at table 0) (andThen (at table 0) (λ first. mapOption (relativeTo first) (at table n))))
-        (cond (eqb n 0) (some compilation) (mapOption (relativeTo compilation) (at table (n - 1))))
+    (cond (eqb n 0) (at table 0) (andThen (at table 0) (λ first. mapOption (relativeTo first) (at table n))))
+    (cond (eqb n 0) (some compilation) (mapOption (relativeTo compilation) (at table (n - 1))))
 
 -- the path of a file by its directory number and its name: "a full or relative path name"
 unfoldable pub filePath : ℕ → List ℕ → List (List ℕ) → ℕ → List ℕ → Option (List ℕ)

@@ -13,13 +13,13 @@ use Rattle.tlv.specs.Fields.{Field, FieldList, end, cut, more, fields}
 
 -- what the fields so far leave to check the next one against
 pub record Context : Type 0 where
-  pub previous : ℕ    -- the tag of the last field, 0 before the first
-  pub count : ℕ       -- fields so far
-  pub units : ℕ       -- units so far
-  pub unitEnd : ℕ     -- where the last unit ends
+  pub previous : ℕ  -- the tag of the last field, 0 before the first
+  pub count : ℕ  -- fields so far
+  pub units : ℕ  -- units so far
+  pub unitEnd : ℕ  -- where the last unit ends
   pub unitLength : ℕ  -- its length
-  pub offset : ℕ      -- the least offset that the next entry may have
-  pub depth : ℕ       -- the largest depth that the next entry may have
+  pub offset : ℕ  -- the least offset that the next entry may have
+  pub depth : ℕ  -- the largest depth that the next entry may have
 
 abbrev pub start : Context
 start = record { previous = 0; count = 0; units = 0; unitEnd = 0; unitLength = 0; offset = 0; depth = 0 }
@@ -152,13 +152,34 @@ next c f =
     let t = f .tag in
     let p = f .payload in
     cond (eqb t 0x10)
-        (record { previous = t; count = c .count + 1; units = c .units + 1; unitEnd = leAt 8 p 0 + leAt 8 p 8
-            ; unitLength = leAt 8 p 8; offset = 0; depth = 0 })
+    (record {
+      previous = t;
+      count = c .count + 1;
+      units = c .units + 1;
+      unitEnd = leAt 8 p 0 + leAt 8 p 8;
+      unitLength = leAt 8 p 8;
+      offset = 0;
+      depth = 0;
+    })
     (cond (eqb t 0x17)
-        (record { previous = t; count = c .count + 1; units = c .units; unitEnd = c .unitEnd
-            ; unitLength = c .unitLength; offset = leAt 8 p 0 + 1; depth = leAt 2 p 8 + 1 })
-        (record { previous = t; count = c .count + 1; units = c .units; unitEnd = c .unitEnd
-            ; unitLength = c .unitLength; offset = c .offset; depth = c .depth }))
+    (record {
+      previous = t;
+      count = c .count + 1;
+      units = c .units;
+      unitEnd = c .unitEnd;
+      unitLength = c .unitLength;
+      offset = leAt 8 p 0 + 1;
+      depth = leAt 2 p 8 + 1;
+    })
+    (record {
+      previous = t;
+      count = c .count + 1;
+      units = c .units;
+      unitEnd = c .unitEnd;
+      unitLength = c .unitLength;
+      offset = c .offset;
+      depth = c .depth;
+    }))
 
 -- the number of fields, or the refusal that the first bad field gives
 unfoldable pub checkFrom : Context → FieldList → Outcome ℕ

@@ -67,10 +67,10 @@ pub record CompilationUnit : Type 0 where
   pub version : ℕ
   pub wordSize : ℕ
   pub directory : Option (List ℕ)
-  pub text : List AddressRange       -- the executable ranges
+  pub text : List AddressRange  -- the executable ranges
   pub header : Option LineHeader
   pub directories : List Directory
-  pub fileZero : Option HeaderFile   -- file 0 before version 5
+  pub fileZero : Option HeaderFile  -- file 0 before version 5
   pub files : List HeaderFile
   pub rows : List LineRow
   pub entries : List Entry
@@ -86,9 +86,14 @@ rangeOf p = record { start = leAt 8 p 0; end = leAt 8 p 8 }
 
 -- 13
 unfoldable pub headerOf : List ℕ → LineHeader
-headerOf p = record
-    { offset = leAt 8 p 0; headerLength = leAt 8 p 8; version = leAt 1 p 16; wordSize = leAt 1 p 17
-    ; opcodeBase = leAt 1 p 18; opcodeLengths = drop 19 p }
+headerOf p = record {
+  offset = leAt 8 p 0;
+  headerLength = leAt 8 p 8;
+  version = leAt 1 p 16;
+  wordSize = leAt 1 p 17;
+  opcodeBase = leAt 1 p 18;
+  opcodeLengths = drop 19 p;
+}
 
 -- 14
 unfoldable pub directoryOf : List ℕ → Directory
@@ -118,27 +123,34 @@ failureOf p = record { stage = leAt 1 p 0; reason = drop 1 p }
 unfoldable pub entryOf : Group → Entry
 entryOf g =
     let p = g .head .payload in
-    record
-        { offset = leAt 8 p 0; depth = leAt 2 p 8; tag = leAt 2 p 10
-        ; attributes = map attributeOf (payloads 0x18 (g .rest))
-        ; ranges = map entryRangeOf (payloads 0x19 (g .rest))
-        ; failure = mapOption failureOf (payloadOf 0x1a (g .rest)) }
+    record {
+      offset = leAt 8 p 0;
+      depth = leAt 2 p 8;
+      tag = leAt 2 p 10;
+      attributes = map attributeOf (payloads 0x18 (g .rest));
+      ranges = map entryRangeOf (payloads 0x19 (g .rest));
+      failure = mapOption failureOf (payloadOf 0x1a (g .rest));
+    }
 
 -- 10 and what follows it: the fields before the first entry, and the entries
 unfoldable pub unitOf : Group → CompilationUnit
 unitOf g =
     let p = g .head .payload in
     let own = grouped 0x17 (g .rest) .before in
-    record
-        { offset = leAt 8 p 0; length = leAt 8 p 8; version = leAt 1 p 16; wordSize = leAt 1 p 17
-        ; directory = payloadOf 0x11 own
-        ; text = map rangeOf (payloads 0x12 own)
-        ; header = mapOption headerOf (payloadOf 0x13 own)
-        ; directories = map directoryOf (payloads 0x14 own)
-        ; fileZero = mapOption fileOf (payloadOf 0x1c own)
-        ; files = map fileOf (payloads 0x15 own)
-        ; rows = map rowOf (payloads 0x16 own)
-        ; entries = map entryOf (grouped 0x17 (g .rest) .groups) }
+    record {
+      offset = leAt 8 p 0;
+      length = leAt 8 p 8;
+      version = leAt 1 p 16;
+      wordSize = leAt 1 p 17;
+      directory = payloadOf 0x11 own;
+      text = map rangeOf (payloads 0x12 own);
+      header = mapOption headerOf (payloadOf 0x13 own);
+      directories = map directoryOf (payloads 0x14 own);
+      fileZero = mapOption fileOf (payloadOf 0x1c own);
+      files = map fileOf (payloads 0x15 own);
+      rows = map rowOf (payloads 0x16 own);
+      entries = map entryOf (grouped 0x17 (g .rest) .groups);
+    }
 
 -- the units of a sheet
 unfoldable pub units : List ℕ → List CompilationUnit

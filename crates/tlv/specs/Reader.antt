@@ -67,9 +67,13 @@ siteOf p = record { returnOffset = leAt 8 p 0; pattern = drop 9 p }
 unfoldable pub functionOf : Group → Function
 functionOf g =
     let p = g .head .payload in
-    record
-        { range = rangeOf p; name = drop 16 p; lines = map lineOf (payloads 0x42 (g .rest))
-        ; inline = map nodeOf (grouped 0x43 (g .rest) .groups); callSites = map siteOf (payloads 0x45 (g .rest)) }
+    record {
+      range = rangeOf p;
+      name = drop 16 p;
+      lines = map lineOf (payloads 0x42 (g .rest));
+      inline = map nodeOf (grouped 0x43 (g .rest) .groups);
+      callSites = map siteOf (payloads 0x45 (g .rest));
+    }
 
 unfoldable pub readRecords : List ℕ → Option (List Function)
 readRecords tray = cond (recordsForm 0 0 (fields tray)) (some (map functionOf (grouped 0x41 (wholeFields (fields tray)) .groups))) none
@@ -116,9 +120,9 @@ warningOf f =
     let p = f .payload in
     let k = leAt 1 p 0 in
     cond (eqb (f .tag) 0x46 && leb 1 (length p))
-        (cond (eqb k 1 || eqb k 2) (some (malformedRanges (eqb k 2) (drop 1 p)))
-        (cond (eqb (length p) 17) (mapOption (λ kind. about kind (leAt 8 p 1) (leAt 8 p 9)) (kindOf k)) none))
-        none
+    (cond (eqb k 1 || eqb k 2) (some (malformedRanges (eqb k 2) (drop 1 p)))
+    (cond (eqb (length p) 17) (mapOption (λ kind. about kind (leAt 8 p 1) (leAt 8 p 9)) (kindOf k)) none))
+    none
 
 unfoldable pub readWarnings : List ℕ → Option (List Warning)
 readWarnings tray = readEach warningOf (fields tray)
