@@ -28,3 +28,4 @@ pub mod Demand
 pub mod NodeBounds
 pub mod TreeBounds
 pub mod ImportBounds
+pub mod Examples
