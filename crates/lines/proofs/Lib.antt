@@ -18,3 +18,4 @@ pub mod FileBounds
 pub mod RunBounds
 pub mod LineBounds
 pub mod RowLaws
+pub mod Differences

@@ -6,3 +6,4 @@ pub mod Lines
 pub mod Rows
 pub mod RowsAgree
 pub mod Conforms
+pub mod Differences

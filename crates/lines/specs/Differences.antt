@@ -1,0 +1,113 @@
+-- Where operands, instructions and paths are not the Standard's: each exception with an input and both answers. docs/DIFFERENCES.md tells them in words. Assumes nothing.
+use Prim.Native.Nat.{ℕ, _-_, _^_}
+use mathlib.Core.Path.{_≡_}
+use mathlib.Core.Bool.{Bool, true, false}
+use mathlib.Core.List.{List, [], _∷_, _++_}
+use mathlib.Core.Option.{Option, none, some}
+use lib.ListN.{replicate}
+use Rattle.tlv.specs.Outcome.{Outcome, refused, done}
+use Rattle.tlv.specs.Model.{CompilationUnit, LineHeader, Directory, HeaderFile}
+use Rattle.tlv.specs.Output.{FileEntry}
+use Rattle.lines.specs.Standard.{leb128, Opcodes, instruction, sequences, filePath}
+use Rattle.lines.specs.Program.{uleb, skip, scanLineSequenceOffsets}
+use Rattle.lines.specs.Paths.{fileEntry}
+
+-- ---- operands and instructions
+
+-- opcode base 13, with this many operands for opcode 2 and the Standard's number for the others
+abbrev pub opcodes : ℕ → Opcodes
+opcodes second = record { base = 13; lengths = 0 ∷ second ∷ 1 ∷ 1 ∷ 1 ∷ 0 ∷ 0 ∷ 0 ∷ 1 ∷ 0 ∷ 0 ∷ 1 ∷ [] }
+
+pub record ProgramDifferences : Type 0 where
+  -- an operand padded to eleven bytes
+  pub padded : (leb128 (replicate 10 0x80 ++ (0x00 ∷ [])) ≡ some (record { value = 0; rest = [] })) × (uleb (replicate 10 0x80 ++ (0x00 ∷ [])) ≡ refused 11)
+  -- an operand of 65 bits
+  pub wide : (leb128 (replicate 9 0x80 ++ (0x02 ∷ [])) ≡ some (record { value = 2 ^ 64; rest = [] })) × (uleb (replicate 9 0x80 ++ (0x02 ∷ [])) ≡ refused 10)
+  -- advance_line by -1 in ten bytes: a signed operand, skipped as unsigned
+  pub negative :
+      (instruction (opcodes 1) 3 (replicate 9 0xff ++ (0x7f ∷ [])) ≡ some (record { ends = false; rest = [] }))
+      × (skip (opcodes 1) 11 3 (replicate 9 0xff ++ (0x7f ∷ [])) ≡ refused 10)
+  -- advance_pc, which a header declares with no operand
+  pub declared :
+      (instruction (opcodes 0) 2 (0x05 ∷ []) ≡ some (record { ends = false; rest = [] }))
+      × (skip (opcodes 0) 2 2 (0x05 ∷ []) ≡ done (record { ends = false; rest = 0x05 ∷ [] }))
+  -- a sequence that would be followed by one past 2^64 - 1
+  pub past :
+      (sequences (opcodes 1) (2 ^ 64 - 2) (0x00 ∷ 0x01 ∷ 0x01 ∷ []) ≡ some ((2 ^ 64 - 2) ∷ []))
+      × (scanLineSequenceOffsets (opcodes 1) (2 ^ 64 - 2) (0x00 ∷ 0x01 ∷ 0x01 ∷ []) ≡ refused 12)
+
+-- ---- paths
+
+abbrev pub w : List ℕ
+w = 0x2f ∷ 0x77 ∷ []  -- /w
+
+abbrev pub file : ℕ → List ℕ → HeaderFile
+file directory path = record { failed = false; directory = directory; path = path }
+
+-- a unit with a compilation directory and a table of directories
+abbrev pub unitOf : Option (List ℕ) → List Directory → CompilationUnit
+unitOf compilation directories = record {
+  offset = 0;
+  length = 0;
+  version = 5;
+  wordSize = 4;
+  directory = compilation;
+  text = [];
+  header = none;
+  directories = directories;
+  fileZero = none;
+  files = [];
+  rows = [];
+  entries = [];
+}
+
+abbrev pub header : ℕ → LineHeader
+header version = record { offset = 0; headerLength = 0; version = version; wordSize = 4; opcodeBase = 13; opcodeLengths = [] }
+
+abbrev pub entry : List ℕ → List ℕ → Outcome (Option FileEntry)
+entry directory basename = done (some (record { directory = directory; basename = basename }))
+
+abbrev pub bc : List ℕ
+bc = 0x62 ∷ 0x2e ∷ 0x63 ∷ []  -- b.c
+
+abbrev pub onDrive : List ℕ
+onDrive = 0x43 ∷ 0x3a ∷ 0x5c ∷ bc  -- C:\b.c
+
+abbrev pub doubled : List ℕ
+doubled = 0x2f ∷ 0x2f ∷ bc  -- //b.c
+
+abbrev pub within : List ℕ
+within = 0x73 ∷ 0x2f ∷ bc  -- s/b.c
+
+abbrev pub wSlash : List ℕ
+wSlash = 0x2f ∷ 0x77 ∷ 0x2f ∷ []  -- /w/
+
+abbrev pub folder : List ℕ
+folder = 0x73 ∷ 0x2f ∷ []  -- s/
+
+abbrev pub given : List ℕ → Directory
+given path = record { failed = false; path = path }
+
+pub record PathDifferences : Type 0 where
+  -- a Windows path is taken as absolute, and has no slash to split at: /w/C:\b.c
+  pub windows : (filePath 4 w [] 0 onDrive ≡ some (w ++ (0x2f ∷ onDrive))) × (fileEntry (unitOf (some w) []) (header 4) (file 0 onDrive) ≡ entry [] onDrive)
+  -- two slashes and a name: one slash is lost
+  pub slashes : (filePath 4 w [] 0 doubled ≡ some doubled) × (fileEntry (unitOf (some w) []) (header 4) (file 0 doubled) ≡ entry (0x2f ∷ []) bc)
+  -- a directory that ends in a slash gets no second one: /w//s/b.c and /w/s
+  pub closed :
+      (filePath 4 wSlash [] 0 within ≡ some (wSlash ++ (0x2f ∷ within)))
+      × (fileEntry (unitOf (some wSlash) []) (header 4) (file 0 within) ≡ entry (wSlash ++ (0x73 ∷ [])) bc)
+  -- an unknown compilation directory: the path stays relative, where an empty one would make it /b.c
+  pub unknown : (filePath 4 [] [] 0 bc ≡ some (0x2f ∷ bc)) × (fileEntry (unitOf none []) (header 4) (file 0 bc) ≡ entry [] bc)
+  -- a directory that is not in the table is passed over
+  pub missing : (filePath 4 w [] 7 bc ≡ none) × (fileEntry (unitOf (some w) []) (header 4) (file 7 bc) ≡ entry w bc)
+  -- from version 5 on, the unit's compilation directory /w and not the table's directory 0, s/, is put before another directory: s//s/b.c with a second s
+  pub other :
+      (filePath 5 w (folder ∷ (0x73 ∷ []) ∷ []) 1 bc ≡ some (folder ++ (0x2f ∷ 0x73 ∷ 0x2f ∷ bc)))
+      × (fileEntry (unitOf (some w) (given folder ∷ given (0x73 ∷ []) ∷ [])) (header 5) (file 1 bc) ≡ entry (w ++ (0x2f ∷ 0x73 ∷ [])) bc)
+  -- a path that ends in a slash names no file
+  pub folders : (filePath 4 w [] 0 folder ≡ some (w ++ (0x2f ∷ folder))) × (fileEntry (unitOf (some w) []) (header 4) (file 0 folder) ≡ done none)
+
+pub record AllDifferences : Type 0 where
+  pub program : ProgramDifferences
+  pub path : PathDifferences
