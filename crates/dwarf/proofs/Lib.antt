@@ -12,6 +12,8 @@ pub mod ListUnique
 pub mod Shift
 pub mod UnitDemand
 pub mod OneJudgement
+pub mod NearestUnique
+pub mod TreeUnique
 pub mod Cases
 pub mod Printed
 pub mod Refusals

@@ -18,6 +18,7 @@ use Rattle.references.proofs.Refusals.{refuses-offset, refuses-name, refuses-re
 use Rattle.dwarf.specs.Tree.{DetailContext, Descendants, siteWithOrigin, siteAt, makeCallSite, callFileFrom, callFileIf, callFileOf, callLineIf, callLineOf, pushInline, makeInlineNode, collectEntry, collectEntries, collectDescendants, extractSubprogramDetails}
 use Rattle.dwarf.specs.Import.{State, ImportContext, sequenceWarning, declarationIf, importRange, importRanges, importByFailure, importSubprogram, importUnitDetails, importUnit}
 use Rattle.dwarf.specs.Answer.{Inputs, Written, importChosen, importOf, fitting, outcomeOf}
+use Rattle.dwarf.specs.Demand.{Refusals}
 
 -- ---- below a subprogram: 6 to 14
 
@@ -136,5 +137,5 @@ unfolding outcomeOf
 refuses-outcome i = search (refusing, refuses-wider 1 15, refuses-import, refuses-wider 16 18, refuses-fitting)
 
 -- every refusal is one of document 01's numbers
-pub refusals : (i : Inputs) (n : ℕ) → outcomeOf i ≡ refused n → (1 ≤ n) × (n ≤ 18)
+pub refusals : Refusals
 refusals i n e = refusal-number (refuses-outcome i) e

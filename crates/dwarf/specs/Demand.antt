@@ -21,8 +21,8 @@ use Rattle.lines.specs.RowsAgree.{RowsAgree}
 use Rattle.references.specs.Search.{Dwarf, resolveName}
 use Rattle.dwarf.specs.Tree.{rangesOf, DetailContext, Descendants, makeCallSite, extractSubprogramDetails}
 use Rattle.dwarf.specs.Import.{State, isLiveRange, isSubprogram, descendantsOf, rooted, importUnit}
-use Rattle.dwarf.specs.Answer.{Inputs, dwarfOf, importOf, Answer, After, after}
-use Rattle.dwarf.specs.Agree.{TreeEntry, foundName, treeEntries, entry, Below, treeNode, TreeAgrees, TooDeep}
+use Rattle.dwarf.specs.Answer.{Inputs, dwarfOf, importOf, outcomeOf, Answer, After, after}
+use Rattle.dwarf.specs.Agree.{TreeEntry, foundName, treeEntries, entry, Below, TreeNode, treeNode, TreeAgrees, TooDeep}
 
 -- ---- the subjects of a unit, in order: a subprogram's entry that has a name, and one of its live ranges
 
@@ -87,6 +87,10 @@ abbrev pub Units : Type 0
 Units = (d : Dwarf) (u : CompilationUnit) (program : List ℕ) (inlines callSites : Bool) (s t : State)
     → UnitAccepted u → importUnit d u program inlines callSites s ≡ done t → UnitAgrees d u inlines s t
 
+-- the agreement leaves no choice: two lists of nodes that agree with the same entries are equal, so every other tree is shut out
+abbrev pub OneTree : Type 0
+OneTree = (f : AddressRange) (us : List TreeEntry) (s : ℕ) (ns ms : List TreeNode) → TreeAgrees f us s ns → TreeAgrees f us s ms → ns ≡ ms
+
 -- ---- when a walk below a subprogram finishes, and what a refusal says
 
 abbrev pub unitEntry : CompilationUnit → ℕ → Entry
@@ -147,6 +151,11 @@ pub record StateFits (s : State) : Type 0 where
 
 abbrev pub Producing : Type 0
 Producing = (i : Inputs) (s : State) → Lent i → importOf i ≡ done s → StateFits s
+
+-- ---- every refusal is one of document 01's numbers
+
+abbrev pub Refusals : Type 0
+Refusals = (i : Inputs) (n : ℕ) → outcomeOf i ≡ refused n → (1 ≤ n) × (n ≤ 18)
 
 -- ---- the whole demand, of what the trays hold after a call
 
