@@ -1,24 +1,7 @@
--- What a run of steps adds to a list, each step for the next of the things that it answers for; the value that a step is done with. Assumes nothing.
-use mathlib.Core.Path.{_≡_, refl}
+-- Lists that answer each other, and what a run of steps adds to a list, each step for the next of the things that it answers for. Assumes nothing.
+use mathlib.Core.Path.{_≡_}
 use mathlib.Core.List.{List, [], _∷_, _++_, append-nil, append-assoc}
-use Prim.Native.Nat.{ℕ}
-use native.Mathlib.Omega.{arith}
-use Rattle.tlv.specs.Outcome.{Outcome, refused, done, _>>=_}
 use Rattle.dwarf.specs.Demand.{Pointwise}
-
--- ---- outcomes
-
-pub done-same : {A : Type 0} {a b : A} → done a ≡ done b → a ≡ b
-done-same e = cc
-
-module _ {A B : Type 0} where
-  -- two steps are done: the first is, and the second is from its value
-  pub with-done : (x : Outcome A) (f : A → Outcome B) {c : B} {P : Type 0} → (x >>= f) ≡ done c → ((a : A) → x ≡ done a → f a ≡ done c → P) → P
-  unfolding _>>=_
-  with-done (refused n) f e p = let z : _≡_ {A = ℕ} 0 1 = cc in absurd (omega arith)
-  with-done (done a) f e p = p a refl e
-
--- ---- lists that answer each other
 
 module _ {A B : Type 0} (R : A → B → Type 0) where
   pub pointwise-append : (xs : List A) (ys : List B) (vs : List A) (ws : List B) → Pointwise R xs ys → Pointwise R vs ws → Pointwise R (xs ++ vs) (ys ++ ws)

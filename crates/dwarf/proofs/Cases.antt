@@ -1,6 +1,5 @@
 -- Every ● case of document 01 holds, by computing.
 use mathlib.Core.Path.{refl}
-use lib.ListN.{replicate, getD}
 use Rattle.tlv.specs.Outcome.{_>>=_}
 use Rattle.lines.specs.Standard
 use Rattle.lines.specs.Program

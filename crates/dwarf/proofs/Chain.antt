@@ -1,22 +1,22 @@
--- The kept ancestors of an entry, computed from the entries before it; they are the nearest kept ancestors that `specs/Agree.antt` speaks of.
--- Assumes nothing.
+-- The kept ancestors of an entry, computed from the entries before it; they are the nearest kept ancestors that `specs/Agree.antt` speaks of. Assumes nothing.
 use mathlib.Core.Path.{_≡_, refl, sym, _∙_}
 use mathlib.Core.Logic.{_≢_}
 use mathlib.Core.Option.{Option, none, some}
-use mathlib.Core.List.{List, [], _∷_}
+use mathlib.Core.List.{List, [], _∷_, cons≢nil}
 use mathlib.Core.Bool.{Bool, true, false}
 use Prim.Native.Nat.{ℕ, zero, suc, _<_}
 use native.Mathlib.Omega.{arith}
-use lib.Dec.{ltb, eqb}
+use lib.Dec.{eqb}
 use lib.ListN.{length}
-use borrow.Author.Tests.{eqb-true, eqb-false, ltb-true, ltb-false}
+use borrow.Author.Tests.{eqb-true, eqb-false}
 use Rattle.tlv.specs.declared.model.AddressRange.{AddressRange}
 use Rattle.tlv.specs.Lists.{All}
 use Rattle.tlv.specs.Addresses.{Inside}
+use Rattle.tlv.proofs.TestLaws.{by-less}
 use Rattle.dwarf.specs.Agree.{TreeEntry, Parent, entry, entryDepth, Kept, against, Rule}
 use Rattle.dwarf.proofs.StackMachine.{keep}
 use Rattle.dwarf.proofs.ListAgree.{ListNearest, no-parent, kept-parent, higher-up, ListJudged, ListHeight, top, one-more, passed}
-use Rattle.dwarf.proofs.KeepLaws.{cons-nil, keep-rule, keep-within}
+use Rattle.dwarf.proofs.KeepLaws.{keep-rule, keep-within}
 
 -- a kept entry: its number, its merged ranges
 pub record Held : Type 0 where
@@ -67,18 +67,16 @@ module _ (f : AddressRange) (es : List TreeEntry) where
 
   -- a place after one more entry that is not its parent
   parent-later : (d n p : ℕ) → (suc (entryDepth es n) ≡ d → ⊥) → Parent (entryDepth es) d n p → Parent (entryDepth es) d (suc n) p
-  parent-later d n p h q = record { earlier = omega arith; higher = q .higher; last = λ k l m. go k l m (ltb k n) refl }
+  parent-later d n p h q = record { earlier = omega arith; higher = q .higher; last = last }
     where
-      go : (k : ℕ) → p < k → k < suc n → (b : Bool) → ltb k n ≡ b → suc (entryDepth es k) ≢ d
-      go k l m true e = q .last k l (ltb-true k n e)
-      go k l m false e = let g = ltb-false k n e in let s : k ≡ n = omega arith in rw s h
+      last : (k : ℕ) → p < k → k < suc n → suc (entryDepth es k) ≢ d
+      last k l m = by-less (suc (entryDepth es k) ≢ d) k n (λ b. q .last k l b) (λ g. let s : k ≡ n = omega arith in rw s h)
 
   parent-sooner : (d n p : ℕ) → (suc (entryDepth es n) ≡ d → ⊥) → Parent (entryDepth es) d (suc n) p → Parent (entryDepth es) d n p
-  parent-sooner d n p h q = record { earlier = go (ltb p n) refl; higher = q .higher; last = λ k l m. q .last k l (omega arith) }
+  parent-sooner d n p h q = record { earlier = earlier; higher = q .higher; last = λ k l m. q .last k l (omega arith) }
     where
-      go : (b : Bool) → ltb p n ≡ b → p < n
-      go true e = ltb-true p n e
-      go false e = let g = ltb-false p n e in let l = q .earlier in let s : p ≡ n = omega arith in absurd (h (rw s at (q .higher)))
+      earlier : p < n
+      earlier = by-less (p < n) p n (λ l. l) (λ g. let s : p ≡ n = omega (arith, q .earlier) in absurd (h (rw s at (q .higher))))
 
   nearest-later : (d n : ℕ) (up : Option ℕ) → (suc (entryDepth es n) ≡ d → ⊥) → ListNearest merged (entryDepth es) d n up → ListNearest merged (entryDepth es) d (suc n) up
   nearest-later d n up h (no-parent k) = no-parent (λ p q. k p (parent-sooner d n p h q))
@@ -101,7 +99,7 @@ module _ (f : AddressRange) (es : List TreeEntry) where
   chain-add d n h (m ∷ ms) e c = record { near = kept-parent (parent-here d n h) kept; kept = kept; ranges = sym e; earlier = omega arith; higher = omega arith; tail = refl }
     where
       kept : Kept merged n
-      kept z = cons-nil (sym e ∙ z)
+      kept z = cons≢nil (sym e ∙ z)
 
   none-first : (d p : ℕ) → Parent (entryDepth es) d 0 p → ⊥
   none-first d p q = omega arith
@@ -125,7 +123,7 @@ module _ (f : AddressRange) (es : List TreeEntry) where
   height-add : (d n : ℕ) → suc (entryDepth es n) ≡ d → (ms : List AddressRange) → merged n ≡ ms → (ks : List Held) → ListHeight merged (entryDepth es) (entryDepth es n) n (length ks) →
       ListHeight merged (entryDepth es) d (suc n) (length (add n ms ks))
   height-add d n h [] e ks t = passed (parent-here d n h) (λ k. k e) t
-  height-add d n h (m ∷ ms) e ks t = one-more (parent-here d n h) (λ z. cons-nil (sym e ∙ z)) t
+  height-add d n h (m ∷ ms) e ks t = one-more (parent-here d n h) (λ z. cons≢nil (sym e ∙ z)) t
 
   pub height : (d n : ℕ) → ListHeight merged (entryDepth es) d n (length (above d n))
   unfolding above merged
@@ -153,7 +151,7 @@ module _ (f : AddressRange) (es : List TreeEntry) where
       let c = chain (entryDepth es i) i in
       (upOf ks, nearest-of (entryDepth es i) i ks c, rule-of i ks refl c)
 
-  -- ---- all lies Inside the function's range
+  -- ---- all lies inside the function's range
 
   pub top-within : (d n : ℕ) → All (λ r. Inside r f) (topHeld f (above d n))
   unfolding above

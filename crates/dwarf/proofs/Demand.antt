@@ -1,28 +1,28 @@
 -- Demand 3 whole: what an import leaves in the records tray agrees with the unit's entries. Assumes nothing.
-use mathlib.Core.Path.{_≡_, refl, sym, ap, subst, _∙_}
+use mathlib.Core.Path.{_≡_, refl, sym, ap, _∙_}
 use mathlib.Core.Bool.{Bool, true, false, cond}
-use mathlib.Core.List.{List, [], _∷_, _++_}
+use mathlib.Core.List.{List}
 use mathlib.Core.Option.{Option, none, some}
-use Prim.Native.Nat.{ℕ, _≤_, _<_, _+_}
+use Prim.Native.Nat.{ℕ, _+_}
 use native.Mathlib.Omega.{arith}
 use lib.ListN.{length, take, drop}
 use lib.Dec.{ltb}
 use lib.Seq.{take-at}
 use Rattle.tlv.specs.Outcome.{Outcome, refused, done, _>>=_}
-use Rattle.tlv.specs.Lists.{All, at}
+use Rattle.tlv.specs.Lists.{at}
 use Rattle.tlv.specs.Grammar.{checkSheet}
 use Rattle.tlv.specs.Model.{CompilationUnit, units}
-use Rattle.tlv.specs.Accepted.{UnitAccepted, Given}
+use Rattle.tlv.specs.Accepted.{UnitAccepted}
 use Rattle.tlv.specs.Reader.{readRecords, readFiles, readWarnings}
+use Rattle.tlv.proofs.ListLaws.{all-at, given-some}
+use Rattle.tlv.proofs.OutcomeLaws.{done-is, refused-not, with-done}
 use Rattle.tlv.proofs.ReadBack.{records-back, files-back, warnings-back}
 use Rattle.tlv.proofs.AcceptedUnits.{accepting}
-use Rattle.lines.proofs.AllLaws.{all-at}
-use Rattle.lines.proofs.OutcomeLaws.{with-done, done-is, refused-not}
 use Rattle.lines.proofs.RowLaws.{rows-agree}
 use Rattle.lines.proofs.LineBounds.{sorted-lines}
 use Rattle.dwarf.specs.Import.{State, importUnit}
-use Rattle.dwarf.specs.Answer.{Inputs, oversize, workNeeded, initialState, dwarfOf, importChosen, importOf, Written, written, fitting, outcomeOf, Answer, answerOf, trayAfter, After, after}
-use Rattle.dwarf.specs.Demand.{RecordAgrees, Pointwise, subjects, UnitAgrees, Units, Lent, Finished, Demand}
+use Rattle.dwarf.specs.Answer.{Inputs, oversize, workNeeded, initialState, dwarfOf, importChosen, importOf, Written, written, fitting, outcomeOf, Answer, answerOf, trayAfter, after}
+use Rattle.dwarf.specs.Demand.{RecordAgrees, Pointwise, subjects, Units, Lent, Finished, Demand}
 use Rattle.dwarf.proofs.Refusals.{refusals}
 use Rattle.dwarf.proofs.ImportBounds.{producing}
 use Rattle.dwarf.proofs.WalkMachine.{walk-tree, walk-treeless}
@@ -63,9 +63,6 @@ module _ (i : Inputs) (s : State) where
           with-done (checkSheet (i .main)) _ e λ m c e₁.
           with-done (checkSheet (i .supplementary)) _ e₁ λ n _ e₂.
           from-chosen m (m + n) c (at (units (i .main)) (i .ordinal)) refl e₂
-
-given-some : {A : Type 0} (P : A → Type 0) (o : Option A) (a : A) → Given P o → o ≡ some a → P a
-given-some P o a h e = subst (Given P) e h
 
 agrees : (i : Inputs) (s : State) (l : Lent i) (c : Chosen i s) → Pointwise (RecordAgrees (dwarfOf i) (c .unit) (i .inlines)) (subjects (dwarfOf i) (c .unit)) (s .records)
 unfolding initialState

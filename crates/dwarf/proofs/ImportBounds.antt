@@ -1,6 +1,6 @@
 -- Whatever an import is done with fits the trays' fields (`Producing`). Assumes nothing.
 use mathlib.Core.Path.{_≡_}
-use mathlib.Core.Bool.{Bool, true, false, cond, _&&_, _||_, not}
+use mathlib.Core.Bool.{Bool, true, false, _&&_, _||_, not}
 use mathlib.Core.List.{List, [], _∷_, _++_}
 use mathlib.Core.Option.{Option, none, some}
 use Prim.Native.Nat.{ℕ, _+_, _*_, _-_, _^_, _≤_, _<_}
@@ -17,26 +17,25 @@ use Rattle.tlv.specs.Model.{CompilationUnit, Entry, EntryRange, Attribute, Rang
 use Rattle.tlv.specs.Output.{Function, Warning, malformedRanges, about, rejectedRange, warningPayload}
 use Rattle.tlv.specs.Accepted.{Small, String, Given, AttributeAccepted, FailureAccepted, EntryAccepted, UnitAccepted}
 use Rattle.tlv.specs.Fits.{RangeFits, LineFits, FunctionFits, WarningFits}
+use Rattle.tlv.proofs.TestLaws.{by-test, or-neither}
+use Rattle.tlv.proofs.ListLaws.{any-one, all-append, all-take-while, all-at}
+use Rattle.tlv.proofs.OutcomeLaws.{Gives, gives, gives-none, gives-cond, gives-of, gives-bind, given}
 use Rattle.tlv.proofs.PayloadLaws.{function-length}
 use Rattle.tlv.proofs.AcceptedUnits.{accepting}
 use Rattle.lines.specs.Files.{FileTable}
-use Rattle.lines.specs.Lines.{collectLines}
 use Rattle.lines.specs.Rows.{forRange}
-use Rattle.lines.proofs.Bounds.{TableFits, LinesFit, CollectedFits}
-use Rattle.lines.proofs.AllLaws.{all-at}
-use Rattle.lines.proofs.LineBounds.{collect-fits}
+use Rattle.lines.proofs.Bounds.{TableFits, LinesFit}
+use Rattle.lines.proofs.LineBounds.{gives-lines}
 use Rattle.lines.proofs.RowLaws.{rows-fit}
 use Rattle.references.specs.Search.{Dwarf, attribute}
-use Rattle.references.proofs.Giving.{Gives, gives, gives-none, gives-cond, gives-bind, gives-of, given}
 use Rattle.references.proofs.NameBounds.{DwarfAccepted, attribute-accepted, absolute-small, gives-name}
 use Rattle.references.proofs.DeclarationBounds.{FoundFits, DeclaringFits, gives-declaration}
 use Rattle.dwarf.specs.Tree.{Descendants}
 use Rattle.dwarf.specs.Import.{State, ImportContext, sequenceIf, statementSequenceOffset, isLiveRange, isTombstone, rejected, sequenceWarning, declarationIf, linesWith, rooted, detailContext, addFunction, importRange, importRanges, importByFailure, importSubprogram, isSubprogram, descendantsOf, importUnitDetails, importUnit}
 use Rattle.dwarf.specs.Answer.{Inputs, oversize, workNeeded, initialState, dwarfOf, importChosen, importOf}
 use Rattle.dwarf.specs.Demand.{Lent, Producing}
-use Rattle.dwarf.proofs.AnyLaws.{all-append}
 use Rattle.dwarf.proofs.Subjects.{live-range}
-use Rattle.dwarf.proofs.NodeBounds.{all-take-while, any-one, rooted-fits}
+use Rattle.dwarf.proofs.NodeBounds.{rooted-fits}
 use Rattle.dwarf.proofs.TreeBounds.{DetailsFit, details-fit}
 
 -- what is left behind fits, and the file table can be added to
@@ -63,11 +62,8 @@ malformed-fits stopped f h = omega (arith, h .short)
 
 sequence-small : (u : CompilationUnit) (o : Option Attribute) → Given AttributeAccepted o → Given (λ v. v < 2 ^ 64) (sequenceIf u o)
 sequence-small u none h = tt
-sequence-small u (some a) h = go ((eqb (a .kind) 1 || eqb (a .kind) 7 || eqb (a .kind) 8) && not (eqb (a .value) (2 ^ (8 * u .wordSize) - 1)))
-  where
-    go : (b : Bool) → Given (λ v. v < 2 ^ 64) (cond b (some (a .value)) none)
-    go true = h .value
-    go false = tt
+sequence-small u (some a) h =
+    by-test (Given (λ v. v < 2 ^ 64)) ((eqb (a .kind) 1 || eqb (a .kind) 7 || eqb (a .kind) 8) && not (eqb (a .value) (2 ^ (8 * u .wordSize) - 1))) (λ e. h .value) (λ e. tt)
 
 sequence-fits : (u : CompilationUnit) (e : Entry) (o : Option ℕ) (invalid : Bool) → Given (λ v. v < 2 ^ 64) o → Gives (All WarningFits) (sequenceWarning u e o invalid)
 sequence-fits u e none invalid h = gives tt
@@ -78,7 +74,7 @@ sequence-fits u e (some n) true h = gives-bind (absolute-small u (e .offset)) λ
 
 -- a live range ends where a range of text ends, or before
 live-fits : (text : List AddressRange) (r : AddressRange) → All Small text → isLiveRange text r ≡ true → RangeFits r
-live-fits text r h e = let l = live-range text r e in record { filled = l .filled; small = any-one (λ t s i. omega arith) text h (l .inText) }
+live-fits text r h e = let l = live-range text r e in record { filled = l .filled; small = any-one text (λ t s i. omega arith) h (l .inText) }
 
 lines-fit : (r : AddressRange) (found : Option LineEntry) (rows : List LineEntry) → RangeFits r → Given FoundFits found → All LineFits rows → All LineFits (linesWith r found rows)
 lines-fit r none rows h f k = k
@@ -161,19 +157,15 @@ unit-fits : (d : Dwarf) (u : CompilationUnit) (program : List ℕ) (inlines call
     → DwarfAccepted d → UnitAccepted u → length program < 2 ^ 64 → ImportFits s → Gives ImportFits (importUnit d u program inlines callSites s)
 unfolding importUnit
 unit-fits d u program inlines callSites s dwarf unit short f =
-    gives-bind (gives-of {P = CollectedFits} (collectLines u program (s .table)) λ c e. collect-fits u program (s .table) c unit (omega (arith, unit .few)) short (f .table) e) λ c k.
+    gives-bind (gives-lines u program (s .table) unit (omega (arith, unit .few)) short (f .table)) λ c k.
     details-of-unit-fit (record { dwarf = d; unit = u; lines = c .lines; includeInlines = inlines; includeCallSites = callSites }) (record { dwarf = dwarf; unit = unit; lines = k .lines }) (u .entries) _ (unit .entries)
     (record { table = k .table; records = f .records; warnings = all-append WarningFits (s .warnings) (c .warnings) (f .warnings) (k .warnings) })
 
 -- ---- the import
 
-or-false : (b c : Bool) → b || c ≡ false → c ≡ false
-or-false true c e = let z : _≡_ {A = ℕ} 0 1 = cc in absurd (omega arith)
-or-false false c e = e
-
 program-short : (i : Inputs) → oversize i ≡ false → length (i .program) ≤ programLimit
 unfolding oversize
-program-short i e = ltb-false programLimit (length (i .program)) (or-false (ltb sheetLimit (length (i .main)) || ltb sheetLimit (length (i .supplementary))) (ltb programLimit (length (i .program))) e)
+program-short i e = ltb-false programLimit (length (i .program)) (or-neither (ltb sheetLimit (length (i .main)) || ltb sheetLimit (length (i .supplementary))) (ltb programLimit (length (i .program))) e)
 
 gives-fitting : (i : Inputs) → Lent i → Gives ImportFits (importOf i)
 unfolding importOf dwarfOf initialState

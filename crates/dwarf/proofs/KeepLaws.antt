@@ -1,102 +1,61 @@
--- What an entry keeps: `keep` obeys document 01's rule.
--- Assumes nothing.
-use mathlib.Core.Path.{_≡_, refl, sym, subst}
+-- What an entry keeps: `keep` obeys document 01's rule. Assumes nothing.
+use mathlib.Core.Path.{_≡_, refl, subst}
 use mathlib.Core.Logic.{_⊎_, inl, inr, _↔_, _≢_}
-use mathlib.Core.List.{List, [], _∷_}
-use mathlib.Core.Bool.{Bool, true, false, _&&_, _||_, cond}
+use mathlib.Core.List.{List, [], _∷_, cons≢nil}
+use mathlib.Core.Bool.{Bool, true, false, _&&_, cond, not, false≢true, or-true}
 use Prim.Native.Nat.{ℕ}
 use native.Mathlib.Omega.{arith}
-use lib.Dec.{T, leb, ltb, eqb}
-use borrow.Author.Tests.{leb-true, ltb-true, eqb-true, le-leb, lt-ltb, eq-eqb}
+use lib.Dec.{leb, ltb, eqb}
+use borrow.Author.Tests.{leb-true, ltb-true, eqb-true, not-true, le-leb, lt-ltb, eq-eqb}
 use Rattle.tlv.specs.declared.model.AddressRange.{AddressRange}
-use Rattle.tlv.specs.Lists.{Any, All}
+use Rattle.tlv.specs.Lists.{Any, All, filter, isEmpty}
 use Rattle.tlv.specs.Addresses.{RangeHolds, Inside}
+use Rattle.tlv.proofs.TestLaws.{by-test, and-left, and-right, or-either, filled-empty, empty-filled}
+use Rattle.tlv.proofs.ListLaws.{all-map, all-each, any-map, any-one, any-some, some-any, all-filter, any-filter}
 use Rattle.dwarf.specs.Ranges.{Holds, Apart, coalesceRanges, joinAll, sort}
 use Rattle.dwarf.specs.Tree.{liesIn, fit}
 use Rattle.dwarf.specs.Agree.{TreeEntry, Fits, Rule}
-use Rattle.dwarf.proofs.StackMachine.{filled, keep}
-use Rattle.dwarf.proofs.AnyLaws.{any-map, all-map}
+use Rattle.dwarf.proofs.StackMachine.{keep}
 use Rattle.dwarf.proofs.RangeLaws.{merge-apart, merge-inside, merge-holds, merge-within}
-
--- ---- tests
-
-pub false-true : {A : Type 0} → false ≡ true → A
-false-true e = absurd (subst T (sym e) tt)
-
-and-true : (b c : Bool) → b && c ≡ true → (b ≡ true) × (c ≡ true)
-and-true true c e = (refl, e)
-and-true false c e = false-true e
-
-and-both : (b c : Bool) → b ≡ true → c ≡ true → b && c ≡ true
-and-both b c p q = cc
-
-or-true : (b c : Bool) → b || c ≡ true → (b ≡ true) ⊎ (c ≡ true)
-or-true true c e = inl refl
-or-true false c e = inr e
-
-or-right : (b c : Bool) → c ≡ true → b || c ≡ true
-or-right true c e = refl
-or-right false c e = e
-
-pub cons-nil : {A : Type 0} {x : A} {xs : List A} → x ∷ xs ≢ []
-cons-nil e = subst (λ l. T (filled l)) e tt
-
-filled-true : {A : Type 0} (xs : List A) → filled xs ≡ true → xs ≢ []
-filled-true [] e = false-true e
-filled-true (x ∷ xs) e = cons-nil
-
-filled-of : {A : Type 0} (xs : List A) → xs ≢ [] → filled xs ≡ true
-filled-of [] h = absurd (h refl)
-filled-of (x ∷ xs) h = refl
 
 -- ---- the ranges that fit
 
-lies-true : (ps : List AddressRange) (r : AddressRange) → liesIn ps r ≡ true → Any (Inside r) ps
-lies-true [] r e = false-true e
-lies-true (p ∷ ps) r e = go (or-true (leb (p .start) (r .start) && leb (r .end) (p .end)) (liesIn ps r) e) (lies-true ps r)
+pub lies-true : (ps : List AddressRange) (r : AddressRange) → liesIn ps r ≡ true → Any (Inside r) ps
+lies-true [] r e = absurd (false≢true e)
+lies-true (p ∷ ps) r e = go (or-either (leb (p .start) (r .start) && leb (r .end) (p .end)) (liesIn ps r) e) (lies-true ps r)
   where
     go : (leb (p .start) (r .start) && leb (r .end) (p .end) ≡ true) ⊎ (liesIn ps r ≡ true) → (liesIn ps r ≡ true → Any (Inside r) ps) → Any (Inside r) (p ∷ ps)
-    go (inl h) ih = let t = and-true (leb (p .start) (r .start)) (leb (r .end) (p .end)) h in inl (leb-true (p .start) (r .start) (t .0), leb-true (r .end) (p .end) (t .1))
+    go (inl h) ih =
+        inl (leb-true (p .start) (r .start) (and-left (leb (p .start) (r .start)) (leb (r .end) (p .end)) h), leb-true (r .end) (p .end) (and-right (leb (p .start) (r .start)) (leb (r .end) (p .end)) h))
     go (inr h) ih = inr (ih h)
 
 lies-of : (ps : List AddressRange) (r : AddressRange) → Any (Inside r) ps → liesIn ps r ≡ true
 lies-of (p ∷ ps) r (inl h) = rw (le-leb (p .start) (r .start) (h .0), le-leb (r .end) (p .end) (h .1))
-lies-of (p ∷ ps) r (inr h) = or-right (leb (p .start) (r .start) && leb (r .end) (p .end)) (liesIn ps r) (lies-of ps r h)
+lies-of (p ∷ ps) r (inr h) = rw (lies-of ps r h) (or-true (leb (p .start) (r .start) && leb (r .end) (p .end)))
 
-fits-true : (ps : List AddressRange) (r : AddressRange) → ltb (r .start) (r .end) && liesIn ps r ≡ true → Fits ps r
-fits-true ps r e = let t = and-true (ltb (r .start) (r .end)) (liesIn ps r) e in (ltb-true (r .start) (r .end) (t .0), lies-true ps r (t .1))
+module _ (ps : List AddressRange) where
+  fitting : AddressRange → Bool
+  fitting r = ltb (r .start) (r .end) && liesIn ps r
 
-fits-of : (ps : List AddressRange) (r : AddressRange) → Fits ps r → ltb (r .start) (r .end) && liesIn ps r ≡ true
-fits-of ps r h = and-both (ltb (r .start) (r .end)) (liesIn ps r) (lt-ltb (r .start) (r .end) (h .0)) (lies-of ps r (h .1))
+  fit-is : (rs : List AddressRange) → fit ps rs ≡ filter fitting rs
+  unfolding fit filter fitting
+  fit-is [] = refl
+  fit-is (r ∷ rs) = rw (fit-is rs)
 
-module _ (ps : List AddressRange) (P : AddressRange → Type 0) where
-  fit-any : (rs : List AddressRange) → Any P (fit ps rs) → Any (λ r. P r × Fits ps r) rs
-  unfolding fit
-  fit-any [] h = h
-  fit-any (r ∷ rs) h = go (ltb (r .start) (r .end) && liesIn ps r) refl (fit-any rs) h
-    where
-      go : (b : Bool) → ltb (r .start) (r .end) && liesIn ps r ≡ b → (Any P (fit ps rs) → Any (λ x. P x × Fits ps x) rs) → Any P (cond b (r ∷ fit ps rs) (fit ps rs)) → Any (λ x. P x × Fits ps x) (r ∷ rs)
-      go true e ih (inl p) = inl (p, fits-true ps r e)
-      go true e ih (inr p) = inr (ih p)
-      go false e ih p = inr (ih p)
+  fits-true : (r : AddressRange) → fitting r ≡ true → Fits ps r
+  unfolding fitting
+  fits-true r e = (ltb-true (r .start) (r .end) (and-left (ltb (r .start) (r .end)) (liesIn ps r) e), lies-true ps r (and-right (ltb (r .start) (r .end)) (liesIn ps r) e))
 
-  any-fit : (rs : List AddressRange) → Any (λ r. P r × Fits ps r) rs → Any P (fit ps rs)
-  unfolding fit
-  any-fit (r ∷ rs) (inl h) = rw (fits-of ps r (h .1)) (inl (h .0))
-  any-fit (r ∷ rs) (inr h) = go (ltb (r .start) (r .end) && liesIn ps r) (any-fit rs h)
-    where
-      go : (b : Bool) → Any P (fit ps rs) → Any P (cond b (r ∷ fit ps rs) (fit ps rs))
-      go true p = inr p
-      go false p = p
+  fits-of : (r : AddressRange) → Fits ps r → fitting r ≡ true
+  unfolding fitting
+  fits-of r h = rw (lt-ltb (r .start) (r .end) (h .0)) (lies-of ps r (h .1))
 
-pub fit-fits : (ps rs : List AddressRange) → All (Fits ps) (fit ps rs)
-unfolding fit
-fit-fits ps [] = tt
-fit-fits ps (r ∷ rs) = go (ltb (r .start) (r .end) && liesIn ps r) refl (fit-fits ps rs)
-  where
-    go : (b : Bool) → ltb (r .start) (r .end) && liesIn ps r ≡ b → All (Fits ps) (fit ps rs) → All (Fits ps) (cond b (r ∷ fit ps rs) (fit ps rs))
-    go true e ih = (fits-true ps r e, ih)
-    go false e ih = ih
+  fit-any : (P : AddressRange → Type 0) (rs : List AddressRange) → Any P (fit ps rs) ↔ Any (λ r. P r × Fits ps r) rs
+  fit-any P rs = rw (fit-is rs)
+      (λ h. any-map rs (λ r k. (k .0, fits-true r (k .1))) (any-filter P fitting rs .0 h), λ h. any-filter P fitting rs .1 (any-map rs (λ r k. (k .0, fits-of r (k .1))) h))
+
+  pub fit-fits : (rs : List AddressRange) → All (Fits ps) (fit ps rs)
+  fit-fits rs = rw (fit-is rs) (all-map (filter fitting rs) (λ r h. fits-true r (h .1)) (all-filter (λ r. Unit {0}) fitting rs (all-each rs (λ r. tt))))
 
 -- ---- merging keeps a list empty or not
 
@@ -107,20 +66,13 @@ merge-some (r ∷ rs) h e = subst (Any (Inside r)) e (merge-inside (r ∷ rs) .0
 some-merge : (rs : List AddressRange) → coalesceRanges rs ≢ [] → rs ≢ []
 unfolding coalesceRanges joinAll sort
 some-merge [] h = h
-some-merge (r ∷ rs) h = cons-nil
-
-any-some : {A : Type 0} (P : A → Type 0) (xs : List A) → Any P xs → xs ≢ []
-any-some P (x ∷ xs) h = cons-nil
-
-some-any : {A : Type 0} (P : A → Type 0) (xs : List A) → All P xs → xs ≢ [] → Any P xs
-some-any P [] h k = absurd (k refl)
-some-any P (x ∷ xs) h k = inl (h .0)
+some-merge (r ∷ rs) h = cons≢nil
 
 -- ---- the rule
 
 module _ (ps : List AddressRange) (e : TreeEntry) where
   tested : Bool
-  tested = eqb (e .tag) 0x1d && filled (e .name)
+  tested = eqb (e .tag) 0x1d && not (isEmpty (e .name))
 
   keep-of : tested ≡ true → keep ps e ≡ coalesceRanges (fit ps (e .ranges))
   unfolding keep tested
@@ -128,7 +80,7 @@ module _ (ps : List AddressRange) (e : TreeEntry) where
 
   keep-tested : keep ps e ≢ [] → tested ≡ true
   unfolding keep tested
-  keep-tested = go (eqb (e .tag) 0x1d && filled (e .name))
+  keep-tested = go (eqb (e .tag) 0x1d && not (isEmpty (e .name)))
     where
       go : (b : Bool) → cond b (coalesceRanges (fit ps (e .ranges))) [] ≢ [] → b ≡ true
       go true h = refl
@@ -136,11 +88,8 @@ module _ (ps : List AddressRange) (e : TreeEntry) where
 
   keep-apart : Apart (keep ps e)
   unfolding keep
-  keep-apart = go (eqb (e .tag) 0x1d && filled (e .name))
-    where
-      go : (b : Bool) → Apart (cond b (coalesceRanges (fit ps (e .ranges))) [])
-      go true = merge-apart (fit ps (e .ranges)) (all-map (λ r p. p .0) (fit ps (e .ranges)) (fit-fits ps (e .ranges)))
-      go false = tt
+  keep-apart = by-test Apart (eqb (e .tag) 0x1d && not (isEmpty (e .name)))
+      (λ t. merge-apart (fit ps (e .ranges)) (all-map (fit ps (e .ranges)) (λ r p. p .0) (fit-fits ps (e .ranges)))) (λ t. tt)
 
   pub keep-rule : Rule ps (keep ps e) e
   unfolding tested
@@ -149,28 +98,25 @@ module _ (ps : List AddressRange) (e : TreeEntry) where
       down : keep ps e ≢ [] → (e .tag ≡ 0x1d) × (e .name ≢ []) × Any (Fits ps) (e .ranges)
       down h =
           let t = keep-tested h in
-          let b = and-true (eqb (e .tag) 0x1d) (filled (e .name)) t in
           let s = some-merge (fit ps (e .ranges)) (rw (keep-of t) at h) in
-          (eqb-true (e .tag) 0x1d (b .0), filled-true (e .name) (b .1), any-map (λ r p. p .1) (e .ranges) (fit-any ps (Fits ps) (e .ranges) (some-any (Fits ps) (fit ps (e .ranges)) (fit-fits ps (e .ranges)) s)))
+          let named = not-true (isEmpty (e .name)) (and-right (eqb (e .tag) 0x1d) (not (isEmpty (e .name))) t) in
+          let fits = fit-any ps (Fits ps) (e .ranges) .0 (some-any (Fits ps) (fit ps (e .ranges)) (fit-fits ps (e .ranges)) s) in
+          (eqb-true (e .tag) 0x1d (and-left (eqb (e .tag) 0x1d) (not (isEmpty (e .name))) t), empty-filled (e .name) named, any-map (e .ranges) (λ r p. p .1) fits)
 
       up : (e .tag ≡ 0x1d) × (e .name ≢ []) × Any (Fits ps) (e .ranges) → keep ps e ≢ []
       up h =
-          let t = and-both (eqb (e .tag) 0x1d) (filled (e .name)) (eq-eqb (e .tag) 0x1d (h .0)) (filled-of (e .name) (h .1)) in
-          rw (keep-of t) (merge-some (fit ps (e .ranges)) (any-some (Fits ps) (fit ps (e .ranges)) (any-fit ps (Fits ps) (e .ranges) (any-map (λ r p. (p, p)) (e .ranges) (h .2)))))
+          let t : tested ≡ true = rw (eq-eqb (e .tag) 0x1d (h .0), filled-empty (e .name) (h .1)) in
+          let fits = fit-any ps (Fits ps) (e .ranges) .1 (any-map (e .ranges) (λ r p. (p, p)) (h .2)) in
+          rw (keep-of t) (merge-some (fit ps (e .ranges)) (any-some (Fits ps) (fit ps (e .ranges)) fits))
 
       addresses : keep ps e ≢ [] → (a : ℕ) → Holds (keep ps e) a ↔ Any (λ r. RangeHolds r a × Fits ps r) (e .ranges)
-      addresses h a = rw (keep-of (keep-tested h))
-          (λ p. fit-any ps (λ r. RangeHolds r a) (e .ranges) (merge-holds (fit ps (e .ranges)) a .0 p), λ p. merge-holds (fit ps (e .ranges)) a .1 (any-fit ps (λ r. RangeHolds r a) (e .ranges) p))
+      addresses h a =
+          let merged = merge-holds (fit ps (e .ranges)) a in
+          let fits = fit-any ps (λ r. RangeHolds r a) (e .ranges) in
+          rw (keep-of (keep-tested h)) (λ p. fits .0 (merged .0 p), λ p. merged .1 (fits .1 p))
 
-  -- what is kept lies Inside f, where the ranges above do
+  -- what is kept lies inside f, where the ranges above do
   pub keep-within : (f : AddressRange) → All (λ r. Inside r f) ps → All (λ r. Inside r f) (keep ps e)
   unfolding keep
-  keep-within f h = go (eqb (e .tag) 0x1d && filled (e .name))
-    where
-      through : (r : AddressRange) (qs : List AddressRange) → All (λ q. Inside q f) qs → Any (Inside r) qs → Inside r f
-      through r (q ∷ qs) k (inl p) = omega arith
-      through r (q ∷ qs) k (inr p) = through r qs (k .1) p
-
-      go : (b : Bool) → All (λ r. Inside r f) (cond b (coalesceRanges (fit ps (e .ranges))) [])
-      go true = merge-within f (fit ps (e .ranges)) (all-map (λ r p. through r ps h (p .1)) (fit ps (e .ranges)) (fit-fits ps (e .ranges)))
-      go false = tt
+  keep-within f h = by-test (All (λ r. Inside r f)) (eqb (e .tag) 0x1d && not (isEmpty (e .name)))
+      (λ t. merge-within f (fit ps (e .ranges)) (all-map (fit ps (e .ranges)) (λ r p. any-one ps (λ q a b. (omega arith, omega arith)) h (p .1)) (fit-fits ps (e .ranges)))) (λ t. tt)

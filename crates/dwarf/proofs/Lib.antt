@@ -1,4 +1,3 @@
-pub mod AnyLaws
 pub mod RangeLaws
 pub mod StackMachine
 pub mod ListAgree
@@ -8,7 +7,7 @@ pub mod Numbers
 pub mod MachineLaws
 pub mod Loop
 pub mod ListDemand
-pub mod ListUnique
+pub mod Unique
 pub mod Shift
 pub mod UnitDemand
 pub mod OneJudgement
@@ -17,7 +16,6 @@ pub mod TreeUnique
 pub mod Cases
 pub mod Printed
 pub mod Refusals
-pub mod Positions
 pub mod Adding
 pub mod Subjects
 pub mod Records

@@ -2,17 +2,16 @@
 use mathlib.Core.Path.{_≡_}
 use mathlib.Core.Logic.{_↔_, _≢_}
 use mathlib.Core.Option.{Option, none, some}
-use mathlib.Core.List.{List, [], _∷_}
-use mathlib.Core.Bool.{cond}
+use mathlib.Core.List.{List, []}
 use Prim.Native.Nat.{ℕ, suc, _≤_, _<_}
 use lib.Dec.{ltb}
 use lib.ListN.{length, drop}
 use Rattle.tlv.specs.declared.model.AddressRange.{AddressRange}
 use Rattle.tlv.specs.Addresses.{RangeHolds, Inside}
-use Rattle.tlv.specs.Lists.{Any, All}
+use Rattle.tlv.specs.Lists.{Any, All, takeWhile}
 use Rattle.tlv.specs.Outcome.{refused, done}
 use Rattle.dwarf.specs.Ranges.{Holds, Apart}
-use Rattle.dwarf.specs.Agree.{TreeEntry, TreeNode, Parent, ParentOf, entry, entryDepth, Kept, against, Fits, Rule, node, nodeDepth, NodeOf, Below, Judged, TreeAgrees, TooDeep}
+use Rattle.dwarf.specs.Agree.{TreeEntry, TreeNode, Parent, ParentOf, entry, entryDepth, Kept, against, Fits, Rule, node, nodeDepth, NodeOf, TreeAgrees, TooDeep}
 use Rattle.dwarf.proofs.StackMachine.{Walked, tree}
 
 -- each entry's depth is at most the previous one's plus 1 (the sheet grammar)
@@ -87,12 +86,9 @@ ListDemand = (f : AddressRange) (es : List TreeEntry) → Steps es → ListAnswe
 
 -- ---- over a unit
 
-unfoldable pub downTo : ℕ → List TreeEntry → List TreeEntry
-downTo d [] = []
-downTo d (e ∷ es) = cond (ltb d (e .depth)) (e ∷ downTo d es) []
-
+-- the entries below the subprogram s: those after it that are deeper, up to the first that is not
 unfoldable pub belowOf : List TreeEntry → ℕ → List TreeEntry
-belowOf us s = downTo (entryDepth us s) (drop (suc s) us)
+belowOf us s = takeWhile (λ e. ltb (entryDepth us s) (e .depth)) (drop (suc s) us)
 
 -- what an answer means
 abbrev pub TreeAnswer : AddressRange → List TreeEntry → ℕ → Walked → Type 0

@@ -1,23 +1,21 @@
--- Demand 3: a finished tree agrees with the entries.
--- Assumes nothing.
+-- Demand 3: a finished tree agrees with the entries. Assumes nothing.
 use mathlib.Core.Path.{_≡_, refl, sym, ap, subst, _∙_}
 use mathlib.Core.Logic.{_⊎_, inl, inr, _≢_}
 use mathlib.Core.Option.{Option, none, some}
 use mathlib.Core.List.{List, [], _∷_}
-use mathlib.Core.Bool.{Bool, true, false}
 use Prim.Native.Nat.{ℕ, zero, suc, _+_, _≤_, _<_}
 use native.Mathlib.Omega.{arith}
 use native.Mathlib.Nat.{eq-or-lt-of-le}
-use lib.Dec.{ltb}
 use lib.ListN.{length, getD, length-map}
-use borrow.Author.Tests.{ltb-true, ltb-false}
 use Rattle.tlv.specs.declared.model.AddressRange.{AddressRange}
 use Rattle.tlv.specs.Outcome.{done, refused}
+use Rattle.tlv.proofs.TestLaws.{by-less}
+use Rattle.tlv.proofs.PlaceLaws.{all-getD, getD-image}
 use Rattle.dwarf.specs.Agree.{TreeEntry, TreeNode, rootOf, ParentOf, entry, entryDepth, Kept, against, Rule, node, nodeDepth, NodeOf, root, below}
 use Rattle.dwarf.proofs.StackMachine.{Walked, tree}
 use Rattle.dwarf.proofs.ListAgree.{Steps, ListNearestOf, ListPair, ListAgree, ListTooDeep, ListAnswer, ListDemand}
 use Rattle.dwarf.proofs.Chain.{Held, above, merged, Head, ChainOf, chain, rule-of, judged, merged-within, height}
-use Rattle.dwarf.proofs.Numbers.{all-at, map-at, keptFrom, kept-among, kept-ascending, kept-onto}
+use Rattle.dwarf.proofs.Numbers.{keptFrom, kept-among, kept-ascending, kept-onto}
 use Rattle.dwarf.proofs.MachineLaws.{steps-on, nodeOf, NodesOf, tree-nodes, tree-refused, Guard, guard-above}
 
 module _ (f : AddressRange) (es : List TreeEntry) (ns : List TreeNode) (steps : (i : ℕ) → entryDepth es (suc i) ≤ suc (entryDepth es i)) (done : tree f es ≡ done ns) where
@@ -39,7 +37,7 @@ module _ (f : AddressRange) (es : List TreeEntry) (ns : List TreeNode) (steps : 
 
   node-at : (j : ℕ) → j < length ns → node f ns (suc j) ≡ nodeOf f es steps (entryOf j)
   unfolding entryOf
-  node-at j l = ap (λ (l : List TreeNode). getD l j (rootOf f [])) (made .nodes) ∙ map-at (nodeOf f es steps) kept-numbers j 0 (rootOf f []) (omega (arith, long))
+  node-at j l = ap (λ (l : List TreeNode). getD l j (rootOf f [])) (made .nodes) ∙ getD-image (nodeOf f es steps) kept-numbers j 0 (rootOf f []) (omega (arith, long))
 
   depth-at : (j : ℕ) → j < length ns → nodeDepth f ns (suc j) ≡ suc (level (entryOf j))
   unfolding nodeOf level
@@ -47,11 +45,11 @@ module _ (f : AddressRange) (es : List TreeEntry) (ns : List TreeNode) (steps : 
 
   kept-at : (j : ℕ) → j < length ns → (0 ≤ entryOf j) × (entryOf j < 0 + length es) × Kept (merged f es) (entryOf j)
   unfolding entryOf kept-numbers
-  kept-at j l = all-at (λ i. (0 ≤ i) × (i < 0 + length es) × Kept (merged f es) i) kept-numbers j 0 (kept-among (merged f es) 0 (length es)) (omega (arith, long))
+  kept-at j l = all-getD (λ i. (0 ≤ i) × (i < 0 + length es) × Kept (merged f es) i) kept-numbers j 0 (kept-among (merged f es) 0 (length es)) (omega (arith, long))
 
   shallow-at : (j : ℕ) → j < length ns → level (entryOf j) < 256
   unfolding entryOf level
-  shallow-at j l = all-at (λ i. length (above f es (entryDepth es i) i) < 256) kept-numbers j 0 (made .shallow) (omega (arith, long))
+  shallow-at j l = all-getD (λ i. length (above f es (entryDepth es i) i) < 256) kept-numbers j 0 (made .shallow) (omega (arith, long))
 
   ascending : (j k : ℕ) → j < k → k < length ns → entryOf j < entryOf k
   unfolding entryOf kept-numbers
@@ -63,15 +61,11 @@ module _ (f : AddressRange) (es : List TreeEntry) (ns : List TreeNode) (steps : 
 
   -- the place of an earlier kept entry is earlier
   sooner : (x j : ℕ) → x < length ns → entryOf x < entryOf j → x < j
-  sooner x j l h = go (ltb x j) refl
+  sooner x j l h = by-less (x < j) x j (λ k. k) (λ k. absurd (later (eq-or-lt-of-le k)))
     where
-      go : (b : Bool) → ltb x j ≡ b → x < j
-      go true e = ltb-true x j e
-      go false e = later (eq-or-lt-of-le (ltb-false x j e))
-        where
-          later : (j ≡ x) ⊎ (j < x) → x < j
-          later (inl e) = let z : entryOf j ≡ entryOf x = ap entryOf e in absurd (omega arith)
-          later (inr g) = absurd (omega (arith, ascending j x g l))
+      later : (j ≡ x) ⊎ (j < x) → ⊥
+      later (inl e) = omega (arith, ap entryOf e)
+      later (inr g) = omega (arith, ascending j x g l)
 
   module _ (j : ℕ) (l : j < length ns) where
     -- the root is the parent where the level is 0
@@ -150,8 +144,8 @@ deep f es k steps h =
     let i = t .1 .0 in
     (t .0, record { merged = merged f es; judged = judged f es; number = i; among = omega (arith, t .1 .2); kept = t .1 .3 .kept; height = length (above f es (entryDepth es i) i); counted = height f es (entryDepth es i) i; over = t .1 .3 .deep })
 
-pub demand : ListDemand
-demand f es steps = go (tree f es) refl
+pub demand-list : ListDemand
+demand-list f es steps = go (tree f es) refl
   where
     go : (o : Walked) → tree f es ≡ o → ListAnswer f es o
     go (done ns) e = agree f es ns steps e

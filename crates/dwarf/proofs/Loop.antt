@@ -1,5 +1,4 @@
--- The machine step by step, as a loop goes: what is done, and what the rest gives.
--- Assumes nothing.
+-- The machine step by step, as a loop goes: what is done, and what the rest gives. Assumes nothing.
 use mathlib.Core.Path.{_≡_, refl, ap}
 use mathlib.Core.List.{List, [], _∷_, _++_}
 use Prim.Native.Nat.{ℕ, suc, _≤_, _<_}

@@ -1,25 +1,24 @@
--- The stack machine gives the nodes of the kept entries.
--- Assumes nothing.
+-- The stack machine gives the nodes of the kept entries. Assumes nothing.
 use mathlib.Core.Path.{_≡_, refl, sym, ap, ap₂, subst, _∙_}
 use mathlib.Core.Logic.{_⊎_, inl, inr}
-use mathlib.Core.List.{List, [], _∷_, map}
+use mathlib.Core.List.{List, [], _∷_, map, cons≢nil}
 use mathlib.Core.Bool.{Bool, true, false, cond}
 use Prim.Native.Nat.{ℕ, zero, suc, _+_, _≤_, _<_}
 use native.Mathlib.Omega.{arith}
-use native.Mathlib.Nat.{add-zero, eq-or-lt-of-le}
-use native.Mathlib.Numerals.{add-one}
+use native.Mathlib.Nat.{eq-or-lt-of-le}
 use lib.Dec.{leb, ltb, eqb}
-use lib.ListN.{length, getD, drop, length-map, List·getD-eq-default}
-use lib.Seq.{getD-drop, drop-drop}
+use lib.ListN.{length, drop, length-map, List·getD-eq-default}
 use borrow.Author.Tests.{eqb-true, eqb-false, ltb-true, ltb-false, leb-true, le-leb, lt-leb}
 use Rattle.tlv.specs.declared.model.AddressRange.{AddressRange}
 use Rattle.tlv.specs.Lists.{All}
 use Rattle.tlv.specs.Outcome.{refused, done}
+use Rattle.tlv.proofs.TestLaws.{by-test, by-less}
+use Rattle.tlv.proofs.PlaceLaws.{front-is, front-next}
+use Rattle.tlv.proofs.OutcomeLaws.{refused-not}
 use Rattle.dwarf.specs.Tree.{InlineFrame, finishInlines, parentRanges}
 use Rattle.dwarf.specs.Agree.{TreeEntry, TreeNode, entry, entryDepth, Kept}
 use Rattle.dwarf.proofs.StackMachine.{Walked, keep, andThen, pushNode, oneEntry, run, tree}
 use Rattle.dwarf.proofs.ListAgree.{Steps}
-use Rattle.dwarf.proofs.KeepLaws.{cons-nil}
 use Rattle.dwarf.proofs.Chain.{Held, topHeld, add, aboveOne, above, merged, ChainOf, chain}
 use Rattle.dwarf.proofs.Numbers.{numberIf, keptFrom}
 
@@ -49,7 +48,7 @@ module _ (es : List TreeEntry) where
   top-frames f [] = refl
   top-frames f (k ∷ ks) = refl
 
-  -- a second finishInlines to no greater depth is all that counts
+  -- a second finish to no greater depth is all that counts
   pop-pop : (c d : ℕ) (ks : List Held) → c ≤ d → popHeld c (popHeld d ks) ≡ popHeld c ks
   unfolding popHeld
   pop-pop c d [] h = refl
@@ -61,11 +60,8 @@ module _ (es : List TreeEntry) where
 
   -- Each entry is at most one deeper than the one before, past the end too
   pub steps-on : Steps es → (i : ℕ) → entryDepth es (suc i) ≤ suc (entryDepth es i)
-  steps-on h i = go (ltb (suc i) (length es)) refl
-    where
-      go : (b : Bool) → ltb (suc i) (length es) ≡ b → entryDepth es (suc i) ≤ suc (entryDepth es i)
-      go true e = h i (ltb-true (suc i) (length es) e)
-      go false e = let z : entryDepth es (suc i) ≡ 0 = ap (λ x. x .depth) (List·getD-eq-default es (record { depth = 0; tag = 0; name = []; ranges = [] }) (ltb-false (suc i) (length es) e)) in omega arith
+  steps-on h i = by-less (entryDepth es (suc i) ≤ suc (entryDepth es i)) (suc i) (length es) (h i)
+      (λ l. let z : entryDepth es (suc i) ≡ 0 = ap (λ x. x .depth) (List·getD-eq-default es (record { depth = 0; tag = 0; name = []; ranges = [] }) l) in omega arith)
 
 module _ (f : AddressRange) (es : List TreeEntry) (steps : (i : ℕ) → entryDepth es (suc i) ≤ suc (entryDepth es i)) where
   -- the open nodes after n entries
@@ -130,19 +126,7 @@ module _ (f : AddressRange) (es : List TreeEntry) (steps : (i : ℕ) → entryDe
       (subst (λ (st : List InlineFrame). oneEntry (entry es n) (keep (parentRanges f st) (entry es n)) st (λ t. run f t rest) ≡ o)
       (pop-frames es (entryDepth es n) (stack n) ∙ ap (frames es) (popped n (entryDepth es n) (next n (entryDepth es n) (omega arith)))) h)
 
-  entry-at : (n : ℕ) (e : TreeEntry) (rest : List TreeEntry) → drop n es ≡ e ∷ rest → entry es n ≡ e
-  entry-at n e rest q = sym (getD-drop n es 0 blank ∙ ap (λ (k : ℕ). getD es k blank) (add-zero n)) ∙ ap (λ (l : List TreeEntry). getD l 0 blank) q
-    where
-      blank : TreeEntry
-      blank = record { depth = 0; tag = 0; name = []; ranges = [] }
-
-  entries-after : (n : ℕ) (e : TreeEntry) (rest : List TreeEntry) → drop n es ≡ e ∷ rest → drop (suc n) es ≡ rest
-  entries-after n e rest q = sym (drop-drop 1 n es ∙ ap (λ (k : ℕ). drop k es) (add-one n)) ∙ ap (λ (l : List TreeEntry). drop 1 l) q
-
   module _ (n : ℕ) (rest : List TreeEntry) (is : List ℕ) where
-    held : List Held
-    held = above f es (entryDepth es n) n
-
     abbrev More : List AddressRange → Type 0
     More ms = (ns : List TreeNode) → run f (frames es (add n ms (above f es (entryDepth es n) n))) rest ≡ done ns → NodesOf ns is
 
@@ -154,7 +138,7 @@ module _ (f : AddressRange) (es : List TreeEntry) (steps : (i : ℕ) → entryDe
     pushed : (m : AddressRange) (ms : List AddressRange) → merged f es n ≡ m ∷ ms → More (m ∷ ms) → (ns : List TreeNode) → length (above f es (entryDepth es n) n) < 256 →
         (o : Walked) → run f (frames es (add n (m ∷ ms) (above f es (entryDepth es n) n))) rest ≡ o →
         andThen (record { depth = suc (length (frames es (above f es (entryDepth es n) n))); name = (entry es n) .name; ranges = m ∷ ms }) o ≡ done ns → NodesOf ns (n ∷ is)
-    pushed m ms e more ns l (refused k) q h = let z : _≡_ {A = ℕ} 0 1 = cc in absurd (omega arith)
+    pushed m ms e more ns l (refused k) q h = refused-not h
     pushed m ms e more ns l (done rs) q h =
         let t = more rs q in
         let p : ns ≡ record { depth = suc (length (frames es (above f es (entryDepth es n) n))); name = (entry es n) .name; ranges = m ∷ ms } ∷ rs = cc in
@@ -167,14 +151,14 @@ module _ (f : AddressRange) (es : List TreeEntry) (steps : (i : ℕ) → entryDe
         go : (b : Bool) → ltb (length (frames es (above f es (entryDepth es n) n))) 256 ≡ b → pushNode b (entry es n) (m ∷ ms) (frames es (above f es (entryDepth es n) n)) (λ t. run f t rest) ≡ done ns → NodesOf ns (n ∷ is)
         go true q k =
             pushed m ms e more ns (omega (arith, ltb-true (length (frames es (above f es (entryDepth es n) n))) 256 q, length-map (above f es (entryDepth es n) n) (frame es))) (run f (frames es (add n (m ∷ ms) (above f es (entryDepth es n) n))) rest) refl k
-        go false q k = let z : _≡_ {A = ℕ} 0 1 = cc in absurd (omega arith)
+        go false q k = refused-not k
 
   pub ran : (rest : List TreeEntry) (n : ℕ) → drop n es ≡ rest → (ns : List TreeNode) → run f (frames es (stack n)) rest ≡ done ns → NodesOf ns (keptFrom (merged f es) n (length rest))
   unfolding run keptFrom stack
   ran [] n q ns h = let p : ns ≡ [] = cc in record { nodes = p; shallow = tt }
   ran (e ∷ rest) n q ns h =
-      stepped n rest (keptFrom (merged f es) (suc n) (length rest)) (merged f es n) refl (λ rs k. ran rest (suc n) (entries-after n e rest q) rs k) ns
-      (one n rest (done ns) (subst (λ (x : TreeEntry). run f (frames es (stack n)) (x ∷ rest) ≡ done ns) (sym (entry-at n e rest q)) h))
+      stepped n rest (keptFrom (merged f es) (suc n) (length rest)) (merged f es n) refl (λ rs k. ran rest (suc n) (front-next n es e rest q) rs k) ns
+      (one n rest (done ns) (subst (λ (x : TreeEntry). run f (frames es (stack n)) (x ∷ rest) ≡ done ns) (sym (front-is n es e rest q _)) h))
 
   pub tree-nodes : (ns : List TreeNode) → tree f es ≡ done ns → NodesOf ns (keptFrom (merged f es) 0 (length es))
   unfolding tree stack
@@ -192,7 +176,7 @@ module _ (f : AddressRange) (es : List TreeEntry) (steps : (i : ℕ) → entryDe
 
     deep-pushed : (m : AddressRange) (ms : List AddressRange) → (run f (frames es (add n (m ∷ ms) (above f es (entryDepth es n) n))) rest ≡ refused k → Found (suc n) (length rest)) → (nd : TreeNode) →
         (o : Walked) → run f (frames es (add n (m ∷ ms) (above f es (entryDepth es n) n))) rest ≡ o → andThen nd o ≡ refused k → Found (suc n) (length rest)
-    deep-pushed m ms more nd (done rs) q h = let z : _≡_ {A = ℕ} 0 1 = cc in absurd (omega arith)
+    deep-pushed m ms more nd (done rs) q h = refused-not (sym h)
     deep-pushed m ms more nd (refused c) q h = more (q ∙ h)
 
     wider : Found (suc n) (length rest) → Found n (suc (length rest))
@@ -206,23 +190,20 @@ module _ (f : AddressRange) (es : List TreeEntry) (steps : (i : ℕ) → entryDe
         go : (b : Bool) → ltb (length (frames es (above f es (entryDepth es n) n))) 256 ≡ b → pushNode b (entry es n) (m ∷ ms) (frames es (above f es (entryDepth es n) n)) (λ t. run f t rest) ≡ refused k → Found n (suc (length rest))
         go true q h = wider (deep-pushed m ms more _ (run f (frames es (add n (m ∷ ms) (above f es (entryDepth es n) n))) rest) refl h)
         go false q h =
-            (cc, (n, omega arith, omega arith, record { kept = λ z. cons-nil (sym e ∙ z); deep = omega (arith, ltb-false (length (frames es (above f es (entryDepth es n) n))) 256 q, length-map (above f es (entryDepth es n) n) (frame es)) }))
+            (cc, (n, omega arith, omega arith, record { kept = λ z. cons≢nil (sym e ∙ z); deep = omega (arith, ltb-false (length (frames es (above f es (entryDepth es n) n))) 256 q, length-map (above f es (entryDepth es n) n) (frame es)) }))
 
   refused-at : (k : ℕ) (rest : List TreeEntry) (n : ℕ) → drop n es ≡ rest → run f (frames es (stack n)) rest ≡ refused k → (k ≡ 14) × ((i : ℕ) × (n ≤ i) × (i < n + length rest) × DeepAt i)
   unfolding run stack
-  refused-at k [] n q h = let z : _≡_ {A = ℕ} 0 1 = cc in absurd (omega arith)
+  refused-at k [] n q h = refused-not (sym h)
   refused-at k (e ∷ rest) n q h =
-      deep-stepped k n rest (merged f es n) refl (λ g. refused-at k rest (suc n) (entries-after n e rest q) g)
-      (one n rest (refused k) (subst (λ (x : TreeEntry). run f (frames es (stack n)) (x ∷ rest) ≡ refused k) (sym (entry-at n e rest q)) h))
+      deep-stepped k n rest (merged f es n) refl (λ g. refused-at k rest (suc n) (front-next n es e rest q) g)
+      (one n rest (refused k) (subst (λ (x : TreeEntry). run f (frames es (stack n)) (x ∷ rest) ≡ refused k) (sym (front-is n es e rest q _)) h))
 
   pub tree-refused : (k : ℕ) → tree f es ≡ refused k → (k ≡ 14) × ((i : ℕ) × (0 ≤ i) × (i < 0 + length es) × DeepAt i)
   unfolding tree stack
   tree-refused k h = refused-at k es 0 refl h
 
   -- ---- a node of less depth does not stand between an open node and what comes next
-
-  abbrev level : ℕ → ℕ
-  level i = length (above f es (entryDepth es i) i)
 
   -- each kept entry after an open one, up to n, stands below it
   abbrev pub Guard : ℕ → List Held → Type 0
@@ -232,11 +213,7 @@ module _ (f : AddressRange) (es : List TreeEntry) (steps : (i : ℕ) → entryDe
   guard-pop : (n d : ℕ) (ks : List Held) → Guard n ks → Guard n (popHeld es d ks)
   unfolding popHeld
   guard-pop n d [] g = tt
-  guard-pop n d (k ∷ ks) g = go (leb d (entryDepth es (k .number))) (guard-pop n d ks (g .1))
-    where
-      go : (b : Bool) → Guard n (popHeld es d ks) → Guard n (cond b (popHeld es d ks) (k ∷ ks))
-      go true ih = ih
-      go false ih = g
+  guard-pop n d (k ∷ ks) g = by-test (Guard n) (leb d (entryDepth es (k .number))) (λ e. guard-pop n d ks (g .1)) (λ e. g)
 
   guard-more : (n : ℕ) (ks : List Held) → length ks ≤ length (above f es (entryDepth es n) n) → Guard n ks → Guard (suc n) ks
   guard-more n [] l g = tt

@@ -1,49 +1,22 @@
 -- What the walk below a subprogram is bounded by: ranges inside the function's, and nodes in preorder, each at most one deeper than the one before. Assumes nothing.
 use mathlib.Core.Path.{_≡_, refl}
-use mathlib.Core.Logic.{inl, inr}
-use mathlib.Core.Bool.{Bool, true, false, cond}
-use mathlib.Core.List.{List, [], _∷_, _++_}
+use mathlib.Core.Logic.{inl}
+use mathlib.Core.List.{List, [], _∷_, _++_, cons≢nil}
 use Prim.Native.Nat.{ℕ, suc}
 use native.Mathlib.Omega.{arith}
 use Rattle.tlv.specs.declared.model.AddressRange.{AddressRange}
 use Rattle.tlv.specs.Addresses.{Nonempty, Inside}
-use Rattle.tlv.specs.Lists.{Any, All, takeWhile, dropWhile}
+use Rattle.tlv.specs.Lists.{All}
 use Rattle.tlv.specs.Output.{InlineNode}
 use Rattle.tlv.specs.Accepted.{String}
 use Rattle.tlv.specs.Fits.{RangeFits, NodeFits, NodesFit}
+use Rattle.tlv.proofs.ListLaws.{all-map, any-one}
 use Rattle.tlv.proofs.PayloadLaws.{node-length}
 use Rattle.dwarf.specs.Ranges.{Apart, coalesceRanges}
 use Rattle.dwarf.specs.Tree.{fit}
 use Rattle.dwarf.specs.Import.{rooted}
-use Rattle.dwarf.proofs.AnyLaws.{all-map}
 use Rattle.dwarf.proofs.RangeLaws.{merge-apart, merge-within}
-use Rattle.dwarf.proofs.KeepLaws.{cons-nil, fit-fits}
-
--- ---- lists
-
-module _ {A : Type 0} (P : A → Type 0) (t : A → Bool) where
-  pub all-take-while : (xs : List A) → All P xs → All P (takeWhile t xs)
-  unfolding takeWhile
-  all-take-while [] h = tt
-  all-take-while (x ∷ xs) h = go (t x) (all-take-while xs (h .1))
-    where
-      go : (b : Bool) → All P (takeWhile t xs) → All P (cond b (x ∷ takeWhile t xs) [])
-      go true ih = (h .0, ih)
-      go false ih = tt
-
-  pub all-drop-while : (xs : List A) → All P xs → All P (dropWhile t xs)
-  unfolding dropWhile
-  all-drop-while [] h = tt
-  all-drop-while (x ∷ xs) h = go (t x) (all-drop-while xs (h .1))
-    where
-      go : (b : Bool) → All P (dropWhile t xs) → All P (cond b (dropWhile t xs) (x ∷ xs))
-      go true ih = ih
-      go false ih = h
-
--- what follows of one element that is so, where another thing holds of all
-pub any-one : {A C : Type 0} {P Q : A → Type 0} → ((x : A) → P x → Q x → C) → (xs : List A) → All P xs → Any Q xs → C
-any-one f (x ∷ xs) ps (inl q) = f x (ps .0) q
-any-one f (x ∷ xs) ps (inr q) = any-one f xs (ps .1) q
+use Rattle.dwarf.proofs.KeepLaws.{fit-fits}
 
 -- ---- ranges
 
@@ -56,14 +29,14 @@ within-all f [] a h = tt
 within-all f (r ∷ rs) a h = ((a .0, h .0), within-all f rs (a .2) (h .1))
 
 -- what is kept of an entry's ranges lies inside f, where the ranges above do
-pub merged-within : (f : AddressRange) (ps rs : List AddressRange) → All (Within f) ps → All (Within f) (coalesceRanges (fit ps rs))
-merged-within f ps rs h =
+pub kept-within : (f : AddressRange) (ps rs : List AddressRange) → All (Within f) ps → All (Within f) (coalesceRanges (fit ps rs))
+kept-within f ps rs h =
     let fits = fit-fits ps rs in
-    within-all f (coalesceRanges (fit ps rs)) (merge-apart (fit ps rs) (all-map (λ r p. p .0) (fit ps rs) fits))
-    (merge-within f (fit ps rs) (all-map (λ r p. any-one (λ q a b. (omega arith, omega arith)) ps h (p .1)) (fit ps rs) fits))
+    within-all f (coalesceRanges (fit ps rs)) (merge-apart (fit ps rs) (all-map (fit ps rs) (λ r p. p .0) fits))
+    (merge-within f (fit ps rs) (all-map (fit ps rs) (λ r p. any-one ps (λ q a b. (omega arith, omega arith)) h (p .1)) fits))
 
-pub ranges-fit : (f : AddressRange) (rs : List AddressRange) → RangeFits f → All (Within f) rs → All RangeFits rs
-ranges-fit f rs h = all-map (λ r w. record { filled = w .0; small = omega (arith, h .small) }) rs
+pub within-fit : (f : AddressRange) (rs : List AddressRange) → RangeFits f → All (Within f) rs → All RangeFits rs
+within-fit f rs h = all-map rs (λ r w. record { filled = w .0; small = omega (arith, h .small) })
 
 -- ---- nodes in preorder
 
@@ -91,7 +64,7 @@ rooted-fits name r (n ∷ ns) s h k = (
     file = omega arith;
     line = omega arith;
     short = omega (arith, s .1, node-length (record { depth = 0; callFile = record { 0 = 0 }; callLine = 0; name = name; ranges = r ∷ [] }));
-    filled = cons-nil;
+    filled = cons≢nil;
     ranges = (h, tt);
   },
   k,

@@ -1,30 +1,17 @@
--- The numbers of the kept entries, ascending.
--- Assumes nothing.
+-- The numbers of the kept entries, ascending. Assumes nothing.
 use mathlib.Core.Path.{_≡_, refl, sym, _∙_}
 use mathlib.Core.Logic.{_⊎_, inl, inr, _≢_}
-use mathlib.Core.List.{List, [], _∷_, map}
+use mathlib.Core.List.{List, [], _∷_, cons≢nil}
 use Prim.Native.Nat.{ℕ, zero, suc, _+_, _≤_, _<_}
 use native.Mathlib.Omega.{arith}
 use native.Mathlib.Nat.{eq-or-lt-of-le}
 use lib.ListN.{length, getD}
 use Rattle.tlv.specs.declared.model.AddressRange.{AddressRange}
 use Rattle.tlv.specs.Lists.{All}
-use Rattle.dwarf.proofs.AnyLaws.{all-map}
-use Rattle.dwarf.proofs.KeepLaws.{cons-nil}
+use Rattle.tlv.proofs.ListLaws.{all-map}
+use Rattle.tlv.proofs.PlaceLaws.{all-getD}
 
--- ---- lists by place
-
-pub all-at : {A : Type 0} (P : A → Type 0) (xs : List A) (j : ℕ) (d : A) → All P xs → j < length xs → P (getD xs j d)
-all-at P [] j d h l = absurd (omega arith)
-all-at P (x ∷ xs) zero d h l = h .0
-all-at P (x ∷ xs) (suc j) d h l = all-at P xs j d (h .1) (omega arith)
-
-pub map-at : {A B : Type 0} (g : A → B) (xs : List A) (j : ℕ) (d : A) (e : B) → j < length xs → getD (map g xs) j e ≡ g (getD xs j d)
-map-at g [] j d e l = absurd (omega arith)
-map-at g (x ∷ xs) zero d e l = refl
-map-at g (x ∷ xs) (suc j) d e l = map-at g xs j d e (omega arith)
-
--- ---- entry n in front, where it has merged ranges
+-- entry n in front, where it has merged ranges
 abbrev pub numberIf : ℕ → List AddressRange → List ℕ → List ℕ
 numberIf n [] is = is
 numberIf n (m ∷ ms) is = n ∷ is
@@ -38,11 +25,11 @@ module _ (merged : ℕ → List AddressRange) where
   pub kept-among : (n m : ℕ) → All (λ i. (n ≤ i) × (i < n + m) × (merged i ≢ [])) (keptFrom n m)
   unfolding keptFrom
   kept-among n zero = tt
-  kept-among n (suc m) = go (merged n) refl (all-map (λ i h. (omega arith, omega arith, h .2)) (keptFrom (suc n) m) (kept-among (suc n) m))
+  kept-among n (suc m) = go (merged n) refl (all-map (keptFrom (suc n) m) (λ i h. (omega arith, omega arith, h .2)) (kept-among (suc n) m))
     where
       go : (ms : List AddressRange) → merged n ≡ ms → All (λ i. (n ≤ i) × (i < n + suc m) × (merged i ≢ [])) (keptFrom (suc n) m) → All (λ i. (n ≤ i) × (i < n + suc m) × (merged i ≢ [])) (numberIf n ms (keptFrom (suc n) m))
       go [] e h = h
-      go (x ∷ ms) e h = ((omega arith, omega arith, λ z. cons-nil (sym e ∙ z)), h)
+      go (x ∷ ms) e h = ((omega arith, omega arith, λ z. cons≢nil (sym e ∙ z)), h)
 
   pub kept-ascending : (n m j k : ℕ) → j < k → k < length (keptFrom n m) → getD (keptFrom n m) j 0 < getD (keptFrom n m) k 0
   unfolding keptFrom
@@ -53,7 +40,7 @@ module _ (merged : ℕ → List AddressRange) where
           getD (numberIf n ms (keptFrom (suc n) m)) j 0 < getD (numberIf n ms (keptFrom (suc n) m)) k 0
       go [] j k h l ih = ih j k h l
       go (x ∷ ms) j zero h l ih = absurd (omega arith)
-      go (x ∷ ms) zero (suc k) h l ih = omega (arith, all-at (λ i. (suc n ≤ i) × (i < suc n + m) × (merged i ≢ [])) (keptFrom (suc n) m) k 0 (kept-among (suc n) m) (omega arith))
+      go (x ∷ ms) zero (suc k) h l ih = omega (arith, all-getD (λ i. (suc n ≤ i) × (i < suc n + m) × (merged i ≢ [])) (keptFrom (suc n) m) k 0 (kept-among (suc n) m) (omega arith))
       go (x ∷ ms) (suc j) (suc k) h l ih = ih j k (omega arith) (omega arith)
 
   pub kept-onto : (n m i : ℕ) → n ≤ i → i < n + m → merged i ≢ [] → (j : ℕ) × (j < length (keptFrom n m)) × (getD (keptFrom n m) j 0 ≡ i)

@@ -1,13 +1,12 @@
--- Over a unit too the rule leaves no choice.
--- Assumes nothing.
+-- Over a unit too the rule leaves no choice. Assumes nothing.
 use mathlib.Core.Path.{_≡_, refl, sym, ap, subst, _∙_}
-use mathlib.Core.Option.{Option, none, some}
+use mathlib.Core.Option.{Option, none, some, Option·none-ne-some}
 use mathlib.Core.List.{List}
 use Prim.Native.Nat.{ℕ, zero, suc, _<_}
 use native.Mathlib.Omega.{arith}
 use Rattle.tlv.specs.declared.model.AddressRange.{AddressRange}
 use Rattle.dwarf.specs.Agree.{TreeEntry, ParentOf, entry, entryDepth, Kept, against, Rule, Ancestor, parent, further, Below, Nearest, subprogram, kept-one, past-one, Judged, OneJudgement}
-use Rattle.dwarf.proofs.ListUnique.{parent-unique, rule-unique}
+use Rattle.dwarf.proofs.Unique.{parent-unique, rule-unique}
 
 module _ (depth : ℕ → ℕ) (s : ℕ) where
   -- the parent of an entry below the subprogram is below it, or is the subprogram
@@ -28,7 +27,7 @@ module _ (depth : ℕ → ℕ) (s : ℕ) where
     near-unique (past-one {p = p} a g h r) (past-one {p = q} {up = v} b l k t) = near-unique r (subst (λ (x : ℕ). Nearest M depth s x v) (sym (parent-unique depth a b)) t)
 
     near-some : {i a : ℕ} {up : Option ℕ} → Ancestor depth i s → Nearest M depth s i up → up ≡ some a → (a < i) × Ancestor depth a s
-    near-some c (subprogram b) e = let z : _≡_ {A = ℕ} 0 1 = cc in absurd (omega arith)
+    near-some {a = a} c (subprogram b) e = absurd (Option·none-ne-some a e)
     near-some {i} {a} c (kept-one {p = p} b g k) e = let z : p ≡ a = cc in subst (λ (x : ℕ). (x < i) × Ancestor depth x s) z (b .earlier, parent-below c b g)
     near-some c (past-one {p = p} b g k t) e = let r = near-some (parent-below c b g) t e in (omega (arith, b .earlier, r .0), r .1)
 
@@ -44,8 +43,8 @@ module _ (f : AddressRange) (us : List TreeEntry) (s : ℕ) (M N : ℕ → List 
   same-against none i c t h = refl
   same-against (some a) i c t h = let r = near-some (entryDepth us) s M {a = a} c t refl in h a (r .0) (r .1)
 
-  step : (i : ℕ) (b : Below us s i) → ((p : ℕ) → p < i → Ancestor (entryDepth us) p s → M p ≡ N p) → M i ≡ N i
-  step i b h =
+  judged-step : (i : ℕ) (b : Below us s i) → ((p : ℕ) → p < i → Ancestor (entryDepth us) p s → M p ≡ N p) → M i ≡ N i
+  judged-step i b h =
       let t = j i b in
       let r = k i b in
       let e : t .0 ≡ r .0 = near-unique (entryDepth us) s N (near-change (entryDepth us) s M N h (b .1) (t .1)) (r .1) in
@@ -53,7 +52,7 @@ module _ (f : AddressRange) (us : List TreeEntry) (s : ℕ) (M N : ℕ → List 
 
   below : (n i : ℕ) → i < n → Below us s i → M i ≡ N i
   below zero i l b = absurd (omega arith)
-  below (suc n) i l b = step i b (λ p m c. below n p (omega arith) (omega (arith, b .0), c))
+  below (suc n) i l b = judged-step i b (λ p m c. below n p (omega arith) (omega (arith, b .0), c))
 
 pub one-judgement : (f : AddressRange) (us : List TreeEntry) (s : ℕ) → OneJudgement f us s
 one-judgement f us s M N j k i b = below f us s M N j k (suc i) i (omega arith) b

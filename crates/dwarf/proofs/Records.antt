@@ -1,8 +1,7 @@
 -- The records that the import of a unit adds answer for the unit's subjects, if walks, rows and lines are as their own laws say. Assumes those four laws.
 use mathlib.Core.Path.{_≡_, refl, sym, ap, _∙_}
-use mathlib.Core.Logic.{_≢_}
 use mathlib.Core.Bool.{true, false}
-use mathlib.Core.List.{List, [], _∷_, _++_, map}
+use mathlib.Core.List.{List, [], _++_, map}
 use mathlib.Core.Option.{Option, none, some}
 use Prim.Native.Nat.{ℕ, _<_}
 use native.Mathlib.Omega.{arith}
@@ -12,10 +11,12 @@ use Rattle.tlv.specs.declared.model.AddressRange.{AddressRange}
 use Rattle.tlv.specs.declared.model.LineEntry.{LineEntry}
 use Rattle.tlv.specs.Addresses.{Nonempty}
 use Rattle.tlv.specs.Outcome.{done}
-use Rattle.tlv.specs.Lists.{isEmpty}
 use Rattle.tlv.specs.Model.{CompilationUnit, Entry}
 use Rattle.tlv.specs.Accepted.{UnitAccepted}
 use Rattle.tlv.specs.Output.{Function}
+use Rattle.tlv.proofs.TestLaws.{empty-filled}
+use Rattle.tlv.proofs.PlaceLaws.{front-among, front-is, front-next}
+use Rattle.tlv.proofs.OutcomeLaws.{with-done}
 use Rattle.lines.specs.Files.{FileTable}
 use Rattle.lines.specs.Lines.{UnitLines, Collected, collectLines}
 use Rattle.lines.specs.Rows.{forRange}
@@ -25,14 +26,9 @@ use Rattle.dwarf.specs.Tree.{DetailContext, Descendants, extractSubprogr
 use Rattle.dwarf.specs.Import.{ImportContext, statementSequenceOffset, linesWith, rooted, detailContext, descendantsOf, importUnit}
 use Rattle.dwarf.specs.Agree.{TreeEntry, foundName, treeEntry, treeEntries, entry, treeNode, TreeAgrees}
 use Rattle.dwarf.specs.Demand.{Subject, subjects, Live, RecordAgrees, Units, entriesBelow}
-use Rattle.dwarf.proofs.KeepLaws.{false-true}
-use Rattle.dwarf.proofs.Positions.{at-among, at-value, at-next, at-map}
-use Rattle.dwarf.proofs.Adding.{with-done, pointwise-map}
+use Rattle.dwarf.proofs.Adding.{pointwise-map}
+use Rattle.dwarf.proofs.WalkPlaces.{tree-at}
 use Rattle.dwarf.proofs.Subjects.{Written, live-range, from-entries}
-
-full : {A : Type 0} (xs : List A) → isEmpty xs ≡ false → xs ≢ []
-full [] h e = false-true (sym h)
-full (x ∷ xs) h e = let z : _≡_ {A = ℕ} 0 1 = cc in omega arith
 
 -- the row of a declaration alone agrees with a range
 declared-rows : (r : AddressRange) (found : Option LineEntry) (rows : List LineEntry) → Nonempty r → RowsAgree r rows → RowsAgree r (linesWith r found rows)
@@ -53,7 +49,7 @@ module _
       among = inside;
       subprogram = ap (λ (x : TreeEntry). x .tag) same ∙ eqb-true (w .source .tag) 0x2e (w .subprogram);
       name = sym (ap (λ (x : TreeEntry). x .name) same ∙ ap foundName (w .name));
-      named = full (f .name) (w .named);
+      named = empty-filled (f .name) (w .named);
       range = w .range;
       live = rw (w .range) live;
       rows = rw (w .range, w .lines) (declared-rows (k .range) (w .found) (forRange (q .lines) (k .range) (statementSequenceOffset (q .unit) (w .source)) .rows) (live .filled)
@@ -63,16 +59,16 @@ module _
     }
       where
         inside : k .number < length (q .unit .entries)
-        inside = at-among (k .number) (q .unit .entries) (w .source) (w .after) (w .place)
+        inside = front-among (k .number) (q .unit .entries) (w .source) (w .after) (w .place)
 
         same : entry (treeEntries (q .dwarf) (q .unit)) (k .number) ≡ treeEntry (q .dwarf) (q .unit) (w .source)
-        same = at-map (treeEntry (q .dwarf) (q .unit)) (k .number) (q .unit .entries) (w .source) (w .after) (w .place) (record { depth = 0; tag = 0; name = []; ranges = [] })
+        same = tree-at (q .dwarf) (q .unit) (k .number) inside ∙ ap (treeEntry (q .dwarf) (q .unit)) (front-is (k .number) (q .unit .entries) (w .source) (w .after) (w .place) _)
 
         live : Live (q .unit .text) (k .range)
         live = live-range (q .unit .text) (k .range) (w .live)
 
         below : entriesBelow (q .unit) (k .number) ≡ descendantsOf (w .source .depth) (w .after)
-        below = rw (at-value (k .number) (q .unit .entries) (w .source) (w .after) (w .place), at-next (k .number) (q .unit .entries) (w .source) (w .after) (w .place))
+        below = rw (front-is (k .number) (q .unit .entries) (w .source) (w .after) (w .place), front-next (k .number) (q .unit .entries) (w .source) (w .after) (w .place))
 
     -- what the import of a unit adds to the records answers for its subjects, one for each, in order
     pub units-agree : Units

@@ -1,80 +1,42 @@
--- The entries below a subprogram are those after it that are deeper, up to the first that is not; and parents there are parents in the unit.
--- Assumes nothing.
+-- The entries below a subprogram are those after it that are deeper, up to the first that is not; and parents there are parents in the unit. Assumes nothing.
 use mathlib.Core.Path.{_≡_, refl, sym, ap, subst, _∙_}
 use mathlib.Core.Logic.{_⊎_, inl, inr, _≢_}
-use mathlib.Core.List.{List, [], _∷_}
-use mathlib.Core.Bool.{Bool, true, false, cond}
+use mathlib.Core.List.{List, []}
+use mathlib.Core.Bool.{Bool, true, false}
 use Prim.Native.Nat.{ℕ, zero, suc, _+_, _-_, _≤_, _<_}
 use native.Mathlib.Omega.{arith}
 use native.Mathlib.Nat.{eq-or-lt-of-le}
 use lib.Dec.{ltb, eqb}
-use lib.ListN.{length, getD, drop, length-drop}
+use lib.ListN.{length, drop, length-drop}
 use lib.Seq.{getD-drop}
 use borrow.Author.Tests.{ltb-true, ltb-false, eqb-true, eqb-false}
+use Rattle.tlv.proofs.TestLaws.{by-less}
+use Rattle.tlv.proofs.PlaceLaws.{while-length, while-at, while-stop}
 use Rattle.dwarf.specs.Agree.{TreeEntry, ParentOf, entry, entryDepth, Ancestor, parent, further, Below}
-use Rattle.dwarf.proofs.ListAgree.{downTo, belowOf}
-
--- ---- the prefix that is deeper
-
-module _ (d : ℕ) (b : TreeEntry) where
-  down-at : (es : List TreeEntry) (i : ℕ) → i < length (downTo d es) → getD (downTo d es) i b ≡ getD es i b
-  unfolding downTo
-  down-at [] i l = refl
-  down-at (e ∷ es) i l = go (ltb d (e .depth)) i l (λ k. down-at es k)
-    where
-      go : (t : Bool) (i : ℕ) → i < length (cond t (e ∷ downTo d es) []) → ((k : ℕ) → k < length (downTo d es) → getD (downTo d es) k b ≡ getD es k b) → getD (cond t (e ∷ downTo d es) []) i b ≡ getD (e ∷ es) i b
-      go true zero l ih = refl
-      go true (suc i) l ih = ih i (omega arith)
-      go false i l ih = absurd (omega arith)
-
-  down-deeper : (es : List TreeEntry) (i : ℕ) → i < length (downTo d es) → d < (getD es i b) .depth
-  unfolding downTo
-  down-deeper [] i l = absurd (omega arith)
-  down-deeper (e ∷ es) i l = go (ltb d (e .depth)) refl i l (λ k. down-deeper es k)
-    where
-      go : (t : Bool) → ltb d (e .depth) ≡ t → (i : ℕ) → i < length (cond t (e ∷ downTo d es) []) → ((k : ℕ) → k < length (downTo d es) → d < (getD es k b) .depth) → d < (getD (e ∷ es) i b) .depth
-      go true q zero l ih = ltb-true d (e .depth) q
-      go true q (suc i) l ih = ih i (omega arith)
-      go false q i l ih = absurd (omega arith)
-
-  down-stop : (es : List TreeEntry) → length (downTo d es) < length es → (getD es (length (downTo d es)) b) .depth ≤ d
-  unfolding downTo
-  down-stop [] l = absurd (omega arith)
-  down-stop (e ∷ es) l = go (ltb d (e .depth)) refl l (down-stop es)
-    where
-      go : (t : Bool) → ltb d (e .depth) ≡ t → length (cond t (e ∷ downTo d es) []) < suc (length es) → (length (downTo d es) < length es → (getD es (length (downTo d es)) b) .depth ≤ d) →
-          (getD (e ∷ es) (length (cond t (e ∷ downTo d es) [])) b) .depth ≤ d
-      go true q l ih = ih (omega arith)
-      go false q l ih = ltb-false d (e .depth) q
-
-  down-length : (es : List TreeEntry) → length (downTo d es) ≤ length es
-  unfolding downTo
-  down-length [] = omega arith
-  down-length (e ∷ es) = go (ltb d (e .depth)) (down-length es)
-    where
-      go : (t : Bool) → length (downTo d es) ≤ length es → length (cond t (e ∷ downTo d es) []) ≤ suc (length es)
-      go true ih = omega arith
-      go false ih = omega arith
+use Rattle.dwarf.proofs.ListAgree.{belowOf}
 
 module _ (us : List TreeEntry) (s : ℕ) where
+  under : TreeEntry → Bool
+  under e = ltb (entryDepth us s) (e .depth)
+
   blank : TreeEntry
   blank = record { depth = 0; tag = 0; name = []; ranges = [] }
 
   pub below-at : (i : ℕ) → i < length (belowOf us s) → entry (belowOf us s) i ≡ entry us (suc s + i)
-  unfolding belowOf blank
-  below-at i l = down-at (entryDepth us s) blank (drop (suc s) us) i l ∙ getD-drop (suc s) us i blank
+  unfolding belowOf under blank
+  below-at i l = while-at under blank (drop (suc s) us) i l .0 ∙ getD-drop (suc s) us i blank
 
   pub below-deeper : (i : ℕ) → i < length (belowOf us s) → entryDepth us s < entryDepth us (suc s + i)
-  unfolding belowOf blank
-  below-deeper i l = rw getD-drop at (down-deeper (entryDepth us s) blank (drop (suc s) us) i l)
+  unfolding belowOf under blank
+  below-deeper i l = ltb-true (entryDepth us s) (entryDepth us (suc s + i)) (rw getD-drop at (while-at under blank (drop (suc s) us) i l .1))
 
   pub below-length : s < length us → suc s + length (belowOf us s) ≤ length us
-  unfolding belowOf
-  below-length h = omega (arith, down-length (entryDepth us s) (record { depth = 0; tag = 0; name = []; ranges = [] }) (drop (suc s) us), length-drop (suc s) us)
+  unfolding belowOf under
+  below-length h = omega (arith, while-length under (drop (suc s) us), length-drop (suc s) us)
 
   pub below-stop : suc s + length (belowOf us s) < length us → entryDepth us (suc s + length (belowOf us s)) ≤ entryDepth us s
-  unfolding belowOf blank
-  below-stop h = rw getD-drop at (down-stop (entryDepth us s) blank (drop (suc s) us) (omega (arith, length-drop (suc s) us)))
+  unfolding belowOf under blank
+  below-stop h = ltb-false (entryDepth us s) (entryDepth us (suc s + length (belowOf us s))) (rw getD-drop at (while-stop under blank (drop (suc s) us) (omega (arith, length-drop (suc s) us))))
 
 -- ---- parents, shifted
 
@@ -112,11 +74,9 @@ module _ (depth : ℕ → ℕ) (steps : (i : ℕ) → depth (suc i) ≤ suc (dep
   -- all from a's successor to i are deeper than a, where a is an ancestor of i
   pub ancestor-deeper : {i a : ℕ} → Ancestor depth i a → (k : ℕ) → a < k → k ≤ i → depth a < depth k
   ancestor-deeper {i} {a} (parent q) k l m = between i a q (i - k) k (omega arith) l
-  ancestor-deeper {i} {a} (further {p = p} q t) k l m = go (ltb p k) refl (λ j. ancestor-deeper t j)
-    where
-      go : (b : Bool) → ltb p k ≡ b → ((j : ℕ) → a < j → j ≤ p → depth a < depth j) → depth a < depth k
-      go true e ih = omega (arith, between i p q (i - k) k (omega arith) (ltb-true p k e), ih p (ancestor-earlier t) (omega arith))
-      go false e ih = ih k l (ltb-false p k e)
+  ancestor-deeper {i} {a} (further {p = p} q t) k l m =
+      let later = ancestor-deeper t in
+      by-less (depth a < depth k) p k (λ h. omega (arith, between i p q (i - k) k (omega arith) h, later p (ancestor-earlier t) (omega arith))) (later k l)
 
   -- all after k are as deep as i: k is the parent of i, or as deep as i too
   parent-or : (i k : ℕ) → k < i → ((m : ℕ) → k < m → m < i → depth i ≤ depth m) → ParentOf depth i k ⊎ ((m : ℕ) → k ≤ m → m < i → depth i ≤ depth m)
@@ -175,11 +135,9 @@ module _ (us : List TreeEntry) (s : ℕ) (steps : (i : ℕ) → entryDepth us (s
       deeper m a b = let w : suc s + (m - suc s) ≡ m = omega arith in rw w at (below-deeper us s (m - suc s) (omega arith))
 
   pub is-below : (i : ℕ) → Below us s i → (s < i) × (i < suc s + length (belowOf us s))
-  is-below i h = (ancestor-earlier (entryDepth us) steps (h .1), go (ltb i (suc s + length (belowOf us s))) refl)
+  is-below i h = (ancestor-earlier (entryDepth us) steps (h .1), by-less (i < suc s + length (belowOf us s)) i (suc s + length (belowOf us s)) (λ g. g) past)
     where
-      go : (b : Bool) → ltb i (suc s + length (belowOf us s)) ≡ b → i < suc s + length (belowOf us s)
-      go true e = ltb-true i (suc s + length (belowOf us s)) e
-      go false e =
-          let g = ltb-false i (suc s + length (belowOf us s)) e in
+      past : suc s + length (belowOf us s) ≤ i → i < suc s + length (belowOf us s)
+      past g =
           let d = ancestor-deeper (entryDepth us) steps (h .1) (suc s + length (belowOf us s)) (omega arith) g in
           absurd (omega (arith, below-stop us s (omega (arith, h .0))))

@@ -1,12 +1,13 @@
 -- The inline tree as a stack machine over tree entries: what the walk over a subprogram's entries does, without searches, warnings and call sites.
 -- A device of proofs: demand 3 is shown of it, and of the walk through it. Assumes nothing.
 use mathlib.Core.List.{List, [], _∷_}
-use mathlib.Core.Bool.{Bool, true, false, _&&_, cond}
-use Prim.Native.Nat.{ℕ, suc}
+use mathlib.Core.Bool.{Bool, true, false, _&&_, cond, not}
+use Prim.Native.Nat.{suc}
 use lib.Dec.{ltb, eqb}
 use lib.ListN.{length}
 use Rattle.tlv.specs.declared.model.AddressRange.{AddressRange}
 use Rattle.tlv.specs.Outcome.{Outcome, refused, done}
+use Rattle.tlv.specs.Lists.{isEmpty}
 use Rattle.dwarf.specs.Ranges.{coalesceRanges}
 use Rattle.dwarf.specs.Tree.{fit, InlineFrame, finishInlines, parentRanges}
 use Rattle.dwarf.specs.Agree.{TreeEntry, TreeNode}
@@ -14,13 +15,9 @@ use Rattle.dwarf.specs.Agree.{TreeEntry, TreeNode}
 abbrev pub Walked : Type 0
 Walked = Outcome (List TreeNode)
 
-abbrev pub filled {ℓ} : {A : Type ℓ} → List A → Bool
-filled [] = false
-filled (x ∷ xs) = true
-
 -- the merged ranges of e's node where the open node above it has the ranges ps; empty where e makes no node
 unfoldable pub keep : List AddressRange → TreeEntry → List AddressRange
-keep ps e = cond (eqb (e .tag) 0x1d && filled (e .name)) (coalesceRanges (fit ps (e .ranges))) []
+keep ps e = cond (eqb (e .tag) 0x1d && not (isEmpty (e .name))) (coalesceRanges (fit ps (e .ranges))) []
 
 abbrev pub andThen : TreeNode → Walked → Walked
 andThen n (refused k) = refused k

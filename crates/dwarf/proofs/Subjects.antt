@@ -1,14 +1,14 @@
 -- What the import of a unit adds to the records: one for each subject of the unit, in order, and what is written into it. Assumes nothing.
 use mathlib.Core.Path.{_≡_, refl, sym, ap, _∙_}
 use mathlib.Core.Logic.{inl, inr}
-use mathlib.Core.Bool.{Bool, true, false, cond, _&&_, _||_, not}
+use mathlib.Core.Bool.{Bool, true, false, cond, _&&_, _||_, not, false≢true, and-false}
 use mathlib.Core.List.{List, [], _∷_, _++_, map}
 use mathlib.Core.Option.{Option, none, some}
 use Prim.Native.Nat.{ℕ, suc, _-_, _^_}
 use native.Mathlib.Omega.{arith}
 use lib.ListN.{drop}
 use lib.Dec.{leb, ltb, eqb}
-use borrow.Author.Tests.{leb-true, ltb-true, le-leb, lt-ltb}
+use borrow.Author.Tests.{ltb-true, le-leb, lt-ltb}
 use Rattle.tlv.specs.declared.model.AddressRange.{AddressRange}
 use Rattle.tlv.specs.declared.model.LineEntry.{LineEntry}
 use Rattle.tlv.specs.Addresses.{Nonempty, Inside}
@@ -16,58 +16,41 @@ use Rattle.tlv.specs.Outcome.{done, _>>=_}
 use Rattle.tlv.specs.Lists.{Any, filter, exists, isEmpty}
 use Rattle.tlv.specs.Model.{CompilationUnit, Entry, EntryRange, RangeFailure, dieRanges}
 use Rattle.tlv.specs.Output.{Function, malformedRanges, about, rejectedRange}
+use Rattle.tlv.proofs.TestLaws.{by-test, and-left, and-right}
+use Rattle.tlv.proofs.PlaceLaws.{front-next}
+use Rattle.tlv.proofs.OutcomeLaws.{done-is, with-done}
 use Rattle.lines.specs.Rows.{contains, forRange}
 use Rattle.references.specs.Search.{Dwarf, resolveName}
 use Rattle.dwarf.specs.Tree.{Descendants, liesIn, rangesOf, extractSubprogramDetails}
 use Rattle.dwarf.specs.Import.{State, ImportContext, statementSequenceOffset, isLiveRange, isTombstone, rejected, sequenceWarning, declarationIf, linesWith, rooted, detailContext, addFunction, importRange, importRanges, importByFailure, importSubprogram, isSubprogram, descendantsOf, importUnitDetails}
 use Rattle.dwarf.specs.Demand.{Subject, readRanges, subjectsOf, subjectsFrom, Live}
-use Rattle.dwarf.proofs.KeepLaws.{false-true}
-use Rattle.dwarf.proofs.Positions.{at-next}
-use Rattle.dwarf.proofs.Adding.{done-same, with-done, Adds, adds-none, adds-one, adds-then}
+use Rattle.dwarf.proofs.KeepLaws.{lies-true}
+use Rattle.dwarf.proofs.Adding.{Adds, adds-none, adds-one, adds-then}
 
 -- ---- live ranges
-
-and-true : (b c : Bool) → b && c ≡ true → (b ≡ true) × (c ≡ true)
-and-true true c e = (refl, e)
-and-true false c e = false-true e
-
-lies-any : (ps : List AddressRange) (r : AddressRange) → liesIn ps r ≡ true → Any (Inside r) ps
-lies-any [] r e = false-true e
-lies-any (p ∷ ps) r e = go (leb (p .start) (r .start) && leb (r .end) (p .end)) refl e (lies-any ps r)
-  where
-    go : (b : Bool) → leb (p .start) (r .start) && leb (r .end) (p .end) ≡ b → b || liesIn ps r ≡ true → (liesIn ps r ≡ true → Any (Inside r) ps) → Any (Inside r) (p ∷ ps)
-    go true h l ih = let t = and-true (leb (p .start) (r .start)) (leb (r .end) (p .end)) h in inl (leb-true (p .start) (r .start) (t .0), leb-true (r .end) (p .end) (t .1))
-    go false h l ih = inr (ih l)
 
 -- the test says what `Live` says
 pub live-range : (text : List AddressRange) (r : AddressRange) → isLiveRange text r ≡ true → Live text r
 unfolding isLiveRange
 live-range text r e =
-    let t = and-true (ltb (r .start) (r .end) && ltb (r .end - r .start) (2 ^ 32)) (liesIn text r) e in
-    let v = and-true (ltb (r .start) (r .end)) (ltb (r .end - r .start) (2 ^ 32)) (t .0) in
-    let w = ltb-true (r .end - r .start) (2 ^ 32) (v .1) in
-    record { filled = ltb-true (r .start) (r .end) (v .0); size = omega arith; inText = lies-any text r (t .1) }
+    let filled = ltb (r .start) (r .end) in
+    let short = ltb (r .end - r .start) (2 ^ 32) in
+    let both = and-left (filled && short) (liesIn text r) e in
+    let size = ltb-true (r .end - r .start) (2 ^ 32) (and-right filled short both) in
+    record { filled = ltb-true (r .start) (r .end) (and-left filled short both); size = omega arith; inText = lies-true text r (and-right (filled && short) (liesIn text r) e) }
 
 -- a range of text around a nonempty range contains its start
 starts-in : (r : AddressRange) → Nonempty r → (text : List AddressRange) → Any (Inside r) text → exists (λ t. contains t (r .start)) text ≡ true
 unfolding exists contains
 starts-in r h (p ∷ ps) (inl i) = rw (le-leb (p .start) (r .start) (i .0), lt-ltb (r .start) (p .end) (omega arith))
-starts-in r h (p ∷ ps) (inr i) = go (leb (p .start) (r .start) && ltb (r .start) (p .end)) (starts-in r h ps i)
-  where
-    go : (b : Bool) → exists (λ t. leb (t .start) (r .start) && ltb (r .start) (t .end)) ps ≡ true → cond b true (exists (λ t. leb (t .start) (r .start) && ltb (r .start) (t .end)) ps) ≡ true
-    go true e = refl
-    go false e = e
+starts-in r h (p ∷ ps) (inr i) = by-test (λ b. b ≡ true) (leb (p .start) (r .start) && ltb (r .start) (p .end)) (λ e. refl) (λ e. starts-in r h ps i)
 
 -- a live range is no tombstone
 live-stands : (text : List AddressRange) (r : EntryRange) → isLiveRange text (r .range) ≡ true → isTombstone text r ≡ false
 unfolding isTombstone
 live-stands text r e =
     let l = live-range text (r .range) e in
-    rw (starts-in (r .range) (l .filled) text (l .inText)) (go (eqb (r .range .start) 0 || r .tombstone))
-  where
-    go : (b : Bool) → b && false ≡ false
-    go true = refl
-    go false = refl
+    rw (starts-in (r .range) (l .filled) text (l .inText)) (and-false (eqb (r .range .start) 0 || r .tombstone))
 
 -- ---- what is written into a record
 
@@ -75,7 +58,7 @@ abbrev subject : ℕ → AddressRange → Subject
 subject n r = record { number = n; range = r }
 
 records-same : {s t : State} → done s ≡ done t → s .records ≡ t .records
-records-same e = ap (λ (x : State). x .records) (done-same e)
+records-same e = ap (λ (x : State). x .records) (done-is e)
 
 -- what the import writes into record f for subject k
 pub record Written (q : ImportContext) (k : Subject) (f : Function) : Type 0 where
@@ -146,7 +129,7 @@ module _ (q : ImportContext) (n : ℕ) (e : Entry) (es : List Entry) (place : dr
             (cond l (importRange q e (descendantsOf (e .depth) es) name (r .range) s >>= importRanges q e (descendantsOf (e .depth) es) name rs)
             (importRanges q e (descendantsOf (e .depth) es) name rs (rejected (about rejectedRange (r .range .start) (r .range .end) ∷ []) s))) ≡ done t
             → Adds (Written q) (map (subject n) (cond l (r .range ∷ filter (isLiveRange (q .unit .text)) (map (λ y. y .range) rs)) (filter (isLiveRange (q .unit .text)) (map (λ y. y .range) rs)))) (s .records) (t .records)
-        go true l true b ih k = false-true (sym (live-stands (q .unit .text) r l) ∙ b)
+        go true l true b ih k = absurd (false≢true (sym (live-stands (q .unit .text) r l) ∙ b))
         go true l false b ih k = with-done (importRange q e (descendantsOf (e .depth) es) name (r .range) s) _ k λ x h₁ h₂.
             adds-then (Written q) (one-range (r .range) s x l h₁) (ih x h₂)
         go false l true b ih k = ih _ k
@@ -187,7 +170,7 @@ pub from-entries : (q : ImportContext) (es : List Entry) (n : ℕ) → drop n (q
     → Adds (Written q) (subjectsFrom (q .dwarf) (q .unit) n es) (s .records) (t .records)
 unfolding importUnitDetails subjectsFrom
 from-entries q [] n p s t h = adds-none (Written q) (sym (records-same h))
-from-entries q (e ∷ es) n p s t h = go (isSubprogram e) refl (λ x. from-entries q es (suc n) (at-next n (q .unit .entries) e es p) x t) h
+from-entries q (e ∷ es) n p s t h = go (isSubprogram e) refl (λ x. from-entries q es (suc n) (front-next n (q .unit .entries) e es p) x t) h
   where
     go : (b : Bool) → isSubprogram e ≡ b
         → ((x : State) → importUnitDetails q es x ≡ done t → Adds (Written q) (subjectsFrom (q .dwarf) (q .unit) (suc n) es) (x .records) (t .records))

@@ -1,7 +1,8 @@
 -- What the walk below a subprogram finds fits its fields: the nodes, the call sites and the warnings. Assumes nothing.
+use mathlib.Core.Path.{_≡_, refl}
 use mathlib.Core.Logic.{inr, _≢_}
-use mathlib.Core.Bool.{Bool, true, false, cond, _&&_, _||_}
-use mathlib.Core.List.{List, [], _∷_, _++_, map}
+use mathlib.Core.Bool.{_&&_, _||_}
+use mathlib.Core.List.{List, [], _∷_, _++_, map, cons≢nil}
 use mathlib.Core.Option.{Option, none, some}
 use Prim.Native.Nat.{ℕ, suc, _-_, _^_, _≤_, _<_}
 use native.Mathlib.Omega.{arith}
@@ -10,24 +11,24 @@ use lib.ListN.{length}
 use lib.Dec.{leb, ltb, eqb}
 use Rattle.tlv.specs.declared.model.AddressRange.{AddressRange}
 use Rattle.tlv.specs.declared.model.FileIndex.{FileIndex}
-use Rattle.tlv.specs.Lists.{All, takeWhile, isEmpty, isNone}
+use Rattle.tlv.specs.Lists.{All, takeWhile, dropWhile, isEmpty, isNone}
 use Rattle.tlv.specs.Model.{Entry, Attribute, dieRanges}
 use Rattle.tlv.specs.Output.{InlineNode, CallSite}
 use Rattle.tlv.specs.Accepted.{String, Given, AttributeAccepted, EntryAccepted, UnitAccepted}
 use Rattle.tlv.specs.Fits.{RangeFits, NodesFit, SiteFits, WarningFits}
+use Rattle.tlv.proofs.ListLaws.{all-append, all-take-while, all-drop-while, all-image}
+use Rattle.tlv.proofs.PlaceLaws.{drop-while-length}
+use Rattle.tlv.proofs.OutcomeLaws.{Gives, gives, gives-none, gives-cond, gives-bind}
+use Rattle.tlv.proofs.AcceptedFields.{no-string}
 use Rattle.tlv.proofs.PayloadLaws.{node-length, site-length}
 use Rattle.lines.specs.Files.{get}
 use Rattle.lines.specs.Rows.{contains}
 use Rattle.lines.proofs.Bounds.{IndexFits, IndicesFit}
-use Rattle.lines.proofs.AllLaws.{all-image}
 use Rattle.lines.proofs.FileBounds.{get-fits}
 use Rattle.references.specs.Search.{attribute, unsignedAttribute, fileIndexAttribute}
-use Rattle.references.proofs.Giving.{Gives, gives, gives-none, gives-cond, gives-bind}
-use Rattle.references.proofs.NameBounds.{DwarfAccepted, attribute-accepted, unsigned-small, file-index-small, absolute-small, no-string, gives-name, gives-reference-name}
+use Rattle.references.proofs.NameBounds.{DwarfAccepted, attribute-accepted, unsigned-small, file-index-small, absolute-small, gives-name, gives-reference-name}
 use Rattle.dwarf.specs.Tree.{rangesOf, InlineFrame, Descendants, DetailContext, finishInlines, endsHere, finish, siteWithOrigin, siteAt, makeCallSite, pushCallSite, CallFile, callFileFrom, callFileIf, callFileOf, CallLine, callLineIf, callLineOf, pushInline, parentRanges, makeInlineNode, isCallSite, isInlined, collectEntry, collectEntries, noDescendants, collectDescendants, extractSubprogramDetails}
-use Rattle.dwarf.proofs.AnyLaws.{all-append}
-use Rattle.dwarf.proofs.KeepLaws.{cons-nil}
-use Rattle.dwarf.proofs.NodeBounds.{all-take-while, all-drop-while, Within, merged-within, ranges-fit, nextDepth, nodes-append, next-append}
+use Rattle.dwarf.proofs.NodeBounds.{Within, kept-within, within-fit, nextDepth, nodes-append, next-append}
 
 -- ---- the walk
 
@@ -53,29 +54,16 @@ pub record DetailsFit (x : Descendants) : Type 0 where
   pub callSites : All SiteFits (x .callSites)
   pub warnings : All WarningFits (x .warnings)
 
-finished-frames : (P : InlineFrame → Type 0) (depth : ℕ) (fs : List InlineFrame) → All P fs → All P (finishInlines depth fs)
-unfolding finishInlines
-finished-frames P depth [] h = tt
-finished-frames P depth (f ∷ fs) h = go (leb depth (f .dieDepth)) (finished-frames P depth fs (h .1))
-  where
-    go : (b : Bool) → All P (finishInlines depth fs) → All P (cond b (finishInlines depth fs) (f ∷ fs))
-    go true ih = ih
-    go false ih = h
-
-finished-fewer : (depth : ℕ) (fs : List InlineFrame) → length (finishInlines depth fs) ≤ length fs
-unfolding finishInlines
-finished-fewer depth [] = omega arith
-finished-fewer depth (f ∷ fs) = go (leb depth (f .dieDepth)) (finished-fewer depth fs)
-  where
-    go : (b : Bool) → length (finishInlines depth fs) ≤ length fs → length (cond b (finishInlines depth fs) (f ∷ fs)) ≤ suc (length fs)
-    go true ih = omega arith
-    go false ih = omega arith
+finished-is : (depth : ℕ) (fs : List InlineFrame) → finishInlines depth fs ≡ dropWhile (λ f. leb depth (f .dieDepth)) fs
+unfolding finishInlines dropWhile
+finished-is depth [] = refl
+finished-is depth (f ∷ fs) = rw (finished-is depth fs)
 
 finish-fits : (f : AddressRange) (depth : ℕ) (w : Descendants) → WalkFits f w → WalkFits f (finish depth w)
 unfolding finish
 finish-fits f depth w h = record {
-  frames = finished-frames (λ x. All (Within f) (x .ranges)) depth (w .inlineStack) (h .frames);
-  deep = omega (arith, finished-fewer depth (w .inlineStack), h .deep);
+  frames = rw finished-is (all-drop-while (λ x. All (Within f) (x .ranges)) (λ f. leb depth (f .dieDepth)) (w .inlineStack) (h .frames));
+  deep = rw finished-is (omega (arith, drop-while-length (λ f. leb depth (f .dieDepth)) (w .inlineStack), h .deep));
   nodes = h .nodes;
   opened = all-drop-while (λ x. SiteFits (x .callSite)) (endsHere depth) (w .callSiteStack) (h .opened);
   sites = all-append SiteFits (w .callSites) (map (λ x. x .callSite) (takeWhile (endsHere depth) (w .callSiteStack))) (h .sites)
@@ -119,7 +107,7 @@ module _ (f : AddressRange) (w : Descendants) (depth : ℕ) (file : CallFile) (l
       line = l .line;
       short = omega (arith, s .1, node-length node);
       filled = filled;
-      ranges = ranges-fit f rs range inside;
+      ranges = within-fit f rs range inside;
     });
     opened = fits .opened;
     sites = fits .sites;
@@ -176,13 +164,13 @@ module _ (c : DetailContext) (context : ContextAccepted c) (e : Entry) (accepted
         gives-bind call-file-fits λ file f.
         gives-bind call-line-fits λ line l.
         gives-cond (ltb (length (w .inlineStack)) 256)
-        (λ q. gives (pushed-fits (c .functionRange) w (e .depth) file line name (r ∷ rs) (context .range) fits f l s cons-nil h (ltb-true (length (w .inlineStack)) 256 q))) (λ q. gives-none)
+        (λ q. gives (pushed-fits (c .functionRange) w (e .depth) file line name (r ∷ rs) (context .range) fits f l s cons≢nil h (ltb-true (length (w .inlineStack)) 256 q))) (λ q. gives-none)
 
     node-fits : Gives (WalkFits (c .functionRange)) (makeInlineNode c e w)
     unfolding makeInlineNode
     node-fits = gives-bind (gives-name (c .dwarf) (context .dwarf) (c .unit) e (context .unit) accepted) λ name s.
         gives-cond (isEmpty name) (λ q. gives fits) λ q.
-        gives-cond (isNone (dieRanges e .failure)) (λ r. push-fits name _ s (merged-within (c .functionRange) _ (rangesOf e) (parents (w .inlineStack) (fits .frames)))) (λ r. gives-none)
+        gives-cond (isNone (dieRanges e .failure)) (λ r. push-fits name _ s (kept-within (c .functionRange) _ (rangesOf e) (parents (w .inlineStack) (fits .frames)))) (λ r. gives-none)
       where
         parents : (fs : List InlineFrame) → All (λ x. All (Within (c .functionRange)) (x .ranges)) fs → All (Within (c .functionRange)) (parentRanges (c .functionRange) fs)
         parents [] h = ((context .range .filled, (omega arith, omega arith)), tt)

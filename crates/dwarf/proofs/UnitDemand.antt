@@ -1,5 +1,4 @@
--- Demand 3 over a whole unit, from demand 3 over the entries below the subprogram.
--- Assumes nothing.
+-- Demand 3 over a whole unit, from demand 3 over the entries below the subprogram. Assumes nothing.
 use mathlib.Core.Path.{_≡_, refl, sym, ap, subst, _∙_}
 use mathlib.Core.Logic.{_⊎_, inl, inr}
 use mathlib.Core.Option.{Option, none, some}
@@ -14,7 +13,7 @@ use Rattle.dwarf.specs.Agree.{TreeEntry, TreeNode, Parent, ParentOf, ent
 use Rattle.dwarf.proofs.StackMachine.{Walked, tree}
 use Rattle.dwarf.proofs.ListAgree.{Steps, ListNearest, no-parent, kept-parent, higher-up, ListJudged, ListAgree, ListHeight, top, one-more, passed, ListTooDeep, ListAnswer, belowOf, TreeAnswer, TreeDemand}
 use Rattle.dwarf.proofs.MachineLaws.{steps-on}
-use Rattle.dwarf.proofs.ListDemand.{demand}
+use Rattle.dwarf.proofs.ListDemand.{demand-list}
 use Rattle.dwarf.proofs.OneJudgement.{one-judgement}
 use Rattle.dwarf.proofs.Shift.{below-at, below-deeper, below-is, is-below, parent-shift, parent-unshift, parent-after}
 
@@ -158,7 +157,7 @@ deep-below f us s steps l D = record {
 }
 
 pub demand-below : TreeDemand
-demand-below f us s steps l = go (tree f (belowOf us s)) (demand f (belowOf us s) (steps-below us s steps l))
+demand-below f us s steps l = go (tree f (belowOf us s)) (demand-list f (belowOf us s) (steps-below us s steps l))
   where
     go : (o : Walked) → ListAnswer f (belowOf us s) o → TreeAnswer f us s o
     go (done ns) A = agree-below f us s ns (steps-on us steps) l A

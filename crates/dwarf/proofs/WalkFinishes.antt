@@ -1,19 +1,19 @@
--- The walk below a subprogram finishes exactly where nothing is wrong with the entries there and no node would stand too deep.
--- Assumes nothing.
+-- The walk below a subprogram finishes exactly where nothing is wrong with the entries there and no node would stand too deep. Assumes nothing.
 use mathlib.Core.Path.{_≡_, refl, sym, ap, subst, _∙_}
 use mathlib.Core.Bool.{true}
 use mathlib.Core.List.{List, [], map}
-use mathlib.Core.Option.{Option, none, some}
+use mathlib.Core.Option.{Option, none, some, Option·none-ne-some, Option·some-ne-none}
 use Prim.Native.Nat.{ℕ, suc, _+_, _-_, _≤_, _<_}
 use native.Mathlib.Omega.{arith}
 use lib.ListN.{length}
 use Rattle.tlv.specs.declared.model.AddressRange.{AddressRange}
 use Rattle.tlv.specs.Outcome.{Outcome, refused, done}
 use Rattle.tlv.specs.Accepted.{UnitAccepted}
+use Rattle.tlv.proofs.OutcomeLaws.{refused-not}
 use Rattle.dwarf.specs.Tree.{DetailContext, Descendants, extractSubprogramDetails}
 use Rattle.dwarf.specs.Agree.{TreeEntry, TreeNode, entryDepth, Below, Kept, Nearest, subprogram, kept-one, past-one, treeEntries, treeNode, nodeDepth, NodeOf, root, below, TreeAgrees, Height, none-kept, count-one, skip-one, TooDeep}
 use Rattle.dwarf.specs.Demand.{entriesBelow, WalkFinishes, Blamed, by-name, by-ranges, by-depth, by-site, Walks}
-use Rattle.dwarf.proofs.ListUnique.{parent-unique}
+use Rattle.dwarf.proofs.Unique.{parent-unique}
 use Rattle.dwarf.proofs.MachineLaws.{steps-on}
 use Rattle.dwarf.proofs.Shift.{below-is, is-below}
 use Rattle.dwarf.proofs.WalkPlaces.{tree-length, tree-steps, below-all}
@@ -25,12 +25,12 @@ use Rattle.dwarf.proofs.WalkRefusals.{walk-refuses}
 
 -- the node of a kept ancestor
 node-of : {entryOf : ℕ → ℕ} {many : ℕ} {up : Option ℕ} {u : ℕ} (p : ℕ) → NodeOf entryOf many up u → up ≡ some p → (j : ℕ) × (j < many) × (entryOf j ≡ p) × (u ≡ suc j)
-node-of p root e = let z : _≡_ {A = ℕ} 0 1 = cc in absurd (omega arith)
+node-of p root e = absurd (Option·none-ne-some p e)
 node-of {entryOf = entryOf} p (below {k = k} h) e = let z : entryOf k ≡ p = cc in (k, h, z, refl)
 
 node-root : {entryOf : ℕ → ℕ} {many : ℕ} {up : Option ℕ} {u : ℕ} → NodeOf entryOf many up u → up ≡ none → u ≡ 0
 node-root root e = refl
-node-root (below h) e = let z : _≡_ {A = ℕ} 0 1 = cc in absurd (omega arith)
+node-root {entryOf = entryOf} (below {k = k} h) e = absurd (Option·some-ne-none (entryOf k) e)
 
 module _ (f : AddressRange) (us : List TreeEntry) (s : ℕ) (ns : List TreeNode) (A : TreeAgrees f us s ns) where
   -- entry i has h kept ancestors: the node of the nearest, or the root, has the depth h
@@ -52,8 +52,8 @@ module _ (f : AddressRange) (us : List TreeEntry) (s : ℕ) (ns : List TreeNode)
 
   module _ (steps : (i : ℕ) → entryDepth us (suc i) ≤ suc (entryDepth us i)) (l : s < length us) where
     -- what stands between the subprogram and an entry below it is below it too
-    between : (i p : ℕ) → Below us s i → s < p → p ≤ i → Below us s p
-    between i p b g h =
+    below-between : (i p : ℕ) → Below us s i → s < p → p ≤ i → Below us s p
+    below-between i p b g h =
         let t = is-below us s steps l i b in
         let w : suc s + (p - suc s) ≡ p = omega arith in
         subst (Below us s) w (below-is us s steps l (p - suc s) (omega arith))
@@ -61,8 +61,8 @@ module _ (f : AddressRange) (us : List TreeEntry) (s : ℕ) (ns : List TreeNode)
     -- another judgement that is the same below the subprogram counts the same
     same-height : (M N : ℕ → List AddressRange) → ((i : ℕ) → Below us s i → M i ≡ N i) → {i h : ℕ} → Below us s i → Height M (entryDepth us) s i h → Height N (entryDepth us) s i h
     same-height M N e b (none-kept q) = none-kept q
-    same-height M N e {i} b (count-one {p = p} q g k t) = let c = between i p b g (omega (arith, q .earlier)) in count-one q g (λ z. k (e p c ∙ z)) (same-height M N e c t)
-    same-height M N e {i} b (skip-one {p = p} q g k t) = let c = between i p b g (omega (arith, q .earlier)) in skip-one q g (λ m. k (λ z. m (sym (e p c) ∙ z))) (same-height M N e c t)
+    same-height M N e {i} b (count-one {p = p} q g k t) = let c = below-between i p b g (omega (arith, q .earlier)) in count-one q g (λ z. k (e p c ∙ z)) (same-height M N e c t)
+    same-height M N e {i} b (skip-one {p = p} q g k t) = let c = below-between i p b g (omega (arith, q .earlier)) in skip-one q g (λ m. k (λ z. m (sym (e p c) ∙ z))) (same-height M N e c t)
 
     -- where nodes agree with entries, no kept entry has 256 kept ancestors
     pub not-deep : ¬ TooDeep f us s
@@ -77,10 +77,10 @@ module _ (f : AddressRange) (us : List TreeEntry) (s : ℕ) (ns : List TreeNode)
 
 -- a finished walk and a reason for a refusal cannot both be
 blameless : (c : DetailContext) (s : ℕ) {n : ℕ} → WalkFinishes c s → Blamed c s n → ⊥
-blameless c s w (by-name {i = i} b h) = let t = w .names i b in let z : _≡_ {A = ℕ} 0 1 = cc in omega arith
+blameless c s w (by-name {i = i} b h) = refused-not (sym h ∙ w .names i b .1)
 blameless c s w (by-ranges {i = i} b h k) = k (w .ranges i b h)
 blameless c s w (by-depth d) = w .shallow d
-blameless c s w (by-site {i = i} b h) = let t = w .sites i b in let z : _≡_ {A = ℕ} 0 1 = cc in omega arith
+blameless c s w (by-site {i = i} b h) = refused-not (sym h ∙ w .sites i b .1)
 
 module _ (c : DetailContext) (s : ℕ) (on : c .includeInlines ≡ true) (a : UnitAccepted (c .unit)) (l : s < length (c .unit .entries)) where
   nothing-wrong : (x : Descendants) → extractSubprogramDetails c (entriesBelow (c .unit) s) ≡ done x → WalkFinishes c s

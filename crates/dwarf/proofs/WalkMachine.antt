@@ -1,8 +1,7 @@
--- The walk over the entries below a subprogram does what the stack machine does over their tree entries, up to the first fault; so its nodes obey demand 3.
--- Assumes nothing.
+-- The walk over the entries below a subprogram does what the stack machine does over their tree entries, up to the first fault; so its nodes obey demand 3. Assumes nothing.
 use mathlib.Core.Path.{_≡_, refl, sym, ap, subst, _∙_}
 use mathlib.Core.Logic.{_⊎_, inl, inr}
-use mathlib.Core.Bool.{Bool, true, false, cond, _&&_, _||_}
+use mathlib.Core.Bool.{Bool, true, false, cond, _&&_, _||_, false≢true}
 use mathlib.Core.List.{List, [], _∷_, _++_, map, append-assoc, append-nil}
 use mathlib.Core.Option.{Option, none, some}
 use Prim.Native.Nat.{ℕ, suc, _+_, _^_, _<_}
@@ -14,14 +13,14 @@ use Rattle.tlv.specs.Lists.{Any, All}
 use Rattle.tlv.specs.Model.{Entry}
 use Rattle.tlv.specs.Accepted.{UnitAccepted}
 use Rattle.tlv.specs.Output.{InlineNode, CallSite}
+use Rattle.tlv.proofs.OutcomeLaws.{Gives, gives, gives-cond, gives-of, gives-bind, given}
 use Rattle.references.specs.Search.{resolveName}
-use Rattle.dwarf.specs.Tree.{InlineFrame, Descendants, DetailContext, finishInlines, finish, makeCallSite, pushCallSite, makeInlineNode, isCallSite, isInlined, collectEntry, collectEntries, noDescendants, collectDescendants, extractSubprogramDetails}
+use Rattle.dwarf.specs.Tree.{InlineFrame, Descendants, DetailContext, finishInlines, finish, makeCallSite, pushCallSite, isCallSite, collectEntry, collectEntries, noDescendants, collectDescendants, extractSubprogramDetails}
 use Rattle.dwarf.specs.Agree.{TreeNode, foundName, treeEntry, treeEntries, treeNode, TreeAgrees}
 use Rattle.dwarf.specs.Demand.{entriesBelow}
 use Rattle.dwarf.proofs.StackMachine.{Walked, andThen, run, tree}
 use Rattle.dwarf.proofs.Loop.{run-none, run-node, run-deep}
 use Rattle.dwarf.proofs.ListAgree.{TreeAnswer}
-use Rattle.dwarf.proofs.KeepLaws.{false-true}
 use Rattle.dwarf.proofs.UnitDemand.{demand-below}
 use Rattle.dwarf.proofs.WalkPlaces.{tree-length, tree-steps, below-map, below-offsets}
 use Rattle.dwarf.proofs.WalkSteps.{Clean, Fault, treeOf, keptOf, Step, passes, pushes, sinks, fails, step}
@@ -96,7 +95,7 @@ module _ (c : DetailContext) (on : c .includeInlines ≡ true) where
 
       asked : (b : Bool) → b ≡ true → Walk c es [] [] (cond (b || c .includeCallSites) (collectDescendants c es) (done noDescendants))
       asked true q = closed (collectEntries c es noDescendants) (walk es noDescendants h)
-      asked false q = false-true q
+      asked false q = absurd (false≢true q)
 
 -- ---- below a subprogram
 
@@ -120,42 +119,29 @@ walk-tree c s x on a l h =
 
 -- ---- where inlines are not asked for, the walk makes no nodes
 
-abbrev Same : List InlineNode → Outcome Descendants → Type 0
-Same ns (refused n) = Unit {0}
-Same ns (done x) = x .inlines ≡ ns
-
-same-then : (ns : List InlineNode) (o : Outcome Descendants) (k : Descendants → Outcome Descendants) → Same ns o → ((x : Descendants) → Same (x .inlines) (k x)) → Same ns (o >>= k)
-unfolding _>>=_
-same-then ns (refused n) k h f = tt
-same-then ns (done x) k h f = subst (λ (l : List InlineNode). Same l (k x)) h (f x)
+-- the walk ends with the nodes ns
+abbrev Same : List InlineNode → Descendants → Type 0
+Same ns x = x .inlines ≡ ns
 
 module _ (c : DetailContext) (off : c .includeInlines ≡ false) where
-  same-entry : (e : Entry) (w : Descendants) → Same (w .inlines) (collectEntry c e w)
-  unfolding collectEntry _>>=_
-  same-entry e w = first (c .includeCallSites && isCallSite e) (makeCallSite c e)
+  same-entry : (e : Entry) (w : Descendants) → Gives (Same (w .inlines)) (collectEntry c e w)
+  unfolding collectEntry
+  same-entry e w =
+      gives-cond (c .includeCallSites && isCallSite e) (λ q. gives-bind (gives-of {P = λ s. Unit {0}} (makeCallSite c e) λ s h. tt) λ s h. gives (same-site s)) λ q.
+      rw off (gives refl)
     where
-      second : (i b : Bool) → i ≡ false → Same (w .inlines) (cond (i && b) (makeInlineNode c e w) (done w))
-      second true b q = false-true (sym q)
-      second false b q = refl
+      same-site : (s : Option CallSite) → Same (w .inlines) (pushCallSite e w s)
+      same-site none = refl
+      same-site (some s) = refl
 
-      first : (b : Bool) (o : Outcome (Option CallSite)) → Same (w .inlines) (cond b (o >>= λ s. done (pushCallSite e w s)) (cond (c .includeInlines && isInlined e) (makeInlineNode c e w) (done w)))
-      first true (refused n) = tt
-      first true (done none) = refl
-      first true (done (some s)) = refl
-      first false o = second (c .includeInlines) (isInlined e) off
-
-  same-entries : (es : List Entry) (w : Descendants) → Same (w .inlines) (collectEntries c es w)
+  same-entries : (es : List Entry) (w : Descendants) → Gives (Same (w .inlines)) (collectEntries c es w)
   unfolding collectEntries finish
-  same-entries [] w = refl
-  same-entries (e ∷ es) w = same-then (w .inlines) (collectEntry c e (finish (e .depth) w)) (collectEntries c es) (same-entry e (finish (e .depth) w)) (same-entries es)
+  same-entries [] w = gives refl
+  same-entries (e ∷ es) w = let later = same-entries es in gives-bind (same-entry e (finish (e .depth) w)) λ x h. rw (← h) (later x)
 
-  same-details : (es : List Entry) → Same [] (extractSubprogramDetails c es)
+  same-details : (es : List Entry) → Gives (Same []) (extractSubprogramDetails c es)
   unfolding extractSubprogramDetails collectDescendants finish
-  same-details es = go (c .includeInlines || c .includeCallSites)
-    where
-      go : (b : Bool) → Same [] (cond b (collectDescendants c es) (done noDescendants))
-      go true = same-then [] (collectEntries c es noDescendants) (λ w. done (finish 0 w)) (same-entries es noDescendants) (λ x. refl)
-      go false = refl
+  same-details es = gives-cond (c .includeInlines || c .includeCallSites) (λ q. gives-bind (same-entries es noDescendants) λ x h. gives h) (λ q. gives refl)
 
 pub walk-treeless : (c : DetailContext) (es : List Entry) (x : Descendants) → c .includeInlines ≡ false → extractSubprogramDetails c es ≡ done x → x .inlines ≡ []
-walk-treeless c es x off h = subst (Same []) h (same-details c off es)
+walk-treeless c es x off = given (same-details c off es)

@@ -1,10 +1,9 @@
--- What the walk does at one entry: it does what the stack machine does, or there is a fault at the entry.
--- Assumes nothing.
+-- What the walk does at one entry: it does what the stack machine does, or there is a fault at the entry. Assumes nothing.
 use mathlib.Core.Path.{_≡_, refl, sym, subst, _∙_}
 use mathlib.Core.Logic.{_≢_}
-use mathlib.Core.Bool.{Bool, true, false, cond, _&&_}
-use mathlib.Core.List.{List, [], _∷_, _++_, map, map-append}
-use mathlib.Core.Option.{Option, none, some}
+use mathlib.Core.Bool.{Bool, true, false, cond, _&&_, false≢true, and-false}
+use mathlib.Core.List.{List, [], _∷_, _++_, map, map-append, cons≢nil}
+use mathlib.Core.Option.{Option, none, some, Option·some-ne-none}
 use Prim.Native.Nat.{ℕ, suc, _+_, _^_, _≤_, _<_}
 use native.Mathlib.Omega.{arith}
 use lib.Dec.{ltb, eqb}
@@ -16,13 +15,14 @@ use Rattle.tlv.specs.Outcome.{Outcome, refused, done, _>>=_}
 use Rattle.tlv.specs.Lists.{isEmpty, isNone}
 use Rattle.tlv.specs.Model.{Entry, RangeFailure, dieRanges}
 use Rattle.tlv.specs.Output.{CallSite}
+use Rattle.tlv.proofs.TestLaws.{by-test}
+use Rattle.tlv.proofs.OutcomeLaws.{Done, done-bind}
 use Rattle.lines.specs.Files.{get}
 use Rattle.references.specs.Search.{absoluteEntryOffset, unsignedAttribute, fileIndexAttribute, resolveName}
 use Rattle.dwarf.specs.Ranges.{coalesceRanges}
 use Rattle.dwarf.specs.Tree.{fit, rangesOf, InlineFrame, Descendants, DetailContext, makeCallSite, pushCallSite, CallFile, callFileFrom, callFileIf, callFileOf, CallLine, callLineIf, callLineOf, pushInline, parentRanges, makeInlineNode, isInlined, collectEntry}
 use Rattle.dwarf.specs.Agree.{TreeEntry, foundName, treeEntry, treeNode}
 use Rattle.dwarf.proofs.StackMachine.{keep}
-use Rattle.dwarf.proofs.KeepLaws.{false-true, cons-nil}
 
 -- ---- what a walk asks of an entry
 
@@ -54,19 +54,7 @@ pub data Step (c : DetailContext) (e : Entry) (w : Descendants) : Outcome Descen
   sinks : {m : AddressRange} {ms : List AddressRange} → keptOf c e (w .inlineStack) ≡ m ∷ ms → 256 ≤ length (w .inlineStack) → Step c e w (refused 14)
   fails : {n : ℕ} → Fault c e n → Step c e w (refused n)
 
--- ---- answers that are done
-
-abbrev Done : {A : Type 0} → Outcome A → Type 0
-Done {A} o = (x : A) × (o ≡ done x)
-
-bind-done : {A B : Type 0} (o : Outcome A) (k : A → Outcome B) → Done o → ((a : A) → Done (k a)) → Done (o >>= k)
-unfolding _>>=_
-bind-done (refused n) k h f = let z : _≡_ {A = ℕ} 0 1 = cc in absurd (omega arith)
-bind-done (done a) k h f = f a
-
-cond-done : {A : Type 0} (b : Bool) {o p : Outcome A} → Done o → Done p → Done (cond b o p)
-cond-done true h k = h
-cond-done false h k = k
+-- ---- a call's file and line can be said
 
 module _ (c : DetailContext) (e : Entry) (small : c .unit .offset + e .offset < 2 ^ 64) where
   -- the entry's offset in its section can be said
@@ -80,7 +68,7 @@ module _ (c : DetailContext) (e : Entry) (small : c .unit .offset + e .offset < 
     where
       from : (n : ℕ) (o : Option FileIndex) → Done (callFileFrom c e n o)
       from n (some i) = (_, refl)
-      from n none = bind-done (absoluteEntryOffset (c .unit) (e .offset)) _ absolute (λ o. (_, refl))
+      from n none = done-bind (absoluteEntryOffset (c .unit) (e .offset)) _ absolute (λ o. (_, refl))
 
       go : (o : Option ℕ) → Done (callFileIf c e o)
       go none = (_, refl)
@@ -92,7 +80,7 @@ module _ (c : DetailContext) (e : Entry) (small : c .unit .offset + e .offset < 
     where
       go : (o : Option ℕ) → Done (callLineIf c e o)
       go none = (_, refl)
-      go (some n) = cond-done (ltb n (2 ^ 32)) (_, refl) (bind-done (absoluteEntryOffset (c .unit) (e .offset)) _ absolute (λ o. (_, refl)))
+      go (some n) = by-test Done (ltb n (2 ^ 32)) (λ q. (_, refl)) (λ q. done-bind (absoluteEntryOffset (c .unit) (e .offset)) _ absolute (λ o. (_, refl)))
 
 -- ---- what the machine makes of an entry
 
@@ -103,11 +91,7 @@ module _ (c : DetailContext) (e : Entry) (st : List InlineFrame) where
 
   keep-nameless : resolveName (c .dwarf) (c .unit) e ≡ done [] → keptOf c e st ≡ []
   unfolding keep treeEntry
-  keep-nameless h = rw h (go (eqb (e .tag) 0x1d))
-    where
-      go : (b : Bool) → cond (b && false) (coalesceRanges (fit (parentRanges (c .functionRange) st) (rangesOf e))) [] ≡ []
-      go true = refl
-      go false = refl
+  keep-nameless h = rw (h, and-false (eqb (e .tag) 0x1d))
 
   keep-named : (b : ℕ) (bs : List ℕ) → eqb (e .tag) 0x1d ≡ true → resolveName (c .dwarf) (c .unit) e ≡ done (b ∷ bs) → keptOf c e st ≡ coalesceRanges (fit (parentRanges (c .functionRange) st) (rangesOf e))
   unfolding keep treeEntry
@@ -163,11 +147,10 @@ module _ (c : DetailContext) (e : Entry) (w : Descendants) where
     push-step name (r ∷ rs) h k m =
         let file = call-file c e small in
         let line = call-line c e small in
-        subst (Step c e w) (sym (push-is name r rs (file .0) (line .0) (file .1) (line .1))) (go (file .0) (line .0) (ltb (length (w .inlineStack)) 256) refl)
-      where
-        go : (x : CallFile) (y : CallLine) (b : Bool) → ltb (length (w .inlineStack)) 256 ≡ b → Step c e w (cond b (done (opened name r rs x y)) (refused 14))
-        go x y true q = pushes {x = opened name r rs x y} k m (ltb-true (length (w .inlineStack)) 256 q) refl (rw h (map-append treeNode (w .inlines) _))
-        go x y false q = sinks m (ltb-false (length (w .inlineStack)) 256 q)
+        subst (Step c e w) (sym (push-is name r rs (file .0) (line .0) (file .1) (line .1)))
+        (by-test (Step c e w) (ltb (length (w .inlineStack)) 256)
+        (λ q. pushes {x = opened name r rs (file .0) (line .0)} k m (ltb-true (length (w .inlineStack)) 256 q) refl (rw h (map-append treeNode (w .inlines) _)))
+        (λ q. sinks m (ltb-false (length (w .inlineStack)) 256 q)))
 
     -- an inlined entry
     inline-step : e .tag ≡ 0x1d → Step c e w (makeInlineNode c e w)
@@ -177,7 +160,7 @@ module _ (c : DetailContext) (e : Entry) (w : Descendants) where
         ranges : (b : ℕ) (bs : List ℕ) → resolveName (c .dwarf) (c .unit) e ≡ done (b ∷ bs) → (o : Option RangeFailure) → dieRanges e .failure ≡ o →
             Step c e w (cond (isNone o) (pushInline c e (b ∷ bs) (coalesceRanges (fit (parentRanges (c .functionRange) (w .inlineStack)) (rangesOf e))) w) (refused 6))
         ranges b bs h none q = push-step (b ∷ bs) _ h (clean-inlined (b ∷ bs) t h (λ z. q)) (keep-named c e (w .inlineStack) b bs (eq-eqb (e .tag) 0x1d t) h)
-        ranges b bs h (some x) q = fails (bad-ranges t (rw h (cons-nil)) (λ z. let y : _≡_ {A = ℕ} 0 1 = cc in omega arith))
+        ranges b bs h (some x) q = fails (bad-ranges t (rw h cons≢nil) (λ z. Option·some-ne-none x (sym q ∙ z)))
 
         go : (o : Outcome (List ℕ)) → resolveName (c .dwarf) (c .unit) e ≡ o →
             Step c e w (o >>= λ name. cond (isEmpty name) (done w) (cond (isNone (dieRanges e .failure)) (pushInline c e name (coalesceRanges (fit (parentRanges (c .functionRange) (w .inlineStack)) (rangesOf e))) w) (refused 6)))
@@ -192,10 +175,10 @@ module _ (c : DetailContext) (e : Entry) (w : Descendants) where
         second : (i b : Bool) → i ≡ true → eqb (e .tag) 0x1d ≡ b → (c .includeCallSites ≡ true → e .tag ≡ 0x48 → ⊥) → Step c e w (cond (i && b) (makeInlineNode c e w) (done w))
         second true true q t h = inline-step (eqb-true (e .tag) 0x1d t)
         second true false q t h = passes (clean-other t h) (keep-other c e (w .inlineStack) t) refl refl
-        second false b q t h = false-true q
+        second false b q t h = absurd (false≢true q)
 
         first : (asked site : Bool) → c .includeCallSites ≡ asked → eqb (e .tag) 0x48 ≡ site →
             Step c e w (cond (asked && site) (makeCallSite c e >>= λ s. done (pushCallSite e w s)) (cond (c .includeInlines && isInlined e) (makeInlineNode c e w) (done w)))
         first true true a t = site-step a (eqb-true (e .tag) 0x48 t) (makeCallSite c e) refl
         first true false a t = second (c .includeInlines) (eqb (e .tag) 0x1d) on refl (λ z. eqb-false (e .tag) 0x48 t)
-        first false site a t = second (c .includeInlines) (eqb (e .tag) 0x1d) on refl (λ z. false-true (sym a ∙ z))
+        first false site a t = second (c .includeInlines) (eqb (e .tag) 0x1d) on refl (λ z. absurd (false≢true (sym a ∙ z)))

@@ -1,12 +1,12 @@
 -- What is known of the sizes and the order of what a unit's lines become. The other files of this folder show it. Assumes nothing.
-use Prim.Native.Nat.{ℕ, zero, suc, _+_, _^_, _≤_, _<_}
-use mathlib.Core.List.{List, [], _∷_}
-use mathlib.Core.Option.{Option, none, some}
+use Prim.Native.Nat.{ℕ, _+_, _^_, _≤_, _<_}
+use mathlib.Core.List.{List}
 use lib.ListN.{length}
 use Rattle.tlv.specs.declared.model.FileIndex.{FileIndex}
 use Rattle.tlv.specs.Lists.{All}
 use Rattle.tlv.specs.Accepted.{Given}
 use Rattle.tlv.specs.Fits.{LineFits, FileFits, WarningFits}
+use Rattle.tlv.proofs.SortLaws.{Ascending}
 use Rattle.lines.specs.Files.{FileTable, FileIndices, Indexed}
 use Rattle.lines.specs.Lines.{SequencedLine, UnitLines, Collected}
 
@@ -27,8 +27,7 @@ pub record IndexedFits (i : Indexed) : Type 0 where
 
 -- the first row's address is at least a, and each later one's at least the one's before it
 abbrev pub Sorted : ℕ → List SequencedLine → Type 0
-Sorted a [] = Unit {0}
-Sorted a (x ∷ xs) = (a ≤ x .entry .address) × Sorted (x .entry .address) xs
+Sorted = Ascending (λ x. x .entry .address)
 
 pub record LinesFit (l : UnitLines) : Type 0 where
   pub entries : All (λ x. LineFits (x .entry)) (l .entries)

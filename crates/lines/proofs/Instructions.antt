@@ -1,6 +1,7 @@
 -- Passing over operands and over one instruction, beside the Standard's. Assumes nothing.
 use mathlib.Core.Path.{_≡_, refl, ap}
 use mathlib.Core.Bool.{Bool, true, false, cond}
+use mathlib.Core.Logic.{_≢_}
 use mathlib.Core.List.{List, [], _∷_}
 use mathlib.Core.Option.{none, some}
 use Prim.Native.Nat.{ℕ, _+_, _-_, _^_, _<_}
@@ -10,11 +11,11 @@ use lib.Dec.{leb, ltb, eqb}
 use lib.ListN.{length, drop, replicate}
 use Rattle.tlv.specs.Outcome.{Outcome, refused, done, _>>=_}
 use Rattle.tlv.specs.Lists.{mapOption}
+use Rattle.tlv.proofs.ListLaws.{mapped-twice}
 use Rattle.lines.specs.Standard.{andThen, Operand, leb128, SignedOperand, sleb128, OperandKind, unsigned, signed, half, standardOperands, Opcodes, declared, operandsOf}
 use Rattle.lines.specs.Standard.{afterOperand, afterOperands, Passed, extendedBody as standardBody, extendedOf, instruction}
-use Rattle.lines.specs.Program.{uleb, operandKinds, skipOperand, skipOperands, placeOf, takeLineBytes, extendedBody, extended, skip}
+use Rattle.lines.specs.Program.{uleb, bare, operandKinds, skipOperand, skipOperands, placeOf, takeLineBytes, extendedBody, extended, skip}
 use Rattle.lines.specs.Conforms.{CountIs, DeclaresStandard, Beside}
-use Rattle.lines.proofs.Lists.{map-map}
 use Rattle.lines.proofs.Operands.{Answer, ended, wide, long, answer}
 use Rattle.lines.proofs.Beside.{beside-none, beside-limit, beside-if, beside-then, beside-map}
 
@@ -38,7 +39,7 @@ signed-rest (b ∷ s) = go (signed-rest s) (ltb b 128) refl
     go : mapOption (λ (o : SignedOperand). o .rest) (sleb128 s) ≡ mapOption (λ (o : Operand). o .rest) (leb128 s) → (t : Bool) → ltb b 128 ≡ t
         → mapOption (λ (o : SignedOperand). o .rest) (sleb128 (b ∷ s)) ≡ mapOption (λ (o : Operand). o .rest) (leb128 (b ∷ s))
     go ih true e = rw e
-    go ih false e = rw e (simp map-map ih)
+    go ih false e = rw e (simp mapped-twice ih)
 
 pub beside-operand : (k : OperandKind) (s : List ℕ) → Beside (skipOperand k s) (afterOperand k s)
 unfolding skipOperand afterOperand
@@ -64,24 +65,24 @@ module _ (P : ℕ → Type 0) (o : ℕ) where
 
 module _ (h : Opcodes) (s : List ℕ) where
   abbrev Skips : ℕ → Type 0
-  Skips o = CountIs (declared h o) (standardOperands o) → skipOperands (operandKinds h o) s ≡ skipOperands (operandsOf h o) s
+  Skips o = (bare o ≡ false → o ≢ 9 → CountIs (declared h o) (standardOperands o)) → skipOperands (operandKinds h o) s ≡ skipOperands (operandsOf h o) s
 
-  -- where the Standard's number of operands is declared, they are skipped as the Standard's kinds are
+  -- where the Standard's number of operands is declared, or does not matter, they are skipped as the Standard's kinds are
   pub same-operands : (o : ℕ) → Skips o
   unfolding standardOperands operandKinds operandsOf skipOperands skipOperand
   same-operands o =
       unless Skips o 1 (λ d. refl) λ n1.
-      unless Skips o 2 (λ d. counted 2 d) λ n2.
-      unless Skips o 3 (λ d. counted 3 d) λ n3.
-      unless Skips o 4 (λ d. counted 4 d) λ n4.
-      unless Skips o 5 (λ d. counted 5 d) λ n5.
+      unless Skips o 2 (λ d. counted 2 (d refl (λ e. omega arith))) λ n2.
+      unless Skips o 3 (λ d. counted 3 (d refl (λ e. omega arith))) λ n3.
+      unless Skips o 4 (λ d. counted 4 (d refl (λ e. omega arith))) λ n4.
+      unless Skips o 5 (λ d. counted 5 (d refl (λ e. omega arith))) λ n5.
       unless Skips o 6 (λ d. refl) λ n6.
       unless Skips o 7 (λ d. refl) λ n7.
       unless Skips o 8 (λ d. refl) λ n8.
       unless Skips o 9 (λ d. refl) λ n9.
       unless Skips o 10 (λ d. refl) λ n10.
       unless Skips o 11 (λ d. refl) λ n11.
-      unless Skips o 12 (λ d. counted 12 d) λ n12 d.
+      unless Skips o 12 (λ d. counted 12 (d refl (λ e. omega arith))) λ n12 d.
       rw (ne-eqb o 1 n1, ne-eqb o 2 n2, ne-eqb o 3 n3, ne-eqb o 4 n4, ne-eqb o 5 n5, ne-eqb o 6 n6)
       (rw (ne-eqb o 7 n7, ne-eqb o 8 n8, ne-eqb o 9 n9, ne-eqb o 10 n10, ne-eqb o 11 n11, ne-eqb o 12 n12))
     where

@@ -1,7 +1,6 @@
 -- Joining paths: which are absolute, what stands below a directory, and the path that a directory and a basename stand for. Assumes nothing.
 use mathlib.Core.Path.{_≡_, refl, sym, ap, _∙_}
-use mathlib.Core.Bool.{Bool, true, false, cond, _||_, not, true≢false}
-use mathlib.Core.Logic.{_≢_}
+use mathlib.Core.Bool.{Bool, true, false, cond, _||_, not, true≢false, or-false}
 use mathlib.Core.List.{List, [], _∷_, _++_, append-assoc}
 use Prim.Native.Nat.{ℕ}
 use native.Mathlib.Omega.{arith}
@@ -9,17 +8,13 @@ use lib.Dec.{eqb}
 use lib.ListN.{length, length-append}
 use Rattle.tlv.specs.Lists.{same}
 use Rattle.tlv.specs.Output.{FileEntry}
+use Rattle.tlv.proofs.TestLaws.{by-test, same-true}
 use Rattle.lines.specs.Standard.{slash, isFull, relativeTo}
 use Rattle.lines.specs.Paths.{startsWith, endsWith, isAbsolute, appendPath, basenameOf, directoryName}
-use Rattle.lines.specs.Conforms.{pathOf, Unix, Neat}
-use Rattle.lines.proofs.Lists.{same-true}
+use Rattle.lines.specs.Conforms.{pathOf, Unix, Open}
 use Rattle.lines.proofs.LastSlash.{Split, nowhere, first, later, split}
 
 -- ---- absolute paths
-
-or-false : (b : Bool) → (b || false) ≡ b
-or-false true = refl
-or-false false = refl
 
 starts-full : (p : List ℕ) → startsWith slash p ≡ isFull p
 unfolding startsWith
@@ -36,14 +31,7 @@ pub unix-absolute : (p : List ℕ) → Unix p → isAbsolute p ≡ isFull p
 unfolding isAbsolute
 unix-absolute p x = rw (x .drive, x .share, starts-full p) (or-false (isFull p || false) ∙ or-false (isFull p))
 
--- ---- a directory that something can stand below: not empty, and not closed by a slash
-
-pub record Open (d : List ℕ) : Type 0 where
-  pub filled : d ≢ []
-  pub unclosed : endsWith slash d ≡ false
-
-pub neat-open : {d : List ℕ} → Neat d → Open d
-neat-open n = record { filled = n .filled; unclosed = n .unclosed }
+-- ---- a directory that something can stand below
 
 -- it is not the root
 pub open-root : {d : List ℕ} → Open d → d ≡ slash ∷ [] → ⊥
@@ -93,11 +81,7 @@ relative-is c (b ∷ s) o n = go (eqb b slash) refl
 pub relative-open : (c d : List ℕ) → Open c → Open d → Open (relativeTo c d)
 unfolding relativeTo
 relative-open c [] o n = absurd (n .filled refl)
-relative-open c (b ∷ s) o n = go (eqb b slash)
-  where
-    go : (t : Bool) → Open (cond t (b ∷ s) (c ++ (slash ∷ b ∷ s)))
-    go true = n
-    go false = open-append c b s o n
+relative-open c (b ∷ s) o n = by-test Open (eqb b slash) (λ e. n) (λ e. open-append c b s o n)
 
 -- ---- the path that a file of the table stands for
 

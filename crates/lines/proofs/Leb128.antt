@@ -2,16 +2,16 @@
 use mathlib.Core.Path.{_≡_, refl, sym, ap, _∙_}
 use mathlib.Core.Bool.{Bool, true, false}
 use mathlib.Core.List.{List, [], _∷_}
-use mathlib.Core.Option.{some}
+use mathlib.Core.Option.{some, Option·none-ne-some}
 use Prim.Native.Nat.{ℕ, zero, suc, _+_, _*_, _%_, _^_, _≤_, _<_}
 use native.Mathlib.Omega.{arith}
 use borrow.Author.Tests.{ltb-true, ltb-false, lt-ltb, le-ltb}
 use lib.Dec.{ltb}
 use lib.ListN.{length, getD}
 use Rattle.tlv.specs.Lists.{mapOption}
+use Rattle.tlv.proofs.ListLaws.{mapped}
 use Rattle.lines.specs.Standard.{Operand, leb128}
 use Rattle.lines.specs.Conforms.{taken, Continues}
-use Rattle.lines.proofs.Lists.{mapped}
 
 -- the number of a byte that goes on and of the number after it
 abbrev pub more : ℕ → Operand → Operand
@@ -46,7 +46,7 @@ begins b s o e = go (ltb b 128) refl
 -- a number takes a byte at the least
 pub shorter : (s : List ℕ) (o : Operand) → leb128 s ≡ some o → length (o .rest) < length s
 unfolding leb128
-shorter [] o e = let z : _≡_ {A = ℕ} 0 1 = cc in absurd (omega arith)
+shorter [] o e = absurd (Option·none-ne-some o e)
 shorter (b ∷ s) o e = go (λ p. shorter s p) (begins b s o e)
   where
     go : ((p : Operand) → leb128 s ≡ some p → length (p .rest) < length s) → Begins b s o → length (o .rest) < length (b ∷ s)

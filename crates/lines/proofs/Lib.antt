@@ -1,4 +1,3 @@
-pub mod Lists
 pub mod Leb128
 pub mod Operands
 pub mod Beside
@@ -10,8 +9,6 @@ pub mod Directories
 pub mod Paths
 pub mod Bounds
 pub mod Refusals
-pub mod OutcomeLaws
-pub mod AllLaws
 pub mod OrderLaws
 pub mod PathBounds
 pub mod FileBounds

@@ -1,9 +1,9 @@
 -- Reading an operand is the Standard's LEB128 within ten bytes and 64 bits, and each refusal says why not. Assumes nothing.
-use mathlib.Core.Path.{_≡_, refl, ap, _∙_}
+use mathlib.Core.Path.{_≡_, refl, ap, _∙_, sym}
 use mathlib.Core.Bool.{Bool, true, false, cond}
 use mathlib.Core.Logic.{_⊎_, inl, inr}
 use mathlib.Core.List.{List, [], _∷_}
-use mathlib.Core.Option.{none, some}
+use mathlib.Core.Option.{none, some, Option·none-ne-some}
 use Prim.Native.Nat.{ℕ, zero, suc, _+_, _*_, _%_, _^_, _≤_, _<_}
 use native.Mathlib.Nat.{one-le-pow}
 use native.Mathlib.Omega.{arith}
@@ -82,12 +82,12 @@ answers (suc k) (b ∷ s) = go (answers k s) (ltb b 128) refl
 module _ (k : ℕ) (s : List ℕ) where
   whole-is : (o : Operand) (r : Outcome Operand) → Answer k s r → Whole k s o → r ≡ done o
   whole-is o (done p) a w = let e : p ≡ o = cc (a .is, w .is) in ap done e
-  whole-is o (refused n) (ended e f l) w = let z : _≡_ {A = ℕ} 0 1 = cc (w .is) in absurd (omega arith)
+  whole-is o (refused n) (ended e f l) w = absurd (Option·none-ne-some o (sym f ∙ w .is))
   whole-is o (refused n) (wide e c l g) w = absurd (omega (arith, value-more k s o c l g (w .is), w .bits))
   whole-is o (refused n) (long e c g) w = absurd (omega (arith, taken-more (suc k) s o c (w .is), w .bytes))
 
   ended-is : (r : Outcome Operand) → Answer k s r → leb128 s ≡ none → length s < k + 1 → r ≡ refused 7
-  ended-is (done p) a f l = let z : _≡_ {A = ℕ} 0 1 = cc (a .is) in absurd (omega arith)
+  ended-is (done p) a f l = absurd (Option·none-ne-some p (sym f ∙ a .is))
   ended-is (refused n) (ended e f′ l′) f l = ap refused e
   ended-is (refused n) (wide e c l′ g) f l = absurd (omega arith)
   ended-is (refused n) (long e c g) f l = absurd (omega (arith, continues-length (suc k) s c))

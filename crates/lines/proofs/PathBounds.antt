@@ -1,5 +1,4 @@
 -- How long the paths are that a file's path is joined from, and that a file's entry fits its field. Assumes nothing.
-use mathlib.Core.Path.{_≡_, subst}
 use mathlib.Core.Bool.{Bool, true, false, cond, _||_}
 use mathlib.Core.List.{List, [], _∷_, _++_}
 use mathlib.Core.Option.{Option, none, some}
@@ -7,18 +6,18 @@ use Prim.Native.Nat.{ℕ, suc, _+_, _*_, _-_, _≤_}
 use native.Mathlib.Omega.{arith}
 use lib.ListN.{length, take, drop, length-append, length-take, length-drop}
 use lib.Dec.{leb, ltb, eqb}
-use Rattle.tlv.specs.Outcome.{refused, done, _>>=_}
 use Rattle.tlv.specs.Lists.{All, at, isEmpty}
 use Rattle.tlv.specs.Limits.{stringLimit}
 use Rattle.tlv.specs.Model.{CompilationUnit, LineHeader, Directory, HeaderFile}
-use Rattle.tlv.specs.Output.{FileEntry}
 use Rattle.tlv.specs.Accepted.{Given, String, UnitAccepted}
 use Rattle.tlv.specs.Fits.{FileFits}
+use Rattle.tlv.proofs.TestLaws.{by-test}
+use Rattle.tlv.proofs.ListLaws.{all-at}
+use Rattle.tlv.proofs.OutcomeLaws.{Gives, gives, gives-none, gives-cond, gives-bind}
 use Rattle.tlv.proofs.PayloadLaws.{file-length}
+use Rattle.tlv.proofs.AcceptedFields.{no-string}
 use Rattle.lines.specs.Standard.{slash}
 use Rattle.lines.specs.Paths.{baseStart, basenameOf, directoryName, startsWith, endsWith, isAbsolute, appendPath, orEmpty, readDirectory, namedDirectory, needsCompilation, joinedDirectory, fileEntry}
-use Rattle.lines.proofs.OutcomeLaws.{bind-done, done-is, refused-not}
-use Rattle.lines.proofs.AllLaws.{all-at}
 
 -- ---- lengths
 
@@ -35,31 +34,28 @@ base-start-within (b ∷ s) = go (ltb 0 (baseStart s)) (eqb b slash) (base-start
 -- a path's directory and basename are parts of it that do not meet
 pub directory-basename-length : (p : List ℕ) → length (directoryName p) + length (basenameOf p) ≤ length p
 unfolding directoryName basenameOf
-directory-basename-length p = go (leb (baseStart p) 1)
-  where
-    go : (b : Bool) → length (cond b (take (baseStart p) p) (take (baseStart p - 1) p)) + length (drop (baseStart p) p) ≤ length p
-    go true = omega (arith, length-take (baseStart p) p, length-drop (baseStart p) p, base-start-within p)
-    go false = omega (arith, length-take (baseStart p - 1) p, length-drop (baseStart p) p, base-start-within p)
+directory-basename-length p =
+    let l = base-start-within p in
+    let k = length-drop (baseStart p) p in
+    by-test (λ d. length d + length (drop (baseStart p) p) ≤ length p) (leb (baseStart p) 1) {x = take (baseStart p) p} {y = take (baseStart p - 1) p}
+    (λ e. omega (arith, length-take (baseStart p) p)) (λ e. omega (arith, length-take (baseStart p - 1) p))
 
 -- a slash at most is put between
 pub append-path-length : (p c : List ℕ) → length (appendPath p c) ≤ length p + length c + 1
 unfolding appendPath
 append-path-length p [] = omega arith
 append-path-length [] (b ∷ s) = omega arith
-append-path-length (a ∷ p) (b ∷ s) = go (endsWith slash (a ∷ p) || startsWith slash (b ∷ s))
-  where
-    go : (t : Bool) → length (cond t ((a ∷ p) ++ (b ∷ s)) ((a ∷ p) ++ (slash ∷ b ∷ s))) ≤ suc (length p) + suc (length s) + 1
-    go true = omega (arith, length-append (a ∷ p) (b ∷ s))
-    go false = omega (arith, length-append (a ∷ p) (slash ∷ b ∷ s))
+append-path-length (a ∷ p) (b ∷ s) =
+    by-test (λ l. length l ≤ suc (length p) + suc (length s) + 1) (endsWith slash (a ∷ p) || startsWith slash (b ∷ s)) {x = (a ∷ p) ++ (b ∷ s)} {y = (a ∷ p) ++ (slash ∷ b ∷ s)}
+    (λ e. omega (arith, length-append (a ∷ p) (b ∷ s))) (λ e. omega (arith, length-append (a ∷ p) (slash ∷ b ∷ s)))
 
 pub joined-directory-length : (version n : ℕ) (compilation directory own : List ℕ)
     → length (joinedDirectory version n compilation directory own) ≤ length compilation + length directory + length own + 2
 unfolding joinedDirectory
-joined-directory-length version n compilation directory own = go (needsCompilation version n directory)
-  where
-    go : (b : Bool) → length (appendPath (appendPath (cond b compilation []) directory) own) ≤ length compilation + length directory + length own + 2
-    go true = omega (arith, append-path-length (appendPath compilation directory) own, append-path-length compilation directory)
-    go false = omega (arith, append-path-length (appendPath [] directory) own, append-path-length [] directory)
+joined-directory-length version n compilation directory own =
+    by-test (λ c. length (appendPath (appendPath c directory) own) ≤ length compilation + length directory + length own + 2) (needsCompilation version n directory) {x = compilation} {y = []}
+    (λ e. omega (arith, append-path-length (appendPath compilation directory) own, append-path-length compilation directory))
+    (λ e. omega (arith, append-path-length (appendPath [] directory) own, append-path-length [] directory))
 
 -- the parts of a file's path have at most L bytes each: so many has the whole
 pub joined-length : (L version n : ℕ) (compilation directory path : List ℕ) → length compilation ≤ L → length directory ≤ L → length path ≤ L
@@ -74,61 +70,29 @@ module _ (P : List ℕ → Type 0) (nothing : P []) where
   or-empty-all none h = nothing
   or-empty-all (some s) h = h
 
-  read-directory-all : {s : List ℕ} (o : Option Directory) → Given (λ d. P (d .path)) o → readDirectory o ≡ done s → P s
-  read-directory-all none h e = rw (← (done-is e)) nothing
-  read-directory-all {s} (some d) h e = go (d .failed) e
-    where
-      go : (b : Bool) → cond b (refused 6) (done (d .path)) ≡ done s → P s
-      go true q = refused-not q
-      go false q = rw (← (done-is q)) h
+  read-directory-all : (o : Option Directory) → Given (λ d. P (d .path)) o → Gives P (readDirectory o)
+  read-directory-all none h = gives nothing
+  read-directory-all (some d) h = gives-cond (d .failed) (λ e. gives-none) (λ e. gives h)
 
-  named-directory-all : {s : List ℕ} (u : CompilationUnit) (version n : ℕ) → All (λ d. P (d .path)) (u .directories) → namedDirectory u version n ≡ done s → P s
+  named-directory-all : (u : CompilationUnit) (version n : ℕ) → All (λ d. P (d .path)) (u .directories) → Gives P (namedDirectory u version n)
   unfolding namedDirectory
-  named-directory-all {s} u version n h e = go (ltb version 5) (eqb n 0) e
+  named-directory-all u version n h =
+      gives-cond (ltb version 5) (λ e. gives-cond (eqb n 0) (λ e. gives nothing) (λ e. read (n - 1))) (λ e. read n)
     where
-      read : (m : ℕ) → readDirectory (at (u .directories) m) ≡ done s → P s
+      read : (m : ℕ) → Gives P (readDirectory (at (u .directories) m))
       read m = read-directory-all (at (u .directories) m) (all-at (λ d. P (d .path)) (u .directories) m h)
-
-      go : (b c : Bool) → cond b (cond c (done []) (readDirectory (at (u .directories) (n - 1)))) (readDirectory (at (u .directories) n)) ≡ done s → P s
-      go true true q = rw (← (done-is q)) nothing
-      go true false q = read (n - 1) q
-      go false c q = read n q
 
 -- ---- a file's entry fits its field: 3 * stringLimit + 4 < 2 ^ 16
 
-no-string : String []
-no-string = (tt, omega arith)
-
-pub file-entry-fits : (u : CompilationUnit) (h : LineHeader) (f : HeaderFile) (e : FileEntry)
-    → UnitAccepted u → String (f .path) → fileEntry u h f ≡ done (some e) → FileFits e
+pub file-entry-fits : (u : CompilationUnit) (h : LineHeader) (f : HeaderFile) → UnitAccepted u → String (f .path) → Gives (Given FileFits) (fileEntry u h f)
 unfolding fileEntry
-file-entry-fits u h f e a s = go (f .failed) (isEmpty base) (isAbsolute (f .path))
+file-entry-fits u h f a s =
+    let compiled = or-empty-all String no-string (u .directory) (a .directory) in
+    gives-cond (f .failed) (λ e. gives-none) λ e.
+    gives-cond (isEmpty (basenameOf (f .path))) (λ e. gives tt) λ e.
+    gives-cond (isAbsolute (f .path)) (λ e. gives (fits (directoryName (f .path)) (omega (arith, directory-basename-length (f .path))))) λ e.
+    gives-bind (named-directory-all String no-string u (h .version) (f .directory) (a .directories)) λ d named.
+    gives (fits _ (joined-length stringLimit (h .version) (f .directory) (orEmpty (u .directory)) d (f .path) (compiled .1) (named .1) (s .1)))
   where
-    own : List ℕ
-    own = directoryName (f .path)
-
-    base : List ℕ
-    base = basenameOf (f .path)
-
-    entry : List ℕ → FileEntry
-    entry d = record { directory = d; basename = base }
-
-    joined : List ℕ → List ℕ
-    joined d = joinedDirectory (h .version) (f .directory) (orEmpty (u .directory)) d own
-
-    fits : (d : List ℕ) → length d + length base ≤ 3 * stringLimit + 2 → done (some (entry d)) ≡ done (some e) → FileFits e
-    fits d k p = let z : entry d ≡ e = cc in subst FileFits z (omega (arith, file-length (entry d)))
-
-    after : (d : List ℕ) × (namedDirectory u (h .version) (f .directory) ≡ done d) × (done (some (entry (joined d))) ≡ done (some e)) → FileFits e
-    after t =
-        let compiled = or-empty-all String no-string (u .directory) (a .directory) in
-        let named = named-directory-all String no-string u (h .version) (f .directory) (a .directories) (t .1) in
-        fits (joined (t .0)) (joined-length stringLimit (h .version) (f .directory) (orEmpty (u .directory)) (t .0) (f .path) (compiled .1) (named .1) (s .1)) (t .2)
-
-    go : (b c d : Bool)
-        → cond b (refused 6) (cond c (done none) (cond d (done (some (entry own))) (namedDirectory u (h .version) (f .directory) >>= λ d. done (some (entry (joined d)))))) ≡ done (some e)
-        → FileFits e
-    go true c d p = refused-not p
-    go false true d p = let z : _≡_ {A = ℕ} 0 1 = cc in absurd (omega arith)
-    go false false true p = fits own (omega (arith, directory-basename-length (f .path))) p
-    go false false false p = after (bind-done (namedDirectory u (h .version) (f .directory)) (λ d. done (some (entry (joined d)))) p)
+    fits : (d : List ℕ) → length d + length (basenameOf (f .path)) ≤ 3 * stringLimit + 2 → FileFits (record { directory = d; basename = basenameOf (f .path) })
+    fits d k = omega (arith, file-length (record { directory = d; basename = basenameOf (f .path) }))

@@ -1,6 +1,6 @@
 -- The rows that a function takes stay in its range, never fall, never repeat a neighbour, and fit their fields. Assumes nothing.
-use mathlib.Core.Path.{_≡_, refl, ap}
-use mathlib.Core.Bool.{Bool, true, false, cond, _&&_}
+use mathlib.Core.Path.{_≡_, refl, ap, sym, _∙_}
+use mathlib.Core.Bool.{Bool, true, _&&_, true≢false}
 use mathlib.Core.List.{List, [], _∷_, _++_}
 use mathlib.Core.Option.{Option, none, some}
 use Prim.Native.Nat.{ℕ, _^_, _≤_, _<_}
@@ -14,13 +14,14 @@ use Rattle.tlv.specs.Addresses.{RangeHolds, Nonempty}
 use Rattle.tlv.specs.Lists.{All, filter, first, last, orElse}
 use Rattle.tlv.specs.Accepted.{Given}
 use Rattle.tlv.specs.Fits.{LineFits}
-use Rattle.tlv.proofs.ListLaws.{all-map, all-each}
+use Rattle.tlv.proofs.TestLaws.{by-test, and-left, and-right}
+use Rattle.tlv.proofs.ListLaws.{all-map, all-each, all-append, all-filter, all-last, all-image}
+use Rattle.tlv.proofs.SortLaws.{ascending-lower, ascending-from, ascending-filter, ascending-image}
 use Rattle.lines.specs.Lines.{SequencedLine, LineSequenceRange, UnitLines, sameLine, dropAfter, dropNeighbours}
 use Rattle.lines.specs.Rows.{contains, belongs, compactLineRows, ownRows, movedTo, earlierIn, earlierRow, startsLate, selectedSequence, rowsFor, forRange}
 use Rattle.lines.specs.RowsAgree.{Rising, Repeats, Distinct, RowsAgree}
 use Rattle.lines.proofs.Bounds.{Sorted, LinesFit}
-use Rattle.lines.proofs.AllLaws.{all-append, all-filter, all-last, all-image, all-drop-neighbours}
-use Rattle.lines.proofs.OrderLaws.{ascending-lower, ascending-from, ascending-filter, ascending-image, ascending-drop-neighbours}
+use Rattle.lines.proofs.OrderLaws.{all-drop-neighbours, ascending-drop-neighbours}
 
 -- ---- no neighbour repeats
 
@@ -30,15 +31,8 @@ repeats-same x y h = rw (eq-eqb (x .file .0) (y .file .0) (ap (λ (i : FileIndex
 drop-after-distinct : (x : LineEntry) (ys : List LineEntry) → Distinct (x ∷ dropAfter sameLine x ys)
 unfolding dropAfter
 drop-after-distinct x [] = tt
-drop-after-distinct x (y ∷ ys) = go (sameLine x y) refl (drop-after-distinct x ys) (drop-after-distinct y ys)
-  where
-    differ : sameLine x y ≡ false → ¬ Repeats x y
-    differ e r = let s = repeats-same x y r in let z : _≡_ {A = ℕ} 0 1 = cc in omega arith
-
-    go : (b : Bool) → sameLine x y ≡ b → Distinct (x ∷ dropAfter sameLine x ys) → Distinct (y ∷ dropAfter sameLine y ys)
-        → Distinct (x ∷ cond b (dropAfter sameLine x ys) (y ∷ dropAfter sameLine y ys))
-    go true e h k = h
-    go false e h k = (differ e, k)
+drop-after-distinct x (y ∷ ys) =
+    by-test (λ ls. Distinct (x ∷ ls)) (sameLine x y) (λ e. drop-after-distinct x ys) (λ e. (λ r. true≢false (sym (repeats-same x y r) ∙ e), drop-after-distinct y ys))
 
 compact-distinct : (ls : List LineEntry) → Distinct (compactLineRows ls)
 unfolding compactLineRows dropNeighbours
@@ -49,12 +43,9 @@ compact-distinct (x ∷ xs) = drop-after-distinct x xs
 
 contains-holds : (r : AddressRange) (a : ℕ) (more : Bool) → contains r a && more ≡ true → RangeHolds r a
 unfolding contains
-contains-holds r a more = go (leb (r .start) a) refl (ltb a (r .end)) refl
-  where
-    go : (b : Bool) → leb (r .start) a ≡ b → (c : Bool) → ltb a (r .end) ≡ c → b && c && more ≡ true → RangeHolds r a
-    go true e true d h = (leb-true (r .start) a e, ltb-true a (r .end) d)
-    go true e false d h = let z : _≡_ {A = ℕ} 0 1 = cc in absurd (omega arith)
-    go false e c d h = let z : _≡_ {A = ℕ} 0 1 = cc in absurd (omega arith)
+contains-holds r a more e =
+    let h = and-left (leb (r .start) a && ltb a (r .end)) more e in
+    (leb-true (r .start) a (and-left (leb (r .start) a) (ltb a (r .end)) h), ltb-true a (r .end) (and-right (leb (r .start) a) (ltb a (r .end)) h))
 
 -- what is known of a row's file and line, whatever its address
 module _ (Q : FileIndex → ℕ → Type 0) where
@@ -116,22 +107,15 @@ module _ (Q : FileIndex → ℕ → Type 0) (l : UnitLines) (known : All (Known 
   -- a row is one of the table's in the range, or one moved to the start
   rows-all : (P : LineEntry → Type 0) → ((x : LineEntry) → Own Q r x → P x) → ((x : LineEntry) → Moved Q (r .start) x → P x) → All P (rowsFor l r s)
   unfolding rowsFor compactLineRows earlierRow covering
-  rows-all P f g = all-drop-neighbours P sameLine _ (go (startsLate (r .start) (ownRows l r s)))
-    where
-      owned : All P (ownRows l r s)
-      owned = all-map (ownRows l r s) f own-known
-
-      go : (b : Bool) → All P (cond b (earlierRow l r s ++ ownRows l r s) (ownRows l r s))
-      go true = all-append P (earlierRow l r s) (ownRows l r s) (all-map (earlierRow l r s) g (earlier-known covering)) owned
-      go false = owned
+  rows-all P f g =
+      let owned = all-map (ownRows l r s) f own-known in
+      all-drop-neighbours P sameLine _ (by-test (All P) (startsLate (r .start) (ownRows l r s))
+      (λ e. all-append P (earlierRow l r s) (ownRows l r s) (all-map (earlierRow l r s) g (earlier-known covering)) owned) (λ e. owned))
 
   rows-rising : Rising (r .start) (rowsFor l r s)
   unfolding rowsFor compactLineRows earlierRow covering
-  rows-rising = ascending-drop-neighbours (λ x. x .address) sameLine (r .start) _ (go (startsLate (r .start) (ownRows l r s)))
-    where
-      go : (b : Bool) → Rising (r .start) (cond b (earlierRow l r s ++ ownRows l r s) (ownRows l r s))
-      go true = earlier-rising l (r .start) s covering (ownRows l r s) own-rising
-      go false = own-rising
+  rows-rising = ascending-drop-neighbours (λ x. x .address) sameLine (r .start) _
+      (by-test (Rising (r .start)) (startsLate (r .start) (ownRows l r s)) (λ e. earlier-rising l (r .start) s covering (ownRows l r s) own-rising) (λ e. own-rising))
 
 rows-distinct : (l : UnitLines) (r : AddressRange) (s : Option ℕ) → Distinct (rowsFor l r s)
 unfolding rowsFor
@@ -160,7 +144,3 @@ rows-fit l r requested fits small filled =
     rows-all Fitting l (all-map (l .entries) (λ x h. (h .file, h .line)) (fits .entries)) (fits .sorted) r (selectedSequence l requested) LineFits
     (λ x h. record { address = omega (arith, h .0); file = h .1 .0; line = h .1 .1 })
     (λ x h. record { address = omega (arith, h .0); file = h .1 .0; line = h .1 .1 })
-
--- the row of a declaration
-pub one-row-agrees : (r : AddressRange) (l : LineEntry) → Nonempty r → l .address ≡ r .start → RowsAgree r (l ∷ [])
-one-row-agrees r l filled e = record { within = (omega arith, tt); rising = (omega arith, tt); distinct = tt }

@@ -1,20 +1,17 @@
 -- What the run over a unit's rows gives comes from those rows, and a program has no more sequences than bytes. Assumes nothing.
-use mathlib.Core.Path.{_≡_, subst}
-use mathlib.Core.Bool.{Bool, true, false, cond}
 use mathlib.Core.List.{List, [], _∷_, _++_}
 use Prim.Native.Nat.{ℕ, zero, suc, _+_, _^_, _≤_, _<_}
 use native.Mathlib.Omega.{arith}
 use lib.ListN.{length}
 use lib.Dec.{ltb, eqb}
-use Rattle.tlv.specs.Outcome.{Outcome, refused, done, _>>=_}
 use Rattle.tlv.specs.Lists.{All}
 use Rattle.tlv.specs.Model.{LineHeader, LineRow}
 use Rattle.tlv.specs.Accepted.{RowAccepted}
-use Rattle.lines.specs.Standard.{Opcodes, Passed}
+use Rattle.tlv.proofs.ListLaws.{all-append}
+use Rattle.tlv.proofs.OutcomeLaws.{Gives, gives, gives-none, gives-cond, gives-of, gives-map, gives-bind}
+use Rattle.lines.specs.Standard.{Opcodes}
 use Rattle.lines.specs.Program.{placeOf, skip, sequencesWithin, scanLineSequenceOffsets, opcodesOf, programOffset, lineSequenceOffsets}
-use Rattle.lines.specs.Lines.{RawLine, Run, rawLine, closeSequence, runRows}
-use Rattle.lines.proofs.OutcomeLaws.{bind-done, done-is, refused-not}
-use Rattle.lines.proofs.AllLaws.{all-append}
+use Rattle.lines.specs.Lines.{RawLine, Run, rawLine, runRows}
 
 -- ---- the run over the rows
 
@@ -32,72 +29,29 @@ raw-fits : (r : LineRow) (n : ℕ) → RowAccepted r → RawFits (rawLine r n)
 raw-fits r n a = record { address = a .address; file = a .file; line = a .line }
 
 -- each sequence takes one row more
-pub run-rows-fit : (rs : List LineRow) (n : ℕ) (opened : List RawLine) (run : Run)
-    → All RowAccepted rs → All RawFits opened → runRows rs n opened ≡ done run → RunFits (n + length rs) run
+pub run-rows-fit : (most : ℕ) (rs : List LineRow) (n : ℕ) (opened : List RawLine) → n + length rs ≤ most → All RowAccepted rs → All RawFits opened
+    → Gives (RunFits most) (runRows rs n opened)
 unfolding runRows
-run-rows-fit [] n opened run rows os q = subst (RunFits (n + 0)) (done-is q) (record { lines = tt; count = omega arith })
-run-rows-fit (r ∷ rs) n opened run rows os q =
-    go (eqb (r .kind) 2) (eqb (r .kind) 1) (run-rows-fit rs n (opened ++ (rawLine r n ∷ []))) (run-rows-fit rs (suc n) []) q
-  where
-    close : Run → Run
-    close = closeSequence opened (r .address) n
-
-    closed : (m : Run) → RunFits (suc n + length rs) m → RunFits (n + suc (length rs)) (close m)
-    closed m f = record { lines = all-append RawFits opened (m .lines) os (f .lines); count = omega (arith, f .count) }
-
-    wider : RunFits (n + length rs) run → RunFits (n + suc (length rs)) run
-    wider f = record { lines = f .lines; count = omega (arith, f .count) }
-
-    go : (b c : Bool)
-        → ((m : Run) → All RowAccepted rs → All RawFits (opened ++ (rawLine r n ∷ [])) → runRows rs n (opened ++ (rawLine r n ∷ [])) ≡ done m → RunFits (n + length rs) m)
-        → ((m : Run) → All RowAccepted rs → Unit {0} → runRows rs (suc n) [] ≡ done m → RunFits (suc n + length rs) m)
-        → cond b (refused 6) (cond c (runRows rs (suc n) [] >>= λ m. done (close m)) (runRows rs n (opened ++ (rawLine r n ∷ [])))) ≡ done run
-        → RunFits (n + suc (length rs)) run
-    go true c more next p = refused-not p
-    go false true more next p =
-        let b = bind-done (runRows rs (suc n) []) (λ m. done (close m)) p in
-        subst (RunFits (n + suc (length rs))) (done-is (b .2)) (closed (b .0) (next (b .0) (rows .1) tt (b .1)))
-    go false false more next p = wider (more run (rows .1) (all-append RawFits opened (rawLine r n ∷ []) os (raw-fits r n (rows .0), tt)) p)
+run-rows-fit most [] n opened l rows os = let k : n ≤ most = omega arith in gives (record { lines = tt; count = k })
+run-rows-fit most (r ∷ rs) n opened l rows os =
+    let after = run-rows-fit most rs (suc n) [] (omega arith) (rows .1) tt in
+    let more = run-rows-fit most rs n (opened ++ (rawLine r n ∷ [])) (omega arith) (rows .1) (all-append RawFits opened (rawLine r n ∷ []) os (raw-fits r n (rows .0), tt)) in
+    gives-cond (eqb (r .kind) 2) (λ e. gives-none) λ e.
+    gives-cond (eqb (r .kind) 1) (λ e. gives-bind after λ run f. gives (record { lines = all-append RawFits opened (run .lines) os (f .lines); count = f .count })) (λ e. more)
 
 -- ---- the sequences of a program
 
-sequences-few : (k : ℕ) (h : Opcodes) (base whole from : ℕ) (s l : List ℕ) → sequencesWithin k h base whole from s ≡ done l → length l ≤ k
+sequences-few : (k : ℕ) (h : Opcodes) (base whole from : ℕ) (s : List ℕ) → Gives (λ l. length l ≤ k) (sequencesWithin k h base whole from s)
 unfolding sequencesWithin
-sequences-few zero h base whole from s l q = subst (λ (x : List ℕ). length x ≤ 0) (done-is q) (omega arith)
-sequences-few (suc k) h base whole from [] l q = subst (λ (x : List ℕ). length x ≤ suc k) (done-is q) (omega arith)
-sequences-few (suc k) h base whole from (o ∷ s) l q =
-    let b = bind-done (skip h whole o s) turn q in
-    go (b .0) (b .0 .ends) (ltb (here (b .0)) (2 ^ 64)) (sequences-few k h base whole) (b .2)
-  where
-    here : Passed → ℕ
-    here t = base + placeOf whole (t .rest)
+sequences-few zero h base whole from s = gives {a = []} (omega arith)
+sequences-few (suc k) h base whole from [] = gives {a = []} (omega arith)
+sequences-few (suc k) h base whole from (o ∷ s) =
+    let later = sequences-few k h base whole in
+    gives-bind (gives-of {P = λ t. Unit {0}} (skip h whole o s) λ t e. tt) λ t _.
+    gives-cond (t .ends)
+    (λ e. gives-cond (ltb (base + placeOf whole (t .rest)) (2 ^ 64)) (λ e. gives-bind (later (base + placeOf whole (t .rest)) (t .rest)) λ l f. gives {a = from ∷ l} (omega arith)) (λ e. gives-none))
+    (λ e. gives-map (λ l f. omega arith) (later from (t .rest)))
 
-    branch : Passed → Bool → Bool → Outcome (List ℕ)
-    branch t ends fits =
-        cond ends
-        (cond fits (sequencesWithin k h base whole (here t) (t .rest) >>= λ l. done (from ∷ l)) (refused 12))
-        (sequencesWithin k h base whole from (t .rest))
-
-    turn : Passed → Outcome (List ℕ)
-    turn t = branch t (t .ends) (ltb (here t) (2 ^ 64))
-
-    one : (m : List ℕ) → length m ≤ k → from ∷ m ≡ l → length l ≤ suc k
-    one m f e = subst (λ (x : List ℕ). length x ≤ suc k) e (omega arith)
-
-    go : (t : Passed) (b c : Bool)
-        → ((f : ℕ) (r m : List ℕ) → sequencesWithin k h base whole f r ≡ done m → length m ≤ k)
-        → branch t b c ≡ done l → length l ≤ suc k
-    go t true true more p =
-        let b = bind-done (sequencesWithin k h base whole (here t) (t .rest)) (λ l. done (from ∷ l)) p in
-        one (b .0) (more (here t) (t .rest) (b .0) (b .1)) (done-is (b .2))
-    go t true false more p = refused-not p
-    go t false c more p = omega (arith, more from (t .rest) l p)
-
-pub offsets-few : (h : LineHeader) (program offsets : List ℕ) → lineSequenceOffsets h program ≡ done offsets → length offsets ≤ length program
+pub offsets-few : (h : LineHeader) (program : List ℕ) → Gives (λ l. length l ≤ length program) (lineSequenceOffsets h program)
 unfolding lineSequenceOffsets scanLineSequenceOffsets
-offsets-few h program offsets = go (ltb (programOffset h) (2 ^ 64))
-  where
-    go : (b : Bool) → cond b (sequencesWithin (length program) (opcodesOf h) (programOffset h) (length program) (programOffset h) program) (refused 12) ≡ done offsets
-        → length offsets ≤ length program
-    go true q = sequences-few (length program) (opcodesOf h) (programOffset h) (length program) (programOffset h) program offsets q
-    go false q = refused-not q
+offsets-few h program = gives-cond (ltb (programOffset h) (2 ^ 64)) (λ e. sequences-few (length program) (opcodesOf h) (programOffset h) (length program) (programOffset h) program) (λ e. gives-none)

@@ -1,19 +1,19 @@
 -- What holds between the definitions of this crate and the Standard's (Standard.antt). docs/DIFFERENCES.md lists what these statements leave out. Assumes nothing.
-use Prim.Native.Nat.{ℕ, zero, suc, _+_, _-_, _%_, _^_, _≤_, _<_}
+use Prim.Native.Nat.{ℕ, zero, suc, _-_, _%_, _^_, _≤_, _<_}
 use mathlib.Core.Path.{_≡_}
 use mathlib.Core.Logic.{_↔_, _⊎_, _≢_}
-use mathlib.Core.Bool.{Bool, true, false, cond}
+use mathlib.Core.Bool.{true, false, cond}
 use mathlib.Core.List.{List, [], _∷_, _++_, map}
 use mathlib.Core.Option.{Option, none, some}
 use lib.ListN.{length, getD}
 use lib.Dec.{leb}
 use Rattle.tlv.specs.Outcome.{Outcome, refused, done}
-use Rattle.tlv.specs.Lists.{at, isEmpty, same}
-use Rattle.tlv.specs.Model.{CompilationUnit, LineHeader, Directory, HeaderFile}
+use Rattle.tlv.specs.Lists.{at, same}
+use Rattle.tlv.specs.Model.{CompilationUnit, LineHeader, HeaderFile}
 use Rattle.tlv.specs.Output.{FileEntry}
 use Rattle.lines.specs.Standard.{Operand, leb128, OperandKind, standardOperands, Opcodes, declared, instruction, sequences, slash, isFull, filePath}
-use Rattle.lines.specs.Program.{uleb, skip, scanLineSequenceOffsets}
-use Rattle.lines.specs.Paths.{fileEntry, isDrive, isShare, endsWith, basenameOf, directoryName, isAbsolute, namedDirectory}
+use Rattle.lines.specs.Program.{uleb, bare, skip, scanLineSequenceOffsets}
+use Rattle.lines.specs.Paths.{fileEntry, isDrive, isShare, endsWith, basenameOf, directoryName}
 
 -- ---- operands: read_line_uleb is the Standard's LEB128 within ten bytes and 64 bits
 
@@ -50,9 +50,9 @@ abbrev pub CountIs : ℕ → Option (List OperandKind) → Type 0
 CountIs n none = Unit {0}
 CountIs n (some ks) = n ≡ length ks
 
--- each opcode below the base that the Standard knows is declared with the Standard's number of operands
+-- each opcode below the base that the Standard knows, and whose operands are not fixed, is declared with the Standard's number of operands
 abbrev pub DeclaresStandard : Opcodes → Type 0
-DeclaresStandard h = (o : ℕ) → o < h .base → CountIs (declared h o) (standardOperands o)
+DeclaresStandard h = (o : ℕ) → o < h .base → bare o ≡ false → o ≢ 9 → CountIs (declared h o) (standardOperands o)
 
 -- an answer beside the Standard's: done is the same, 7 to 9 are no whole program (or instruction) of the Standard;
 -- 10 and 11 (an operand past 64 bits or ten bytes) and 12 (past 2^64 - 1) are limits that the Standard does not have
@@ -78,35 +78,38 @@ pub record Unix (p : List ℕ) : Type 0 where
   pub drive : isDrive p ≡ false
   pub share : isShare p ≡ false
 
--- a directory that is no Windows path, not empty, and does not end in a slash
-pub record Neat (p : List ℕ) : Type 0 where
-  pub unix : Unix p
+-- a directory that something can stand below: not empty, and not closed by a slash
+pub record Open (p : List ℕ) : Type 0 where
   pub filled : p ≢ []
   pub unclosed : endsWith slash p ≡ false
 
--- the named cases are left out: a path that failed, that names no file, a Windows path, a full path of two slashes and a name
-pub record PlainName (f : HeaderFile) : Type 0 where
+-- an open directory that is no Windows path
+pub record Neat (p : List ℕ) : Type 0 where
+  pub unix : Unix p
+  pub shape : Open p
+
+-- a file's path was read and names a file
+pub record NamesFile (f : HeaderFile) : Type 0 where
   pub read : f .failed ≡ false
   pub named : basenameOf (f .path) ≢ []
-  pub unix : Unix (f .path)
-  pub single : directoryName (f .path) ≡ slash ∷ [] → f .path ≡ slash ∷ basenameOf (f .path)
 
--- a relative path's directory is there and was read, it and the compilation directory are neat, and from version 5 on the unit's compilation directory is the table's directory 0
+-- the compilation directory is open, and from version 5 on it is the table's directory 0; a directory of another number is there, was read and is neat
 pub record PlainDirectory (u : CompilationUnit) (h : LineHeader) (f : HeaderFile) (compilation : List ℕ) : Type 0 where
   pub compilationIs : u .directory ≡ some compilation
-  pub neat : Neat compilation
+  pub shape : Open compilation
   pub first : 5 ≤ h .version → at (u .directories) 0 ≡ some (record { failed = false; path = compilation })
-  pub numbered : ((h .version < 5) × (f .directory ≡ 0))
-      ⊎ ((d : List ℕ) × Neat d × (at (u .directories) (cond (leb 5 (h .version)) (f .directory) (f .directory - 1)) ≡ some (record { failed = false; path = d })))
+  pub numbered : f .directory ≢ 0
+      → (d : List ℕ) × Neat d × (at (u .directories) (cond (leb 5 (h .version)) (f .directory) (f .directory - 1)) ≡ some (record { failed = false; path = d }))
 
 abbrev pub Joins : CompilationUnit → LineHeader → HeaderFile → List ℕ → Type 0
 Joins u h f compilation =
     (e : FileEntry) × (fileEntry u h f ≡ done (some e))
     × (filePath (h .version) compilation (map (λ d. d .path) (u .directories)) (f .directory) (f .path) ≡ some (pathOf e))
 
+-- the named cases are left out: a path that failed or names no file, a full path of two slashes and a name, and a relative path that is a Windows path or whose directory is not plain
 pub record PathConforms (u : CompilationUnit) (h : LineHeader) (f : HeaderFile) (compilation : List ℕ) : Type 0 where
-  pub full : PlainName f → isFull (f .path) ≡ true → Joins u h f compilation
-  pub relative : PlainName f → isFull (f .path) ≡ false → PlainDirectory u h f compilation → Joins u h f compilation
+  pub full : NamesFile f → isFull (f .path) ≡ true → (directoryName (f .path) ≡ slash ∷ [] → f .path ≡ slash ∷ basenameOf (f .path)) → Joins u h f compilation
+  pub relative : NamesFile f → isFull (f .path) ≡ false → Unix (f .path) → PlainDirectory u h f compilation → Joins u h f compilation
 
 abbrev pub Paths : Type 0
 Paths = (u : CompilationUnit) (h : LineHeader) (f : HeaderFile) (compilation : List ℕ) → PathConforms u h f compilation

@@ -1,5 +1,4 @@
 -- Where the sheets are accepted, the search for a declaration leaves a file table and warnings that fit their fields, and the row that it finds does. Assumes nothing.
-use mathlib.Core.Path.{_≡_}
 use mathlib.Core.List.{List, [], _∷_}
 use mathlib.Core.Option.{Option, none, some}
 use Prim.Native.Nat.{ℕ, zero, suc, _^_, _<_}
@@ -7,19 +6,18 @@ use borrow.Author.Tests.{ltb-true}
 use lib.Dec.{ltb}
 use Rattle.tlv.specs.declared.model.FileIndex.{FileIndex}
 use Rattle.tlv.specs.declared.model.LineEntry.{LineEntry}
-use Rattle.tlv.specs.Outcome.{done}
 use Rattle.tlv.specs.Lists.{All, isNone}
 use Rattle.tlv.specs.Model.{CompilationUnit, Entry, LineHeader}
 use Rattle.tlv.specs.Output.{Warning, WarningKind, about, invalidDeclarationFile, invalidDeclarationLine}
 use Rattle.tlv.specs.Accepted.{Given, EntryAccepted, UnitAccepted}
 use Rattle.tlv.specs.Fits.{WarningFits}
+use Rattle.tlv.proofs.ListLaws.{all-append}
+use Rattle.tlv.proofs.OutcomeLaws.{Gives, gives, gives-cond, gives-bind}
 use Rattle.lines.specs.Files.{FileTable, FileIndices, get}
 use Rattle.lines.proofs.Bounds.{TableFits, IndexFits, IndicesFit, IndexedFits}
-use Rattle.lines.proofs.AllLaws.{all-append}
 use Rattle.lines.proofs.FileBounds.{intern-header-fits, get-fits}
 use Rattle.references.specs.Search.{Dwarf, Place, emptyTrail, attribute, unsignedAttribute, fileIndexAttribute, Target, nothing, sameUnit, byOffset, originAttributes, chainLimit, placeIn}
 use Rattle.references.specs.Search.{Declaring, withTrail, withTable, warnDeclaration, declarationOf, declarationFrom, ownDeclaration, DeclarationSearch, unitFiles, declarationAtTarget, referencedDeclaration, resolveDeclaration, resolveDeclarationLine}
-use Rattle.references.proofs.Giving.{Gives, gives, gives-cond, gives-bind, gives-of, given}
 use Rattle.references.proofs.NameBounds.{DwarfAccepted, PlaceAccepted, TargetAccepted, unsigned-small, file-index-small, absolute-small, follow-accepted}
 
 -- a row whose file and line fit; its address is set later
@@ -60,7 +58,7 @@ module _ (u : CompilationUnit) (e : Entry) (s : Declaring) (fits : DeclaringFits
 
 unit-files-fit : (u : CompilationUnit) (o : Option LineHeader) (t : FileTable) → UnitAccepted u → TableFits t → Gives IndexedFits (unitFiles u o t)
 unit-files-fit u none t a k = gives (record { table = k; indices = tt })
-unit-files-fit u (some h) t a k = gives-of _ λ i q. intern-header-fits u h t i a k q
+unit-files-fit u (some h) t a k = intern-header-fits u h t a k
 
 -- a search that leaves what fits, and finds what fits
 abbrev FindsFitting : DeclarationSearch → Type 0
@@ -99,8 +97,3 @@ module _ (d : Dwarf) (accepted : DwarfAccepted d) where
   gives-declaration u e is table warnings unit entry n k w =
       resolve-fits chainLimit (placeIn u e) is (record { trail = emptyTrail; table = table; warnings = warnings; found = none })
       (record { unit = unit; entry = entry }) n (record { table = k; warnings = w; found = tt })
-
-pub declaration-fits : (d : Dwarf) (u : CompilationUnit) (e : Entry) (is : FileIndices) (table : FileTable) (warnings : List Warning) (s : Declaring)
-    → DwarfAccepted d → UnitAccepted u → EntryAccepted (u .length) e → IndicesFit is → TableFits table → All WarningFits warnings
-    → resolveDeclarationLine d u e is table warnings ≡ done s → DeclaringFits s
-declaration-fits d u e is table warnings s accepted unit entry n k w = given (gives-declaration d accepted u e is table warnings unit entry n k w)

@@ -1,4 +1,3 @@
 pub mod Refusals
-pub mod Giving
 pub mod NameBounds
 pub mod DeclarationBounds

@@ -1,10 +1,9 @@
 -- Where the sheets are accepted, a search only comes to entries of accepted units, and the name that it finds is a string. Assumes nothing.
 use mathlib.Core.Path.{_≡_}
-use mathlib.Core.Bool.{Bool, true, false, cond, _&&_}
+use mathlib.Core.Bool.{Bool, _&&_}
 use mathlib.Core.List.{List, [], _∷_}
 use mathlib.Core.Option.{Option, none, some}
 use Prim.Native.Nat.{ℕ, zero, suc, _+_, _-_, _^_, _<_}
-use native.Mathlib.Omega.{arith}
 use borrow.Author.Tests.{ltb-true, eqb-true}
 use lib.Dec.{leb, ltb, eqb}
 use lib.ListN.{length}
@@ -12,9 +11,12 @@ use Rattle.tlv.specs.Outcome.{Outcome, done}
 use Rattle.tlv.specs.Lists.{All, first, isEmpty}
 use Rattle.tlv.specs.Model.{CompilationUnit, Entry, Attribute}
 use Rattle.tlv.specs.Accepted.{String, Given, AttributeAccepted, EntryAccepted, UnitAccepted}
+use Rattle.tlv.proofs.TestLaws.{by-test}
+use Rattle.tlv.proofs.ListLaws.{all-first}
+use Rattle.tlv.proofs.OutcomeLaws.{Gives, gives, gives-none, gives-cond, gives-bind, given}
+use Rattle.tlv.proofs.AcceptedFields.{no-string}
 use Rattle.references.specs.Search.{Dwarf, DebugSource, mainSource, supplementarySource, unitsIn, Place, DieKey, Trail, isVisited, emptyTrail, attribute, numberIf, unsignedAttribute, fileIndexAttribute, absoluteEntryOffset, orNoEntry, entryAt, unitContaining, Target, nothing, sameUnit, byOffset, Followed, followIn, followAbsolute, followUnit, followSupplementary, follow, originAttributes, chainLimit}
 use Rattle.references.specs.Search.{nameAttributes, ifEmpty, nameFrom, ownName, Named, NameSearch, nameAtTarget, referencedName, resolveNameInner, placeIn, resolveNamed, resolveName, resolveReferenceName}
-use Rattle.references.proofs.Giving.{Gives, gives, gives-none, gives-cond, gives-bind, given}
 
 -- ---- where a search can stand
 
@@ -33,28 +35,14 @@ TargetAccepted (byOffset p) = PlaceAccepted p
 
 -- ---- what is found in an entry
 
--- the first element that passes a test is one of the list's
-pub first-all : {A : Type 0} (P : A → Type 0) (t : A → Bool) (xs : List A) → All P xs → Given P (first t xs)
-unfolding first
-first-all P t [] h = tt
-first-all P t (x ∷ xs) h = go (t x) (first-all P t xs (h .1))
-  where
-    go : (b : Bool) → Given P (first t xs) → Given P (cond b (some x) (first t xs))
-    go true ih = h .0
-    go false ih = ih
-
 number-small : (p : ℕ → Bool) (o : Option Attribute) → Given AttributeAccepted o → Given (λ v. v < 2 ^ 64) (numberIf p o)
 number-small p none h = tt
-number-small p (some a) h = go (p (a .kind))
-  where
-    go : (b : Bool) → Given (λ v. v < 2 ^ 64) (cond b (some (a .value)) none)
-    go true = h .value
-    go false = tt
+number-small p (some a) h = by-test (Given (λ v. v < 2 ^ 64)) (p (a .kind)) (λ e. h .value) (λ e. tt)
 
 module _ {n : ℕ} (e : Entry) (k : ℕ) (accepted : EntryAccepted n e) where
   pub attribute-accepted : Given AttributeAccepted (attribute e k)
   unfolding attribute
-  attribute-accepted = first-all AttributeAccepted (λ a. eqb (a .name) k) (e .attributes) (accepted .attributes)
+  attribute-accepted = all-first AttributeAccepted (λ a. eqb (a .name) k) (e .attributes) (accepted .attributes)
 
   pub unsigned-small : Given (λ v. v < 2 ^ 64) (unsignedAttribute e k)
   unfolding unsignedAttribute
@@ -70,9 +58,9 @@ pub absolute-small : (u : CompilationUnit) (o : ℕ) → Gives (λ a. a < 2 ^ 64
 unfolding absoluteEntryOffset
 absolute-small u o = gives-cond _ (λ e. gives (ltb-true (u .offset + o) (2 ^ 64) e)) (λ e. gives-none)
 
-entry-accepted : (u : CompilationUnit) (o : ℕ) → UnitAccepted u → Gives (EntryAccepted (u .length)) (entryAt u o)
+entry-at-accepted : (u : CompilationUnit) (o : ℕ) → UnitAccepted u → Gives (EntryAccepted (u .length)) (entryAt u o)
 unfolding entryAt
-entry-accepted u o h = go (first (λ e. eqb (e .offset) o) (u .entries)) (first-all (EntryAccepted (u .length)) (λ e. eqb (e .offset) o) (u .entries) (h .entries))
+entry-at-accepted u o h = go (first (λ e. eqb (e .offset) o) (u .entries)) (all-first (EntryAccepted (u .length)) (λ e. eqb (e .offset) o) (u .entries) (h .entries))
   where
     go : (x : Option Entry) → Given (EntryAccepted (u .length)) x → Gives (EntryAccepted (u .length)) (orNoEntry x)
     go none a = gives-none
@@ -90,14 +78,14 @@ module _ (d : Dwarf) (accepted : DwarfAccepted d) where
   absolute-accepted : (sheet source : DebugSource) (t : Trail) (o : ℕ) → Gives FollowedAccepted (followAbsolute d sheet source t o)
   unfolding followAbsolute unitContaining
   absolute-accepted sheet source t o =
-      gives-cond (isVisited t (record { source = source; offset = o })) (λ e. gives tt) (λ e. go _ (first holding (unitsIn d sheet)) (first-all UnitAccepted holding (unitsIn d sheet) (units-accepted sheet)))
+      gives-cond (isVisited t (record { source = source; offset = o })) (λ e. gives tt) (λ e. go _ (first holding (unitsIn d sheet)) (all-first UnitAccepted holding (unitsIn d sheet) (units-accepted sheet)))
     where
       holding : CompilationUnit → Bool
       holding u = leb (u .offset) o && ltb o (u .offset + u .length)
 
       go : (k : DieKey) (x : Option CompilationUnit) → Given UnitAccepted x → Gives FollowedAccepted (followIn sheet k t x)
       go k none a = gives tt
-      go k (some u) a = gives-bind (entry-accepted u (k .offset - u .offset) a) λ e b. gives (record { unit = a; entry = b })
+      go k (some u) a = gives-bind (entry-at-accepted u (k .offset - u .offset) a) λ e b. gives (record { unit = a; entry = b })
 
   supplementary-accepted : (s : DebugSource) (us : List CompilationUnit) (t : Trail) (o : ℕ) → Gives FollowedAccepted (followSupplementary d s us t o)
   supplementary-accepted mainSource [] t o = gives tt
@@ -105,23 +93,20 @@ module _ (d : Dwarf) (accepted : DwarfAccepted d) where
   supplementary-accepted supplementarySource us t o = gives tt
 
   module _ (p : Place) (stands : PlaceAccepted p) where
-    unit-accepted : (t : Trail) (o : ℕ) → Gives FollowedAccepted (followUnit p t o)
+    follow-unit-accepted : (t : Trail) (o : ℕ) → Gives FollowedAccepted (followUnit p t o)
     unfolding followUnit
-    unit-accepted t o = gives-bind (absolute-small (p .unit) o) λ a _.
-        gives-cond (isVisited t (record { source = p .source; offset = a })) (λ e. gives tt) (λ e. gives-bind (entry-accepted (p .unit) o (stands .unit)) λ x b. gives (record { unit = stands .unit; entry = b }))
+    follow-unit-accepted t o = gives-bind (absolute-small (p .unit) o) λ a _.
+        gives-cond (isVisited t (record { source = p .source; offset = a })) (λ e. gives tt) (λ e. gives-bind (entry-at-accepted (p .unit) o (stands .unit)) λ x b. gives (record { unit = stands .unit; entry = b }))
 
     pub follow-accepted : (t : Trail) (o : Option Attribute) → Gives FollowedAccepted (follow d p t o)
     unfolding follow
     follow-accepted t none = gives tt
     follow-accepted t (some a) =
-        gives-cond (eqb (a .kind) 4) (λ e. unit-accepted t (a .value)) λ e.
+        gives-cond (eqb (a .kind) 4) (λ e. follow-unit-accepted t (a .value)) λ e.
         gives-cond (eqb (a .kind) 5) (λ e. absolute-accepted (p .sheet) mainSource t (a .value)) λ e.
         gives-cond (eqb (a .kind) 6) (λ e. supplementary-accepted (p .sheet) (d .supplementary) t (a .value)) λ e. gives tt
 
 -- ---- names
-
-pub no-string : String []
-no-string = (tt, omega arith)
 
 own-string : {n : ℕ} (e : Entry) → EntryAccepted n e → (ns : List ℕ) → Gives String (ownName e ns)
 unfolding ownName
@@ -182,7 +167,3 @@ module _ (d : Dwarf) (accepted : DwarfAccepted d) where
 pub name-string : (d : Dwarf) (u : CompilationUnit) (e : Entry) (name : List ℕ)
     → DwarfAccepted d → UnitAccepted u → EntryAccepted (u .length) e → resolveName d u e ≡ done name → String name
 name-string d u e name accepted unit entry = given (gives-name d accepted u e unit entry)
-
-pub reference-name-string : (d : Dwarf) (u : CompilationUnit) (e : Entry) (a : Attribute) (name : List ℕ)
-    → DwarfAccepted d → UnitAccepted u → EntryAccepted (u .length) e → resolveReferenceName d u e a ≡ done name → String name
-reference-name-string d u e a name accepted unit entry = given (gives-reference-name d accepted u e unit entry a)

@@ -37,9 +37,9 @@ refuses-absolute d sheet source t o = search (refusing, go)
     go k none = never
     go k (some u) = search (refusing, refuses-entry)
 
-refuses-unit : (p : Place) (t : Trail) (o : ℕ) → RefusesIn 12 13 (followUnit p t o)
+refuses-follow-unit : (p : Place) (t : Trail) (o : ℕ) → RefusesIn 12 13 (followUnit p t o)
 unfolding followUnit
-refuses-unit p t o = search (refusing, refuses-wider 12 12, refuses-offset, refuses-wider 13 13, refuses-entry)
+refuses-follow-unit p t o = search (refusing, refuses-wider 12 12, refuses-offset, refuses-wider 13 13, refuses-entry)
 
 refuses-supplementary : (d : Dwarf) (s : DebugSource) (us : List CompilationUnit) (t : Trail) (o : ℕ) → RefusesIn 13 13 (followSupplementary d s us t o)
 refuses-supplementary d mainSource [] t o = never
@@ -49,7 +49,7 @@ refuses-supplementary d supplementarySource us t o = never
 pub refuses-follow : (d : Dwarf) (p : Place) (t : Trail) (o : Option Attribute) → RefusesIn 12 13 (follow d p t o)
 unfolding follow
 refuses-follow d p t none = never
-refuses-follow d p t (some a) = search (refusing, refuses-unit, refuses-wider 13 13, refuses-absolute, refuses-supplementary) depth 7
+refuses-follow d p t (some a) = search (refusing, refuses-follow-unit, refuses-wider 13 13, refuses-absolute, refuses-supplementary) depth 7
 
 -- ---- names: 6 for a name that is no string, 12 and 13
 

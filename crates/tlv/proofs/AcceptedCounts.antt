@@ -1,6 +1,5 @@
 -- Fields that pass are at most as many as the limit says. Assumes nothing.
 use mathlib.Core.Path.{_≡_, refl}
-use mathlib.Core.Bool.{Bool, true, false, cond}
 use mathlib.Core.List.{List, [], _∷_}
 use Prim.Native.Nat.{ℕ, suc, _+_, _≤_, _<_}
 use native.Mathlib.Omega.{arith}
@@ -10,17 +9,15 @@ use borrow.Author.Tests.{ltb-true}
 use Rattle.tlv.specs.Limits.{fieldLimit}
 use Rattle.tlv.specs.Fields.{Field, payloads}
 use Rattle.tlv.specs.Grammar.{Context, next, limited, payloadLimited}
-use Rattle.tlv.proofs.AcceptedLists.{and-left}
+use Rattle.tlv.proofs.TestLaws.{by-test, and-left}
 use Rattle.tlv.proofs.AcceptedFields.{Passed, AllPassed}
 
 next-count : (c : Context) (f : Field) → next c f .count ≡ c .count + 1
 unfolding next
-next-count c f = go (eqb (f .tag) 0x10) (eqb (f .tag) 0x17) _ _ _ refl refl refl
+next-count c f = by-test Counted (eqb (f .tag) 0x10) (λ e. refl) (λ e. by-test Counted (eqb (f .tag) 0x17) (λ e. refl) (λ e. refl))
   where
-    go : (a b : Bool) (x y z : Context) → x .count ≡ c .count + 1 → y .count ≡ c .count + 1 → z .count ≡ c .count + 1 → (cond a x (cond b y z)) .count ≡ c .count + 1
-    go true b x y z p q r = p
-    go false true x y z p q r = q
-    go false false x y z p q r = r
+    Counted : Context → Type 0
+    Counted x = x .count ≡ c .count + 1
 
 counted : (c : Context) (f : Field) → Passed c f → c .count < fieldLimit
 unfolding limited
@@ -37,11 +34,9 @@ few c (f ∷ fs) h = omega (arith, few-after c f fs (h .0) (h .1))
 fewer : (t : ℕ) (fs : List Field) → length (payloads t fs) ≤ length fs
 unfolding payloads
 fewer t [] = omega arith
-fewer t (f ∷ fs) = go (eqb (f .tag) t) (fewer t fs)
-  where
-    go : (b : Bool) → length (payloads t fs) ≤ length fs → length (cond b (f .payload ∷ payloads t fs) (payloads t fs)) ≤ suc (length fs)
-    go true h = omega arith
-    go false h = omega arith
+fewer t (f ∷ fs) =
+    let l = fewer t fs in
+    by-test (λ ps. length ps ≤ suc (length fs)) (eqb (f .tag) t) {x = f .payload ∷ payloads t fs} {y = payloads t fs} (λ e. omega arith) (λ e. omega arith)
 
 -- the fields of a tag, among fields that pass
 pub few-payloads : (t : ℕ) (c : Context) (fs : List Field) → AllPassed c fs → length (payloads t fs) ≤ fieldLimit

@@ -1,19 +1,22 @@
 -- What the grammar promises of each field by its tag, whatever stands before it. Assumes nothing.
-use mathlib.Core.Path.{_≡_, refl}
-use mathlib.Core.Bool.{Bool, true, false, cond}
+use mathlib.Core.Path.{_≡_}
+use mathlib.Core.Bool.{true}
 use mathlib.Core.List.{List, [], _∷_}
 use Prim.Native.Nat.{ℕ, _+_, _-_, _^_, _≤_, _<_}
+use native.Mathlib.Omega.{arith}
 use lib.Dec.{ltb, eqb}
 use lib.ListN.{length, drop, length-drop}
 use borrow.Author.Tests.{leb-true, ltb-true, eqb-true, eq-eqb}
 use Rattle.tlv.specs.Lists.{All}
 use Rattle.tlv.specs.Bytes.{Bytes, leAt}
 use Rattle.tlv.specs.Limits.{fieldLimit, stringLimit, depthLimit}
-use Rattle.tlv.specs.Fields.{Field, payloads, payloadOf}
+use Rattle.tlv.specs.Fields.{Field, headOf, payloads, payloadOf}
 use Rattle.tlv.specs.Grammar.{Context, mayFollow, payloadShaped, payloadLimited, shaped, limited, next, unitShaped, rowShaped, entryShaped}
 use Rattle.tlv.specs.Model.{rangeOf, directoryOf, fileOf, rowOf, attributeOf, entryRangeOf, failureOf}
 use Rattle.tlv.specs.Accepted.{Small, String, Given, AttributeAccepted, FailureAccepted, RowAccepted}
-use Rattle.tlv.proofs.AcceptedLists.{all-drop, given-head, leAt-bound, and-left, and-right}
+use Rattle.tlv.proofs.TestLaws.{by-test, and-left, and-right}
+use Rattle.tlv.proofs.ListLaws.{all-drop}
+use Rattle.tlv.proofs.ByteLaws.{leAt-bound}
 
 -- ---- fields that pass, one after the other
 
@@ -43,22 +46,26 @@ module _ (c : Context) (f : Field) (t : ℕ) (is : f .tag ≡ t) (h : Passed c f
 
 -- the fields of a tag have what is promised of it
 module _ (t : ℕ) (Q : List ℕ → Type 0) (promise : Promised t Q) where
-  one-more : (c : Context) (f : Field) (ps : List (List ℕ)) (b : Bool) → eqb (f .tag) t ≡ b → Passed c f → All Q ps → All Q (cond b (f .payload ∷ ps) ps)
-  one-more c f ps true e h rest =
-      let is = eqb-true (f .tag) t e in
-      (promise c (f .payload) (h .bytes) (shape-is c f t is h) (limit-is c f t is h), rest)
-  one-more c f ps false e h rest = rest
-
   pub promised-all : (c : Context) (fs : List Field) → AllPassed c fs → All Q (payloads t fs)
   unfolding payloads
   promised-all c [] h = tt
-  promised-all c (f ∷ fs) h = one-more c f (payloads t fs) (eqb (f .tag) t) refl (h .0) (promised-all (next c f) fs (h .1))
+  promised-all c (f ∷ fs) h =
+      let later = promised-all (next c f) fs (h .1) in
+      by-test (All Q) (eqb (f .tag) t)
+      (λ e. let is = eqb-true (f .tag) t e in (promise c (f .payload) (h .0 .bytes) (shape-is c f t is (h .0)) (limit-is c f t is (h .0)), later)) (λ e. later)
 
   pub promised-first : (c : Context) (fs : List Field) → AllPassed c fs → Given Q (payloadOf t fs)
   unfolding payloadOf
-  promised-first c fs h = given-head Q (payloads t fs) (promised-all c fs h)
+  promised-first c fs h = go (payloads t fs) (promised-all c fs h)
+    where
+      go : (ps : List (List ℕ)) → All Q ps → Given Q (headOf ps)
+      go [] k = tt
+      go (p ∷ ps) k = k .0
 
 -- ---- the promises
+
+pub no-string : String []
+no-string = (tt, omega arith)
 
 -- what is left of a payload after its first k bytes is a string
 rest-string : (k : ℕ) (p : List ℕ) → Bytes p → length p - k ≤ stringLimit → String (drop k p)

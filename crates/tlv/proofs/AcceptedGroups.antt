@@ -3,16 +3,17 @@ use mathlib.Core.Path.{_≡_, refl}
 use mathlib.Core.Bool.{Bool, true, false, cond}
 use mathlib.Core.List.{List, [], _∷_}
 use Prim.Native.Nat.{ℕ, zero, suc, _<_}
-use native.Mathlib.Omega.{arith}
 use lib.Dec.{leb, eqb}
-use lib.ListN.{length, take}
+use lib.ListN.{length}
 use borrow.Author.Tests.{eqb-true, eqb-false}
 use Rattle.tlv.specs.Outcome.{Outcome, refused, done}
 use Rattle.tlv.specs.Lists.{All}
 use Rattle.tlv.specs.Bytes.{Bytes, le}
 use Rattle.tlv.specs.Fields.{Field, FieldList, end, cut, more, fieldsFrom, wholeFields, Group, Groups, grouped}
 use Rattle.tlv.specs.Grammar.{Context, shaped, limited, next, checkFrom}
-use Rattle.tlv.proofs.AcceptedLists.{all-take}
+use Rattle.tlv.proofs.TestLaws.{by-test}
+use Rattle.tlv.proofs.ListLaws.{all-take}
+use Rattle.tlv.proofs.OutcomeLaws.{refused-not}
 use Rattle.tlv.proofs.AcceptedFields.{Passed, AllPassed}
 
 -- ---- the fields of a sheet
@@ -20,11 +21,6 @@ use Rattle.tlv.proofs.AcceptedFields.{Passed, AllPassed}
 -- the payload is of bytes
 abbrev pub OfBytes : Field → Type 0
 OfBytes f = Bytes (f .payload)
-
-whole-or-cut : (b : Bool) (f : Field) (fs : FieldList) → OfBytes f → All OfBytes (wholeFields fs) → All OfBytes (wholeFields (cond b (more f fs) cut))
-unfolding wholeFields
-whole-or-cut true f fs h rest = (h, rest)
-whole-or-cut false f fs h rest = tt
 
 pub fields-bytes : (k : ℕ) (s : List ℕ) → Bytes s → All OfBytes (wholeFields (fieldsFrom k s))
 unfolding fieldsFrom wholeFields
@@ -34,18 +30,15 @@ fields-bytes zero (t ∷ a ∷ []) h = tt
 fields-bytes zero (t ∷ a ∷ b ∷ rest) h =
     let n : ℕ = le (a ∷ b ∷ []) in
     let after : Bytes rest = h .1 .1 .1 in
-    whole-or-cut (leb n (length rest)) (record { tag = t; payload = take n rest }) (fieldsFrom n rest) (all-take (λ x. x < 256) n rest after) (fields-bytes n rest after)
+    by-test (λ (fs : FieldList). All OfBytes (wholeFields fs)) (leb n (length rest)) (λ e. (all-take (λ x. x < 256) n rest after, fields-bytes n rest after)) (λ e. tt)
 fields-bytes (suc k) [] h = tt
 fields-bytes (suc k) (x ∷ rest) h = fields-bytes k rest (h .1)
-
-never : (k n : ℕ) → _≡_ {A = Outcome ℕ} (refused k) (done n) → ⊥
-never k n e = let z : _≡_ {A = ℕ} 0 1 = cc in omega arith
 
 -- a check that is done has passed its field
 passed-both : (a b : Bool) (o : Outcome ℕ) (n : ℕ) → cond a (cond b o (refused 3)) (refused 2) ≡ done n → (a ≡ true) × (b ≡ true) × (o ≡ done n)
 passed-both true true o n e = (refl, refl, e)
-passed-both true false o n e = absurd (never 3 n e)
-passed-both false b o n e = absurd (never 2 n e)
+passed-both true false o n e = refused-not e
+passed-both false b o n e = refused-not e
 
 pub checked-passed : (c : Context) (fs : FieldList) (n : ℕ) → All OfBytes (wholeFields fs) → checkFrom c fs ≡ done n → AllPassed c (wholeFields fs)
 unfolding wholeFields checkFrom

@@ -13,7 +13,7 @@ use Rattle.tlv.specs.Fields.{Field, Group, Groups, grouped, fields, whol
 use Rattle.tlv.specs.Grammar.{Context, start, next, checkSheet}
 use Rattle.tlv.specs.Model.{rangeOf, directoryOf, fileOf, rowOf, attributeOf, entryRangeOf, failureOf, entryOf, unitOf, units}
 use Rattle.tlv.specs.Accepted.{Small, String, AttributeAccepted, FailureAccepted, RowAccepted, EntryAccepted, Ordered, UnitAccepted, Accepting}
-use Rattle.tlv.proofs.AcceptedLists.{all-map, given-map}
+use Rattle.tlv.proofs.ListLaws.{all-map, all-image, given-image}
 use Rattle.tlv.proofs.AcceptedFields.{Passed, AllPassed, shape-is, limit-is, promised-all, promised-first}
 use Rattle.tlv.proofs.AcceptedFields.{unit-promise, directory-promise, text-promise, directories-promise, file-promise, file-zero-promise}
 use Rattle.tlv.proofs.AcceptedFields.{row-promise, attribute-promise, range-promise, failure-promise, entry-from, entry-within, entry-step, entry-depth}
@@ -54,9 +54,9 @@ entry-accepted c g is h rest =
     record {
       offset = entry-within c (f .payload) (shape-is c f 0x17 is h);
       depth = entry-depth c (f .payload) (limit-is c f 0x17 is h);
-      attributes = all-map AttributeAccepted attributeOf (payloads 0x18 r) (promised-all 0x18 _ attribute-promise c′ r rest);
-      ranges = all-map (λ x. Small (x .range)) entryRangeOf (payloads 0x19 r) (promised-all 0x19 _ range-promise c′ r rest);
-      failure = given-map FailureAccepted failureOf (payloadOf 0x1a r) (promised-first 0x1a _ failure-promise c′ r rest);
+      attributes = all-image AttributeAccepted attributeOf (payloads 0x18 r) (promised-all 0x18 _ attribute-promise c′ r rest);
+      ranges = all-image (λ x. Small (x .range)) entryRangeOf (payloads 0x19 r) (promised-all 0x19 _ range-promise c′ r rest);
+      failure = given-image FailureAccepted failureOf (payloadOf 0x1a r) (promised-first 0x1a _ failure-promise c′ r rest);
     }
 
 module _ (c : Context) (f : Field) (g : Groups) where
@@ -103,23 +103,20 @@ unit-accepted g h =
       within = unit-promise c (f .payload) (h .head .bytes)
           (shape-is c f 0x10 (h .tag) (h .head)) (limit-is c f 0x10 (h .tag) (h .head));
       directory = promised-first 0x11 _ directory-promise c′ own o;
-      text = all-map Small rangeOf (payloads 0x12 own) (promised-all 0x12 _ text-promise c′ own o);
-      directories = all-map (λ d. String (d .path)) directoryOf (payloads 0x14 own) (promised-all 0x14 _ directories-promise c′ own o);
-      fileZero = given-map (λ d. String (d .path)) fileOf (payloadOf 0x1c own) (promised-first 0x1c _ file-zero-promise c′ own o);
-      files = all-map (λ d. String (d .path)) fileOf (payloads 0x15 own) (promised-all 0x15 _ file-promise c′ own o);
-      rows = all-map RowAccepted rowOf (payloads 0x16 own) (promised-all 0x16 _ row-promise c′ own o);
+      text = all-image Small rangeOf (payloads 0x12 own) (promised-all 0x12 _ text-promise c′ own o);
+      directories = all-image (λ d. String (d .path)) directoryOf (payloads 0x14 own) (promised-all 0x14 _ directories-promise c′ own o);
+      fileZero = given-image (λ d. String (d .path)) fileOf (payloadOf 0x1c own) (promised-first 0x1c _ file-zero-promise c′ own o);
+      files = all-image (λ d. String (d .path)) fileOf (payloads 0x15 own) (promised-all 0x15 _ file-promise c′ own o);
+      rows = all-image RowAccepted rowOf (payloads 0x16 own) (promised-all 0x16 _ row-promise c′ own o);
       few = simp length-map (few-payloads 0x16 c′ own o);
       entries = es .each;
       ordered = es .ordered;
     }
 
-all-units : (gs : List Group) → All (Passage 0x10) gs → All UnitAccepted (map unitOf gs)
-all-units [] h = tt
-all-units (g ∷ gs) h = (unit-accepted g (h .0), all-units gs (h .1))
-
 -- a sheet of bytes that the grammar accepts has only units with the promised bounds, order and limits
 pub accepting : Accepting
 unfolding checkSheet units
 accepting s n b e =
-    all-units (grouped 0x10 (wholeFields (fields s)) .groups)
-    (grouped-passed 0x10 start (wholeFields (fields s)) (checked-passed start (fields s) n (fields-bytes 0 s b) e) .groups)
+    let gs = grouped 0x10 (wholeFields (fields s)) .groups in
+    let passed = grouped-passed 0x10 start (wholeFields (fields s)) (checked-passed start (fields s) n (fields-bytes 0 s b) e) in
+    all-image UnitAccepted unitOf gs (all-map gs unit-accepted (passed .groups))

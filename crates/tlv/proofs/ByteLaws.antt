@@ -1,12 +1,13 @@
--- What is written as the bytes of a number is read back as that number, also behind other bytes. Assumes nothing.
+-- What is written as the bytes of a number is read back as that number, also behind other bytes; and how large a number of bytes is. Assumes nothing.
 use mathlib.Core.Path.{_≡_, refl, ap}
 use mathlib.Core.List.{List, [], _∷_, _++_, append-nil}
 use Prim.Native.Nat.{ℕ, zero, suc, _+_, _/_, _^_, _<_}
 use native.Mathlib.Nat.{pow-succ'}
 use native.Mathlib.Omega.{arith}
-use lib.ListN.{length, drop}
+use lib.ListN.{length, take, drop}
 use lib.Seq.{take-at, drop-append-add}
-use Rattle.tlv.specs.Bytes.{le, bytesOf, leAt}
+use Rattle.tlv.specs.Bytes.{Bytes, le, bytesOf, leAt}
+use Rattle.tlv.proofs.ListLaws.{all-drop}
 
 -- a number that fits k bytes is the number of its k bytes
 pub le-bytesOf : (k n : ℕ) → n < 256 ^ k → le (bytesOf k n) ≡ n
@@ -38,11 +39,6 @@ pub leAt-next : (j k n p : ℕ) (rest : List ℕ) → leAt j (bytesOf k n ++ res
 unfolding leAt
 leAt-next j k n p rest = rw (drop-bytesOf k n p rest)
 
--- stepping over any bytes
-pub leAt-past : (k : ℕ) (a b : List ℕ) (p : ℕ) → leAt k (a ++ b) (length a + p) ≡ leAt k b p
-unfolding leAt
-leAt-past k a b p = rw (drop-append-add a b p)
-
 -- the byte at the start, and what follows it
 pub leAt-byte : (b : ℕ) (rest : List ℕ) → leAt 1 (b ∷ rest) 0 ≡ b
 unfolding leAt
@@ -51,3 +47,15 @@ leAt-byte b rest = omega arith
 pub leAt-tail : (k b p : ℕ) (rest : List ℕ) → leAt k (b ∷ rest) (suc p) ≡ leAt k rest p
 unfolding leAt
 leAt-tail k b p rest = refl
+
+-- ---- how large a number is
+
+le-take-bound : (k : ℕ) (s : List ℕ) → Bytes s → le (take k s) < 256 ^ k
+le-take-bound zero s h = omega arith
+le-take-bound (suc k) [] h = omega (arith, pow-succ' 256 k, le-take-bound k [] tt)
+le-take-bound (suc k) (b ∷ s) h = omega (arith, pow-succ' 256 k, h .0, le-take-bound k s (h .1))
+
+-- a number of k bytes is below 256 ^ k
+pub leAt-bound : (k : ℕ) (s : List ℕ) (p : ℕ) → Bytes s → leAt k s p < 256 ^ k
+unfolding leAt
+leAt-bound k s p h = le-take-bound k (drop p s) (all-drop (λ b. b < 256) p s h)

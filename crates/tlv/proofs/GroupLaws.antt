@@ -7,15 +7,16 @@ use lib.Dec.{eqb}
 use borrow.Author.Tests.{eq-eqb}
 use Rattle.tlv.specs.Lists.{All}
 use Rattle.tlv.specs.Fields.{Field, grouped, payloads}
+use Rattle.tlv.proofs.ListLaws.{all-append}
 use Rattle.tlv.proofs.FieldLaws.{fieldsOfEach, tagged}
 
--- none of the fields has the tag t
-abbrev pub Lacks : ℕ → List Field → Type 0
-Lacks t xs = All (λ f. eqb (f .tag) t ≡ false) xs
+-- the field has another tag than t
+abbrev pub Other : ℕ → Field → Type 0
+Other t f = eqb (f .tag) t ≡ false
 
-pub lacks-append : (t : ℕ) (xs ys : List Field) → Lacks t xs → Lacks t ys → Lacks t (xs ++ ys)
-lacks-append t [] ys h k = k
-lacks-append t (x ∷ xs) ys h k = (h .0, lacks-append t xs ys (h .1) k)
+-- every field has
+abbrev pub Lacks : ℕ → List Field → Type 0
+Lacks t xs = All (Other t) xs
 
 -- ---- groups
 
@@ -70,4 +71,4 @@ module _ {A : Type 0} where
 
   pub lacks-each : (t : ℕ) (g : A → List Field) (xs : List A) → ((x : A) → Lacks t (g x)) → Lacks t (fieldsOfEach g xs)
   lacks-each t g [] h = tt
-  lacks-each t g (x ∷ xs) h = lacks-append t (g x) (fieldsOfEach g xs) (h x) (lacks-each t g xs h)
+  lacks-each t g (x ∷ xs) h = all-append (Other t) (g x) (fieldsOfEach g xs) (h x) (lacks-each t g xs h)

@@ -1,4 +1,8 @@
+pub mod TestLaws
 pub mod ListLaws
+pub mod PlaceLaws
+pub mod SortLaws
+pub mod OutcomeLaws
 pub mod ByteLaws
 pub mod FieldLaws
 pub mod GroupLaws
@@ -7,7 +11,6 @@ pub mod RecordFields
 pub mod RecordGroups
 pub mod RecordForm
 pub mod ReadBack
-pub mod AcceptedLists
 pub mod AcceptedFields
 pub mod AcceptedGroups
 pub mod AcceptedCounts

@@ -2,7 +2,7 @@
 use mathlib.Core.Path.{_≡_, refl}
 use mathlib.Core.Logic.{_⊎_, inl, inr, _≢_}
 use mathlib.Core.List.{List, [], _∷_, _++_}
-use mathlib.Core.Bool.{Bool, true, false, _||_, not}
+use mathlib.Core.Bool.{true, _||_, not, or-true}
 use Prim.Native.Nat.{ℕ, suc, _≤_}
 use native.Mathlib.Omega.{arith}
 use native.Mathlib.Numerals.{add-one}
@@ -41,10 +41,6 @@ function-formed d r name h =
 
 deep-enough : (d n : ℕ) → (d ≡ 0) ⊎ (1 ≤ n) → (leb 1 n || eqb d 0) ≡ true
 deep-enough d n (inl e) = rw (eq-eqb d 0 e) (or-true (leb 1 n))
-  where
-    or-true : (b : Bool) → (b || true) ≡ true
-    or-true true = refl
-    or-true false = refl
 deep-enough d n (inr h) = rw (le-leb 1 n h)
 
 node-formed : (d : ℕ) (n : InlineNode) → NodeFits d n → recordsFormed d 0x43 (nodePayload n) ≡ true

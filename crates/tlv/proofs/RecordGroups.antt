@@ -10,9 +10,9 @@ use Rattle.tlv.specs.Output.{InlineNode, CallSite, Function, rowPayload,
 use Rattle.tlv.specs.Reader.{lineOf, nodeOf, siteOf, functionOf}
 use Rattle.tlv.specs.Fits.{NodeFits, NodesFit, FunctionFits}
 use Rattle.tlv.proofs.FieldLaws.{fieldsOfEach}
-use Rattle.tlv.proofs.GroupLaws.{Lacks, lacks-append, lacks-tagged, lacks-each, grouped-head, grouped-lacking, grouped-none, payloads-append, payloads-lacking, payloads-behind, payloads-tagged}
+use Rattle.tlv.proofs.GroupLaws.{Other, Lacks, lacks-tagged, lacks-each, grouped-head, grouped-lacking, grouped-none, payloads-append, payloads-lacking, payloads-behind, payloads-tagged}
 use Rattle.tlv.proofs.PayloadLaws.{row-back, range-back, site-back, function-name, function-range, node-name, node-depth, node-file, node-line}
-use Rattle.tlv.proofs.ListLaws.{map-back}
+use Rattle.tlv.proofs.ListLaws.{all-append, map-back}
 use Rattle.tlv.proofs.RecordFields.{rowFields, rangeFields, siteFields, nodeFields, nodesFields, headField, bodyFields, functionFields}
 
 -- ---- the nodes, by their groups
@@ -50,8 +50,8 @@ nodes-lack t ns h k = lacks-each t nodeFields ns (λ n. (h, lacks-tagged t 0x44 
 
 body-lacks : (f : Function) → Lacks 0x41 (bodyFields f)
 body-lacks f =
-    lacks-append 0x41 (rowFields (f .lines)) (nodesFields (f .inline) ++ siteFields (f .callSites)) (lacks-tagged 0x41 0x42 rowPayload (f .lines) refl)
-    (lacks-append 0x41 (nodesFields (f .inline)) (siteFields (f .callSites)) (nodes-lack 0x41 (f .inline) refl refl) (lacks-tagged 0x41 0x45 sitePayload (f .callSites) refl))
+    all-append (Other 0x41) (rowFields (f .lines)) (nodesFields (f .inline) ++ siteFields (f .callSites)) (lacks-tagged 0x41 0x42 rowPayload (f .lines) refl)
+    (all-append (Other 0x41) (nodesFields (f .inline)) (siteFields (f .callSites)) (nodes-lack 0x41 (f .inline) refl refl) (lacks-tagged 0x41 0x45 sitePayload (f .callSites) refl))
 
 abbrev pub functionGroup : Function → Group
 functionGroup f = record { head = headField f; rest = bodyFields f }
@@ -66,7 +66,7 @@ module _ (f : Function) (h : FunctionFits f) where
   lines-back : map lineOf (payloads 0x42 (bodyFields f)) ≡ f .lines
   lines-back =
       let after = nodesFields (f .inline) ++ siteFields (f .callSites) in
-      let other = lacks-append 0x42 (nodesFields (f .inline)) (siteFields (f .callSites)) (nodes-lack 0x42 (f .inline) refl refl) (lacks-tagged 0x42 0x45 sitePayload (f .callSites) refl) in
+      let other = all-append (Other 0x42) (nodesFields (f .inline)) (siteFields (f .callSites)) (nodes-lack 0x42 (f .inline) refl refl) (lacks-tagged 0x42 0x45 sitePayload (f .callSites) refl) in
       rw (payloads-append 0x42 (rowFields (f .lines)) after, payloads-lacking 0x42 after other, append-nil (payloads 0x42 (rowFields (f .lines))), payloads-tagged 0x42 rowPayload (f .lines))
       (map-back lineOf rowPayload (f .lines) row-back (h .lines))
 
