@@ -7,11 +7,11 @@ use Prim.Native.Nat.{ℕ, _<_}
 use native.Mathlib.Omega.{arith}
 use Rattle.tlv.specs.declared.model.AddressRange.{AddressRange}
 use Rattle.dwarf.specs.Agree.{ParentOf, Kept, Ancestor, parent, further, Nearest, subprogram, kept-one, past-one}
-use Rattle.dwarf.proofs.ListUnique.{parent-unique}
+use Rattle.dwarf.proofs.Unique.{parent-unique}
 
 module _ (depth : ℕ → ℕ) (s : ℕ) where
   -- an entry's parent that stands after the subprogram is below it, where the entry is
-  parent-under : {i p : ℕ} → Ancestor depth i s → ParentOf depth i p → s < p → Ancestor depth p s
+  pub parent-under : {i p : ℕ} → Ancestor depth i s → ParentOf depth i p → s < p → Ancestor depth p s
   parent-under {i} {p} (parent q) r g = let z : s ≡ p = parent-unique depth q r in absurd (omega arith)
   parent-under (further q t) r g = subst (λ (x : ℕ). Ancestor depth x s) (parent-unique depth q r) t
 
