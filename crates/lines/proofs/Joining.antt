@@ -1,4 +1,5 @@
 -- Joining paths: which are absolute, what stands below a directory, and the path that a directory and a basename stand for. Assumes nothing.
+use mathlib.Core.Logic.{_≢_}
 use mathlib.Core.Path.{_≡_, refl, sym, ap, _∙_}
 use mathlib.Core.Bool.{Bool, true, false, cond, _||_, not, true≢false, or-false}
 use mathlib.Core.List.{List, [], _∷_, _++_, append-assoc}
@@ -11,7 +12,7 @@ use Rattle.tlv.specs.Output.{FileEntry}
 use Rattle.tlv.proofs.TestLaws.{by-test, same-true}
 use Rattle.lines.specs.Standard.{slash, isFull, relativeTo}
 use Rattle.lines.specs.Paths.{startsWith, endsWith, isAbsolute, appendPath, basenameOf, directoryName}
-use Rattle.lines.specs.Conforms.{pathOf, Unix, Open}
+use Rattle.lines.specs.Conforms.{pathIn, pathOf, Unix, Open}
 use Rattle.lines.proofs.LastSlash.{Split, nowhere, first, later, split}
 
 -- ---- absolute paths
@@ -85,18 +86,24 @@ relative-open c (b ∷ s) o n = by-test Open (eqb b slash) (λ e. n) (λ e. open
 
 -- ---- the path that a file of the table stands for
 
+root-same : (d : List ℕ) → same d (slash ∷ []) ≡ false → d ≢ slash ∷ []
+unfolding same
+root-same d q e = true≢false (sym (ap (λ (x : List ℕ). same x (slash ∷ [])) e) ∙ q)
+
+path-in : (b : ℕ) (d base : List ℕ) → b ∷ d ≢ slash ∷ [] → pathIn (b ∷ d) base ≡ (b ∷ d) ++ (slash ∷ base)
+path-in b d base n = go (same (b ∷ d) (slash ∷ [])) refl
+  where
+    go : (t : Bool) → same (b ∷ d) (slash ∷ []) ≡ t → cond t (slash ∷ base) ((b ∷ d) ++ (slash ∷ base)) ≡ (b ∷ d) ++ (slash ∷ base)
+    go true q = absurd (n (same-true (b ∷ d) (slash ∷ []) q))
+    go false q = refl
+
 module _ (e : FileEntry) where
-  pub path-root : e .directory ≡ slash ∷ [] → pathOf e ≡ slash ∷ e .basename
+  path-root : e .directory ≡ slash ∷ [] → pathOf e ≡ slash ∷ e .basename
   unfolding same
   path-root q = rw q
 
-  pub path-other : (e .directory ≡ slash ∷ [] → ⊥) → pathOf e ≡ e .directory ++ (slash ∷ e .basename)
-  path-other n = go (same (e .directory) (slash ∷ [])) refl
-    where
-      go : (t : Bool) → same (e .directory) (slash ∷ []) ≡ t
-          → cond t (slash ∷ e .basename) (e .directory ++ (slash ∷ e .basename)) ≡ e .directory ++ (slash ∷ e .basename)
-      go true q = absurd (n (same-true (e .directory) (slash ∷ []) q))
-      go false q = refl
+  path-other : (b : ℕ) (d : List ℕ) → e .directory ≡ b ∷ d → e .directory ≢ slash ∷ [] → pathOf e ≡ e .directory ++ (slash ∷ e .basename)
+  path-other b d q n = rw q (path-in b d (e .basename) (λ r. n (q ∙ r)))
 
 -- the parts of a full path stand for it
 pub path-full : (p : List ℕ) → isFull p ≡ true → (directoryName p ≡ slash ∷ [] → p ≡ slash ∷ basenameOf p)
@@ -106,15 +113,14 @@ path-full p f single = go (split p)
     e : FileEntry
     e = record { directory = directoryName p; basename = basenameOf p }
 
-    either : (t : Bool) → same (directoryName p) (slash ∷ []) ≡ t → p ≡ directoryName p ++ (slash ∷ basenameOf p)
-        → p ≡ cond t (slash ∷ basenameOf p) (directoryName p ++ (slash ∷ basenameOf p))
-    either true q h = single (same-true (directoryName p) (slash ∷ []) q)
-    either false q h = h
+    either : (a : ℕ) (l : List ℕ) → directoryName p ≡ a ∷ l → p ≡ directoryName p ++ (slash ∷ basenameOf p) → (t : Bool) → same (directoryName p) (slash ∷ []) ≡ t → p ≡ pathOf e
+    either a l d h true q = let r = same-true (directoryName p) (slash ∷ []) q in single r ∙ sym (path-root e r)
+    either a l d h false q = h ∙ sym (path-other e a l d (root-same (directoryName p) q))
 
     go : Split p → p ≡ pathOf e
     go (nowhere g d b) = absurd (true≢false (sym f ∙ g))
     go (first d b) = b ∙ sym (path-root e d)
-    go (later a l d b) = either (same (directoryName p) (slash ∷ [])) refl (b ∙ ap (λ (x : List ℕ). x ++ (slash ∷ basenameOf p)) (sym d))
+    go (later a l d b) = either a l d (b ∙ ap (λ (x : List ℕ). x ++ (slash ∷ basenameOf p)) (sym d)) (same (directoryName p) (slash ∷ [])) refl
 
 -- the parts of another path, below a directory, stand for the path relative to it
 pub path-below : (d p : List ℕ) → Open d → isFull p ≡ false → relativeTo d p ≡ pathOf (record { directory = appendPath d (directoryName p); basename = basenameOf p })
@@ -124,13 +130,21 @@ path-below d p o f = rw f (go (split p))
     e : FileEntry
     e = record { directory = appendPath d (directoryName p); basename = basenameOf p }
 
+    filled-other : (x : List ℕ) → e .directory ≡ x → e .directory ≢ slash ∷ [] → Open x → pathOf e ≡ e .directory ++ (slash ∷ e .basename)
+    filled-other [] q n o′ = absurd (o′ .filled refl)
+    filled-other (b ∷ l) q n o′ = path-other e b l q n
+
+    append-other : (x y : List ℕ) → e .directory ≡ x ++ (slash ∷ y) → e .directory ≢ slash ∷ [] → pathOf e ≡ e .directory ++ (slash ∷ e .basename)
+    append-other [] y q n = path-other e slash y q n
+    append-other (b ∷ l) y q n = path-other e b (l ++ (slash ∷ y)) q n
+
     go : Split p → d ++ (slash ∷ p) ≡ pathOf e
     go (nowhere g n b) =
         let q : appendPath d (directoryName p) ≡ d = ap (appendPath d) n ∙ append-none d in
-        sym (path-other e (λ r. open-root o (sym q ∙ r)) ∙ (λ i. q i ++ (slash ∷ b i)))
+        sym (filled-other d q (λ r. open-root o (sym q ∙ r)) o ∙ (λ i. q i ++ (slash ∷ b i)))
     go (first n b) = absurd (true≢false (sym (ap isFull b) ∙ f))
     go (later a l n b) =
         let q : appendPath d (directoryName p) ≡ d ++ (slash ∷ a ∷ l) = ap (appendPath d) n ∙ append-below d a l o (sym (ap isFull b) ∙ f) in
         let z : d ++ (slash ∷ a ∷ l) ≡ slash ∷ [] → ⊥ = λ r. omega (arith, ap length r, length-append d (slash ∷ a ∷ l)) in
         ap (λ (x : List ℕ). d ++ (slash ∷ x)) b
-        ∙ sym (path-other e (λ r. z (sym q ∙ r)) ∙ ap (λ (x : List ℕ). x ++ (slash ∷ basenameOf p)) q ∙ append-assoc d (slash ∷ a ∷ l) (slash ∷ basenameOf p))
+        ∙ sym (append-other d (a ∷ l) q (λ r. z (sym q ∙ r)) ∙ ap (λ (x : List ℕ). x ++ (slash ∷ basenameOf p)) q ∙ append-assoc d (slash ∷ a ∷ l) (slash ∷ basenameOf p))

@@ -69,9 +69,14 @@ Programs = (h : Opcodes) → DeclaresStandard h → ProgramConforms h
 
 -- ---- paths: joining is the Standard's outside named cases
 
+-- a directory and a basename as one path
+abbrev pub pathIn : List ℕ → List ℕ → List ℕ
+pathIn [] basename = basename
+pathIn (b ∷ directory) basename = cond (same (b ∷ directory) (slash ∷ [])) (slash ∷ basename) ((b ∷ directory) ++ (slash ∷ basename))
+
 -- the path that a file of the table stands for
 abbrev pub pathOf : FileEntry → List ℕ
-pathOf e = cond (same (e .directory) (slash ∷ [])) (slash ∷ e .basename) (e .directory ++ (slash ∷ e .basename))
+pathOf e = pathIn (e .directory) (e .basename)
 
 -- no Windows path
 pub record Unix (p : List ℕ) : Type 0 where
