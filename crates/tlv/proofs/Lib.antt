@@ -16,3 +16,6 @@ pub mod AcceptedGroups
 pub mod AcceptedCounts
 pub mod AcceptedUnits
 pub mod RefusalLaws
+pub mod WidthLaws
+pub mod TrayLaws
+pub mod OutputLaws

@@ -10,3 +10,4 @@ pub mod Output
 pub mod Reader
 pub mod Fits
 pub mod Accepted
+pub mod Tray

@@ -1,2 +1,4 @@
 // Type-length-value fields: what a sheet says, and what the trays are given.
+pub mod bytes;
 pub mod model;
+pub mod output;
