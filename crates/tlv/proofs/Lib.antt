@@ -19,3 +19,7 @@ pub mod RefusalLaws
 pub mod WidthLaws
 pub mod TrayLaws
 pub mod OutputLaws
+pub mod ChunkLaws
+pub mod TableLaws
+pub mod RecordLaws
+pub mod ZeroLaws

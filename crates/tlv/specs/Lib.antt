@@ -11,3 +11,4 @@ pub mod Reader
 pub mod Fits
 pub mod Accepted
 pub mod Tray
+pub mod Table

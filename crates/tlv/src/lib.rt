@@ -2,3 +2,4 @@
 pub mod bytes;
 pub mod model;
 pub mod output;
+pub mod table;

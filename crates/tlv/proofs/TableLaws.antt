@@ -1,0 +1,178 @@
+-- What stays where bytes are written, and what the writes promise: a number by its halves, a record copied byte by byte. Assumes nothing.
+use mathlib.Core.Path.{_≡_, refl, sym, ap, _∙_}
+use mathlib.Core.Logic.{_⊎_, inl, inr, ⊎-elim}
+use mathlib.Core.List.{List, [], _∷_, _++_}
+use Prim.Native.Nat.{ℕ, zero, suc, _+_, _*_, _/_, _%_, _^_, _≤_, _<_}
+use native.Mathlib.Nat.{add-zero, mod-add-div, mul-le-mul-right}
+use native.Mathlib.Numerals.{add-one}
+use native.Mathlib.Omega.{arith}
+use lib.ListN.{length, take, drop, set, getD, length-set, length-drop}
+use lib.Seq.{length-take-le, take-suc, take-all}
+use Rattle.tlv.specs.Bytes.{bytesOf, leAt}
+use Rattle.tlv.specs.Tray.{overlay}
+use Rattle.tlv.specs.Table.{chunk, Apart, Kept, Clear, KeptBut, Wrote, CopiedBytes}
+use Rattle.tlv.proofs.ByteLaws.{le-bytesOf, length-bytesOf}
+use Rattle.tlv.proofs.WidthLaws.{leAt-add, bytesOf-add}
+use Rattle.tlv.proofs.TrayLaws.{length-overlay, overlay-append}
+use Rattle.tlv.proofs.ChunkLaws.{chunk-length, chunk-byte, chunk-over, chunk-behind, chunk-before, overlay-snoc, leAt-is, part-back}
+
+-- ---- where the records stand
+
+pub le-or-lt : (a b : ℕ) → (a ≤ b) ⊎ (b < a)
+le-or-lt zero b = inl (omega arith)
+le-or-lt (suc a) zero = inr (omega arith)
+le-or-lt (suc a) (suc b) = ⊎-elim (λ l. inl (omega arith)) (λ l. inr (omega arith)) (le-or-lt a b)
+
+-- record i lies within the n records
+pub inside : (i n s : ℕ) → i < n → i * s + s ≤ n * s
+inside i n s h = omega (arith, mul-le-mul-right s h)
+
+-- two records of one table lie apart
+pub apart-of : (b i j s : ℕ) → ((i ≡ j) → ⊥) → Apart (b + i * s) s (b + j * s) s
+apart-of b i j s h = go (le-or-lt i j)
+  where
+    go : (i ≤ j) ⊎ (j < i) → Apart (b + i * s) s (b + j * s) s
+    go (inl l) = let l' : i < j = omega arith in inl (omega (arith, inside i j s l'))
+    go (inr l) = inr (omega (arith, inside j i s l))
+
+-- record x of a table that lies apart lies apart
+pub apart-record : (s b n q m x : ℕ) → Apart b (n * s) q m → x < n → Apart (b + x * s) s q m
+apart-record s b n q m x a h = ⊎-elim (λ l. inl (omega (arith, inside x n s h))) (λ l. inr (omega arith)) a
+
+pub clear-record : (s b n x : ℕ) (rs : List (ℕ × ℕ)) → Clear b (n * s) rs → x < n → Clear (b + x * s) s rs
+clear-record s b n x [] c h = tt
+clear-record s b n x (r ∷ rs) c h = (apart-record s b n (r .0) (r .1) x (c .0) h, clear-record s b n x rs (c .1) h)
+
+-- ---- one stretch may have changed
+
+pub kept-refl : (w : List ℕ) (p m : ℕ) → Kept w w p m
+kept-refl w p m = record { same = λ q k a. refl }
+
+pub kept-trans : {w w′ w″ : List ℕ} {p m : ℕ} → Kept w w′ p m → Kept w′ w″ p m → Kept w w″ p m
+kept-trans K L = record { same = λ q k a. L .same q k a ∙ K .same q k a }
+
+-- a wider stretch
+pub kept-wide : {w w′ : List ℕ} {p m : ℕ} (p′ m′ : ℕ) → Kept w w′ p m → p′ ≤ p → p + m ≤ p′ + m′ → Kept w w′ p′ m′
+kept-wide p′ m′ K h g = record { same = λ q k. ⊎-elim (λ a. K .same q k (inl (omega arith))) (λ a. K .same q k (inr (omega arith))) }
+
+-- bytes laid over change no others
+pub kept-over : (p : ℕ) (bs w : List ℕ) (m : ℕ) → length bs ≡ m → Kept w (overlay p bs w) p m
+kept-over p bs w m e = record { same = λ q k. ⊎-elim (λ h. chunk-before p bs w q k h) (λ h. chunk-behind p bs w q k (omega arith)) }
+
+-- a byte that lies apart, and a number
+pub byte-kept : {w w′ : List ℕ} {p m : ℕ} (q : ℕ) → Kept w w′ p m → Apart q 1 p m → getD w′ q 0 ≡ getD w q 0
+byte-kept {w} {w′} q K a = sym (at-start w′) ∙ ap (λ (c : List ℕ). getD c 0 0) (K .same q 1 a) ∙ at-start w
+  where
+    at-start : (l : List ℕ) → getD (chunk l q 1) 0 0 ≡ getD l q 0
+    at-start l = rw add-zero at (chunk-byte l q 1 0 (omega arith))
+
+pub leAt-kept : {w w′ : List ℕ} {p m : ℕ} (k q : ℕ) → Kept w w′ p m → Apart q k p m → leAt k w′ q ≡ leAt k w q
+leAt-kept {w} {w′} k q K a = rw (leAt-is k w′ q, leAt-is k w q, K .same q k a)
+
+-- all that lies before, and all that lies behind
+pub take-kept : {w w′ : List ℕ} {p m : ℕ} → Kept w w′ p m → take p w′ ≡ take p w
+unfolding chunk
+take-kept {p = p} K = K .same 0 p (inl (omega arith))
+
+pub drop-kept : {w w′ : List ℕ} {p m : ℕ} → Kept w w′ p m → length w′ ≡ length w → drop (p + m) w′ ≡ drop (p + m) w
+unfolding chunk
+drop-kept {w} {w′} {p} {m} K e =
+    sym (take-all (length w) (drop (p + m) w′) (rw length-drop (omega arith)))
+    ∙ K .same (p + m) (length w) (inr (omega arith))
+    ∙ take-all (length w) (drop (p + m) w) (rw length-drop (omega arith))
+
+-- a part that was lent, `&mut w[a..e]`, and came back as ys
+pub kept-lent : (w ys : List ℕ) (a k : ℕ) → length ys ≡ length (take k (drop a w)) → a + k ≤ length w → Kept w (take a w ++ (ys ++ drop k (drop a w))) a k
+unfolding chunk
+kept-lent w ys a k e h = let l : length ys ≡ k = e ∙ chunk-length w a k h in rw (part-back a k w ys l h) (kept-over a ys w k l)
+
+-- ---- several stretches may have changed
+
+-- the m bytes from p on lie within one of the stretches
+pub data Within (p m : ℕ) : List (ℕ × ℕ) → Type 0 where
+  here : {r : ℕ × ℕ} {rs : List (ℕ × ℕ)} → r .0 ≤ p → p + m ≤ r .0 + r .1 → Within p m (r ∷ rs)
+  there : {r : ℕ × ℕ} {rs : List (ℕ × ℕ)} → Within p m rs → Within p m (r ∷ rs)
+
+clear-within : {p m : ℕ} {rs : List (ℕ × ℕ)} (q k : ℕ) → Within p m rs → Clear q k rs → Apart q k p m
+clear-within q k (here h g) c = ⊎-elim (λ l. inl (omega arith)) (λ l. inr (omega arith)) (c .0)
+clear-within q k (there i) c = clear-within q k i (c .1)
+
+pub but-of : {w w′ : List ℕ} {p m : ℕ} {rs : List (ℕ × ℕ)} → Kept w w′ p m → Within p m rs → KeptBut w w′ rs
+but-of K i = record { same = λ q k c. K .same q k (clear-within q k i c) }
+
+pub but-one : {w w′ : List ℕ} {p m : ℕ} → Kept w w′ p m → KeptBut w w′ ((p, m) ∷ [])
+but-one K = record { same = λ q k c. K .same q k (c .0) }
+
+pub leAt-but : {w w′ : List ℕ} {rs : List (ℕ × ℕ)} (k q : ℕ) → KeptBut w w′ rs → Clear q k rs → leAt k w′ q ≡ leAt k w q
+leAt-but {w} {w′} k q K c = rw (leAt-is k w′ q, leAt-is k w q, K .same q k c)
+
+pub but-refl : (w : List ℕ) (rs : List (ℕ × ℕ)) → KeptBut w w rs
+but-refl w rs = record { same = λ q k c. refl }
+
+pub but-trans : {w w′ w″ : List ℕ} {rs : List (ℕ × ℕ)} → KeptBut w w′ rs → KeptBut w′ w″ rs → KeptBut w w″ rs
+but-trans K L = record { same = λ q k c. L .same q k c ∙ K .same q k c }
+
+-- ---- a number was written
+
+-- its bytes laid over are all that a write promises
+pub wrote : {w w′ : List ℕ} {p k v : ℕ} → w′ ≡ overlay p (bytesOf k v) w → p + k ≤ length w → v < 256 ^ k → Wrote w w′ p k v
+wrote {w} {w′} {p} {k} {v} e h b = record {
+  bytes = e;
+  value = rw (e, leAt-is, chunk-over p (bytesOf k v) w k (length-bytesOf k v) h) (le-bytesOf k v b);
+  rest = rw e (kept-over p (bytesOf k v) w k (length-bytesOf k v));
+}
+
+-- one byte
+pub wrote-byte : (w : List ℕ) (p v : ℕ) → p < length w → v < 256 → Wrote w (set w p v) p 1 v
+unfolding bytesOf
+wrote-byte w p v h b = let e : v % 256 ≡ v = omega arith in wrote (rw e) (omega arith) b
+
+-- its low half and then its high half
+pub wrote-halves : (j k : ℕ) {w w₁ w₂ : List ℕ} {p v : ℕ} → p + (j + k) ≤ length w → Wrote w w₁ p j (v % 256 ^ j) → Wrote w₁ w₂ (p + j) k (v / 256 ^ j) → Wrote w w₂ p (j + k) v
+wrote-halves j k {w} {w₁} {w₂} {p} {v} h L H = record {
+  bytes = e;
+  value = rw (leAt-add j k w₂ p (rw (e, length-overlay) (omega arith)), leAt-kept j p (H .rest) (inl (omega arith)), L .value, H .value) (mod-add-div v (256 ^ j));
+  rest = rw e (kept-over p (bytesOf (j + k) v) w (j + k) (length-bytesOf (j + k) v));
+}
+  where
+    e : w₂ ≡ overlay p (bytesOf (j + k) v) w
+    e = H .bytes ∙ rw (L .bytes, bytesOf-add j k v, overlay-append p (bytesOf j (v % 256 ^ j)) (bytesOf k (v / 256 ^ j)) w, length-bytesOf)
+
+-- ---- a record was copied
+
+-- the first i bytes of a copy that goes from the first byte on
+pub record Copying (w₀ w : List ℕ) (from to size i : ℕ) : Type 0 where
+  pub within : i ≤ size
+  pub bytes : w ≡ overlay to (take i (chunk w₀ from size)) w₀
+  pub length-same : length w ≡ length w₀
+
+pub copying-start : (w : List ℕ) (from to size : ℕ) → Copying w w from to size 0
+copying-start w from to size = record { within = omega arith; bytes = refl; length-same = refl }
+
+module _ {w₀ w : List ℕ} {from to size i : ℕ} (C : Copying w₀ w from to size i) (f : from + size ≤ length w₀) where
+  -- what the next byte holds is not yet overwritten
+  next-byte : i < size → ((to ≤ from) ⊎ (from + size ≤ to)) → getD w (from + i) 0 ≡ getD (chunk w₀ from size) i 0
+  next-byte h a =
+      let part : length (take i (chunk w₀ from size)) ≡ i = length-take-le i (chunk w₀ from size) (omega (arith, chunk-length w₀ from size f)) in
+      let K : Kept w₀ w to i = rw (C .bytes) (kept-over to (take i (chunk w₀ from size)) w₀ i part) in
+      byte-kept (from + i) K (⊎-elim (λ g. inr (omega arith)) (λ g. inl (omega arith)) a) ∙ sym (chunk-byte w₀ from size i h)
+
+  pub copying-step : i < size → ((to ≤ from) ⊎ (from + size ≤ to)) → Copying w₀ (set w (to + i) (getD w (from + i) 0)) from to size (i + 1)
+  copying-step h a =
+      let full : i < length (chunk w₀ from size) = omega (arith, chunk-length w₀ from size f) in
+      let part : length (take i (chunk w₀ from size)) ≡ i = length-take-le i (chunk w₀ from size) (omega arith) in
+      record {
+        within = omega arith;
+        bytes = rw (next-byte h a, add-one i, take-suc (chunk w₀ from size) i 0 full, overlay-snoc to (take i (chunk w₀ from size)) (getD (chunk w₀ from size) i 0) w₀, part, ← (C .bytes));
+        length-same = length-set w (to + i) (getD w (from + i) 0) ∙ C .length-same;
+      }
+
+  pub copying-done : size ≤ i → to + size ≤ length w₀ → CopiedBytes w₀ w from to size
+  copying-done h t =
+      let full : length (chunk w₀ from size) ≡ size = chunk-length w₀ from size f in
+      let e : w ≡ overlay to (chunk w₀ from size) w₀ = C .bytes ∙ rw (take-all i (chunk w₀ from size) (omega arith)) in
+      record {
+        bytes = e;
+        same = rw e (chunk-over to (chunk w₀ from size) w₀ size full t);
+        rest = rw e (kept-over to (chunk w₀ from size) w₀ size full);
+      }
