@@ -1,19 +1,17 @@
 -- Demand 3: records and entries agree (document 01, "Rules that bite"). Written from that document's words; nothing here speaks of how an import works.
 -- Assumes nothing.
-use Prim.Native.Nat.{ℕ, zero, suc, _+_, _^_, _≤_, _<_}
+use Prim.Native.Nat.{ℕ, suc, _≤_, _<_}
 use mathlib.Core.Path.{_≡_}
-use mathlib.Core.Logic.{_↔_, _⊎_, _≢_}
-use mathlib.Core.Bool.{Bool, true, false}
-use mathlib.Core.List.{List, [], _∷_, _++_, map}
+use mathlib.Core.Logic.{_↔_, _≢_}
+use mathlib.Core.List.{List, [], _∷_, map}
 use mathlib.Core.Option.{Option, none, some}
 use lib.ListN.{length, getD}
 use Rattle.tlv.specs.declared.model.AddressRange.{AddressRange}
-use Rattle.tlv.specs.declared.model.LineEntry.{LineEntry}
 use Rattle.tlv.specs.Addresses.{RangeHolds, Nonempty, Inside}
 use Rattle.tlv.specs.Outcome.{Outcome, refused, done}
 use Rattle.tlv.specs.Lists.{Any, All}
-use Rattle.tlv.specs.Model.{CompilationUnit, Entry, dieRanges}
-use Rattle.tlv.specs.Output.{InlineNode, CallSite, Function}
+use Rattle.tlv.specs.Model.{CompilationUnit, Entry}
+use Rattle.tlv.specs.Output.{InlineNode}
 use Rattle.references.specs.Search.{Dwarf, resolveName}
 use Rattle.dwarf.specs.Ranges.{Holds, Apart}
 use Rattle.dwarf.specs.Tree.{rangesOf}

@@ -1,7 +1,6 @@
 -- Document 01's proved cases (●, "Operands, paths and a printed import") as one table. Assumes nothing.
 use mathlib.Core.Path.{_≡_}
 use mathlib.Core.List.{List, [], _∷_, _++_}
-use mathlib.Core.Option.{Option, none, some}
 use Prim.Native.Nat.{ℕ, _^_}
 use lib.ListN.{replicate}
 use Rattle.tlv.specs.declared.model.AddressRange.{AddressRange}

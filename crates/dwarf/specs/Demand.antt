@@ -1,7 +1,7 @@
 -- Demand 3 whole, and that trays can be read back: what holds of every import that is done, for every input. Assumes nothing.
-use Prim.Native.Nat.{ℕ, zero, suc, _+_, _-_, _^_, _≤_, _<_}
+use Prim.Native.Nat.{ℕ, suc, _-_, _^_, _≤_, _<_}
 use mathlib.Core.Path.{_≡_}
-use mathlib.Core.Logic.{_↔_, _⊎_, _≢_}
+use mathlib.Core.Logic.{_↔_, _≢_}
 use mathlib.Core.Bool.{Bool, true, false, cond, _&&_, not}
 use mathlib.Core.List.{List, [], _∷_, _++_, map}
 use mathlib.Core.Option.{Option, none, some}
@@ -9,7 +9,7 @@ use lib.ListN.{length, getD, take, drop}
 use lib.Dec.{eqb}
 use Rattle.tlv.specs.declared.model.AddressRange.{AddressRange}
 use Rattle.tlv.specs.Addresses.{Nonempty, Inside}
-use Rattle.tlv.specs.Outcome.{Outcome, refused, done}
+use Rattle.tlv.specs.Outcome.{refused, done}
 use Rattle.tlv.specs.Lists.{Any, All, filter, at, isEmpty}
 use Rattle.tlv.specs.Bytes.{Bytes}
 use Rattle.tlv.specs.Model.{CompilationUnit, Entry, RangeFailure, dieRanges, units}
@@ -21,7 +21,7 @@ use Rattle.lines.specs.RowsAgree.{RowsAgree}
 use Rattle.references.specs.Search.{Dwarf, resolveName}
 use Rattle.dwarf.specs.Tree.{rangesOf, DetailContext, Descendants, makeCallSite, extractSubprogramDetails}
 use Rattle.dwarf.specs.Import.{State, isLiveRange, isSubprogram, descendantsOf, rooted, importUnit}
-use Rattle.dwarf.specs.Answer.{Inputs, dwarfOf, importOf, outcomeOf, Answer, After, after}
+use Rattle.dwarf.specs.Answer.{Inputs, dwarfOf, importOf, outcomeOf, after}
 use Rattle.dwarf.specs.Agree.{TreeEntry, foundName, treeEntries, entry, Below, TreeNode, treeNode, TreeAgrees, TooDeep}
 
 -- ---- the subjects of a unit, in order: a subprogram's entry that has a name, and one of its live ranges

@@ -1,21 +1,21 @@
 -- The import of one unit (the Rust's import_unit, import_unit_details). Assumes nothing.
-use Prim.Native.Nat.{ℕ, zero, suc, _+_, _*_, _-_, _^_, min}
+use Prim.Native.Nat.{ℕ, _+_, _*_, _-_, _^_, min}
 use mathlib.Core.Bool.{Bool, true, false, cond, _&&_, _||_, not}
-use mathlib.Core.List.{List, [], _∷_, _++_, map}
+use mathlib.Core.List.{List, [], _∷_, _++_}
 use mathlib.Core.Option.{Option, none, some}
 use lib.ListN.{length}
-use lib.Dec.{leb, ltb, eqb}
+use lib.Dec.{ltb, eqb}
 use Rattle.tlv.specs.declared.model.AddressRange.{AddressRange}
 use Rattle.tlv.specs.declared.model.LineEntry.{LineEntry}
-use Rattle.tlv.specs.Outcome.{Outcome, refused, done, _>>=_}
+use Rattle.tlv.specs.Outcome.{Outcome, done, _>>=_}
 use Rattle.tlv.specs.Lists.{takeWhile, exists, isEmpty}
 use Rattle.tlv.specs.Model.{CompilationUnit, Entry, EntryRange, Attribute, RangeFailure, dieRanges}
-use Rattle.tlv.specs.Output.{InlineNode, CallSite, Function, Warning, malformedRanges, about, rejectedRange, invalidStatementSequence}
+use Rattle.tlv.specs.Output.{InlineNode, Function, Warning, malformedRanges, about, rejectedRange, invalidStatementSequence}
 use Rattle.lines.specs.Files.{FileTable, fileIndex}
-use Rattle.lines.specs.Lines.{UnitLines, Collected, collectLines}
-use Rattle.lines.specs.Rows.{contains, FunctionRows, forRange}
+use Rattle.lines.specs.Lines.{UnitLines, collectLines}
+use Rattle.lines.specs.Rows.{contains, forRange}
 use Rattle.references.specs.Search.{Dwarf, Declaring, emptyTrail, attribute, absoluteEntryOffset, resolveName, resolveDeclarationLine}
-use Rattle.dwarf.specs.Tree.{DetailContext, Descendants, extractSubprogramDetails, liesIn}
+use Rattle.dwarf.specs.Tree.{DetailContext, extractSubprogramDetails, liesIn}
 
 -- ConversionStats, as far as document 01's four statistics go
 pub record ConversionStats : Type 0 where

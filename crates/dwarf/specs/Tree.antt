@@ -1,6 +1,6 @@
 -- Inline trees and call sites of one function (the Rust's convert/dwarf/dies.rs; document 01, "Each record is judged by itself ..").  Assumes nothing.
-use Prim.Native.Nat.{ℕ, zero, suc, _+_, _-_, _^_}
-use mathlib.Core.Bool.{Bool, true, false, cond, _&&_, _||_}
+use Prim.Native.Nat.{ℕ, suc, _-_, _^_}
+use mathlib.Core.Bool.{Bool, false, cond, _&&_, _||_}
 use mathlib.Core.List.{List, [], _∷_, _++_, map}
 use mathlib.Core.Option.{Option, none, some}
 use lib.ListN.{length}
@@ -9,7 +9,7 @@ use Rattle.tlv.specs.declared.model.AddressRange.{AddressRange}
 use Rattle.tlv.specs.declared.model.FileIndex.{FileIndex}
 use Rattle.tlv.specs.Outcome.{Outcome, refused, done, _>>=_}
 use Rattle.tlv.specs.Lists.{takeWhile, dropWhile, isEmpty, isNone}
-use Rattle.tlv.specs.Model.{CompilationUnit, Entry, EntryRange, Attribute, dieRanges}
+use Rattle.tlv.specs.Model.{CompilationUnit, Entry, Attribute, dieRanges}
 use Rattle.tlv.specs.Output.{InlineNode, CallSite, Warning, about, missingInlineCallFile, invalidInlineCallLine}
 use Rattle.lines.specs.Files.{FileIndices, fileIndex, get}
 use Rattle.lines.specs.Rows.{contains}

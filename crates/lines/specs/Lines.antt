@@ -1,5 +1,5 @@
 -- A unit's line rows, its files and its sequences (the Rust's convert/dwarf/lines.rs, collect_lines). Assumes nothing.
-use Prim.Native.Nat.{ℕ, zero, suc, _+_, _^_}
+use Prim.Native.Nat.{ℕ, suc, _^_}
 use mathlib.Core.Bool.{Bool, true, false, cond, _&&_}
 use mathlib.Core.List.{List, [], _∷_, _++_, map}
 use mathlib.Core.Option.{Option, none, some}
@@ -13,7 +13,7 @@ use Rattle.tlv.specs.Lists.{at}
 use Rattle.tlv.specs.Model.{CompilationUnit, LineHeader, HeaderFile, LineRow, lineRows}
 use Rattle.tlv.specs.Output.{Warning, about, lineSequenceMismatch, missingLineFile, unrepresentableLine}
 use Rattle.lines.specs.Program.{lineSequenceOffsets}
-use Rattle.lines.specs.Files.{FileTable, Interned, internFile, FileIndices, Indexed, internHeaderFiles, get, insertIndex, headerFile}
+use Rattle.lines.specs.Files.{FileTable, internFile, FileIndices, internHeaderFiles, get, insertIndex, headerFile}
 
 -- ---- the run over the rows: an end of sequence closes the rows since the last one
 

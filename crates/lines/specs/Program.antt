@@ -1,6 +1,6 @@
 -- Operands and instructions of a line program as document 01 ("Rules that bite", skipping; 7 to 12) and the Rust's scan_line_sequence_offsets have them. Assumes nothing.
 use Prim.Native.Nat.{ℕ, zero, suc, _+_, _*_, _-_, _%_, _^_}
-use mathlib.Core.Bool.{Bool, true, false, cond, _||_}
+use mathlib.Core.Bool.{Bool, false, cond, _||_}
 use mathlib.Core.List.{List, [], _∷_}
 use lib.ListN.{length, drop, replicate}
 use lib.Dec.{leb, ltb, eqb}

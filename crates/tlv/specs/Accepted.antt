@@ -1,16 +1,16 @@
 -- What the grammar promises of a unit (document 01, "The sheet", refusals 2 and 3), as far as what is read of it goes. Assumes nothing.
-use Prim.Native.Nat.{ℕ, zero, suc, _+_, _^_, _≤_, _<_}
+use Prim.Native.Nat.{ℕ, suc, _+_, _^_, _≤_, _<_}
 use mathlib.Core.Path.{_≡_}
 use mathlib.Core.List.{List, [], _∷_}
 use mathlib.Core.Option.{Option, none, some}
 use lib.ListN.{length}
 use Rattle.tlv.specs.declared.model.AddressRange.{AddressRange}
-use Rattle.tlv.specs.Outcome.{Outcome, done}
+use Rattle.tlv.specs.Outcome.{done}
 use Rattle.tlv.specs.Lists.{All}
 use Rattle.tlv.specs.Bytes.{Bytes}
 use Rattle.tlv.specs.Limits.{fieldLimit, stringLimit, reasonLimit, depthLimit}
 use Rattle.tlv.specs.Grammar.{checkSheet}
-use Rattle.tlv.specs.Model.{Attribute, EntryRange, RangeFailure, Entry, Directory, HeaderFile, LineRow, CompilationUnit, units}
+use Rattle.tlv.specs.Model.{Attribute, RangeFailure, Entry, LineRow, CompilationUnit, units}
 
 abbrev pub Small : AddressRange → Type 0
 Small r = (r .start < 2 ^ 64) × (r .end < 2 ^ 64)

@@ -1,11 +1,10 @@
 -- Fields (document 01, "The sheet"): a one-byte tag, a two-byte length, the payload. Sheets and trays are rows of them. Assumes nothing.
-use mathlib.Core.List.{List, [], _∷_, _++_, foldr, map}
-use mathlib.Core.Bool.{Bool, true, false, cond}
+use mathlib.Core.List.{List, [], _∷_, _++_}
+use mathlib.Core.Bool.{cond}
 use mathlib.Core.Option.{Option, none, some}
 use Prim.Native.Nat.{ℕ, zero, suc}
 use lib.Dec.{leb, eqb}
 use lib.ListN.{length, take}
-use Rattle.tlv.specs.Lists.{filter}
 use Rattle.tlv.specs.Bytes.{le, bytesOf}
 
 pub record Field : Type 0 where

@@ -1,10 +1,9 @@
 -- What a tray's fields can hold, and that reading a tray gives back what was written (document 01, "Trays use the same field shape"). Assumes nothing.
-use Prim.Native.Nat.{ℕ, zero, suc, _+_, _^_, _≤_, _<_}
+use Prim.Native.Nat.{ℕ, suc, _^_, _≤_, _<_}
 use mathlib.Core.Path.{_≡_}
 use mathlib.Core.Logic.{_⊎_, _≢_}
-use mathlib.Core.Bool.{Bool}
 use mathlib.Core.List.{List, [], _∷_}
-use mathlib.Core.Option.{Option, some}
+use mathlib.Core.Option.{some}
 use lib.ListN.{length}
 use Rattle.tlv.specs.declared.model.AddressRange.{AddressRange}
 use Rattle.tlv.specs.declared.model.LineEntry.{LineEntry}

@@ -1,15 +1,15 @@
 -- A sheet as units and entries (document 01, "The sheet"): what the import reads of a sheet that the grammar accepts. Assumes nothing.
-use Prim.Native.Nat.{ℕ, zero, suc, _+_}
-use mathlib.Core.Bool.{Bool, true, false}
-use mathlib.Core.List.{List, [], _∷_, map}
-use mathlib.Core.Option.{Option, none, some}
+use Prim.Native.Nat.{ℕ}
+use mathlib.Core.Bool.{Bool}
+use mathlib.Core.List.{List, map}
+use mathlib.Core.Option.{Option}
 use lib.ListN.{length, drop}
 use lib.Dec.{eqb}
 use Rattle.tlv.specs.declared.model.AddressRange.{AddressRange}
-use Rattle.tlv.specs.Outcome.{Outcome, refused, done}
+use Rattle.tlv.specs.Outcome.{Outcome, done}
 use Rattle.tlv.specs.Lists.{mapOption}
 use Rattle.tlv.specs.Bytes.{leAt}
-use Rattle.tlv.specs.Fields.{Field, Group, Groups, grouped, payloads, payloadOf, fields, wholeFields}
+use Rattle.tlv.specs.Fields.{Group, grouped, payloads, payloadOf, fields, wholeFields}
 use Rattle.tlv.specs.Grammar.{rowKindAt}
 
 -- an attribute: its name, its kind, the number that its value spells, and its value's bytes

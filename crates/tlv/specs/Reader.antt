@@ -1,16 +1,14 @@
 -- Reading trays back (document 01, "Trays use the same field shape"): total on any bytes, none where they are not in that form. Assumes nothing.
-use Prim.Native.Nat.{ℕ, zero, suc, _+_, _-_}
-use mathlib.Core.Bool.{Bool, true, false, cond, _&&_, _||_, not}
+use Prim.Native.Nat.{ℕ, _+_}
+use mathlib.Core.Bool.{Bool, false, cond, _&&_, _||_, not}
 use mathlib.Core.List.{List, [], _∷_, map}
 use mathlib.Core.Option.{Option, none, some}
 use lib.ListN.{length, take, drop}
 use lib.Dec.{leb, ltb, eqb}
-use Rattle.tlv.specs.declared.model.AddressRange.{AddressRange}
-use Rattle.tlv.specs.declared.model.FileIndex.{FileIndex}
 use Rattle.tlv.specs.declared.model.LineEntry.{LineEntry}
 use Rattle.tlv.specs.Lists.{exists, mapOption}
 use Rattle.tlv.specs.Bytes.{leAt}
-use Rattle.tlv.specs.Fields.{Field, FieldList, end, cut, more, fields, wholeFields, Group, Groups, grouped, payloads}
+use Rattle.tlv.specs.Fields.{Field, FieldList, end, cut, more, fields, wholeFields, Group, grouped, payloads}
 use Rattle.tlv.specs.Model.{rangeOf}
 use Rattle.tlv.specs.Output.{FileEntry, InlineNode, CallSite, Function, WarningKind, rejectedRange, invalidStatementSequence, lineSequenceMismatch, missingLineFile, unrepresentableLine, missingInlineCallFile, invalidInlineCallLine, invalidDeclarationFile, invalidDeclarationLine, Warning, malformedRanges, about}
 
