@@ -1,0 +1,357 @@
+//! From a unit to its sheets: the unit, and the units that its references reach.
+
+use std::collections::{BTreeSet, HashSet};
+
+use gimli::{LineProgramHeader, UnitOffset};
+
+use crate::sheet::{self, Part, Sheet};
+use crate::unit::{self, Decoded, Entry, Slice, Source, Value};
+
+const SUBPROGRAM: u16 = gimli::DW_TAG_subprogram.0;
+const INLINED: u16 = gimli::DW_TAG_inlined_subroutine.0;
+const CALL_SITE: u16 = gimli::DW_TAG_call_site.0;
+
+/// The attributes by which the import goes from one entry to another.
+const REFERENCES: [u16; 3] = [
+    gimli::DW_AT_abstract_origin.0,
+    gimli::DW_AT_specification.0,
+    gimli::DW_AT_call_origin.0,
+];
+
+pub struct Dump {
+    /// The unit's place among the units of the main sheet.
+    pub ordinal: usize,
+    pub main: Sheet,
+    pub supplementary: Sheet,
+    pub program: Vec<u8>,
+}
+
+/// The main file's units, the supplementary one's, and where code lies.
+pub struct Input<'a> {
+    pub main: Source<'a>,
+    pub supplementary: Option<Source<'a>>,
+    pub text: &'a [(u64, u64)],
+}
+
+impl<'a> Input<'a> {
+    /// The sheets of one unit, or why it has none.
+    pub fn dump(&self, asked: usize) -> Result<Dump, String> {
+        let decoded = self.main.unit(asked)?;
+        if decoded.unit.dwo_id.is_some() {
+            return Err("a unit of split DWARF".into());
+        }
+        let lines = decoded.unit.line_program.clone().map(Lines::run);
+        let program = lines.as_ref().map_or(&[][..], |lines| lines.program);
+        if program.len() > sheet::PROGRAM_LIMIT {
+            return Err("a line program of more than 4,194,304 bytes".into());
+        }
+        let reached = self.reach(asked)?;
+        let mut main = Sheet::default();
+        for &index in &reached.main {
+            let own = (index == asked).then_some(Own {
+                text: self.text,
+                lines: lines.as_ref(),
+            });
+            write(&mut main, &self.main, index, own, |entry| {
+                reached.entries.contains(&(false, index, entry.offset))
+            })?;
+        }
+        let mut supplementary = Sheet::default();
+        if let Some(source) = &self.supplementary {
+            for &index in &reached.supplementary {
+                write(&mut supplementary, source, index, None, |entry| {
+                    reached.entries.contains(&(true, index, entry.offset))
+                })?;
+            }
+        }
+        Ok(Dump {
+            ordinal: reached.main.range(..asked).count(),
+            main,
+            supplementary,
+            program: program.to_vec(),
+        })
+    }
+
+    /// The units that are reached from a unit, and the entries whose attributes can be read.
+    fn reach(&self, asked: usize) -> Result<Reached, String> {
+        let mut reached = Reached::default();
+        reached.main.insert(asked);
+        let mut open = Vec::new();
+        for entry in &self.main.unit(asked)?.entries {
+            if matches!(entry.tag, SUBPROGRAM | INLINED | CALL_SITE) {
+                reached.entries.insert((false, asked, entry.offset));
+                open.push((false, asked, entry));
+            }
+        }
+        while let Some((supplementary, index, entry)) = open.pop() {
+            for attribute in &entry.attributes {
+                let (true, Value::Number(kind, target)) =
+                    (REFERENCES.contains(&attribute.name), &attribute.value)
+                else {
+                    continue;
+                };
+                let found = match *kind {
+                    unit::UNIT_REFERENCE => Some((supplementary, index, *target)),
+                    unit::SECTION_REFERENCE => self.locate(supplementary, *target),
+                    // A supplementary file has none of its own.
+                    unit::SUPPLEMENTARY_REFERENCE if !supplementary => self.locate(true, *target),
+                    _ => None,
+                };
+                let Some((supplementary, index, offset)) = found else {
+                    continue;
+                };
+                if supplementary {
+                    reached.supplementary.insert(index);
+                } else {
+                    reached.main.insert(index);
+                }
+                let Some(source) = self.source(supplementary) else {
+                    continue;
+                };
+                let entries = &source.unit(index)?.entries;
+                let Ok(place) = entries.binary_search_by_key(&offset, |entry| entry.offset) else {
+                    continue;
+                };
+                if reached.entries.insert((supplementary, index, offset)) {
+                    open.push((supplementary, index, &entries[place]));
+                }
+            }
+        }
+        Ok(reached)
+    }
+
+    fn source(&self, supplementary: bool) -> Option<&Source<'a>> {
+        if supplementary {
+            self.supplementary.as_ref()
+        } else {
+            Some(&self.main)
+        }
+    }
+
+    fn locate(&self, supplementary: bool, target: u64) -> Option<(bool, usize, u64)> {
+        let source = self.source(supplementary)?;
+        let index = source.containing(target)?;
+        Some((supplementary, index, target - source.place(index).0))
+    }
+}
+
+#[derive(Default)]
+struct Reached {
+    main: BTreeSet<usize>,
+    supplementary: BTreeSet<usize>,
+    /// Whether it is of the supplementary file, its unit, its offset there.
+    entries: HashSet<(bool, usize, u64)>,
+}
+
+/// A unit's line program, run to its end.
+struct Lines<'a> {
+    header: LineProgramHeader<Slice<'a>>,
+    program: &'a [u8],
+    rows: Vec<Row>,
+}
+
+struct Row {
+    address: u64,
+    file: u64,
+    line: u64,
+    /// 0 plain, 1 end of sequence, 2 failed here.
+    kind: u8,
+}
+
+impl<'a> Lines<'a> {
+    fn run(program: gimli::IncompleteLineProgram<Slice<'a>>) -> Self {
+        let bytes = program.header().raw_program_buf().slice();
+        let mut decoder = program.rows();
+        let mut rows = Vec::new();
+        loop {
+            match decoder.next_row() {
+                Ok(Some((_, row))) => rows.push(Row {
+                    address: row.address(),
+                    file: row.file_index(),
+                    line: row.line().map_or(0, |line| line.get()),
+                    kind: row.end_sequence().into(),
+                }),
+                Ok(None) => break,
+                Err(_) => {
+                    rows.push(Row {
+                        address: 0,
+                        file: 0,
+                        line: 0,
+                        kind: 2,
+                    });
+                    break;
+                }
+            }
+        }
+        // The program may have added files, so the header is taken after it.
+        Lines {
+            header: decoder.header().clone(),
+            program: bytes,
+            rows,
+        }
+    }
+}
+
+/// What only the unit that is asked for has, beside the ranges of its entries: the import reads
+/// them of no other.
+#[derive(Clone, Copy)]
+struct Own<'a, 'b> {
+    text: &'b [(u64, u64)],
+    lines: Option<&'b Lines<'a>>,
+}
+
+fn write<'a>(
+    sheet: &mut Sheet,
+    source: &Source<'a>,
+    index: usize,
+    own: Option<Own<'a, '_>>,
+    readable: impl Fn(&Entry) -> bool,
+) -> Result<(), String> {
+    let decoded = source.unit(index)?;
+    let unit = &decoded.unit;
+    let (offset, length) = source.place(index);
+    let encoding = unit.encoding();
+    sheet.field(
+        sheet::UNIT,
+        &[
+            Part::U64(offset),
+            Part::U64(length),
+            Part::U8(encoding.version as u8),
+            Part::U8(encoding.format.word_size()),
+        ],
+    )?;
+    if let Some(directory) = &unit.comp_dir {
+        sheet.field(sheet::DIRECTORY_OF_UNIT, &[Part::Text(directory.slice())])?;
+    }
+    for (start, end) in own.map_or(&[][..], |own| own.text) {
+        sheet.field(sheet::TEXT, &[Part::U64(*start), Part::U64(*end)])?;
+    }
+    if let Some(lines) = own.and_then(|own| own.lines) {
+        write_lines(sheet, source, decoded, &lines.header, &lines.rows)?;
+    } else if let Some(program) = &unit.line_program {
+        write_lines(sheet, source, decoded, program.header(), &[])?;
+    }
+    for entry in &decoded.entries {
+        sheet.entry(entry.offset, entry.depth, entry.tag)?;
+        if readable(entry) {
+            write_attributes(sheet, entry)?;
+        }
+        if own.is_some() && matches!(entry.tag, SUBPROGRAM | INLINED) {
+            write_ranges(sheet, source, decoded, entry)?;
+        }
+    }
+    Ok(())
+}
+
+fn write_lines<'a>(
+    sheet: &mut Sheet,
+    source: &Source<'a>,
+    decoded: &Decoded<'a>,
+    header: &LineProgramHeader<Slice<'a>>,
+    rows: &[Row],
+) -> Result<(), String> {
+    sheet.field(
+        sheet::LINE_HEADER,
+        &[
+            Part::U64(header.offset().0 as u64),
+            Part::U64(header.header_length() as u64),
+            Part::U8(header.version() as u8),
+            Part::U8(header.format().word_size()),
+            Part::U8(header.opcode_base()),
+            Part::Bytes(header.standard_opcode_lengths().slice()),
+        ],
+    )?;
+    let text = |value| unit::text(source.dwarf, &decoded.unit, value);
+    for directory in header.include_directories() {
+        let path = text(*directory);
+        let parts = [
+            Part::U8(path.is_none().into()),
+            Part::Text(path.unwrap_or_default()),
+        ];
+        sheet.field(sheet::DIRECTORY, &parts)?;
+    }
+    let mut file = |tag, file: &gimli::FileEntry<Slice<'a>>| {
+        let path = text(file.path_name());
+        sheet.field(
+            tag,
+            &[
+                Part::U8(path.is_none().into()),
+                Part::U64(file.directory_index()),
+                Part::Text(path.unwrap_or_default()),
+            ],
+        )
+    };
+    if header.version() < 5 {
+        if let Some(zero) = header.file(0) {
+            file(sheet::FILE_ZERO, zero)?;
+        }
+    }
+    for each in header.file_names() {
+        file(sheet::FILE, each)?;
+    }
+    for row in rows {
+        sheet.field(
+            sheet::ROW,
+            &[
+                Part::U64(row.address),
+                Part::U64(row.file),
+                Part::U64(row.line),
+                Part::U8(row.kind),
+            ],
+        )?;
+    }
+    Ok(())
+}
+
+fn write_attributes(sheet: &mut Sheet, entry: &Entry) -> Result<(), String> {
+    for attribute in &entry.attributes {
+        let (kind, value) = match &attribute.value {
+            Value::Number(kind, number) => (*kind, Part::U64(*number)),
+            Value::Text(text) => (unit::STRING, Part::Text(text)),
+            Value::Failed => (unit::FAILED, Part::Bytes(&[])),
+        };
+        sheet.field(
+            sheet::ATTRIBUTE,
+            &[Part::U16(attribute.name), Part::U8(kind), value],
+        )?;
+    }
+    Ok(())
+}
+
+fn write_ranges(
+    sheet: &mut Sheet,
+    source: &Source,
+    decoded: &Decoded,
+    entry: &Entry,
+) -> Result<(), String> {
+    let unit = &decoded.unit;
+    let die = unit.entry(UnitOffset(entry.offset as usize));
+    let die = die.map_err(|error| format!("not decoded: {error}"))?;
+    let failure = |stage, error: gimli::Error, sheet: &mut Sheet| {
+        let reason = error.to_string();
+        let parts = [Part::U8(stage), Part::Text(reason.as_bytes())];
+        sheet
+            .field(sheet::RANGE_FAILURE, &parts)
+            .map_err(String::from)
+    };
+    let mut ranges = match source.dwarf.die_ranges(unit, &die) {
+        Ok(ranges) => ranges,
+        Err(error) => return failure(0, error, sheet),
+    };
+    // A tombstone is one of the two largest addresses of the unit's address size.
+    let tombstone = (u64::MAX >> (64 - 8 * u32::from(unit.encoding().address_size))) - 1;
+    loop {
+        match ranges.next() {
+            Ok(Some(range)) => sheet.field(
+                sheet::RANGE,
+                &[
+                    Part::U64(range.begin),
+                    Part::U64(range.end),
+                    Part::U8((range.begin >= tombstone).into()),
+                ],
+            )?,
+            Ok(None) => return Ok(()),
+            Err(error) => return failure(1, error, sheet),
+        }
+    }
+}

@@ -1,0 +1,354 @@
+//! Dumps the units of DWARF in ELF files as the sheets that an import of one unit reads.
+
+mod dump;
+mod elf;
+mod output;
+mod sheet;
+mod unit;
+
+use std::collections::BTreeMap;
+use std::path::{Path, PathBuf};
+use std::process::ExitCode;
+use std::sync::Arc;
+
+use dump::{Dump, Input};
+use elf::DebugFile;
+use gimli::{AttributeValue, EndianSlice};
+use output::{fault, Pending};
+use unit::{Decoded, Source};
+
+const USAGE: &str = "\
+usage: dumper dump OBJECT OUTDIR [--supplementary FILE]
+       dumper cases OBJECT.. --out CASES [--append] [--list LIST] [--supplementary FILE]";
+
+fn main() -> ExitCode {
+    let arguments = std::env::args_os().skip(1).map(PathBuf::from).collect();
+    match run(arguments) {
+        Ok(()) => ExitCode::SUCCESS,
+        Err(message) => {
+            eprintln!("dumper: {message}");
+            ExitCode::FAILURE
+        }
+    }
+}
+
+#[derive(Default)]
+struct Options {
+    plain: Vec<PathBuf>,
+    out: Option<PathBuf>,
+    list: Option<PathBuf>,
+    supplementary: Option<PathBuf>,
+    append: bool,
+}
+
+fn run(arguments: Vec<PathBuf>) -> Result<(), String> {
+    let mut options = Options::default();
+    let mut arguments = arguments.into_iter();
+    let command = arguments.next().ok_or(USAGE)?;
+    while let Some(argument) = arguments.next() {
+        let place = match argument.to_str() {
+            Some("--out") => &mut options.out,
+            Some("--list") => &mut options.list,
+            Some("--supplementary") => &mut options.supplementary,
+            Some("--append") => {
+                options.append = true;
+                continue;
+            }
+            Some(other) if other.starts_with("--") => return Err(format!("{other}?\n{USAGE}")),
+            _ => {
+                options.plain.push(argument);
+                continue;
+            }
+        };
+        *place = Some(arguments.next().ok_or(USAGE)?);
+    }
+    match (command.to_str(), &*options.plain, &options.out) {
+        (Some("dump"), [object, folder], None) if options.list.is_none() && !options.append => {
+            dump(object, folder, options.supplementary.as_deref())
+        }
+        (Some("cases"), [_, ..], Some(out)) => cases(&options, out),
+        _ => Err(USAGE.into()),
+    }
+}
+
+/// What is told of a unit beside its sheets.
+struct About {
+    number: usize,
+    offset: u64,
+    version: u16,
+    language: String,
+    name: String,
+    producer: String,
+}
+
+impl About {
+    fn new(number: usize, offset: u64) -> Self {
+        About {
+            number,
+            offset,
+            version: 0,
+            language: "-".into(),
+            name: "-".into(),
+            producer: "-".into(),
+        }
+    }
+
+    fn describe(&mut self, source: &Source, decoded: &Decoded) {
+        let unit = &decoded.unit;
+        self.version = unit.encoding().version;
+        if let Some(name) = unit.name {
+            self.name = printable(name.slice());
+        }
+        let mut cursor = unit.entries();
+        let Ok(Some((_, root))) = cursor.next_dfs() else {
+            return;
+        };
+        if let Ok(Some(AttributeValue::Language(language))) = root.attr_value(gimli::DW_AT_language)
+        {
+            let name = language.static_string().unwrap_or("-");
+            self.language = name.trim_start_matches("DW_LANG_").into();
+        }
+        if let Ok(Some(producer)) = root.attr_value(gimli::DW_AT_producer) {
+            if let Some(text) = unit::text(source.dwarf, unit, producer) {
+                self.producer = printable(text);
+            }
+        }
+    }
+}
+
+/// Bytes for one column of a text file.
+fn printable(bytes: &[u8]) -> String {
+    let text = String::from_utf8_lossy(bytes);
+    let text = text.replace(|letter: char| letter.is_control(), "?");
+    if text.is_empty() {
+        "-".into()
+    } else {
+        text
+    }
+}
+
+/// Units and skipped units of one or more files.
+#[derive(Default)]
+struct Summary {
+    dumped: usize,
+    skipped: BTreeMap<String, usize>,
+    unapplied: usize,
+}
+
+impl Summary {
+    fn print(&self) {
+        let skipped: usize = self.skipped.values().sum();
+        println!("{} units dumped, {skipped} skipped", self.dumped);
+        for (reason, count) in &self.skipped {
+            println!("  {count} skipped: {reason}");
+        }
+        if self.unapplied != 0 {
+            println!(
+                "  {} relocations that are not absolute left alone",
+                self.unapplied
+            );
+        }
+    }
+}
+
+/// Hands every unit of a file that has sheets to `keep`.
+fn each_unit(
+    object: &Path,
+    supplementary: Option<&Path>,
+    summary: &mut Summary,
+    mut keep: impl FnMut(About, Dump) -> Result<(), String>,
+) -> Result<(), String> {
+    let file = elf::read(object).map_err(|what| fault(object, what))?;
+    let second = read_supplementary(object, &file, supplementary)?;
+    summary.unapplied += file.unapplied;
+    let mut dwarf = file
+        .sections
+        .borrow(|data| EndianSlice::new(data, file.endian));
+    if let Some(second) = &second {
+        let borrowed = second
+            .sections
+            .borrow(|data| EndianSlice::new(data, file.endian));
+        dwarf.sup = Some(Arc::new(borrowed));
+    }
+    let input = Input {
+        main: Source::new(&dwarf).map_err(|what| fault(object, what))?,
+        supplementary: dwarf
+            .sup()
+            .map(Source::new)
+            .transpose()
+            .map_err(|what| fault(object, format!("supplementary file: {what}")))?,
+        text: &file.text,
+    };
+    if input.main.len() == 0 {
+        return Err(fault(object, "has no units of DWARF"));
+    }
+    for number in 0..input.main.len() {
+        let mut about = About::new(number, input.main.place(number).0);
+        if let Ok(decoded) = input.main.unit(number) {
+            about.describe(&input.main, decoded);
+        }
+        match input.dump(number) {
+            Ok(dump) => {
+                summary.dumped += 1;
+                keep(about, dump)?;
+            }
+            Err(reason) => {
+                eprintln!(
+                    "{}: unit {number} at {:#x} ({}) skipped: {reason}",
+                    object.display(),
+                    about.offset,
+                    about.name
+                );
+                *summary.skipped.entry(reason).or_default() += 1;
+            }
+        }
+    }
+    Ok(())
+}
+
+/// The supplementary file that was given, else the one that the object names, if it is there.
+fn read_supplementary(
+    object: &Path,
+    file: &DebugFile,
+    given: Option<&Path>,
+) -> Result<Option<DebugFile>, String> {
+    let beside = file.supplementary.as_ref().map(|(path, identity)| {
+        let folder = object.parent().unwrap_or(Path::new(""));
+        (folder.join(path), identity)
+    });
+    let path = match (given, &beside) {
+        (Some(path), _) => path,
+        (None, Some((path, _))) if path.exists() => path,
+        (None, Some((path, _))) => {
+            eprintln!(
+                "{}: no supplementary file at {}",
+                object.display(),
+                path.display()
+            );
+            return Ok(None);
+        }
+        (None, None) => return Ok(None),
+    };
+    let second = elf::read(path).map_err(|what| fault(path, what))?;
+    if second.endian != file.endian {
+        return Err(fault(path, "has another byte order than the object"));
+    }
+    match &beside {
+        Some((_, identity)) if !second.identities.contains(identity) => Err(fault(
+            path,
+            "is not the supplementary file that the object names",
+        )),
+        Some(_) => Ok(Some(second)),
+        None => Err(fault(object, "names no supplementary file")),
+    }
+}
+
+fn dump(object: &Path, place: &Path, supplementary: Option<&Path>) -> Result<(), String> {
+    let pending = Pending::new(place)?;
+    let folder = pending.folder()?;
+    let mut index =
+        String::from("unit\tordinal\toffset\tversion\tmain\tsupplementary\tline\tfields\tname\n");
+    let mut summary = Summary::default();
+    each_unit(object, supplementary, &mut summary, |about, dump| {
+        let parts = [
+            ("main", &dump.main.bytes),
+            ("sup", &dump.supplementary.bytes),
+            ("line", &dump.program),
+        ];
+        for (kind, bytes) in parts {
+            let path = folder.join(format!("{:04}.{kind}", about.number));
+            std::fs::write(&path, bytes).map_err(|error| fault(place, error))?;
+        }
+        index += &format!(
+            "{:04}\t{}\t{:#x}\t{}\t{}\t{}\t{}\t{}\t{}\n",
+            about.number,
+            dump.ordinal,
+            about.offset,
+            about.version,
+            dump.main.bytes.len(),
+            dump.supplementary.bytes.len(),
+            dump.program.len(),
+            dump.main.fields + dump.supplementary.fields,
+            about.name
+        );
+        Ok(())
+    })?;
+    std::fs::write(folder.join("index"), index).map_err(|error| fault(place, error))?;
+    pending.finish()?;
+    summary.print();
+    Ok(())
+}
+
+const INLINES: u8 = 1;
+const CALL_SITES: u8 = 2;
+const FIRST_FILE: u32 = 1;
+const BUFFER: u32 = 1 << 20;
+
+/// A case: the lengths, what the caller gives beside the inputs, and the inputs.
+fn case(dump: &Dump) -> Vec<u8> {
+    let inputs = [&dump.main.bytes, &dump.supplementary.bytes, &dump.program];
+    let mut bytes = Vec::new();
+    for input in inputs {
+        bytes.extend((input.len() as u32).to_le_bytes());
+    }
+    bytes.extend((dump.ordinal as u64).to_le_bytes());
+    bytes.push(INLINES | CALL_SITES);
+    bytes.extend(FIRST_FILE.to_le_bytes());
+    let work = sheet::work_length(&dump.main, &dump.supplementary, &dump.program);
+    bytes.extend(work.to_le_bytes());
+    for buffer in [BUFFER; 3] {
+        bytes.extend(buffer.to_le_bytes());
+    }
+    for input in inputs {
+        bytes.extend(input);
+    }
+    bytes
+}
+
+fn cases(options: &Options, out: &Path) -> Result<(), String> {
+    let pending = Pending::new(out)?;
+    let mut file = pending.file()?;
+    if options.append && out.exists() {
+        let before = std::fs::read(out).map_err(|error| fault(out, error))?;
+        output::write(&mut file, out, &before)?;
+    }
+    let mut list = String::from(
+        "object\tunit\tordinal\tversion\tlanguage\tmain\tsupplementary\tline\tfields\tname\tproducer\n",
+    );
+    let mut summary = Summary::default();
+    for object in &options.plain {
+        each_unit(
+            object,
+            options.supplementary.as_deref(),
+            &mut summary,
+            |about, dump| {
+                list += &format!(
+                    "{}\t{}\t{}\t{}\t{}\t{}\t{}\t{}\t{}\t{}\t{}\n",
+                    object.display(),
+                    about.number,
+                    dump.ordinal,
+                    about.version,
+                    about.language,
+                    dump.main.bytes.len(),
+                    dump.supplementary.bytes.len(),
+                    dump.program.len(),
+                    dump.main.fields + dump.supplementary.fields,
+                    about.name,
+                    about.producer
+                );
+                output::write(&mut file, out, &case(&dump))
+            },
+        )?;
+    }
+    output::flush(file, out)?;
+    if let Some(path) = &options.list {
+        let pending = Pending::new(path)?;
+        let mut file = pending.file()?;
+        output::write(&mut file, path, list.as_bytes())?;
+        output::flush(file, path)?;
+        pending.finish()?;
+    }
+    pending.finish()?;
+    summary.print();
+    Ok(())
+}

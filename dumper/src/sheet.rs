@@ -1,0 +1,95 @@
+//! Writing a sheet: fields of a one-byte tag, a two-byte length and a payload.
+
+/// The largest sheet, in bytes.
+pub const SHEET_LIMIT: usize = 16_777_216;
+/// The largest line program, in bytes.
+pub const PROGRAM_LIMIT: usize = 4_194_304;
+const FIELD_LIMIT: usize = 65_536;
+const UNIT_LIMIT: usize = 256;
+const STRING_LIMIT: usize = 4_096;
+const DEPTH_LIMIT: u64 = 1_024;
+
+pub const UNIT: u8 = 0x10;
+pub const DIRECTORY_OF_UNIT: u8 = 0x11;
+pub const TEXT: u8 = 0x12;
+pub const LINE_HEADER: u8 = 0x13;
+pub const DIRECTORY: u8 = 0x14;
+pub const FILE: u8 = 0x15;
+pub const ROW: u8 = 0x16;
+pub const ENTRY: u8 = 0x17;
+pub const ATTRIBUTE: u8 = 0x18;
+pub const RANGE: u8 = 0x19;
+pub const RANGE_FAILURE: u8 = 0x1a;
+pub const FILE_ZERO: u8 = 0x1c;
+
+/// One value of a payload.
+pub enum Part<'a> {
+    U8(u8),
+    U16(u16),
+    U64(u64),
+    /// Bytes without a limit of their own.
+    Bytes(&'a [u8]),
+    /// A string or a reason, which has a limit.
+    Text(&'a [u8]),
+}
+
+#[derive(Default)]
+pub struct Sheet {
+    pub bytes: Vec<u8>,
+    pub fields: usize,
+    units: usize,
+}
+
+impl Sheet {
+    /// Adds a field, or says which limit it would pass.
+    pub fn field(&mut self, tag: u8, parts: &[Part]) -> Result<(), &'static str> {
+        self.fields += 1;
+        if self.fields > FIELD_LIMIT {
+            return Err("more than 65,536 fields");
+        }
+        if tag == UNIT {
+            self.units += 1;
+            if self.units > UNIT_LIMIT {
+                return Err("more than 256 units");
+            }
+        }
+        let start = self.bytes.len();
+        self.bytes.extend([tag, 0, 0]);
+        for part in parts {
+            match *part {
+                Part::U8(value) => self.bytes.push(value),
+                Part::U16(value) => self.bytes.extend(value.to_le_bytes()),
+                Part::U64(value) => self.bytes.extend(value.to_le_bytes()),
+                Part::Bytes(bytes) => self.bytes.extend(bytes),
+                Part::Text(bytes) if bytes.len() > STRING_LIMIT => {
+                    return Err("a string of more than 4,096 bytes");
+                }
+                Part::Text(bytes) => self.bytes.extend(bytes),
+            }
+        }
+        let length = self.bytes.len() - start - 3;
+        let length = u16::try_from(length).map_err(|_| "a field of more than 65,535 bytes")?;
+        self.bytes[start + 1..start + 3].copy_from_slice(&length.to_le_bytes());
+        if self.bytes.len() > SHEET_LIMIT {
+            return Err("a sheet of more than 16,777,216 bytes");
+        }
+        Ok(())
+    }
+
+    /// Adds an entry, whose depth has a limit.
+    pub fn entry(&mut self, offset: u64, depth: u64, tag: u16) -> Result<(), &'static str> {
+        if depth > DEPTH_LIMIT {
+            return Err("an entry deeper than 1,024");
+        }
+        self.field(
+            ENTRY,
+            &[Part::U64(offset), Part::U16(depth as u16), Part::U16(tag)],
+        )
+    }
+}
+
+/// The work length that an import of these inputs needs, and no byte more.
+pub fn work_length(main: &Sheet, supplementary: &Sheet, program: &[u8]) -> u64 {
+    let fields = (main.fields + supplementary.fields) as u64;
+    64 * fields + 4 * program.len() as u64 + 16_384
+}
