@@ -8,11 +8,12 @@ use lib.ListN.{length}
 use borrow.Author.Tests.{ltb-true}
 use Rattle.tlv.specs.Limits.{fieldLimit}
 use Rattle.tlv.specs.Fields.{Field, payloads}
-use Rattle.tlv.specs.Grammar.{Context, next, limited, payloadLimited}
+use Rattle.tlv.specs.declared.grammar.Context.{Context}
+use Rattle.tlv.specs.Grammar.{next, limited, payloadLimited}
 use Rattle.tlv.proofs.TestLaws.{by-test, and-left}
 use Rattle.tlv.proofs.AcceptedFields.{Passed, AllPassed}
 
-next-count : (c : Context) (f : Field) → next c f .count ≡ c .count + 1
+pub next-count : (c : Context) (f : Field) → next c f .count ≡ c .count + 1
 unfolding next
 next-count c f = by-test Counted (eqb (f .tag) 0x10) (λ e. refl) (λ e. by-test Counted (eqb (f .tag) 0x17) (λ e. refl) (λ e. refl))
   where
@@ -31,7 +32,7 @@ few : (c : Context) (fs : List Field) → AllPassed c fs → length fs ≤ field
 few c [] h = omega arith
 few c (f ∷ fs) h = omega (arith, few-after c f fs (h .0) (h .1))
 
-fewer : (t : ℕ) (fs : List Field) → length (payloads t fs) ≤ length fs
+pub fewer : (t : ℕ) (fs : List Field) → length (payloads t fs) ≤ length fs
 unfolding payloads
 fewer t [] = omega arith
 fewer t (f ∷ fs) =

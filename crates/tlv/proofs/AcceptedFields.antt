@@ -11,7 +11,8 @@ use Rattle.tlv.specs.Lists.{All}
 use Rattle.tlv.specs.Bytes.{Bytes, leAt}
 use Rattle.tlv.specs.Limits.{fieldLimit, stringLimit, depthLimit}
 use Rattle.tlv.specs.Fields.{Field, headOf, payloads, payloadOf}
-use Rattle.tlv.specs.Grammar.{Context, mayFollow, payloadShaped, payloadLimited, shaped, limited, next, unitShaped, rowShaped, entryShaped}
+use Rattle.tlv.specs.declared.grammar.Context.{Context}
+use Rattle.tlv.specs.Grammar.{mayFollow, payloadShaped, payloadLimited, shaped, limited, next, unitShaped, rowShaped, entryShaped}
 use Rattle.tlv.specs.Model.{rangeOf, directoryOf, fileOf, rowOf, attributeOf, entryRangeOf, failureOf}
 use Rattle.tlv.specs.Accepted.{Small, String, Given, AttributeAccepted, FailureAccepted, RowAccepted}
 use Rattle.tlv.proofs.TestLaws.{by-test, and-left, and-right}
@@ -132,7 +133,7 @@ module _ (c : Context) (p : List ℕ) (s : payloadShaped c 0x17 p ≡ true) wher
   unfolding payloadShaped entryShaped
   entry-from = leb-true _ _ (search (and-left, and-right))
 
-  pub entry-within : leAt 8 p 0 < c .unitLength
+  pub entry-within : leAt 8 p 0 < c .length
   unfolding payloadShaped entryShaped
   entry-within = ltb-true _ _ (search (and-left, and-right))
 

@@ -10,7 +10,8 @@ use Rattle.tlv.specs.Outcome.{Outcome, refused, done}
 use Rattle.tlv.specs.Lists.{All}
 use Rattle.tlv.specs.Bytes.{Bytes, le}
 use Rattle.tlv.specs.Fields.{Field, FieldList, end, cut, more, fieldsFrom, wholeFields, Group, Groups, grouped}
-use Rattle.tlv.specs.Grammar.{Context, shaped, limited, next, checkFrom}
+use Rattle.tlv.specs.declared.grammar.Context.{Context}
+use Rattle.tlv.specs.Grammar.{shaped, limited, next, checkFrom}
 use Rattle.tlv.proofs.TestLaws.{by-test}
 use Rattle.tlv.proofs.ListLaws.{all-take}
 use Rattle.tlv.proofs.OutcomeLaws.{refused-not}
@@ -35,7 +36,7 @@ fields-bytes (suc k) [] h = tt
 fields-bytes (suc k) (x ∷ rest) h = fields-bytes k rest (h .1)
 
 -- a check that is done has passed its field
-passed-both : (a b : Bool) (o : Outcome ℕ) (n : ℕ) → cond a (cond b o (refused 3)) (refused 2) ≡ done n → (a ≡ true) × (b ≡ true) × (o ≡ done n)
+pub passed-both : (a b : Bool) (o : Outcome ℕ) (n : ℕ) → cond a (cond b o (refused 3)) (refused 2) ≡ done n → (a ≡ true) × (b ≡ true) × (o ≡ done n)
 passed-both true true o n e = (refl, refl, e)
 passed-both true false o n e = refused-not e
 passed-both false b o n e = refused-not e

@@ -10,7 +10,8 @@ use borrow.Author.Tests.{eqb-true, ne-eqb}
 use Rattle.tlv.specs.Lists.{All}
 use Rattle.tlv.specs.Bytes.{leAt}
 use Rattle.tlv.specs.Fields.{Field, Group, Groups, grouped, fields, wholeFields, payloads, payloadOf}
-use Rattle.tlv.specs.Grammar.{Context, start, next, checkSheet}
+use Rattle.tlv.specs.declared.grammar.Context.{Context}
+use Rattle.tlv.specs.Grammar.{start, next, checkSheet}
 use Rattle.tlv.specs.Model.{rangeOf, directoryOf, fileOf, rowOf, attributeOf, entryRangeOf, failureOf, entryOf, unitOf, units}
 use Rattle.tlv.specs.Accepted.{Small, String, AttributeAccepted, FailureAccepted, RowAccepted, EntryAccepted, Ordered, UnitAccepted, Accepting}
 use Rattle.tlv.proofs.ListLaws.{all-map, all-image, given-image}
@@ -23,17 +24,17 @@ use Rattle.tlv.proofs.AcceptedGroups.{Without, Passage, fields-bytes, c
 -- ---- what a field leaves for the next
 
 module _ (c : Context) (f : Field) where
-  next-unit : f .tag ≡ 0x10 → (next c f .unitLength ≡ leAt 8 (f .payload) 8) × (next c f .offset ≡ 0) × (next c f .depth ≡ 0)
+  next-unit : f .tag ≡ 0x10 → (next c f .length ≡ leAt 8 (f .payload) 8) × (next c f .offset ≡ 0) × (next c f .depth ≡ 0)
   unfolding next
   next-unit e = rw e (refl, refl, refl)
 
   next-entry : f .tag ≡ 0x17
-      → (next c f .unitLength ≡ c .unitLength) × (next c f .offset ≡ suc (leAt 8 (f .payload) 0)) × (next c f .depth ≡ suc (leAt 2 (f .payload) 8))
+      → (next c f .length ≡ c .length) × (next c f .offset ≡ suc (leAt 8 (f .payload) 0)) × (next c f .depth ≡ suc (leAt 2 (f .payload) 8))
   unfolding next
   next-entry e = rw e (refl, add-one _, add-one _)
 
   next-other : (f .tag ≡ 0x10 → ⊥) → eqb (f .tag) 0x17 ≡ false
-      → (next c f .unitLength ≡ c .unitLength) × (next c f .offset ≡ c .offset) × (next c f .depth ≡ c .depth)
+      → (next c f .length ≡ c .length) × (next c f .offset ≡ c .offset) × (next c f .depth ≡ c .depth)
   unfolding next
   next-other h e = rw (ne-eqb (f .tag) 0x10 h, e) (refl, refl, refl)
 
@@ -45,7 +46,7 @@ record Entries (n o d : ℕ) (gs : List Group) : Type 0 where
   ordered : Ordered o d (map entryOf gs)
 
 entry-accepted : (c : Context) (g : Group) → g .head .tag ≡ 0x17 → Passed c (g .head) → AllPassed (next c (g .head)) (g .rest)
-    → EntryAccepted (c .unitLength) (entryOf g)
+    → EntryAccepted (c .length) (entryOf g)
 unfolding entryOf
 entry-accepted c g is h rest =
     let f = g .head in
@@ -61,8 +62,8 @@ entry-accepted c g is h rest =
 
 module _ (c : Context) (f : Field) (g : Groups) where
   joined-entries : (b : Bool) → eqb (f .tag) 0x17 ≡ b → (f .tag ≡ 0x10 → ⊥) → Passed c f → AllPassed (next c f) (g .before)
-      → Entries (next c f .unitLength) (next c f .offset) (next c f .depth) (g .groups)
-      → Entries (c .unitLength) (c .offset) (c .depth) (cond {A = Groups} b
+      → Entries (next c f .length) (next c f .offset) (next c f .depth) (g .groups)
+      → Entries (c .length) (c .offset) (c .depth) (cond {A = Groups} b
       (record { before = []; groups = record { head = f; rest = g .before } ∷ g .groups })
       (record { before = f ∷ g .before; groups = g .groups }) .groups)
   unfolding entryOf
@@ -70,7 +71,7 @@ module _ (c : Context) (f : Field) (g : Groups) where
       let is = eqb-true (f .tag) 0x17 e in
       let s = shape-is c f 0x17 is h in
       let n = next-entry c f is in
-      let later : Entries (c .unitLength) (suc (leAt 8 (f .payload) 0)) (suc (leAt 2 (f .payload) 8)) (g .groups) = rw (n .0, n .1, n .2) at rest in
+      let later : Entries (c .length) (suc (leAt 8 (f .payload) 0)) (suc (leAt 2 (f .payload) 8)) (g .groups) = rw (n .0, n .1, n .2) at rest in
       record {
         each = (entry-accepted c (record { head = f; rest = g .before }) is h own, later .each);
         ordered = (entry-from c (f .payload) s, entry-step c (f .payload) s, later .ordered);
@@ -79,7 +80,7 @@ module _ (c : Context) (f : Field) (g : Groups) where
       let n = next-other c f no-unit e in
       rw (n .0, n .1, n .2) at rest
 
-entries-passed : (c : Context) (fs : List Field) → Without 0x10 fs → AllPassed c fs → Entries (c .unitLength) (c .offset) (c .depth) (grouped 0x17 fs .groups)
+entries-passed : (c : Context) (fs : List Field) → Without 0x10 fs → AllPassed c fs → Entries (c .length) (c .offset) (c .depth) (grouped 0x17 fs .groups)
 unfolding grouped
 entries-passed c [] w h = record { each = tt; ordered = tt }
 entries-passed c (f ∷ fs) w h =

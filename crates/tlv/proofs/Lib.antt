@@ -23,3 +23,9 @@ pub mod ChunkLaws
 pub mod TableLaws
 pub mod RecordLaws
 pub mod ZeroLaws
+pub mod CursorLaws
+pub mod ShapeLaws
+pub mod PayloadFacts
+pub mod CheckLaws
+pub mod PlaceFacts
+pub mod PlacePromises

@@ -7,7 +7,8 @@ use native.Mathlib.Omega.{arith}
 use borrow.Author.Tests.{leb-true}
 use Rattle.tlv.specs.Outcome.{Outcome, refused, done, _>>=_}
 use Rattle.tlv.specs.Fields.{FieldList, end, cut, more, fields}
-use Rattle.tlv.specs.Grammar.{Context, start, next, checkFrom, checkSheet}
+use Rattle.tlv.specs.declared.grammar.Context.{Context}
+use Rattle.tlv.specs.Grammar.{start, next, checkFrom, checkSheet}
 
 -- an outcome that is done, or a refusal by a number from `lo` to `hi`
 pub data RefusesIn {A : Type 0} (lo hi : ℕ) : Outcome A → Type 0 where

@@ -5,24 +5,15 @@ use mathlib.Core.Bool.{Bool, true, false, cond, _&&_, _||_, not}
 use mathlib.Core.List.{List, [], _∷_}
 use lib.ListN.{length}
 use lib.Dec.{leb, ltb, eqb}
+use Rattle.tlv.specs.declared.grammar.Context.{Context}
 use Rattle.tlv.specs.Outcome.{Outcome, refused, done}
 use Rattle.tlv.specs.Lists.{exists}
 use Rattle.tlv.specs.Bytes.{leAt}
 use Rattle.tlv.specs.Limits.{fieldLimit, unitLimit, stringLimit, reasonLimit, depthLimit}
 use Rattle.tlv.specs.Fields.{Field, FieldList, end, cut, more, fields}
 
--- what the fields so far leave to check the next one against
-pub record Context : Type 0 where
-  pub previous : ℕ  -- the tag of the last field, 0 before the first
-  pub count : ℕ  -- fields so far
-  pub units : ℕ  -- units so far
-  pub unitEnd : ℕ  -- where the last unit ends
-  pub unitLength : ℕ  -- its length
-  pub offset : ℕ  -- the least offset that the next entry may have
-  pub depth : ℕ  -- the largest depth that the next entry may have
-
 abbrev pub start : Context
-start = record { previous = 0; count = 0; units = 0; unitEnd = 0; unitLength = 0; offset = 0; depth = 0 }
+start = record { previous = 0; count = 0; units = 0; end = 0; length = 0; offset = 0; depth = 0 }
 
 -- ---- the order: "A unit is 10, at most one 11, any 12; then optionally 13 and, only after one, any 14, at most one 1c, any 15, any 16; then entries, .."
 
@@ -58,7 +49,7 @@ isFlag n = leb n 1
 unfoldable pub unitShaped : Context → List ℕ → Bool
 unitShaped c p =
     eqb (length p) 18 && isVersion (leAt 1 p 16) && isWord (leAt 1 p 17)
-    && ltb (leAt 8 p 0 + leAt 8 p 8) (2 ^ 64) && leb (c .unitEnd) (leAt 8 p 0)
+    && ltb (leAt 8 p 0 + leAt 8 p 8) (2 ^ 64) && leb (c .end) (leAt 8 p 0)
 
 -- 12 executable range: start, end
 unfoldable pub textShaped : List ℕ → Bool
@@ -87,7 +78,7 @@ rowShaped p = eqb (length p) (rowKindAt + 1) && leb (leAt 1 p rowKindAt) 2
 -- The first entry has depth 0, later ones 1 to the previous plus 1."
 unfoldable pub entryShaped : Context → List ℕ → Bool
 entryShaped c p =
-    eqb (length p) 12 && leb (c .offset) (leAt 8 p 0) && ltb (leAt 8 p 0) (c .unitLength)
+    eqb (length p) 12 && leb (c .offset) (leAt 8 p 0) && ltb (leAt 8 p 0) (c .length)
     && leb (leAt 2 p 8) (c .depth) && (leb 1 (leAt 2 p 8) || eqb (c .depth) 0)
 
 -- the value of an attribute by its kind: 3 string, 10 failed (no value), else a number
@@ -156,8 +147,8 @@ next c f =
       previous = t;
       count = c .count + 1;
       units = c .units + 1;
-      unitEnd = leAt 8 p 0 + leAt 8 p 8;
-      unitLength = leAt 8 p 8;
+      end = leAt 8 p 0 + leAt 8 p 8;
+      length = leAt 8 p 8;
       offset = 0;
       depth = 0;
     })
@@ -166,8 +157,8 @@ next c f =
       previous = t;
       count = c .count + 1;
       units = c .units;
-      unitEnd = c .unitEnd;
-      unitLength = c .unitLength;
+      end = c .end;
+      length = c .length;
       offset = leAt 8 p 0 + 1;
       depth = leAt 2 p 8 + 1;
     })
@@ -175,8 +166,8 @@ next c f =
       previous = t;
       count = c .count + 1;
       units = c .units;
-      unitEnd = c .unitEnd;
-      unitLength = c .unitLength;
+      end = c .end;
+      length = c .length;
       offset = c .offset;
       depth = c .depth;
     }))

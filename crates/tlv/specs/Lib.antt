@@ -12,3 +12,5 @@ pub mod Fits
 pub mod Accepted
 pub mod Tray
 pub mod Table
+pub mod Cursor
+pub mod Checked

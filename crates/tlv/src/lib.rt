@@ -1,5 +1,7 @@
 // Type-length-value fields: what a sheet says, and what the trays are given.
 pub mod bytes;
+pub mod fields;
+pub mod grammar;
 pub mod model;
 pub mod output;
 pub mod table;

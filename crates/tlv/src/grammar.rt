@@ -1,0 +1,353 @@
+// Which sheets are accepted: the first bad field decides, and in one field 2 (misshapen) goes before 3 (past limit).
+ghost use mathlib.Core.Path.{_≡_};
+ghost use mathlib.Core.Bool.{true};
+ghost use Prim.Native.Nat.{_+_, _≤_};
+ghost use lib.ListN.{length, take, drop};
+ghost use Rattle.tlv.specs.Grammar.{mayFollow, unitShaped, textShaped, headerShaped, directoryShaped, fileShaped, rowShaped, entryShaped, valueShaped, attributeShaped, rangeShaped, failureShaped, payloadShaped, payloadLimited, shaped, limited, next, checkSheet};
+ghost use Rattle.tlv.specs.Checked.{fieldIn, judgedOf, checkedOf};
+use crate::bytes::read_u8;
+use crate::bytes::read_u16;
+use crate::bytes::read_u64;
+use crate::fields::Step;
+use crate::fields::field_at;
+
+const FIELD_LIMIT: u64 = 65536;
+
+const UNIT_LIMIT: u64 = 256;
+
+const STRING_LIMIT: usize = 4096;
+
+const REASON_LIMIT: usize = 4096;
+
+const DEPTH_LIMIT: u16 = 1024;
+
+// What the fields so far leave to check the next one against.
+pub struct Context {
+    pub previous: u8, // the tag of the last field, 0 before the first
+    pub count: u64, // fields so far
+    pub units: u64, // units so far
+    pub end: u64, // where the last unit ends
+    pub length: u64, // its length
+    pub offset: u64, // the least offset that the next entry may have
+    pub depth: u64, // the largest depth that the next entry may have
+}
+
+// Whether a field of a tag may stand after one of the tag `previous`.
+pub fn may_follow(previous: u8, tag: u8) -> bool
+    ensures { λ r. ⌜ r ≡ mayFollow previous tag ⌝ }
+{
+    match previous {
+        0x10 => (tag == 0x10) | (tag == 0x11) | (tag == 0x12) | (tag == 0x13) | (tag == 0x17),
+        0x11 => (tag == 0x10) | (tag == 0x12) | (tag == 0x13) | (tag == 0x17),
+        0x12 => (tag == 0x10) | (tag == 0x12) | (tag == 0x13) | (tag == 0x17),
+        0x13 => (tag == 0x10)
+            | (tag == 0x14)
+            | (tag == 0x1c)
+            | (tag == 0x15)
+            | (tag == 0x16)
+            | (tag == 0x17),
+        0x14 => (tag == 0x10)
+            | (tag == 0x14)
+            | (tag == 0x1c)
+            | (tag == 0x15)
+            | (tag == 0x16)
+            | (tag == 0x17),
+        0x1c => (tag == 0x10) | (tag == 0x15) | (tag == 0x16) | (tag == 0x17),
+        0x15 => (tag == 0x10) | (tag == 0x15) | (tag == 0x16) | (tag == 0x17),
+        0x16 => (tag == 0x10) | (tag == 0x16) | (tag == 0x17),
+        0x17 => (tag == 0x10) | (tag == 0x17) | (tag == 0x18) | (tag == 0x19) | (tag == 0x1a),
+        0x18 => (tag == 0x10) | (tag == 0x17) | (tag == 0x18) | (tag == 0x19) | (tag == 0x1a),
+        0x19 => (tag == 0x10) | (tag == 0x17) | (tag == 0x19) | (tag == 0x1a),
+        0x1a => (tag == 0x10) | (tag == 0x17),
+        _ => tag == 0x10,
+    }
+}
+
+// The shape of each field's payload, the `len` bytes from `start` on.
+
+pub fn unit_shaped(c: Context, s: &[u8], start: usize, len: usize) -> bool
+    requires { ⌜ start + len ≤ length (now s) ⌝ }
+    ensures { λ r. ⌜ r ≡ unitShaped c (take len (drop start (now (s .entry)))) ⌝ }
+{
+    if len != 18 {
+        return false;
+    }
+    let offset = read_u64(s, start);
+    let size = read_u64(s, start + 8);
+    let version = read_u8(s, start + 16);
+    let word = read_u8(s, start + 17);
+    let room = 18446744073709551615 - offset;
+    (2 <= version)
+        & (version <= 5)
+        & ((word == 4) | (word == 8))
+        & (size <= room)
+        & (c.end <= offset)
+}
+
+pub fn text_shaped(s: &[u8], start: usize, len: usize) -> bool
+    requires { ⌜ start + len ≤ length (now s) ⌝ }
+    ensures { λ r. ⌜ r ≡ textShaped (take len (drop start (now (s .entry)))) ⌝ }
+{
+    len == 16
+}
+
+pub fn header_shaped(s: &[u8], start: usize, len: usize) -> bool
+    requires { ⌜ start + len ≤ length (now s) ⌝ }
+    ensures { λ r. ⌜ r ≡ headerShaped (take len (drop start (now (s .entry)))) ⌝ }
+{
+    if len < 19 {
+        return false;
+    }
+    let version = read_u8(s, start + 16);
+    let word = read_u8(s, start + 17);
+    (2 <= version) & (version <= 5) & ((word == 4) | (word == 8))
+}
+
+pub fn directory_shaped(s: &[u8], start: usize, len: usize) -> bool
+    requires { ⌜ start + len ≤ length (now s) ⌝ }
+    ensures { λ r. ⌜ r ≡ directoryShaped (take len (drop start (now (s .entry)))) ⌝ }
+{
+    if len < 1 {
+        return false;
+    }
+    read_u8(s, start) <= 1
+}
+
+pub fn file_shaped(s: &[u8], start: usize, len: usize) -> bool
+    requires { ⌜ start + len ≤ length (now s) ⌝ }
+    ensures { λ r. ⌜ r ≡ fileShaped (take len (drop start (now (s .entry)))) ⌝ }
+{
+    if len < 9 {
+        return false;
+    }
+    read_u8(s, start) <= 1
+}
+
+pub fn row_shaped(s: &[u8], start: usize, len: usize) -> bool
+    requires { ⌜ start + len ≤ length (now s) ⌝ }
+    ensures { λ r. ⌜ r ≡ rowShaped (take len (drop start (now (s .entry)))) ⌝ }
+{
+    if len != 25 {
+        return false;
+    }
+    read_u8(s, start + 24) <= 2
+}
+
+pub fn entry_shaped(c: Context, s: &[u8], start: usize, len: usize) -> bool
+    requires { ⌜ start + len ≤ length (now s) ⌝ }
+    ensures { λ r. ⌜ r ≡ entryShaped c (take len (drop start (now (s .entry)))) ⌝ }
+{
+    if len != 12 {
+        return false;
+    }
+    let offset = read_u64(s, start);
+    let depth = read_u16(s, start + 8) as u64;
+    (c.offset <= offset)
+        & (offset < c.length)
+        & (depth <= c.depth)
+        & ((1 <= depth) | (c.depth == 0))
+}
+
+// The value of an attribute by its kind and its length.
+pub fn value_shaped(kind: u8, n: usize) -> bool
+    ensures { λ r. ⌜ r ≡ valueShaped kind n ⌝ }
+{
+    match kind {
+        3 => true,
+        10 => n == 0,
+        _ => (1 <= kind) & (kind <= 9) & (n == 8),
+    }
+}
+
+pub fn attribute_shaped(s: &[u8], start: usize, len: usize) -> bool
+    requires { ⌜ start + len ≤ length (now s) ⌝ }
+    ensures { λ r. ⌜ r ≡ attributeShaped (take len (drop start (now (s .entry)))) ⌝ }
+{
+    if len < 3 {
+        return false;
+    }
+    value_shaped(read_u8(s, start + 2), len - 3)
+}
+
+pub fn range_shaped(s: &[u8], start: usize, len: usize) -> bool
+    requires { ⌜ start + len ≤ length (now s) ⌝ }
+    ensures { λ r. ⌜ r ≡ rangeShaped (take len (drop start (now (s .entry)))) ⌝ }
+{
+    if len != 17 {
+        return false;
+    }
+    read_u8(s, start + 16) <= 1
+}
+
+pub fn failure_shaped(previous: u8, s: &[u8], start: usize, len: usize) -> bool
+    requires { ⌜ start + len ≤ length (now s) ⌝ }
+    ensures { λ r. ⌜ r ≡ failureShaped previous (take len (drop start (now (s .entry)))) ⌝ }
+{
+    if len < 1 {
+        return false;
+    }
+    let stage = read_u8(s, start);
+    (stage <= 1) & ((stage == 1) | (previous != 0x19))
+}
+
+pub fn payload_shaped(c: Context, tag: u8, s: &[u8], start: usize, len: usize) -> bool
+    requires { ⌜ start + len ≤ length (now s) ⌝ }
+    ensures { λ r. ⌜ r ≡ payloadShaped c tag (take len (drop start (now (s .entry)))) ⌝ }
+{
+    match tag {
+        0x10 => unit_shaped(c, s, start, len),
+        0x11 => true,
+        0x12 => text_shaped(s, start, len),
+        0x13 => header_shaped(s, start, len),
+        0x14 => directory_shaped(s, start, len),
+        0x15 => file_shaped(s, start, len),
+        0x1c => file_shaped(s, start, len),
+        0x16 => row_shaped(s, start, len),
+        0x17 => entry_shaped(c, s, start, len),
+        0x18 => attribute_shaped(s, start, len),
+        0x19 => range_shaped(s, start, len),
+        0x1a => failure_shaped(c.previous, s, start, len),
+        _ => false,
+    }
+}
+
+// Whether a payload that is shaped is within the limits.
+pub fn payload_limited(c: Context, tag: u8, s: &[u8], start: usize, len: usize) -> bool
+    requires { ⌜ start + len ≤ length (now s) ⌝ }
+    requires { ⌜ payloadShaped c tag (take len (drop start (now s))) ≡ true ⌝ }
+    ensures { λ r. ⌜ r ≡ payloadLimited c tag (take len (drop start (now (s .entry)))) ⌝ }
+{
+    match tag {
+        0x10 => c.units < UNIT_LIMIT,
+        0x11 => len <= STRING_LIMIT,
+        0x14 => len <= STRING_LIMIT + 1,
+        0x15 => len <= STRING_LIMIT + 9,
+        0x1c => len <= STRING_LIMIT + 9,
+        0x17 => read_u16(s, start + 8) <= DEPTH_LIMIT,
+        0x18 => (read_u8(s, start + 2) != 3) | (len <= STRING_LIMIT + 3),
+        0x1a => len <= REASON_LIMIT + 1,
+        _ => true,
+    }
+}
+
+// The context after a field that has passed.
+pub fn next(c: Context, tag: u8, s: &[u8], start: usize, len: usize) -> Context
+    requires { ⌜ start + len ≤ length (now s) ⌝ }
+    requires { ⌜ shaped c (fieldIn (now s) tag start len) ≡ true ⌝ }
+    requires { ⌜ limited c (fieldIn (now s) tag start len) ≡ true ⌝ }
+    ensures { λ r. ⌜ r ≡ next c (fieldIn (now (s .entry)) tag start len) ⌝ }
+{
+    let count = c.count + 1;
+    match tag {
+        0x10 => {
+            let offset = read_u64(s, start);
+            let size = read_u64(s, start + 8);
+            Context {
+                previous: tag,
+                count: count,
+                units: c.units + 1,
+                end: offset + size,
+                length: size,
+                offset: 0,
+                depth: 0,
+            }
+        }
+        0x17 => {
+            let offset = read_u64(s, start);
+            let depth = read_u16(s, start + 8) as u64;
+            Context {
+                previous: tag,
+                count: count,
+                units: c.units,
+                end: c.end,
+                length: c.length,
+                offset: offset + 1,
+                depth: depth + 1,
+            }
+        }
+        _ => Context {
+            previous: tag,
+            count: count,
+            units: c.units,
+            end: c.end,
+            length: c.length,
+            offset: c.offset,
+            depth: c.depth,
+        },
+    }
+}
+
+// What becomes of one field.
+pub enum Judged {
+    Passed(Context),
+    Misshapen,
+    PastLimit,
+}
+
+fn judge(c: Context, tag: u8, s: &[u8], start: usize, len: usize) -> Judged
+    requires { ⌜ start + len ≤ length (now s) ⌝ }
+    ensures { λ r. ⌜ r ≡ judgedOf c (fieldIn (now (s .entry)) tag start len) ⌝ }
+{
+    if !may_follow(c.previous, tag) {
+        return Judged::Misshapen;
+    }
+    if !payload_shaped(c, tag, s, start, len) {
+        return Judged::Misshapen;
+    }
+    if FIELD_LIMIT <= c.count {
+        return Judged::PastLimit;
+    }
+    if !payload_limited(c, tag, s, start, len) {
+        return Judged::PastLimit;
+    }
+    Judged::Passed(next(c, tag, s, start, len))
+}
+
+// What becomes of a sheet: the number of its fields, or why not.
+pub enum Checked {
+    Accepted(u64),
+    Misshapen,
+    PastLimit,
+}
+
+pub fn check_sheet(s: &[u8]) -> Checked
+    ensures { λ r. ⌜ checkedOf r ≡ checkSheet (now (s .entry)) ⌝ }
+{
+    let mut p: usize = 0;
+    let mut c = Context {
+        previous: 0,
+        count: 0,
+        units: 0,
+        end: 0,
+        length: 0,
+        offset: 0,
+        depth: 0,
+    };
+    loop {
+        match field_at(s, p) {
+            Step::End => {
+                return Checked::Accepted(c.count);
+            }
+            Step::Cut => {
+                return Checked::Misshapen;
+            }
+            Step::Field {
+                tag,
+                start,
+                len,
+                next: past,
+            } => match judge(c, tag, s, start, len) {
+                Judged::Misshapen => {
+                    return Checked::Misshapen;
+                }
+                Judged::PastLimit => {
+                    return Checked::PastLimit;
+                }
+                Judged::Passed(after) => {
+                    c = after;
+                    p = past;
+                }
+            },
+        }
+    }
+}
