@@ -14,3 +14,4 @@ pub mod Tray
 pub mod Table
 pub mod Cursor
 pub mod Checked
+pub mod Places
