@@ -29,3 +29,13 @@ pub mod PayloadFacts
 pub mod CheckLaws
 pub mod PlaceFacts
 pub mod PlacePromises
+pub mod OwnLaws
+pub mod AttributeLaws
+pub mod EntryPlaceLaws
+pub mod UnitPlaceLaws
+pub mod UnitFacts
+pub mod IndexOrder
+pub mod IndexLaws
+pub mod FindLaws
+pub mod IndexModel
+pub mod IndexPlaces

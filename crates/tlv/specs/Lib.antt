@@ -15,3 +15,5 @@ pub mod Table
 pub mod Cursor
 pub mod Checked
 pub mod Places
+pub mod Access
+pub mod Index

@@ -1,7 +1,9 @@
 // Type-length-value fields: what a sheet says, and what the trays are given.
+pub mod access;
 pub mod bytes;
 pub mod fields;
 pub mod grammar;
+pub mod index;
 pub mod model;
 pub mod output;
 pub mod table;

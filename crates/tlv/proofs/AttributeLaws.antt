@@ -1,0 +1,133 @@
+-- The value of an attribute: what its payload says, and the turns of the loop that looks for the first of a name. Assumes nothing.
+use mathlib.Core.Path.{_≡_, refl, sym, ap, _∙_}
+use mathlib.Core.Bool.{Bool, true, false, cond}
+use mathlib.Core.List.{List, map}
+use mathlib.Core.Option.{some}
+use Prim.Native.Nat.{ℕ, _+_, _-_, _≤_, _<_}
+use native.Mathlib.Omega.{arith}
+use lib.Dec.{eqb}
+use lib.ListN.{length, take, drop}
+use borrow.Author.Tests.{leb-true, eqb-true, eq-eqb, ne-eqb}
+use Rattle.tlv.specs.declared.access.Own.{Own}
+use Rattle.tlv.specs.declared.access.Value.{Value}
+use Rattle.tlv.specs.Lists.{first}
+use Rattle.tlv.specs.Bytes.{leAt}
+use Rattle.tlv.specs.Fields.{fields, payloads}
+use Rattle.tlv.specs.Grammar.{valueShaped, attributeShaped, payloadShaped}
+use Rattle.tlv.specs.Model.{attributeOf}
+use Rattle.tlv.specs.Checked.{Placed}
+use Rattle.tlv.specs.Places.{ownFields}
+use Rattle.tlv.specs.Access.{ownPayloads, NextOwn, Meaning, isNamed, valueOf, meaningOf, numberValue, meant, ValueWithin, Says}
+use Rattle.tlv.proofs.TestLaws.{by-test, and-left, and-right}
+use Rattle.tlv.proofs.WidthLaws.{drop-part}
+use Rattle.tlv.proofs.ShapeLaws.{part-length, number-at, number-first}
+use Rattle.tlv.proofs.OwnLaws.{own-within, own-passed}
+
+-- ---- a value
+
+meant-cond : (s : List ℕ) (b : Bool) (x y : Value) → meant s (cond b x y) ≡ cond b (meant s x) (meant s y)
+meant-cond s true x y = refl
+meant-cond s false x y = refl
+
+number-within : (s : List ℕ) (k n : ℕ) → ValueWithin s (numberValue k n)
+unfolding numberValue
+number-within s k n =
+    let W : Value → Type 0 = ValueWithin s in
+    by-test W (eqb k 1) (λ _. tt) (λ _.
+    by-test W (eqb k 2) (λ _. tt) (λ _.
+    by-test W (eqb k 4) (λ _. tt) (λ _.
+    by-test W (eqb k 5) (λ _. tt) (λ _.
+    by-test W (eqb k 6) (λ _. tt) (λ _.
+    by-test W (eqb k 7) (λ _. tt) (λ _.
+    by-test W (eqb k 8) (λ _. tt) (λ _.
+    by-test W (eqb k 9) (λ _. tt) (λ _. tt))))))))
+
+module _ (s : List ℕ) (start len : ℕ) (fits : start + len ≤ length s) (sh : attributeShaped (take len (drop start s)) ≡ true) where
+  both : (3 ≤ len) × (valueShaped (leAt 1 (take len (drop start s)) 2) (len - 3) ≡ true)
+  unfolding attributeShaped
+  both =
+      let all = rw (part-length s start len fits) at sh in
+      (leb-true 3 len (search and-left), search and-right)
+
+  pub attribute-wide : 3 ≤ len
+  attribute-wide = both .0
+
+  pub kind-within : start + 2 < length s
+  kind-within = let w = attribute-wide in omega arith
+
+  module _ (k : ℕ) (ek : k ≡ leAt 1 s (start + 2)) where
+    kind-is : leAt 1 (take len (drop start s)) 2 ≡ k
+    kind-is = number-at s start len 1 2 k attribute-wide ek
+
+    pub number-wide : (k ≡ 3 → ⊥) → (k ≡ 10 → ⊥) → len ≡ 11
+    unfolding valueShaped
+    number-wide three ten =
+        let all = rw (kind-is, ne-eqb k 3 three, ne-eqb k 10 ten) at (both .1) in
+        let wide = attribute-wide in
+        let eight = eqb-true (len - 3) 8 (search and-right) in
+        omega arith
+
+    pub number-inside : (k ≡ 3 → ⊥) → (k ≡ 10 → ⊥) → start + 3 + 8 ≤ length s
+    number-inside three ten = let w = number-wide three ten in omega arith
+
+    pub says-text : k ≡ 3 → Says s (Value.Text (start + 3) (len - 3)) (valueOf (attributeOf (take len (drop start s))))
+    unfolding valueOf attributeOf
+    says-text three = let wide = attribute-wide in record { is = rw (kind-is, three, drop-part s start len 3); within = omega arith }
+
+    pub says-failed : k ≡ 10 → Says s Value.Failed (valueOf (attributeOf (take len (drop start s))))
+    unfolding valueOf attributeOf
+    says-failed ten = record { is = rw (kind-is, ten); within = tt }
+
+    pub says-number : (n : ℕ) (r : Value) → (k ≡ 3 → ⊥) → (k ≡ 10 → ⊥) → n ≡ leAt 8 s (start + 3) → r ≡ numberValue k n
+        → Says s r (valueOf (attributeOf (take len (drop start s))))
+    unfolding valueOf attributeOf numberValue
+    says-number n r three ten en er =
+        let wide = number-wide three ten in
+        record {
+          is = rw (er, kind-is, number-at s start len 8 3 n (omega arith) en, ne-eqb k 3 three) (simp meant-cond);
+          within = rw er (number-within s k n);
+        }
+
+-- ---- a turn of the loop: m is what is looked for
+
+module _ (s : List ℕ) (p name : ℕ) (r : Own) (m : Meaning)
+    (inv : m ≡ meaningOf (first (isNamed name) (map attributeOf (payloads 0x18 (ownFields (fields (drop p s)))))))
+    (own : NextOwn s p 0x18 r) where
+  turn : m ≡ meaningOf (first (isNamed name) (map attributeOf (ownPayloads s 0x18 r)))
+  turn = inv ∙ rw (← own .is)
+
+  pub says-absent : r ≡ Own.Missing → Says s Value.Absent m
+  unfolding first meaningOf
+  says-absent e = record { is = sym (rw e at turn); within = tt }
+
+  module _ (start len next : ℕ) (e : r ≡ Own.Field start len next) (h : Placed s p) where
+    pub found-within : start + len ≤ length s
+    found-within = own-within s p 0x18 r start len next own e .0
+
+    pub found-shaped : attributeShaped (take len (drop start s)) ≡ true
+    unfolding payloadShaped
+    found-shaped = own-passed s p 0x18 r start len next own e h .1
+
+    wide : 3 ≤ len
+    wide = attribute-wide s start len found-within found-shaped
+
+    pub name-within : start + 2 ≤ length s
+    name-within = let w = wide in let l = found-within in omega arith
+
+    module _ (n : ℕ) (en : n ≡ leAt 2 s start) where
+      name-is : attributeOf (take len (drop start s)) .name ≡ n
+      unfolding attributeOf
+      name-is = let w = wide in number-first s start len 2 n (omega arith) en
+
+      turn-name : m ≡ meaningOf (cond (eqb n name) (some (attributeOf (take len (drop start s)))) (first (isNamed name) (map attributeOf (payloads 0x18 (ownFields (fields (drop next s)))))))
+      unfolding first
+      turn-name =
+          let rest = first (isNamed name) (map attributeOf (payloads 0x18 (ownFields (fields (drop next s))))) in
+          rw e at turn ∙ ap (λ (x : ℕ). meaningOf (cond (eqb x name) (some (attributeOf (take len (drop start s)))) rest)) name-is
+
+      pub attribute-found : (v : Value) → n ≡ name → Says s v (valueOf (attributeOf (take len (drop start s)))) → Says s v m
+      unfolding meaningOf
+      attribute-found v g says = rw (turn-name, eq-eqb n name g) says
+
+      pub attribute-passed : (n ≡ name → ⊥) → m ≡ meaningOf (first (isNamed name) (map attributeOf (payloads 0x18 (ownFields (fields (drop next s))))))
+      attribute-passed g = rw (ne-eqb n name g) at turn-name

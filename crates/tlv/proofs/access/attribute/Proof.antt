@@ -1,0 +1,69 @@
+-- `access::attribute` meets its contract. The loop's invariant: the attribute that is looked for is the first of its name from here on. Assumes nothing.
+use mathlib.Core.Path.{_≡_, refl}
+use mathlib.Core.List.{map}
+use Prim.Native.Nat.{_-_}
+use lib.ListN.{length, drop}
+use borrow.Author.Needs.{needs}
+use Rattle.tlv.specs.Lists.{first}
+use Rattle.tlv.specs.Fields.{fields, payloads}
+use Rattle.tlv.specs.Model.{attributeOf}
+use Rattle.tlv.specs.Checked.{Placed}
+use Rattle.tlv.specs.Places.{ownFields}
+use Rattle.tlv.specs.Access.{isNamed, meaningOf}
+use Rattle.tlv.proofs.OwnLaws.{own-less, own-placed}
+use Rattle.tlv.proofs.AttributeLaws.{says-absent, found-within, found-shaped, name-within, attribute-found, attribute-passed}
+use Rattle.tlv.proofs.access.attribute.Statement.{statement}
+use Rattle.tlv.proofs.access.attribute.Tie as tie
+
+abbrev Inv-loop : tie.InvT-loop
+Inv-loop s p name at₀ at = Placed s at × (meaningOf (first (isNamed name) (map attributeOf (payloads 0x18 (ownFields (fields (drop p s)))))) ≡ meaningOf (first (isNamed name) (map attributeOf (payloads 0x18 (ownFields (fields (drop at s)))))))
+
+abbrev μ-loop : tie.MeasureT-loop
+μ-loop s p name at₀ at = length s - at
+
+loop-holds : tie.Need-loop-holds Inv-loop μ-loop
+loop-holds c = (c .before .pre, refl)
+
+next-own-requires : tie.Need-next-own-requires Inv-loop μ-loop
+next-own-requires c κs = search needs
+
+enum-told : tie.Need-enum-told Inv-loop μ-loop
+enum-told c = search needs
+
+returns : tie.Need-returns Inv-loop μ-loop
+returns c = search says-absent
+
+enum-known-start : tie.Need-enum-known-start Inv-loop μ-loop
+enum-known-start c = search needs
+
+read-u16-requires : tie.Need-read-u16-requires Inv-loop μ-loop
+read-u16-requires c κs = search name-within
+
+value-at-requires : tie.Need-value-at-requires Inv-loop μ-loop
+value-at-requires c κs = (search found-within, search found-shaped)
+
+returns-2 : tie.Need-returns-2 Inv-loop μ-loop
+returns-2 c = search attribute-found
+
+loop-less : tie.Need-loop-less Inv-loop μ-loop
+loop-less c = search own-less
+
+loop-again : tie.Need-loop-again Inv-loop μ-loop
+loop-again c = (search own-placed, search attribute-passed)
+
+pub attribute-spec : {M : Type 1} → statement M
+attribute-spec =
+    tie.close
+    (tie.spec
+    Inv-loop
+    μ-loop
+    loop-holds
+    next-own-requires
+    enum-told
+    returns
+    enum-known-start
+    read-u16-requires
+    value-at-requires
+    returns-2
+    loop-less
+    loop-again)

@@ -1,0 +1,77 @@
+//! The answer of an import (document 01, "The answer of an import").
+
+use crate::case::Case;
+use crate::convert::dwarf::{Imported, import};
+use crate::error::refusal;
+use crate::grammar::parse;
+use crate::output;
+use crate::stand_in::gimli::{Dwarf, Slice};
+
+const INPUT_LIMIT: usize = 16_777_216;
+const PROGRAM_LIMIT: usize = 4_194_304;
+
+/// Refusal 0 is a finished import; a refused one has no bytes and only zeros.
+#[derive(Clone, Debug, Default, Eq, PartialEq)]
+pub struct Answer {
+    pub refusal: u8,
+    pub records: Vec<u8>,
+    pub files: Vec<u8>,
+    pub warnings: Vec<u8>,
+    /// Functions, line rows, inline nodes, rejected ranges.
+    pub statistics: [u64; 4],
+}
+
+pub fn answer(case: &Case) -> Answer {
+    inputs(case)
+        .and_then(|(dwarf, ordinal)| finished(case, &dwarf, ordinal))
+        .and_then(|imported| fitting(case, output::written(&imported, case.first_file)))
+        .unwrap_or_else(|refusal| Answer { refusal, ..Answer::default() })
+}
+
+/// The parsed inputs and the unit's number, or refusals 1 to 5.
+pub fn inputs(case: &Case) -> Result<(Dwarf<Slice<'_>>, usize), u8> {
+    if case.main.len() > INPUT_LIMIT || case.supplementary.len() > INPUT_LIMIT || case.program.len() > PROGRAM_LIMIT {
+        return Err(1);
+    }
+    let main = parse(&case.main, &case.program, false)?;
+    let supplementary = parse(&case.supplementary, &[], true)?;
+    let ordinal = usize::try_from(case.ordinal).ok().filter(|&ordinal| ordinal < main.units.len()).ok_or(4)?;
+    if case.work < work_needed(main.fields + supplementary.fields, case.program.len()) {
+        return Err(5);
+    }
+    let sup = (!case.supplementary.is_empty()).then(|| Box::new(Dwarf::new(supplementary.units, None)));
+    Ok((Dwarf::new(main.units, sup), ordinal))
+}
+
+pub fn work_needed(fields: usize, program: usize) -> u64 {
+    64 * fields as u64 + 4 * program as u64 + 16_384
+}
+
+/// What the Rust leaves behind, or refusals 6 to 15.
+pub fn finished(case: &Case, dwarf: &Dwarf<Slice<'_>>, ordinal: usize) -> Result<Imported, u8> {
+    let imported = import(dwarf, ordinal, case.inlines, case.call_sites);
+    // The Rust numbers files from 1 and finds room for more. Its file past the caller's last number
+    // came before whatever stopped it later.
+    let room = (1_u64 << 32) - u64::from(case.first_file);
+    if output::files(&imported.builder).len() as u64 > room {
+        return Err(15);
+    }
+    match &imported.result {
+        Ok(()) => Ok(imported),
+        Err(error) => Err(refusal(error)),
+    }
+}
+
+/// Refusals 16 to 18 come when everything else is done, lowest first.
+fn fitting(case: &Case, answer: Answer) -> Result<Answer, u8> {
+    let over = |bytes: &[u8], length: u32| bytes.len() as u64 > u64::from(length);
+    if over(&answer.records, case.records) {
+        Err(16)
+    } else if over(&answer.files, case.files) {
+        Err(17)
+    } else if over(&answer.warnings, case.warnings) {
+        Err(18)
+    } else {
+        Ok(answer)
+    }
+}

@@ -1,0 +1,36 @@
+//! A call of the import.
+
+/// The inputs, and how long the buffers are; their old content alters no answer.
+#[derive(Clone, Debug, Eq, PartialEq)]
+pub struct Case {
+    pub main: Vec<u8>,
+    pub supplementary: Vec<u8>,
+    pub program: Vec<u8>,
+    pub ordinal: u64,
+    pub inlines: bool,
+    pub call_sites: bool,
+    pub first_file: u32,
+    pub work: u64,
+    pub records: u32,
+    pub files: u32,
+    pub warnings: u32,
+}
+
+impl Case {
+    /// A call as the listing program makes it.
+    pub fn new(main: Vec<u8>, supplementary: Vec<u8>, program: Vec<u8>) -> Self {
+        Self {
+            main,
+            supplementary,
+            program,
+            ordinal: 0,
+            inlines: true,
+            call_sites: true,
+            first_file: 1,
+            work: 57_344,
+            records: 32_768,
+            files: 32_768,
+            warnings: 32_768,
+        }
+    }
+}

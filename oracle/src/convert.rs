@@ -1,0 +1,82 @@
+//! The Rust's convert module: import_unit and what it calls, and the door to it.
+
+#[allow(dead_code, clippy::all)]
+mod diagnostic {
+    text!("convert/diagnostic.rs");
+}
+
+#[allow(dead_code, clippy::all)]
+pub mod elf {
+    text!("convert/elf/mod.rs");
+}
+
+pub use diagnostic::ConversionWarning;
+
+#[allow(dead_code, clippy::all)]
+pub mod dwarf {
+    mod dies {
+        use crate::stand_in::gimli;
+        text!("convert/dwarf/dies.rs");
+    }
+
+    mod lines {
+        use crate::stand_in::gimli;
+        text!("convert/dwarf/lines.rs");
+    }
+
+    mod references {
+        use crate::stand_in::{gimli, hashbrown, smallvec};
+        text!("convert/dwarf/references.rs");
+    }
+
+    use dies::{DetailOptions, extract_subprogram_details};
+    use lines::{UnitLines, collect_lines, statement_sequence_offset};
+    use references::{DwarfResolver, absolute_entry_offset, resolve_declaration_line, resolve_name};
+
+    use super::ConversionWarning;
+    use super::elf::ConversionStats;
+    use crate::model::{AddressRange, Function, LineEntry};
+    use crate::stand_in::gimli;
+    use crate::{Error, GsymBuilder, Result};
+    use gimli::{AttributeValue, DebuggingInformationEntry, Dwarf, Reader, Slice, Unit};
+
+    text!("convert/dwarf.rs");
+
+    /// What an import leaves behind, finished or not.
+    pub struct Imported {
+        pub result: Result<()>,
+        pub builder: GsymBuilder,
+        pub stats: ConversionStats,
+        pub warnings: Vec<ConversionWarning>,
+    }
+
+    /// import_unit at a unit of the main input.
+    pub fn import(dwarf: &Dwarf<Slice<'_>>, ordinal: usize, include_inlines: bool, include_call_sites: bool) -> Imported {
+        let data = &dwarf.units[ordinal];
+        let text: Vec<AddressRange> = data.text.iter().map(|range| AddressRange::new(range.begin, range.end)).collect();
+        let (mut builder, mut stats, mut warnings) = (GsymBuilder::new(), ConversionStats::default(), Vec::new());
+        let mut context = ImportContext {
+            executable_ranges: &text,
+            builder: &mut builder,
+            include_inlines,
+            include_call_sites,
+            stats: &mut stats,
+            warnings: &mut warnings,
+        };
+        let result = import_unit(dwarf, &Unit::of(data.clone()), &mut context);
+        Imported { result, builder, stats, warnings }
+    }
+
+    /// A row or a range, and the offset of its statement sequence.
+    pub type Sequenced<T> = (T, Option<u64>);
+
+    /// The unit's sorted rows and its sequences, for the coverage table.
+    pub fn table(dwarf: &Dwarf<Slice<'_>>, ordinal: usize) -> Option<(Vec<Sequenced<LineEntry>>, Vec<Sequenced<AddressRange>>)> {
+        let unit = Unit::of(dwarf.units[ordinal].clone());
+        let lines = collect_lines(dwarf, &unit, &mut GsymBuilder::new(), &mut Vec::new()).ok()?;
+        Some((
+            lines.entries.iter().map(|row| (row.entry, row.statement_sequence)).collect(),
+            lines.sequences.iter().map(|sequence| (sequence.range, sequence.statement_sequence)).collect(),
+        ))
+    }
+}

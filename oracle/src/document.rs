@@ -1,0 +1,130 @@
+//! The cases of document 01's "Operands, paths and a printed import", each as an import, with the listing that
+//! it must print.
+
+use crate::case::Case;
+use crate::compose::*;
+
+/// What a case shows, the case, and its listing.
+type Shown = (&'static str, Case, String);
+
+pub fn cases() -> Vec<Shown> {
+    let nine = [0x80; 9].as_slice();
+    let mut cases = vec![
+        ("the printed import, dim and fade", printed(), PRINTED.to_owned()),
+        program("operand e5 8e 26", &[2, 0xe5, 0x8e, 0x26, 0, 1, 1], &read(10)),
+        program("operand nine 80, 01", &[&[2], nine, &[1, 0, 1, 1]].concat(), &read(10)),
+        program("operand nine 80, 02", &[&[2], nine, &[2]].concat(), "refused 10\n"),
+        program("operand nine 80, 80", &[&[2], nine, &[0x80]].concat(), "refused 11\n"),
+        program("operand nine 80 alone", &[&[2], nine].concat(), "refused 7\n"),
+        program("00", &[0], "refused 7\n"),
+        program("00 00", &[0, 0], "refused 9\n"),
+        program("00 01", &[0, 1], "refused 8\n"),
+        program("00 02 80", &[0, 2, 0x80], "refused 7\n"),
+        program("00, nine ff, 01, 01", &[&[0], [0xff; 9].as_slice(), &[1, 1]].concat(), "refused 12\n"),
+        ("00 01 01 01 00 01 01 has sequence 44", lines(&[0, 1, 1, 1, 0, 1, 1], 2, 44), read(10)),
+        ("00 01 01 01 00 01 01 has sequence 47", lines(&[0, 1, 1, 1, 0, 1, 1], 2, 47), read(20)),
+        ("/a.c is \"/\", \"a.c\"", path(b"/a.c"), "file 1 / a.c\nstats 0 0 0 0\n".to_owned()),
+        ("a/ is no file", path(b"a/"), "stats 0 0 0 0\n".to_owned()),
+        ("C:\\b.c has no directory", path(b"C:\\b.c"), "file 1  C:\\b.c\nstats 0 0 0 0\n".to_owned()),
+        ("s/b.c is \"/w/s\", \"b.c\"", path(b"s/b.c"), "file 1 /w/s b.c\nstats 0 0 0 0\n".to_owned()),
+    ];
+    for (name, size, listing) in [
+        ("a range of 4,294,967,295 bytes in text is live", 0xffff_ffff, "function 1000 100000fff dim\nstats 1 0 0 0\n"),
+        ("one byte more is not", 0x1_0000_0000, "warning 3 1000 100001000\nstats 0 0 0 1\n"),
+        ("an empty one is not", 0, "warning 3 1000 1000\nstats 0 0 0 1\n"),
+    ] {
+        let mut main = unit(1 << 40);
+        main.entry(11, 0, COMPILE_UNIT).entry(20, 1, SUBPROGRAM).string(NAME, b"dim").range(0x1000, 0x1000 + size, 0);
+        cases.push((name, call(main, &[]), listing.to_owned()));
+    }
+    cases.push(("4-8, 8-10, 20-30 merge to 4-10, 20-30", merged(), MERGED.to_owned()));
+    cases
+}
+
+/// A unit of 100 bytes with the text from 1000 hex.
+fn unit(end: u64) -> Fields {
+    let mut fields = Fields::default();
+    fields.unit(0, 100, 5, 4).text(0x1000, end);
+    fields
+}
+
+fn call(main: Fields, program: &[u8]) -> Case {
+    Case::new(main.0, Vec::new(), program.to_vec())
+}
+
+const PRINTED: &str = "function 1000 1010 dim
+row 1000 1 10
+row 1008 1 12
+inline 0 0 0 dim
+range 1000 1010
+inline 1 1 11 fade
+range 1004 1008
+file 1 /src cue.c
+stats 1 2 1 0
+";
+
+fn printed() -> Case {
+    let mut main = unit(0x2000);
+    main.header(0, 32, 5, 4, 13, &OPCODE_LENGTHS).directory(0, b"/src").file(0, 0, b"cue.c");
+    main.row(0x1000, 0, 10, PLAIN).row(0x1008, 0, 12, PLAIN).row(0x1010, 0, 0, END);
+    main.entry(11, 0, COMPILE_UNIT).entry(20, 1, SUBPROGRAM).string(NAME, b"dim").range(0x1000, 0x1010, 0);
+    main.entry(30, 2, INLINED).string(NAME, b"fade").attribute(CALL_FILE, UNSIGNED, 0).attribute(CALL_LINE, UNSIGNED, 11);
+    main.range(0x1004, 0x1008, 0);
+    call(main, &[0, 1, 1])
+}
+
+/// A program at offset 44. Where it reads an operand it then ends a sequence, which a subprogram asks for.
+fn program(name: &'static str, program: &[u8], listing: &str) -> Shown {
+    (name, lines(program, 1, 44), listing.to_owned())
+}
+
+/// So many sequences of one row each, of lines 10, 20, .., and a subprogram that asks for one of them.
+fn lines(program: &[u8], sequences: u64, requested: u64) -> Case {
+    let mut main = unit(0x2000);
+    main.header(0, 32, 5, 4, 13, &OPCODE_LENGTHS).file(0, 0, b"a.c");
+    (1..=sequences).for_each(|number| _ = main.row(0x1000, 0, 10 * number, PLAIN).row(0x1010, 0, 0, END));
+    main.entry(11, 0, COMPILE_UNIT).entry(20, 1, SUBPROGRAM).string(NAME, b"dim");
+    main.attribute(STATEMENT_SEQUENCE, SECTION_OFFSET, requested).range(0x1000, 0x1010, 0);
+    call(main, program)
+}
+
+fn read(line: u32) -> String {
+    format!("function 1000 1010 dim\nrow 1000 1 {line}\nfile 1  a.c\nstats 1 1 0 0\n")
+}
+
+/// A file of directory 0 in version 4, the compilation directory being /w.
+fn path(path: &[u8]) -> Case {
+    let mut main = Fields::default();
+    main.unit(0, 100, 5, 4).compilation_directory(b"/w").header(0, 32, 4, 4, 13, &OPCODE_LENGTHS).file(0, 0, path);
+    call(main, &[])
+}
+
+const MERGED: &str = "function 0 40 dim
+inline 0 0 0 dim
+range 0 40
+inline 1 0 0 fade
+range 4 a
+range 14 1e
+stats 1 0 1 0
+";
+
+fn merged() -> Case {
+    let mut main = Fields::default();
+    main.unit(0, 100, 5, 4).text(0, 0x2000).entry(11, 0, COMPILE_UNIT);
+    main.entry(20, 1, SUBPROGRAM).string(NAME, b"dim").range(0, 0x40, 0);
+    main.entry(30, 2, INLINED).string(NAME, b"fade").range(4, 8, 0).range(8, 10, 0).range(20, 30, 0);
+    call(main, &[])
+}
+
+#[cfg(test)]
+mod tests {
+    use crate::{answer, listing};
+
+    #[test]
+    fn every_case_prints_its_listing() {
+        for (name, case, expected) in super::cases() {
+            let printed = String::from_utf8(listing::listing(&answer(&case), case.first_file)).unwrap();
+            assert_eq!(printed, expected, "{name}");
+        }
+    }
+}

@@ -1,0 +1,259 @@
+//! The grammar of an input ("sheet" in document 01) and refusals 2 and 3.
+
+use std::cell::Cell;
+use std::rc::Rc;
+
+use crate::stand_in::gimli::{
+    AttributeValue, DebugInfoOffset, DebugLineOffset, DwAt, DwTag, Encoding, EntryData, FileEntry, Format, LineProgramHeader, LineRow,
+    Range, RowKind, Slice, UnitData, UnitOffset,
+};
+
+const MISSHAPEN: u8 = 2;
+const PAST_LIMIT: u8 = 3;
+
+const FIELD_LIMIT: usize = 65_536;
+const UNIT_LIMIT: usize = 256;
+const STRING_LIMIT: usize = 4_096;
+const DEPTH_LIMIT: u64 = 1_024;
+
+pub struct Input<'a> {
+    pub fields: usize,
+    pub units: Vec<Rc<UnitData<Slice<'a>>>>,
+}
+
+/// The units of an input, or the refusal that its first bad field gives.
+pub fn parse<'a>(bytes: &'a [u8], program: &'a [u8], supplementary: bool) -> Result<Input<'a>, u8> {
+    let mut parser = Parser { units: Vec::new(), program, supplementary, previous: 0 };
+    let (mut rest, mut fields) = (bytes, 0);
+    while !rest.is_empty() {
+        let (tag, payload, after) = field(rest).ok_or(MISSHAPEN)?;
+        let within = parser.take(tag, Payload(payload))?;
+        if !within || fields == FIELD_LIMIT {
+            return Err(PAST_LIMIT);
+        }
+        (rest, parser.previous, fields) = (after, tag, fields + 1);
+    }
+    Ok(Input { fields, units: parser.units.into_iter().map(Rc::new).collect() })
+}
+
+/// A field's tag and payload, and what follows it; none if it is cut off.
+pub fn field(bytes: &[u8]) -> Option<(u8, &[u8], &[u8])> {
+    let (&[tag, low, high], rest) = bytes.split_first_chunk()?;
+    let (payload, rest) = rest.split_at_checked(usize::from(u16::from_le_bytes([low, high])))?;
+    Some((tag, payload, rest))
+}
+
+/// The tags that may stand after a tag; 0 is the start.
+fn followers(tag: u8) -> &'static [u8] {
+    match tag {
+        0x10 => &[0x10, 0x11, 0x12, 0x13, 0x17],
+        0x11 | 0x12 => &[0x10, 0x12, 0x13, 0x17],
+        0x13 | 0x14 => &[0x10, 0x14, 0x1c, 0x15, 0x16, 0x17],
+        0x1c | 0x15 => &[0x10, 0x15, 0x16, 0x17],
+        0x16 => &[0x10, 0x16, 0x17],
+        0x17 | 0x18 => &[0x10, 0x17, 0x18, 0x19, 0x1a],
+        0x19 => &[0x10, 0x17, 0x19, 0x1a],
+        0x1a => &[0x10, 0x17],
+        _ => &[0x10],
+    }
+}
+
+/// Takes a payload apart from the front; what does not fit breaks the grammar.
+struct Payload<'a>(&'a [u8]);
+
+impl<'a> Payload<'a> {
+    fn number(&mut self, size: usize) -> Result<u64, u8> {
+        let (bytes, rest) = self.0.split_at_checked(size).ok_or(MISSHAPEN)?;
+        self.0 = rest;
+        Ok(bytes.iter().rev().fold(0, |value, &byte| value << 8 | u64::from(byte)))
+    }
+
+    fn offset(&mut self) -> Result<usize, u8> {
+        Ok(self.number(8)? as usize)
+    }
+
+    fn range(&mut self) -> Result<Range, u8> {
+        Ok(Range { begin: self.number(8)?, end: self.number(8)? })
+    }
+
+    /// One byte, from `low` to `high`.
+    fn byte(&mut self, low: u64, high: u64) -> Result<u8, u8> {
+        let value = self.number(1)?;
+        if (low..=high).contains(&value) { Ok(value as u8) } else { Err(MISSHAPEN) }
+    }
+
+    fn flag(&mut self) -> Result<bool, u8> {
+        Ok(self.byte(0, 1)? == 1)
+    }
+
+    fn encoding(&mut self) -> Result<Encoding, u8> {
+        let version = u16::from(self.byte(2, 5)?);
+        match self.byte(4, 8)? {
+            4 => Ok(Encoding { format: Format::Dwarf32, version }),
+            8 => Ok(Encoding { format: Format::Dwarf64, version }),
+            _ => Err(MISSHAPEN),
+        }
+    }
+
+    fn rest(&mut self) -> Slice<'a> {
+        Slice(std::mem::take(&mut self.0))
+    }
+
+    /// An attribute's kind and value.
+    fn attribute(&mut self) -> Result<AttributeValue<Slice<'a>>, u8> {
+        Ok(match self.byte(1, 10)? {
+            1 => AttributeValue::Udata(self.number(8)?),
+            2 => AttributeValue::FileIndex(self.number(8)?),
+            3 => AttributeValue::String(self.rest()),
+            4 => AttributeValue::UnitRef(UnitOffset(self.offset()?)),
+            5 => AttributeValue::DebugInfoRef(DebugInfoOffset(self.offset()?)),
+            6 => AttributeValue::DebugInfoRefSup(DebugInfoOffset(self.offset()?)),
+            7 => AttributeValue::SecOffset(self.offset()?),
+            8 => AttributeValue::DebugLineRef(DebugLineOffset(self.offset()?)),
+            9 => AttributeValue::Addr(self.number(8)?),
+            _ => AttributeValue::Failed,
+        })
+    }
+}
+
+struct Parser<'a> {
+    units: Vec<UnitData<Slice<'a>>>,
+    program: &'a [u8],
+    supplementary: bool,
+    /// The tag before.
+    previous: u8,
+}
+
+impl<'a> Parser<'a> {
+    /// Checks a field's place and shape and takes it in; false where it is past a limit.
+    fn take(&mut self, tag: u8, mut payload: Payload<'a>) -> Result<bool, u8> {
+        if !followers(self.previous).contains(&tag) {
+            return Err(MISSHAPEN);
+        }
+        // The order has it that a unit comes first, a header before its files, an entry before its attributes.
+        let within = match tag {
+            0x10 => self.unit(&mut payload)?,
+            0x11..=0x13 | 0x16 => self.of_unit(tag, &mut payload)?,
+            0x14 | 0x15 | 0x1c => self.file(tag, &mut payload)?,
+            0x17 => self.entry(&mut payload)?,
+            _ => self.of_entry(tag, &mut payload)?,
+        };
+        if payload.0.is_empty() { Ok(within) } else { Err(MISSHAPEN) }
+    }
+
+    fn last(&mut self) -> Result<&mut UnitData<Slice<'a>>, u8> {
+        self.units.last_mut().ok_or(MISSHAPEN)
+    }
+
+    fn unit(&mut self, payload: &mut Payload<'a>) -> Result<bool, u8> {
+        let (offset, length, encoding) = (payload.offset()?, payload.offset()?, payload.encoding()?);
+        // The unit before it was found to end within 64 bits.
+        let least = self.units.last().map_or(0, |unit| unit.offset + unit.length);
+        if offset.checked_add(length).is_none() || offset < least {
+            return Err(MISSHAPEN);
+        }
+        self.units.push(UnitData {
+            supplementary: self.supplementary,
+            number: self.units.len(),
+            offset,
+            length,
+            format: encoding.format,
+            directory: None,
+            text: Vec::new(),
+            lines: None,
+            rows: Vec::new(),
+            entries: Vec::new(),
+            tombstone: Cell::new(false),
+        });
+        Ok(self.units.len() <= UNIT_LIMIT)
+    }
+
+    fn of_unit(&mut self, tag: u8, payload: &mut Payload<'a>) -> Result<bool, u8> {
+        let program = Slice(self.program);
+        let unit = self.last()?;
+        match tag {
+            0x11 => {
+                let directory = payload.rest();
+                unit.directory = Some(directory);
+                return Ok(short(directory));
+            }
+            0x12 => unit.text.push(payload.range()?),
+            0x13 => {
+                unit.lines = Some(LineProgramHeader {
+                    offset: payload.offset()?,
+                    length: payload.offset()?,
+                    encoding: payload.encoding()?,
+                    opcode_base: payload.byte(0, 255)?,
+                    opcode_lengths: payload.rest(),
+                    program,
+                    directories: Vec::new(),
+                    file_zero: None,
+                    files: Vec::new(),
+                });
+            }
+            _ => {
+                let (address, file, line) = (payload.number(8)?, payload.number(8)?, payload.number(8)?);
+                let kind = [RowKind::Plain, RowKind::End, RowKind::Failed][usize::from(payload.byte(0, 2)?)];
+                unit.rows.push(LineRow { address, file, line, kind });
+            }
+        }
+        Ok(true)
+    }
+
+    /// A directory, a file, or file 0.
+    fn file(&mut self, tag: u8, payload: &mut Payload<'a>) -> Result<bool, u8> {
+        let header = self.last()?.lines.as_mut().ok_or(MISSHAPEN)?;
+        let failed = payload.flag()?;
+        let directory = if tag == 0x14 { 0 } else { payload.number(8)? };
+        let text = payload.rest();
+        let path = if failed { AttributeValue::Failed } else { AttributeValue::String(text) };
+        match tag {
+            0x14 => header.directories.push(path),
+            0x15 => header.files.push(FileEntry { directory, path }),
+            _ => header.file_zero = Some(FileEntry { directory, path }),
+        }
+        Ok(short(text))
+    }
+
+    /// The first entry has depth 0, later ones 1 to the previous plus 1; offsets rise and stay below the length.
+    fn entry(&mut self, payload: &mut Payload<'a>) -> Result<bool, u8> {
+        let unit = self.last()?;
+        let (offset, depth, tag) = (payload.offset()?, payload.number(2)?, DwTag(payload.number(2)? as u16));
+        let fits = match unit.entries.last() {
+            None => depth == 0,
+            Some(last) => last.offset < offset && (1..=last.depth as u64 + 1).contains(&depth),
+        };
+        if !fits || offset >= unit.length {
+            return Err(MISSHAPEN);
+        }
+        let (attributes, ranges) = (Vec::new(), Vec::new());
+        unit.entries.push(EntryData { offset, depth: depth as isize, tag, attributes, ranges, failure: None });
+        Ok(depth <= DEPTH_LIMIT)
+    }
+
+    fn of_entry(&mut self, tag: u8, payload: &mut Payload<'a>) -> Result<bool, u8> {
+        let previous = self.previous;
+        let entry = self.last()?.entries.last_mut().ok_or(MISSHAPEN)?;
+        match tag {
+            0x18 => {
+                let (name, value) = (DwAt(payload.number(2)? as u16), payload.attribute()?);
+                let within = !matches!(value, AttributeValue::String(text) if !short(text));
+                entry.attributes.push((name, value));
+                Ok(within)
+            }
+            0x19 => {
+                entry.ranges.push((payload.range()?, payload.flag()?));
+                Ok(true)
+            }
+            _ => {
+                let (after, reason) = (payload.flag()?, payload.rest());
+                entry.failure = Some((after, reason));
+                if after || previous != 0x19 { Ok(short(reason)) } else { Err(MISSHAPEN) }
+            }
+        }
+    }
+}
+
+fn short(text: Slice<'_>) -> bool {
+    text.0.len() <= STRING_LIMIT
+}

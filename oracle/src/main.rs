@@ -1,0 +1,134 @@
+//! The oracle's commands.
+
+use std::io::{self, Write};
+use std::path::Path;
+use std::process::ExitCode;
+use std::{env, fs};
+
+use oracle::files::{Source, Target};
+use oracle::listing::{INPUT_LIMIT, PROGRAM_LIMIT, listing};
+use oracle::{Case, answer, coverage, document, generate, limits};
+
+const USAGE: &str = "
+oracle one DIR                              the listing of unit.main, unit.sup and unit.line in DIR
+oracle answer CASES ANSWERS                 answers a file of cases
+oracle compare CASES ANSWERS                answers the cases again, up to the first answer that differs
+oracle list CASES NUMBER                    the listing of one case, counted from 0
+oracle unpack CASES NUMBER DIR              writes one case's unit.main, unit.sup and unit.line to DIR
+oracle generate SEED COUNT CASES            writes cases by seed
+oracle generate --below SIZE SEED COUNT CASES    the same, of those with fewer input bytes
+oracle large CASES                          writes the cases over 64 KiB, the same for every seed
+oracle document CASES                       writes document 01's own cases
+oracle coverage CASES                       counts what the cases reach; fails if something is missing";
+
+const INPUTS: [&str; 3] = ["unit.main", "unit.sup", "unit.line"];
+
+fn main() -> ExitCode {
+    let arguments: Vec<String> = env::args().skip(1).collect();
+    let arguments: Vec<&str> = arguments.iter().map(String::as_str).collect();
+    match run(&arguments) {
+        Ok(true) => ExitCode::SUCCESS,
+        Ok(false) => ExitCode::from(1),
+        Err(message) => {
+            eprintln!("oracle: {message}");
+            ExitCode::from(2)
+        }
+    }
+}
+
+/// False where a check found something.
+fn run(arguments: &[&str]) -> Result<bool, String> {
+    match *arguments {
+        ["one", folder] => one(Path::new(folder)),
+        ["answer", cases, answers] => answer_all(Path::new(cases), Path::new(answers)),
+        ["compare", cases, answers] => compare(Path::new(cases), Path::new(answers)),
+        ["list", cases, number] => print(&chosen(Path::new(cases), number)?),
+        ["unpack", cases, number, folder] => unpack(&chosen(Path::new(cases), number)?, Path::new(folder)),
+        ["generate", seed, count, cases] => write(cases, generated(u64::MAX, seed, count)?),
+        ["generate", "--below", size, seed, count, cases] => write(cases, generated(number(size)?, seed, count)?),
+        ["large", cases] => write(cases, limits::large().into_iter()),
+        ["document", cases] => write(cases, document::cases().into_iter().map(|(_, case, _)| case)),
+        ["coverage", cases] => coverage::coverage(Path::new(cases)),
+        _ => Err(format!("these are the commands:{USAGE}")),
+    }
+}
+
+fn number(text: &str) -> Result<u64, String> {
+    text.parse().map_err(|_| format!("\"{text}\" is no number"))
+}
+
+fn print(case: &Case) -> Result<bool, String> {
+    io::stdout().write_all(&listing(&answer(case), case.first_file)).map_err(|error| error.to_string())?;
+    Ok(true)
+}
+
+fn one(folder: &Path) -> Result<bool, String> {
+    if !folder.is_dir() {
+        return Err(format!("{} is no folder", folder.display()));
+    }
+    // A file that cannot be opened is empty.
+    let [main, supplementary, program] = INPUTS.map(|name| fs::read(folder.join(name)).unwrap_or_default());
+    if main.len() > INPUT_LIMIT || supplementary.len() > INPUT_LIMIT || program.len() > PROGRAM_LIMIT {
+        println!("oversize");
+        return Ok(true);
+    }
+    print(&Case::new(main, supplementary, program))
+}
+
+fn answer_all(cases: &Path, answers: &Path) -> Result<bool, String> {
+    let (mut source, mut target) = (Source::open(cases)?, Target::create(answers)?);
+    while let Some(case) = source.case()? {
+        target.answer(&answer(&case))?;
+    }
+    target.finish()
+}
+
+fn compare(cases: &Path, answers: &Path) -> Result<bool, String> {
+    let (mut source, mut recorded) = (Source::open(cases)?, Source::open(answers)?);
+    let mut count = 0;
+    while let Some(case) = source.case()? {
+        let expected = recorded.answer()?.ok_or(format!("{} has {count} answers, {} more cases", answers.display(), cases.display()))?;
+        if answer(&case) != expected {
+            println!("case {count} differs");
+            return Ok(false);
+        }
+        count += 1;
+    }
+    if recorded.answer()?.is_some() {
+        return Err(format!("{} has {count} cases, {} more answers", cases.display(), answers.display()));
+    }
+    println!("{count} answers, none differs");
+    Ok(true)
+}
+
+fn chosen(cases: &Path, text: &str) -> Result<Case, String> {
+    let (mut source, place) = (Source::open(cases)?, number(text)?);
+    for _ in 0..place {
+        source.case()?;
+    }
+    source.case()?.ok_or(format!("{} has no case {place}", cases.display()))
+}
+
+fn unpack(case: &Case, folder: &Path) -> Result<bool, String> {
+    for (name, bytes) in INPUTS.iter().zip([&case.main, &case.supplementary, &case.program]) {
+        let mut target = Target::create(&folder.join(name))?;
+        target.write(&[bytes])?;
+        target.finish()?;
+    }
+    Ok(true)
+}
+
+/// So many cases of a seed, of those whose inputs have fewer bytes than `below`.
+fn generated(below: u64, seed: &str, count: &str) -> Result<impl Iterator<Item = Case>, String> {
+    let (seed, count) = (number(seed)?, number(count)?);
+    let small = move |case: &Case| ((case.main.len() + case.supplementary.len() + case.program.len()) as u64) < below;
+    Ok((0..).map(move |number| generate::case(seed, number)).filter(small).take(count as usize))
+}
+
+fn write(path: &str, cases: impl Iterator<Item = Case>) -> Result<bool, String> {
+    let mut target = Target::create(Path::new(path))?;
+    for case in cases {
+        target.case(&case)?;
+    }
+    target.finish()
+}

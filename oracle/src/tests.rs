@@ -1,0 +1,131 @@
+//! The grammar's clauses, the order of refusals, and the buffers, each by a small case.
+
+use crate::case::Case;
+use crate::compose::*;
+use crate::output::field;
+use crate::{answer, document};
+
+/// The refusal of a main input; work and buffers are long enough.
+fn refusal(main: &[u8]) -> u8 {
+    let work = 1 << 30;
+    answer(&Case { work, ..Case::new(main.to_vec(), Vec::new(), Vec::new()) }).refusal
+}
+
+/// A unit of 100 bytes and what `rest` writes after it.
+fn after_unit(rest: impl FnOnce(&mut Fields)) -> u8 {
+    let mut main = Fields::default();
+    rest(main.unit(0, 100, 5, 4));
+    refusal(&main.0)
+}
+
+/// The same behind a line header.
+fn after_header(rest: impl FnOnce(&mut Fields)) -> u8 {
+    after_unit(|fields| rest(fields.header(0, 32, 4, 4, 13, &[])))
+}
+
+fn raw(tag: u8, payload: &[u8]) -> Vec<u8> {
+    let mut bytes = Vec::new();
+    field(&mut bytes, tag, &[payload]);
+    bytes
+}
+
+#[test]
+fn units() {
+    let unit = |offset, length, version, word| refusal(&Fields::default().unit(offset, length, version, word).0);
+    assert_eq!([unit(0, 0, 2, 4), unit(0, 0, 5, 8), unit(u64::MAX, 0, 5, 4), unit(1, u64::MAX - 1, 5, 4)], [0; 4]);
+    assert_eq!([unit(0, 0, 1, 4), unit(0, 0, 6, 4), unit(0, 0, 5, 5), unit(0, 0, 5, 0), unit(1, u64::MAX, 5, 4)], [2; 5]);
+    assert_eq!([after_unit(|f| _ = f.unit(100, 5, 5, 4)), after_unit(|f| _ = f.unit(100, 0, 5, 4).unit(100, 1, 5, 4))], [0; 2]);
+    assert_eq!(after_unit(|f| _ = f.unit(99, 5, 5, 4)), 2);
+    // No unit at all, and fields that are cut off, unknown, or too long by a byte.
+    assert_eq!(refusal(&[]), 4);
+    assert_eq!(
+        [refusal(&[0x10]), refusal(&[0x10, 18]), refusal(&[0x10, 18, 0, 0]), refusal(&raw(0x1b, &[])), refusal(&raw(0, &[]))],
+        [2; 5]
+    );
+    assert_eq!(refusal(&raw(0x10, &[[0; 16].as_slice(), &[5, 4, 0]].concat())), 2);
+}
+
+#[test]
+fn order_within_a_unit() {
+    assert_eq!(after_unit(|f| _ = f.compilation_directory(b"").text(0, 1).text(2, 1).unit(100, 1, 5, 4).text(1, 2)), 0);
+    assert_eq!(after_unit(|f| _ = f.compilation_directory(b"").compilation_directory(b"")), 2);
+    assert_eq!(after_unit(|f| _ = f.text(0, 1).compilation_directory(b"")), 2);
+    assert_eq!(after_header(|f| _ = f.header(0, 32, 4, 4, 13, &[])), 2);
+    assert_eq!(after_unit(|f| _ = f.directory(0, b"")), 2);
+    assert_eq!(after_header(|f| _ = f.directory(0, b"").file_zero(0, 0, b"").file(0, 0, b"").row(0, 0, 0, END).entry(0, 0, 1)), 0);
+    assert_eq!(after_header(|f| _ = f.file_zero(0, 0, b"").file_zero(0, 0, b"")), 2);
+    assert_eq!(after_header(|f| _ = f.file(0, 0, b"").file_zero(0, 0, b"")), 2);
+    assert_eq!(after_header(|f| _ = f.row(0, 0, 0, PLAIN).file(0, 0, b"")), 2);
+    assert_eq!(after_header(|f| _ = f.entry(0, 0, 1).row(0, 0, 0, PLAIN)), 2);
+    assert_eq!(after_unit(|f| _ = f.attribute(NAME, UNSIGNED, 0)), 2);
+    assert_eq!(after_unit(|f| _ = f.entry(0, 0, 1).range(0, 1, 0).attribute(NAME, UNSIGNED, 0)), 2);
+    assert_eq!(after_unit(|f| _ = f.entry(0, 0, 1).failure(0, b"").failure(1, b"")), 2);
+    assert_eq!(after_unit(|f| _ = f.entry(0, 0, 1).failure(0, b"").range(0, 1, 0)), 2);
+    assert_eq!(after_unit(|f| _ = f.entry(0, 0, 1).range(0, 1, 0).failure(0, b"")), 2);
+    assert_eq!(after_unit(|f| _ = f.entry(0, 0, 1).range(0, 1, 0).failure(1, b"").entry(1, 1, 1).failure(1, b"")), 0);
+}
+
+#[test]
+fn shapes() {
+    let bytes = |tag: u8, payload: &[u8]| after_unit(|f| f.0.extend(raw(tag, payload)));
+    assert_eq!([bytes(0x12, &[0; 15]), bytes(0x12, &[0; 17]), bytes(0x13, &[0; 18]), bytes(0x13, &[0; 19])], [2; 4]);
+    assert_eq!(after_unit(|f| _ = f.header(0, 0, 6, 4, 0, &[])), 2);
+    assert_eq!(after_header(|f| _ = f.directory(2, b"")), 2);
+    assert_eq!(after_header(|f| _ = f.row(0, 0, 0, 3)), 2);
+    assert_eq!(after_header(|f| f.0.extend(raw(0x15, &[0; 8]))), 2);
+    assert_eq!(after_unit(|f| _ = f.entry(99, 0, 1)), 0);
+    assert_eq!(
+        [after_unit(|f| _ = f.entry(100, 0, 1)), after_unit(|f| _ = f.entry(0, 1, 1)), after_unit(|f| _ = f.entry(5, 0, 1).entry(5, 1, 1))],
+        [2; 3]
+    );
+    assert_eq!([after_unit(|f| _ = f.entry(0, 0, 1).entry(1, 0, 1)), after_unit(|f| _ = f.entry(0, 0, 1).entry(1, 2, 1))], [2; 2]);
+    let attribute = |payload: &[u8]| after_unit(|f| f.entry(0, 0, 1).0.extend(raw(0x18, payload)));
+    assert_eq!([attribute(&[3, 0, 3]), attribute(&[3, 0, 10]), attribute(&[3, 0, 9, 0, 0, 0, 0, 0, 0, 0, 0])], [0; 3]);
+    assert_eq!(
+        [attribute(&[3, 0]), attribute(&[3, 0, 0]), attribute(&[3, 0, 11]), attribute(&[3, 0, 10, 0]), attribute(&[3, 0, 1, 0])],
+        [2; 5]
+    );
+    assert_eq!(after_unit(|f| _ = f.entry(0, 0, 1).range(0, 1, 2)), 2);
+    assert_eq!(after_unit(|f| _ = f.entry(0, 0, 1).failure(2, b"")), 2);
+}
+
+#[test]
+fn limits() {
+    let long = [b'a'; 4097];
+    for (length, expected) in [(4096, 0), (4097, 3)] {
+        let text = &long[..length];
+        assert_eq!(after_unit(|f| _ = f.compilation_directory(text)), expected);
+        assert_eq!(after_header(|f| _ = f.directory(1, text)), expected);
+        assert_eq!(after_header(|f| _ = f.file_zero(1, 0, text)), expected);
+        assert_eq!(after_header(|f| _ = f.file(0, 0, text)), expected);
+        assert_eq!(after_unit(|f| _ = f.entry(0, 0, 1).string(7, text)), expected);
+        assert_eq!(after_unit(|f| _ = f.entry(0, 0, 1).failure(0, text)), expected);
+        // 2 goes before 3 in one field, the first bad field before later ones.
+        assert_eq!(after_unit(|f| _ = f.entry(0, 0, 1).failure(2, text)), 2);
+        assert_eq!(after_unit(|f| _ = f.entry(0, 0, 1).string(7, text).entry(0, 0, 1)), if expected == 3 { 3 } else { 2 });
+    }
+    let refusals: Vec<u8> = crate::limits::large().iter().map(|case| answer(case).refusal).collect();
+    assert_eq!(refusals, [1, 1, 2, 1, 0, 0, 3]);
+}
+
+#[test]
+fn units_work_and_buffers() {
+    let (_, case, _) = document::cases().remove(0);
+    let full = answer(&case);
+    assert_eq!((full.records.len(), full.files.len(), full.warnings.len(), full.statistics), (131, 14, 0, [1, 2, 1, 0]));
+    let refused = |change: &dyn Fn(&mut Case)| {
+        let mut changed = case.clone();
+        change(&mut changed);
+        let answer = answer(&changed);
+        assert!(answer.refusal == 0 || answer == crate::Answer { refusal: answer.refusal, ..Default::default() });
+        answer.refusal
+    };
+    assert_eq!([refused(&|case| case.ordinal = 1), refused(&|case| (case.ordinal, case.work) = (u64::MAX, 0))], [4; 2]);
+    // 17 fields and a program of 3 bytes.
+    let work = 64 * 17 + 4 * 3 + 16_384;
+    assert_eq!([refused(&|case| case.work = work), refused(&|case| case.work = work - 1)], [0, 5]);
+    assert_eq!([refused(&|case| case.records = 131), refused(&|case| (case.records, case.files) = (130, 13))], [0, 16]);
+    assert_eq!([refused(&|case| case.files = 14), refused(&|case| case.files = 13), refused(&|case| case.warnings = 0)], [0, 17, 0]);
+    assert_eq!(refused(&|case| case.supplementary = vec![0x10]), 2);
+    assert_eq!([refused(&|case| case.first_file = 0), refused(&|case| case.first_file = u32::MAX)], [0; 2]);
+}
