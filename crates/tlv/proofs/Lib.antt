@@ -39,3 +39,6 @@ pub mod IndexLaws
 pub mod FindLaws
 pub mod IndexModel
 pub mod IndexPlaces
+pub mod UnitsLaws
+pub mod ContainingLaws
+pub mod UnitsOrder

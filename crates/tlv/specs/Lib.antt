@@ -17,3 +17,4 @@ pub mod Checked
 pub mod Places
 pub mod Access
 pub mod Index
+pub mod Units

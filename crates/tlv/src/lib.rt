@@ -7,3 +7,4 @@ pub mod index;
 pub mod model;
 pub mod output;
 pub mod table;
+pub mod units;
