@@ -16,3 +16,5 @@ pub mod RunBounds
 pub mod LineBounds
 pub mod RowLaws
 pub mod Differences
+pub mod PathCodeLaws
+pub mod JoinLaws

@@ -7,3 +7,4 @@ pub mod Rows
 pub mod RowsAgree
 pub mod Conforms
 pub mod Differences
+pub mod Join

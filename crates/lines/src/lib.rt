@@ -1,0 +1,2 @@
+// Line tables: the paths of files.
+pub mod path;

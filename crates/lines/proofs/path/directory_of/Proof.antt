@@ -1,0 +1,36 @@
+-- `path::directory_of` meets its contract. The part before the last slash, or the slash that is the first byte. Assumes nothing.
+use native.Mathlib.Omega.{arith}
+use borrow.Author.Needs.{needs}
+use lib.ListN.{length-take}
+use Rattle.lines.proofs.PathCodeLaws.{directory-short, directory-long}
+use Rattle.lines.proofs.path.directory_of.Statement.{statement}
+use Rattle.lines.proofs.path.directory_of.Tie as tie
+
+base-start-requires : tie.Need-base-start-requires
+base-start-requires c κs = search needs
+
+slice-aggregate-result : tie.Need-slice-aggregate-result
+slice-aggregate-result c = simp length-take (omega arith)
+
+returns : tie.Need-returns
+returns c = directory-short _ _ (c .before .before .base-start .ensures .0) (omega arith)
+
+sub-m : tie.Need-sub-m
+sub-m c = search needs
+
+slice-aggregate-result-2 : tie.Need-slice-aggregate-result-2
+slice-aggregate-result-2 c = simp length-take (omega arith)
+
+returns-2 : tie.Need-returns-2
+returns-2 c = directory-long _ _ (c .before .before .base-start .ensures .0) (omega arith)
+
+pub directory-of-spec : {M : Type 1} → statement M
+directory-of-spec =
+    tie.close
+    (tie.spec
+    base-start-requires
+    slice-aggregate-result
+    returns
+    sub-m
+    slice-aggregate-result-2
+    returns-2)
