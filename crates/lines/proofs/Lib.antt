@@ -18,3 +18,8 @@ pub mod RowLaws
 pub mod Differences
 pub mod PathCodeLaws
 pub mod JoinLaws
+pub mod UlebLaws
+pub mod SkipLaws
+pub mod InstructionLaws
+pub mod ScanLaws
+pub mod OffsetLaws

@@ -8,3 +8,4 @@ pub mod RowsAgree
 pub mod Conforms
 pub mod Differences
 pub mod Join
+pub mod Scan

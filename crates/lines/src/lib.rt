@@ -1,2 +1,3 @@
-// Line tables: the paths of files.
+// Line tables: operands, instructions and sequences of a line program, and the paths of files.
+pub mod lines;
 pub mod path;

@@ -1,0 +1,178 @@
+-- Passing over instructions: one law for each way through a function. Assumes nothing.
+use mathlib.Core.Path.{_≡_, refl, sym, ap, _∙_}
+use mathlib.Core.Bool.{Bool, true, false, cond}
+use mathlib.Core.Logic.{_⊎_, ⊎-elim}
+use mathlib.Core.List.{List, [], _∷_}
+use Prim.Native.Nat.{ℕ, zero, suc, _+_, _-_, _^_, _≤_, _<_}
+use native.Mathlib.Omega.{arith}
+use borrow.Author.Tests.{lt-ltb, le-ltb, le-leb, lt-leb, eq-eqb, ne-eqb}
+use lib.Dec.{leb, ltb, eqb}
+use lib.ListN.{length, getD, drop, replicate, length-drop, drop-of-length-le}
+use lib.Seq.{drop-drop}
+use Rattle.tlv.specs.Outcome.{Outcome, refused, done, _>>=_}
+use Rattle.lines.specs.declared.lines.Operand.{Operand}
+use Rattle.lines.specs.declared.lines.Skipped.{Skipped}
+use Rattle.lines.specs.Standard.{OperandKind, unsigned, half, Passed}
+use Rattle.lines.specs.Program.{bare, operandKinds, skipOperand, skipOperands, takeLineBytes, extendedBody, extended, skip}
+use Rattle.lines.specs.Scan.{over, kindsBy, Reads, Passes}
+use Rattle.lines.proofs.UlebLaws.{drop-at}
+use Rattle.lines.proofs.SkipLaws.{passes-earlier, passes-as, passed, unsignedOnes}
+
+-- ---- an extended instruction
+
+abbrev ending : Bool → List ℕ → Outcome Passed
+ending e s = done (record { ends = e; rest = s })
+
+body-taken : (a b e : Bool) (rest : List ℕ) → (cond a (done rest) (cond b (refused 7) (refused 12)) >>= ending e)
+    ≡ cond a (done (record { ends = e; rest = rest })) (cond b (refused 7) (refused 12))
+unfolding _>>=_
+body-taken true b e rest = refl
+body-taken false true e rest = refl
+body-taken false false e rest = refl
+
+module _ (s : List ℕ) (n at : ℕ) where
+  pub payload-none : length s ≤ at → Passes s (at - 1) (Skipped.Fault 8) (extendedBody (length s) n (drop at s))
+  unfolding extendedBody
+  payload-none h = record { is = sym (ap (extendedBody (length s) n) (drop-of-length-le s {i = at} h)); within = tt }
+
+  payload-at : at < length s → extendedBody (length s) n (drop at s)
+      ≡ cond (leb (n - 1) (length s - (at + 1))) (done (record { ends = eqb (getD s at 0) 1; rest = drop (at + 1 + (n - 1)) s }))
+      (cond (ltb (at + 1 + (n - 1)) (2 ^ 64)) (refused 7) (refused 12))
+  unfolding extendedBody takeLineBytes
+  payload-at h =
+      let e : length s - (length s - (at + 1)) ≡ at + 1 = omega arith in
+      ap (extendedBody (length s) n) (drop-at s at (getD s at 0) h refl)
+      ∙ body-taken (leb (n - 1) (length (drop (at + 1) s))) (ltb (length s - length (drop (at + 1) s) + (n - 1)) (2 ^ 64)) (eqb (getD s at 0) 1) (drop (n - 1) (drop (at + 1) s))
+      ∙ (λ i. cond (leb (n - 1) (length-drop (at + 1) s i)) (done (record { ends = eqb (getD s at 0) 1; rest = drop-drop (n - 1) (at + 1) s i }))
+      (cond (ltb (length s - length-drop (at + 1) s i + (n - 1)) (2 ^ 64)) (refused 7) (refused 12)))
+      ∙ ap (λ (x : ℕ). cond (leb (n - 1) (length s - (at + 1))) (done (record { ends = eqb (getD s at 0) 1; rest = drop (at + 1 + (n - 1)) s }))
+      (cond (ltb (x + (n - 1)) (2 ^ 64)) (refused 7) (refused 12))) e
+
+  module _ (h : at < length s) where
+    pub payload-past : length s - (at + 1) < n - 1 → 18446744073709551615 - (at + 1) < n - 1 → Passes s (at - 1) (Skipped.Fault 12) (extendedBody (length s) n (drop at s))
+    payload-past g k =
+        let f : 2 ^ 64 ≤ at + 1 + (n - 1) = omega arith in
+        record { is = sym (rw (lt-leb (n - 1) (length s - (at + 1)) g, le-ltb (at + 1 + (n - 1)) (2 ^ 64) f) at (payload-at h)); within = tt }
+
+    pub payload-cut : length s < 18446744073709551615 → length s - (at + 1) < n - 1 → n - 1 ≤ 18446744073709551615 - (at + 1)
+        → Passes s (at - 1) (Skipped.Fault 7) (extendedBody (length s) n (drop at s))
+    payload-cut z g k =
+        let f : at + 1 + (n - 1) < 2 ^ 64 = omega arith in
+        record { is = sym (rw (lt-leb (n - 1) (length s - (at + 1)) g, lt-ltb (at + 1 + (n - 1)) (2 ^ 64) f) at (payload-at h)); within = tt }
+
+    pub payload-end : 0 < at → n - 1 ≤ length s - (at + 1) → getD s at 0 ≡ 1 → Passes s (at - 1) (Skipped.Ended (at + 1 + (n - 1))) (extendedBody (length s) n (drop at s))
+    payload-end z g e = record { is = sym (rw (le-leb (n - 1) (length s - (at + 1)) g, eq-eqb (getD s at 0) 1 e) at (payload-at h)); within = (omega arith, omega arith) }
+
+    pub payload-to : n - 1 ≤ length s - (at + 1) → (getD s at 0 ≡ 1 → ⊥) → Passes s (at - 1) (Skipped.To (at + 1 + (n - 1))) (extendedBody (length s) n (drop at s))
+    payload-to g e = record { is = sym (rw (le-leb (n - 1) (length s - (at + 1)) g, ne-eqb (getD s at 0) 1 e) at (payload-at h)); within = (omega arith, omega arith) }
+
+module _ {s : List ℕ} {at : ℕ} {r : Operand} (R : Reads s at r) where
+  pub extended-fault : {f : ℕ} → r ≡ Operand.Fault f → Passes s at (Skipped.Fault f) (extended (length s) (drop at s))
+  unfolding extended _>>=_
+  extended-fault {f} e =
+      let Q : Reads s at (Operand.Fault f) = rw e at R in
+      record { is = rw (← Q .is); within = tt }
+
+  pub extended-zero : {n next : ℕ} → r ≡ Operand.Value n next → n ≡ 0 → Passes s at (Skipped.Fault 9) (extended (length s) (drop at s))
+  unfolding extended _>>=_
+  extended-zero {n} {next} e z =
+      let Q : Reads s at (Operand.Value n next) = rw e at R in
+      record { is = rw (← Q .is, eq-eqb n 0 z); within = tt }
+
+  pub extended-payload : {n next : ℕ} {q : Skipped} → r ≡ Operand.Value n next → (n ≡ 0 → ⊥) → Passes s (next - 1) q (extendedBody (length s) n (drop next s))
+      → Passes s at q (extended (length s) (drop at s))
+  unfolding extended _>>=_
+  extended-payload {n} {next} {q} e z P =
+      let Q : Reads s at (Operand.Value n next) = rw e at R in
+      passes-as (rw (← Q .is, ne-eqb n 0 z)) (passes-earlier at q P (omega (arith, Q .within .0)))
+
+-- ---- a standard instruction
+
+-- the operands of a standard opcode
+abbrev counted : List ℕ → ℕ → List ℕ → Outcome Passed
+counted ls o s = over (skipOperands (kindsBy ls o) s)
+
+-- the ways of a standard opcode: two bytes, nothing, or the operands that the lengths count
+abbrev standard : List ℕ → ℕ → List ℕ → Outcome Passed
+standard ls o s =
+    cond (eqb o 9) (cond (leb 2 (length s)) (passed (drop 2 s)) (refused 7))
+    (cond (bare o) (passed s) (unsignedOnes (getD ls (o - 1) 0) s))
+
+kinds-by : (a b c : Bool) (ks : List OperandKind) (s : List ℕ) → leb 2 (length s) ≡ c
+    → over (skipOperands (cond a (half ∷ []) (cond b [] ks)) s) ≡ cond a (cond c (passed (drop 2 s)) (refused 7)) (cond b (passed s) (over (skipOperands ks s)))
+unfolding skipOperands skipOperand _>>=_
+kinds-by true b true ks s e = rw e
+kinds-by true b false ks s e = rw e
+kinds-by false true c ks s e = refl
+kinds-by false false c ks s e = refl
+
+standard-is : (ls : List ℕ) (o : ℕ) (s : List ℕ) → counted ls o s ≡ standard ls o s
+unfolding operandKinds
+standard-is ls o s = kinds-by (eqb o 9) (bare o) (leb 2 (length s)) (replicate (getD ls (o - 1) 0) unsigned) s refl
+
+module _ (s ls : List ℕ) (o at : ℕ) where
+  by-standard : {r : Skipped} → Passes s at r (standard ls o (drop at s)) → Passes s at r (counted ls o (drop at s))
+  by-standard P = passes-as (standard-is ls o (drop at s)) P
+
+  pub standard-bare : (k : ℕ) → o ≡ k → eqb k 9 ≡ false → bare k ≡ true → at ≤ length s → Passes s at (Skipped.To at) (counted ls o (drop at s))
+  standard-bare k e f g h =
+      let l : List ℕ = drop at s in
+      let two : Outcome Passed = cond (leb 2 (length l)) (passed (drop 2 l)) (refused 7) in
+      by-standard (record {
+        is = sym (ap (λ (x : ℕ). standard ls x l) e ∙ (λ i. cond (f i) two (cond (g i) (passed l) (unsignedOnes (getD ls (k - 1) 0) l))));
+        within = (omega arith, h);
+      })
+
+  pub standard-cut : o ≡ 9 → length s - at < 2 → Passes s at (Skipped.Fault 7) (counted ls o (drop at s))
+  standard-cut e h = by-standard (record { is = rw (eq-eqb o 9 e, length-drop at s, lt-leb 2 (length s - at) h); within = tt })
+
+  pub standard-two : o ≡ 9 → 2 ≤ length s - at → at ≤ length s → Passes s at (Skipped.To (at + 2)) (counted ls o (drop at s))
+  standard-two e h g =
+      by-standard (record { is = rw (eq-eqb o 9 e, length-drop at s, le-leb 2 (length s - at) h, drop-drop 2 at s); within = (omega arith, omega arith) })
+
+  standard-other : {n : ℕ} {r : Skipped} → (o ≡ 9 → ⊥) → (o ≡ 1 → ⊥) → (o ≡ 6 → ⊥) → (o ≡ 7 → ⊥) → (o ≡ 8 → ⊥) → (o ≡ 10 → ⊥) → (o ≡ 11 → ⊥)
+      → n ≡ getD ls (o - 1) 0 → Passes s at r (unsignedOnes n (drop at s)) → Passes s at r (counted ls o (drop at s))
+  standard-other n9 n1 n6 n7 n8 n10 n11 e P =
+      by-standard (passes-as (rw (ne-eqb o 9 n9, ne-eqb o 1 n1, ne-eqb o 6 n6, ne-eqb o 7 n7, ne-eqb o 8 n8, ne-eqb o 10 n10, ne-eqb o 11 n11, e)) P)
+
+-- a match arm `6 | 7 | .. ` is a test of a range, less what the arms before it take
+bare-from : (k : ℕ) → k < 6 → (k ≡ 3 → ⊥) → bare (6 + k) ≡ true
+bare-from zero h n = refl
+bare-from (suc zero) h n = refl
+bare-from (suc (suc zero)) h n = refl
+bare-from (suc (suc (suc zero))) h n = absurd (n refl)
+bare-from (suc (suc (suc (suc zero)))) h n = refl
+bare-from (suc (suc (suc (suc (suc zero))))) h n = refl
+bare-from (suc (suc (suc (suc (suc (suc k)))))) h n = absurd (omega arith)
+
+pub standard-range : (s ls : List ℕ) (o at : ℕ) → (o ≡ 9 → ⊥) → 6 ≤ o → o < 12 → at ≤ length s → Passes s at (Skipped.To at) (counted ls o (drop at s))
+standard-range s ls o at n g h l =
+    let e : o ≡ 6 + (o - 6) = omega arith in
+    standard-bare s ls o at (6 + (o - 6)) e (ne-eqb (6 + (o - 6)) 9 (λ z. n (e ∙ z))) (bare-from (o - 6) (omega arith) (λ z. n (omega arith))) l
+
+pub standard-rest : (s ls : List ℕ) (o at : ℕ) {n : ℕ} {r : Skipped} → (o ≡ 9 → ⊥) → (o ≡ 1 → ⊥) → (o < 6) ⊎ (12 ≤ o)
+    → n ≡ getD ls (o - 1) 0 → Passes s at r (unsignedOnes n (drop at s)) → Passes s at r (counted ls o (drop at s))
+standard-rest s ls o at n9 n1 d =
+    let off : (k : ℕ) → 6 ≤ k → k < 12 → o ≡ k → ⊥ = λ k g h e. ⊎-elim (λ l. omega arith) (λ l. omega arith) d in
+    standard-other s ls o at n9 n1 (off 6 (omega arith) (omega arith)) (off 7 (omega arith) (omega arith)) (off 8 (omega arith) (omega arith))
+    (off 10 (omega arith) (omega arith)) (off 11 (omega arith) (omega arith))
+
+-- ---- any instruction
+
+module _ (s : List ℕ) (p o base w : ℕ) (ls : List ℕ) (r : Skipped) where
+  pub skip-extended : o ≡ 0 → Passes s p r (extended w (drop p s)) → Passes s p r (skip (record { base = base; lengths = ls }) w o (drop p s))
+  unfolding skip
+  skip-extended e P = passes-as (rw (eq-eqb o 0 e)) P
+
+  pub skip-standard : (o ≡ 0 → ⊥) → o < base → Passes s p r (counted ls o (drop p s)) → Passes s p r (skip (record { base = base; lengths = ls }) w o (drop p s))
+  unfolding skip operandKinds
+  skip-standard e h P = passes-as (rw (ne-eqb o 0 e, lt-ltb o base h)) P
+
+pub skip-special : (s : List ℕ) (p o base w : ℕ) (ls : List ℕ) → (o ≡ 0 → ⊥) → base ≤ o → p ≤ length s
+    → Passes s p (Skipped.To p) (skip (record { base = base; lengths = ls }) w o (drop p s))
+unfolding skip
+skip-special s p o base w ls e h g = record { is = rw (ne-eqb o 0 e, le-ltb o base h); within = (omega arith, g) }
+
+-- an operand that was read lies after its place, in the program
+pub reads-within : {s : List ℕ} {at : ℕ} {r : Operand} {v n : ℕ} → Reads s at r → r ≡ Operand.Value v n → (at < n) × (n ≤ length s)
+reads-within {s} {at} {r} {v} {n} R e = let Q : Reads s at (Operand.Value v n) = rw e at R in Q .within
