@@ -4,7 +4,7 @@ use std::collections::{BTreeSet, HashSet};
 
 use gimli::{LineProgramHeader, UnitOffset};
 
-use crate::sheet::{self, Part, Sheet};
+use crate::fields::{self, Part, Fields};
 use crate::unit::{self, Decoded, Entry, Slice, Source, Value};
 
 const SUBPROGRAM: u16 = gimli::DW_TAG_subprogram.0;
@@ -21,8 +21,8 @@ const REFERENCES: [u16; 3] = [
 pub struct Dump {
     /// The unit's place among the units of the main sheet.
     pub ordinal: usize,
-    pub main: Sheet,
-    pub supplementary: Sheet,
+    pub main: Fields,
+    pub supplementary: Fields,
     pub program: Vec<u8>,
 }
 
@@ -42,11 +42,11 @@ impl<'a> Input<'a> {
         }
         let lines = decoded.unit.line_program.clone().map(Lines::run);
         let program = lines.as_ref().map_or(&[][..], |lines| lines.program);
-        if program.len() > sheet::PROGRAM_LIMIT {
+        if program.len() > fields::PROGRAM_LIMIT {
             return Err("a line program of more than 4,194,304 bytes".into());
         }
         let reached = self.reach(asked)?;
-        let mut main = Sheet::default();
+        let mut main = Fields::default();
         for &index in &reached.main {
             let own = (index == asked).then_some(Own {
                 text: self.text,
@@ -56,7 +56,7 @@ impl<'a> Input<'a> {
                 reached.entries.contains(&(false, index, entry.offset))
             })?;
         }
-        let mut supplementary = Sheet::default();
+        let mut supplementary = Fields::default();
         if let Some(source) = &self.supplementary {
             for &index in &reached.supplementary {
                 write(&mut supplementary, source, index, None, |entry| {
@@ -201,7 +201,7 @@ struct Own<'a, 'b> {
 }
 
 fn write<'a>(
-    sheet: &mut Sheet,
+    fields: &mut Fields,
     source: &Source<'a>,
     index: usize,
     own: Option<Own<'a, '_>>,
@@ -211,8 +211,8 @@ fn write<'a>(
     let unit = &decoded.unit;
     let (offset, length) = source.place(index);
     let encoding = unit.encoding();
-    sheet.field(
-        sheet::UNIT,
+    fields.field(
+        fields::UNIT,
         &[
             Part::U64(offset),
             Part::U64(length),
@@ -221,37 +221,37 @@ fn write<'a>(
         ],
     )?;
     if let Some(directory) = &unit.comp_dir {
-        sheet.field(sheet::DIRECTORY_OF_UNIT, &[Part::Text(directory.slice())])?;
+        fields.field(fields::DIRECTORY_OF_UNIT, &[Part::Text(directory.slice())])?;
     }
     for (start, end) in own.map_or(&[][..], |own| own.text) {
-        sheet.field(sheet::TEXT, &[Part::U64(*start), Part::U64(*end)])?;
+        fields.field(fields::TEXT, &[Part::U64(*start), Part::U64(*end)])?;
     }
     if let Some(lines) = own.and_then(|own| own.lines) {
-        write_lines(sheet, source, decoded, &lines.header, &lines.rows)?;
+        write_lines(fields, source, decoded, &lines.header, &lines.rows)?;
     } else if let Some(program) = &unit.line_program {
-        write_lines(sheet, source, decoded, program.header(), &[])?;
+        write_lines(fields, source, decoded, program.header(), &[])?;
     }
     for entry in &decoded.entries {
-        sheet.entry(entry.offset, entry.depth, entry.tag)?;
+        fields.entry(entry.offset, entry.depth, entry.tag)?;
         if readable(entry) {
-            write_attributes(sheet, entry)?;
+            write_attributes(fields, entry)?;
         }
         if own.is_some() && matches!(entry.tag, SUBPROGRAM | INLINED) {
-            write_ranges(sheet, source, decoded, entry)?;
+            write_ranges(fields, source, decoded, entry)?;
         }
     }
     Ok(())
 }
 
 fn write_lines<'a>(
-    sheet: &mut Sheet,
+    fields: &mut Fields,
     source: &Source<'a>,
     decoded: &Decoded<'a>,
     header: &LineProgramHeader<Slice<'a>>,
     rows: &[Row],
 ) -> Result<(), String> {
-    sheet.field(
-        sheet::LINE_HEADER,
+    fields.field(
+        fields::LINE_HEADER,
         &[
             Part::U64(header.offset().0 as u64),
             Part::U64(header.header_length() as u64),
@@ -268,11 +268,11 @@ fn write_lines<'a>(
             Part::U8(path.is_none().into()),
             Part::Text(path.unwrap_or_default()),
         ];
-        sheet.field(sheet::DIRECTORY, &parts)?;
+        fields.field(fields::DIRECTORY, &parts)?;
     }
     let mut file = |tag, file: &gimli::FileEntry<Slice<'a>>| {
         let path = text(file.path_name());
-        sheet.field(
+        fields.field(
             tag,
             &[
                 Part::U8(path.is_none().into()),
@@ -283,15 +283,15 @@ fn write_lines<'a>(
     };
     if header.version() < 5 {
         if let Some(zero) = header.file(0) {
-            file(sheet::FILE_ZERO, zero)?;
+            file(fields::FILE_ZERO, zero)?;
         }
     }
     for each in header.file_names() {
-        file(sheet::FILE, each)?;
+        file(fields::FILE, each)?;
     }
     for row in rows {
-        sheet.field(
-            sheet::ROW,
+        fields.field(
+            fields::ROW,
             &[
                 Part::U64(row.address),
                 Part::U64(row.file),
@@ -303,15 +303,15 @@ fn write_lines<'a>(
     Ok(())
 }
 
-fn write_attributes(sheet: &mut Sheet, entry: &Entry) -> Result<(), String> {
+fn write_attributes(fields: &mut Fields, entry: &Entry) -> Result<(), String> {
     for attribute in &entry.attributes {
         let (kind, value) = match &attribute.value {
             Value::Number(kind, number) => (*kind, Part::U64(*number)),
             Value::Text(text) => (unit::STRING, Part::Text(text)),
             Value::Failed => (unit::FAILED, Part::Bytes(&[])),
         };
-        sheet.field(
-            sheet::ATTRIBUTE,
+        fields.field(
+            fields::ATTRIBUTE,
             &[Part::U16(attribute.name), Part::U8(kind), value],
         )?;
     }
@@ -319,7 +319,7 @@ fn write_attributes(sheet: &mut Sheet, entry: &Entry) -> Result<(), String> {
 }
 
 fn write_ranges(
-    sheet: &mut Sheet,
+    fields: &mut Fields,
     source: &Source,
     decoded: &Decoded,
     entry: &Entry,
@@ -327,23 +327,23 @@ fn write_ranges(
     let unit = &decoded.unit;
     let die = unit.entry(UnitOffset(entry.offset as usize));
     let die = die.map_err(|error| format!("not decoded: {error}"))?;
-    let failure = |stage, error: gimli::Error, sheet: &mut Sheet| {
+    let failure = |stage, error: gimli::Error, fields: &mut Fields| {
         let reason = error.to_string();
         let parts = [Part::U8(stage), Part::Text(reason.as_bytes())];
-        sheet
-            .field(sheet::RANGE_FAILURE, &parts)
+        fields
+            .field(fields::RANGE_FAILURE, &parts)
             .map_err(String::from)
     };
     let mut ranges = match source.dwarf.die_ranges(unit, &die) {
         Ok(ranges) => ranges,
-        Err(error) => return failure(0, error, sheet),
+        Err(error) => return failure(0, error, fields),
     };
     // A tombstone is one of the two largest addresses of the unit's address size.
     let tombstone = (u64::MAX >> (64 - 8 * u32::from(unit.encoding().address_size))) - 1;
     loop {
         match ranges.next() {
-            Ok(Some(range)) => sheet.field(
-                sheet::RANGE,
+            Ok(Some(range)) => fields.field(
+                fields::RANGE,
                 &[
                     Part::U64(range.begin),
                     Part::U64(range.end),
@@ -351,7 +351,7 @@ fn write_ranges(
                 ],
             )?,
             Ok(None) => return Ok(()),
-            Err(error) => return failure(1, error, sheet),
+            Err(error) => return failure(1, error, fields),
         }
     }
 }

@@ -3,7 +3,7 @@
 mod dump;
 mod elf;
 mod output;
-mod sheet;
+mod fields;
 mod unit;
 
 use std::collections::BTreeMap;
@@ -294,7 +294,7 @@ fn case(dump: &Dump) -> Vec<u8> {
     bytes.extend((dump.ordinal as u64).to_le_bytes());
     bytes.push(INLINES | CALL_SITES);
     bytes.extend(FIRST_FILE.to_le_bytes());
-    let work = sheet::work_length(&dump.main, &dump.supplementary, &dump.program);
+    let work = fields::work_length(&dump.main, &dump.supplementary, &dump.program);
     bytes.extend(work.to_le_bytes());
     for buffer in [BUFFER; 3] {
         bytes.extend(buffer.to_le_bytes());

@@ -10,7 +10,7 @@ use lib.Dec.{ltb}
 use lib.Seq.{take-at}
 use Rattle.tlv.specs.Outcome.{Outcome, refused, done, _>>=_}
 use Rattle.tlv.specs.Lists.{at}
-use Rattle.tlv.specs.Grammar.{checkSheet}
+use Rattle.tlv.specs.Grammar.{checkInput}
 use Rattle.tlv.specs.Model.{CompilationUnit, units}
 use Rattle.tlv.specs.Accepted.{UnitAccepted}
 use Rattle.tlv.specs.Reader.{readRecords, readFiles, readWarnings}
@@ -21,7 +21,7 @@ use Rattle.tlv.proofs.AcceptedUnits.{accepting}
 use Rattle.lines.proofs.RowLaws.{rows-agree}
 use Rattle.lines.proofs.LineBounds.{sorted-lines}
 use Rattle.dwarf.specs.Import.{State, importUnit}
-use Rattle.dwarf.specs.Answer.{Inputs, oversize, workNeeded, initialState, dwarfOf, importChosen, importOf, Written, written, fitting, outcomeOf, Answer, answerOf, trayAfter, after}
+use Rattle.dwarf.specs.Answer.{Inputs, oversize, workNeeded, initialState, dwarfOf, importChosen, importOf, Written, written, fitting, outcomeOf, Answer, answerOf, bufferAfter, after}
 use Rattle.dwarf.specs.Demand.{RecordAgrees, Pointwise, subjects, Units, Lent, Finished, Demand}
 use Rattle.dwarf.proofs.Refusals.{refusals}
 use Rattle.dwarf.proofs.ImportBounds.{producing}
@@ -36,13 +36,13 @@ each-unit = units-agree walk-tree walk-treeless rows-agree sorted-lines
 
 record Chosen (i : Inputs) (s : State) : Type 0 where
   fields : ℕ
-  checked : checkSheet (i .main) ≡ done fields
+  checked : checkInput (i .main) ≡ done fields
   unit : CompilationUnit
   chosen : at (units (i .main)) (i .ordinal) ≡ some unit
   imported : importUnit (dwarfOf i) unit (i .program) (i .inlines) (i .callSites) (initialState i) ≡ done s
 
 module _ (i : Inputs) (s : State) where
-  from-chosen : (m n : ℕ) → checkSheet (i .main) ≡ done m → (o : Option CompilationUnit) → at (units (i .main)) (i .ordinal) ≡ o → importChosen i n o ≡ done s → Chosen i s
+  from-chosen : (m n : ℕ) → checkInput (i .main) ≡ done m → (o : Option CompilationUnit) → at (units (i .main)) (i .ordinal) ≡ o → importChosen i n o ≡ done s → Chosen i s
   from-chosen m n c none a e = refused-not e
   from-chosen m n c (some u) a e = go (ltb (length (i .work)) (workNeeded i n)) e
     where
@@ -55,13 +55,13 @@ module _ (i : Inputs) (s : State) where
   was-chosen = go (oversize i)
     where
       rest : Outcome State
-      rest = checkSheet (i .main) >>= λ m. checkSheet (i .supplementary) >>= λ n. importChosen i (m + n) (at (units (i .main)) (i .ordinal))
+      rest = checkInput (i .main) >>= λ m. checkInput (i .supplementary) >>= λ n. importChosen i (m + n) (at (units (i .main)) (i .ordinal))
 
       go : (b : Bool) → cond b (refused 1) rest ≡ done s → Chosen i s
       go true e = refused-not e
       go false e =
-          with-done (checkSheet (i .main)) _ e λ m c e₁.
-          with-done (checkSheet (i .supplementary)) _ e₁ λ n _ e₂.
+          with-done (checkInput (i .main)) _ e λ m c e₁.
+          with-done (checkInput (i .supplementary)) _ e₁ λ n _ e₂.
           from-chosen m (m + n) c (at (units (i .main)) (i .ordinal)) refl e₂
 
 agrees : (i : Inputs) (s : State) (l : Lent i) (c : Chosen i s) → Pointwise (RecordAgrees (dwarfOf i) (c .unit) (i .inlines)) (subjects (dwarfOf i) (c .unit)) (s .records)
@@ -86,9 +86,9 @@ fits-is i w v = go (ltb (length (i .records)) (length (w .records))) (ltb (lengt
 
 -- a tray begins with what was written to it, as long as the answer says
 held : (part : Written → List ℕ) (size : Answer → ℕ) → ((w : Written) → size (answerOf (done w)) ≡ length (part w))
-    → (tray : List ℕ) (o : Outcome Written) (w : Written) → o ≡ done w → take (size (answerOf o)) (trayAfter part tray o) ≡ part w
-unfolding trayAfter
-held part size sizes tray o w e = rw (e, sizes w) (take-at (part w) (drop (length (part w)) tray) (length (part w)) refl)
+    → (buffer : List ℕ) (o : Outcome Written) (w : Written) → o ≡ done w → take (size (answerOf o)) (bufferAfter part buffer o) ≡ part w
+unfolding bufferAfter
+held part size sizes buffer o w e = rw (e, sizes w) (take-at (part w) (drop (length (part w)) buffer) (length (part w)) refl)
 
 module _ (i : Inputs) (l : Lent i) where
   read : (s : State) → importOf i ≡ done s → outcomeOf i ≡ done (written s) → Finished i

@@ -59,11 +59,11 @@ unit = record {
   entries = [];
 }
 
-abbrev sheets : Dwarf
-sheets = record { main = []; supplementary = [] }
+abbrev noUnits : Dwarf
+noUnits = record { main = []; supplementary = [] }
 
 abbrev context : AddressRange → DetailContext
-context f = record { dwarf = sheets; unit = unit; functionRange = f; fileIndices = []; includeInlines = true; includeCallSites = false }
+context f = record { dwarf = noUnits; unit = unit; functionRange = f; fileIndices = []; includeInlines = true; includeCallSites = false }
 
 shapes : Outcome Descendants → Outcome (List TreeNode)
 shapes (refused n) = refused n
@@ -104,7 +104,7 @@ lists (refused n) = refused n
 lists (done s) = done (map (λ f. map treeNode (f .inline)) (s .records))
 
 abbrev import : ImportContext
-import = record { dwarf = sheets; unit = unit; lines = noLines; includeInlines = true; includeCallSites = false }
+import = record { dwarf = noUnits; unit = unit; lines = noLines; includeInlines = true; includeCallSites = false }
 
 abbrev before : State
 before = record { table = record { first = 1; entries = [] }; records = []; warnings = []; stats = noStats }

@@ -11,8 +11,8 @@ use lib.Dec.{ltb, eqb}
 use Rattle.tlv.specs.declared.model.AddressRange.{AddressRange}
 use Rattle.tlv.specs.declared.model.LineEntry.{LineEntry}
 use Rattle.tlv.specs.Lists.{All, at, isEmpty}
-use Rattle.tlv.specs.Limits.{sheetLimit, programLimit}
-use Rattle.tlv.specs.Grammar.{checkSheet}
+use Rattle.tlv.specs.Limits.{inputLimit, programLimit}
+use Rattle.tlv.specs.Grammar.{checkInput}
 use Rattle.tlv.specs.Model.{CompilationUnit, Entry, EntryRange, Attribute, RangeFailure, dieRanges, units}
 use Rattle.tlv.specs.Output.{Function, Warning, malformedRanges, about, rejectedRange, warningPayload}
 use Rattle.tlv.specs.Accepted.{Small, String, Given, AttributeAccepted, FailureAccepted, EntryAccepted, UnitAccepted}
@@ -165,14 +165,14 @@ unit-fits d u program inlines callSites s dwarf unit short f =
 
 program-short : (i : Inputs) → oversize i ≡ false → length (i .program) ≤ programLimit
 unfolding oversize
-program-short i e = ltb-false programLimit (length (i .program)) (or-neither (ltb sheetLimit (length (i .main)) || ltb sheetLimit (length (i .supplementary))) (ltb programLimit (length (i .program))) e)
+program-short i e = ltb-false programLimit (length (i .program)) (or-neither (ltb inputLimit (length (i .main)) || ltb inputLimit (length (i .supplementary))) (ltb programLimit (length (i .program))) e)
 
 gives-fitting : (i : Inputs) → Lent i → Gives ImportFits (importOf i)
 unfolding importOf dwarfOf initialState
 gives-fitting i lent =
     gives-cond (oversize i) (λ e. gives-none) λ e.
-    gives-bind (gives-of (checkSheet (i .main)) λ m. accepting (i .main) m (lent .main)) λ m main.
-    gives-bind (gives-of (checkSheet (i .supplementary)) λ s. accepting (i .supplementary) s (lent .supplementary)) λ s supplementary.
+    gives-bind (gives-of (checkInput (i .main)) λ m. accepting (i .main) m (lent .main)) λ m main.
+    gives-bind (gives-of (checkInput (i .supplementary)) λ s. accepting (i .supplementary) s (lent .supplementary)) λ s supplementary.
     chosen (m + s) (record { main = main; supplementary = supplementary }) (program-short i e) (at (units (i .main)) (i .ordinal)) (all-at UnitAccepted (units (i .main)) (i .ordinal) main)
   where
     chosen : (n : ℕ) → DwarfAccepted (dwarfOf i) → length (i .program) ≤ programLimit → (o : Option CompilationUnit) → Given UnitAccepted o → Gives ImportFits (importChosen i n o)

@@ -10,7 +10,7 @@ use Rattle.tlv.specs.declared.model.LineEntry.{LineEntry}
 use Rattle.tlv.specs.Outcome.{refused}
 use Rattle.tlv.specs.Model.{CompilationUnit, Entry, EntryRange, Attribute, RangeFailure}
 use Rattle.tlv.specs.Output.{Warning}
-use Rattle.tlv.proofs.RefusalLaws.{RefusesIn, never, refuses-wider, refusal-number, refusing, refuses-sheet}
+use Rattle.tlv.proofs.RefusalLaws.{RefusesIn, never, refuses-wider, refusal-number, refusing, refuses-input}
 use Rattle.lines.specs.Files.{FileTable, get}
 use Rattle.lines.proofs.Refusals.{refuses-lines}
 use Rattle.references.specs.Search.{Dwarf, attribute, unsignedAttribute, fileIndexAttribute}
@@ -122,7 +122,7 @@ refuses-unit d u program inlines callSites s = search (refusing, refuses-lines, 
 
 pub refuses-import : (i : Inputs) → RefusesIn 1 15 (importOf i)
 unfolding importOf
-refuses-import i = search (refusing, refuses-wider 2 3, refuses-sheet, go)
+refuses-import i = search (refusing, refuses-wider 2 3, refuses-input, go)
   where
     go : (n : ℕ) (o : Option CompilationUnit) → RefusesIn 1 15 (importChosen i n o)
     go n none = search refusing

@@ -7,8 +7,8 @@ use lib.ListN.{length, drop, replicate}
 use lib.Dec.{ltb}
 use Rattle.tlv.specs.Outcome.{Outcome, refused, done, _>>=_}
 use Rattle.tlv.specs.Lists.{at}
-use Rattle.tlv.specs.Limits.{sheetLimit, programLimit, workOfField, workOfProgramByte, workBesides}
-use Rattle.tlv.specs.Grammar.{checkSheet}
+use Rattle.tlv.specs.Limits.{inputLimit, programLimit, workOfField, workOfProgramByte, workBesides}
+use Rattle.tlv.specs.Grammar.{checkInput}
 use Rattle.tlv.specs.Model.{CompilationUnit, units}
 use Rattle.tlv.specs.Output.{recordsBytes, filesBytes, warningsBytes}
 use Rattle.references.specs.Search.{Dwarf}
@@ -32,7 +32,7 @@ pub record Inputs : Type 0 where
 -- ---- refusals 1 to 5: "1 is tested first, then the fields: main sheet before supplementary .. Then 4, 5."
 
 unfoldable pub oversize : Inputs → Bool
-oversize i = ltb sheetLimit (length (i .main)) || ltb sheetLimit (length (i .supplementary)) || ltb programLimit (length (i .program))
+oversize i = ltb inputLimit (length (i .main)) || ltb inputLimit (length (i .supplementary)) || ltb programLimit (length (i .program))
 
 -- the work length that an import of n fields needs
 unfoldable pub workNeeded : Inputs → ℕ → ℕ
@@ -58,8 +58,8 @@ importChosen i n (some u) =
 unfoldable pub importOf : Inputs → Outcome State
 importOf i =
     cond (oversize i) (refused 1)
-    (checkSheet (i .main) >>= λ m.
-    checkSheet (i .supplementary) >>= λ s.
+    (checkInput (i .main) >>= λ m.
+    checkInput (i .supplementary) >>= λ s.
     importChosen i (m + s) (at (units (i .main)) (i .ordinal)))
 
 -- ---- the trays, and refusals 16 to 18: "only when everything else is done, lowest first"
@@ -99,9 +99,9 @@ answerOf (refused n) = record { refusal = n; records = 0; files = 0; warnings = 
 answerOf (done w) = record { refusal = 0; records = length (w .records); files = length (w .files); warnings = length (w .warnings); stats = w .stats }
 
 -- "Tray bytes past the length keep their old content."; a refusal "fills all three trays with 0"
-unfoldable pub trayAfter : (Written → List ℕ) → List ℕ → Outcome Written → List ℕ
-trayAfter part tray (refused n) = replicate (length tray) 0
-trayAfter part tray (done w) = part w ++ drop (length (part w)) tray
+unfoldable pub bufferAfter : (Written → List ℕ) → List ℕ → Outcome Written → List ℕ
+bufferAfter part buffer (refused n) = replicate (length buffer) 0
+bufferAfter part buffer (done w) = part w ++ drop (length (part w)) buffer
 
 pub record After : Type 0 where
   pub answer : Answer
@@ -114,8 +114,8 @@ pub record After : Type 0 where
 unfoldable pub after : Inputs → After
 after i = record {
   answer = answerOf (outcomeOf i);
-  records = trayAfter (λ w. w .records) (i .records) (outcomeOf i);
-  files = trayAfter (λ w. w .files) (i .files) (outcomeOf i);
-  warnings = trayAfter (λ w. w .warnings) (i .warnings) (outcomeOf i);
+  records = bufferAfter (λ w. w .records) (i .records) (outcomeOf i);
+  files = bufferAfter (λ w. w .files) (i .files) (outcomeOf i);
+  warnings = bufferAfter (λ w. w .warnings) (i .warnings) (outcomeOf i);
   work = replicate (length (i .work)) 0;
 }

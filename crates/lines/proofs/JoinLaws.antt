@@ -9,7 +9,7 @@ use native.Mathlib.Omega.{arith}
 use borrow.Author.Tests.{eq-eqb, ne-eqb}
 use lib.Dec.{eqb}
 use lib.ListN.{length, getD, drop, set, length-set, length-append, drop-of-length-le}
-use Rattle.tlv.specs.Tray.{overlay}
+use Rattle.tlv.specs.Buffer.{overlay}
 use Rattle.tlv.specs.Table.{chunk, Kept}
 use Rattle.tlv.proofs.ChunkLaws.{chunk-length, chunk-byte, chunk-none, chunk-add, chunk-over}
 use Rattle.tlv.proofs.TableLaws.{kept-over, kept-refl, kept-wide, kept-trans}

@@ -3,7 +3,7 @@ ghost use mathlib.Core.Path.{_≡_};
 ghost use mathlib.Core.Bool.{true, false};
 ghost use Prim.Native.Nat.{_+_, _-_, _≤_, _<_};
 ghost use lib.ListN.{length, drop};
-ghost use Rattle.tlv.specs.Tray.{overlay};
+ghost use Rattle.tlv.specs.Buffer.{overlay};
 ghost use Rattle.tlv.specs.Table.{chunk};
 ghost use Rattle.tlv.specs.Lists.{exists};
 ghost use Rattle.lines.specs.Standard.{slash};

@@ -75,15 +75,15 @@ module _ (d : Dwarf) (accepted : DwarfAccepted d) where
   units-accepted mainSource = accepted .main
   units-accepted supplementarySource = accepted .supplementary
 
-  absolute-accepted : (sheet source : DebugSource) (t : Trail) (o : ℕ) → Gives FollowedAccepted (followAbsolute d sheet source t o)
+  absolute-accepted : (input source : DebugSource) (t : Trail) (o : ℕ) → Gives FollowedAccepted (followAbsolute d input source t o)
   unfolding followAbsolute unitContaining
-  absolute-accepted sheet source t o =
-      gives-cond (isVisited t (record { source = source; offset = o })) (λ e. gives tt) (λ e. go _ (first holding (unitsIn d sheet)) (all-first UnitAccepted holding (unitsIn d sheet) (units-accepted sheet)))
+  absolute-accepted input source t o =
+      gives-cond (isVisited t (record { source = source; offset = o })) (λ e. gives tt) (λ e. go _ (first holding (unitsIn d input)) (all-first UnitAccepted holding (unitsIn d input) (units-accepted input)))
     where
       holding : CompilationUnit → Bool
       holding u = leb (u .offset) o && ltb o (u .offset + u .length)
 
-      go : (k : DieKey) (x : Option CompilationUnit) → Given UnitAccepted x → Gives FollowedAccepted (followIn sheet k t x)
+      go : (k : DieKey) (x : Option CompilationUnit) → Given UnitAccepted x → Gives FollowedAccepted (followIn input k t x)
       go k none a = gives tt
       go k (some u) a = gives-bind (entry-at-accepted u (k .offset - u .offset) a) λ e b. gives (record { unit = a; entry = b })
 
@@ -103,8 +103,8 @@ module _ (d : Dwarf) (accepted : DwarfAccepted d) where
     follow-accepted t none = gives tt
     follow-accepted t (some a) =
         gives-cond (eqb (a .kind) 4) (λ e. follow-unit-accepted t (a .value)) λ e.
-        gives-cond (eqb (a .kind) 5) (λ e. absolute-accepted (p .sheet) mainSource t (a .value)) λ e.
-        gives-cond (eqb (a .kind) 6) (λ e. supplementary-accepted (p .sheet) (d .supplementary) t (a .value)) λ e. gives tt
+        gives-cond (eqb (a .kind) 5) (λ e. absolute-accepted (p .input) mainSource t (a .value)) λ e.
+        gives-cond (eqb (a .kind) 6) (λ e. supplementary-accepted (p .input) (d .supplementary) t (a .value)) λ e. gives tt
 
 -- ---- names
 

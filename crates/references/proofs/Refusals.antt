@@ -29,11 +29,11 @@ refuses-entry u o = go (first (λ e. eqb (e .offset) o) (u .entries))
     go none = search refusing
     go (some e) = never
 
-refuses-absolute : (d : Dwarf) (sheet source : DebugSource) (t : Trail) (o : ℕ) → RefusesIn 13 13 (followAbsolute d sheet source t o)
+refuses-absolute : (d : Dwarf) (input source : DebugSource) (t : Trail) (o : ℕ) → RefusesIn 13 13 (followAbsolute d input source t o)
 unfolding followAbsolute
-refuses-absolute d sheet source t o = search (refusing, go)
+refuses-absolute d input source t o = search (refusing, go)
   where
-    go : (k : DieKey) (x : Option CompilationUnit) → RefusesIn 13 13 (followIn sheet k t x)
+    go : (k : DieKey) (x : Option CompilationUnit) → RefusesIn 13 13 (followIn input k t x)
     go k none = never
     go k (some u) = search (refusing, refuses-entry)
 

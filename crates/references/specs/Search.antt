@@ -29,7 +29,7 @@ unitsIn d supplementarySource = d .supplementary
 
 -- where a search stands: an entry of a unit, the sheet it is in, and the source that its unit's targets are remembered under, which need not be that sheet
 pub record Place : Type 0 where
-  pub sheet : DebugSource
+  pub input : DebugSource
   pub source : DebugSource
   pub unit : CompilationUnit
   pub entry : Entry
@@ -118,15 +118,15 @@ followedNothing t = done (record { trail = t; target = nothing })
 
 -- 13 where the unit has no entry there; "outside all units these two yield nothing"
 abbrev pub followIn : DebugSource → DieKey → Trail → Option CompilationUnit → Outcome Followed
-followIn sheet k t none = followedNothing (visit t k)
-followIn sheet k t (some u) = entryAt u (k .offset - u .offset) >>= λ e.
-    done (record { trail = visitEntry t k; target = byOffset (record { sheet = sheet; source = k .source; unit = u; entry = e }) })
+followIn input k t none = followedNothing (visit t k)
+followIn input k t (some u) = entryAt u (k .offset - u .offset) >>= λ e.
+    done (record { trail = visitEntry t k; target = byOffset (record { input = input; source = k .source; unit = u; entry = e }) })
 
 -- a section offset of a sheet, remembered under `source`
 unfoldable pub followAbsolute : Dwarf → DebugSource → DebugSource → Trail → ℕ → Outcome Followed
-followAbsolute d sheet source t o =
+followAbsolute d input source t o =
     let k : DieKey = record { source = source; offset = o } in
-    cond (isVisited t k) (followedNothing t) (followIn sheet k t (unitContaining (unitsIn d sheet) o))
+    cond (isVisited t k) (followedNothing t) (followIn input k t (unitContaining (unitsIn d input) o))
 
 -- an offset in the place's own unit
 unfoldable pub followUnit : Place → Trail → ℕ → Outcome Followed
@@ -134,7 +134,7 @@ followUnit p t o = absoluteEntryOffset (p .unit) o >>= λ a.
     let k : DieKey = record { source = p .source; offset = a } in
     cond (isVisited t k) (followedNothing t)
     (entryAt (p .unit) o >>= λ e.
-    done (record { trail = visitEntry t k; target = sameUnit (record { sheet = p .sheet; source = p .source; unit = p .unit; entry = e }) }))
+    done (record { trail = visitEntry t k; target = sameUnit (record { input = p .input; source = p .source; unit = p .unit; entry = e }) }))
 
 -- a supplementary reference, from the main sheet only, and where there is a supplementary sheet
 abbrev pub followSupplementary : Dwarf → DebugSource → List CompilationUnit → Trail → ℕ → Outcome Followed
@@ -147,8 +147,8 @@ unfoldable pub follow : Dwarf → Place → Trail → Option Attribute → Outco
 follow d p t none = followedNothing t
 follow d p t (some a) =
     cond (eqb (a .kind) 4) (followUnit p t (a .value))
-    (cond (eqb (a .kind) 5) (followAbsolute d (p .sheet) mainSource t (a .value))
-    (cond (eqb (a .kind) 6) (followSupplementary d (p .sheet) (d .supplementary) t (a .value))
+    (cond (eqb (a .kind) 5) (followAbsolute d (p .input) mainSource t (a .value))
+    (cond (eqb (a .kind) 6) (followSupplementary d (p .input) (d .supplementary) t (a .value))
     (followedNothing t)))
 
 -- abstract origin, then specification
@@ -208,7 +208,7 @@ resolveNameInner (suc k) d p t = ownName (p .entry) nameAttributes >>= λ own.
 
 -- an entry of the unit that is imported
 abbrev pub placeIn : CompilationUnit → Entry → Place
-placeIn u e = record { sheet = mainSource; source = mainSource; unit = u; entry = e }
+placeIn u e = record { input = mainSource; source = mainSource; unit = u; entry = e }
 
 -- resolve_name, with what it followed
 unfoldable pub resolveNamed : Dwarf → CompilationUnit → Entry → Outcome Named

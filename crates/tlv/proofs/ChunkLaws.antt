@@ -7,10 +7,10 @@ use native.Mathlib.Omega.{arith}
 use lib.ListN.{length, take, drop, set, getD, length-drop, take-append-drop}
 use lib.Seq.{length-take-le, take-take, take-add, drop-drop, drop-cons, getD-take, getD-drop, drop-set-lt, drop-set-add, take-set-lt}
 use Rattle.tlv.specs.Bytes.{le, leAt}
-use Rattle.tlv.specs.Tray.{overlay}
+use Rattle.tlv.specs.Buffer.{overlay}
 use Rattle.tlv.specs.Table.{chunk}
 use Rattle.tlv.proofs.WidthLaws.{drop-take, drop-part, leAt-part}
-use Rattle.tlv.proofs.TrayLaws.{take-overlay, part-overlay, overlay-append}
+use Rattle.tlv.proofs.BufferLaws.{take-overlay, part-overlay, overlay-append}
 
 pub chunk-length : (w : List ℕ) (p k : ℕ) → p + k ≤ length w → length (chunk w p k) ≡ k
 unfolding chunk

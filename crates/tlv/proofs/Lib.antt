@@ -17,7 +17,7 @@ pub mod AcceptedCounts
 pub mod AcceptedUnits
 pub mod RefusalLaws
 pub mod WidthLaws
-pub mod TrayLaws
+pub mod BufferLaws
 pub mod OutputLaws
 pub mod ChunkLaws
 pub mod TableLaws

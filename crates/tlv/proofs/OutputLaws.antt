@@ -10,9 +10,9 @@ use Rattle.tlv.specs.Lists.{isEmpty}
 use Rattle.tlv.specs.Bytes.{bytesOf}
 use Rattle.tlv.specs.Fields.{encode}
 use Rattle.tlv.specs.Output.{InlineNode, WarningKind, about, kindNumber, nodePayload, warningPayload}
-use Rattle.tlv.specs.Tray.{Put}
+use Rattle.tlv.specs.Buffer.{Put}
 use Rattle.tlv.proofs.ByteLaws.{length-bytesOf}
-use Rattle.tlv.proofs.TrayLaws.{_then_}
+use Rattle.tlv.proofs.BufferLaws.{_then_}
 
 -- a field is its head, with the length of the payload, and then the payload
 pub put-headed : {at p q n tag : ℕ} {payload t t₁ t₂ : List ℕ} → length payload ≡ n → Put at ((tag ∷ []) ++ bytesOf 2 n) t t₁ p → Put p payload t₁ t₂ q → Put at (encode tag payload) t t₂ q

@@ -18,7 +18,7 @@ use Rattle.tlv.specs.Lists.{Any, exists}
 use Rattle.tlv.specs.Bytes.{Bytes}
 use Rattle.tlv.specs.Fields.{Field, FieldList, end, cut, more, fields, wholeFields, payloads}
 use Rattle.tlv.specs.Cursor.{stepAt}
-use Rattle.tlv.specs.Grammar.{start, after, mayFollow, payloadShaped, shaped, limited, next, checkFrom, checkSheet}
+use Rattle.tlv.specs.Grammar.{start, after, mayFollow, payloadShaped, shaped, limited, next, checkFrom, checkInput}
 use Rattle.tlv.specs.Checked.{fieldIn, checkedOf, Placed}
 use Rattle.tlv.proofs.TestLaws.{by-test, and-left}
 use Rattle.tlv.proofs.ListLaws.{all-drop}
@@ -31,7 +31,7 @@ use Rattle.tlv.proofs.AcceptedCounts.{next-count, fewer}
 -- ---- an accepted sheet
 
 -- an answer that accepts
-pub accepted-done : (s : List ℕ) (r : Checked) (n : ℕ) → checkedOf r ≡ checkSheet s → r ≡ Checked.Accepted n → checkSheet s ≡ done n
+pub accepted-done : (s : List ℕ) (r : Checked) (n : ℕ) → checkedOf r ≡ checkInput s → r ≡ Checked.Accepted n → checkInput s ≡ done n
 accepted-done s r n e is = rw is at (sym e)
 
 -- the fields that are checked are counted
@@ -45,12 +45,12 @@ counted c (more f fs) n e =
     omega (arith, next-count c f)
 
 -- an accepted sheet of n fields has n whole fields
-pub accepted-count : (s : List ℕ) (n : ℕ) → checkSheet s ≡ done n → n ≡ length (wholeFields (fields s))
-unfolding checkSheet
+pub accepted-count : (s : List ℕ) (n : ℕ) → checkInput s ≡ done n → n ≡ length (wholeFields (fields s))
+unfolding checkInput
 accepted-count s n e = let k = counted start (fields s) n e in omega arith
 
 -- and of each tag at most n
-pub accepted-payloads : (s : List ℕ) (n t : ℕ) → checkSheet s ≡ done n → length (payloads t (wholeFields (fields s))) ≤ n
+pub accepted-payloads : (s : List ℕ) (n t : ℕ) → checkInput s ≡ done n → length (payloads t (wholeFields (fields s))) ≤ n
 accepted-payloads s n t e = omega (arith, accepted-count s n e, fewer t (wholeFields (fields s)))
 
 -- what is known of a slice of bytes, as a statement on its list
@@ -61,11 +61,11 @@ slice-bytes (b ∷ s) h = (h 0 .fits, slice-bytes s (λ i. h (suc i)))
 -- ---- its places
 
 -- the start is one
-pub placed-start : (s : List ℕ) (n : ℕ) → checkSheet s ≡ done n → Placed s 0
-unfolding checkSheet
+pub placed-start : (s : List ℕ) (n : ℕ) → checkInput s ≡ done n → Placed s 0
+unfolding checkInput
 placed-start s n e = record { context = start; count = n; passes = e; within = omega arith }
 
-pub accepted-start : (s : List ℕ) (r : Checked) (n : ℕ) → checkedOf r ≡ checkSheet s → r ≡ Checked.Accepted n → Placed s 0
+pub accepted-start : (s : List ℕ) (r : Checked) (n : ℕ) → checkedOf r ≡ checkInput s → r ≡ Checked.Accepted n → Placed s 0
 accepted-start s r n e is = placed-start s n (accepted-done s r n e is)
 
 -- the fields from a place on pass, one after the other

@@ -9,7 +9,7 @@ use native.Mathlib.Omega.{arith}
 use lib.ListN.{length, take, drop, set, getD, drop-of-length-le}
 use lib.Seq.{drop-cons}
 use Rattle.tlv.specs.Bytes.{le, leAt}
-use Rattle.tlv.specs.Tray.{overlay}
+use Rattle.tlv.specs.Buffer.{overlay}
 use Rattle.tlv.specs.Table.{chunk, tab, records, Apart, Kept, Clear, KeptBut, Wrote, CopiedBytes}
 use Rattle.tlv.proofs.ChunkLaws.{chunk-part, chunk-over, leAt-is}
 use Rattle.tlv.proofs.TableLaws.{inside, apart-of, clear-record, but-one}

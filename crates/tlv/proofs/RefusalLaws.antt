@@ -8,7 +8,7 @@ use borrow.Author.Tests.{leb-true}
 use Rattle.tlv.specs.Outcome.{Outcome, refused, done, _>>=_}
 use Rattle.tlv.specs.Fields.{FieldList, end, cut, more, fields}
 use Rattle.tlv.specs.declared.grammar.Context.{Context}
-use Rattle.tlv.specs.Grammar.{start, next, checkFrom, checkSheet}
+use Rattle.tlv.specs.Grammar.{start, next, checkFrom, checkInput}
 
 -- an outcome that is done, or a refusal by a number from `lo` to `hi`
 pub data RefusesIn {A : Type 0} (lo hi : ℕ) : Outcome A → Type 0 where
@@ -47,6 +47,6 @@ refuses-check c end = never
 refuses-check c cut = search refusing
 refuses-check c (more f fs) = let later = refuses-check (next c f) fs in search refusing
 
-pub refuses-sheet : (s : List ℕ) → RefusesIn 2 3 (checkSheet s)
-unfolding checkSheet
-refuses-sheet s = refuses-check start (fields s)
+pub refuses-input : (s : List ℕ) → RefusesIn 2 3 (checkInput s)
+unfolding checkInput
+refuses-input s = refuses-check start (fields s)

@@ -9,11 +9,11 @@ use native.Mathlib.Omega.{arith}
 use lib.ListN.{length, take, drop, set, getD, length-set, length-drop}
 use lib.Seq.{length-take-le, take-suc, take-all}
 use Rattle.tlv.specs.Bytes.{bytesOf, leAt}
-use Rattle.tlv.specs.Tray.{overlay}
+use Rattle.tlv.specs.Buffer.{overlay}
 use Rattle.tlv.specs.Table.{chunk, Apart, Kept, Clear, KeptBut, Wrote, CopiedBytes}
 use Rattle.tlv.proofs.ByteLaws.{le-bytesOf, length-bytesOf}
 use Rattle.tlv.proofs.WidthLaws.{leAt-add, bytesOf-add}
-use Rattle.tlv.proofs.TrayLaws.{length-overlay, overlay-append}
+use Rattle.tlv.proofs.BufferLaws.{length-overlay, overlay-append}
 use Rattle.tlv.proofs.ChunkLaws.{chunk-length, chunk-byte, chunk-over, chunk-behind, chunk-before, overlay-snoc, leAt-is, part-back}
 
 -- ---- where the records stand

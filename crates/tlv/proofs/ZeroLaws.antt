@@ -8,7 +8,7 @@ use native.Mathlib.Omega.{arith}
 use lib.ListN.{length, set, replicate, length-set, length-replicate, take-append-drop}
 use lib.Seq.{take-suc-set, append-snoc, drop-set-lt, drop-length}
 use Rattle.tlv.specs.Bytes.{le, leAt}
-use Rattle.tlv.specs.Tray.{overlay}
+use Rattle.tlv.specs.Buffer.{overlay}
 use Rattle.tlv.specs.Table.{chunk, tab, records, zeroed, Zeroed}
 use Rattle.tlv.proofs.ChunkLaws.{chunk-part, chunk-over, overlay-eq, leAt-is}
 use Rattle.tlv.proofs.TableLaws.{inside, kept-over}

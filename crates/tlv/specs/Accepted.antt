@@ -9,7 +9,7 @@ use Rattle.tlv.specs.Outcome.{done}
 use Rattle.tlv.specs.Lists.{All}
 use Rattle.tlv.specs.Bytes.{Bytes}
 use Rattle.tlv.specs.Limits.{fieldLimit, stringLimit, reasonLimit, depthLimit}
-use Rattle.tlv.specs.Grammar.{checkSheet}
+use Rattle.tlv.specs.Grammar.{checkInput}
 use Rattle.tlv.specs.Model.{Attribute, RangeFailure, Entry, LineRow, CompilationUnit, units}
 
 abbrev pub Small : AddressRange → Type 0
@@ -62,4 +62,4 @@ pub record UnitAccepted (u : CompilationUnit) : Type 0 where
   pub ordered : Ordered 0 0 (u .entries)
 
 abbrev pub Accepting : Type 0
-Accepting = (s : List ℕ) (n : ℕ) → Bytes s → checkSheet s ≡ done n → All UnitAccepted (units s)
+Accepting = (s : List ℕ) (n : ℕ) → Bytes s → checkInput s ≡ done n → All UnitAccepted (units s)

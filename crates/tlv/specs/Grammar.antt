@@ -178,5 +178,6 @@ checkFrom c end = done (c .count)
 checkFrom c cut = refused 2
 checkFrom c (more f fs) = cond (shaped c f) (cond (limited c f) (checkFrom (next c f) fs) (refused 3)) (refused 2)
 
-unfoldable pub checkSheet : List ℕ → Outcome ℕ
-checkSheet s = checkFrom start (fields s)
+-- an input of fields; document 01 calls it a sheet
+unfoldable pub checkInput : List ℕ → Outcome ℕ
+checkInput s = checkFrom start (fields s)

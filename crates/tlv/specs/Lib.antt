@@ -10,7 +10,7 @@ pub mod Output
 pub mod Reader
 pub mod Fits
 pub mod Accepted
-pub mod Tray
+pub mod Buffer
 pub mod Table
 pub mod Cursor
 pub mod Checked

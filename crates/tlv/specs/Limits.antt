@@ -2,8 +2,8 @@
 use Prim.Native.Nat.{ℕ}
 
 -- 1, oversize: bytes of a sheet, bytes of a line program
-abbrev pub sheetLimit : ℕ
-sheetLimit = 16777216
+abbrev pub inputLimit : ℕ
+inputLimit = 16777216
 
 abbrev pub programLimit : ℕ
 programLimit = 4194304

@@ -74,7 +74,7 @@ functionOf g =
     }
 
 unfoldable pub readRecords : List ℕ → Option (List Function)
-readRecords tray = cond (recordsForm 0 0 (fields tray)) (some (map functionOf (grouped 0x41 (wholeFields (fields tray)) .groups))) none
+readRecords buffer = cond (recordsForm 0 0 (fields buffer)) (some (map functionOf (grouped 0x41 (wholeFields (fields buffer)) .groups))) none
 
 -- ---- files and warnings: each field by itself
 
@@ -96,7 +96,7 @@ fileEntryOf f =
     cond (eqb (f .tag) 0x40 && leb (2 + n) (length p)) (some (record { directory = take n (drop 2 p); basename = drop (2 + n) p })) none
 
 unfoldable pub readFiles : List ℕ → Option (List FileEntry)
-readFiles tray = readEach fileEntryOf (fields tray)
+readFiles buffer = readEach fileEntryOf (fields buffer)
 
 -- the kind of a number
 unfoldable pub kindOf : ℕ → Option WarningKind
@@ -123,4 +123,4 @@ warningOf f =
     none
 
 unfoldable pub readWarnings : List ℕ → Option (List Warning)
-readWarnings tray = readEach warningOf (fields tray)
+readWarnings buffer = readEach warningOf (fields buffer)

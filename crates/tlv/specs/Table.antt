@@ -5,7 +5,7 @@ use mathlib.Core.List.{List, [], _∷_, _++_}
 use Prim.Native.Nat.{ℕ, zero, suc, _+_, _-_, _*_, _≤_}
 use lib.ListN.{take, drop, replicate}
 use Rattle.tlv.specs.Bytes.{bytesOf, leAt}
-use Rattle.tlv.specs.Tray.{overlay}
+use Rattle.tlv.specs.Buffer.{overlay}
 
 -- the k bytes of w from place p on
 unfoldable pub chunk : List ℕ → ℕ → ℕ → List ℕ

@@ -3,7 +3,7 @@ ghost use mathlib.Core.Path.{_≡_};
 ghost use mathlib.Core.Bool.{true};
 ghost use Prim.Native.Nat.{_+_, _≤_};
 ghost use lib.ListN.{length, take, drop};
-ghost use Rattle.tlv.specs.Grammar.{mayFollow, unitShaped, textShaped, headerShaped, directoryShaped, fileShaped, rowShaped, entryShaped, valueShaped, attributeShaped, rangeShaped, failureShaped, payloadShaped, payloadLimited, shaped, limited, next, checkSheet};
+ghost use Rattle.tlv.specs.Grammar.{mayFollow, unitShaped, textShaped, headerShaped, directoryShaped, fileShaped, rowShaped, entryShaped, valueShaped, attributeShaped, rangeShaped, failureShaped, payloadShaped, payloadLimited, shaped, limited, next, checkInput};
 ghost use Rattle.tlv.specs.Checked.{fieldIn, judgedOf, checkedOf};
 use crate::bytes::read_u8;
 use crate::bytes::read_u16;
@@ -303,15 +303,15 @@ fn judge(c: Context, tag: u8, s: &[u8], start: usize, len: usize) -> Judged
     Judged::Passed(next(c, tag, s, start, len))
 }
 
-// What becomes of a sheet: the number of its fields, or why not.
+// What becomes of an input (document 01: a sheet): the number of its fields, or why not.
 pub enum Checked {
     Accepted(u64),
     Misshapen,
     PastLimit,
 }
 
-pub fn check_sheet(s: &[u8]) -> Checked
-    ensures { λ r. ⌜ checkedOf r ≡ checkSheet (now (s .entry)) ⌝ }
+pub fn check_input(s: &[u8]) -> Checked
+    ensures { λ r. ⌜ checkedOf r ≡ checkInput (now (s .entry)) ⌝ }
 {
     let mut p: usize = 0;
     let mut c = Context {

@@ -8,17 +8,17 @@ ghost use Rattle.tlv.specs.Lists.{isEmpty};
 ghost use Rattle.tlv.specs.Bytes.{bytesOf};
 ghost use Rattle.tlv.specs.Fields.{encode};
 ghost use Rattle.tlv.specs.Output.{functionPayload, rowPayload, nodePayload, rangePayload, sitePayload, filePayload, malformedRanges, warningPayload};
-ghost use Rattle.tlv.specs.Tray.{Put};
+ghost use Rattle.tlv.specs.Buffer.{Put};
 use crate::model::AddressRange;
 use crate::model::FileIndex;
 use crate::model::LineEntry;
 
 // A byte. Past the tray's end nothing is laid, and the place goes on.
-pub fn put_u8(tray: &mut [u8], at: usize, b: u8) -> usize
-    ensures { λ r. ⌜ Put at (b ∷ []) (now (tray .entry)) (now (tray .exit)) r ⌝ }
+pub fn put_u8(buffer: &mut [u8], at: usize, b: u8) -> usize
+    ensures { λ r. ⌜ Put at (b ∷ []) (now (buffer .entry)) (now (buffer .exit)) r ⌝ }
 {
-    if at < tray.len() {
-        tray[at] = b;
+    if at < buffer.len() {
+        buffer[at] = b;
         return at + 1;
     }
     if at == 18446744073709551615 {
@@ -27,88 +27,88 @@ pub fn put_u8(tray: &mut [u8], at: usize, b: u8) -> usize
     at + 1
 }
 
-pub fn put_u16(tray: &mut [u8], at: usize, v: u16) -> usize
-    ensures { λ r. ⌜ Put at (bytesOf 2 v) (now (tray .entry)) (now (tray .exit)) r ⌝ }
+pub fn put_u16(buffer: &mut [u8], at: usize, v: u16) -> usize
+    ensures { λ r. ⌜ Put at (bytesOf 2 v) (now (buffer .entry)) (now (buffer .exit)) r ⌝ }
 {
-    let p = put_u8(tray, at, (v % 256) as u8);
-    put_u8(tray, p, (v / 256) as u8)
+    let p = put_u8(buffer, at, (v % 256) as u8);
+    put_u8(buffer, p, (v / 256) as u8)
 }
 
-pub fn put_u32(tray: &mut [u8], at: usize, v: u32) -> usize
-    ensures { λ r. ⌜ Put at (bytesOf 4 v) (now (tray .entry)) (now (tray .exit)) r ⌝ }
+pub fn put_u32(buffer: &mut [u8], at: usize, v: u32) -> usize
+    ensures { λ r. ⌜ Put at (bytesOf 4 v) (now (buffer .entry)) (now (buffer .exit)) r ⌝ }
 {
-    let p = put_u16(tray, at, (v % 65536) as u16);
-    put_u16(tray, p, (v / 65536) as u16)
+    let p = put_u16(buffer, at, (v % 65536) as u16);
+    put_u16(buffer, p, (v / 65536) as u16)
 }
 
-pub fn put_u64(tray: &mut [u8], at: usize, v: u64) -> usize
-    ensures { λ r. ⌜ Put at (bytesOf 8 v) (now (tray .entry)) (now (tray .exit)) r ⌝ }
+pub fn put_u64(buffer: &mut [u8], at: usize, v: u64) -> usize
+    ensures { λ r. ⌜ Put at (bytesOf 8 v) (now (buffer .entry)) (now (buffer .exit)) r ⌝ }
 {
-    let p = put_u32(tray, at, (v % 4294967296) as u32);
-    put_u32(tray, p, (v / 4294967296) as u32)
+    let p = put_u32(buffer, at, (v % 4294967296) as u32);
+    put_u32(buffer, p, (v / 4294967296) as u32)
 }
 
-pub fn put_bytes(tray: &mut [u8], at: usize, bs: &[u8]) -> usize
-    ensures { λ r. ⌜ Put at (now (bs .entry)) (now (tray .entry)) (now (tray .exit)) r ⌝ }
+pub fn put_bytes(buffer: &mut [u8], at: usize, bs: &[u8]) -> usize
+    ensures { λ r. ⌜ Put at (now (bs .entry)) (now (buffer .entry)) (now (buffer .exit)) r ⌝ }
 {
     let mut p = at;
     let mut i = 0;
     while i < bs.len() {
-        p = put_u8(tray, p, bs[i]);
+        p = put_u8(buffer, p, bs[i]);
         i += 1;
     }
     p
 }
 
 // What every field begins with: its tag and the length of its payload.
-fn put_head(tray: &mut [u8], at: usize, tag: u8, size: u16) -> usize
-    ensures { λ r. ⌜ Put at ((tag ∷ []) ++ bytesOf 2 size) (now (tray .entry)) (now (tray .exit)) r ⌝ }
+fn put_head(buffer: &mut [u8], at: usize, tag: u8, size: u16) -> usize
+    ensures { λ r. ⌜ Put at ((tag ∷ []) ++ bytesOf 2 size) (now (buffer .entry)) (now (buffer .exit)) r ⌝ }
 {
-    let p = put_u8(tray, at, tag);
-    put_u16(tray, p, size)
+    let p = put_u8(buffer, at, tag);
+    put_u16(buffer, p, size)
 }
 
 // 40 file: directory length 2 bytes, directory, basename.
-pub fn put_file(tray: &mut [u8], at: usize, directory: &[u8], basename: &[u8]) -> usize
+pub fn put_file(buffer: &mut [u8], at: usize, directory: &[u8], basename: &[u8]) -> usize
     requires { ⌜ 2 + length (now directory) + length (now basename) < 65536 ⌝ }
-    ensures { λ r. ⌜ Put at (encode 0x40 (filePayload (record { directory = now (directory .entry); basename = now (basename .entry) }))) (now (tray .entry)) (now (tray .exit)) r ⌝ }
+    ensures { λ r. ⌜ Put at (encode 0x40 (filePayload (record { directory = now (directory .entry); basename = now (basename .entry) }))) (now (buffer .entry)) (now (buffer .exit)) r ⌝ }
 {
     let headed = put_head(
-        tray,
+        buffer,
         at,
         0x40,
         (2 + directory.len() + basename.len()) as u16,
     );
-    let counted = put_u16(tray, headed, directory.len() as u16);
-    let placed = put_bytes(tray, counted, directory);
-    put_bytes(tray, placed, basename)
+    let counted = put_u16(buffer, headed, directory.len() as u16);
+    let placed = put_bytes(buffer, counted, directory);
+    put_bytes(buffer, placed, basename)
 }
 
 // 41 function: start, end, name.
-pub fn put_function(tray: &mut [u8], at: usize, range: AddressRange, name: &[u8]) -> usize
+pub fn put_function(buffer: &mut [u8], at: usize, range: AddressRange, name: &[u8]) -> usize
     requires { ⌜ 16 + length (now name) < 65536 ⌝ }
-    ensures { λ r. ⌜ Put at (encode 0x41 (functionPayload range (now (name .entry)))) (now (tray .entry)) (now (tray .exit)) r ⌝ }
+    ensures { λ r. ⌜ Put at (encode 0x41 (functionPayload range (now (name .entry)))) (now (buffer .entry)) (now (buffer .exit)) r ⌝ }
 {
-    let headed = put_head(tray, at, 0x41, (16 + name.len()) as u16);
-    let started = put_u64(tray, headed, range.start);
-    let ended = put_u64(tray, started, range.end);
-    put_bytes(tray, ended, name)
+    let headed = put_head(buffer, at, 0x41, (16 + name.len()) as u16);
+    let started = put_u64(buffer, headed, range.start);
+    let ended = put_u64(buffer, started, range.end);
+    put_bytes(buffer, ended, name)
 }
 
 // 42 row: address, file 4 bytes, line 4 bytes.
-pub fn put_line(tray: &mut [u8], at: usize, line: LineEntry) -> usize
-    ensures { λ r. ⌜ Put at (encode 0x42 (rowPayload line)) (now (tray .entry)) (now (tray .exit)) r ⌝ }
+pub fn put_line(buffer: &mut [u8], at: usize, line: LineEntry) -> usize
+    ensures { λ r. ⌜ Put at (encode 0x42 (rowPayload line)) (now (buffer .entry)) (now (buffer .exit)) r ⌝ }
 {
     let file = line.file;
-    let headed = put_head(tray, at, 0x42, 16);
-    let addressed = put_u64(tray, headed, line.address);
-    let filed = put_u32(tray, addressed, file.0);
-    put_u32(tray, filed, line.line)
+    let headed = put_head(buffer, at, 0x42, 16);
+    let addressed = put_u64(buffer, headed, line.address);
+    let filed = put_u32(buffer, addressed, file.0);
+    put_u32(buffer, filed, line.line)
 }
 
 // 43 node: depth 2, call file 4, call line 4, name. Its ranges follow in fields of their own.
 pub fn put_node(
-    tray: &mut [u8],
+    buffer: &mut [u8],
     at: usize,
     depth: u16,
     call_file: FileIndex,
@@ -116,22 +116,22 @@ pub fn put_node(
     name: &[u8],
 ) -> usize
     requires { ⌜ 10 + length (now name) < 65536 ⌝ }
-    ensures { λ r. ⌜ Put at (encode 0x43 (nodePayload (record { depth = depth; callFile = «call_file»; callLine = «call_line»; name = now (name .entry); ranges = [] }))) (now (tray .entry)) (now (tray .exit)) r ⌝ }
+    ensures { λ r. ⌜ Put at (encode 0x43 (nodePayload (record { depth = depth; callFile = «call_file»; callLine = «call_line»; name = now (name .entry); ranges = [] }))) (now (buffer .entry)) (now (buffer .exit)) r ⌝ }
 {
-    let headed = put_head(tray, at, 0x43, (10 + name.len()) as u16);
-    let deep = put_u16(tray, headed, depth);
-    let filed = put_u32(tray, deep, call_file.0);
-    let lined = put_u32(tray, filed, call_line);
-    put_bytes(tray, lined, name)
+    let headed = put_head(buffer, at, 0x43, (10 + name.len()) as u16);
+    let deep = put_u16(buffer, headed, depth);
+    let filed = put_u32(buffer, deep, call_file.0);
+    let lined = put_u32(buffer, filed, call_line);
+    put_bytes(buffer, lined, name)
 }
 
 // 44 range: start, end.
-pub fn put_range(tray: &mut [u8], at: usize, range: AddressRange) -> usize
-    ensures { λ r. ⌜ Put at (encode 0x44 (rangePayload range)) (now (tray .entry)) (now (tray .exit)) r ⌝ }
+pub fn put_range(buffer: &mut [u8], at: usize, range: AddressRange) -> usize
+    ensures { λ r. ⌜ Put at (encode 0x44 (rangePayload range)) (now (buffer .entry)) (now (buffer .exit)) r ⌝ }
 {
-    let headed = put_head(tray, at, 0x44, 16);
-    let started = put_u64(tray, headed, range.start);
-    put_u64(tray, started, range.end)
+    let headed = put_head(buffer, at, 0x44, 16);
+    let started = put_u64(buffer, headed, range.start);
+    put_u64(buffer, started, range.end)
 }
 
 // How many patterns a call site has: none where it is empty.
@@ -145,25 +145,25 @@ fn pattern_count(pattern: &[u8]) -> u8
 }
 
 // 45 call site: return offset, pattern count 1 byte, pattern.
-pub fn put_call_site(tray: &mut [u8], at: usize, return_offset: u64, pattern: &[u8]) -> usize
+pub fn put_call_site(buffer: &mut [u8], at: usize, return_offset: u64, pattern: &[u8]) -> usize
     requires { ⌜ 9 + length (now pattern) < 65536 ⌝ }
-    ensures { λ r. ⌜ Put at (encode 0x45 (sitePayload (record { returnOffset = «return_offset»; pattern = now (pattern .entry) }))) (now (tray .entry)) (now (tray .exit)) r ⌝ }
+    ensures { λ r. ⌜ Put at (encode 0x45 (sitePayload (record { returnOffset = «return_offset»; pattern = now (pattern .entry) }))) (now (buffer .entry)) (now (buffer .exit)) r ⌝ }
 {
     let count = pattern_count(pattern);
-    let headed = put_head(tray, at, 0x45, (9 + pattern.len()) as u16);
-    let placed = put_u64(tray, headed, return_offset);
-    let counted = put_u8(tray, placed, count);
-    put_bytes(tray, counted, pattern)
+    let headed = put_head(buffer, at, 0x45, (9 + pattern.len()) as u16);
+    let placed = put_u64(buffer, headed, return_offset);
+    let counted = put_u8(buffer, placed, count);
+    put_bytes(buffer, counted, pattern)
 }
 
 // 46 warning of two numbers: kind 1 byte, the numbers.
-pub fn put_warning(tray: &mut [u8], at: usize, kind: u8, first: u64, second: u64) -> usize
-    ensures { λ r. ⌜ Put at (encode 0x46 ((kind ∷ []) ++ bytesOf 8 first ++ bytesOf 8 second)) (now (tray .entry)) (now (tray .exit)) r ⌝ }
+pub fn put_warning(buffer: &mut [u8], at: usize, kind: u8, first: u64, second: u64) -> usize
+    ensures { λ r. ⌜ Put at (encode 0x46 ((kind ∷ []) ++ bytesOf 8 first ++ bytesOf 8 second)) (now (buffer .entry)) (now (buffer .exit)) r ⌝ }
 {
-    let headed = put_head(tray, at, 0x46, 17);
-    let kinded = put_u8(tray, headed, kind);
-    let begun = put_u64(tray, kinded, first);
-    put_u64(tray, begun, second)
+    let headed = put_head(buffer, at, 0x46, 17);
+    let kinded = put_u8(buffer, headed, kind);
+    let begun = put_u64(buffer, kinded, first);
+    put_u64(buffer, begun, second)
 }
 
 // The kind of a warning of malformed ranges.
@@ -177,12 +177,12 @@ fn malformed_kind(stopped: bool) -> u8
 }
 
 // 46 warning of malformed ranges: kind 1 byte, the reason.
-pub fn put_malformed_ranges(tray: &mut [u8], at: usize, stopped: bool, reason: &[u8]) -> usize
+pub fn put_malformed_ranges(buffer: &mut [u8], at: usize, stopped: bool, reason: &[u8]) -> usize
     requires { ⌜ 1 + length (now reason) < 65536 ⌝ }
-    ensures { λ r. ⌜ Put at (encode 0x46 (warningPayload (malformedRanges stopped (now (reason .entry))))) (now (tray .entry)) (now (tray .exit)) r ⌝ }
+    ensures { λ r. ⌜ Put at (encode 0x46 (warningPayload (malformedRanges stopped (now (reason .entry))))) (now (buffer .entry)) (now (buffer .exit)) r ⌝ }
 {
     let kind = malformed_kind(stopped);
-    let headed = put_head(tray, at, 0x46, (1 + reason.len()) as u16);
-    let kinded = put_u8(tray, headed, kind);
-    put_bytes(tray, kinded, reason)
+    let headed = put_head(buffer, at, 0x46, (1 + reason.len()) as u16);
+    let kinded = put_u8(buffer, headed, kind);
+    put_bytes(buffer, kinded, reason)
 }

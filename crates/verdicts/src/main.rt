@@ -26,8 +26,8 @@ fn write_name(buffer: &mut [u8]) -> bool {
     true
 }
 
-fn write_verdict(sheet: &[u8]) {
-    match tlv::grammar::check_sheet(sheet) {
+fn write_verdict(input: &[u8]) {
+    match tlv::grammar::check_input(input) {
         tlv::grammar::Checked::Accepted(n) => {
             io::write_all(1, b"accepted ");
             io::print_decimal(1, n);

@@ -3,16 +3,16 @@ use Prim.Native.Nat.{_≤_, _-_}
 use native.Mathlib.Omega.{arith}
 use borrow.Author.Needs.{needs}
 use lib.ListN.{length, take}
-use Rattle.tlv.specs.Tray.{Put}
-use Rattle.tlv.proofs.TrayLaws.{put-none, put-more, put-all, put-length}
+use Rattle.tlv.specs.Buffer.{Put}
+use Rattle.tlv.proofs.BufferLaws.{put-none, put-more, put-all, put-length}
 use Rattle.tlv.proofs.output.put_bytes.Statement.{statement}
 use Rattle.tlv.proofs.output.put_bytes.Tie as tie
 
 abbrev Inv-loop : tie.InvT-loop
-Inv-loop tray₀ at bs p₀ i₀ tray p i = Put at (take i bs) tray₀ tray p × (i ≤ length bs)
+Inv-loop buffer₀ at bs p₀ i₀ buffer p i = Put at (take i bs) buffer₀ buffer p × (i ≤ length bs)
 
 abbrev μ-loop : tie.MeasureT-loop
-μ-loop tray₀ at bs p₀ i₀ tray p i = length bs - i
+μ-loop buffer₀ at bs p₀ i₀ buffer p i = length bs - i
 
 loop-holds : tie.Need-loop-holds Inv-loop μ-loop
 loop-holds c = (put-none (omega arith) (omega arith), omega arith)

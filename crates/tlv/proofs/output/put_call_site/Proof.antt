@@ -2,7 +2,7 @@
 use borrow.Author.Needs.{needs}
 use Rattle.tlv.specs.Output.{sitePayload}
 use Rattle.tlv.proofs.PayloadLaws.{site-length}
-use Rattle.tlv.proofs.TrayLaws.{_then_}
+use Rattle.tlv.proofs.BufferLaws.{_then_}
 use Rattle.tlv.proofs.OutputLaws.{put-headed, put-said}
 use Rattle.tlv.proofs.output.put_call_site.Statement.{statement}
 use Rattle.tlv.proofs.output.put_call_site.Tie as tie

@@ -1,6 +1,6 @@
 -- `put_head` meets its contract: a byte and then the length. Assumes nothing.
 use borrow.Author.Needs.{needs}
-use Rattle.tlv.proofs.TrayLaws.{put-cons}
+use Rattle.tlv.proofs.BufferLaws.{put-cons}
 use Rattle.tlv.proofs.output.put_head.Statement.{statement}
 use Rattle.tlv.proofs.output.put_head.Tie as tie
 

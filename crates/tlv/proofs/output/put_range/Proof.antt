@@ -2,7 +2,7 @@
 use borrow.Author.Needs.{needs}
 use Rattle.tlv.specs.Output.{rangePayload}
 use Rattle.tlv.proofs.PayloadLaws.{range-length}
-use Rattle.tlv.proofs.TrayLaws.{_then_}
+use Rattle.tlv.proofs.BufferLaws.{_then_}
 use Rattle.tlv.proofs.OutputLaws.{put-headed}
 use Rattle.tlv.proofs.output.put_range.Statement.{statement}
 use Rattle.tlv.proofs.output.put_range.Tie as tie

@@ -1,7 +1,7 @@
 -- `put_u16` meets its contract: the low byte and then the high byte. Assumes nothing.
 use native.Mathlib.Omega.{arith}
 use borrow.Author.Needs.{needs}
-use Rattle.tlv.proofs.TrayLaws.{_then_, put-two}
+use Rattle.tlv.proofs.BufferLaws.{_then_, put-two}
 use Rattle.tlv.proofs.output.put_u16.Statement.{statement}
 use Rattle.tlv.proofs.output.put_u16.Tie as tie
 

@@ -1,7 +1,7 @@
 -- `put_u32` meets its contract: the low half and then the high half. Assumes nothing.
 use borrow.Author.Needs.{needs}
 use Rattle.tlv.proofs.WidthLaws.{bytesOf-add}
-use Rattle.tlv.proofs.TrayLaws.{_then_}
+use Rattle.tlv.proofs.BufferLaws.{_then_}
 use Rattle.tlv.proofs.output.put_u32.Statement.{statement}
 use Rattle.tlv.proofs.output.put_u32.Tie as tie
 

@@ -1,11 +1,11 @@
 -- `put_u8` meets its contract: past the end `set` leaves the tray as it is. Assumes nothing.
 use borrow.Author.Needs.{needs}
-use Rattle.tlv.proofs.TrayLaws.{lost}
+use Rattle.tlv.proofs.BufferLaws.{lost}
 use Rattle.tlv.proofs.output.put_u8.Statement.{statement}
 use Rattle.tlv.proofs.output.put_u8.Tie as tie
 
-slice-write-tray : tie.Need-slice-write-tray
-slice-write-tray c = search needs
+slice-write-buffer : tie.Need-slice-write-buffer
+slice-write-buffer c = search needs
 
 add-result : tie.Need-add-result
 add-result c = search needs
@@ -28,4 +28,4 @@ returns-3 c = search (lost, needs)
 pub put-u8-spec : {M : Type 1} → statement M
 put-u8-spec =
     tie.close
-    (tie.spec slice-write-tray add-result same-length returns returns-2 add-result-2 returns-3)
+    (tie.spec slice-write-buffer add-result same-length returns returns-2 add-result-2 returns-3)

@@ -1,6 +1,6 @@
 -- `put_warning` meets its contract: the head, and then the parts of the payload one after the other. Assumes nothing.
 use borrow.Author.Needs.{needs}
-use Rattle.tlv.proofs.TrayLaws.{_then_}
+use Rattle.tlv.proofs.BufferLaws.{_then_}
 use Rattle.tlv.proofs.OutputLaws.{put-headed, numbers-length}
 use Rattle.tlv.proofs.output.put_warning.Statement.{statement}
 use Rattle.tlv.proofs.output.put_warning.Tie as tie

@@ -1,4 +1,4 @@
--- Writing into a tray (document 01: an output buffer): bytes are laid over it from a place on. What falls past its end is lost, and the place goes on,
+-- Writing into an output buffer, which document 01 calls a tray: bytes are laid over it from a place on. What falls past its end is lost, and the place goes on,
 -- up to the largest place. Assumes nothing.
 use mathlib.Core.Path.{_≡_}
 use mathlib.Core.List.{List, [], _∷_}
@@ -20,6 +20,6 @@ overlay at (b ∷ bs) t = overlay (at + 1) bs (set t at b)
 
 -- what a put does: from tray t and place `at` to tray t′ and place r, by laying bs. Every slice is `small`.
 pub record Put (at : ℕ) (bs t t′ : List ℕ) (r : ℕ) : Type 0 where
-  pub tray : t′ ≡ overlay at bs t
+  pub buffer : t′ ≡ overlay at bs t
   pub place : r ≡ moved at (length bs)
   pub small : length t < top

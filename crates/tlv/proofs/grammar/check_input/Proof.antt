@@ -1,24 +1,24 @@
--- `grammar::check_sheet` meets its contract. The loop's invariant: the check of all is the check of what is left, in the context so far. Assumes nothing.
+-- `grammar::check_input` meets its contract. The loop's invariant: the check of all is the check of what is left, in the context so far. Assumes nothing.
 use mathlib.Core.Path.{_≡_, refl}
 use Prim.Native.Nat.{_≤_, _-_}
 use native.Mathlib.Omega.{arith}
 use lib.ListN.{length, drop}
 use borrow.Author.Needs.{needs}
 use Rattle.tlv.specs.Fields.{fields}
-use Rattle.tlv.specs.Grammar.{checkFrom, checkSheet}
+use Rattle.tlv.specs.Grammar.{checkFrom, checkInput}
 use Rattle.tlv.proofs.CheckLaws.{turn-end, turn-cut, turn-misshapen, turn-past, turn-passed}
 use Rattle.tlv.proofs.CursorLaws.{next-less, next-within, payload-within}
-use Rattle.tlv.proofs.grammar.check_sheet.Statement.{statement}
-use Rattle.tlv.proofs.grammar.check_sheet.Tie as tie
+use Rattle.tlv.proofs.grammar.check_input.Statement.{statement}
+use Rattle.tlv.proofs.grammar.check_input.Tie as tie
 
 abbrev Inv-loop : tie.InvT-loop
-Inv-loop s p₀ c₀ p c = (p ≤ length s) × (checkSheet s ≡ checkFrom c (fields (drop p s)))
+Inv-loop s p₀ c₀ p c = (p ≤ length s) × (checkInput s ≡ checkFrom c (fields (drop p s)))
 
 abbrev μ-loop : tie.MeasureT-loop
 μ-loop s p₀ c₀ p c = length s - p
 
 loop-holds : tie.Need-loop-holds Inv-loop μ-loop
-unfolding checkSheet
+unfolding checkInput
 loop-holds c = (omega arith, refl)
 
 field-at-requires : tie.Need-field-at-requires Inv-loop μ-loop
@@ -63,8 +63,8 @@ loop-less c = search next-less
 loop-again : tie.Need-loop-again Inv-loop μ-loop
 loop-again c = (search next-within, search turn-passed)
 
-pub check-sheet-spec : {M : Type 1} → statement M
-check-sheet-spec =
+pub check-input-spec : {M : Type 1} → statement M
+check-input-spec =
     tie.close
     (tie.spec
     Inv-loop

@@ -34,13 +34,13 @@ pub enum Part<'a> {
 }
 
 #[derive(Default)]
-pub struct Sheet {
+pub struct Fields {
     pub bytes: Vec<u8>,
     pub fields: usize,
     units: usize,
 }
 
-impl Sheet {
+impl Fields {
     /// Adds a field, or says which limit it would pass.
     pub fn field(&mut self, tag: u8, parts: &[Part]) -> Result<(), &'static str> {
         self.fields += 1;
@@ -89,7 +89,7 @@ impl Sheet {
 }
 
 /// The work length that an import of these inputs needs, and no byte more.
-pub fn work_length(main: &Sheet, supplementary: &Sheet, program: &[u8]) -> u64 {
+pub fn work_length(main: &Fields, supplementary: &Fields, program: &[u8]) -> u64 {
     let fields = (main.fields + supplementary.fields) as u64;
     64 * fields + 4 * program.len() as u64 + 16_384
 }

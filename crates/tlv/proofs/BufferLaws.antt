@@ -9,7 +9,7 @@ use native.Mathlib.Omega.{arith}
 use lib.ListN.{length, set, take, drop, getD, length-set, length-append}
 use lib.Seq.{set-out, take-suc, take-all, take-set-le, sets, sets-eq, drop-at, take-append-seam, length-take-le}
 use Rattle.tlv.specs.Bytes.{bytesOf, leAt}
-use Rattle.tlv.specs.Tray.{top, moved, overlay, Put}
+use Rattle.tlv.specs.Buffer.{top, moved, overlay, Put}
 use Rattle.tlv.proofs.WidthLaws.{bytesOf-two, leAt-take}
 
 -- ---- laying bytes over a tray
@@ -69,7 +69,7 @@ infixl 5 _then_
 pub _then_ : {at p q : ℕ} {a b t t′ t″ : List ℕ} → Put at a t t′ p → Put p b t′ t″ q → Put at (a ++ b) t t″ q
 _then_ {at} {p} {q} {a} {b} {t} {t′} {t″} f g =
     record {
-      tray = g .tray ∙ rw (g-place, f .tray, overlay-moved at (length a) b (overlay at a t) (rw length-overlay (omega (arith, f .small))), ← overlay-append at a b t);
+      buffer = g .buffer ∙ rw (g-place, f .buffer, overlay-moved at (length a) b (overlay at a t) (rw length-overlay (omega (arith, f .small))), ← overlay-append at a b t);
       place = rw (length-append a b) (omega arith);
       small = f .small;
     }
@@ -79,7 +79,7 @@ _then_ {at} {p} {q} {a} {b} {t} {t′} {t″} f g =
 
 -- no byte: the place stays
 pub put-none : {at : ℕ} {t : List ℕ} → at ≤ top → length t < top → Put at [] t t at
-put-none h k = record { tray = refl; place = omega arith; small = k }
+put-none h k = record { buffer = refl; place = omega arith; small = k }
 
 -- a put of what is equal
 pub put-as : {at r : ℕ} {a b t t′ : List ℕ} → a ≡ b → Put at b t t′ r → Put at a t t′ r
@@ -95,7 +95,7 @@ put-cons f g = f then g
 
 -- the tray's length stays
 pub put-length : {at r : ℕ} {bs t t′ : List ℕ} → Put at bs t t′ r → length t′ ≡ length t
-put-length {at} {r} {bs} {t} f = ap length (f .tray) ∙ length-overlay at bs t
+put-length {at} {r} {bs} {t} f = ap length (f .buffer) ∙ length-overlay at bs t
 
 -- past the end a byte is lost
 pub lost : (at b : ℕ) (t : List ℕ) → length t ≤ at → t ≡ set t at b
@@ -147,11 +147,11 @@ put-fits f h = omega (arith, f .place, f .small, put-length f)
 
 -- and is there
 pub put-part : {at r : ℕ} {bs t t′ : List ℕ} → Put at bs t t′ r → r ≤ length t′ → take (length bs) (drop at t′) ≡ bs
-put-part {at} {r} {bs} {t} f h = rw (f .tray) (part-overlay at bs t (put-fits f h))
+put-part {at} {r} {bs} {t} f h = rw (f .buffer) (part-overlay at bs t (put-fits f h))
 
 -- from the start on: the tray is the output and then what it held behind it
 pub put-whole : {r : ℕ} {out t t′ : List ℕ} → Put 0 out t t′ r → r ≤ length t′ → t′ ≡ out ++ drop (length out) t
-put-whole {r} {out} {t} f h = f .tray ∙ overlay-whole out t (omega (arith, put-fits f h))
+put-whole {r} {out} {t} f h = f .buffer ∙ overlay-whole out t (omega (arith, put-fits f h))
 
 -- a place past the tray: the output is longer than it
 pub put-lost : {r : ℕ} {out t t′ : List ℕ} → Put 0 out t t′ r → length t′ < r → length t < length out
