@@ -85,6 +85,9 @@ wSlash = 0x2f ∷ 0x77 ∷ 0x2f ∷ []  -- /w/
 abbrev pub folder : List ℕ
 folder = 0x73 ∷ 0x2f ∷ []  -- s/
 
+abbrev pub below : List ℕ
+below = 0x74 ∷ 0x2f ∷ bc  -- t/b.c
+
 abbrev pub given : List ℕ → Directory
 given path = record { failed = false; path = path }
 
@@ -97,6 +100,18 @@ pub record PathDifferences : Type 0 where
   pub closed :
       (filePath 4 wSlash [] 0 within ≡ some (wSlash ++ (0x2f ∷ within)))
       × (fileEntry (unitOf (some wSlash) []) (header 4) (file 0 within) ≡ entry (wSlash ++ (0x73 ∷ [])) bc)
+  -- so for a directory of the table, s/ with t/b.c below it: /w/s//t/b.c and /w/s/t
+  pub closedEntry :
+      (filePath 4 w (folder ∷ []) 1 below ≡ some (w ++ (0x2f ∷ folder ++ (0x2f ∷ below))))
+      × (fileEntry (unitOf (some w) (given folder ∷ [])) (header 4) (file 1 below) ≡ entry (w ++ (0x2f ∷ 0x73 ∷ 0x2f ∷ 0x74 ∷ [])) bc)
+  -- an empty directory of the table is passed over: /w//b.c and /w
+  pub emptyEntry :
+      (filePath 4 w ([] ∷ []) 1 bc ≡ some (w ++ (0x2f ∷ 0x2f ∷ bc)))
+      × (fileEntry (unitOf (some w) (given [] ∷ [])) (header 4) (file 1 bc) ≡ entry w bc)
+  -- a Windows directory is taken as absolute, so the compilation directory is not put before it: /w/C:\b.c/b.c and C:\b.c
+  pub windowsEntry :
+      (filePath 4 w (onDrive ∷ []) 1 bc ≡ some (w ++ (0x2f ∷ onDrive ++ (0x2f ∷ bc))))
+      × (fileEntry (unitOf (some w) (given onDrive ∷ [])) (header 4) (file 1 bc) ≡ entry onDrive bc)
   -- an unknown compilation directory: the path stays relative, where an empty one would make it /b.c
   pub unknown : (filePath 4 [] [] 0 bc ≡ some (0x2f ∷ bc)) × (fileEntry (unitOf none []) (header 4) (file 0 bc) ≡ entry [] bc)
   -- a directory that is not in the table is passed over
