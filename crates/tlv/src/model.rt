@@ -15,3 +15,9 @@ pub struct LineEntry {
     pub file: FileIndex,
     pub line: u32,
 }
+
+// The sheet that something stands in, or is remembered under.
+pub enum DebugSource {
+    Main,
+    Supplementary,
+}

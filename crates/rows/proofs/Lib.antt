@@ -1,0 +1,13 @@
+pub mod StoredLaws
+pub mod SortLaws
+pub mod MergeLaws
+pub mod PassLaws
+pub mod DropLaws
+pub mod SameLaws
+pub mod LeadingLaws
+pub mod FilterLaws
+pub mod RowReads
+pub mod OwnRowLaws
+pub mod SequenceLaws
+pub mod EarlierLaws
+pub mod ForRangeLaws

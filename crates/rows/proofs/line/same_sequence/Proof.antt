@@ -1,0 +1,49 @@
+-- `line::same_sequence` meets its contract: by the variants of both. Assumes nothing.
+use borrow.Author.Needs.{needs}
+use Rattle.rows.proofs.line.same_sequence.Statement.{statement}
+use Rattle.rows.proofs.line.same_sequence.Tie as tie
+
+enum-known-a : tie.Need-enum-known-a
+enum-known-a c = search needs
+
+enum-known-b : tie.Need-enum-known-b
+enum-known-b c = search needs
+
+enum-told : tie.Need-enum-told
+enum-told c = search needs
+
+enum-told-2 : tie.Need-enum-told-2
+enum-told-2 c = search needs
+
+enum-told-3 : tie.Need-enum-told-3
+enum-told-3 c = search needs
+
+enum-told-4 : tie.Need-enum-told-4
+enum-told-4 c = search needs
+
+returns : tie.Need-returns
+returns c = rw (c .before .before .before .before .a .given .1, c .before .b .given .1)
+
+returns-2 : tie.Need-returns-2
+returns-2 c = search needs
+
+returns-3 : tie.Need-returns-3
+returns-3 c = search needs
+
+returns-4 : tie.Need-returns-4
+returns-4 c = search needs
+
+pub same-sequence-spec : {M : Type 1} → statement M
+same-sequence-spec =
+    tie.close
+    (tie.spec
+    enum-known-a
+    enum-known-b
+    enum-told
+    enum-told-2
+    enum-told-3
+    enum-told-4
+    returns
+    returns-2
+    returns-3
+    returns-4)

@@ -1,0 +1,119 @@
+-- `normalize::dedup_rows` meets its contract: what is left so far and what the rest leaves are what the whole leaves. Assumes nothing.
+use Prim.Native.Nat.{_-_}
+use native.Mathlib.Omega.{arith}
+use mathlib.Core.Logic.{inl}
+use borrow.Author.Needs.{needs}
+use Rattle.lines.specs.Lines.{sameRow}
+use Rattle.rows.specs.Stored.{lineOf, lineAt}
+use Rattle.rows.proofs.DropLaws.{Dropping, dropping-start, dropping-same, dropping-other, dropping-done, dropped-nothing, deduped}
+use Rattle.rows.proofs.normalize.dedup_rows.Statement.{statement}
+use Rattle.rows.proofs.normalize.dedup_rows.Tie as tie
+
+abbrev Inv-loop : tie.InvT-loop
+Inv-loop work₀ base n last₀ i₀ work last i = Dropping lineOf 25 sameRow work₀ work base n last i
+
+abbrev μ-loop : tie.MeasureT-loop
+μ-loop work₀ base n last₀ i₀ work last i = n - i
+
+returns : tie.Need-returns Inv-loop μ-loop
+returns c = deduped (dropped-nothing lineOf 25 sameRow (c .before .before .args .work .now) (c .before .before .args .base) (c .before .before .args .n) (c .if1 .taken))
+
+loop-holds : tie.Need-loop-holds Inv-loop μ-loop
+loop-holds c =
+    let s = c .before .before .args in
+    let e = c .if1 .left in
+    dropping-start lineOf 25 sameRow (s .work .now) (s .base) (s .n) (omega arith)
+
+mul-same-row : tie.Need-mul-same-row Inv-loop μ-loop
+mul-same-row c = omega arith
+
+add-same-row : tie.Need-add-same-row Inv-loop μ-loop
+add-same-row c = omega arith
+
+mul-same-row-2 : tie.Need-mul-same-row-2 Inv-loop μ-loop
+mul-same-row-2 c = omega arith
+
+add-same-row-2 : tie.Need-add-same-row-2 Inv-loop μ-loop
+add-same-row-2 c = omega arith
+
+same-row-requires : tie.Need-same-row-requires Inv-loop μ-loop
+same-row-requires c κs = omega arith
+
+add-i : tie.Need-add-i Inv-loop μ-loop
+add-i c = omega arith
+
+loop-less : tie.Need-loop-less Inv-loop μ-loop
+loop-less c = omega arith
+
+loop-again : tie.Need-loop-again Inv-loop μ-loop
+unfolding lineAt
+loop-again c = search dropping-same
+
+add-last : tie.Need-add-last Inv-loop μ-loop
+add-last c = omega arith
+
+mul-copy-record : tie.Need-mul-copy-record Inv-loop μ-loop
+mul-copy-record c = omega arith
+
+add-copy-record : tie.Need-add-copy-record Inv-loop μ-loop
+add-copy-record c = omega arith
+
+mul-copy-record-2 : tie.Need-mul-copy-record-2 Inv-loop μ-loop
+mul-copy-record-2 c = omega arith
+
+add-copy-record-2 : tie.Need-add-copy-record-2 Inv-loop μ-loop
+add-copy-record-2 c = omega arith
+
+copy-record-requires : tie.Need-copy-record-requires Inv-loop μ-loop
+copy-record-requires c κs = (omega arith, (omega arith, inl (omega arith)))
+
+add-i-2 : tie.Need-add-i-2 Inv-loop μ-loop
+add-i-2 c = omega arith
+
+loop-less-2 : tie.Need-loop-less-2 Inv-loop μ-loop
+loop-less-2 c = omega arith
+
+loop-again-2 : tie.Need-loop-again-2 Inv-loop μ-loop
+unfolding lineAt
+loop-again-2 c =
+    let q = c .before .before .before .before in
+    dropping-other (q .before .before .before .before .loop .inv) (q .before .before .before .loop-test .taken) (q .before .same-row .ensures) (q .if2 .left)
+    (c .before .before .copy-record .ensures) (c .before .before .copy-record .kept .0)
+
+add-result : tie.Need-add-result Inv-loop μ-loop
+add-result c = omega arith
+
+same-length : tie.Need-same-length Inv-loop μ-loop
+same-length c = search needs
+
+returns-2 : tie.Need-returns-2 Inv-loop μ-loop
+returns-2 c = deduped (dropping-done (c .before .loop .inv) (c .loop-test .left))
+
+pub dedup-rows-spec : {M : Type 1} → statement M
+dedup-rows-spec =
+    tie.close
+    (tie.spec
+    Inv-loop
+    μ-loop
+    returns
+    loop-holds
+    mul-same-row
+    add-same-row
+    mul-same-row-2
+    add-same-row-2
+    same-row-requires
+    add-i
+    loop-less
+    loop-again
+    add-last
+    mul-copy-record
+    add-copy-record
+    mul-copy-record-2
+    add-copy-record-2
+    copy-record-requires
+    add-i-2
+    loop-less-2
+    loop-again-2
+    add-result
+    same-length
+    returns-2)

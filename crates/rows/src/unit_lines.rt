@@ -1,0 +1,264 @@
+// The rows of a function out of its unit's (the Rust's UnitLines::for_range).
+ghost use mathlib.Core.Path.{_≡_};
+ghost use mathlib.Core.Bool.{cond, _&&_};
+ghost use mathlib.Core.Option.{none};
+ghost use Prim.Native.Nat.{_+_, _*_, _≤_};
+ghost use lib.Dec.{ltb};
+ghost use lib.ListN.{length};
+ghost use Rattle.tlv.specs.Lists.{first, last, orElse};
+ghost use Rattle.lines.specs.Rows.{contains, belongs, movedTo, earlierRow, startsLate, sequenceExists};
+ghost use Rattle.rows.specs.Stored.{sequenceOf, entriesOf, linesOf, rangeAt, rangesOf};
+ghost use Rattle.rows.specs.Selects.{unitLinesOf, RowsIn, coveringOf, earlierOf, Owned, Fronted, ForRange};
+use crate::line::StatementSequence;
+use crate::line::belongs_to;
+use crate::line::entry_at;
+use crate::line::put_entry;
+use crate::line::same_sequence;
+use crate::line::sequence_at;
+use crate::normalize::compact_line_rows;
+use crate::search::lower_bound;
+
+// Where a unit's sorted rows and its sequences stand in the work slice, and where the rows of a function are put.
+pub struct StoredLines {
+    pub lines: usize,
+    pub line_count: usize,
+    pub sequences: usize,
+    pub sequence_count: usize,
+    pub buffer: usize,
+}
+
+// The rows of a function in the work slice; `invalid`: it asked for a sequence that does not exist, and has rows all the same.
+pub struct FunctionRows {
+    pub rows: usize,
+    pub count: usize,
+    pub invalid: bool,
+}
+
+// Rows in the work slice.
+pub struct Rows {
+    pub rows: usize,
+    pub count: usize,
+}
+
+// The first sequence that covers an address.
+pub enum Covering {
+    By(StatementSequence),
+    Missing,
+}
+
+// The row that is in force where a function starts.
+pub enum Earlier {
+    Row(tlv::model::LineEntry),
+    Missing,
+}
+
+// Copies the rows of a range, of the sequence that is asked for, to `to`, and returns how many they are.
+pub fn own_rows(
+    work: &mut [u8],
+    l: StoredLines,
+    range: tlv::model::AddressRange,
+    asked: StatementSequence,
+    to: usize,
+) -> usize
+    requires { ⌜ RowsIn (now work) l ⌝ }
+    requires { ⌜ l .buffer ≤ to ⌝ }
+    requires { ⌜ to + l .«line_count» * 16 ≤ length (now work) ⌝ }
+    ensures { λ r. ⌜ Owned (now (work .entry)) (now (work .exit)) l range asked to r ⌝ }
+{
+    let mut i = lower_bound(work, l.lines, l.line_count, range.start);
+    let past = lower_bound(work, l.lines, l.line_count, range.end);
+    let mut count = 0;
+    while i < past {
+        let p = l.lines + i * 25;
+        if belongs_to(asked, sequence_at(work, p + 16)) {
+            tlv::table::copy_record(work, p, to + count * 16, 16);
+            count += 1;
+            i += 1;
+        } else {
+            i += 1;
+        }
+    }
+    count
+}
+
+// Whether a sequence that is asked for exists.
+pub fn sequence_exists(work: &[u8], l: StoredLines, requested: StatementSequence) -> bool
+    requires { ⌜ RowsIn (now work) l ⌝ }
+    ensures { λ r. ⌜ r ≡ sequenceExists (unitLinesOf (now (work .entry)) l) (sequenceOf requested) ⌝ }
+{
+    match requested {
+        StatementSequence::Unknown => {
+            return true;
+        }
+        StatementSequence::At(_) => {}
+    }
+    let mut i = 0;
+    while i < l.sequence_count {
+        if same_sequence(requested, sequence_at(work, l.sequences + i * 25 + 16)) {
+            return true;
+        }
+        i += 1;
+    }
+    false
+}
+
+// Whether the sequence at p belongs to the one that is asked for and covers an address.
+fn covers(work: &[u8], p: usize, address: u64, asked: StatementSequence) -> bool
+    requires { ⌜ p + 25 ≤ length (now work) ⌝ }
+    ensures { λ r. ⌜ r ≡ (belongs (sequenceOf asked) (rangeAt (now (work .entry)) p .statementSequence) && contains (rangeAt (now (work .entry)) p .range) address) ⌝ }
+{
+    if !belongs_to(asked, sequence_at(work, p + 16)) {
+        return false;
+    }
+    if address < tlv::bytes::read_u64(work, p) {
+        return false;
+    }
+    address < tlv::bytes::read_u64(work, p + 8)
+}
+
+// The first sequence that covers an address and belongs to the one that is asked for.
+fn covering_sequence(
+    work: &[u8],
+    l: StoredLines,
+    address: u64,
+    asked: StatementSequence,
+) -> Covering
+    requires { ⌜ RowsIn (now work) l ⌝ }
+    ensures { λ r. ⌜ coveringOf r (first (λ q. belongs (sequenceOf asked) (q .statementSequence) && contains (q .range) address) (rangesOf (now (work .entry)) (l .sequences) (l .«sequence_count»))) ⌝ }
+{
+    let mut i = 0;
+    while i < l.sequence_count {
+        let p = l.sequences + i * 25;
+        if covers(work, p, address, asked) {
+            return Covering::By(sequence_at(work, p + 16));
+        }
+        i += 1;
+    }
+    Covering::Missing
+}
+
+// The last row below an address that belongs to the sequence that is asked for, moved to the address.
+fn last_before(work: &[u8], l: StoredLines, address: u64, asked: StatementSequence) -> Earlier
+    requires { ⌜ RowsIn (now work) l ⌝ }
+    ensures { λ r. ⌜ earlierOf r ≡ movedTo address (last (λ x. ltb (x .entry .address) address && belongs (sequenceOf asked) (x .statementSequence)) (linesOf (now (work .entry)) (l .lines) (l .«line_count»))) ⌝ }
+{
+    let mut i = lower_bound(work, l.lines, l.line_count, address);
+    while 0 < i {
+        let p = l.lines + (i - 1) * 25;
+        if belongs_to(asked, sequence_at(work, p + 16)) {
+            let entry = entry_at(work, p);
+            let file = entry.file;
+            return Earlier::Row(tlv::model::LineEntry {
+                address: address,
+                file: file,
+                line: entry.line,
+            });
+        }
+        i -= 1;
+    }
+    Earlier::Missing
+}
+
+// The one that is asked for, or else the other.
+fn or_else(asked: StatementSequence, other: StatementSequence) -> StatementSequence
+    ensures { λ r. ⌜ sequenceOf r ≡ orElse (sequenceOf asked) (sequenceOf other) ⌝ }
+{
+    match asked {
+        StatementSequence::At(_) => asked,
+        StatementSequence::Unknown => other,
+    }
+}
+
+// The row that is in force at the start of a range.
+fn earlier_row(
+    work: &[u8],
+    l: StoredLines,
+    range: tlv::model::AddressRange,
+    asked: StatementSequence,
+) -> Earlier
+    requires { ⌜ RowsIn (now work) l ⌝ }
+    ensures { λ r. ⌜ earlierOf r ≡ earlierRow (unitLinesOf (now (work .entry)) l) range (sequenceOf asked) ⌝ }
+{
+    match covering_sequence(work, l, range.start, asked) {
+        Covering::By(own) => last_before(work, l, range.start, or_else(asked, own)),
+        Covering::Missing => Earlier::Missing,
+    }
+}
+
+// Whether the `count` rows at p are none, or the first is above a start.
+fn starts_late(work: &[u8], p: usize, count: usize, start: u64) -> bool
+    requires { ⌜ p + count * 16 ≤ length (now work) ⌝ }
+    ensures { λ r. ⌜ r ≡ startsLate start (entriesOf (now (work .entry)) p count) ⌝ }
+{
+    if count == 0 {
+        return true;
+    }
+    start < tlv::bytes::read_u64(work, p)
+}
+
+// Puts the row in force at the start before the `count` own rows, which stand 16 bytes past the buffer's begin, where they start late.
+fn put_earlier(
+    work: &mut [u8],
+    l: StoredLines,
+    range: tlv::model::AddressRange,
+    asked: StatementSequence,
+    count: usize,
+) -> Rows
+    requires { ⌜ RowsIn (now work) l ⌝ }
+    requires { ⌜ count ≤ l .«line_count» ⌝ }
+    ensures { λ r. ⌜ Fronted (now (work .entry)) (now (work .exit)) l range asked count r ⌝ }
+{
+    let own = l.buffer + 16;
+    if !starts_late(work, own, count, range.start) {
+        return Rows {
+            rows: own,
+            count: count,
+        };
+    }
+    match earlier_row(work, l, range, asked) {
+        Earlier::Row(entry) => {
+            put_entry(work, l.buffer, entry);
+            Rows {
+                rows: l.buffer,
+                count: count + 1,
+            }
+        }
+        Earlier::Missing => Rows {
+            rows: own,
+            count: count,
+        },
+    }
+}
+
+// The sequence that is asked for, where it exists.
+fn selected_sequence(exists: bool, requested: StatementSequence) -> StatementSequence
+    ensures { λ r. ⌜ sequenceOf r ≡ cond exists (sequenceOf requested) none ⌝ }
+{
+    if exists {
+        return requested;
+    }
+    StatementSequence::Unknown
+}
+
+// The rows that a function takes.
+pub fn for_range(
+    work: &mut [u8],
+    l: StoredLines,
+    range: tlv::model::AddressRange,
+    requested: StatementSequence,
+) -> FunctionRows
+    requires { ⌜ RowsIn (now work) l ⌝ }
+    ensures { λ r. ⌜ ForRange (now (work .entry)) (now (work .exit)) l range requested r ⌝ }
+{
+    let exists = sequence_exists(work, l, requested);
+    let asked = selected_sequence(exists, requested);
+    let count = own_rows(work, l, range, asked, l.buffer + 16);
+    let fronted = put_earlier(work, l, range, asked, count);
+    let left = compact_line_rows(work, fronted.rows, fronted.count);
+    let invalid = !exists && left != 0;
+    FunctionRows {
+        rows: fronted.rows,
+        count: left,
+        invalid: invalid,
+    }
+}
