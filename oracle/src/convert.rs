@@ -19,9 +19,36 @@ pub mod dwarf {
         text!("convert/dwarf/dies.rs");
     }
 
-    mod lines {
+    pub(crate) mod lines {
         use crate::stand_in::gimli;
         text!("convert/dwarf/lines.rs");
+
+        // Doors to what is private there, for the cases of this layer.
+
+        /// The operand at a place, and the place after it.
+        pub(crate) fn operand(program: &[u8], mut place: usize) -> Result<(u64, usize)> {
+            let value = read_line_uleb(program, &mut place)?;
+            Ok((value, place))
+        }
+
+        /// Where each sequence of a program begins.
+        pub(crate) fn sequences(program: &[u8], lengths: &[u8], base: u8, offset: u64) -> Result<Vec<u64>> {
+            scan_line_sequence_offsets(program, lengths, base, offset)
+        }
+
+        /// A path's directory and basename, and whether it is absolute.
+        pub(crate) fn parts(path: &[u8]) -> (&[u8], &[u8], bool) {
+            let (directory, basename) = split_path(path);
+            (directory, basename, is_absolute_path(path))
+        }
+
+        /// One component and then the other, put below an empty path.
+        pub(crate) fn joined(first: &[u8], second: &[u8]) -> Vec<u8> {
+            let mut path = Vec::new();
+            append_path(&mut path, first);
+            append_path(&mut path, second);
+            path
+        }
     }
 
     mod references {

@@ -55,6 +55,7 @@ pub mod files;
 pub mod generate;
 mod grammar;
 pub mod limits;
+pub mod line_cases;
 pub mod listing;
 mod output;
 mod random;

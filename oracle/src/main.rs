@@ -7,7 +7,7 @@ use std::{env, fs};
 
 use oracle::files::{Source, Target};
 use oracle::listing::{INPUT_LIMIT, PROGRAM_LIMIT, listing};
-use oracle::{Case, answer, coverage, document, generate, limits};
+use oracle::{Case, answer, coverage, document, generate, limits, line_cases};
 
 const USAGE: &str = "
 oracle one DIR                              the listing of unit.main, unit.sup and unit.line in DIR
@@ -19,7 +19,8 @@ oracle generate SEED COUNT CASES            writes cases by seed
 oracle generate --below SIZE SEED COUNT CASES    the same, of those with fewer input bytes
 oracle large CASES                          writes the cases over 64 KiB, the same for every seed
 oracle document CASES                       writes document 01's own cases
-oracle coverage CASES                       counts what the cases reach; fails if something is missing";
+oracle coverage CASES                       counts what the cases reach; fails if something is missing
+oracle lines SEED COUNT STDIN STDOUT        writes cases of operands, sequences and paths, and their answers as text";
 
 const INPUTS: [&str; 3] = ["unit.main", "unit.sup", "unit.line"];
 
@@ -49,6 +50,7 @@ fn run(arguments: &[&str]) -> Result<bool, String> {
         ["large", cases] => write(cases, limits::large().into_iter()),
         ["document", cases] => write(cases, document::cases().into_iter().map(|(_, case, _)| case)),
         ["coverage", cases] => coverage::coverage(Path::new(cases)),
+        ["lines", seed, count, stdin, stdout] => lines(number(seed)?, number(count)?, Path::new(stdin), Path::new(stdout)),
         _ => Err(format!("these are the commands:{USAGE}")),
     }
 }
@@ -131,4 +133,16 @@ fn write(path: &str, cases: impl Iterator<Item = Case>) -> Result<bool, String> 
         target.case(&case)?;
     }
     target.finish()
+}
+
+/// So many calls of the layer of line programs and paths, behind their number, and a line for each answer.
+fn lines(seed: u64, count: u64, stdin: &Path, stdout: &Path) -> Result<bool, String> {
+    let count = u32::try_from(count).map_err(|_| format!("{count} cases are too many"))?;
+    let (mut cases, mut answers) = (Target::create(stdin)?, Target::create(stdout)?);
+    cases.write(&[&count.to_le_bytes()])?;
+    for call in line_cases::calls(seed).take(count as usize) {
+        cases.write(&[&call.bytes()])?;
+        answers.write(&[call.answer().as_bytes(), b"\n"])?;
+    }
+    Ok(cases.finish()? && answers.finish()?)
 }

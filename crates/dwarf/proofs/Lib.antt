@@ -29,3 +29,8 @@ pub mod NodeBounds
 pub mod TreeBounds
 pub mod ImportBounds
 pub mod Examples
+pub mod InsertLaws
+pub mod RangeTableLaws
+pub mod GatherLaws
+pub mod FrameLaws
+pub mod NodeRangeLaws

@@ -6,3 +6,5 @@ pub mod Agree
 pub mod Demand
 pub mod Cases
 pub mod Printed
+pub mod RangeTable
+pub mod FrameStack

@@ -1,0 +1,3 @@
+// The import of DWARF: ranges in the work slice, and the inline nodes that are open.
+pub mod frames;
+pub mod ranges;

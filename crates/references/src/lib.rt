@@ -1,0 +1,4 @@
+// Names and declarations by reference (the Rust's convert/dwarf/references.rs).
+pub mod attributes;
+pub mod keys;
+pub mod tables;

@@ -1,0 +1,55 @@
+-- `store::add_file` meets its contract, for a file of either sheet. Assumes nothing.
+use borrow.Author.Needs.{needs}
+use Rattle.files.proofs.store.add_file.Statement.{statement}
+use Rattle.files.proofs.store.add_file.Tie as tie
+
+enum-told : tie.Need-enum-told
+enum-told c = search needs
+
+add-from-requires : tie.Need-add-from-requires
+add-from-requires c κs =
+    let p = c .before .before .before .before .before .before .before .before .pre in
+    let source = c .before .before .enum-told .given .1 in
+    (p .0, (rw source, (rw source at (p .1 .0), rw source at (p .1 .1))))
+
+enum-told-2 : tie.Need-enum-told-2
+enum-told-2 c = search needs
+
+add-from-requires-2 : tie.Need-add-from-requires-2
+add-from-requires-2 c κs =
+    let p = c .before .before .before .before .before .before .before .before .pre in
+    let source = c .before .before .enum-told2 .given .1 in
+    (p .0, (rw source, (rw source at (p .1 .0), rw source at (p .1 .1))))
+
+same-length : tie.Need-same-length
+same-length c = search needs
+
+same-length-2 : tie.Need-same-length-2
+same-length-2 c = search needs
+
+returns : tie.Need-returns
+returns c = rw (c .before .before .before .before .before .before .before .enum-told .given .1) (c .before .before .before .before .add-from .ensures)
+
+same-length-3 : tie.Need-same-length-3
+same-length-3 c = search needs
+
+same-length-4 : tie.Need-same-length-4
+same-length-4 c = search needs
+
+returns-2 : tie.Need-returns-2
+returns-2 c = rw (c .before .before .before .before .before .before .before .enum-told2 .given .1) (c .before .before .before .before .add-from2 .ensures)
+
+pub add-file-spec : {M : Type 1} → statement M
+add-file-spec =
+    tie.close
+    (tie.spec
+    enum-told
+    add-from-requires
+    enum-told-2
+    add-from-requires-2
+    same-length
+    same-length-2
+    returns
+    same-length-3
+    same-length-4
+    returns-2)

@@ -1,0 +1,15 @@
+-- The hash of a file by which the table looks it up. It decides no answer: files that are the same have the same hash. Assumes nothing.
+use Prim.Native.Nat.{ℕ, _+_, _*_, _%_}
+use mathlib.Core.List.{List, [], _∷_}
+use Rattle.tlv.specs.Output.{FileEntry}
+
+-- a prime below 2^32
+abbrev pub modulus : ℕ
+modulus = 4294967291
+
+unfoldable pub hashFrom : ℕ → List ℕ → ℕ
+hashFrom h [] = h
+hashFrom h (b ∷ s) = hashFrom ((h * 16777619 + b + 1) % modulus) s
+
+unfoldable pub hashOf : FileEntry → ℕ
+hashOf e = hashFrom (hashFrom 0 (e .directory)) (e .basename)

@@ -1,0 +1,12 @@
+-- What the test of a joined path says of one of its components. Assumes nothing.
+use Prim.Native.Nat.{ℕ, _+_}
+use mathlib.Core.Bool.{Bool}
+use mathlib.Core.List.{List, _++_}
+use lib.ListN.{length, replicate}
+use Rattle.tlv.specs.Lists.{same}
+use Rattle.tlv.specs.Table.{chunk}
+use Rattle.lines.specs.Standard.{slash}
+
+-- a number of slashes and a component stand at a place
+unfoldable pub componentAt : List ℕ → ℕ → ℕ → List ℕ → Bool
+componentAt w at slashes s = same (chunk w at (slashes + length s)) (replicate slashes slash ++ s)

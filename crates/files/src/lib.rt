@@ -1,0 +1,7 @@
+// The file table of an import in the work slice, and a unit's files in it.
+pub mod hash;
+pub mod index;
+pub mod intern;
+pub mod joined;
+pub mod pieces;
+pub mod store;

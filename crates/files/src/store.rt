@@ -1,0 +1,426 @@
+// The file table in the work slice (the Rust's GsymBuilder::add_file): a file is looked up by its hash, and a new one is written to the files tray.
+ghost use mathlib.Core.Path.{_≡_};
+ghost use Prim.Native.Nat.{_+_, _*_, _≤_, _<_, _^_};
+ghost use mathlib.Core.Option.{none};
+ghost use lib.ListN.{length};
+ghost use Rattle.tlv.specs.Table.{chunk};
+ghost use Rattle.lines.specs.Files.{sameFile, placeOf};
+ghost use Rattle.files.specs.Pieces.{sourceIn, spanOf, fileIn, PiecesIn};
+ghost use Rattle.files.specs.Hash.{hashOf};
+ghost use Rattle.files.specs.Possible.{possibleFiles, Possible};
+ghost use Rattle.files.specs.Store.{piecesOf, sourceOf, storedFile, byteOf, extent, StoredAt, PutSpan, PutPieces, PutFile, Linked, LaidFile, LaidAt, FilesIn, foundOf, entriesOf, Empty, Adds};
+use crate::hash::hash_bytes;
+use crate::joined::bytes_at;
+use crate::joined::is_joined;
+use crate::pieces::FilePieces;
+use crate::pieces::Span;
+use crate::pieces::lay_directory;
+use tlv::model::DebugSource;
+
+// The table: the number of its first file, where it stands in the work slice, how many files it has room for and has,
+// and how many bytes were written to the files tray.
+pub struct StoredFiles {
+    pub first: u32,
+    pub base: usize,
+    pub room: usize,
+    pub count: usize,
+    pub written: usize,
+}
+
+// The place of a file in the table.
+pub enum FoundFile {
+    At(usize),
+    Missing,
+}
+
+// The table with a file in it and the file's number, or that the numbers are used up.
+pub enum AddedFile {
+    Number {
+        table: StoredFiles,
+        number: tlv::model::FileIndex,
+    },
+    Full,
+}
+
+// The length of a directory that was laid, and the hash of its file.
+struct LaidHash {
+    n: usize,
+    hash: u64,
+}
+
+// The span at a place: its start 4 bytes, its length 4 bytes.
+fn get_span(work: &[u8], p: usize) -> Span
+    requires { ⌜ p + 8 ≤ length (now work) ⌝ }
+    ensures { λ r. ⌜ r ≡ spanOf (chunk (now (work .entry)) p 8) ⌝ }
+{
+    Span {
+        start: tlv::bytes::read_u32(work, p) as usize,
+        len: tlv::bytes::read_u32(work, p + 4) as usize,
+    }
+}
+
+// The pieces of the record at a place.
+fn get_pieces(work: &[u8], p: usize) -> FilePieces
+    requires { ⌜ p + 41 ≤ length (now work) ⌝ }
+    ensures { λ r. ⌜ r ≡ piecesOf (chunk (now (work .entry)) p 41) ⌝ }
+{
+    let compilation = get_span(work, p);
+    let directory = get_span(work, p + 8);
+    let own = get_span(work, p + 16);
+    let base = get_span(work, p + 24);
+    FilePieces {
+        compilation: compilation,
+        directory: directory,
+        own: own,
+        base: base,
+    }
+}
+
+// The source of the record at a place.
+fn get_source(work: &[u8], p: usize) -> DebugSource
+    requires { ⌜ p + 41 ≤ length (now work) ⌝ }
+    ensures { λ r. ⌜ r ≡ sourceOf (chunk (now (work .entry)) p 41) ⌝ }
+{
+    if tlv::bytes::read_u8(work, p + 32) == 0 {
+        return DebugSource::Main;
+    }
+    DebugSource::Supplementary
+}
+
+// Whether the file whose directory is the n bytes at `at`, and whose name is base, is the one of pieces of s.
+fn is_pieces(s: &[u8], p: FilePieces, work: &[u8], at: usize, n: usize, base: &[u8]) -> bool
+    requires { ⌜ PiecesIn (now s) p ⌝ }
+    requires { ⌜ at + n ≤ length (now work) ⌝ }
+    ensures { λ r. ⌜ r ≡ sameFile (record { directory = chunk (now (work .entry)) at n; basename = now (base .entry) }) (fileIn (now (s .entry)) p) ⌝ }
+{
+    let c = p.compilation;
+    let d = p.directory;
+    let o = p.own;
+    let b = p.base;
+    if base.len() != b.len {
+        return false;
+    }
+    if !bytes_at(s, b.start, base) {
+        return false;
+    }
+    let c0 = c.start;
+    let c1 = c.start + c.len;
+    let d0 = d.start;
+    let d1 = d.start + d.len;
+    let o0 = o.start;
+    let o1 = o.start + o.len;
+    is_joined(work, at, n, &s[c0..c1], &s[d0..d1], &s[o0..o1])
+}
+
+// Whether the record at p is of the file whose directory is the n bytes at `at`, and whose name is base.
+fn is_file(
+    main: &[u8],
+    supplementary: &[u8],
+    work: &[u8],
+    p: usize,
+    hash: u64,
+    at: usize,
+    n: usize,
+    base: &[u8],
+) -> bool
+    requires { ⌜ StoredAt (now main) (now supplementary) (now work) p ⌝ }
+    requires { ⌜ at + n ≤ length (now work) ⌝ }
+    requires { ⌜ hash ≡ hashOf (record { directory = chunk (now work) at n; basename = now base }) ⌝ }
+    ensures { λ r. ⌜ r ≡ sameFile (record { directory = chunk (now (work .entry)) at n; basename = now (base .entry) }) (storedFile (now (main .entry)) (now (supplementary .entry)) (chunk (now (work .entry)) p 41)) ⌝ }
+{
+    if tlv::bytes::read_u32(work, p + 33) as u64 != hash {
+        return false;
+    }
+    let pieces = get_pieces(work, p);
+    match get_source(work, p) {
+        DebugSource::Main => is_pieces(main, pieces, work, at, n, base),
+        DebugSource::Supplementary => is_pieces(supplementary, pieces, work, at, n, base),
+    }
+}
+
+// The place of the file whose directory is the n bytes at `at`, and whose name is base.
+pub fn find_file(
+    main: &[u8],
+    supplementary: &[u8],
+    work: &[u8],
+    t: StoredFiles,
+    hash: u64,
+    at: usize,
+    n: usize,
+    base: &[u8],
+) -> FoundFile
+    requires { ⌜ FilesIn (now main) (now supplementary) (now work) t ⌝ }
+    requires { ⌜ at + n ≤ length (now work) ⌝ }
+    requires { ⌜ hash ≡ hashOf (record { directory = chunk (now work) at n; basename = now base }) ⌝ }
+    ensures { λ r. ⌜ foundOf r ≡ placeOf (record { directory = chunk (now (work .entry)) at n; basename = now (base .entry) }) (entriesOf (now (main .entry)) (now (supplementary .entry)) (now (work .entry)) t) ⌝ }
+{
+    let bucket = (hash % t.room as u64) as usize;
+    let mut k = tlv::bytes::read_u32(work, t.base + bucket * 4) as usize;
+    while k != 0 {
+        let p = t.base + t.room * 4 + (k - 1) * 41;
+        if is_file(main, supplementary, work, p, hash, at, n, base) {
+            return FoundFile::At(k - 1);
+        }
+        k = tlv::bytes::read_u32(work, p + 37) as usize;
+    }
+    FoundFile::Missing
+}
+
+// The byte of a source in a record.
+fn source_byte(source: DebugSource) -> u8
+    ensures { λ r. ⌜ r ≡ byteOf source ⌝ }
+{
+    match source {
+        DebugSource::Main => 0,
+        DebugSource::Supplementary => 1,
+    }
+}
+
+// Writes a span.
+fn put_span(work: &mut [u8], p: usize, a: Span)
+    requires { ⌜ p + 8 ≤ length (now work) ⌝ }
+    requires { ⌜ a .start + a .len < 2 ^ 32 ⌝ }
+    ensures { λ _. ⌜ PutSpan (now (work .entry)) (now (work .exit)) p a ⌝ }
+{
+    tlv::table::set_u32(work, p, a.start as u32);
+    tlv::table::set_u32(work, p + 4, a.len as u32);
+}
+
+// Writes the pieces of a record.
+fn put_pieces(s: &[u8], work: &mut [u8], at: usize, p: FilePieces)
+    requires { ⌜ at + 41 ≤ length (now work) ⌝ }
+    requires { ⌜ PiecesIn (now s) p ⌝ }
+    requires { ⌜ length (now s) < 2 ^ 32 ⌝ }
+    ensures { λ _. ⌜ PutPieces (now (work .entry)) (now (work .exit)) at p ⌝ }
+{
+    let compilation = p.compilation;
+    let directory = p.directory;
+    let own = p.own;
+    let base = p.base;
+    put_span(work, at, compilation);
+    put_span(work, at + 8, directory);
+    put_span(work, at + 16, own);
+    put_span(work, at + 24, base);
+}
+
+// Writes a record: a file's pieces, its source, its hash, and the link to the file before it in its chain.
+fn put_record(
+    s: &[u8],
+    work: &mut [u8],
+    at: usize,
+    source: DebugSource,
+    p: FilePieces,
+    hash: u64,
+    link: u32,
+)
+    requires { ⌜ at + 41 ≤ length (now work) ⌝ }
+    requires { ⌜ PiecesIn (now s) p ⌝ }
+    requires { ⌜ length (now s) < 2 ^ 32 ⌝ }
+    requires { ⌜ hash < 2 ^ 32 ⌝ }
+    ensures { λ _. ⌜ PutFile (now (work .entry)) (now (work .exit)) at source p hash link ⌝ }
+{
+    put_pieces(s, work, at, p);
+    tlv::table::set_u8(work, at + 32, source_byte(source));
+    tlv::table::set_u32(work, at + 33, hash as u32);
+    tlv::table::set_u32(work, at + 37, link);
+}
+
+// Writes the record of a file that the table has not, at its end, and makes it the first of its chain.
+fn link_file(
+    s: &[u8],
+    work: &mut [u8],
+    t: StoredFiles,
+    source: DebugSource,
+    p: FilePieces,
+    hash: u64,
+)
+    requires { ⌜ (t .count < t .room) × (t .room < 2 ^ 32) ⌝ }
+    requires { ⌜ t .base + extent t ≤ length (now work) ⌝ }
+    requires { ⌜ PiecesIn (now s) p ⌝ }
+    requires { ⌜ length (now s) < 2 ^ 32 ⌝ }
+    requires { ⌜ hash < 2 ^ 32 ⌝ }
+    ensures { λ _. ⌜ Linked (now (work .entry)) (now (work .exit)) t source p hash ⌝ }
+{
+    let head = t.base + (hash % t.room as u64) as usize * 4;
+    let link = tlv::bytes::read_u32(work, head);
+    put_record(
+        s,
+        work,
+        t.base + t.room * 4 + t.count * 41,
+        source,
+        p,
+        hash,
+        link,
+    );
+    tlv::table::set_u32(work, head, (t.count + 1) as u32);
+}
+
+// Adds a file that the table has not, whose directory is the n bytes at `at`.
+fn append_file(
+    main: &[u8],
+    supplementary: &[u8],
+    s: &[u8],
+    source: DebugSource,
+    p: FilePieces,
+    work: &mut [u8],
+    files: &mut [u8],
+    t: StoredFiles,
+    hash: u64,
+    n: usize,
+) -> AddedFile
+    requires { ⌜ FilesIn (now main) (now supplementary) (now work) t ⌝ }
+    requires { ⌜ now s ≡ sourceIn (now main) (now supplementary) source ⌝ }
+    requires { ⌜ PiecesIn (now s) p ⌝ }
+    requires { ⌜ Possible (now main) (now supplementary) (fileIn (now s) p) ⌝ }
+    requires { ⌜ LaidFile (now work) t n hash (fileIn (now s) p) ⌝ }
+    requires { ⌜ placeOf (fileIn (now s) p) (entriesOf (now main) (now supplementary) (now work) t) ≡ none ⌝ }
+    ensures { λ r. ⌜ Adds (now (main .entry)) (now (supplementary .entry)) (now (work .entry)) (now (work .exit)) (now (files .entry)) (now (files .exit)) t (fileIn (now (s .entry)) p) r ⌝ }
+{
+    let first = t.first;
+    let count = t.count;
+    if 4294967295 < first as u64 + count as u64 {
+        return AddedFile::Full;
+    }
+    let at = t.base + t.room * 45;
+    let end = at + n;
+    let b = p.base;
+    let start = b.start;
+    let past = b.start + b.len;
+    let written = tlv::output::put_file(files, t.written, &work[at..end], &s[start..past]);
+    link_file(s, work, t, source, p, hash);
+    AddedFile::Number {
+        table: StoredFiles {
+            first: first,
+            base: t.base,
+            room: t.room,
+            count: count + 1,
+            written: written,
+        },
+        number: tlv::model::FileIndex(first + count as u32),
+    }
+}
+
+// Lays the directory of a file, and gives its length and the file's hash.
+fn lay_file(s: &[u8], p: FilePieces, work: &mut [u8], at: usize) -> LaidHash
+    requires { ⌜ PiecesIn (now s) p ⌝ }
+    requires { ⌜ at + 12290 ≤ length (now work) ⌝ }
+    ensures { λ r. ⌜ LaidAt (now (work .entry)) (now (work .exit)) at (fileIn (now (s .entry)) p) r ⌝ }
+{
+    let b = p.base;
+    let start = b.start;
+    let past = b.start + b.len;
+    let n = lay_directory(s, p, work, at);
+    let end = at + n;
+    let hash = hash_bytes(hash_bytes(0, &work[at..end]), &s[start..past]);
+    LaidHash { n: n, hash: hash }
+}
+
+// Adds the file of pieces of s, the sheet of the source.
+fn add_from(
+    main: &[u8],
+    supplementary: &[u8],
+    s: &[u8],
+    source: DebugSource,
+    p: FilePieces,
+    work: &mut [u8],
+    files: &mut [u8],
+    t: StoredFiles,
+) -> AddedFile
+    requires { ⌜ FilesIn (now main) (now supplementary) (now work) t ⌝ }
+    requires { ⌜ now s ≡ sourceIn (now main) (now supplementary) source ⌝ }
+    requires { ⌜ PiecesIn (now s) p ⌝ }
+    requires { ⌜ Possible (now main) (now supplementary) (fileIn (now s) p) ⌝ }
+    ensures { λ r. ⌜ Adds (now (main .entry)) (now (supplementary .entry)) (now (work .entry)) (now (work .exit)) (now (files .entry)) (now (files .exit)) t (fileIn (now (s .entry)) p) r ⌝ }
+{
+    let at = t.base + t.room * 45;
+    let b = p.base;
+    let start = b.start;
+    let past = b.start + b.len;
+    let l = lay_file(s, p, work, at);
+    match find_file(
+        main,
+        supplementary,
+        work,
+        t,
+        l.hash,
+        at,
+        l.n,
+        &s[start..past],
+    ) {
+        FoundFile::At(i) => AddedFile::Number {
+            table: t,
+            number: tlv::model::FileIndex(t.first + i as u32),
+        },
+        FoundFile::Missing => append_file(
+            main,
+            supplementary,
+            s,
+            source,
+            p,
+            work,
+            files,
+            t,
+            l.hash,
+            l.n,
+        ),
+    }
+}
+
+// Adds the file of pieces of a sheet, if the table has it not, and gives its number.
+pub fn add_file(
+    main: &[u8],
+    supplementary: &[u8],
+    source: DebugSource,
+    p: FilePieces,
+    work: &mut [u8],
+    files: &mut [u8],
+    t: StoredFiles,
+) -> AddedFile
+    requires { ⌜ FilesIn (now main) (now supplementary) (now work) t ⌝ }
+    requires { ⌜ PiecesIn (sourceIn (now main) (now supplementary) source) p ⌝ }
+    requires { ⌜ Possible (now main) (now supplementary) (fileIn (sourceIn (now main) (now supplementary) source) p) ⌝ }
+    ensures { λ r. ⌜ Adds (now (main .entry)) (now (supplementary .entry)) (now (work .entry)) (now (work .exit)) (now (files .entry)) (now (files .exit)) t (fileIn (sourceIn (now (main .entry)) (now (supplementary .entry)) source) p) r ⌝ }
+{
+    match source {
+        DebugSource::Main => add_from(main, supplementary, main, source, p, work, files, t),
+        DebugSource::Supplementary => {
+            add_from(
+                main,
+                supplementary,
+                supplementary,
+                source,
+                p,
+                work,
+                files,
+                t,
+            )
+        }
+    }
+}
+
+// An empty table at base, whose first file gets the number `first` and is written at the place `written` of the files tray.
+pub fn new_files(
+    main: &[u8],
+    supplementary: &[u8],
+    work: &mut [u8],
+    base: usize,
+    room: usize,
+    first: u32,
+    written: usize,
+) -> StoredFiles
+    requires { ⌜ length (possibleFiles (now main) (now supplementary)) < room ⌝ }
+    requires { ⌜ room < 2 ^ 32 ⌝ }
+    requires { ⌜ base + (room * 45 + 12290) ≤ length (now work) ⌝ }
+    requires { ⌜ length (now main) < 2 ^ 32 ⌝ }
+    requires { ⌜ length (now supplementary) < 2 ^ 32 ⌝ }
+    ensures { λ r. ⌜ Empty (now (main .entry)) (now (supplementary .entry)) (now (work .entry)) (now (work .exit)) base room first written r ⌝ }
+{
+    tlv::table::fill_zero(work, base, base + room * 4);
+    StoredFiles {
+        first: first,
+        base: base,
+        room: room,
+        count: 0,
+        written: written,
+    }
+}

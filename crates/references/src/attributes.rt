@@ -1,0 +1,85 @@
+// What is read of an entry: its references, and its own name.
+ghost use mathlib.Core.Path.{_≡_};
+ghost use Rattle.tlv.specs.Checked.{Placed};
+ghost use Rattle.tlv.specs.Places.{entryHere};
+ghost use Rattle.references.specs.Search.{attribute};
+ghost use Rattle.references.specs.Tables.{EntryKnown, referenceOf, referenceIn, NameRead, OwnNamed};
+use tlv::access::Value;
+use tlv::access::attribute;
+
+// A reference to another entry.
+pub enum Reference {
+    Missing,
+    Unit(u64),
+    Section(u64),
+    Supplementary(u64),
+}
+
+// The reference that a value is.
+fn reference_of(v: Value) -> Reference
+    ensures { λ r. ⌜ r ≡ referenceIn v ⌝ }
+{
+    match v {
+        Value::Absent => Reference::Missing,
+        Value::Unsigned(_) => Reference::Missing,
+        Value::FileNumber(_) => Reference::Missing,
+        Value::Text { start: _, len: _ } => Reference::Missing,
+        Value::UnitReference(n) => Reference::Unit(n),
+        Value::SectionReference(n) => Reference::Section(n),
+        Value::SupplementaryReference(n) => Reference::Supplementary(n),
+        Value::SectionOffset(_) => Reference::Missing,
+        Value::LineOffset(_) => Reference::Missing,
+        Value::Address(_) => Reference::Missing,
+        Value::Failed => Reference::Missing,
+    }
+}
+
+// The reference that the attribute of a name of the entry at place p is.
+pub fn reference_at(s: &[u8], unit: usize, p: usize, name: u16) -> Reference
+    requires { ⌜ Placed (now s) 0 ⌝ }
+    requires { ⌜ EntryKnown (now s) unit p ⌝ }
+    ensures { λ r. ⌜ r ≡ referenceOf (attribute (entryHere (now (s .entry)) p) name) ⌝ }
+{
+    reference_of(attribute(s, p + 15, name))
+}
+
+// The name that an attribute of the entry at place p is, empty where there is none; a status other than 0 is the refusal.
+fn name_at<'a>(s: &'a [u8], unit: usize, p: usize, name: u16, status: &mut u8) -> &'a [u8]
+    requires { ⌜ Placed (now s) 0 ⌝ }
+    requires { ⌜ EntryKnown (now s) unit p ⌝ }
+    requires { ⌜ now status ≡ 0 ⌝ }
+    ensures { λ r. ⌜ NameRead (now (s .entry)) p name (now (status .exit)) (now r) ⌝ }
+{
+    match attribute(s, p + 15, name) {
+        Value::Absent => &s[..0],
+        Value::Text { start, len } => &s[start..start + len],
+        _ => {
+            *status = 6;
+            &s[..0]
+        }
+    }
+}
+
+// The name that the entry at place p has itself: the first that is not empty; a status other than 0 is the refusal.
+pub fn own_name<'a>(s: &'a [u8], unit: usize, p: usize, status: &mut u8) -> &'a [u8]
+    requires { ⌜ Placed (now s) 0 ⌝ }
+    requires { ⌜ EntryKnown (now s) unit p ⌝ }
+    requires { ⌜ now status ≡ 0 ⌝ }
+    ensures { λ r. ⌜ OwnNamed (now (s .entry)) p (now (status .exit)) (now r) ⌝ }
+{
+    let linkage = name_at(s, unit, p, 0x6e, status);
+    if *status != 0 {
+        return linkage;
+    }
+    if linkage.len() != 0 {
+        return linkage;
+    }
+    let mips = name_at(s, unit, p, 0x2007, status);
+    if *status != 0 {
+        return mips;
+    }
+    if mips.len() != 0 {
+        return mips;
+    }
+    name_at(s, unit, p, 0x03, status)
+}

@@ -1,0 +1,373 @@
+//! Cases of the layer of line programs and paths, each a call of one of the Rust's own functions, and the line of
+//! text that it answers. crates/line_answers answers the same cases.
+
+use crate::compose::OPCODE_LENGTHS;
+use crate::convert::dwarf::lines;
+use crate::error::{Result, refusal};
+use crate::random::Random;
+
+const LAST: u64 = u64::MAX;
+
+/// A call. Its number in a file is its place here, from 1 on.
+pub enum Call {
+    /// read_line_uleb at a place.
+    Operand { place: u64, program: Vec<u8> },
+    /// scan_line_sequence_offsets.
+    Program { base: u8, lengths: Vec<u8>, offset: u64, program: Vec<u8> },
+    /// split_path and is_absolute_path.
+    Path(Vec<u8>),
+    /// append_path, with one component after the other, on an empty path.
+    Join(Vec<u8>, Vec<u8>),
+}
+
+/// Document 01's own cases and then those of a seed, without end.
+pub fn calls(seed: u64) -> impl Iterator<Item = Call> {
+    document().into_iter().map(|(call, _)| call).chain((0..).map(move |number| call(seed, number)))
+}
+
+impl Call {
+    /// The kind, the length of what follows, and the call's values.
+    pub fn bytes(&self) -> Vec<u8> {
+        let (kind, body) = match self {
+            Self::Operand { place, program } => (1, [&place.to_le_bytes(), program.as_slice()].concat()),
+            Self::Program { base, lengths, offset, program } => {
+                (2, [&[*base, lengths.len() as u8], offset.to_le_bytes().as_slice(), lengths, program].concat())
+            }
+            Self::Path(path) => (3, path.clone()),
+            Self::Join(first, second) => (4, [(first.len() as u16).to_le_bytes().as_slice(), first, second].concat()),
+        };
+        [&[kind], (body.len() as u32).to_le_bytes().as_slice(), &body].concat()
+    }
+
+    /// What the Rust answers.
+    pub fn answer(&self) -> String {
+        self.finished().unwrap_or_else(|error| format!("refused {}", refusal(&error)))
+    }
+
+    fn finished(&self) -> Result<String> {
+        Ok(match self {
+            Self::Operand { place, program } => {
+                let (value, next) = lines::operand(program, *place as usize)?;
+                format!("operand {value} {next}")
+            }
+            Self::Program { base, lengths, offset, program } => {
+                let sequences = lines::sequences(program, lengths, *base, *offset)?;
+                sequences.iter().fold("sequences".to_owned(), |text, sequence| format!("{text} {sequence:x}"))
+            }
+            Self::Path(path) => {
+                let (directory, basename, absolute) = lines::parts(path);
+                format!("path {}|{}|{}", printed(directory), printed(basename), u8::from(absolute))
+            }
+            Self::Join(first, second) => format!("joined {}", printed(&lines::joined(first, second))),
+        })
+    }
+}
+
+/// Bytes from 21 to 7e hex stand for themselves, but for \ and |. Any other is a \ and two hex digits.
+fn printed(bytes: &[u8]) -> String {
+    let plain = |byte: u8| byte.is_ascii_graphic() && byte != b'\\' && byte != b'|';
+    bytes.iter().map(|&byte| if plain(byte) { char::from(byte).to_string() } else { format!("\\{byte:02x}") }).collect()
+}
+
+/// The cases of document 01's "Operands, paths and a printed import" that are of this layer, with its answers.
+fn document() -> Vec<(Call, &'static str)> {
+    let operand = |bytes: &[&[u8]]| Call::Operand { place: 0, program: bytes.concat() };
+    let program = |bytes: &[&[u8]]| Call::Program { base: 13, lengths: OPCODE_LENGTHS.to_vec(), offset: 44, program: bytes.concat() };
+    let (nine, full) = ([0x80; 9].as_slice(), [0xff; 9].as_slice());
+    vec![
+        (operand(&[&[0xe5, 0x8e, 0x26]]), "operand 624485 3"),
+        (operand(&[nine, &[1]]), "operand 9223372036854775808 10"),
+        (operand(&[nine, &[2]]), "refused 10"),
+        (operand(&[nine, &[0x80]]), "refused 11"),
+        (operand(&[nine]), "refused 7"),
+        (program(&[&[0]]), "refused 7"),
+        (program(&[&[0, 0]]), "refused 9"),
+        (program(&[&[0, 1]]), "refused 8"),
+        (program(&[&[0, 2, 0x80]]), "refused 7"),
+        (program(&[&[0], full, &[1, 1]]), "refused 12"),
+        (program(&[&[0, 1, 1, 1, 0, 1, 1]]), "sequences 2c 2f"),
+        (Call::Path(b"/a.c".to_vec()), "path /|a.c|1"),
+        (Call::Path(b"a/".to_vec()), "path a||0"),
+        (Call::Path(b"C:\\b.c".to_vec()), "path |C:\\5cb.c|1"),
+        (Call::Path(b"s/b.c".to_vec()), "path s|b.c|0"),
+        (Call::Join(b"/w".to_vec(), b"s".to_vec()), "joined /w/s"),
+    ]
+}
+
+/// The call of a number for a seed; no other call has a part in it.
+fn call(seed: u64, number: u64) -> Call {
+    let mut random = Random::new(seed, number);
+    let random = &mut random;
+    match random.below(10) {
+        0..2 => operand_call(random),
+        2..6 => program_call(random),
+        6..8 => Call::Path(path(random)),
+        _ => Call::Join(path(random), path(random)),
+    }
+}
+
+fn operand_call(random: &mut Random) -> Call {
+    let mut program = bytes(random, 3);
+    let mut place = program.len() as u64;
+    program.extend(operand(random));
+    match random.below(10) {
+        // Cut off within the operand, or just behind it.
+        0..3 => program.truncate(random.between(place, program.len() as u64) as usize),
+        _ => program.extend(bytes(random, 3)),
+    }
+    let length = program.len() as u64;
+    if random.chance(15) {
+        place = random.pick(&[length, length + 1, LAST, LAST - 1, length / 2]);
+    }
+    Call::Operand { place, program }
+}
+
+fn program_call(random: &mut Random) -> Call {
+    let mut lengths = OPCODE_LENGTHS.to_vec();
+    lengths.extend(bytes(random, 2).iter().map(|byte| byte % 4));
+    if random.chance(35) {
+        lengths.iter_mut().for_each(|length| *length = random.pick(&[0, 1, 1, 2, 3]));
+    }
+    if random.chance(3) {
+        let place = random.place(&lengths);
+        lengths[place] = 255;
+    }
+    lengths.truncate(random.pick(&[14, 14, 14, 12, 12, 12, 9, 3, 0]));
+    let base = if random.chance(50) { 13 } else { random.pick(&[0, 1, 2, 3, 4, 5, 6, 7, 8, 9, 10, 11, 12, 13, 14, 14, 255]) };
+    let mut program = Vec::new();
+    for _ in 0..random.below(11) {
+        let next = instruction(random, &lengths);
+        program.extend(next);
+    }
+    if random.chance(30) {
+        let last = bad_instruction(random, program.len() as u64);
+        program.extend(last);
+    }
+    if random.chance(15) {
+        program.truncate(random.between(0, program.len() as u64) as usize);
+    }
+    if random.chance(8) && !program.is_empty() {
+        let place = random.place(&program);
+        program[place] = random.next() as u8;
+    }
+    // So near the last number that the place after a sequence may be past it.
+    let near = LAST - random.below(program.len() as u64 + 3);
+    let any = random.next();
+    let offset = random.pick(&[44, 44, 0, any, near, LAST - program.len() as u64]);
+    Call::Program { base, lengths, offset, program }
+}
+
+/// Bytes of any value, at most so many.
+fn bytes(random: &mut Random, most: u64) -> Vec<u8> {
+    (0..random.between(0, most)).map(|_| random.next() as u8).collect()
+}
+
+/// An operand of up to twelve bytes, refused or not. The tenth byte is often the last, and often a small one.
+fn operand(random: &mut Random) -> Vec<u8> {
+    let length = random.pick(&[1, 1, 2, 3, 5, 8, 9, 9, 10, 10, 10, 10, 10, 10, 11, 12]);
+    let mut bytes: Vec<u8> = (0..length)
+        .map(|_| {
+            let any = random.next() as u8;
+            random.pick(&[0x80, 0xff, any | 0x80])
+        })
+        .collect();
+    if length >= 10 {
+        bytes[9] = random.pick(&[0x80, 0x81, 0x81, 0x82, 0xff]);
+    }
+    if random.chance(85) {
+        bytes[length - 1] &= 0x7f;
+    }
+    bytes
+}
+
+/// A number as an operand, at times with a byte more than it needs.
+fn number(random: &mut Random, mut value: u64) -> Vec<u8> {
+    let mut bytes = Vec::new();
+    while value > 0x7f {
+        bytes.push(value as u8 | 0x80);
+        value >>= 7;
+    }
+    bytes.push(value as u8);
+    if bytes.len() < 10 && random.chance(10) {
+        *bytes.last_mut().unwrap() |= 0x80;
+        bytes.push(0);
+    }
+    bytes
+}
+
+/// An instruction with as many operands as the header declares, or, at times, as the Standard does.
+fn instruction(random: &mut Random, lengths: &[u8]) -> Vec<u8> {
+    let kind = random.below(100);
+    if kind < 45 {
+        let payload = [&[random.pick(&[1, 1, 1, 1, 1, 2, 3, 4, 0x80, 0])], bytes(random, 4).as_slice()].concat();
+        return [&[0], number(random, payload.len() as u64).as_slice(), &payload].concat();
+    }
+    if kind < 58 {
+        return vec![random.pick(&[10, 11, 12, 13, 14, 15, 0x80, 0xff])];
+    }
+    let opcode = random.between(1, 14) as u8;
+    let declared = if random.chance(80) { lengths } else { &OPCODE_LENGTHS };
+    let count = declared.get(usize::from(opcode) - 1).map_or(0, |&count| count.min(5));
+    let mut bytes = vec![opcode];
+    for _ in 0..count {
+        let bits = random.pick(&[3, 7, 8, 20, 64]);
+        let value = random.next() >> (64 - bits);
+        bytes.extend(number(random, value));
+    }
+    if opcode == 9 {
+        // Bytes that are something else if they are taken for opcodes.
+        bytes = vec![9, random.pick(&[0, 0, 1, 2, 9, 0xff]), random.pick(&[0, 0, 1, 2, 9, 0xff])];
+    }
+    bytes
+}
+
+/// An instruction that refuses the program, if it is met where it is, behind so many bytes.
+fn bad_instruction(random: &mut Random, before: u64) -> Vec<u8> {
+    let huge = LAST - random.below(24);
+    // Behind the zero, ten bytes and the opcode: the last length whose end is still a number, and those beside it.
+    let edge = LAST - (before + 12) + random.below(3);
+    let length = random.pick(&[2, 3, 100, 1 << 32, 1 << 63, huge, edge, edge]);
+    match random.below(9) {
+        0 => vec![0, 0],
+        1 => vec![0],
+        2 => [&[0], number(random, length).as_slice()].concat(),
+        3 => [&[0], number(random, length).as_slice(), &[random.pick(&[1, 2])]].concat(),
+        4..8 => [&[random.pick(&[0, 0, 2, 3, 5])], operand(random).as_slice()].concat(),
+        _ => vec![9, 1],
+    }
+}
+
+const PIECES: [&[u8]; 22] = [
+    b"/",
+    b"/",
+    b"/",
+    b"/",
+    b"\\",
+    b"\\",
+    b"\\",
+    b"//",
+    b"\\\\",
+    b":",
+    b"C:",
+    b"C",
+    b"a",
+    b"a",
+    b"b.c",
+    b"..",
+    b" ",
+    b"|",
+    b"\x00",
+    b"\x7f",
+    b"\xc3\xa9",
+    b"\xff",
+];
+
+const WHOLE: [&[u8]; 26] = [
+    b"",
+    b"/",
+    b"//",
+    b"/a.c",
+    b"a/",
+    b"a//",
+    b"//b.c",
+    b"C:",
+    b"C:/",
+    b"C:\\",
+    b"C:/b.c",
+    b"C:\\b.c",
+    b"C:b.c",
+    b"CC:/b",
+    b":/b",
+    b"/:/b",
+    b"\\\\s\\b",
+    b"//s/b",
+    b"\\\\s",
+    b"\\\\s/b",
+    b"\\/s/b",
+    b"\\\\\\s\\b",
+    b"\\\\/s/b",
+    b"\\\\",
+    b"\\s\\b",
+    b"\\\\s\\",
+];
+
+fn path(random: &mut Random) -> Vec<u8> {
+    if random.chance(35) {
+        return random.pick(&WHOLE).to_vec();
+    }
+    (0..random.below(7)).flat_map(|_| random.pick(&PIECES)).copied().collect()
+}
+
+#[cfg(test)]
+mod tests {
+    use std::collections::BTreeSet;
+
+    use super::*;
+
+    #[test]
+    fn document_01_answers() {
+        for (call, expected) in document() {
+            assert_eq!(call.answer(), expected, "{:x?}", call.bytes());
+        }
+    }
+
+    /// Every answer that a kind can give, by its words without the values.
+    #[test]
+    fn every_answer_is_reached() {
+        let reached: BTreeSet<(u8, String)> = calls(1).take(2000).map(|call| (call.bytes()[0], shape(&call.answer()))).collect();
+        for (kind, shapes) in [
+            (1, ["operand", "refused 7", "refused 10", "refused 11"].as_slice()),
+            (
+                2,
+                &[
+                    "refused 7",
+                    "refused 8",
+                    "refused 9",
+                    "refused 10",
+                    "refused 11",
+                    "refused 12",
+                    "sequences",
+                    "sequences 1",
+                    "sequences 2",
+                ],
+            ),
+            (
+                3,
+                &[
+                    "path no no 0",
+                    "path no a 0",
+                    "path no a 1",
+                    "path / no 1",
+                    "path / a 1",
+                    "path a no 0",
+                    "path a no 1",
+                    "path a a 0",
+                    "path a a 1",
+                ],
+            ),
+            (4, &["joined"]),
+        ] {
+            for shape in shapes {
+                assert!(reached.contains(&(kind, (*shape).to_owned())), "no call of kind {kind} answers {shape}");
+            }
+        }
+    }
+
+    fn shape(answer: &str) -> String {
+        let words: Vec<&str> = answer.split(' ').collect();
+        match words[..] {
+            ["path", parts] => parts.split('|').fold("path".to_owned(), |text, part| {
+                let part = match part {
+                    "" => "no",
+                    "/" | "0" | "1" => part,
+                    _ => "a",
+                };
+                format!("{text} {part}")
+            }),
+            ["sequences", _] => "sequences 1".to_owned(),
+            ["sequences", _, ..] => "sequences 2".to_owned(),
+            ["operand" | "joined", ..] => words[0].to_owned(),
+            _ => answer.to_owned(),
+        }
+    }
+}
