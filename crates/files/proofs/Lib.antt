@@ -15,8 +15,11 @@ pub mod HeaderLaws
 pub mod StoreLaws
 pub mod PigeonLaws
 pub mod SameLaws
+pub mod ReachedLaws
 pub mod RoomLaws
 pub mod ChainLaws
 pub mod KeptLaws
 pub mod AddLaws
 pub mod AddedLaws
+pub mod LookupLaws
+pub mod FewLaws

@@ -5,3 +5,4 @@ pub mod Store
 pub mod Indices
 pub mod Interns
 pub mod Joined
+pub mod Reached

@@ -35,7 +35,7 @@ pub enum InternedFiles {
 }
 
 // The pieces of a file of a unit of a source.
-fn pieces_in(
+pub fn pieces_in(
     main: &[u8],
     supplementary: &[u8],
     source: DebugSource,
@@ -58,7 +58,12 @@ fn pieces_in(
 }
 
 // The next field of a file, from a place of a source on.
-fn next_file(main: &[u8], supplementary: &[u8], source: DebugSource, p: usize) -> tlv::access::Own
+pub fn next_file(
+    main: &[u8],
+    supplementary: &[u8],
+    source: DebugSource,
+    p: usize,
+) -> tlv::access::Own
     ensures { λ r. ⌜ NextOwn (sourceIn (now (main .entry)) (now (supplementary .entry)) source) p 0x15 r ⌝ }
 {
     match source {

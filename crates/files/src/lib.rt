@@ -3,5 +3,6 @@ pub mod hash;
 pub mod index;
 pub mod intern;
 pub mod joined;
+pub mod lookup;
 pub mod pieces;
 pub mod store;

@@ -43,9 +43,9 @@ pub enum AddedFile {
 }
 
 // The length of a directory that was laid, and the hash of its file.
-struct LaidHash {
-    n: usize,
-    hash: u64,
+pub struct LaidHash {
+    pub n: usize,
+    pub hash: u64,
 }
 
 // The span at a place: its start 4 bytes, its length 4 bytes.
@@ -301,7 +301,7 @@ fn append_file(
 }
 
 // Lays the directory of a file, and gives its length and the file's hash.
-fn lay_file(s: &[u8], p: FilePieces, work: &mut [u8], at: usize) -> LaidHash
+pub fn lay_file(s: &[u8], p: FilePieces, work: &mut [u8], at: usize) -> LaidHash
     requires { ⌜ PiecesIn (now s) p ⌝ }
     requires { ⌜ at + 12290 ≤ length (now work) ⌝ }
     ensures { λ r. ⌜ LaidAt (now (work .entry)) (now (work .exit)) at (fileIn (now (s .entry)) p) r ⌝ }

@@ -5,3 +5,8 @@ pub mod ReferenceLaws
 pub mod TargetLaws
 pub mod VisitedLaws
 pub mod KeyLaws
+pub mod FewKeys
+pub mod FollowLaws
+pub mod WayLaws
+pub mod GivesLaws
+pub mod NameLaws

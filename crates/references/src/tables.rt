@@ -18,6 +18,13 @@ pub struct Index {
     pub entry_count: usize,
 }
 
+// The tables of both sheets, and where the targets that a search has followed are put.
+pub struct Tables {
+    pub main: Index,
+    pub supplementary: Index,
+    pub keys: usize,
+}
+
 // Outside all units; in the unit at a place, where no entry starts; or the entry at a place, of the unit at a place.
 pub enum Target {
     Outside,

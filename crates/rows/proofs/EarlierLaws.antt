@@ -24,7 +24,7 @@ use Rattle.rows.specs.Sorts.{leading}
 use Rattle.rows.specs.Selects.{unitLinesOf, RowsIn, coveringOf, earlierOf}
 use Rattle.rows.proofs.LeadingLaws.{leading-most, all-from, row-below}
 use Rattle.rows.proofs.FilterLaws.{last-append, last-take}
-use Rattle.rows.proofs.RowReads.{line-sequence, line-entry, lines-take, lines-suc}
+use Rattle.rows.proofs.StoredLaws.{line-sequence, line-entry, lines-take, lines-suc}
 use Rattle.rows.proofs.SequenceLaws.{coversAt}
 
 abbrev pub earlierThan : ℕ → Option ℕ → SequencedLine → Bool

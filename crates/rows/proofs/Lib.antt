@@ -6,7 +6,6 @@ pub mod DropLaws
 pub mod SameLaws
 pub mod LeadingLaws
 pub mod FilterLaws
-pub mod RowReads
 pub mod OwnRowLaws
 pub mod SequenceLaws
 pub mod EarlierLaws

@@ -27,7 +27,7 @@ use Rattle.rows.specs.Sorts.{Sorted, leading}
 use Rattle.rows.specs.Selects.{unitLinesOf, RowsIn, Owned}
 use Rattle.rows.proofs.LeadingLaws.{leading-most, all-below, all-from}
 use Rattle.rows.proofs.FilterLaws.{filter-same, filter-skip, filter-take}
-use Rattle.rows.proofs.RowReads.{sequence-kept, line-sequence, line-entry, lines-cons, lines-none, lines-take}
+use Rattle.rows.proofs.StoredLaws.{sequence-kept, line-sequence, line-entry, lines-rest-cons, lines-rest-none, lines-take}
 
 abbrev pub ofSequence : Option ℕ → SequencedLine → Bool
 ofSequence s = λ x. belongs s (x .statementSequence)
@@ -104,7 +104,7 @@ module _ {w₀ : List ℕ} {l : StoredLines} (r : AddressRange) {asked : Stateme
       let e : filter (inRange r s) xs ≡ filter (ofSequence s) (drop first (linesOf w₀ (l .lines) past)) =
       rw (← (lines-take w₀ (l .lines) (l .«line_count») past (O .end)), f, p) (stretch r s 0 xs (R .sorted)) in
       record {
-        rows = sym (append-nil (entriesOf w to count)) ∙ rw (lines-none w₀ (l .lines) past i h) at (O .rows) ∙ ap (map (λ x. x .entry)) (sym e);
+        rows = sym (append-nil (entriesOf w to count)) ∙ rw (lines-rest-none w₀ (l .lines) past i h) at (O .rows) ∙ ap (map (λ x. x .entry)) (sym e);
         within = omega (arith, O .few, O .most);
         rest = O .rest;
       }
@@ -124,7 +124,7 @@ module _ {w₀ w : List ℕ} {l : StoredLines} {asked : StatementSequence} (own 
     end = O .end;
     most = omega (arith, O .end);
     few = omega (arith, O .few);
-    rows = rw (lines-cons w₀ (l .lines) past i h, ← tested, f) at (O .rows);
+    rows = rw (lines-rest-cons w₀ (l .lines) past i h, ← tested, f) at (O .rows);
     rest = O .rest;
     size = O .size;
   }
@@ -141,7 +141,7 @@ module _ {w₀ w : List ℕ} {l : StoredLines} {asked : StatementSequence} (own 
         few = omega (arith, O .few);
         rows =
             rw (records-copy-push entryOf 16 to count C, is) (append-assoc (entriesOf w to count) (x ∷ []) (map (λ x. x .entry) (filter (ofSequence (sequenceOf asked)) (drop (i + 1) (linesOf w₀ (l .lines) past)))))
-            ∙ rw (lines-cons w₀ (l .lines) past i h, ← tested, f) at (O .rows);
+            ∙ rw (lines-rest-cons w₀ (l .lines) past i h, ← tested, f) at (O .rows);
         rest = kept-trans (O .rest) (kept-wide to (l .«line_count» * 16) (C .rest) (omega arith) (omega (arith, O .few, O .end)));
         size = n ∙ O .size;
       }

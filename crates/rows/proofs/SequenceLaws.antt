@@ -17,7 +17,7 @@ use Rattle.rows.specs.declared.«unit_lines».StoredLines.{StoredLines}
 use Rattle.rows.specs.declared.«unit_lines».Covering.{Covering}
 use Rattle.rows.specs.Stored.{sequenceOf, storedSequence, rangeAt, rangesOf}
 use Rattle.rows.specs.Selects.{unitLinesOf, coveringOf}
-use Rattle.rows.proofs.RowReads.{ranges-cons, ranges-none, range-sequence, range-start, range-end}
+use Rattle.rows.proofs.StoredLaws.{ranges-rest-cons, ranges-rest-none, range-sequence, range-start, range-end}
 
 -- ---- whether a sequence exists
 
@@ -39,15 +39,15 @@ module _ {w : List ℕ} {base n i : ℕ} {s : Option ℕ} (S : Seeking w base n 
 
     pub seek-next : t ≡ false → Seeking w base n s (i + 1)
     unfolding exists
-    seek-next f = record { most = omega arith; left = S .left ∙ rw (ranges-cons w base n i h, ← seek-test, f) }
+    seek-next f = record { most = omega arith; left = S .left ∙ rw (ranges-rest-cons w base n i h, ← seek-test, f) }
 
     pub seek-found : t ≡ true → exists (isSequence s) (rangesOf w base n) ≡ true
     unfolding exists
-    seek-found f = S .left ∙ rw (ranges-cons w base n i h, ← seek-test, f)
+    seek-found f = S .left ∙ rw (ranges-rest-cons w base n i h, ← seek-test, f)
 
   pub seek-none : n ≤ i → exists (isSequence s) (rangesOf w base n) ≡ false
   unfolding exists
-  seek-none h = S .left ∙ rw (ranges-none w base n i h)
+  seek-none h = S .left ∙ rw (ranges-rest-none w base n i h)
 
 -- the same of an answer to what was requested
 pub exists-is : (w : List ℕ) (l : StoredLines) (requested : StatementSequence) (m : ℕ) {t : Bool} → requested ≡ StatementSequence.At m
@@ -88,12 +88,12 @@ module _ {w : List ℕ} {base n a i : ℕ} {s : Option ℕ} (C : Covered w base 
   module _ {t : Bool} (h : i < n) (e : t ≡ coversAt s a (rangeAt w (base + i * 25))) where
     pub cover-next : t ≡ false → Covered w base n s a (i + 1)
     unfolding first
-    cover-next f = record { most = omega arith; left = C .left ∙ rw (ranges-cons w base n i h, ← e, f) }
+    cover-next f = record { most = omega arith; left = C .left ∙ rw (ranges-rest-cons w base n i h, ← e, f) }
 
     pub cover-found : (own : StatementSequence) → t ≡ true → sequenceOf own ≡ storedSequence w (base + i * 25 + 16) → coveringOf (Covering.By own) (first (coversAt s a) (rangesOf w base n))
     unfolding first mapOption
-    cover-found own f q = rw (C .left, ranges-cons w base n i h, ← e, f, range-sequence w (base + i * 25), q)
+    cover-found own f q = rw (C .left, ranges-rest-cons w base n i h, ← e, f, range-sequence w (base + i * 25), q)
 
   pub cover-none : n ≤ i → coveringOf Covering.Missing (first (coversAt s a) (rangesOf w base n))
   unfolding first
-  cover-none h = C .left ∙ rw (ranges-none w base n i h)
+  cover-none h = C .left ∙ rw (ranges-rest-none w base n i h)

@@ -12,10 +12,10 @@ use borrow.Author.Tests.{eq-eqb, ne-eqb}
 use Rattle.tlv.specs.declared.model.AddressRange.{AddressRange}
 use Rattle.tlv.specs.declared.model.LineEntry.{LineEntry}
 use Rattle.tlv.specs.Bytes.{leAt}
-use Rattle.tlv.specs.Table.{chunk, Apart, Kept, Clear, KeptBut, Wrote, CopiedBytes}
+use Rattle.tlv.specs.Table.{chunk, records, Apart, Kept, Clear, KeptBut, Wrote, CopiedBytes}
 use Rattle.tlv.proofs.ChunkLaws.{leAt-chunk, leAt-front}
 use Rattle.tlv.proofs.TableLaws.{leAt-kept, kept-wide, kept-trans}
-use Rattle.tlv.proofs.RecordLaws.{records-length, records-nil, records-at, records-suc, records-add, records-part, records-rest-none, records-rest-cons, records-kept, records-but, records-push, records-copy-push}
+use Rattle.tlv.proofs.RecordLaws.{records-length, records-nil, records-at, records-suc, records-add, records-part, records-rest-none, records-rest-cons, records-kept, records-but, records-push, records-copy-push, tab-take}
 use Rattle.lines.specs.Lines.{SequencedLine, LineSequenceRange}
 use Rattle.rows.specs.declared.line.StatementSequence.{StatementSequence}
 use Rattle.rows.specs.Stored.{sequenceOf, storedSequence, entryOf, entriesOf, lineOf, lineAt, linesOf, rangeOf, rangeAt, rangesOf, PutEntry, PutSequence, PutLine, PutSequenceRange}
@@ -165,6 +165,10 @@ lines-add = records-add lineOf 25
 pub lines-part : (w : List ℕ) (b n i m : ℕ) → i + m ≤ n → linesOf w (b + i * 25) m ≡ take m (drop i (linesOf w b n))
 unfolding linesOf
 lines-part = records-part lineOf 25
+
+pub lines-take : (w : List ℕ) (b n i : ℕ) → i ≤ n → take i (linesOf w b n) ≡ linesOf w b i
+unfolding linesOf records
+lines-take w b n i h = tab-take n (λ j. lineOf (chunk w (b + j * 25) 25)) i h
 
 pub lines-rest-none : (w : List ℕ) (b n x : ℕ) → n ≤ x → drop x (linesOf w b n) ≡ []
 unfolding linesOf

@@ -1,0 +1,155 @@
+-- What the name searches promise: the name as a part of a sheet, the followed targets in the work slice. Assumes nothing.
+use Prim.Native.Nat.{ℕ, zero, suc, _+_, _-_, _*_, _≤_}
+use mathlib.Core.Path.{_≡_}
+use mathlib.Core.Bool.{Bool, true, false, cond, not}
+use mathlib.Core.List.{List, [], _∷_}
+use mathlib.Core.Option.{Option, none, some}
+use lib.Dec.{eqb}
+use lib.ListN.{length}
+use Rattle.tlv.specs.declared.model.DebugSource.{DebugSource}
+use Rattle.tlv.specs.Outcome.{Outcome, refused, done, _>>=_}
+use Rattle.tlv.specs.Lists.{exists, isEmpty}
+use Rattle.tlv.specs.Table.{Kept}
+use Rattle.tlv.specs.Model.{CompilationUnit, Entry, Attribute, units}
+use Rattle.tlv.specs.Places.{entryHere, unitHere}
+use Rattle.references.specs.declared.tables.Index.{Index}
+use Rattle.references.specs.declared.tables.Tables.{Tables}
+use Rattle.references.specs.declared.names.EntryAt.{EntryAt}
+use Rattle.references.specs.declared.names.OffsetAt.{OffsetAt}
+use Rattle.references.specs.declared.names.Way.{Way}
+use Rattle.references.specs.Search.{Dwarf, mainSource, supplementarySource, Place, Trail, sameKey, visitEntry, Followed, sameUnit, followedNothing, attribute, followUnit, followAbsolute, follow, Named, nameAtTarget, resolveNameInner, resolveReferenceName}
+use Rattle.references.specs.Tables.{sourceIn, IndexIn, EntryKnown, bytesGiven}
+use Rattle.references.specs.Keys.{keysAt, keyIn, possibleKeys, PossibleKey, KeysIn}
+
+-- the units of both sheets
+abbrev pub dwarfOf : List ℕ → List ℕ → Dwarf
+dwarfOf main supplementary = record { main = units main; supplementary = units supplementary }
+
+abbrev pub searchSource : DebugSource → Rattle.references.specs.Search.DebugSource
+searchSource DebugSource.Main = mainSource
+searchSource DebugSource.Supplementary = supplementarySource
+
+-- the tables of a source's sheet
+abbrev pub indexIn : Tables → DebugSource → Index
+indexIn x DebugSource.Main = x .main
+indexIn x DebugSource.Supplementary = x .supplementary
+
+-- where a search stands
+abbrev pub placeAt : List ℕ → List ℕ → EntryAt → Place
+placeAt main supplementary at = record {
+  input = searchSource (at .input);
+  source = searchSource (at .source);
+  unit = unitHere (sourceIn main supplementary (at .input)) (at .unit);
+  entry = entryHere (sourceIn main supplementary (at .input)) (at .place);
+}
+
+-- an entry of the main sheet, where a search starts
+abbrev pub startAt : ℕ → ℕ → EntryAt
+startAt q p = record { input = DebugSource.Main; source = DebugSource.Main; unit = q; place = p; depth = 0 }
+
+-- entries of the main sheet are remembered under no other source
+abbrev pub Sourced : DebugSource → DebugSource → Type 0
+Sourced DebugSource.Main source = source ≡ DebugSource.Main
+Sourced DebugSource.Supplementary source = Unit
+
+-- a search can stand there
+pub record Stands (main supplementary : List ℕ) (at : EntryAt) : Type 0 where
+  pub known : EntryKnown (sourceIn main supplementary (at .input)) (at .unit) (at .place)
+  pub sourced : Sourced (at .input) (at .source)
+
+-- a search can come to follow that offset
+pub record Aims (main supplementary : List ℕ) (at : OffsetAt) : Type 0 where
+  pub possible : PossibleKey main supplementary (keyIn (at .source) (at .target))
+  pub sourced : Sourced (at .input) (at .source)
+
+-- the followed targets that stand in w
+abbrev pub trailAt : List ℕ → ℕ → ℕ → ℕ → Trail
+trailAt w base n reads = record { visited = keysAt w base n; reads = reads }
+
+-- both sheets' tables stand in w, below the n followed targets, for which there is room
+pub record SearchIn (main supplementary w : List ℕ) (x : Tables) (n : ℕ) : Type 0 where
+  pub main-index : IndexIn main w (x .main)
+  pub supplementary-index : IndexIn supplementary w (x .supplementary)
+  pub keys : KeysIn main supplementary w (x .keys) n
+  pub main-units : x .main .units + 24 * x .main .«unit_count» ≤ x .keys
+  pub main-entries : x .main .entries + 16 * x .main .«entry_count» ≤ x .keys
+  pub supplementary-units : x .supplementary .units + 24 * x .supplementary .«unit_count» ≤ x .keys
+  pub supplementary-entries : x .supplementary .entries + 16 * x .supplementary .«entry_count» ≤ x .keys
+
+-- ---- how a search goes on from a reference; f follows it
+
+-- the reference to an offset of the own unit
+unfoldable pub followUnitFrom : List ℕ → List ℕ → EntryAt → ℕ → Trail → Outcome Followed
+followUnitFrom main supplementary at o t = followUnit (placeAt main supplementary at) t o
+
+-- the reference that the attribute of a name is
+unfoldable pub followFrom : List ℕ → List ℕ → EntryAt → ℕ → Trail → Outcome Followed
+followFrom main supplementary at name t =
+    follow (dwarfOf main supplementary) (placeAt main supplementary at) t (attribute (placeAt main supplementary at .entry) name)
+
+-- at an entry of the same unit, which was not followed yet, with an offset of the section
+pub record EntryNext (f : Trail → Outcome Followed) (main supplementary w : List ℕ) (x : Tables) (n depth : ℕ) (next : EntryAt) (target : ℕ) : Type 0 where
+  pub is : (k : ℕ) → f (trailAt w (x .keys) n k)
+      ≡ done (record { trail = visitEntry (trailAt w (x .keys) n k) (keyIn (next .source) target); target = sameUnit (placeAt main supplementary next) })
+  pub stands : Stands main supplementary next
+  pub deeper : next .depth ≡ depth + 1
+  pub possible : PossibleKey main supplementary (keyIn (next .source) target)
+  pub new : exists (sameKey (keyIn (next .source) target)) (keysAt w (x .keys) n) ≡ false
+
+-- at an offset of a section
+pub record OffsetNext (f : Trail → Outcome Followed) (main supplementary w : List ℕ) (x : Tables) (n depth : ℕ) (next : OffsetAt) : Type 0 where
+  pub is : (k : ℕ) → f (trailAt w (x .keys) n k)
+      ≡ followAbsolute (dwarfOf main supplementary) (searchSource (next .input)) (searchSource (next .source)) (trailAt w (x .keys) n k) (next .target)
+  pub aims : Aims main supplementary next
+  pub deeper : next .depth ≡ depth + 1
+
+abbrev pub WayIs : (Trail → Outcome Followed) → List ℕ → List ℕ → List ℕ → Tables → ℕ → ℕ → Way → Type 0
+WayIs f main supplementary w x n depth Way.Nothing = (k : ℕ) → f (trailAt w (x .keys) n k) ≡ followedNothing (trailAt w (x .keys) n k)
+WayIs f main supplementary w x n depth (Way.Refused st) = (st ≡ 0 → ⊥) × ((k : ℕ) → f (trailAt w (x .keys) n k) ≡ refused st)
+WayIs f main supplementary w x n depth (Way.Entry next target) = EntryNext f main supplementary w x n depth next target
+WayIs f main supplementary w x n depth (Way.Offset next) = OffsetNext f main supplementary w x n depth next
+
+pub record Ways (f : Trail → Outcome Followed) (main supplementary w : List ℕ) (x : Tables) (n depth : ℕ) (r : Way) : Type 0 where
+  pub is : WayIs f main supplementary w x n depth r
+
+-- ---- what a search gives
+
+-- a search ends with a status and a name: it is refused, or has found one
+unfoldable pub isAnswer : ℕ → List ℕ → Bool
+isAnswer st r = cond (eqb st 0) (not (isEmpty r)) true
+
+-- the answer that a status, a trail and bytes stand for
+unfoldable pub namedGiven : ℕ → Trail → List ℕ → Outcome Named
+namedGiven st t r = cond (eqb st 0) (done (record { trail = t; name = r })) (refused st)
+
+-- a search f from the n targets of w on has answered with r or the status, and left n′ targets in w′. How many entries it read decides nothing here
+pub record Gives (f : Trail → Outcome Named) (main supplementary : List ℕ) (x : Tables) (w : List ℕ) (n : ℕ) (w′ : List ℕ) (n′ st : ℕ) (r : List ℕ) : Type 0 where
+  pub reads : ℕ → ℕ
+  pub is : (k : ℕ) → f (trailAt w (x .keys) n k) ≡ namedGiven st (trailAt w′ (x .keys) n′ (reads k)) r
+  pub ready : SearchIn main supplementary w′ x n′
+  pub rest : Kept w w′ (x .keys) (9 * length (possibleKeys main supplementary))
+
+-- resolve_absolute_name: the name at an offset of the section; k is the limit less the depth
+unfoldable pub resolveAbsoluteName : ℕ → Dwarf → Rattle.references.specs.Search.DebugSource → Rattle.references.specs.Search.DebugSource → ℕ → Trail → Outcome Named
+resolveAbsoluteName k d input source target t =
+    followAbsolute d input source t target >>= λ f. nameAtTarget (resolveNameInner k d) (f .trail) (f .target)
+
+-- the name that the attribute of a name of an entry leads to; k is the limit less the depth
+unfoldable pub nameFrom : ℕ → List ℕ → List ℕ → EntryAt → ℕ → Trail → Outcome Named
+nameFrom k main supplementary at name t =
+    followFrom main supplementary at name t >>= λ f. nameAtTarget (resolveNameInner k (dwarfOf main supplementary)) (f .trail) (f .target)
+
+-- the names of the references that are left, the first of them given
+unfoldable pub origins : ℕ → ℕ → List ℕ
+origins name zero = []
+origins name (suc left) = name ∷ origins 0x47 left
+
+-- the name that an attribute refers to, where there is one
+abbrev pub referenceName : Dwarf → CompilationUnit → Entry → Option Attribute → Outcome (List ℕ)
+referenceName d u e none = done []
+referenceName d u e (some a) = resolveReferenceName d u e a
+
+-- a name was searched; what stood in the part of w for followed targets is gone
+pub record Resolved (main supplementary : List ℕ) (x : Tables) (w w′ : List ℕ) (o : Outcome (List ℕ)) (st : ℕ) (r : List ℕ) : Type 0 where
+  pub is : bytesGiven st r ≡ o
+  pub rest : Kept w w′ (x .keys) (9 * length (possibleKeys main supplementary))
