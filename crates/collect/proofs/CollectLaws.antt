@@ -1,0 +1,235 @@
+-- collect_lines of a unit with a header, whose rows were counted: the program's sequences, the unit's files, and the end. Assumes nothing.
+use mathlib.Core.Path.{_≡_, sym, ap, subst, _∙_}
+use mathlib.Core.Logic.{inl, inr}
+use mathlib.Core.List.{List, [], _∷_}
+use Prim.Native.Nat.{ℕ, _+_, _*_, _/_, _≤_}
+use native.Mathlib.Omega.{arith}
+use lib.ListN.{length, take, drop}
+use Rattle.tlv.specs.Outcome.{Outcome, refused, done}
+use Rattle.tlv.specs.Bytes.{le}
+use Rattle.tlv.specs.Model.{headerOf}
+use Rattle.tlv.specs.Places.{unitHere}
+use Rattle.tlv.proofs.TableLaws.{here, there, but-of, but-one, but-trans}
+use Rattle.tlv.proofs.RecordLaws.{records-length, records-but}
+use Rattle.lines.specs.declared.lines.Scan.{Scan}
+use Rattle.lines.specs.Program.{lineSequenceOffsets}
+use Rattle.lines.specs.Scan.{CountWithin, Scanned, offsets}
+use Rattle.lines.specs.Files.{Indexed, internHeaderFiles}
+use Rattle.lines.specs.Lines.{Run, runRows, Collected, collectLines}
+use Rattle.files.specs.declared.index.StoredIndices.{StoredIndices}
+use Rattle.files.specs.declared.pieces.FileUnit.{FileUnit}
+use Rattle.files.specs.declared.store.StoredFiles.{StoredFiles}
+use Rattle.files.specs.Pieces.{headerHere, UnitPlaced}
+use Rattle.files.specs.Store.{extent, tableOf, FilesIn}
+use Rattle.files.specs.Indices.{indexOf, indicesOf, indicesIn}
+use Rattle.files.proofs.UnitLaws.{unit-within}
+use Rattle.files.proofs.UnnamedLaws.{unnamed}
+use Rattle.files.proofs.GrownLaws.{files-kept, table-kept, grown-trans, grown-after}
+use Rattle.collect.specs.declared.collect.CollectedLines.{CollectedLines}
+use Rattle.collect.specs.declared.collect.InternedUnit.{InternedUnit}
+use Rattle.collect.specs.declared.convert.Conversion.{Conversion}
+use Rattle.collect.specs.Passes.{rowsFrom, countRows, offsetsAt}
+use Rattle.collect.specs.Converts.{ConversionIn}
+use Rattle.collect.specs.Collects.{linesExtent, CollectsBy, CollectsLines}
+use Rattle.collect.specs.Stages.{UnitCounted, unitExtent, UnitRoom, UnitInterned, InternsUnit, ConversionOf, finishFrom, FinishesBy, FinishesLines}
+use Rattle.collect.proofs.RunLaws.{RunCounted, count-done}
+use Rattle.collect.proofs.FrameLaws.{but-wide}
+use Rattle.collect.proofs.HeaderPlaces.{header-is, unit-stands, unit-listed, rows-here}
+use Rattle.collect.proofs.CollectSteps.{header-there, collects-program-refused, collects-files-refused, collects-end}
+use Rattle.collect.proofs.UnitInternLaws.{indices-length}
+
+module _ {main supplementary program w : List ℕ} {p start len n m free : ℕ} {t : StoredFiles} (B : UnitCounted main supplementary program w t p start len n m free) where
+  stands : UnitPlaced main p
+  stands = unit-stands (B .placed) (B .unit)
+
+  run-counted : RunCounted (rowsFrom main (p + 21)) (record { lines = n; sequences = m })
+  run-counted = count-done (rowsFrom main (p + 21)) (record { lines = n; sequences = m }) (B .counted)
+
+  run-is : runRows (unitHere main p .rows) 0 [] ≡ done (run-counted .run)
+  run-is = rw (rows-here stands) (run-counted .is)
+
+  -- its program's sequences have room
+  pub scan-room : free + length program / 3 * 8 ≤ length w
+  unfolding linesExtent
+  scan-room = let a = B .room .room in omega arith
+
+  module _ {w₁ : List ℕ} {r : Scan}
+      (S : Scanned program w w₁ free r (lineSequenceOffsets (headerOf (take len (drop start main))) program)) where
+    -- its program is at fault
+    pub collected-fault : {w′ files files′ warnings warnings′ : List ℕ} {warned f : ℕ} → r ≡ Scan.Fault f
+        → CollectsLines main supplementary program w w′ files files′ warnings warnings′ p t warned free (CollectedLines.Refused f)
+    collected-fault {f = f} e =
+        let o : lineSequenceOffsets (headerHere main p) program ≡ refused f = rw (header-is (B .header)) (sym (rw e at (S .is))) in
+        record {
+          is = collects-program-refused (unitHere main p) program (tableOf main supplementary w t) (headerHere main p) (header-there (B .header)) (run-counted .run) run-is f o;
+        }
+
+    module _ {k : ℕ} (e : r ≡ Scan.Count k) (size : length w₁ ≡ length w) where
+      offsets-few : k * 8 ≤ length program / 3 * 8
+      offsets-few = let few : CountWithin program (Scan.Count k) = rw e at (S .within) in omega arith
+
+      pub scanned-small : free + k * 8 ≤ length w
+      unfolding linesExtent
+      scanned-small = let a = offsets-few in let b = B .room .room in omega arith
+
+      offsets-are : lineSequenceOffsets (headerHere main p) program ≡ done (offsetsAt w₁ free k)
+      unfolding offsets
+      offsets-are = rw (header-is (B .header)) (sym (rw e at (S .is)))
+
+      pub scanned-files : FilesIn main supplementary w₁ t
+      scanned-files = files-kept (B .files) (but-one (S .rest)) (inl (B .room .table), tt) size
+
+      pub scanned-room : UnitRoom main w₁ t p (free + k * 8)
+      unfolding linesExtent
+      scanned-room =
+          let a = offsets-few in
+          let b = B .room .room in
+          let c = B .room .table in
+          record { table = omega arith; room = omega arith }
+
+      unit-fits : free + k * 8 + unitExtent main p ≤ free + linesExtent main p program
+      unfolding linesExtent
+      unit-fits = let a = offsets-few in omega arith
+
+      scanned-fits : free + length program / 3 * 8 ≤ free + linesExtent main p program
+      unfolding linesExtent
+      scanned-fits = omega arith
+
+      table-scanned : tableOf main supplementary w₁ t ≡ tableOf main supplementary w t
+      table-scanned = table-kept (B .files) (but-one (S .rest)) (inl (B .room .table), tt)
+
+      module _ {w₂ files files₁ : List ℕ} {r₂ : InternedUnit} (I : InternsUnit main supplementary w₁ w₂ files files₁ p t (free + k * 8) r₂) where
+        -- a file of its header has no number
+        pub collected-unnumbered : {w′ files₀ files′ warnings warnings′ : List ℕ} {warned f : ℕ} → r₂ ≡ InternedUnit.Refused f
+            → CollectsLines main supplementary program w w′ files₀ files′ warnings warnings′ p t warned free (CollectedLines.Refused f)
+        collected-unnumbered {f = f} is =
+            let i : internHeaderFiles (unitHere main p) (headerHere main p) (tableOf main supplementary w t) ≡ refused f = rw (← table-scanned) (sym (rw is at (I .is))) in
+            record {
+              is = collects-files-refused (unitHere main p) program (tableOf main supplementary w t) (headerHere main p) (header-there (B .header)) (run-counted .run) run-is (offsetsAt w₁ free k) offsets-are f i;
+            }
+
+        module _ {u : FileUnit} {is : StoredIndices} {t′ : StoredFiles} (found : r₂ ≡ InternedUnit.Unit u is t′) where
+          interned : UnitInterned main supplementary w₁ w₂ files files₁ p t (free + k * 8) u is t′
+          interned = rw found at (I .after)
+
+          files-are : internHeaderFiles (unitHere main p) (headerHere main p) (tableOf main supplementary w t) ≡ done (record { table = tableOf main supplementary w₂ t′; indices = indicesIn w₂ is })
+          files-are = rw (← table-scanned) (sym (rw found at (I .is)))
+
+          pub interned-within : u .place + 21 ≤ length main
+          interned-within = rw (interned .place) (unit-within stands)
+
+          interned-room : is .base + is .count * 5 + 50 * length (rowsFrom main (p + 21)) + 16 ≤ free + linesExtent main p program
+          unfolding linesExtent
+          interned-room =
+              let a = offsets-few in
+              let b = interned .map in
+              let c = interned .count in
+              let d = interned .few in
+              let g : length (unitHere main p .rows) ≡ length (rowsFrom main (p + 21)) = ap length (rows-here stands) in
+              omega arith
+
+          pub interned-fits : is .base + is .count * 5 ≤ length w
+          interned-fits = let a = interned-room in let b = B .room .room in omega arith
+
+          map-length : is .count ≡ length (indicesIn w₂ is)
+          unfolding indicesOf
+          map-length = sym (records-length indexOf 5 w₂ (is .base) (is .count))
+
+          module _ {cv : Conversion} (M : ConversionOf main u is free k cv) where
+            made : Conversion
+            made = record { unit = u; zero = cv .zero; indices = is; offsets = free; «offset_count» = k; lines = is .base + is .count * 5 }
+
+            place-is : cv .unit .place ≡ p
+            place-is = ap (λ (x : Conversion). x .unit .place) (M .is) ∙ interned .place
+
+            conversion-made : (warned : ℕ) → length w₂ ≡ length w → ConversionIn main supplementary w₂ made (record { table = t′; count = 0; warned = warned })
+            unfolding made
+            conversion-made warned last =
+                let i : Indexed = record { table = tableOf main supplementary w₂ t′; indices = indicesIn w₂ is } in
+                let base = interned .grown .base in
+                let room = interned .grown .room in
+                let below = B .room .table in
+                let d = interned .directories in
+                let m = interned .map in
+                let all = interned-room in
+                let most = B .room .room in
+                record {
+                  placed = rw (interned .place) stands;
+                  files = interned .grown .holds;
+                  unit = interned .described;
+                  listed = rw (interned .place) (unit-listed (B .placed) (B .unit) supplementary (B .header));
+                  zero = M .zero;
+                  unnamed = rw (interned .place) (record { unnamed = unnamed (unitHere main p) (headerHere main p) (tableOf main supplementary w t) i files-are });
+                  all = rw (interned .place) (map-length ∙ indices-length (unitHere main p) (headerHere main p) (tableOf main supplementary w t) i files-are);
+                  table = omega arith;
+                  offsets = omega arith;
+                  directories = omega arith;
+                  indices = omega arith;
+                  lines = omega arith;
+                }
+
+            pub conversion-in : (warned : ℕ) → length w₂ ≡ length w → ConversionIn main supplementary w₂ cv (record { table = t′; count = 0; warned = warned })
+            unfolding made
+            conversion-in warned last = subst (λ (x : Conversion). ConversionIn main supplementary w₂ x (record { table = t′; count = 0; warned = warned })) (sym (M .is)) (conversion-made warned last)
+
+            pub conversion-counted : countRows (rowsFrom main (cv .unit .place + 21)) 0 0 0 ≡ done (record { lines = n; sequences = m })
+            conversion-counted = rw place-is (B .counted)
+
+            pub conversion-fits : length w₂ ≡ length w → cv .lines + 50 * length (rowsFrom main (cv .unit .place + 21)) + 16 ≤ length w₂
+            conversion-fits last =
+                let l : cv .lines ≡ is .base + is .count * 5 = ap (λ (x : Conversion). x .lines) (M .is) in
+                let all = interned-room in
+                let most = B .room .room in
+                rw place-is (omega arith)
+
+            offsets-kept : offsetsAt w₂ free k ≡ offsetsAt w₁ free k
+            offsets-kept = let below = B .room .table in records-but le 8 free k (I .rest) (inr (omega arith), (inl (omega arith), tt))
+
+            end-is : (x : Outcome Collected) → ((run : Run) → runRows (rowsFrom main (u .place + 21)) 0 [] ≡ done run → finishFrom main supplementary w₂ made t′ run ≡ x)
+                → collectLines (unitHere main p) program (tableOf main supplementary w t) ≡ x
+            unfolding made
+            end-is x f =
+                collects-end (unitHere main p) program (tableOf main supplementary w t) (headerHere main p) (header-there (B .header)) (run-counted .run) run-is (offsetsAt w₁ free k) offsets-are
+                (record { table = tableOf main supplementary w₂ t′; indices = indicesIn w₂ is }) files-are x
+                (rw (interned .place, offsets-kept) at (f (run-counted .run) (rw (interned .place) (run-counted .is))))
+
+            by-end : (w₃ files₂ warnings warnings′ : List ℕ) (warned : ℕ) (r₃ : CollectedLines) → FinishesBy main supplementary w₂ w₃ files₁ files₂ warnings warnings′ made t′ warned r₃
+                → CollectsBy main supplementary program w w₃ files files₂ warnings warnings′ p t warned free r₃
+            unfolding made
+            by-end w₃ files₂ warnings warnings′ warned (CollectedLines.Refused f) E = end-is (refused f) E
+            by-end w₃ files₂ warnings warnings′ warned (CollectedLines.Lines l is′ t″ warned′) E =
+                let base = interned .grown .base in
+                let room = interned .grown .room in
+                let few = offsets-few in
+                let fits = interned-room in
+                let below = B .room .table in
+                let map : is .base ≡ free + k * 8 + u .«directory_count» * 8 = interned .map in
+                let eb : is′ .base ≡ is .base = ap (λ (x : StoredIndices). x .base) (E .map) in
+                let ec : is′ .count ≡ is .count = ap (λ (x : StoredIndices). x .count) (E .map) in
+                let from = E .from in
+                let within = rw (interned .place) at (E .within) in
+                let unit : free + k * 8 + unitExtent main p ≤ free + linesExtent main p program = unit-fits in
+                let rest = rw (interned .place) at (E .rest) in
+                let all : List (ℕ × ℕ) = (t .base, extent t) ∷ (free, linesExtent main p program) ∷ [] in
+                record {
+                  new = E .new;
+                  collected = end-is _ (E .finished);
+                  grown = grown-after (B .files) (but-one (S .rest)) (inl (B .room .table), tt) (grown-trans (interned .grown) (E .grown));
+                  put = E .put;
+                  rows = E .rows;
+                  from = omega arith;
+                  indices = omega arith;
+                  sequences = E .sequences;
+                  within = omega arith;
+                  rest =
+                      but-trans (but-of (S .rest) (there (here (omega arith) scanned-fits)))
+                      (but-trans (but-wide all (I .rest) (here (omega arith) (omega arith), (there (here (omega arith) (omega arith)), tt)))
+                      (but-wide all rest (here (omega arith) (omega arith), (there (here (omega arith) (omega arith)), (there (here (omega arith) (omega arith)), tt)))));
+                }
+
+            pub collected-end : {w₃ files₂ warnings warnings′ : List ℕ} {warned : ℕ} {r₃ : CollectedLines} → FinishesLines main supplementary w₂ w₃ files₁ files₂ warnings warnings′ cv t′ warned r₃
+                → CollectsLines main supplementary program w w₃ files files₂ warnings warnings′ p t warned free r₃
+            unfolding made
+            collected-end {w₃} {files₂} {warnings} {warnings′} {warned} {r₃} E = record {
+              is = by-end w₃ files₂ warnings warnings′ warned r₃ (subst (λ (x : Conversion). FinishesBy main supplementary w₂ w₃ files₁ files₂ warnings warnings′ x t′ warned r₃) (M .is) (E .is));
+            }

@@ -1,0 +1,17 @@
+pub mod RunLaws
+pub mod PrefixLaws
+pub mod RowsFromLaws
+pub mod CountLaws
+pub mod SequencesLaws
+pub mod FrameLaws
+pub mod HeaderPlaces
+pub mod UnitInternLaws
+pub mod StoreLaws
+pub mod FinishLaws
+pub mod CollectSteps
+pub mod CollectLaws
+pub mod SoughtLaws
+pub mod LineLaws
+pub mod ConvertLaws
+pub mod ZeroRowLaws
+pub mod ConvertingLaws

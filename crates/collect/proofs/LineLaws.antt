@@ -1,0 +1,73 @@
+-- A row whose file has a number: its line, or the warning that its line is past 32 bits. Assumes nothing.
+use mathlib.Core.Path.{_≡_, refl}
+use mathlib.Core.List.{List, [], _∷_, _++_, append-nil}
+use Prim.Native.Nat.{ℕ, _+_, _*_, _≤_, _<_, _^_}
+use native.Mathlib.Omega.{arith}
+use lib.ListN.{length}
+use borrow.Author.Tests.{lt-ltb, le-ltb}
+use Rattle.tlv.specs.declared.model.FileIndex.{FileIndex}
+use Rattle.tlv.specs.Lists.{at}
+use Rattle.tlv.specs.Bytes.{bytesOf, leAt}
+use Rattle.tlv.specs.Buffer.{top, Put}
+use Rattle.tlv.specs.Fields.{encode}
+use Rattle.tlv.specs.Model.{rowOf}
+use Rattle.tlv.specs.Table.{chunk}
+use Rattle.tlv.specs.Output.{WarningKind, unrepresentableLine, about, kindNumber, warningPayload, eachOf, warningsBytes}
+use Rattle.tlv.proofs.BufferLaws.{put-none, put-as}
+use Rattle.tlv.proofs.ChunkLaws.{leAt-chunk, leAt-front}
+use Rattle.tlv.proofs.OutputLaws.{put-about}
+use Rattle.tlv.proofs.TableLaws.{kept-refl}
+use Rattle.lines.specs.Lines.{rawLine, convertLine}
+use Rattle.rows.specs.declared.line.StatementSequence.{StatementSequence}
+use Rattle.rows.specs.Stored.{sequenceOf, PutLine}
+use Rattle.rows.proofs.StoredLaws.{lines-push}
+use Rattle.collect.specs.declared.convert.Conversion.{Conversion}
+use Rattle.collect.specs.declared.convert.Converting.{Converting}
+use Rattle.collect.specs.declared.convert.Row.{Row}
+use Rattle.collect.specs.Converts.{offsetsOf, rawOf, LineConverted}
+
+-- ---- warnings
+
+pub none-put : {at : ℕ} {t : List ℕ} → at ≤ top → length t < top → Put at (warningsBytes []) t t at
+unfolding warningsBytes eachOf
+none-put h k = put-none h k
+
+pub about-put : (k : WarningKind) (kind first second : ℕ) → kind ≡ kindNumber k → {at r : ℕ} {t t′ : List ℕ} → Put at (encode 0x46 ((kind ∷ []) ++ bytesOf 8 first ++ bytesOf 8 second)) t t′ r
+    → Put at (warningsBytes (about k first second ∷ [])) t t′ r
+unfolding warningsBytes eachOf
+about-put k kind first second e P = put-as (append-nil (encode 0x46 (warningPayload (about k first second)))) (put-about k kind first second e P)
+
+-- ---- the line
+
+module _ {w : List ℕ} {c : Conversion} {st : Converting} {r : Row} {file : FileIndex} where
+  pub line-put : {w′ warnings : List ℕ} {o : StatementSequence} → r .line < 4294967296 → sequenceOf o ≡ at (offsetsOf w c) (r .sequence)
+      → PutLine w w′ (c .lines + st .count * 25) (record { address = r .address; file = file; line = r .line }) o → st .warned ≤ top → length warnings < top
+      → LineConverted w w′ warnings warnings c st r file (record { table = st .table; count = st .count + 1; warned = st .warned })
+  unfolding convertLine
+  line-put h e P fits small = record {
+    new = [];
+    is = λ table indices. rw (lt-ltb (r .line) (2 ^ 32) h, lines-push (c .lines) (st .count) P, e);
+    put = none-put fits small;
+    table-same = refl;
+    more = (omega arith, omega arith);
+    rest = P .rest;
+  }
+
+  pub line-warned : {warnings warnings′ : List ℕ} {n : ℕ} → 4294967296 ≤ r .line → Put (st .warned) (encode 0x46 ((7 ∷ []) ++ bytesOf 8 (r .address) ++ bytesOf 8 (r .line))) warnings warnings′ n
+      → LineConverted w w warnings warnings′ c st r file (record { table = st .table; count = st .count; warned = n })
+  unfolding convertLine kindNumber
+  line-warned h P = record {
+    new = about unrepresentableLine (r .address) (r .line) ∷ [];
+    is = λ table indices. rw (le-ltb (r .line) (2 ^ 32) h);
+    put = about-put unrepresentableLine 7 (r .address) (r .line) refl P;
+    table-same = refl;
+    more = (omega arith, omega arith);
+    rest = kept-refl w (c .lines + st .count * 25) 25;
+  }
+
+-- ---- a row of the sheet
+
+pub row-read : (s : List ℕ) (start a f l n : ℕ) → a ≡ leAt 8 s start → f ≡ leAt 8 s (start + 8) → l ≡ leAt 8 s (start + 16)
+    → rawOf (record { address = a; file = record { 0 = f }; line = l; sequence = n }) ≡ rawLine (rowOf (chunk s start 25)) n
+unfolding rowOf
+row-read s start a f l n ea ef el = rw (leAt-front 8 s start 25 (omega arith), leAt-chunk 8 s start 25 8 (omega arith), leAt-chunk 8 s start 25 16 (omega arith), ea, ef, el)

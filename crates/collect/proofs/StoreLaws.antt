@@ -1,0 +1,60 @@
+-- A unit's lines are stored: its sequences behind its lines, and these sorted and freed of equal neighbours. Assumes nothing.
+use mathlib.Core.Path.{_≡_, refl, sym, ap, _∙_}
+use mathlib.Core.Logic.{inl, inr}
+use mathlib.Core.List.{List}
+use mathlib.Core.Option.{none}
+use Prim.Native.Nat.{ℕ, _+_, _*_, _≤_}
+use native.Mathlib.Omega.{arith}
+use lib.ListN.{length, length-map}
+use Rattle.tlv.specs.Table.{Apart}
+use Rattle.tlv.proofs.TableLaws.{here, kept-wide, kept-trans}
+use Rattle.tlv.proofs.RecordLaws.{records-but}
+use Rattle.lines.specs.Lines.{sortRows, sameRow, dropNeighbours}
+use Rattle.rows.specs.Stored.{linesOf, rangeOf, rangesOf}
+use Rattle.rows.specs.Sorts.{SortedRows, Deduped}
+use Rattle.rows.proofs.StoredLaws.{lines-kept, ranges-length, ranges-kept}
+use Rattle.rows.proofs.SortLaws.{sort-sorted, neighbours-sorted}
+use Rattle.collect.specs.Passes.{rowsFrom, sequencesFrom, offsetsAt, withOffset, SequencesIn}
+use Rattle.collect.specs.Stages.{StoresLines}
+use Rattle.collect.proofs.FrameLaws.{kept-one}
+
+module _ {main w w₁ : List ℕ} {p offsets n m : ℕ} (lines count : ℕ) (S : SequencesIn main w w₁ p offsets n (lines + count * 25) m) where
+  pub sequences-counted : m ≡ length (sequencesFrom (rowsFrom main p) 0 none)
+  sequences-counted = sym (ranges-length w₁ (lines + count * 25) m) ∙ ap length (S .is) ∙ length-map (sequencesFrom (rowsFrom main p) 0 none) (withOffset (offsetsAt w offsets n))
+
+  pub buffer-apart : Apart lines (count * 25) (lines + count * 25 + m * 25) (count * 25)
+  buffer-apart = inl (omega arith)
+
+  module _ {w₂ w₃ : List ℕ} {r : ℕ} (T : SortedRows w₁ w₂ lines (lines + count * 25 + m * 25) count) (D : Deduped w₂ w₃ lines count r) where
+    entries-are : linesOf w₃ lines r ≡ dropNeighbours sameRow (sortRows (linesOf w lines count))
+    entries-are = D .rows ∙ ap (dropNeighbours sameRow) (T .rows ∙ ap sortRows (lines-kept lines count (S .rest) (inl (omega arith))))
+
+    ranges-are : rangesOf w₃ (lines + count * 25) m ≡ rangesOf w₁ (lines + count * 25) m
+    unfolding rangesOf
+    ranges-are =
+        ranges-kept (lines + count * 25) m (D .rest) (inr (omega arith))
+        ∙ records-but rangeOf 25 (lines + count * 25) m (T .rest) (inr (omega arith), (inl (omega arith), tt))
+
+    pub stored-lines : lines + count * 50 + 25 * length (sequencesFrom (rowsFrom main p) 0 none) + 16 ≤ length w → length w₃ ≡ length w
+        → StoresLines main w w₃ p offsets n lines count (record { lines = lines; «line_count» = r; sequences = lines + count * 25; «sequence_count» = m; buffer = lines + count * 25 + m * 25 })
+    stored-lines room size =
+        let k = sequences-counted in
+        let few = D .within in
+        let all = count * 50 + 25 * length (sequencesFrom (rowsFrom main p) 0 none) + 16 in
+        record {
+          from = refl;
+          entries = entries-are;
+          ranges = ranges-are ∙ S .is;
+          rows = record {
+            lines = omega arith;
+            sequences = omega arith;
+            buffer = omega arith;
+            sorted = rw entries-are (neighbours-sorted sameRow 0 (sortRows (linesOf w lines count)) (sort-sorted (linesOf w lines count)));
+          };
+          sequences = omega arith;
+          within = omega arith;
+          rest =
+              kept-trans (kept-wide lines all (S .rest) (omega arith) (omega arith))
+              (kept-trans (kept-one lines all (T .rest) (here (omega arith) (omega arith), (here (omega arith) (omega arith), tt)))
+              (kept-wide lines all (D .rest) (omega arith) (omega arith)));
+        }

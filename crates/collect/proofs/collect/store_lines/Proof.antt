@@ -1,0 +1,58 @@
+-- `collect::store_lines` meets its contract: the sequences stand behind the lines, which are sorted and freed of equal neighbours. Assumes nothing.
+use native.Mathlib.Omega.{arith}
+use borrow.Author.Needs.{needs}
+use Rattle.collect.proofs.StoreLaws.{sequences-counted, buffer-apart, stored-lines}
+use Rattle.collect.proofs.collect.store_lines.Statement.{statement}
+use Rattle.collect.proofs.collect.store_lines.Tie as tie
+
+mul-sequences : tie.Need-mul-sequences
+mul-sequences c = search needs
+
+add-sequences : tie.Need-add-sequences
+add-sequences c = search needs
+
+collect-sequences-requires : tie.Need-collect-sequences-requires
+collect-sequences-requires c κs = search needs
+
+mul-buffer : tie.Need-mul-buffer
+mul-buffer c =
+    let a = c .before .before .before .before .before .before .args in
+    let k = sequences-counted (a .lines) (a .count) (c .before .before .collect-sequences .ensures) in
+    omega arith
+
+add-buffer : tie.Need-add-buffer
+add-buffer c =
+    let a = c .before .before .before .before .before .before .args in
+    let k = sequences-counted (a .lines) (a .count) (c .before .before .collect-sequences .ensures) in
+    omega arith
+
+sort-rows-requires : tie.Need-sort-rows-requires
+sort-rows-requires c κs =
+    let a = c .before .before .before .before .before .before .before .args in
+    let k = sequences-counted (a .lines) (a .count) (c .before .before .before .collect-sequences .ensures) in
+    (omega arith, (omega arith, buffer-apart (a .lines) (a .count) (c .before .before .before .collect-sequences .ensures)))
+
+dedup-rows-requires : tie.Need-dedup-rows-requires
+dedup-rows-requires c κs = search needs
+
+same-length : tie.Need-same-length
+same-length c = search needs
+
+returns : tie.Need-returns
+returns c =
+    let S = c .before .before .before .before .before .before .before .before .before .before .before .before .before .before in
+    stored-lines (S .args .lines) (S .args .count) (c .before .before .before .before .before .before .before .before .before .before .collect-sequences .ensures) (c .before .before .before .before .before .before .sort-rows .ensures) (c .before .before .dedup-rows .ensures) (S .pre .1 .1) (omega arith)
+
+pub store-lines-spec : {M : Type 1} → statement M
+store-lines-spec =
+    tie.close
+    (tie.spec
+    mul-sequences
+    add-sequences
+    collect-sequences-requires
+    mul-buffer
+    add-buffer
+    sort-rows-requires
+    dedup-rows-requires
+    same-length
+    returns)

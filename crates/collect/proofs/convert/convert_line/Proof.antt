@@ -1,0 +1,57 @@
+-- `convert::convert_line` meets its contract. Assumes nothing.
+use native.Mathlib.Omega.{arith}
+use borrow.Author.Needs.{needs}
+use Rattle.collect.proofs.LineLaws.{line-put, line-warned}
+use Rattle.collect.proofs.convert.convert_line.Statement.{statement}
+use Rattle.collect.proofs.convert.convert_line.Tie as tie
+
+sequence-offset-requires : tie.Need-sequence-offset-requires
+sequence-offset-requires c κs = search needs
+
+cast-t17 : tie.Need-cast-t17
+cast-t17 c = search needs
+
+mul-put-line : tie.Need-mul-put-line
+mul-put-line c = search needs
+
+add-put-line : tie.Need-add-put-line
+add-put-line c = search needs
+
+put-line-requires : tie.Need-put-line-requires
+put-line-requires c κs = search needs
+
+add-t21 : tie.Need-add-t21
+add-t21 c = search needs
+
+same-length : tie.Need-same-length
+same-length c = search needs
+
+returns : tie.Need-returns
+returns c =
+    let S = c .before .before .before .before .before .before .before .before .before .before .before in
+    line-put (c .before .before .before .before .before .before .before .if1 .taken) (c .before .before .before .before .before .sequence-offset .ensures) (c .before .before .put-line .ensures) (let g = S .good .1 .1 .1 .1 .1 .0 in omega arith) (omega arith)
+
+put-warning-requires : tie.Need-put-warning-requires
+put-warning-requires c κs = search needs
+
+same-length-2 : tie.Need-same-length-2
+same-length-2 c = search needs
+
+returns-2 : tie.Need-returns-2
+returns-2 c = line-warned (c .before .before .before .before .if1 .left) (c .before .before .put-warning .ensures)
+
+pub convert-line-spec : {M : Type 1} → statement M
+convert-line-spec =
+    tie.close
+    (tie.spec
+    sequence-offset-requires
+    cast-t17
+    mul-put-line
+    add-put-line
+    put-line-requires
+    add-t21
+    same-length
+    returns
+    put-warning-requires
+    same-length-2
+    returns-2)

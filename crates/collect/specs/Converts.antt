@@ -1,0 +1,142 @@
+-- What the conversion of a row promises: the file of a row, its line and its sequence. Assumes nothing.
+use Prim.Native.Nat.{ℕ, _+_, _*_, _≤_}
+use mathlib.Core.Path.{_≡_}
+use mathlib.Core.Bool.{true, cond}
+use mathlib.Core.Logic.{_⊎_}
+use mathlib.Core.List.{List, [], _∷_}
+use mathlib.Core.Option.{none, some}
+use lib.Dec.{leb, ltb, eqb}
+use lib.ListN.{length}
+use Rattle.tlv.specs.declared.access.Own.{Own}
+use Rattle.tlv.specs.declared.model.FileIndex.{FileIndex}
+use Rattle.tlv.specs.Outcome.{refused, done}
+use Rattle.tlv.specs.Buffer.{Put}
+use Rattle.tlv.specs.Table.{Kept, KeptBut}
+use Rattle.tlv.specs.Access.{NextOwn}
+use Rattle.tlv.specs.Model.{CompilationUnit, LineHeader, HeaderFile}
+use Rattle.tlv.specs.Places.{unitHere}
+use Rattle.tlv.specs.Output.{Warning, warningsBytes}
+use Rattle.lines.specs.Paths.{fileEntry}
+use Rattle.lines.specs.Files.{FileTable, FileIndices, get, headerFile}
+use Rattle.lines.specs.Lines.{RawLine, Converted, convertLine, convertRow}
+use Rattle.rows.specs.Stored.{linesOf}
+use Rattle.files.specs.Pieces.{headerHere, UnitPlaced, FileUnitIn}
+use Rattle.files.specs.Store.{extent, tableOf, FilesIn, Grown}
+use Rattle.files.specs.Indices.{indicesIn}
+use Rattle.files.specs.Interns.{Listed}
+use Rattle.collect.specs.declared.convert.Conversion.{Conversion}
+use Rattle.collect.specs.declared.convert.Converting.{Converting}
+use Rattle.collect.specs.declared.convert.ConvertedRow.{ConvertedRow}
+use Rattle.collect.specs.declared.convert.Row.{Row}
+use Rattle.collect.specs.declared.convert.SoughtFile.{SoughtFile}
+use Rattle.collect.specs.Passes.{rowsFrom, offsetsAt, convertFrom}
+
+abbrev pub unitAt : List ℕ → Conversion → CompilationUnit
+unitAt main c = unitHere main (c .unit .place)
+
+abbrev pub headerOf : List ℕ → Conversion → LineHeader
+headerOf main c = headerHere main (c .unit .place)
+
+-- the offsets of the unit's sequences
+abbrev pub offsetsOf : List ℕ → Conversion → List ℕ
+offsetsOf w c = offsetsAt w (c .offsets) (c .«offset_count»)
+
+-- where a number of the header has no number of the table, its file has no path; but for file 0 before version 5, which may not have been looked at
+pub record Unnamed (u : CompilationUnit) (h : LineHeader) (is : FileIndices) : Type 0 where
+  pub unnamed : (n : ℕ) (f : HeaderFile) → get is n ≡ none → headerFile u h n ≡ some f → ((n ≡ 0) × (leb (h .version) 4 ≡ true)) ⊎ (fileEntry u h f ≡ done none)
+
+-- what has become of the rows so far stands in w, without the warnings
+unfoldable pub convertedIn : List ℕ → List ℕ → List ℕ → Conversion → Converting → List Warning → Converted
+convertedIn main supplementary w c st warnings = record {
+  table = tableOf main supplementary w (st .table);
+  indices = indicesIn w (c .indices);
+  lines = linesOf w (c .lines) (st .count);
+  warnings = warnings;
+}
+
+-- the file table, the sequences' offsets, the directories' spans, the unit's map and its lines stand one above the other in w, and the unit is described there
+pub record ConversionIn (main supplementary w : List ℕ) (c : Conversion) (st : Converting) : Type 0 where
+  pub placed : UnitPlaced main (c .unit .place)
+  pub files : FilesIn main supplementary w (st .table)
+  pub unit : FileUnitIn main w (c .unit)
+  pub listed : Listed main supplementary (unitAt main c) (headerOf main c)
+  pub zero : NextOwn main (c .unit .place + 21) 0x1c (c .zero)
+  pub unnamed : Unnamed (unitAt main c) (headerOf main c) (indicesIn w (c .indices))
+  pub all : c .indices .count ≡ cond (leb (headerOf main c .version) 4) 1 0 + length (unitAt main c .files)
+  pub table : st .table .base + extent (st .table) ≤ c .offsets
+  pub offsets : c .offsets + c .«offset_count» * 8 ≤ c .unit .directories
+  pub directories : c .unit .directories + c .unit .«directory_count» * 8 ≤ c .indices .base
+  pub indices : c .indices .base + c .indices .count * 5 ≤ c .lines
+  pub lines : c .lines + st .count * 25 ≤ length w
+
+-- a row of the sheet, with the number of its sequence
+abbrev pub rawOf : Row → RawLine
+rawOf r = record { address = r .address; file = r .file .0; line = r .line; sequence = r .sequence }
+
+-- ---- the file of a row that the unit's map has no number for
+
+-- what the field of file 0 before version 5 says
+abbrev pub zeroOf : Own → SoughtFile
+zeroOf (Own.Field start len next) = SoughtFile.Zero (record { start = start; len = len })
+zeroOf Own.Missing = SoughtFile.Missing
+
+-- a number of the map is one that the header lists
+abbrev pub listedOf : ℕ → ℕ → SoughtFile
+listedOf count n = cond (ltb n count) SoughtFile.Unnamed SoughtFile.Missing
+
+unfoldable pub soughtOf : Conversion → ℕ → SoughtFile
+soughtOf c n = cond (leb (c .unit .version) 4) (cond (eqb n 0) (zeroOf (c .zero)) (listedOf (c .indices .count) n)) (listedOf (c .indices .count) n)
+
+-- ---- a row whose file has a number
+
+-- the lines so far with a table and a map, and the warnings
+abbrev pub linedIn : List ℕ → Conversion → ℕ → FileTable → FileIndices → List Warning → Converted
+linedIn w c count table indices warnings = record { table = table; indices = indices; lines = linesOf w (c .lines) count; warnings = warnings }
+
+pub record LineConverted (w w′ warnings warnings′ : List ℕ) (c : Conversion) (st : Converting) (r : Row) (file : FileIndex) (st′ : Converting) : Type 0 where
+  pub new : List Warning
+  pub is : (table : FileTable) (indices : FileIndices) → convertLine (offsetsOf w c) (rawOf r) file (linedIn w c (st .count) table indices []) ≡ linedIn w′ c (st′ .count) table indices new
+  pub put : Put (st .warned) (warningsBytes new) warnings warnings′ (st′ .warned)
+  pub table-same : st′ .table ≡ st .table
+  pub more : (st .count ≤ st′ .count) × (st′ .count ≤ st .count + 1)
+  pub rest : Kept w w′ (c .lines + st .count * 25) 25
+
+-- ---- a row
+
+-- the state after a row, with its warnings written
+pub record RowConverted (main supplementary w w′ files files′ warnings warnings′ : List ℕ) (c : Conversion) (st : Converting) (r : Row) (st′ : Converting) : Type 0 where
+  pub new : List Warning
+  pub is : convertRow (unitAt main c) (headerOf main c) (offsetsOf w c) (rawOf r) (convertedIn main supplementary w c st []) ≡ done (convertedIn main supplementary w′ c st′ new)
+  pub grown : Grown main supplementary w w′ files files′ (st .table) (st′ .table)
+  pub put : Put (st .warned) (warningsBytes new) warnings warnings′ (st′ .warned)
+  pub holds : ConversionIn main supplementary w′ c st′
+  pub more : (st .count ≤ st′ .count) × (st′ .count ≤ st .count + 1)
+  pub rest : KeptBut w w′ ((st .table .base, extent (st .table)) ∷ (c .indices .base, c .indices .count * 5) ∷ (c .lines + st .count * 25, 25) ∷ [])
+
+abbrev pub ConvertsRow : List ℕ → List ℕ → List ℕ → List ℕ → List ℕ → List ℕ → List ℕ → List ℕ → Conversion → Converting → Row → ConvertedRow → Type 0
+ConvertsRow main supplementary w w′ files files′ warnings warnings′ c st r (ConvertedRow.Refused n) =
+    convertRow (unitAt main c) (headerOf main c) (offsetsOf w c) (rawOf r) (convertedIn main supplementary w c st []) ≡ refused n
+ConvertsRow main supplementary w w′ files files′ warnings warnings′ c st r (ConvertedRow.Next st′) =
+    RowConverted main supplementary w w′ files files′ warnings warnings′ c st r st′
+
+pub record RowConverts (main supplementary w w′ files files′ warnings warnings′ : List ℕ) (c : Conversion) (st : Converting) (row : Row) (r : ConvertedRow) : Type 0 where
+  pub is : ConvertsRow main supplementary w w′ files files′ warnings warnings′ c st row r
+
+-- the same of `left` rows of the unit, from its first on
+pub record RowsConverted (main supplementary w w′ files files′ warnings warnings′ : List ℕ) (c : Conversion) (st : Converting) (left : ℕ) (st′ : Converting) : Type 0 where
+  pub new : List Warning
+  pub is : convertFrom (unitAt main c) (headerOf main c) (offsetsOf w c) (rowsFrom main (c .unit .place + 21)) 0 left (convertedIn main supplementary w c st []) ≡ done (convertedIn main supplementary w′ c st′ new)
+  pub grown : Grown main supplementary w w′ files files′ (st .table) (st′ .table)
+  pub put : Put (st .warned) (warningsBytes new) warnings warnings′ (st′ .warned)
+  pub holds : ConversionIn main supplementary w′ c st′
+  pub more : st′ .count ≤ st .count + left
+  pub rest : KeptBut w w′ ((st .table .base, extent (st .table)) ∷ (c .indices .base, c .indices .count * 5) ∷ (c .lines + st .count * 25, left * 25) ∷ [])
+
+abbrev pub ConvertsRows : List ℕ → List ℕ → List ℕ → List ℕ → List ℕ → List ℕ → List ℕ → List ℕ → Conversion → Converting → ℕ → ConvertedRow → Type 0
+ConvertsRows main supplementary w w′ files files′ warnings warnings′ c st left (ConvertedRow.Refused n) =
+    convertFrom (unitAt main c) (headerOf main c) (offsetsOf w c) (rowsFrom main (c .unit .place + 21)) 0 left (convertedIn main supplementary w c st []) ≡ refused n
+ConvertsRows main supplementary w w′ files files′ warnings warnings′ c st left (ConvertedRow.Next st′) =
+    RowsConverted main supplementary w w′ files files′ warnings warnings′ c st left st′
+
+pub record RowsConvert (main supplementary w w′ files files′ warnings warnings′ : List ℕ) (c : Conversion) (st : Converting) (left : ℕ) (r : ConvertedRow) : Type 0 where
+  pub is : ConvertsRows main supplementary w w′ files files′ warnings warnings′ c st left r

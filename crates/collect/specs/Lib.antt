@@ -1,0 +1,4 @@
+pub mod Passes
+pub mod Converts
+pub mod Collects
+pub mod Stages

@@ -1,0 +1,146 @@
+-- What the steps of collect_lines promise, each of what stands in the work slice before and after it. Assumes nothing.
+use Prim.Native.Nat.{ℕ, _+_, _*_, _≤_}
+use mathlib.Core.Path.{_≡_}
+use mathlib.Core.List.{List, [], _∷_, map}
+use mathlib.Core.Option.{none, some}
+use lib.ListN.{length, take, drop}
+use Rattle.tlv.specs.Outcome.{Outcome, refused, done, _>>=_}
+use Rattle.tlv.specs.Bytes.{leAt}
+use Rattle.tlv.specs.Buffer.{Put}
+use Rattle.tlv.specs.Table.{Kept, KeptBut}
+use Rattle.tlv.specs.Checked.{Placed}
+use Rattle.tlv.specs.Access.{NextOwn}
+use Rattle.tlv.specs.Model.{CompilationUnit, LineHeader, headerOf}
+use Rattle.tlv.specs.Places.{unitHere}
+use Rattle.tlv.specs.Output.{Warning, warningsBytes}
+use Rattle.lines.specs.declared.lines.Header.{Header}
+use Rattle.lines.specs.Files.{FileTable, FileIndices, Indexed, internHeaderFiles}
+use Rattle.lines.specs.Lines.{Run, runRows, convertRows, sortRows, sameRow, dropNeighbours, Collected, mismatch, unitLines}
+use Rattle.rows.specs.declared.«unit_lines».StoredLines.{StoredLines}
+use Rattle.rows.specs.Stored.{linesOf, rangesOf}
+use Rattle.rows.specs.Selects.{RowsIn}
+use Rattle.files.specs.declared.index.StoredIndices.{StoredIndices}
+use Rattle.files.specs.declared.pieces.FileUnit.{FileUnit}
+use Rattle.files.specs.declared.store.StoredFiles.{StoredFiles}
+use Rattle.files.specs.Pieces.{headerHere, FileUnitIn}
+use Rattle.files.specs.Store.{extent, tableOf, FilesIn, Grown}
+use Rattle.files.specs.Indices.{indicesIn}
+use Rattle.collect.specs.declared.collect.CollectedLines.{CollectedLines}
+use Rattle.collect.specs.declared.collect.InternedUnit.{InternedUnit}
+use Rattle.collect.specs.declared.convert.Conversion.{Conversion}
+use Rattle.collect.specs.Passes.{rowsFrom, countRows, sequencesFrom, offsetsAt, withOffset}
+use Rattle.collect.specs.Converts.{unitAt, offsetsOf, headerOf as headerAt}
+use Rattle.collect.specs.Collects.{UnitIn, LinesRoom, linesIn}
+
+-- ---- the header
+
+-- the numbers of the header whose payload starts at a place
+pub record HeaderRead (s : List ℕ) (start : ℕ) (r : Header) : Type 0 where
+  pub offset : r .offset ≡ leAt 8 s start
+  pub header-length : r .«header_length» ≡ leAt 8 s (start + 8)
+  pub version : r .version ≡ leAt 1 s (start + 16)
+  pub word-size : r .«word_size» ≡ leAt 1 s (start + 17)
+  pub opcode-base : r .«opcode_base» ≡ leAt 1 s (start + 18)
+
+-- the unit at place p has a header, whose payload is the len bytes from `start` on
+pub record HeaderIn (s : List ℕ) (p start len : ℕ) : Type 0 where
+  pub is : unitHere s p .header ≡ some (headerOf (take len (drop start s)))
+  pub long : 19 ≤ len
+  pub within : start + len ≤ length s
+
+-- a unit with a header, whose rows were counted, the file table, and room for the unit's lines
+pub record UnitCounted (main supplementary program w : List ℕ) (t : StoredFiles) (p start len n m free : ℕ) : Type 0 where
+  pub placed : Placed main 0
+  pub unit : UnitIn main p
+  pub header : HeaderIn main p start len
+  pub counted : countRows (rowsFrom main (p + 21)) 0 0 0 ≡ done (record { lines = n; sequences = m })
+  pub files : FilesIn main supplementary w t
+  pub room : LinesRoom main w program t p free
+
+-- ---- the unit's files
+
+-- how many bytes the unit's directories and its map may take
+abbrev pub unitExtent : List ℕ → ℕ → ℕ
+unitExtent main p = 8 * length (unitHere main p .directories) + 5 * (1 + length (unitHere main p .files))
+
+-- the file table stands below base, and the unit's directories and its map have room from there on
+pub record UnitRoom (main w : List ℕ) (t : StoredFiles) (p base : ℕ) : Type 0 where
+  pub table : t .base + extent t ≤ base
+  pub room : base + unitExtent main p ≤ length w
+
+abbrev pub internedOf : List ℕ → List ℕ → List ℕ → InternedUnit → Outcome Indexed
+internedOf main supplementary w (InternedUnit.Refused n) = refused n
+internedOf main supplementary w (InternedUnit.Unit unit indices t) = done (record { table = tableOf main supplementary w t; indices = indicesIn w indices })
+
+-- the unit at p is described at base, and its map stands behind its directories
+pub record UnitInterned (main supplementary w w′ files files′ : List ℕ) (p : ℕ) (t : StoredFiles) (base : ℕ) (unit : FileUnit) (indices : StoredIndices) (t′ : StoredFiles) : Type 0 where
+  pub grown : Grown main supplementary w w′ files files′ t t′
+  pub described : FileUnitIn main w′ unit
+  pub place : unit .place ≡ p
+  pub directories : unit .directories ≡ base
+  pub count : unit .«directory_count» ≡ length (unitHere main p .directories)
+  pub map : indices .base ≡ base + unit .«directory_count» * 8
+  pub few : indices .count ≤ 1 + length (unitHere main p .files)
+
+abbrev pub InternedAfter : List ℕ → List ℕ → List ℕ → List ℕ → List ℕ → List ℕ → ℕ → StoredFiles → ℕ → InternedUnit → Type 0
+InternedAfter main supplementary w w′ files files′ p t base (InternedUnit.Refused n) = Unit
+InternedAfter main supplementary w w′ files files′ p t base (InternedUnit.Unit unit indices t′) = UnitInterned main supplementary w w′ files files′ p t base unit indices t′
+
+pub record InternsUnit (main supplementary w w′ files files′ : List ℕ) (p : ℕ) (t : StoredFiles) (base : ℕ) (r : InternedUnit) : Type 0 where
+  pub is : internedOf main supplementary w′ r ≡ internHeaderFiles (unitHere main p) (headerHere main p) (tableOf main supplementary w t)
+  pub after : InternedAfter main supplementary w w′ files files′ p t base r
+  pub rest : KeptBut w w′ ((t .base, extent t) ∷ (base, unitExtent main p) ∷ [])
+
+-- ---- the unit's rows
+
+-- a unit's conversion, with its lines behind its map
+pub record ConversionOf (main : List ℕ) (unit : FileUnit) (indices : StoredIndices) (offsets count : ℕ) (r : Conversion) : Type 0 where
+  pub is : r ≡ record { unit = unit; zero = r .zero; indices = indices; offsets = offsets; «offset_count» = count; lines = indices .base + indices .count * 5 }
+  pub zero : NextOwn main (unit .place + 21) 0x1c (r .zero)
+
+-- the sequences of the unit whose fields follow place p were written behind its `count` lines, and these sorted and freed of equal neighbours
+pub record StoresLines (main w w′ : List ℕ) (p offsets n lines count : ℕ) (r : StoredLines) : Type 0 where
+  pub from : r .lines ≡ lines
+  pub entries : linesOf w′ (r .lines) (r .«line_count») ≡ dropNeighbours sameRow (sortRows (linesOf w lines count))
+  pub ranges : rangesOf w′ (r .sequences) (r .«sequence_count») ≡ map (withOffset (offsetsAt w offsets n)) (sequencesFrom (rowsFrom main p) 0 none)
+  pub rows : RowsIn w′ r
+  pub sequences : r .lines + r .«line_count» * 25 ≤ r .sequences
+  pub within : r .buffer + 16 + r .«line_count» * 16 ≤ lines + count * 50 + 25 * length (sequencesFrom (rowsFrom main p) 0 none) + 16
+  pub rest : Kept w w′ lines (count * 50 + 25 * length (sequencesFrom (rowsFrom main p) 0 none) + 16)
+
+-- what collectHeader makes of a run, with the sequences' offsets, the file table and the unit's map
+abbrev pub finishRun : CompilationUnit → LineHeader → List ℕ → FileTable → FileIndices → Run → Outcome Collected
+finishRun u h offsets table indices run =
+    convertRows u h offsets (run .lines) (record { table = table; indices = indices; lines = []; warnings = mismatch (run .count) (length offsets) }) >>= λ c.
+    done (record { table = c .table; lines = unitLines offsets run c; warnings = c .warnings })
+
+-- the rows of a conversion's unit
+abbrev pub rowsOf : List ℕ → Conversion → ℕ
+rowsOf main c = length (rowsFrom main (c .unit .place + 21))
+
+abbrev pub finishFrom : List ℕ → List ℕ → List ℕ → Conversion → StoredFiles → Run → Outcome Collected
+finishFrom main supplementary w c t = finishRun (unitAt main c) (headerAt main c) (offsetsOf w c) (tableOf main supplementary w t) (indicesIn w (c .indices))
+
+pub record Finished (main supplementary w w′ files files′ warnings warnings′ : List ℕ) (c : Conversion) (t : StoredFiles) (warned : ℕ)
+    (l : StoredLines) (is : StoredIndices) (t′ : StoredFiles) (warned′ : ℕ) : Type 0 where
+  pub new : List Warning
+  pub finished : (run : Run) → runRows (rowsFrom main (c .unit .place + 21)) 0 [] ≡ done run
+      → finishFrom main supplementary w c t run ≡ done (record { table = tableOf main supplementary w′ t′; lines = linesIn w′ l is; warnings = new })
+  pub grown : Grown main supplementary w w′ files files′ t t′
+  pub put : Put warned (warningsBytes new) warnings warnings′ warned′
+  pub rows : RowsIn w′ l
+  pub map : is ≡ c .indices
+  pub from : l .lines ≡ c .lines
+  pub sequences : l .lines + l .«line_count» * 25 ≤ l .sequences
+  pub within : l .buffer + 16 + l .«line_count» * 16 ≤ c .lines + 50 * rowsOf main c + 16
+  pub rest : KeptBut w w′ ((t .base, extent t) ∷ (c .indices .base, c .indices .count * 5) ∷ (c .lines, 50 * rowsOf main c + 16) ∷ [])
+
+abbrev pub FinishesBy : List ℕ → List ℕ → List ℕ → List ℕ → List ℕ → List ℕ → List ℕ → List ℕ → Conversion → StoredFiles → ℕ → CollectedLines → Type 0
+FinishesBy main supplementary w w′ files files′ warnings warnings′ c t warned (CollectedLines.Refused n) =
+    (run : Run) → runRows (rowsFrom main (c .unit .place + 21)) 0 [] ≡ done run → finishFrom main supplementary w c t run ≡ refused n
+FinishesBy main supplementary w w′ files files′ warnings warnings′ c t warned (CollectedLines.Lines l is t′ warned′) =
+    Finished main supplementary w w′ files files′ warnings warnings′ c t warned l is t′ warned′
+
+-- the unit's rows were converted, and its lines and sequences stored
+pub record FinishesLines (main supplementary w w′ files files′ warnings warnings′ : List ℕ) (c : Conversion) (t : StoredFiles) (warned : ℕ) (r : CollectedLines) : Type 0 where
+  pub is : FinishesBy main supplementary w w′ files files′ warnings warnings′ c t warned r

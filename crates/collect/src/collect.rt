@@ -1,0 +1,365 @@
+// The lines of a unit (the Rust's collect_lines): failed rows before program faults before file paths.
+ghost use mathlib.Core.Path.{_≡_};
+ghost use mathlib.Core.Option.{none};
+ghost use Prim.Native.Nat.{_+_, _*_, _/_, _≤_};
+ghost use lib.ListN.{length, take, drop};
+ghost use Rattle.tlv.specs.Outcome.{done};
+ghost use Rattle.tlv.specs.Checked.{Placed};
+ghost use Rattle.tlv.specs.Places.{unitHere};
+ghost use Rattle.tlv.specs.Model.{headerOf};
+ghost use Rattle.tlv.specs.Buffer.{Put};
+ghost use Rattle.tlv.specs.Output.{warningsBytes};
+ghost use Rattle.lines.specs.Scan.{Scanned};
+ghost use Rattle.lines.specs.Program.{lineSequenceOffsets};
+ghost use Rattle.lines.specs.Lines.{mismatch};
+ghost use Rattle.files.specs.Pieces.{headerHere, UnitPlaced};
+ghost use Rattle.files.specs.Store.{FilesIn};
+ghost use Rattle.files.specs.Interns.{Listed};
+ghost use Rattle.collect.specs.Passes.{rowsFrom, countRows, sequencesFrom};
+ghost use Rattle.collect.specs.Converts.{ConversionIn};
+ghost use Rattle.collect.specs.Stages.{HeaderRead, UnitCounted, UnitRoom, InternsUnit, ConversionOf, StoresLines, FinishesLines};
+ghost use Rattle.collect.specs.Collects.{UnitIn, LinesRoom, CollectsLines};
+use crate::convert::Conversion;
+use crate::convert::ConvertedRow;
+use crate::convert::Converting;
+use crate::convert::convert_rows;
+use crate::passes::CountedRows;
+use crate::passes::collect_sequences;
+use crate::passes::count_rows;
+use files::index::StoredIndices;
+use files::intern::InternedFiles;
+use files::pieces::FileUnit;
+use files::store::StoredFiles;
+use lines::lines::Header;
+use lines::lines::Scan;
+use rows::unit_lines::StoredLines;
+use tlv::access::Own;
+
+// The unit's lines and its map of file numbers in the work slice, the file table, and how many bytes of warnings were written; or the refusal.
+pub enum CollectedLines {
+    Refused(u8),
+    Lines {
+        lines: StoredLines,
+        indices: StoredIndices,
+        table: StoredFiles,
+        warned: usize,
+    },
+}
+
+// What tells the paths of the unit's files, the unit's map, and the file table; or the refusal.
+pub enum InternedUnit {
+    Refused(u8),
+    Unit {
+        unit: FileUnit,
+        indices: StoredIndices,
+        table: StoredFiles,
+    },
+}
+
+// The header whose payload starts at a place, without the opcode lengths.
+fn read_header(main: &[u8], start: usize) -> Header
+    requires { ⌜ start + 19 ≤ length (now main) ⌝ }
+    ensures { λ r. ⌜ HeaderRead (now (main .entry)) start r ⌝ }
+{
+    Header {
+        offset: tlv::bytes::read_u64(main, start),
+        header_length: tlv::bytes::read_u64(main, start + 8),
+        version: tlv::bytes::read_u8(main, start + 16),
+        word_size: tlv::bytes::read_u8(main, start + 17),
+        opcode_base: tlv::bytes::read_u8(main, start + 18),
+    }
+}
+
+// Writes where the sequences of the program begin whose header's payload is the `len` bytes from `start` on.
+fn scan_program(
+    main: &[u8],
+    program: &[u8],
+    start: usize,
+    len: usize,
+    work: &mut [u8],
+    free: usize,
+) -> Scan
+    requires { ⌜ 19 ≤ len ⌝ }
+    requires { ⌜ start + len ≤ length (now main) ⌝ }
+    requires { ⌜ free + length (now program) / 3 * 8 ≤ length (now work) ⌝ }
+    ensures { λ r. ⌜ Scanned (now (program .entry)) (now (work .entry)) (now (work .exit)) free r (lineSequenceOffsets (headerOf (take len (drop start (now (main .entry))))) (now (program .entry))) ⌝ }
+{
+    let header = read_header(main, start);
+    let from = start + 19;
+    let to = start + len;
+    lines::lines::line_sequence_offsets(program, &main[from..to], header, work, free)
+}
+
+// Writes the spans of the unit's directories at base, and the unit's map behind them.
+fn intern_unit(
+    main: &[u8],
+    supplementary: &[u8],
+    place: usize,
+    work: &mut [u8],
+    files: &mut [u8],
+    t: StoredFiles,
+    base: usize,
+) -> InternedUnit
+    requires { ⌜ UnitPlaced (now main) place ⌝ }
+    requires { ⌜ FilesIn (now main) (now supplementary) (now work) t ⌝ }
+    requires { ⌜ Listed (now main) (now supplementary) (unitHere (now main) place) (headerHere (now main) place) ⌝ }
+    requires { ⌜ UnitRoom (now main) (now work) t place base ⌝ }
+    ensures { λ r. ⌜ InternsUnit (now (main .entry)) (now (supplementary .entry)) (now (work .entry)) (now (work .exit)) (now (files .entry)) (now (files .exit)) place t base r ⌝ }
+{
+    let unit = files::pieces::file_unit(main, place, work, base);
+    let at = base + unit.directory_count * 8;
+    match files::intern::intern_header_files(
+        main,
+        supplementary,
+        tlv::model::DebugSource::Main,
+        unit,
+        work,
+        files,
+        t,
+        at,
+    ) {
+        InternedFiles::Refused(n) => {
+            return InternedUnit::Refused(n);
+        }
+        InternedFiles::Indices { table, count } => {
+            return InternedUnit::Unit {
+                unit: unit,
+                indices: StoredIndices {
+                    base: at,
+                    count: count,
+                },
+                table: table,
+            };
+        }
+    }
+}
+
+// The unit's conversion: its lines go behind its map.
+fn conversion(
+    main: &[u8],
+    unit: FileUnit,
+    indices: StoredIndices,
+    offsets: usize,
+    n: usize,
+) -> Conversion
+    requires { ⌜ unit .place + 21 ≤ length (now main) ⌝ }
+    requires { ⌜ indices .base + indices .count * 5 ≤ 18446744073709551615 ⌝ }
+    ensures { λ r. ⌜ ConversionOf (now (main .entry)) unit indices offsets n r ⌝ }
+{
+    Conversion {
+        unit: unit,
+        zero: tlv::access::next_own(main, unit.place + 21, 0x1c),
+        indices: indices,
+        offsets: offsets,
+        offset_count: n,
+        lines: indices.base + indices.count * 5,
+    }
+}
+
+// Warns where the program and the rows differ in how many sequences they have.
+fn warn_mismatch(warnings: &mut [u8], warned: usize, sequences: usize, offsets: usize) -> usize
+    ensures { λ r. ⌜ Put warned (warningsBytes (mismatch sequences offsets)) (now (warnings .entry)) (now (warnings .exit)) r ⌝ }
+{
+    if offsets == sequences {
+        return warned;
+    }
+    tlv::output::put_warning(warnings, warned, 5, sequences as u64, offsets as u64)
+}
+
+// Writes the unit's sequences behind its lines, sorts these and drops equal neighbours.
+fn store_lines(
+    main: &[u8],
+    p: usize,
+    work: &mut [u8],
+    offsets: usize,
+    n: usize,
+    lines: usize,
+    count: usize,
+) -> StoredLines
+    requires { ⌜ Placed (now main) p ⌝ }
+    requires { ⌜ offsets + n * 8 ≤ lines ⌝ }
+    requires { ⌜ lines + count * 50 + 25 * length (sequencesFrom (rowsFrom (now main) p) 0 none) + 16 ≤ length (now work) ⌝ }
+    ensures { λ r. ⌜ StoresLines (now (main .entry)) (now (work .entry)) (now (work .exit)) p offsets n lines count r ⌝ }
+{
+    let sequences = lines + count * 25;
+    let sequence_count = collect_sequences(main, p, work, offsets, n, sequences);
+    let buffer = sequences + sequence_count * 25;
+    rows::sort::sort_rows(work, lines, buffer, count);
+    let line_count = rows::normalize::dedup_rows(work, lines, count);
+    StoredLines {
+        lines: lines,
+        line_count: line_count,
+        sequences: sequences,
+        sequence_count: sequence_count,
+        buffer: buffer,
+    }
+}
+
+// Converts the unit's n rows, and stores its lines and its m sequences.
+fn finish_lines(
+    main: &[u8],
+    supplementary: &[u8],
+    c: Conversion,
+    n: usize,
+    m: usize,
+    work: &mut [u8],
+    files: &mut [u8],
+    warnings: &mut [u8],
+    t: StoredFiles,
+    warned: usize,
+) -> CollectedLines
+    requires { ⌜ ConversionIn (now main) (now supplementary) (now work) c (record { table = t; count = 0; warned = warned }) ⌝ }
+    requires { ⌜ countRows (rowsFrom (now main) (c .unit .place + 21)) 0 0 0 ≡ done (record { lines = n; sequences = m }) ⌝ }
+    requires { ⌜ c .lines + 50 * length (rowsFrom (now main) (c .unit .place + 21)) + 16 ≤ length (now work) ⌝ }
+    ensures { λ r. ⌜ FinishesLines (now (main .entry)) (now (supplementary .entry)) (now (work .entry)) (now (work .exit)) (now (files .entry)) (now (files .exit)) (now (warnings .entry)) (now (warnings .exit)) c t warned r ⌝ }
+{
+    let noted = warn_mismatch(warnings, warned, m, c.offset_count);
+    let begun = Converting {
+        table: t,
+        count: 0,
+        warned: noted,
+    };
+    match convert_rows(main, supplementary, c, n, work, files, warnings, begun) {
+        ConvertedRow::Refused(r) => {
+            return CollectedLines::Refused(r);
+        }
+        ConvertedRow::Next(st) => {
+            let p = c.unit.place + 21;
+            let stored = store_lines(main, p, work, c.offsets, c.offset_count, c.lines, st.count);
+            let indices = c.indices;
+            let table = st.table;
+            return CollectedLines::Lines {
+                lines: stored,
+                indices: indices,
+                table: table,
+                warned: st.warned,
+            };
+        }
+    }
+}
+
+// Collects the lines of a unit with a header, whose rows were counted.
+fn collect_counted(
+    main: &[u8],
+    supplementary: &[u8],
+    program: &[u8],
+    place: usize,
+    start: usize,
+    len: usize,
+    n: usize,
+    m: usize,
+    work: &mut [u8],
+    files: &mut [u8],
+    warnings: &mut [u8],
+    t: StoredFiles,
+    warned: usize,
+    free: usize,
+) -> CollectedLines
+    requires { ⌜ UnitCounted (now main) (now supplementary) (now program) (now work) t place start len n m free ⌝ }
+    ensures { λ r. ⌜ CollectsLines (now (main .entry)) (now (supplementary .entry)) (now (program .entry)) (now (work .entry)) (now (work .exit)) (now (files .entry)) (now (files .exit)) (now (warnings .entry)) (now (warnings .exit)) place t warned free r ⌝ }
+{
+    match scan_program(main, program, start, len, work, free) {
+        Scan::Fault(f) => {
+            return CollectedLines::Refused(f);
+        }
+        Scan::Count(k) => {
+            match intern_unit(main, supplementary, place, work, files, t, free + k * 8) {
+                InternedUnit::Refused(r) => {
+                    return CollectedLines::Refused(r);
+                }
+                InternedUnit::Unit {
+                    unit,
+                    indices,
+                    table,
+                } => {
+                    let c = conversion(main, unit, indices, free, k);
+                    return finish_lines(
+                        main,
+                        supplementary,
+                        c,
+                        n,
+                        m,
+                        work,
+                        files,
+                        warnings,
+                        table,
+                        warned,
+                    );
+                }
+            }
+        }
+    }
+}
+
+// Collects the lines of the unit at a place, from the first free place of the work slice on.
+pub fn collect_lines(
+    main: &[u8],
+    supplementary: &[u8],
+    program: &[u8],
+    place: usize,
+    work: &mut [u8],
+    files: &mut [u8],
+    warnings: &mut [u8],
+    t: StoredFiles,
+    warned: usize,
+    free: usize,
+) -> CollectedLines
+    requires { ⌜ Placed (now main) 0 ⌝ }
+    requires { ⌜ UnitIn (now main) place ⌝ }
+    requires { ⌜ FilesIn (now main) (now supplementary) (now work) t ⌝ }
+    requires { ⌜ LinesRoom (now main) (now work) (now program) t place free ⌝ }
+    ensures { λ r. ⌜ CollectsLines (now (main .entry)) (now (supplementary .entry)) (now (program .entry)) (now (work .entry)) (now (work .exit)) (now (files .entry)) (now (files .exit)) (now (warnings .entry)) (now (warnings .exit)) place t warned free r ⌝ }
+{
+    let p = place + 21;
+    match tlv::access::next_own(main, p, 0x13) {
+        Own::Missing => {
+            return CollectedLines::Lines {
+                lines: StoredLines {
+                    lines: free,
+                    line_count: 0,
+                    sequences: free,
+                    sequence_count: 0,
+                    buffer: free,
+                },
+                indices: StoredIndices {
+                    base: free,
+                    count: 0,
+                },
+                table: t,
+                warned: warned,
+            };
+        }
+        Own::Field {
+            start,
+            len,
+            next: _,
+        } => {
+            match count_rows(main, p) {
+                CountedRows::Failed => {
+                    return CollectedLines::Refused(6);
+                }
+                CountedRows::Rows {
+                    lines: n,
+                    sequences: m,
+                } => {
+                    return collect_counted(
+                        main,
+                        supplementary,
+                        program,
+                        place,
+                        start,
+                        len,
+                        n,
+                        m,
+                        work,
+                        files,
+                        warnings,
+                        t,
+                        warned,
+                        free,
+                    );
+                }
+            }
+        }
+    }
+}

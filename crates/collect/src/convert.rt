@@ -1,0 +1,325 @@
+// Rows of the sheet become lines of the unit: the file of each is found or interned, and what can't be told is warned of.
+ghost use mathlib.Core.Path.{_≡_};
+ghost use mathlib.Core.Option.{none};
+ghost use Prim.Native.Nat.{_+_, _*_, _≤_};
+ghost use lib.ListN.{length};
+ghost use Rattle.tlv.specs.Model.{rowOf};
+ghost use Rattle.tlv.specs.Table.{chunk};
+ghost use Rattle.lines.specs.Files.{get};
+ghost use Rattle.lines.specs.Lines.{rawLine};
+ghost use Rattle.files.specs.Indices.{indicesIn};
+ghost use Rattle.collect.specs.Converts.{ConversionIn, rawOf, zeroOf, listedOf, soughtOf, LineConverted, RowConverts, RowsConvert};
+use files::index::FileNumber;
+use files::index::FoundIndex;
+use files::index::StoredIndices;
+use files::intern::InternedFile;
+use files::pieces::FileUnit;
+use files::pieces::Span;
+use files::store::StoredFiles;
+use tlv::access::Own;
+use tlv::model::DebugSource;
+
+// The unit, its file 0 before version 5, its map of file numbers, the table of its sequences' offsets, and where its lines go.
+pub struct Conversion {
+    pub unit: FileUnit,
+    pub zero: Own,
+    pub indices: StoredIndices,
+    pub offsets: usize,
+    pub offset_count: usize,
+    pub lines: usize,
+}
+
+// The file table, how many lines there are, and how many bytes of warnings were written.
+pub struct Converting {
+    pub table: StoredFiles,
+    pub count: usize,
+    pub warned: usize,
+}
+
+// A row of the sheet, with the number of its sequence.
+pub struct Row {
+    pub address: u64,
+    pub file: FileNumber,
+    pub line: u64,
+    pub sequence: usize,
+}
+
+// The state after a row, or why it was refused.
+pub enum ConvertedRow {
+    Refused(u8),
+    Next(Converting),
+}
+
+// What a header has at a file number that the unit's map has no number for: nothing, a file with no path, or file 0 before version 5.
+pub enum SoughtFile {
+    Missing,
+    Unnamed,
+    Zero(Span),
+}
+
+fn zero_file(zero: Own) -> SoughtFile
+    ensures { λ r. ⌜ r ≡ zeroOf zero ⌝ }
+{
+    match zero {
+        Own::Missing => {
+            return SoughtFile::Missing;
+        }
+        Own::Field {
+            start,
+            len,
+            next: _,
+        } => {
+            return SoughtFile::Zero(Span {
+                start: start,
+                len: len,
+            });
+        }
+    }
+}
+
+fn listed_file(indices: StoredIndices, file: FileNumber) -> SoughtFile
+    ensures { λ r. ⌜ r ≡ listedOf (indices .count) (file .0) ⌝ }
+{
+    if file.0 < indices.count as u64 {
+        return SoughtFile::Unnamed;
+    }
+    SoughtFile::Missing
+}
+
+// The header's file of a number that the unit's map has no number for.
+fn sought_file(c: Conversion, file: FileNumber) -> SoughtFile
+    ensures { λ r. ⌜ r ≡ soughtOf c (file .0) ⌝ }
+{
+    let unit = c.unit;
+    let zero = c.zero;
+    let indices = c.indices;
+    if unit.version <= 4 {
+        if file.0 == 0 {
+            return zero_file(zero);
+        }
+        return listed_file(indices, file);
+    }
+    listed_file(indices, file)
+}
+
+// Appends the line of a row whose file has a number; a line past 32 bits warns.
+fn convert_line(
+    c: Conversion,
+    row: Row,
+    index: tlv::model::FileIndex,
+    work: &mut [u8],
+    warnings: &mut [u8],
+    st: Converting,
+) -> Converting
+    requires { ⌜ c .offsets + c .«offset_count» * 8 ≤ length (now work) ⌝ }
+    requires { ⌜ c .lines + st .count * 25 + 25 ≤ length (now work) ⌝ }
+    ensures { λ r. ⌜ LineConverted (now (work .entry)) (now (work .exit)) (now (warnings .entry)) (now (warnings .exit)) c st row index r ⌝ }
+{
+    let table = st.table;
+    let count = st.count;
+    let address = row.address;
+    let line = row.line;
+    if line < 4294967296 {
+        let offset = crate::passes::sequence_offset(work, c.offsets, c.offset_count, row.sequence);
+        let entry = tlv::model::LineEntry {
+            address: address,
+            file: index,
+            line: line as u32,
+        };
+        rows::line::put_line(work, c.lines + count * 25, entry, offset);
+        return Converting {
+            table: table,
+            count: count + 1,
+            warned: st.warned,
+        };
+    }
+    let warned = tlv::output::put_warning(warnings, st.warned, 7, address, line);
+    Converting {
+        table: table,
+        count: count,
+        warned: warned,
+    }
+}
+
+// Converts a row of file 0 before version 5, which has no number yet.
+fn convert_zero(
+    main: &[u8],
+    supplementary: &[u8],
+    c: Conversion,
+    row: Row,
+    file: Span,
+    work: &mut [u8],
+    files: &mut [u8],
+    warnings: &mut [u8],
+    st: Converting,
+) -> ConvertedRow
+    requires { ⌜ ConversionIn (now main) (now supplementary) (now work) c st ⌝ }
+    requires { ⌜ c .lines + st .count * 25 + 25 ≤ length (now work) ⌝ }
+    requires { ⌜ get (indicesIn (now work) (c .indices)) (row .file .0) ≡ none ⌝ }
+    requires { ⌜ SoughtFile.Zero file ≡ soughtOf c (row .file .0) ⌝ }
+    ensures { λ r. ⌜ RowConverts (now (main .entry)) (now (supplementary .entry)) (now (work .entry)) (now (work .exit)) (now (files .entry)) (now (files .exit)) (now (warnings .entry)) (now (warnings .exit)) c st row r ⌝ }
+{
+    let unit = c.unit;
+    let indices = c.indices;
+    let old = st.table;
+    let number = row.file;
+    match files::intern::intern_file(
+        main,
+        supplementary,
+        DebugSource::Main,
+        unit,
+        file,
+        work,
+        files,
+        old,
+    ) {
+        InternedFile::Refused(n) => {
+            return ConvertedRow::Refused(n);
+        }
+        InternedFile::Unnamed => {
+            return ConvertedRow::Next(st);
+        }
+        InternedFile::Number {
+            table,
+            number: index,
+        } => {
+            files::index::insert_index(work, indices, number, index);
+            let grown = Converting {
+                table: table,
+                count: st.count,
+                warned: st.warned,
+            };
+            return ConvertedRow::Next(convert_line(c, row, index, work, warnings, grown));
+        }
+    }
+}
+
+// Converts a row whose file has no number in the unit's map.
+fn convert_unknown(
+    main: &[u8],
+    supplementary: &[u8],
+    c: Conversion,
+    row: Row,
+    work: &mut [u8],
+    files: &mut [u8],
+    warnings: &mut [u8],
+    st: Converting,
+) -> ConvertedRow
+    requires { ⌜ ConversionIn (now main) (now supplementary) (now work) c st ⌝ }
+    requires { ⌜ c .lines + st .count * 25 + 25 ≤ length (now work) ⌝ }
+    requires { ⌜ get (indicesIn (now work) (c .indices)) (row .file .0) ≡ none ⌝ }
+    ensures { λ r. ⌜ RowConverts (now (main .entry)) (now (supplementary .entry)) (now (work .entry)) (now (work .exit)) (now (files .entry)) (now (files .exit)) (now (warnings .entry)) (now (warnings .exit)) c st row r ⌝ }
+{
+    let number = row.file;
+    match sought_file(c, number) {
+        SoughtFile::Missing => {
+            let table = st.table;
+            let warned = tlv::output::put_warning(warnings, st.warned, 6, row.address, number.0);
+            return ConvertedRow::Next(Converting {
+                table: table,
+                count: st.count,
+                warned: warned,
+            });
+        }
+        SoughtFile::Unnamed => {
+            return ConvertedRow::Next(st);
+        }
+        SoughtFile::Zero(file) => {
+            return convert_zero(main, supplementary, c, row, file, work, files, warnings, st);
+        }
+    }
+}
+
+// Converts a row.
+pub fn convert_row(
+    main: &[u8],
+    supplementary: &[u8],
+    c: Conversion,
+    row: Row,
+    work: &mut [u8],
+    files: &mut [u8],
+    warnings: &mut [u8],
+    st: Converting,
+) -> ConvertedRow
+    requires { ⌜ ConversionIn (now main) (now supplementary) (now work) c st ⌝ }
+    requires { ⌜ c .lines + st .count * 25 + 25 ≤ length (now work) ⌝ }
+    ensures { λ r. ⌜ RowConverts (now (main .entry)) (now (supplementary .entry)) (now (work .entry)) (now (work .exit)) (now (files .entry)) (now (files .exit)) (now (warnings .entry)) (now (warnings .exit)) c st row r ⌝ }
+{
+    let indices = c.indices;
+    let number = row.file;
+    match files::index::get_index(work, indices, number) {
+        FoundIndex::Number(index) => {
+            return ConvertedRow::Next(convert_line(c, row, index, work, warnings, st));
+        }
+        FoundIndex::Missing => {
+            return convert_unknown(main, supplementary, c, row, work, files, warnings, st);
+        }
+    }
+}
+
+// The row whose payload starts at a place, of the sequence of a number.
+fn read_row(main: &[u8], start: usize, sequence: usize) -> Row
+    requires { ⌜ start + 25 ≤ length (now main) ⌝ }
+    ensures { λ r. ⌜ rawOf r ≡ rawLine (rowOf (chunk (now (main .entry)) start 25)) sequence ⌝ }
+{
+    let address = tlv::bytes::read_u64(main, start);
+    let file = tlv::bytes::read_u64(main, start + 8);
+    let line = tlv::bytes::read_u64(main, start + 16);
+    Row {
+        address: address,
+        file: FileNumber(file),
+        line: line,
+        sequence: sequence,
+    }
+}
+
+// Converts `left` rows of the unit, from its first on.
+pub fn convert_rows(
+    main: &[u8],
+    supplementary: &[u8],
+    c: Conversion,
+    left: usize,
+    work: &mut [u8],
+    files: &mut [u8],
+    warnings: &mut [u8],
+    st: Converting,
+) -> ConvertedRow
+    requires { ⌜ ConversionIn (now main) (now supplementary) (now work) c st ⌝ }
+    requires { ⌜ c .lines + st .count * 25 + left * 25 ≤ length (now work) ⌝ }
+    ensures { λ r. ⌜ RowsConvert (now (main .entry)) (now (supplementary .entry)) (now (work .entry)) (now (work .exit)) (now (files .entry)) (now (files .exit)) (now (warnings .entry)) (now (warnings .exit)) c st left r ⌝ }
+{
+    let unit = c.unit;
+    let mut at = unit.place + 21;
+    let mut sequence: usize = 0;
+    let mut more = left;
+    let mut state = st;
+    loop {
+        if more == 0 {
+            return ConvertedRow::Next(state);
+        }
+        let Own::Field {
+            start,
+            len: _,
+            next,
+        } = tlv::access::next_own(main, at, 0x16)
+        else {
+            return ConvertedRow::Next(state);
+        };
+        if tlv::bytes::read_u8(main, start + 24) == 1 {
+            sequence += 1;
+            at = next;
+        } else {
+            let row = read_row(main, start, sequence);
+            match convert_row(main, supplementary, c, row, work, files, warnings, state) {
+                ConvertedRow::Refused(n) => {
+                    return ConvertedRow::Refused(n);
+                }
+                ConvertedRow::Next(converted) => {
+                    state = converted;
+                    more -= 1;
+                    at = next;
+                }
+            }
+        }
+    }
+}

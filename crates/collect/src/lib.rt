@@ -1,0 +1,4 @@
+// A unit's line rows, its files and its sequences (the Rust's collect_lines).
+pub mod collect;
+pub mod convert;
+pub mod passes;

@@ -1,0 +1,149 @@
+// The walks over a unit's rows.
+ghost use mathlib.Core.Path.{_≡_};
+ghost use mathlib.Core.List.{map};
+ghost use mathlib.Core.Option.{none};
+ghost use Prim.Native.Nat.{_+_, _*_, _≤_};
+ghost use lib.ListN.{length};
+ghost use Rattle.tlv.specs.Checked.{Placed};
+ghost use Rattle.tlv.specs.Lists.{at};
+ghost use Rattle.rows.specs.Stored.{sequenceOf};
+ghost use Rattle.collect.specs.Passes.{rowsFrom, countRows, countedOf, offsetsAt, sequencesFrom, SequencePut, SequencesIn};
+use tlv::access::Own;
+
+// How many rows stand in finished sequences, and how many sequences are finished; or that a row could not be read.
+pub enum CountedRows {
+    Failed,
+    Rows { lines: usize, sequences: usize },
+}
+
+// Counts the rows of the unit whose fields follow place p.
+pub fn count_rows(s: &[u8], p: usize) -> CountedRows
+    requires { ⌜ Placed (now s) p ⌝ }
+    ensures { λ r. ⌜ countedOf r ≡ countRows (rowsFrom (now (s .entry)) p) 0 0 0 ⌝ }
+{
+    let mut at = p;
+    let mut lines: usize = 0;
+    let mut opened: usize = 0;
+    let mut n: usize = 0;
+    loop {
+        match tlv::access::next_own(s, at, 0x16) {
+            Own::Missing => {
+                return CountedRows::Rows {
+                    lines: lines,
+                    sequences: n,
+                };
+            }
+            Own::Field {
+                start,
+                len: _,
+                next,
+            } => {
+                let kind = tlv::bytes::read_u8(s, start + 24);
+                if kind == 2 {
+                    return CountedRows::Failed;
+                }
+                if kind == 1 {
+                    lines += opened;
+                    opened = 0;
+                    n += 1;
+                    at = next;
+                } else {
+                    opened += 1;
+                    at = next;
+                }
+            }
+        }
+    }
+}
+
+// The offset of the sequence of a number, of n offsets at base.
+pub fn sequence_offset(
+    work: &[u8],
+    base: usize,
+    n: usize,
+    sequence: usize,
+) -> rows::line::StatementSequence
+    requires { ⌜ base + n * 8 ≤ length (now work) ⌝ }
+    ensures { λ r. ⌜ sequenceOf r ≡ at (offsetsAt (now (work .entry)) base n) sequence ⌝ }
+{
+    if sequence < n {
+        return rows::line::StatementSequence::At(tlv::bytes::read_u64(work, base + sequence * 8));
+    }
+    rows::line::StatementSequence::Unknown
+}
+
+// Writes at p the record of the sequence of a number, with its offset.
+fn put_sequence_record(
+    work: &mut [u8],
+    offsets: usize,
+    n: usize,
+    sequence: usize,
+    p: usize,
+    start: u64,
+    end: u64,
+)
+    requires { ⌜ offsets + n * 8 ≤ p ⌝ }
+    requires { ⌜ p + 25 ≤ length (now work) ⌝ }
+    ensures { λ _. ⌜ SequencePut (now (work .entry)) (now (work .exit)) p offsets n (record { range = record { start = start; end = end }; sequence = sequence }) ⌝ }
+{
+    let offset = sequence_offset(work, offsets, n, sequence);
+    let range = tlv::model::AddressRange {
+        start: start,
+        end: end,
+    };
+    rows::line::put_sequence_range(work, p, range, offset);
+}
+
+// Writes a record for each sequence of the unit whose fields follow place p, and returns their number.
+pub fn collect_sequences(
+    s: &[u8],
+    p: usize,
+    work: &mut [u8],
+    offsets: usize,
+    n: usize,
+    base: usize,
+) -> usize
+    requires { ⌜ Placed (now s) p ⌝ }
+    requires { ⌜ offsets + n * 8 ≤ base ⌝ }
+    requires { ⌜ base + 25 * length (sequencesFrom (rowsFrom (now s) p) 0 none) ≤ length (now work) ⌝ }
+    ensures { λ r. ⌜ SequencesIn (now (s .entry)) (now (work .entry)) (now (work .exit)) p offsets n base r ⌝ }
+{
+    let mut at = p;
+    let mut k: usize = 0;
+    let mut opened = false;
+    let mut start: u64 = 0;
+    let mut count: usize = 0;
+    loop {
+        let Own::Field {
+            start: row,
+            len: _,
+            next,
+        } = tlv::access::next_own(s, at, 0x16)
+        else {
+            return count;
+        };
+        let kind = tlv::bytes::read_u8(s, row + 24);
+        let address = tlv::bytes::read_u64(s, row);
+        if kind == 1 {
+            if start < address {
+                put_sequence_record(work, offsets, n, k, base + count * 25, start, address);
+                count += 1;
+                k += 1;
+                opened = false;
+                start = 0;
+                at = next;
+            } else {
+                k += 1;
+                opened = false;
+                start = 0;
+                at = next;
+            }
+        } else if opened {
+            at = next;
+        } else {
+            start = address;
+            opened = true;
+            at = next;
+        }
+    }
+}
