@@ -133,6 +133,7 @@ pub fn way_of<'a>(
     ensures { λ r. ⌜ Ways (followFrom (now (main .entry)) (now (supplementary .entry)) at name) (now (main .entry)) (now (supplementary .entry)) (now (work .entry)) x n (at .depth) r ⌝ }
 {
     let here = at.input;
+    let depth = at.depth + 1;
     let s = input_of(main, supplementary, here);
     match reference_at(s, at.unit, at.place, name) {
         Reference::Missing => Way::Nothing,
@@ -141,7 +142,7 @@ pub fn way_of<'a>(
             input: here,
             source: DebugSource::Main,
             target: o,
-            depth: at.depth + 1,
+            depth: depth,
         }),
         Reference::Supplementary(o) => {
             if x.supplementary.unit_count == 0 {
@@ -153,7 +154,7 @@ pub fn way_of<'a>(
                     input: DebugSource::Supplementary,
                     source: DebugSource::Supplementary,
                     target: o,
-                    depth: at.depth + 1,
+                    depth: depth,
                 }),
             }
         }
