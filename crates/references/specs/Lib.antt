@@ -2,3 +2,5 @@ pub mod Search
 pub mod Tables
 pub mod Keys
 pub mod Names
+pub mod Declarations
+pub mod DeclaredSteps

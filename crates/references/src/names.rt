@@ -45,7 +45,7 @@ pub enum Way {
 }
 
 // The sheet of a source.
-fn input_of<'a>(main: &'a [u8], supplementary: &'a [u8], input: DebugSource) -> &'a [u8]
+pub fn input_of<'a>(main: &'a [u8], supplementary: &'a [u8], input: DebugSource) -> &'a [u8]
     ensures { λ r. ⌜ now r ≡ sourceIn (now (main .entry)) (now (supplementary .entry)) input ⌝ }
     ensures { λ r. ⌜ length (now r) ≡ length (sourceIn (now (main .entry)) (now (supplementary .entry)) input) ⌝ }
 {
@@ -56,7 +56,7 @@ fn input_of<'a>(main: &'a [u8], supplementary: &'a [u8], input: DebugSource) -> 
 }
 
 // Its tables.
-fn index_of(x: Tables, input: DebugSource) -> Index
+pub fn index_of(x: Tables, input: DebugSource) -> Index
     ensures { λ r. ⌜ r ≡ indexIn x input ⌝ }
 {
     match input {

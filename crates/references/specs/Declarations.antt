@@ -1,0 +1,122 @@
+-- What the declaration search promises: the file and line, the files that join the table, the warnings. Assumes nothing.
+use Prim.Native.Nat.{ℕ, _+_, _*_, _≤_}
+use mathlib.Core.Path.{_≡_}
+use mathlib.Core.Bool.{Bool, true, cond}
+use mathlib.Core.List.{List, [], _∷_, _++_}
+use mathlib.Core.Option.{Option, none, some}
+use lib.ListN.{length}
+use Rattle.tlv.specs.declared.model.DebugSource.{DebugSource}
+use Rattle.tlv.specs.Outcome.{Outcome, refused, done, _>>=_}
+use Rattle.tlv.specs.Lists.{Any}
+use Rattle.tlv.specs.Fields.{fields}
+use Rattle.tlv.specs.Buffer.{top, Put}
+use Rattle.tlv.specs.Table.{KeptBut}
+use Rattle.tlv.specs.Model.{CompilationUnit, LineHeader}
+use Rattle.tlv.specs.Places.{unitHere, unitPlaces}
+use Rattle.tlv.specs.Output.{Warning, warningsBytes}
+use Rattle.lines.specs.Files.{FileTable, FileIndices}
+use Rattle.files.specs.declared.store.StoredFiles.{StoredFiles}
+use Rattle.files.specs.Store.{extent, tableOf, FilesIn, Grown}
+use Rattle.files.specs.Indices.{indicesIn}
+use Rattle.files.specs.Reached.{reachedIndices, Reached}
+use Rattle.references.specs.declared.declarations.Places.{Places}
+use Rattle.references.specs.declared.declarations.DeclaringState.{DeclaringState}
+use Rattle.references.specs.declared.declarations.Declared.{Declared}
+use Rattle.references.specs.declared.names.EntryAt.{EntryAt}
+use Rattle.references.specs.declared.names.OffsetAt.{OffsetAt}
+use Rattle.references.specs.Search.{Declaring, withFound, withTrail, followAbsolute, declarationAtTarget, resolveDeclaration}
+use Rattle.references.specs.Tables.{sourceIn}
+use Rattle.references.specs.Keys.{possibleKeys}
+use Rattle.references.specs.Names.{trailAt, SearchIn, dwarfOf, searchSource, followFrom}
+
+-- the numbers of the files of a unit that was reached by section offset, all of which are in the table
+abbrev pub reachedFiles : CompilationUnit → Option LineHeader → FileTable → FileIndices
+reachedFiles u none t = []
+reachedFiles u (some h) t = reachedIndices u h t
+
+abbrev pub ReachedUnit : CompilationUnit → Option LineHeader → FileTable → Type 0
+ReachedUnit u none t = Unit
+ReachedUnit u (some h) t = Reached u h t
+
+-- the numbers of a place's unit: by the map of the unit that is imported, or, of a unit that was reached, by the table
+unfoldable pub indicesAt : List ℕ → List ℕ → List ℕ → Places → DeclaringState → DebugSource → ℕ → Bool → FileIndices
+indicesAt main supplementary w d st input q reached =
+    cond reached
+    (reachedFiles (unitHere (sourceIn main supplementary input) q) (unitHere (sourceIn main supplementary input) q .header) (tableOf main supplementary w (st .table)))
+    (indicesIn w (d .indices))
+
+-- the search's state in w, with the warnings so far; how many entries it read decides nothing here
+abbrev pub declaringAt : List ℕ → List ℕ → List ℕ → Places → DeclaringState → List Warning → ℕ → Declaring
+declaringAt main supplementary w d st ws reads = record {
+  trail = trailAt w (d .tables .keys) (st .count) reads;
+  table = tableOf main supplementary w (st .table);
+  warnings = ws;
+  found = none;
+}
+
+-- the file table stands below the imported unit's map, this below the spans of a unit's directories, these below the search's tables and its targets;
+-- there is room for the directories of every unit, and for its map, which is written and not read
+pub record DeclaringIn (main supplementary w : List ℕ) (d : Places) (st : DeclaringState) : Type 0 where
+  pub search-tables : SearchIn main supplementary w (d .tables) (st .count)
+  pub files : FilesIn main supplementary w (st .table)
+  pub warned : st .warned ≤ top
+  pub table : st .table .base + extent (st .table) ≤ d .indices .base
+  pub indices : d .indices .base + d .indices .count * 5 ≤ d .spans
+  pub main-units : d .spans + d .room ≤ d .tables .main .units
+  pub main-entries : d .spans + d .room ≤ d .tables .main .entries
+  pub supplementary-units : d .spans + d .room ≤ d .tables .supplementary .units
+  pub supplementary-entries : d .spans + d .room ≤ d .tables .supplementary .entries
+  pub room-main : (q : ℕ) → Any (λ p. p ≡ q) (unitPlaces 0 (fields main)) → 8 * length (unitHere main q .directories) + 5 * (1 + length (unitHere main q .files)) ≤ d .room
+  pub room-supplementary : (q : ℕ) → Any (λ p. p ≡ q) (unitPlaces 0 (fields supplementary)) → 8 * length (unitHere supplementary q .directories) + 5 * (1 + length (unitHere supplementary q .files)) ≤ d .room
+
+-- what an answer says of the definition's outcome, from any warnings and any number of reads
+abbrev pub DeclaredAs : List ℕ → List ℕ → List ℕ → Places → List Warning → ℕ → List Warning → Outcome Declaring → Declared → Type 0
+DeclaredAs main supplementary w′ d ws reads new o (Declared.Refused n) = o ≡ refused n
+DeclaredAs main supplementary w′ d ws reads new o (Declared.Missing st′) = o ≡ done (declaringAt main supplementary w′ d st′ (ws ++ new) reads)
+DeclaredAs main supplementary w′ d ws reads new o (Declared.Found st′ file line) =
+    o ≡ done (withFound (declaringAt main supplementary w′ d st′ (ws ++ new) reads) (some (record { address = 0; file = file; line = line })))
+
+-- the state after, its new files and warnings written
+pub record DeclaredState (main supplementary w w′ files files′ warnings warnings′ : List ℕ) (d : Places) (st st′ : DeclaringState) (new : List Warning) : Type 0 where
+  pub grown : Grown main supplementary w w′ files files′ (st .table) (st′ .table)
+  pub put : Put (st .warned) (warningsBytes new) warnings warnings′ (st′ .warned)
+  pub ready : DeclaringIn main supplementary w′ d st′
+
+abbrev pub DeclaredAfter : List ℕ → List ℕ → List ℕ → List ℕ → List ℕ → List ℕ → List ℕ → List ℕ → Places → DeclaringState → List Warning → Declared → Type 0
+DeclaredAfter main supplementary w w′ files files′ warnings warnings′ d st new (Declared.Refused n) = Unit
+DeclaredAfter main supplementary w w′ files files′ warnings warnings′ d st new (Declared.Missing st′) = DeclaredState main supplementary w w′ files files′ warnings warnings′ d st st′ new
+DeclaredAfter main supplementary w w′ files files′ warnings warnings′ d st new (Declared.Found st′ file line) = DeclaredState main supplementary w w′ files files′ warnings warnings′ d st st′ new
+
+-- what a search writes: the file table, a unit's directories and map, and its targets
+abbrev pub lower : Places → StoredFiles → List (ℕ × ℕ)
+lower d t = (t .base, extent t) ∷ (d .spans, d .room) ∷ []
+
+abbrev pub searched : List ℕ → List ℕ → Places → StoredFiles → List (ℕ × ℕ)
+searched main supplementary d t = (t .base, extent t) ∷ (d .spans, d .room) ∷ (d .tables .keys, 9 * length (possibleKeys main supplementary)) ∷ []
+
+-- a search f from the state st has answered r
+pub record Declares (f : Declaring → Outcome Declaring) (main supplementary w w′ files files′ warnings warnings′ : List ℕ) (d : Places) (st : DeclaringState) (r : Declared) : Type 0 where
+  pub reads : ℕ → ℕ
+  pub new : List Warning
+  pub is : (k : ℕ) (ws : List Warning) → DeclaredAs main supplementary w′ d ws (reads k) new (f (declaringAt main supplementary w d st ws k)) r
+  pub after : DeclaredAfter main supplementary w w′ files files′ warnings warnings′ d st new r
+  pub rest : KeptBut w w′ (searched main supplementary d (st .table))
+
+-- the files of a unit that was reached by section offset are in the table
+pub record Reaching (main supplementary w : List ℕ) (st : DeclaringState) (at : EntryAt) (reached : Bool) : Type 0 where
+  pub unit : reached ≡ true
+      → ReachedUnit (unitHere (sourceIn main supplementary (at .input)) (at .unit)) (unitHere (sourceIn main supplementary (at .input)) (at .unit) .header) (tableOf main supplementary w (st .table))
+
+-- ---- the members of the cycle
+
+-- resolve_reference: the declaration that the attribute of a name leads to; k is the limit less the depth of what it leads to
+unfoldable pub resolveReference : ℕ → List ℕ → List ℕ → EntryAt → FileIndices → ℕ → Declaring → Outcome Declaring
+resolveReference k main supplementary at is name s =
+    followFrom main supplementary at name (s .trail) >>= λ f.
+    declarationAtTarget (resolveDeclaration k (dwarfOf main supplementary)) is (withTrail s (f .trail)) (f .target)
+
+-- resolve_absolute: the declaration at an offset of the section; k is the limit less the depth
+unfoldable pub resolveAbsolute : ℕ → List ℕ → List ℕ → OffsetAt → Declaring → Outcome Declaring
+resolveAbsolute k main supplementary at s =
+    followAbsolute (dwarfOf main supplementary) (searchSource (at .input)) (searchSource (at .source)) (s .trail) (at .target) >>= λ f.
+    declarationAtTarget (resolveDeclaration k (dwarfOf main supplementary)) [] (withTrail s (f .trail)) (f .target)
