@@ -106,4 +106,29 @@ pub mod dwarf {
             lines.sequences.iter().map(|sequence| (sequence.range, sequence.statement_sequence)).collect(),
         ))
     }
+
+    /// What collect_lines leaves behind at a unit of the main input.
+    pub struct Collected {
+        unit: UnitLines,
+        pub builder: GsymBuilder,
+        pub warnings: Vec<ConversionWarning>,
+    }
+
+    impl Collected {
+        pub fn new(dwarf: &Dwarf<Slice<'_>>, ordinal: usize) -> Result<Self> {
+            let (mut builder, mut warnings) = (GsymBuilder::new(), Vec::new());
+            let unit = collect_lines(dwarf, &Unit::of(dwarf.units[ordinal].clone()), &mut builder, &mut warnings)?;
+            Ok(Self { unit, builder, warnings })
+        }
+
+        /// How many lines and sequences the unit has.
+        pub fn counts(&self) -> [usize; 2] {
+            [self.unit.entries.len(), self.unit.sequences.len()]
+        }
+
+        /// UnitLines::for_range.
+        pub fn rows(&self, start: u64, end: u64, sequence: Option<u64>) -> (Vec<LineEntry>, bool) {
+            self.unit.for_range(AddressRange::new(start, end), sequence)
+        }
+    }
 }

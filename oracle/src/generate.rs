@@ -430,6 +430,32 @@ pub fn bad_instruction(random: &mut Random) -> Vec<u8> {
     }
 }
 
+/// A case for the rows of its first unit, with few other fields, and where the sequences of its program begin.
+pub fn rows_case(random: &mut Random) -> (Case, Vec<u64>) {
+    let odd = random.pick(&[0, 1, 4, 10, 20]);
+    let lines = if random.chance(96) { lines(random, odd) } else { Lines::default() };
+    let mut main = Fields::default();
+    main.unit(0, 40, random.between(2, 5) as u8, random.pick(&[4, 8]));
+    if random.chance(70) {
+        main.compilation_directory(directory(random));
+    }
+    main.0.extend(&lines.fields.0);
+    if random.chance(15) {
+        main.entry(1, 0, COMPILE_UNIT);
+    }
+    // A second unit, whose files and rows are none of the first's.
+    if random.chance(15) {
+        main.unit(40, 40, 4, 4);
+        main.0.extend(&self::lines(random, odd).fields.0);
+    }
+    let mut case = Case::new(main.0, Vec::new(), lines.program);
+    if random.chance(4) {
+        damage(random, &mut case);
+        case.supplementary.clear();
+    }
+    (case, lines.sequences)
+}
+
 // ---- damaged inputs
 
 fn damage(random: &mut Random, case: &mut Case) {

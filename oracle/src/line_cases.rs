@@ -1,9 +1,13 @@
 //! Cases of the layer of line programs and paths, each a call of one of the Rust's own functions, and the line of
 //! text that it answers. crates/line_answers answers the same cases.
 
+use crate::answer::inputs;
+use crate::case::Case;
 use crate::compose::OPCODE_LENGTHS;
-use crate::convert::dwarf::lines;
+use crate::convert::dwarf::{Collected, lines};
 use crate::error::{Result, refusal};
+use crate::generate::rows_case;
+use crate::output::{written_files, written_warnings};
 use crate::random::Random;
 
 const LAST: u64 = u64::MAX;
@@ -18,11 +22,25 @@ pub enum Call {
     Path(Vec<u8>),
     /// append_path, with one component after the other, on an empty path.
     Join(Vec<u8>, Vec<u8>),
+    /// collect_lines at the first unit of a main input, and UnitLines::for_range for each query.
+    Rows { case: Case, queries: Vec<Query> },
+}
+
+/// A function's range, and the sequence that it asks for.
+pub struct Query {
+    start: u64,
+    end: u64,
+    sequence: Option<u64>,
 }
 
 /// Document 01's own cases and then those of a seed, without end.
 pub fn calls(seed: u64) -> impl Iterator<Item = Call> {
     document().into_iter().map(|(call, _)| call).chain((0..).map(move |number| call(seed, number)))
+}
+
+/// Calls for the rows of a unit, without end.
+pub fn rows_calls(seed: u64) -> impl Iterator<Item = Call> {
+    (0..).map(move |number| rows_call(&mut Random::new(seed, number)))
 }
 
 impl Call {
@@ -35,16 +53,32 @@ impl Call {
             }
             Self::Path(path) => (3, path.clone()),
             Self::Join(first, second) => (4, [(first.len() as u16).to_le_bytes().as_slice(), first, second].concat()),
+            Self::Rows { case, queries } => {
+                let [main, program] = [&case.main, &case.program].map(|bytes| (bytes.len() as u32).to_le_bytes());
+                let queries: Vec<u8> = queries.iter().flat_map(Query::bytes).collect();
+                (5, [&main, program.as_slice(), &case.main, &case.program, &queries].concat())
+            }
         };
         [&[kind], (body.len() as u32).to_le_bytes().as_slice(), &body].concat()
     }
 
     /// What the Rust answers.
     pub fn answer(&self) -> String {
-        self.finished().unwrap_or_else(|error| format!("refused {}", refusal(&error)))
+        self.finished().unwrap_or_else(|refusal| format!("refused {refusal}"))
     }
 
-    fn finished(&self) -> Result<String> {
+    fn finished(&self) -> std::result::Result<String, u8> {
+        match self {
+            Self::Rows { case, queries } => {
+                let (dwarf, ordinal) = inputs(case)?;
+                let collected = Collected::new(&dwarf, ordinal).map_err(|error| refusal(&error))?;
+                Ok(queries.iter().fold(listed(&collected), |text, query| format!("{text}\n{}", query.answer(&collected))))
+            }
+            _ => self.called().map_err(|error| refusal(&error)),
+        }
+    }
+
+    fn called(&self) -> Result<String> {
         Ok(match self {
             Self::Operand { place, program } => {
                 let (value, next) = lines::operand(program, *place as usize)?;
@@ -59,8 +93,29 @@ impl Call {
                 format!("path {}|{}|{}", printed(directory), printed(basename), u8::from(absolute))
             }
             Self::Join(first, second) => format!("joined {}", printed(&lines::joined(first, second))),
+            Self::Rows { .. } => unreachable!("finished answers it"),
         })
     }
+}
+
+impl Query {
+    fn bytes(&self) -> Vec<u8> {
+        let asked = [u8::from(self.sequence.is_some())];
+        [&self.start.to_le_bytes(), &self.end.to_le_bytes(), asked.as_slice(), &self.sequence.unwrap_or(0).to_le_bytes()].concat()
+    }
+
+    fn answer(&self, collected: &Collected) -> String {
+        let (rows, invalid) = collected.rows(self.start, self.end, self.sequence);
+        rows.iter()
+            .fold(format!("rows {}", u8::from(invalid)), |text, row| format!("{text} {:x}:{}:{}", row.address, row.file.get(), row.line))
+    }
+}
+
+/// How many lines and sequences a unit has, the files that were added, and the warnings.
+fn listed(collected: &Collected) -> String {
+    let [lines, sequences] = collected.counts();
+    let (files, warnings) = (written_files(&collected.builder), written_warnings(&collected.warnings));
+    format!("lines {lines} sequences {sequences}|{}|{}", printed(&files), printed(&warnings))
 }
 
 /// Bytes from 21 to 7e hex stand for themselves, but for \ and |. Any other is a \ and two hex digits.
@@ -155,6 +210,29 @@ fn program_call(random: &mut Random) -> Call {
     let any = random.next();
     let offset = random.pick(&[44, 44, 0, any, near, LAST - program.len() as u64]);
     Call::Program { base, lengths, offset, program }
+}
+
+fn rows_call(random: &mut Random) -> Call {
+    let (mut case, sequences) = rows_case(random);
+    case.work = LAST;
+    let queries = (0..random.between(1, 4)).map(|_| query(random, &sequences)).collect();
+    Call::Rows { case, queries }
+}
+
+fn query(random: &mut Random, sequences: &[u64]) -> Query {
+    let start = random.pick(&[0, 0xfff, 0x1000, 0x1000, 0x1001, 0x1004, 0x1008, 0x1010, 0x1018, 0x1030, LAST]);
+    let size = random.pick(&[0, 1, 4, 8, 0x10, 0x10, 0x40, 0x100, LAST]);
+    let mut end = start.saturating_add(size);
+    if random.chance(4) {
+        end = random.pick(&[0, 0x1000]);
+    }
+    let unknown = random.pick(&[0, 45, LAST]);
+    let sequence = match random.below(10) {
+        0..5 => None,
+        5..9 if !sequences.is_empty() => Some(random.pick(sequences)),
+        _ => Some(unknown),
+    };
+    Query { start, end, sequence }
 }
 
 /// Bytes of any value, at most so many.
@@ -350,6 +428,18 @@ mod tests {
             for shape in shapes {
                 assert!(reached.contains(&(kind, (*shape).to_owned())), "no call of kind {kind} answers {shape}");
             }
+        }
+    }
+
+    #[test]
+    fn every_answer_for_rows_is_reached() {
+        let answers: Vec<String> = rows_calls(1).take(300).map(|call| call.answer()).collect();
+        for number in [2, 6, 7, 8, 9, 11, 12] {
+            assert!(answers.contains(&format!("refused {number}")), "no call for rows is refused with {number}");
+        }
+        // Mismatched sequences, a missing file, a line past 32 bits; a sequence that does not exist, rows and no rows.
+        for part in ["F\\11\\00\\05", "F\\11\\00\\06", "F\\11\\00\\07", "\nrows 1 ", "\nrows 0 ", "\nrows 0\n"] {
+            assert!(answers.iter().any(|answer| answer.contains(part)), "no call for rows answers {part:?}");
         }
     }
 

@@ -20,7 +20,7 @@ oracle generate --below SIZE SEED COUNT CASES    the same, of those with fewer i
 oracle large CASES                          writes the cases over 64 KiB, the same for every seed
 oracle document CASES                       writes document 01's own cases
 oracle coverage CASES                       counts what the cases reach; fails if something is missing
-oracle lines SEED COUNT STDIN STDOUT        writes cases of operands, sequences and paths, and their answers as text";
+oracle lines SEED COUNT ROWS STDIN STDOUT   writes calls of operands, sequences and paths, then calls for rows, and their answers as text";
 
 const INPUTS: [&str; 3] = ["unit.main", "unit.sup", "unit.line"];
 
@@ -50,7 +50,9 @@ fn run(arguments: &[&str]) -> Result<bool, String> {
         ["large", cases] => write(cases, limits::large().into_iter()),
         ["document", cases] => write(cases, document::cases().into_iter().map(|(_, case, _)| case)),
         ["coverage", cases] => coverage::coverage(Path::new(cases)),
-        ["lines", seed, count, stdin, stdout] => lines(number(seed)?, number(count)?, Path::new(stdin), Path::new(stdout)),
+        ["lines", seed, count, rows, stdin, stdout] => {
+            lines(number(seed)?, [number(count)?, number(rows)?], Path::new(stdin), Path::new(stdout))
+        }
         _ => Err(format!("these are the commands:{USAGE}")),
     }
 }
@@ -135,12 +137,13 @@ fn write(path: &str, cases: impl Iterator<Item = Case>) -> Result<bool, String> 
     target.finish()
 }
 
-/// So many calls of the layer of line programs and paths, behind their number, and a line for each answer.
-fn lines(seed: u64, count: u64, stdin: &Path, stdout: &Path) -> Result<bool, String> {
-    let count = u32::try_from(count).map_err(|_| format!("{count} cases are too many"))?;
+/// So many calls of operands, programs and paths, and so many for rows, behind their number, and the lines of each answer.
+fn lines(seed: u64, counts: [u64; 2], stdin: &Path, stdout: &Path) -> Result<bool, String> {
+    let [count, rows] = counts;
+    let all = count.checked_add(rows).and_then(|all| u32::try_from(all).ok()).ok_or(format!("{count} and {rows} calls are too many"))?;
     let (mut cases, mut answers) = (Target::create(stdin)?, Target::create(stdout)?);
-    cases.write(&[&count.to_le_bytes()])?;
-    for call in line_cases::calls(seed).take(count as usize) {
+    cases.write(&[&all.to_le_bytes()])?;
+    for call in line_cases::calls(seed).take(count as usize).chain(line_cases::rows_calls(seed).take(rows as usize)) {
         cases.write(&[&call.bytes()])?;
         answers.write(&[call.answer().as_bytes(), b"\n"])?;
     }

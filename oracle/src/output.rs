@@ -37,15 +37,27 @@ pub fn written(imported: &Imported, first_file: u32) -> Answer {
             field(records, 0x45, &[&site.return_offset.to_le_bytes(), &[count], &site.match_regex.concat()]);
         }
     }
-    for file in files(&imported.builder) {
-        let length = file.directory.len() as u16;
-        field(&mut answer.files, 0x40, &[&length.to_le_bytes(), &file.directory, &file.basename]);
-    }
-    for warning in &imported.warnings {
-        let (kind, values) = warning_parts(warning);
-        field(&mut answer.warnings, 0x46, &[&[kind], &values]);
-    }
+    answer.files = written_files(&imported.builder);
+    answer.warnings = written_warnings(&imported.warnings);
     answer
+}
+
+pub fn written_files(builder: &GsymBuilder) -> Vec<u8> {
+    let mut output = Vec::new();
+    for file in files(builder) {
+        let length = file.directory.len() as u16;
+        field(&mut output, 0x40, &[&length.to_le_bytes(), &file.directory, &file.basename]);
+    }
+    output
+}
+
+pub fn written_warnings(warnings: &[ConversionWarning]) -> Vec<u8> {
+    let mut output = Vec::new();
+    for warning in warnings {
+        let (kind, values) = warning_parts(warning);
+        field(&mut output, 0x46, &[&[kind], &values]);
+    }
+    output
 }
 
 pub fn field(output: &mut Vec<u8>, tag: u8, parts: &[&[u8]]) {

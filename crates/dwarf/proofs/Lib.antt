@@ -34,3 +34,16 @@ pub mod RangeTableLaws
 pub mod GatherLaws
 pub mod FrameLaws
 pub mod NodeRangeLaws
+pub mod EntryWalkLaws
+pub mod SiteLaws
+pub mod WalkStateLaws
+pub mod AttributeReads
+pub mod CallLaws
+pub mod SiteStepLaws
+pub mod NodeStepLaws
+pub mod NameLengthLaws
+pub mod InlineStepLaws
+pub mod CollectLaws
+pub mod CollectingLaws
+pub mod SitesPutLaws
+pub mod ExtractLaws

@@ -8,3 +8,5 @@ pub mod Cases
 pub mod Printed
 pub mod RangeTable
 pub mod FrameStack
+pub mod Details
+pub mod DetailState

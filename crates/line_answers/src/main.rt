@@ -1,4 +1,14 @@
 // Reads calls of the lines layer from standard input and writes what its functions answer (oracle/README.md says how both stand).
+ghost use mathlib.Core.Path.{_≡_};
+ghost use Prim.Native.Nat.{_+_, _*_, _≤_};
+ghost use lib.ListN.{length};
+ghost use Rattle.tlv.specs.Outcome.{done};
+ghost use Rattle.tlv.specs.Grammar.{checkInput};
+ghost use Rattle.rows.specs.Selects.{RowsIn};
+ghost use Rattle.collect.specs.Collects.{UnitIn};
+ghost use Rattle.line_answers.specs.Answers.{Room, HasRoom, CollectedRows};
+use collect::collect::CollectedLines;
+use rows::unit_lines::StoredLines;
 
 // The number in the next 4 bytes.
 fn next_u32() -> u32 {
@@ -163,6 +173,208 @@ fn join(first: &[u8], second: &[u8], work: &mut [u8]) -> bool {
     true
 }
 
+// Collects the lines of a sheet's first unit, behind the file table; refused where the sheet is not accepted, has no unit, or the work has no room.
+fn collect_case(
+    main: &[u8],
+    program: &[u8],
+    work: &mut [u8],
+    files: &mut [u8],
+    warnings: &mut [u8],
+) -> CollectedLines
+    ensures { λ r. ⌜ CollectedRows (now (work .exit)) r ⌝ }
+{
+    match tlv::grammar::check_input(main) {
+        tlv::grammar::Checked::Accepted(n) => collect_accepted(
+            main,
+            program,
+            n as usize,
+            work,
+            files,
+            warnings,
+        ),
+        tlv::grammar::Checked::Misshapen => CollectedLines::Refused(2),
+        tlv::grammar::Checked::PastLimit => CollectedLines::Refused(3),
+    }
+}
+
+// The same for an accepted sheet of n fields.
+fn collect_accepted(
+    main: &[u8],
+    program: &[u8],
+    n: usize,
+    work: &mut [u8],
+    files: &mut [u8],
+    warnings: &mut [u8],
+) -> CollectedLines
+    requires { ⌜ checkInput (now main) ≡ done n ⌝ }
+    ensures { λ r. ⌜ CollectedRows (now (work .exit)) r ⌝ }
+{
+    match tlv::access::unit_by_ordinal(main, 0) {
+        tlv::access::Place::At(place) => {
+            if has_room(main.len(), program.len(), n, work.len()) {
+                collect_placed(main, program, n, place, work, files, warnings)
+            } else {
+                CollectedLines::Refused(5)
+            }
+        }
+        tlv::access::Place::Missing => CollectedLines::Refused(4),
+    }
+}
+
+// The same for a unit at a place.
+fn collect_placed(
+    main: &[u8],
+    program: &[u8],
+    n: usize,
+    place: usize,
+    work: &mut [u8],
+    files: &mut [u8],
+    warnings: &mut [u8],
+) -> CollectedLines
+    requires { ⌜ checkInput (now main) ≡ done n ⌝ }
+    requires { ⌜ UnitIn (now main) place ⌝ }
+    requires { ⌜ Room (length (now main)) (length (now program)) n (length (now work)) ⌝ }
+    ensures { λ r. ⌜ CollectedRows (now (work .exit)) r ⌝ }
+{
+    let room = n + 1;
+    let free = room * 45 + 12290;
+    let table = files::store::new_files(main, b"", work, 0, room, 1, 0);
+    collect::collect::collect_lines(
+        main,
+        b"",
+        program,
+        place,
+        work,
+        files,
+        warnings,
+        table,
+        0,
+        free,
+    )
+}
+
+// Whether a work slice has room for the file table and the lines of a sheet of n fields.
+fn has_room(main: usize, program: usize, n: usize, work: usize) -> bool
+    ensures { λ r. ⌜ HasRoom main program n work r ⌝ }
+{
+    if 4294967296 <= main {
+        return false;
+    }
+    if 65536 < n {
+        return false;
+    }
+    let need = n * 108 + 12372;
+    if work < need {
+        return false;
+    }
+    if (work - need) / 8 < program / 3 {
+        return false;
+    }
+    true
+}
+
+fn write_entry(entry: tlv::model::LineEntry) {
+    let file = entry.file;
+    io::write_all(1, b" ");
+    io::print_hex(1, entry.address, 1);
+    io::write_all(1, b":");
+    io::print_decimal(1, file.0 as u64);
+    io::write_all(1, b":");
+    io::print_decimal(1, entry.line as u64);
+}
+
+// The `count` rows that stand at a place.
+fn write_rows(work: &[u8], rows: usize, count: usize)
+    requires { ⌜ rows + count * 16 ≤ length (now work) ⌝ }
+{
+    let mut i = 0;
+    while i < count {
+        write_entry(rows::line::entry_at(work, rows + i * 16));
+        i += 1;
+    }
+}
+
+// A query: start (8 bytes), end (8), whether a sequence is asked for (1), its offset (8).
+fn answer_query(queries: &[u8], p: usize, work: &mut [u8], l: StoredLines)
+    requires { ⌜ p + 25 ≤ length (now queries) ⌝ }
+    requires { ⌜ RowsIn (now work) l ⌝ }
+    ensures { λ _. ⌜ RowsIn (now (work .exit)) l ⌝ }
+{
+    let range = tlv::model::AddressRange {
+        start: tlv::bytes::read_u64(queries, p),
+        end: tlv::bytes::read_u64(queries, p + 8),
+    };
+    let r = rows::unit_lines::for_range(work, l, range, rows::line::sequence_at(queries, p + 16));
+    if r.invalid {
+        io::write_all(1, b"\nrows 1");
+    } else {
+        io::write_all(1, b"\nrows 0");
+    }
+    write_rows(work, r.rows, r.count);
+}
+
+fn answer_queries(queries: &[u8], work: &mut [u8], l: StoredLines)
+    requires { ⌜ RowsIn (now work) l ⌝ }
+{
+    let mut p = 0;
+    while 25 <= queries.len() - p {
+        answer_query(queries, p, work, l);
+        p += 25;
+    }
+}
+
+// How many lines and sequences there are, the files, and the warnings.
+fn write_collected(l: StoredLines, files: &[u8], warnings: &[u8]) {
+    io::write_all(1, b"lines ");
+    io::print_decimal(1, l.line_count as u64);
+    io::write_all(1, b" sequences ");
+    io::print_decimal(1, l.sequence_count as u64);
+    io::write_all(1, b"|");
+    write_path(files);
+    io::write_all(1, b"|");
+    write_path(warnings);
+}
+
+// The lengths of the sheet and of the program (4 bytes each), the sheet, the program, the queries.
+fn answer_rows(call: &[u8], work: &mut [u8]) -> bool {
+    if call.len() < 8 {
+        return false;
+    }
+    let start = 8 + tlv::bytes::read_u32(call, 0) as usize;
+    let end = start + tlv::bytes::read_u32(call, 4) as usize;
+    if call.len() < end {
+        return false;
+    }
+    collect_rows(&call[8..start], &call[start..end], &call[end..], work)
+}
+
+fn collect_rows(main: &[u8], program: &[u8], queries: &[u8], work: &mut [u8]) -> bool {
+    let mut files = [0u8; 16384];
+    let mut warnings = [0u8; 16384];
+    match collect_case(main, program, work, &mut files, &mut warnings) {
+        CollectedLines::Refused(refusal) => {
+            write_refused(refusal);
+        }
+        CollectedLines::Lines {
+            lines: l,
+            indices: _,
+            table,
+            warned,
+        } => {
+            let written = table.written;
+            if 16384 < written {
+                return false;
+            }
+            if 16384 < warned {
+                return false;
+            }
+            write_collected(l, &files[..written], &warnings[..warned]);
+            answer_queries(queries, work, l);
+        }
+    }
+    true
+}
+
 fn answer(kind: u8, call: &[u8], work: &mut [u8]) -> bool {
     match kind {
         1 => answer_operand(call),
@@ -172,6 +384,7 @@ fn answer(kind: u8, call: &[u8], work: &mut [u8]) -> bool {
             true
         }
         4 => answer_join(call, work),
+        5 => answer_rows(call, work),
         _ => false,
     }
 }
