@@ -47,12 +47,6 @@ given-some : (o : Option ℕ) (r : Number) (n : ℕ) → r ≡ numberGiven o →
 given-some none r n e is = let z : _≡_ {A = ℕ} 0 1 = cc in absurd (omega arith)
 given-some (some m) r n e is = let z : m ≡ n = cc in ap some z
 
-found-some : (f : FoundIndex) (i : FileIndex) (o : Option FileIndex) → f ≡ FoundIndex.Number i → numberOf f ≡ o → o ≡ some i
-found-some f i o is e = sym e ∙ ap numberOf is
-
-found-none : (f : FoundIndex) (o : Option FileIndex) → f ≡ FoundIndex.Missing → numberOf f ≡ o → o ≡ none
-found-none f o is e = sym e ∙ ap numberOf is
-
 -- ---- the numbers of the fields of an entry and its unit
 
 module _ {s : List ℕ} {q p : ℕ} (A : Accepted s) (K : EntryKnown s q p) where

@@ -47,3 +47,4 @@ pub mod CollectLaws
 pub mod CollectingLaws
 pub mod SitesPutLaws
 pub mod ExtractLaws
+pub mod EntryStartLaws

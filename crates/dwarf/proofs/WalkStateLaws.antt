@@ -75,10 +75,6 @@ module _ {main supplementary w : List ℕ} {d : Details} (D : DetailsIn main sup
       includeCallSites = d .«include_call_sites»;
     }
 
-  -- the walk's part ends within the work slice
-  pub walked-within : d .ranges + walked main supplementary d ≤ length w
-  walked-within = omega (arith, D .ranges, D .stack, D .sites, D .tables .keys .room)
-
   -- a stretch of it
   pub kept-inside : {w₁ w₂ : List ℕ} {p m : ℕ} → Kept w₁ w₂ p m → d .ranges ≤ p → p + m ≤ d .tables .keys + 9 * length (possibleKeys main supplementary) → Kept w₁ w₂ (d .ranges) (walked main supplementary d)
   kept-inside K h k = kept-wide (d .ranges) (walked main supplementary d) K h (omega (arith, D .ranges, D .stack, D .sites))
@@ -158,9 +154,6 @@ module _ {main supplementary w : List ℕ} {d : Details} {a b : ℕ} {s : Walk} 
   }
 
   -- ---- closing
-
-  pub sites-room : (d .stack + s .opened * 14 ≤ d .sites) × (d .sites + s .closed * 12 + s .opened * 12 ≤ length w)
-  sites-room = (omega (arith, F .sites, D .stack), omega (arith, F .sites, D .sites, D .tables .keys .room))
 
   pub shut-is : {w′ : List ℕ} {o : Open} {depth : ℕ} {r : Sites} → Popped (s .frames) o depth → Closed w w′ (d .stack) (s .opened) (d .sites) (s .closed) depth r
       → Shut main supplementary d depth w s w′ (record { frames = o; opened = r .opened; closed = r .closed; nodes = s .nodes; at = s .at; warned = s .warned; status = s .status })
