@@ -51,9 +51,33 @@ pub mod dwarf {
         }
     }
 
-    mod references {
+    pub(crate) mod references {
         use crate::stand_in::{gimli, hashbrown, smallvec};
         text!("convert/dwarf/references.rs");
+
+        // A door to the searches, for their cases.
+
+        /// What a search finds, if there is an entry to start from.
+        pub(crate) type Found = Option<Result<Option<Vec<u8>>>>;
+
+        /// For each query the name of the entry at an offset of the main section, or the one that its call origin refers to.
+        pub(crate) fn searched(dwarf: &gimli::Dwarf<gimli::Slice<'_>>, queries: &[(bool, usize)]) -> Vec<Found> {
+            let resolver = DwarfResolver::new(dwarf);
+            queries.iter().map(|&(reference, target)| search(&resolver, reference, target)).collect()
+        }
+
+        fn search(resolver: &DwarfResolver<'_, gimli::Slice<'_>>, reference: bool, target: usize) -> Found {
+            let (unit, offset) = resolver.unit_containing_offset(target).ok()??;
+            let entry = resolver.entry(&unit, offset).ok()?;
+            if !reference {
+                return Some(resolve_name(resolver, &unit, &entry, 0));
+            }
+            Some(
+                entry
+                    .attr_value(gimli::constants::DW_AT_call_origin)
+                    .map_or(Ok(None), |origin| resolve_reference_name(resolver, &unit, &origin, 0, &mut VisitedDies::default())),
+            )
+        }
     }
 
     use dies::{DetailOptions, extract_subprogram_details};

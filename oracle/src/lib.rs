@@ -59,6 +59,7 @@ pub mod line_cases;
 pub mod listing;
 mod output;
 mod random;
+pub mod search_cases;
 #[cfg(test)]
 mod tests;
 mod trace;

@@ -119,7 +119,7 @@ fn listed(collected: &Collected) -> String {
 }
 
 /// Bytes from 21 to 7e hex stand for themselves, but for \ and |. Any other is a \ and two hex digits.
-fn printed(bytes: &[u8]) -> String {
+pub(crate) fn printed(bytes: &[u8]) -> String {
     let plain = |byte: u8| byte.is_ascii_graphic() && byte != b'\\' && byte != b'|';
     bytes.iter().map(|&byte| if plain(byte) { char::from(byte).to_string() } else { format!("\\{byte:02x}") }).collect()
 }

@@ -7,7 +7,7 @@ use std::{env, fs};
 
 use oracle::files::{Source, Target};
 use oracle::listing::{INPUT_LIMIT, PROGRAM_LIMIT, listing};
-use oracle::{Case, answer, coverage, document, generate, limits, line_cases};
+use oracle::{Case, answer, coverage, document, generate, limits, line_cases, search_cases};
 
 const USAGE: &str = "
 oracle one DIR                              the listing of unit.main, unit.sup and unit.line in DIR
@@ -20,7 +20,8 @@ oracle generate --below SIZE SEED COUNT CASES    the same, of those with fewer i
 oracle large CASES                          writes the cases over 64 KiB, the same for every seed
 oracle document CASES                       writes document 01's own cases
 oracle coverage CASES                       counts what the cases reach; fails if something is missing
-oracle lines SEED COUNT ROWS STDIN STDOUT   writes calls of operands, sequences and paths, then calls for rows, and their answers as text";
+oracle lines SEED COUNT ROWS STDIN STDOUT   writes calls of operands, sequences and paths, then calls for rows, and their answers as text
+oracle searches SEED COUNT STDIN STDOUT     writes calls of the name searches, and their answers as text";
 
 const INPUTS: [&str; 3] = ["unit.main", "unit.sup", "unit.line"];
 
@@ -53,6 +54,7 @@ fn run(arguments: &[&str]) -> Result<bool, String> {
         ["lines", seed, count, rows, stdin, stdout] => {
             lines(number(seed)?, [number(count)?, number(rows)?], Path::new(stdin), Path::new(stdout))
         }
+        ["searches", seed, count, stdin, stdout] => searches(number(seed)?, number(count)?, Path::new(stdin), Path::new(stdout)),
         _ => Err(format!("these are the commands:{USAGE}")),
     }
 }
@@ -144,6 +146,18 @@ fn lines(seed: u64, counts: [u64; 2], stdin: &Path, stdout: &Path) -> Result<boo
     let (mut cases, mut answers) = (Target::create(stdin)?, Target::create(stdout)?);
     cases.write(&[&all.to_le_bytes()])?;
     for call in line_cases::calls(seed).take(count as usize).chain(line_cases::rows_calls(seed).take(rows as usize)) {
+        cases.write(&[&call.bytes()])?;
+        answers.write(&[call.answer().as_bytes(), b"\n"])?;
+    }
+    Ok(cases.finish()? && answers.finish()?)
+}
+
+/// So many calls of the name searches behind their number, and the lines of each answer.
+fn searches(seed: u64, count: u64, stdin: &Path, stdout: &Path) -> Result<bool, String> {
+    let all = u32::try_from(count).map_err(|_| format!("{count} calls are too many"))?;
+    let (mut cases, mut answers) = (Target::create(stdin)?, Target::create(stdout)?);
+    cases.write(&[&all.to_le_bytes()])?;
+    for call in search_cases::calls(seed).take(count as usize) {
         cases.write(&[&call.bytes()])?;
         answers.write(&[call.answer().as_bytes(), b"\n"])?;
     }

@@ -1,0 +1,34 @@
+-- `answer_accepted` goes on where there is room for the tables. Assumes nothing.
+use Rattle.search_answers.proofs.SearchLaws.{room-yes}
+use borrow.Author.Needs.{needs}
+use Rattle.search_answers.proofs.answer_accepted.Statement.{statement}
+use Rattle.search_answers.proofs.answer_accepted.Tie as tie
+
+has-room-requires : tie.Need-has-room-requires
+has-room-requires c κs = search needs
+
+build-tables-requires : tie.Need-build-tables-requires
+build-tables-requires c κs = (search needs, (search needs, search room-yes))
+
+answer-queries-requires : tie.Need-answer-queries-requires
+answer-queries-requires c κs = search needs
+
+same-length : tie.Need-same-length
+same-length c = search needs
+
+returns : tie.Need-returns
+returns c = search needs
+
+returns-2 : tie.Need-returns-2
+returns-2 c = search needs
+
+pub answer-accepted-spec : {M : Type 1} → statement M
+answer-accepted-spec =
+    tie.close
+    (tie.spec
+    has-room-requires
+    build-tables-requires
+    answer-queries-requires
+    same-length
+    returns
+    returns-2)

@@ -1,0 +1,21 @@
+-- `answer_name` leaves the tables as they are: the next search can start. Assumes nothing.
+use Rattle.search_answers.proofs.SearchLaws.{search-still}
+use borrow.Author.Needs.{needs}
+use Rattle.search_answers.proofs.answer_name.Statement.{statement}
+use Rattle.search_answers.proofs.answer_name.Tie as tie
+
+resolve-name-requires : tie.Need-resolve-name-requires
+resolve-name-requires c κs = search needs
+
+write-found-requires : tie.Need-write-found-requires
+write-found-requires c κs = search needs
+
+same-length : tie.Need-same-length
+same-length c = search needs
+
+returns : tie.Need-returns
+returns c = search search-still
+
+pub answer-name-spec : {M : Type 1} → statement M
+answer-name-spec =
+    tie.close (tie.spec resolve-name-requires write-found-requires same-length returns)

@@ -1,0 +1,21 @@
+-- `answer_reference` leaves the tables as they are: the next search can start. Assumes nothing.
+use Rattle.search_answers.proofs.SearchLaws.{search-still}
+use borrow.Author.Needs.{needs}
+use Rattle.search_answers.proofs.answer_reference.Statement.{statement}
+use Rattle.search_answers.proofs.answer_reference.Tie as tie
+
+resolve-reference-name-requires : tie.Need-resolve-reference-name-requires
+resolve-reference-name-requires c κs = search needs
+
+write-found-requires : tie.Need-write-found-requires
+write-found-requires c κs = search needs
+
+same-length : tie.Need-same-length
+same-length c = search needs
+
+returns : tie.Need-returns
+returns c = search search-still
+
+pub answer-reference-spec : {M : Type 1} → statement M
+answer-reference-spec =
+    tie.close (tie.spec resolve-reference-name-requires write-found-requires same-length returns)

@@ -1,0 +1,345 @@
+// Reads calls of the name searches from standard input and writes what they answer (oracle/README.md says how both stand).
+ghost use mathlib.Core.Path.{_≡_};
+ghost use Prim.Native.Nat.{_+_, _*_, _^_, _≤_, _<_};
+ghost use lib.ListN.{length};
+ghost use Rattle.tlv.specs.Outcome.{done};
+ghost use Rattle.tlv.specs.Grammar.{checkInput};
+ghost use Rattle.references.specs.Tables.{EntryKnown};
+ghost use Rattle.references.specs.Names.{SearchIn};
+ghost use Rattle.search_answers.specs.Searches.{Room, HasRoom, IndexedSheet};
+use references::tables::Index;
+use references::tables::Tables;
+use references::tables::Target;
+
+// The number in the next 4 bytes.
+fn next_u32() -> u32 {
+    let mut bytes = [0u8; 4];
+    io::read_full(0, &mut bytes);
+    tlv::bytes::read_u32(&bytes, 0)
+}
+
+fn wide(b: u8) -> u64 {
+    b as u64
+}
+
+fn end_line() {
+    io::write_all(1, b"\n");
+}
+
+fn write_refused(refusal: u8) {
+    io::write_all(1, b"refused ");
+    io::print_decimal(1, wide(refusal));
+}
+
+// Whether a byte of a name is written as it is.
+fn is_plain(b: u8) -> bool {
+    if b == 0x5c {
+        return false;
+    }
+    if b == 0x7c {
+        return false;
+    }
+    if b < 0x21 {
+        return false;
+    }
+    b < 0x7f
+}
+
+fn write_byte(b: u8) {
+    if is_plain(b) {
+        let byte = [b];
+        io::write_all(1, &byte);
+    } else {
+        io::write_all(1, b"\\");
+        io::print_hex(1, wide(b), 2);
+    }
+}
+
+fn write_bytes(name: &[u8]) {
+    let mut i = 0;
+    while i < name.len() {
+        write_byte(name[i]);
+        i += 1;
+    }
+}
+
+// What a search has found, or its refusal.
+fn write_found(status: u8, name: &[u8]) {
+    if status != 0 {
+        write_refused(status);
+    } else {
+        io::write_all(1, b"name ");
+        write_bytes(name);
+    }
+}
+
+// Whether a work slice has room for the tables of two sheets of so many bytes and fields, and for the targets that a search follows.
+fn has_room(main: usize, supplementary: usize, n: usize, m: usize, work: usize) -> bool
+    ensures { λ r. ⌜ HasRoom main supplementary n m work r ⌝ }
+{
+    if 4294967296 <= main {
+        return false;
+    }
+    if 4294967296 <= supplementary {
+        return false;
+    }
+    if 65536 < n {
+        return false;
+    }
+    if 65536 < m {
+        return false;
+    }
+    if work < n * 49 + m * 58 {
+        return false;
+    }
+    true
+}
+
+// Writes the tables of a sheet of n fields, the entries behind the units.
+fn index_sheet(s: &[u8], n: usize, work: &mut [u8], base: usize) -> Index
+    requires { ⌜ checkInput (now s) ≡ done n ⌝ }
+    requires { ⌜ length (now s) < 2 ^ 32 ⌝ }
+    requires { ⌜ base + n * 40 ≤ length (now work) ⌝ }
+    ensures { λ r. ⌜ IndexedSheet (now (s .entry)) (now (work .entry)) (now (work .exit)) base n r ⌝ }
+{
+    let entries = base + n * 24;
+    let unit_count = tlv::units::index_units(s, work, base);
+    let entry_count = tlv::index::index_entries(s, work, entries);
+    Index {
+        units: base,
+        unit_count: unit_count,
+        entries: entries,
+        entry_count: entry_count,
+    }
+}
+
+// Writes the tables of both sheets, which have n and m fields; the followed targets come above them.
+fn build_tables(main: &[u8], supplementary: &[u8], n: usize, m: usize, work: &mut [u8]) -> Tables
+    requires { ⌜ checkInput (now main) ≡ done n ⌝ }
+    requires { ⌜ checkInput (now supplementary) ≡ done m ⌝ }
+    requires { ⌜ Room (length (now main)) (length (now supplementary)) n m (length (now work)) ⌝ }
+    ensures { λ r. ⌜ SearchIn (now (main .entry)) (now (supplementary .entry)) (now (work .exit)) r 0 ⌝ }
+{
+    let base = n * 40;
+    let keys = base + m * 40;
+    let first = index_sheet(main, n, work, 0);
+    let second = index_sheet(supplementary, m, work, base);
+    Tables {
+        main: first,
+        supplementary: second,
+        keys: keys,
+    }
+}
+
+// The name of an entry.
+fn answer_name<'a>(
+    main: &'a [u8],
+    supplementary: &'a [u8],
+    work: &mut [u8],
+    x: Tables,
+    unit: usize,
+    place: usize,
+)
+    requires { ⌜ SearchIn (now main) (now supplementary) (now work) x 0 ⌝ }
+    requires { ⌜ EntryKnown (now main) unit place ⌝ }
+    ensures { λ _. ⌜ SearchIn (now (main .entry)) (now (supplementary .entry)) (now (work .exit)) x 0 ⌝ }
+{
+    let mut status: u8 = 0;
+    let name = references::names::resolve_name(
+        main,
+        supplementary,
+        work,
+        &mut status,
+        x,
+        unit,
+        place,
+    );
+    write_found(status, name);
+}
+
+// The name that its call origin refers to.
+fn answer_reference<'a>(
+    main: &'a [u8],
+    supplementary: &'a [u8],
+    work: &mut [u8],
+    x: Tables,
+    unit: usize,
+    place: usize,
+)
+    requires { ⌜ SearchIn (now main) (now supplementary) (now work) x 0 ⌝ }
+    requires { ⌜ EntryKnown (now main) unit place ⌝ }
+    ensures { λ _. ⌜ SearchIn (now (main .entry)) (now (supplementary .entry)) (now (work .exit)) x 0 ⌝ }
+{
+    let mut status: u8 = 0;
+    let name = references::names::resolve_reference_name(
+        main,
+        supplementary,
+        work,
+        &mut status,
+        x,
+        unit,
+        place,
+        0x7f,
+    );
+    write_found(status, name);
+}
+
+// A query: its kind (1 byte), the offset of an entry in the section (8).
+fn answer_query<'a>(
+    main: &'a [u8],
+    supplementary: &'a [u8],
+    queries: &[u8],
+    p: usize,
+    work: &mut [u8],
+    x: Tables,
+)
+    requires { ⌜ p + 9 ≤ length (now queries) ⌝ }
+    requires { ⌜ SearchIn (now main) (now supplementary) (now work) x 0 ⌝ }
+    ensures { λ _. ⌜ SearchIn (now (main .entry)) (now (supplementary .entry)) (now (work .exit)) x 0 ⌝ }
+{
+    let kind = tlv::bytes::read_u8(queries, p);
+    let offset = tlv::bytes::read_u64(queries, p + 1);
+    match references::tables::target_at(main, work, x.main, offset) {
+        Target::Outside => {
+            io::write_all(1, b"no entry");
+        }
+        Target::NoEntry(_) => {
+            io::write_all(1, b"no entry");
+        }
+        Target::At { place, unit } => {
+            if kind == 1 {
+                answer_name(main, supplementary, work, x, unit, place);
+            } else {
+                answer_reference(main, supplementary, work, x, unit, place);
+            }
+        }
+    }
+}
+
+fn answer_queries<'a>(
+    main: &'a [u8],
+    supplementary: &'a [u8],
+    queries: &[u8],
+    work: &mut [u8],
+    x: Tables,
+)
+    requires { ⌜ SearchIn (now main) (now supplementary) (now work) x 0 ⌝ }
+{
+    let mut p = 0;
+    while 9 <= queries.len() - p {
+        answer_query(main, supplementary, queries, p, work, x);
+        end_line();
+        p += 9;
+    }
+}
+
+// The queries of two accepted sheets of n and m fields; false where the work has no room.
+fn answer_accepted<'a>(
+    main: &'a [u8],
+    supplementary: &'a [u8],
+    n: usize,
+    m: usize,
+    queries: &[u8],
+    work: &mut [u8],
+) -> bool
+    requires { ⌜ checkInput (now main) ≡ done n ⌝ }
+    requires { ⌜ checkInput (now supplementary) ≡ done m ⌝ }
+{
+    if has_room(main.len(), supplementary.len(), n, m, work.len()) {
+        let x = build_tables(main, supplementary, n, m, work);
+        answer_queries(main, supplementary, queries, work, x);
+        return true;
+    }
+    false
+}
+
+fn write_refused_line(refusal: u8) -> bool {
+    write_refused(refusal);
+    end_line();
+    true
+}
+
+// The queries of two sheets, the first of which is accepted and has n fields.
+fn answer_main<'a>(
+    main: &'a [u8],
+    supplementary: &'a [u8],
+    n: usize,
+    queries: &[u8],
+    work: &mut [u8],
+) -> bool
+    requires { ⌜ checkInput (now main) ≡ done n ⌝ }
+{
+    match tlv::grammar::check_input(supplementary) {
+        tlv::grammar::Checked::Accepted(m) => answer_accepted(
+            main,
+            supplementary,
+            n,
+            m as usize,
+            queries,
+            work,
+        ),
+        tlv::grammar::Checked::Misshapen => write_refused_line(2),
+        tlv::grammar::Checked::PastLimit => write_refused_line(3),
+    }
+}
+
+fn answer_sheets<'a>(
+    main: &'a [u8],
+    supplementary: &'a [u8],
+    queries: &[u8],
+    work: &mut [u8],
+) -> bool {
+    match tlv::grammar::check_input(main) {
+        tlv::grammar::Checked::Accepted(n) => answer_main(
+            main,
+            supplementary,
+            n as usize,
+            queries,
+            work,
+        ),
+        tlv::grammar::Checked::Misshapen => write_refused_line(2),
+        tlv::grammar::Checked::PastLimit => write_refused_line(3),
+    }
+}
+
+// The lengths of both sheets (4 bytes each), the main sheet, the supplementary one, the queries; false where the call is cut off or has no room.
+fn answer(call: &[u8], work: &mut [u8]) -> bool {
+    if call.len() < 8 {
+        return false;
+    }
+    let start = 8 + tlv::bytes::read_u32(call, 0) as usize;
+    let end = start + tlv::bytes::read_u32(call, 4) as usize;
+    if call.len() < end {
+        return false;
+    }
+    answer_sheets(&call[8..start], &call[start..end], &call[end..], work)
+}
+
+// Answers the next call; false where that can't be done, with a message.
+fn next_answer(buffer: &mut [u8], work: &mut [u8]) -> bool {
+    let n = next_u32() as usize;
+    if buffer.len() < n {
+        io::write_all(1, b"longer than the buffer\n");
+        return false;
+    }
+    if io::read_full(0, &mut buffer[..n]) < n {
+        io::write_all(1, b"cut off\n");
+        return false;
+    }
+    if !answer(&buffer[..n], work) {
+        io::write_all(1, b"no such call\n");
+        return false;
+    }
+    true
+}
+
+fn main() {
+    let mut buffer = [0u8; 16384];
+    let mut work = [0u8; 65536];
+    let count = next_u32();
+    for _ in 0..count {
+        if !next_answer(&mut buffer, &mut work) {
+            return;
+        }
+    }
+}
