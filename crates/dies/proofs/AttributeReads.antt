@@ -1,0 +1,216 @@
+-- The numbers of an entry's attributes, as the walk below a subprogram reads them: the return address, the call's file and line. Assumes nothing.
+use mathlib.Core.Path.{_≡_, refl, ap, _∙_}
+use mathlib.Core.Bool.{Bool, true, false, not, _||_}
+use mathlib.Core.List.{List, [], _∷_, map}
+use mathlib.Core.Option.{Option, none, some}
+use Prim.Native.Nat.{ℕ, _+_, _≤_}
+use native.Mathlib.Omega.{arith}
+use lib.Dec.{leb, eqb}
+use lib.ListN.{length, drop}
+use borrow.Author.Tests.{leb-true, eqb-true, eqb-false}
+use Rattle.tlv.specs.declared.access.Value.{Value}
+use Rattle.tlv.specs.Lists.{All, first, takeWhile}
+use Rattle.tlv.specs.Bytes.{Bytes, leAt}
+use Rattle.tlv.specs.Fields.{Field, fields, wholeFields, payloads}
+use Rattle.tlv.specs.Grammar.{valueShaped, attributeShaped, payloadShaped}
+use Rattle.tlv.specs.Model.{Attribute, attributeOf}
+use Rattle.tlv.specs.Accepted.{Given}
+use Rattle.tlv.specs.Checked.{Placed}
+use Rattle.tlv.specs.Places.{ownFields, entryHere}
+use Rattle.tlv.specs.Access.{Meaning, absent, unsigned, fileNumber, text, unitReference, sectionReference, supplementaryReference, sectionOffset, lineOffset, address, failed, isNamed, valueOf, meaningOf, meant, Says}
+use Rattle.tlv.proofs.TestLaws.{and-left, and-right}
+use Rattle.tlv.proofs.ListLaws.{all-image, all-first}
+use Rattle.tlv.proofs.IndexModel.{either}
+use Rattle.tlv.proofs.AcceptedFields.{Promised, promised-all}
+use Rattle.tlv.proofs.PlaceFacts.{placed-start, placed-passed}
+use Rattle.tlv.proofs.EntryPlaceLaws.{entry-attributes}
+use Rattle.references.specs.Search.{attribute, numberIf, unsignedAttribute, fileIndexAttribute}
+use Rattle.references.specs.Tables.{EntryKnown}
+use Rattle.references.proofs.ReferenceLaws.{entry-step, entry-next, attribute-says}
+use Rattle.dies.specs.declared.dies.Number.{Number}
+use Rattle.dies.specs.declared.dies.Address.{Address}
+use Rattle.dies.specs.DetailState.{Accepted, numberGiven, addressOf, addressIn, fileNumberIn, lineNumberIn}
+
+-- ---- the kinds of an accepted sheet
+
+abbrev KindKnown : ℕ → Type 0
+KindKnown k = (1 ≤ k) × (k ≤ 10)
+
+shaped-kind : (k n : ℕ) → valueShaped k n ≡ true → KindKnown k
+unfolding valueShaped
+shaped-kind k n e =
+    either (eqb k 3) (λ y. let is = eqb-true k 3 y in (omega arith, omega arith)) (λ a.
+    either (eqb k 10) (λ y. let is = eqb-true k 10 y in (omega arith, omega arith)) (λ b.
+    let all = rw (a, b) at e in
+    let low = leb-true 1 k (search (and-left, and-right)) in
+    let high = leb-true k 9 (search (and-left, and-right)) in
+    (low, omega arith)))
+
+kind-promise : Promised 0x18 (λ p. KindKnown (attributeOf p .kind))
+unfolding payloadShaped attributeShaped attributeOf
+kind-promise c p b sh l = shaped-kind (leAt 1 p 2) _ (and-right (leb 3 (length p)) _ sh)
+
+-- what is so of the payloads of all fields is so of those before the first that fails a test
+while-payloads : (Q : List ℕ → Type 0) (own : Field → Bool) (t : ℕ) (xs : List Field) → All Q (payloads t xs) → All Q (payloads t (takeWhile own xs))
+unfolding payloads takeWhile
+while-payloads Q own t [] h = tt
+while-payloads Q own t (x ∷ xs) h =
+    either (own x)
+    (λ y. rw y (either (eqb (x .tag) t)
+    (λ z. let g = rw z at h in rw z (g .0, while-payloads Q own t xs (g .1)))
+    (λ z. let g = rw z at h in rw z (while-payloads Q own t xs g))))
+    (λ n. rw n tt)
+
+module _ {s : List ℕ} {q p : ℕ} (A : Accepted s) (K : EntryKnown s q p) where
+  pub accepted-placed : Placed s 0
+  accepted-placed = placed-start s (A .number) (A .is)
+
+  kinds-known : Bytes s → All (λ a. KindKnown (a .kind)) (entryHere s p .attributes)
+  unfolding ownFields
+  kinds-known b =
+      let next = entry-next accepted-placed K in
+      let all = promised-all 0x18 (λ x. KindKnown (attributeOf x .kind)) kind-promise (next .context) (wholeFields (fields (drop (p + 15) s))) (placed-passed s (p + 15) b next) in
+      rw (entry-attributes s p _ 0x17 (p + 3) 12 (p + 15) refl (entry-step accepted-placed K))
+      (all-image (λ a. KindKnown (a .kind)) attributeOf (payloads 0x18 (ownFields (fields (drop (p + 15) s)))) (while-payloads (λ x. KindKnown (attributeOf x .kind)) (λ f. not (eqb (f .tag) 0x17 || eqb (f .tag) 0x10)) 0x18 (wholeFields (fields (drop (p + 15) s))) all))
+
+  kind-known : Bytes s → (name : ℕ) → Given (λ a. KindKnown (a .kind)) (attribute (entryHere s p) name)
+  unfolding attribute
+  kind-known b name = all-first (λ a. KindKnown (a .kind)) (λ a. eqb (a .name) name) (entryHere s p .attributes) (kinds-known b)
+
+-- ---- what a value means
+
+abbrev addressMeant : Meaning → Address
+addressMeant absent = Address.Missing
+addressMeant (unsigned n) = Address.Missing
+addressMeant (fileNumber n) = Address.Missing
+addressMeant (text b) = Address.Missing
+addressMeant (unitReference n) = Address.Missing
+addressMeant (sectionReference n) = Address.Missing
+addressMeant (supplementaryReference n) = Address.Missing
+addressMeant (sectionOffset n) = Address.Missing
+addressMeant (lineOffset n) = Address.Missing
+addressMeant (address n) = Address.At n
+addressMeant failed = Address.Failed
+
+abbrev fileMeant : Meaning → Number
+fileMeant absent = Number.Missing
+fileMeant (unsigned n) = Number.Is n
+fileMeant (fileNumber n) = Number.Is n
+fileMeant (text b) = Number.Missing
+fileMeant (unitReference n) = Number.Missing
+fileMeant (sectionReference n) = Number.Missing
+fileMeant (supplementaryReference n) = Number.Missing
+fileMeant (sectionOffset n) = Number.Missing
+fileMeant (lineOffset n) = Number.Missing
+fileMeant (address n) = Number.Missing
+fileMeant failed = Number.Missing
+
+abbrev lineMeant : Meaning → Number
+lineMeant absent = Number.Missing
+lineMeant (unsigned n) = Number.Is n
+lineMeant (fileNumber n) = Number.Missing
+lineMeant (text b) = Number.Missing
+lineMeant (unitReference n) = Number.Missing
+lineMeant (sectionReference n) = Number.Missing
+lineMeant (supplementaryReference n) = Number.Missing
+lineMeant (sectionOffset n) = Number.Missing
+lineMeant (lineOffset n) = Number.Missing
+lineMeant (address n) = Number.Missing
+lineMeant failed = Number.Missing
+
+value-address : (s : List ℕ) (v : Value) → addressIn v ≡ addressMeant (meant s v)
+value-address s Value.Absent = refl
+value-address s (Value.Unsigned n) = refl
+value-address s (Value.FileNumber n) = refl
+value-address s (Value.Text start len) = refl
+value-address s (Value.UnitReference n) = refl
+value-address s (Value.SectionReference n) = refl
+value-address s (Value.SupplementaryReference n) = refl
+value-address s (Value.SectionOffset n) = refl
+value-address s (Value.LineOffset n) = refl
+value-address s (Value.Address n) = refl
+value-address s Value.Failed = refl
+
+value-file : (s : List ℕ) (v : Value) → fileNumberIn v ≡ fileMeant (meant s v)
+value-file s Value.Absent = refl
+value-file s (Value.Unsigned n) = refl
+value-file s (Value.FileNumber n) = refl
+value-file s (Value.Text start len) = refl
+value-file s (Value.UnitReference n) = refl
+value-file s (Value.SectionReference n) = refl
+value-file s (Value.SupplementaryReference n) = refl
+value-file s (Value.SectionOffset n) = refl
+value-file s (Value.LineOffset n) = refl
+value-file s (Value.Address n) = refl
+value-file s Value.Failed = refl
+
+value-line : (s : List ℕ) (v : Value) → lineNumberIn v ≡ lineMeant (meant s v)
+value-line s Value.Absent = refl
+value-line s (Value.Unsigned n) = refl
+value-line s (Value.FileNumber n) = refl
+value-line s (Value.Text start len) = refl
+value-line s (Value.UnitReference n) = refl
+value-line s (Value.SectionReference n) = refl
+value-line s (Value.SupplementaryReference n) = refl
+value-line s (Value.SectionOffset n) = refl
+value-line s (Value.LineOffset n) = refl
+value-line s (Value.Address n) = refl
+value-line s Value.Failed = refl
+
+-- a statement of the kind of an attribute, by cases
+by-kind : (C : ℕ → Type 0) (k : ℕ) → C 1 → C 2 → C 3 → C 4 → C 5 → C 6 → C 7 → C 8 → C 9
+    → (eqb k 1 ≡ false → eqb k 2 ≡ false → eqb k 3 ≡ false → eqb k 4 ≡ false → eqb k 5 ≡ false → eqb k 6 ≡ false → eqb k 7 ≡ false → eqb k 8 ≡ false → eqb k 9 ≡ false → C k) → C k
+by-kind C k c1 c2 c3 c4 c5 c6 c7 c8 c9 other =
+    either (eqb k 1) (λ y. rw (eqb-true k 1 y) c1) (λ n1.
+    either (eqb k 2) (λ y. rw (eqb-true k 2 y) c2) (λ n2.
+    either (eqb k 3) (λ y. rw (eqb-true k 3 y) c3) (λ n3.
+    either (eqb k 4) (λ y. rw (eqb-true k 4 y) c4) (λ n4.
+    either (eqb k 5) (λ y. rw (eqb-true k 5 y) c5) (λ n5.
+    either (eqb k 6) (λ y. rw (eqb-true k 6 y) c6) (λ n6.
+    either (eqb k 7) (λ y. rw (eqb-true k 7 y) c7) (λ n7.
+    either (eqb k 8) (λ y. rw (eqb-true k 8 y) c8) (λ n8.
+    either (eqb k 9) (λ y. rw (eqb-true k 9 y) c9) (λ n9. other n1 n2 n3 n4 n5 n6 n7 n8 n9)))))))))
+
+-- an attribute of another kind
+abbrev ofKind : Attribute → ℕ → Attribute
+ofKind a k = record { name = a .name; kind = k; value = a .value; text = a .text }
+
+meaning-file : (o : Option Attribute) → fileMeant (meaningOf o) ≡ numberGiven (numberIf (λ k. eqb k 1 || eqb k 2) o)
+unfolding meaningOf valueOf
+meaning-file none = refl
+meaning-file (some a) =
+    by-kind (λ k. fileMeant (valueOf (ofKind a k)) ≡ numberGiven (numberIf (λ k. eqb k 1 || eqb k 2) (some (ofKind a k)))) (a .kind) refl refl refl refl refl refl refl refl refl
+    (λ n1 n2 n3 n4 n5 n6 n7 n8 n9. rw (n1, n2, n3, n4, n5, n6, n7, n8, n9))
+
+meaning-line : (o : Option Attribute) → lineMeant (meaningOf o) ≡ numberGiven (numberIf (λ k. eqb k 1) o)
+unfolding meaningOf valueOf
+meaning-line none = refl
+meaning-line (some a) =
+    by-kind (λ k. lineMeant (valueOf (ofKind a k)) ≡ numberGiven (numberIf (λ k. eqb k 1) (some (ofKind a k)))) (a .kind) refl refl refl refl refl refl refl refl refl
+    (λ n1 n2 n3 n4 n5 n6 n7 n8 n9. rw (n1, n2, n3, n4, n5, n6, n7, n8, n9))
+
+meaning-address : (o : Option Attribute) → Given (λ a. KindKnown (a .kind)) o → addressMeant (meaningOf o) ≡ addressOf o
+unfolding meaningOf valueOf
+meaning-address none h = refl
+meaning-address (some a) h =
+    by-kind (λ k. KindKnown k → addressMeant (valueOf (ofKind a k)) ≡ addressOf (some (ofKind a k))) (a .kind) (λ _. refl) (λ _. refl) (λ _. refl) (λ _. refl) (λ _. refl) (λ _. refl) (λ _. refl) (λ _. refl) (λ _. refl)
+    (λ n1 n2 n3 n4 n5 n6 n7 n8 n9 g.
+    let four : 4 ≤ a .kind = omega (arith, eqb-false (a .kind) 1 n1, eqb-false (a .kind) 2 n2, eqb-false (a .kind) 3 n3) in
+    let seven : 7 ≤ a .kind = omega (arith, eqb-false (a .kind) 4 n4, eqb-false (a .kind) 5 n5, eqb-false (a .kind) 6 n6) in
+    let ten : a .kind ≡ 10 = omega (arith, eqb-false (a .kind) 7 n7, eqb-false (a .kind) 8 n8, eqb-false (a .kind) 9 n9) in
+    rw ten)
+    h
+
+-- ---- what is read of the entry at p
+
+module _ {s : List ℕ} {q p : ℕ} {v : Value} (A : Accepted s) (K : EntryKnown s q p) where
+  pub file-read : {r : Number} → Says s v (meaningOf (first (isNamed 0x58) (map attributeOf (payloads 0x18 (ownFields (fields (drop (p + 15) s))))))) → r ≡ fileNumberIn v → r ≡ numberGiven (fileIndexAttribute (entryHere s p) 0x58)
+  unfolding fileIndexAttribute
+  file-read says is = is ∙ value-file s v ∙ ap fileMeant (attribute-says (accepted-placed A K) K v 0x58 says .is) ∙ meaning-file (attribute (entryHere s p) 0x58)
+
+  pub line-read : {r : Number} → Says s v (meaningOf (first (isNamed 0x59) (map attributeOf (payloads 0x18 (ownFields (fields (drop (p + 15) s))))))) → r ≡ lineNumberIn v → r ≡ numberGiven (unsignedAttribute (entryHere s p) 0x59)
+  unfolding unsignedAttribute
+  line-read says is = is ∙ value-line s v ∙ ap lineMeant (attribute-says (accepted-placed A K) K v 0x59 says .is) ∙ meaning-line (attribute (entryHere s p) 0x59)
+
+  pub address-read : {r : Address} → Bytes s → Says s v (meaningOf (first (isNamed 0x7d) (map attributeOf (payloads 0x18 (ownFields (fields (drop (p + 15) s))))))) → r ≡ addressIn v → r ≡ addressOf (attribute (entryHere s p) 0x7d)
+  address-read b says is = is ∙ value-address s v ∙ ap addressMeant (attribute-says (accepted-placed A K) K v 0x7d says .is) ∙ meaning-address (attribute (entryHere s p) 0x7d) (kind-known A K b 0x7d)

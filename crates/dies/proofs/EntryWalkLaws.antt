@@ -1,0 +1,147 @@
+-- The entries of a unit by place: what the field at a place adds to them, which of them lie below a subprogram, and how many ranges and entries are left. Assumes nothing.
+use mathlib.Core.Path.{_≡_, refl, ap}
+use mathlib.Core.Bool.{Bool, not, _||_}
+use mathlib.Core.List.{List, [], _∷_}
+use Prim.Native.Nat.{ℕ, _+_, _≤_, _<_}
+use native.Mathlib.Omega.{arith}
+use lib.Dec.{eqb}
+use lib.ListN.{length, drop}
+use borrow.Author.Tests.{eq-eqb, ne-eqb, lt-ltb, le-ltb}
+use Rattle.tlv.specs.declared.fields.Step.{Step}
+use Rattle.tlv.specs.Lists.{Any, All, takeWhile, dropWhile}
+use Rattle.tlv.specs.Fields.{Field, more, fields, wholeFields, grouped, payloads}
+use Rattle.tlv.specs.Model.{Entry}
+use Rattle.tlv.specs.Cursor.{stepAt}
+use Rattle.tlv.specs.Checked.{fieldIn}
+use Rattle.tlv.specs.Places.{ownFields, unitFields, entryHere, unitHere, behind, entryIndex}
+use Rattle.tlv.proofs.CursorLaws.{fields-at, fields-field, field-within, payload-length}
+use Rattle.tlv.proofs.IndexLaws.{index-entry, index-other}
+use Rattle.tlv.proofs.IndexModel.{either}
+use Rattle.references.specs.Tables.{EntryKnown}
+use Rattle.imports.specs.Import.{descendantsOf}
+use Rattle.dies.specs.RangeTable as table
+use Rattle.dies.specs.Details.{entriesFrom, EntriesKnown}
+use Rattle.dies.specs.DetailState.{rangesLater, entriesLeft}
+
+-- the test of an entry's own fields
+abbrev isOwn : Field → Bool
+isOwn f = not (eqb (f .tag) 0x17 || eqb (f .tag) 0x10)
+
+-- those of an entry are up to the next entry or unit
+own-before : (fs : List Field) → grouped 0x17 (takeWhile (λ f. not (eqb (f .tag) 0x10)) fs) .before ≡ takeWhile (λ f. not (eqb (f .tag) 0x17 || eqb (f .tag) 0x10)) fs
+unfolding grouped takeWhile
+own-before [] = refl
+own-before (f ∷ fs) =
+    either (eqb (f .tag) 0x10) (λ a. either (eqb (f .tag) 0x17) (λ b. rw (a, b)) (λ b. rw (a, b)))
+    (λ a. either (eqb (f .tag) 0x17) (λ b. rw (a, b)) (λ b. rw (a, b, own-before fs)))
+
+-- the payloads of a tag, before the first field that fails a test and from there on
+split : (own : Field → Bool) (t : ℕ) (xs : List Field) → length (payloads t xs) ≡ length (payloads t (takeWhile own xs)) + length (payloads t (dropWhile own xs))
+unfolding takeWhile dropWhile payloads
+split own t [] = refl
+split own t (x ∷ xs) =
+    let ih = split own t xs in
+    either (own x)
+    (λ y. either (eqb (x .tag) t) (λ z. rw (y, z) (omega arith)) (λ z. rw (y, z) (omega arith)))
+    (λ n. rw n (omega arith))
+
+-- no more ranges come later than come at all
+pub later-most : (s : List ℕ) (p : ℕ) → rangesLater s p ≤ length (payloads 0x19 (wholeFields (fields (drop p s))))
+unfolding rangesLater
+later-most s p = omega (arith, split isOwn 0x19 (wholeFields (fields (drop p s))))
+
+pub left-all : (s : List ℕ) (p : ℕ) → entriesLeft s p ≡ length (payloads 0x17 (wholeFields (fields (drop p s))))
+unfolding entriesLeft
+left-all s p = refl
+
+-- ---- below a subprogram
+
+module _ (depth : ℕ) where
+  pub below-none : descendantsOf depth [] ≡ []
+  unfolding descendantsOf takeWhile
+  below-none = refl
+
+  pub below-cons : (e : Entry) (es : List Entry) → depth < e .depth → descendantsOf depth (e ∷ es) ≡ e ∷ descendantsOf depth es
+  unfolding descendantsOf takeWhile
+  below-cons e es h = rw (lt-ltb depth (e .depth) h)
+
+  pub below-stop : (e : Entry) (es : List Entry) → e .depth ≤ depth → descendantsOf depth (e ∷ es) ≡ []
+  unfolding descendantsOf takeWhile
+  below-stop e es h = rw (le-ltb depth (e .depth) h)
+
+-- ---- what stands at a place
+
+module _ (s : List ℕ) (p : ℕ) (r : Step) (reads : r ≡ stepAt s p) where
+  pub from-end : r ≡ Step.End → entriesFrom s p ≡ []
+  unfolding entriesFrom unitFields wholeFields takeWhile grouped
+  from-end e = rw (fields-at s p, ← reads, e)
+
+  pub from-cut : r ≡ Step.Cut → entriesFrom s p ≡ []
+  unfolding entriesFrom unitFields wholeFields takeWhile grouped
+  from-cut e = rw (fields-at s p, ← reads, e)
+
+  module _ (t start len next : ℕ) (e : r ≡ Step.Field t start len next) where
+    here : fields (drop p s) ≡ more (fieldIn s t start len) (fields (drop next s))
+    here = fields-field s p r t start len next reads e
+
+    pub from-unit : t ≡ 0x10 → entriesFrom s p ≡ []
+    unfolding entriesFrom unitFields wholeFields takeWhile grouped
+    from-unit is = rw (here, eq-eqb t 0x10 is)
+
+    pub from-entry : t ≡ 0x17 → entriesFrom s p ≡ entryHere s p ∷ entriesFrom s next
+    unfolding entriesFrom unitFields wholeFields takeWhile grouped entryHere ownFields
+    from-entry is = rw (here, ne-eqb t 0x10 (λ no. omega arith), eq-eqb t 0x17 is, own-before (wholeFields (fields (drop next s))))
+
+    pub from-other : (t ≡ 0x10 → ⊥) → (t ≡ 0x17 → ⊥) → entriesFrom s p ≡ entriesFrom s next
+    unfolding entriesFrom unitFields wholeFields takeWhile grouped
+    from-other h k = rw (here, ne-eqb t 0x10 h, ne-eqb t 0x17 k)
+
+    -- ---- how many are left
+
+    whole : wholeFields (fields (drop p s)) ≡ fieldIn s t start len ∷ wholeFields (fields (drop next s))
+    unfolding wholeFields
+    whole = ap wholeFields here
+
+    pub left-entry : t ≡ 0x17 → entriesLeft s p ≡ 1 + entriesLeft s next
+    unfolding entriesLeft payloads
+    left-entry is = rw (whole, eq-eqb t 0x17 is) (omega arith)
+
+    pub left-other : (t ≡ 0x17 → ⊥) → entriesLeft s p ≡ entriesLeft s next
+    unfolding entriesLeft payloads
+    left-other h = rw (whole, ne-eqb t 0x17 h)
+
+    pub later-entry : t ≡ 0x17 → rangesLater s p ≡ length (table.rangeFields s next) + rangesLater s next
+    unfolding rangesLater ownFields dropWhile payloads
+    later-entry is = rw (whole, eq-eqb t 0x17 is, ne-eqb t 0x19 (λ no. omega arith)) (split isOwn 0x19 (wholeFields (fields (drop next s))))
+
+    pub later-other : (t ≡ 0x10 → ⊥) → (t ≡ 0x17 → ⊥) → rangesLater s p ≡ rangesLater s next
+    unfolding rangesLater dropWhile
+    later-other h k = rw (whole, ne-eqb t 0x17 k, ne-eqb t 0x10 h)
+
+    -- ---- the index
+
+    to : behind p (fieldIn s t start len) ≡ next
+    to = let w = field-within s p r t start len next reads e in omega (arith, payload-length s p r t start len next reads e)
+
+    fewer : (m : ℕ) → length (payloads m (wholeFields (fields (drop next s)))) ≤ length (payloads m (wholeFields (fields (drop p s))))
+    unfolding payloads
+    fewer m = rw whole (either (eqb t m) (λ y. rw y (omega arith)) (λ n. rw n (omega arith)))
+
+    module _ {q : ℕ} (K : EntriesKnown s q p) where
+      index-here : t ≡ 0x17 → EntryKnown s q p × All (λ x. Any (λ y. y ≡ x) (entryIndex 0 0 0 (fields s))) (entryIndex next q (unitHere s q .offset) (fields (drop next s)))
+      index-here is =
+          let all = rw (here, index-entry p q (unitHere s q .offset) (fieldIn s t start len) (fields (drop next s)) next to is) at (K .listed) in
+          (record { entry = _; listed = all .0; place = refl; unit = refl }, all .1)
+
+      pub known-here : t ≡ 0x17 → EntryKnown s q p
+      known-here is = index-here is .0
+
+      pub known-entry : t ≡ 0x17 → EntriesKnown s q next
+      known-entry is = record { listed = index-here is .1; ranges = omega (arith, K .ranges, fewer 0x19); entries = omega (arith, K .entries, fewer 0x17) }
+
+      pub known-other : (t ≡ 0x10 → ⊥) → (t ≡ 0x17 → ⊥) → EntriesKnown s q next
+      known-other h k = record {
+        listed = rw (here, index-other p q (unitHere s q .offset) (fieldIn s t start len) (fields (drop next s)) next to h k) at (K .listed);
+        ranges = omega (arith, K .ranges, fewer 0x19);
+        entries = omega (arith, K .entries, fewer 0x17);
+      }

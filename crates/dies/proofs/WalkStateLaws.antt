@@ -1,0 +1,185 @@
+-- The state of the walk over the entries below a subprogram: what a write leaves as it was, and closing. Assumes nothing.
+use mathlib.Core.Path.{_≡_, refl, _∙_}
+use mathlib.Core.Logic.{inl, inr, ⊎-elim}
+use mathlib.Core.List.{List}
+use Prim.Native.Nat.{ℕ, _+_, _*_, _≤_, _<_}
+use native.Mathlib.Omega.{arith}
+use lib.ListN.{length}
+use Rattle.tlv.specs.Bytes.{leAt}
+use Rattle.tlv.specs.Output.{InlineNode, Warning}
+use Rattle.tlv.specs.Table.{Kept, Apart}
+use Rattle.tlv.specs.Index.{indexedOf}
+use Rattle.tlv.specs.Units.{unitOf24}
+use Rattle.tlv.proofs.TableLaws.{kept-wide, leAt-kept}
+use Rattle.tlv.proofs.RecordLaws.{records-kept}
+use Rattle.files.specs.Indices.{indexOf, indicesOf}
+use Rattle.references.specs.declared.tables.Index.{Index}
+use Rattle.references.specs.Tables.{IndexIn}
+use Rattle.references.specs.Keys.{possibleKeys}
+use Rattle.references.proofs.KeyLaws.{keys-in-none}
+use Rattle.dies.specs.declared.dies.Details.{Details}
+use Rattle.dies.specs.declared.dies.Walk.{Walk}
+use Rattle.dies.specs.declared.dies.Sites.{Sites}
+use Rattle.dies.specs.declared.frames.Open.{Open}
+use Rattle.imports.specs.Tree.{finish}
+use Rattle.dies.specs.FrameStack.{Popped}
+use Rattle.dies.specs.Details.{DetailsIn, contextIn, rangeCount}
+use Rattle.dies.specs.DetailState.{originName, Closed, walkOf, Fits, walked, Shut}
+use Rattle.dies.proofs.RangeTableLaws.{ranges-kept}
+use Rattle.dies.proofs.FrameLaws.{used-one, open-kept}
+use Rattle.dies.proofs.SiteLaws.{site-frames-kept, sites-kept}
+
+-- ---- the tables below the walk's part of the work slice
+
+index-kept : {s w w′ : List ℕ} {x : Index} {p m : ℕ} → IndexIn s w x → Kept w w′ p m → x .units + 24 * x .«unit_count» ≤ p → x .entries + 16 * x .«entry_count» ≤ p → length w′ ≡ length w → IndexIn s w′ x
+index-kept {s} {w} {w′} {x} I K h k z = record {
+  number = I .number;
+  accepted = I .accepted;
+  units = records-kept unitOf24 24 (x .units) (x .«unit_count») K (inl (omega arith)) ∙ I .units;
+  entries = records-kept indexedOf 16 (x .entries) (x .«entry_count») K (inl (omega arith)) ∙ I .entries;
+  units-within = omega (arith, I .units-within);
+  entries-within = omega (arith, I .entries-within);
+}
+
+module _ {main supplementary w : List ℕ} {d : Details} (D : DetailsIn main supplementary w d) where
+  module _ {w′ : List ℕ} {p m : ℕ} (K : Kept w w′ p m) (h : d .ranges ≤ p) where
+    pub details-kept : length w′ ≡ length w → DetailsIn main supplementary w′ d
+    details-kept z = record {
+      tables = record {
+        main-index = index-kept (D .tables .main-index) K (omega (arith, D .main-units)) (omega (arith, D .main-entries)) z;
+        supplementary-index = index-kept (D .tables .supplementary-index) K (omega (arith, D .supplementary-units)) (omega (arith, D .supplementary-entries)) z;
+        keys = keys-in-none (omega (arith, D .tables .keys .room));
+        main-units = D .tables .main-units;
+        main-entries = D .tables .main-entries;
+        supplementary-units = D .tables .supplementary-units;
+        supplementary-entries = D .tables .supplementary-entries;
+      };
+      indices = D .indices;
+      main-units = D .main-units;
+      main-entries = D .main-entries;
+      supplementary-units = D .supplementary-units;
+      supplementary-entries = D .supplementary-entries;
+      ranges = D .ranges;
+      stack = D .stack;
+      sites = D .sites;
+    }
+
+    pub context-kept : contextIn main supplementary w′ d ≡ contextIn main supplementary w d
+    unfolding indicesOf
+    context-kept = λ i. record {
+      dwarf = contextIn main supplementary w d .dwarf;
+      unit = contextIn main supplementary w d .unit;
+      functionRange = d .range;
+      fileIndices = records-kept indexOf 5 (d .indices .base) (d .indices .count) K (inl (omega (arith, D .indices))) i;
+      includeInlines = d .«include_inlines»;
+      includeCallSites = d .«include_call_sites»;
+    }
+
+  -- a stretch of it
+  pub kept-inside : {w₁ w₂ : List ℕ} {p m : ℕ} → Kept w₁ w₂ p m → d .ranges ≤ p → p + m ≤ d .tables .keys + 9 * length (possibleKeys main supplementary) → Kept w₁ w₂ (d .ranges) (walked main supplementary d)
+  kept-inside K h k = kept-wide (d .ranges) (walked main supplementary d) K h (omega (arith, D .ranges, D .stack, D .sites))
+
+  -- the followed targets of a search
+  pub kept-keys : {w₁ w₂ : List ℕ} → Kept w₁ w₂ (d .tables .keys) (9 * length (possibleKeys main supplementary)) → Kept w₁ w₂ (d .ranges) (walked main supplementary d)
+  kept-keys K = kept-inside K (omega (arith, D .ranges, D .stack, D .sites)) (omega arith)
+
+-- ---- a write beside the state
+
+pub record Aside (d : Details) (s : Walk) (p m : ℕ) : Type 0 where
+  pub frames : Apart (d .ranges) (s .frames .used * 16) p m
+  pub stack : Apart (d .stack) (s .opened * 14) p m
+  pub sites : Apart (d .sites) (s .closed * 12) p m
+
+module _ {main supplementary w w′ : List ℕ} {d : Details} {a b : ℕ} {s : Walk} {p m : ℕ} (F : Fits main supplementary w d a b s) (K : Kept w w′ p m) (A : Aside d s p m) where
+  pub walk-kept : (ns : List InlineNode) (ws : List Warning) → walkOf main supplementary d w′ s ns ws ≡ walkOf main supplementary d w s ns ws
+  unfolding walkOf
+  walk-kept ns ws = λ i. record {
+    inlineStack = open-kept (s .frames) (F .ready) (d .ranges) K (A .frames) i;
+    inlines = ns;
+    callSiteStack = site-frames-kept (originName main supplementary (d .unit)) (d .stack) (s .opened) K (A .stack) i;
+    callSites = sites-kept (originName main supplementary (d .unit)) (d .sites) (s .closed) K (A .sites) i;
+    warnings = ws;
+  }
+
+  stacked-place : (i : ℕ) → i < s .opened → leAt 4 w′ (d .stack + i * 14 + 2) ≡ leAt 4 w (d .stack + i * 14 + 2)
+  stacked-place i h = leAt-kept 4 (d .stack + i * 14 + 2) K (⊎-elim (λ l. inl (omega arith)) (λ l. inr (omega arith)) (A .stack))
+
+  closed-place : (i : ℕ) → i < s .closed → leAt 4 w′ (d .sites + i * 12) ≡ leAt 4 w (d .sites + i * 12)
+  closed-place i h = leAt-kept 4 (d .sites + i * 12) K (⊎-elim (λ l. inl (omega arith)) (λ l. inr (omega arith)) (A .sites))
+
+  pub fits-kept : Fits main supplementary w′ d a b s
+  fits-kept =
+      let one = used-one (s .frames) (F .ready) in
+      record {
+        ready = F .ready;
+        used = F .used;
+        sites = F .sites;
+        nodes = F .nodes;
+        bottom = ranges-kept (d .ranges) 1 K (⊎-elim (λ l. inl (omega arith)) (λ l. inr (omega arith)) (A .frames)) ∙ F .bottom;
+        place = F .place;
+        warned = F .warned;
+        stacked = λ i h. rw (stacked-place i h) (F .stacked i h);
+        closed = λ i h. rw (closed-place i h) (F .closed i h);
+      }
+
+-- less room is asked for
+pub fits-less : {main supplementary w : List ℕ} {d : Details} {a b : ℕ} {s : Walk} → Fits main supplementary w d a b s → (a′ b′ : ℕ) → a′ ≤ a → b′ ≤ b → Fits main supplementary w d a′ b′ s
+fits-less F a′ b′ h k = record {
+  ready = F .ready;
+  used = omega (arith, F .used);
+  sites = omega (arith, F .sites);
+  nodes = omega (arith, F .nodes);
+  bottom = F .bottom;
+  place = F .place;
+  warned = F .warned;
+  stacked = F .stacked;
+  closed = F .closed;
+}
+
+module _ {main supplementary w : List ℕ} {d : Details} {a b : ℕ} {s : Walk} (D : DetailsIn main supplementary w d) (F : Fits main supplementary w d a b s) where
+  -- the followed targets stand above the state
+  pub aside-keys : (m : ℕ) → Aside d s (d .tables .keys) m
+  aside-keys m = record {
+    frames = inl (omega (arith, F .used, D .ranges, D .stack, D .sites));
+    stack = inl (omega (arith, F .sites, D .stack, D .sites));
+    sites = inl (omega (arith, F .sites, D .sites));
+  }
+
+  -- what is above the stack of ranges, and fits there
+  pub aside-ranges : (m : ℕ) → s .frames .used * 16 + m ≤ 16 * (1 + rangeCount main) → Aside d s (d .ranges + s .frames .used * 16) m
+  aside-ranges m h = record {
+    frames = inl (omega arith);
+    stack = inr (omega (arith, D .ranges));
+    sites = inr (omega (arith, D .ranges, D .stack));
+  }
+
+  -- ---- closing
+
+  pub shut-is : {w′ : List ℕ} {o : Open} {depth : ℕ} {r : Sites} → Popped (s .frames) o depth → Closed w w′ (d .stack) (s .opened) (d .sites) (s .closed) depth r
+      → Shut main supplementary d depth w s w′ (record { frames = o; opened = r .opened; closed = r .closed; nodes = s .nodes; at = s .at; warned = s .warned; status = s .status })
+  unfolding walkOf finish
+  shut-is {w′} {o} {depth} {r} P C = record {
+    place = refl;
+    warned = refl;
+    nodes = refl;
+    status = refl;
+    kept = kept-inside D (C .rest) (omega (arith, D .ranges, D .stack)) (omega (arith, F .sites, D .sites));
+    fits = λ a′ b′ G. record {
+      ready = P .ready;
+      used = omega (arith, P .used, G .used);
+      sites = omega (arith, C .sum, G .sites);
+      nodes = G .nodes;
+      bottom = ranges-kept (d .ranges) 1 (C .rest) (inl (omega (arith, D .ranges, D .stack))) ∙ G .bottom;
+      place = G .place;
+      warned = G .warned;
+      stacked = λ i h. rw (leAt-kept 4 (d .stack + i * 14 + 2) (C .rest) (inl (omega (arith, F .sites, D .stack, C .few)))) (G .stacked i (omega (arith, C .few)));
+      closed = λ i h. ⊎-elim (λ x. rw (x .2) (G .stacked (x .0) (x .1))) (λ x. rw (x .1) (G .closed i (x .0))) (C .each i h);
+    };
+    walk = λ ns ws i. record {
+      inlineStack = (open-kept o (P .ready) (d .ranges) (C .rest) (inl (omega (arith, P .used, F .used, D .ranges, D .stack))) ∙ P .frames w (d .ranges)) i;
+      inlines = ns;
+      callSiteStack = C .left (originName main supplementary (d .unit)) i;
+      callSites = C .moved (originName main supplementary (d .unit)) i;
+      warnings = ws;
+    };
+  }

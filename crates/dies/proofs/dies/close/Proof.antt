@@ -1,0 +1,20 @@
+-- `dies::close` meets its contract. Assumes nothing.
+use Rattle.dies.proofs.WalkStateLaws.{shut-is}
+use borrow.Author.Needs.{needs}
+use Rattle.dies.proofs.dies.close.Statement.{statement}
+use Rattle.dies.proofs.dies.close.Tie as tie
+
+popped-requires : tie.Need-popped-requires
+popped-requires c κs = search needs
+
+finish-call-sites-requires : tie.Need-finish-call-sites-requires
+finish-call-sites-requires c κs = search needs
+
+same-length : tie.Need-same-length
+same-length c = search needs
+
+returns : tie.Need-returns
+returns c = search shut-is
+
+pub close-spec : {M : Type 1} → statement M
+close-spec = tie.close (tie.spec popped-requires finish-call-sites-requires same-length returns)

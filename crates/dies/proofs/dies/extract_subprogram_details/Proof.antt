@@ -1,0 +1,55 @@
+-- `dies::extract_subprogram_details` meets its contract. Assumes nothing.
+use native.Mathlib.Omega.{arith}
+use Rattle.dies.proofs.ExtractLaws.{extracts-inlines, extracts-sites, extracts-off}
+use borrow.Author.Needs.{needs}
+use Rattle.dies.proofs.dies.extract_subprogram_details.Statement.{statement}
+use Rattle.dies.proofs.dies.extract_subprogram_details.Tie as tie
+
+collect-descendants-requires : tie.Need-collect-descendants-requires
+collect-descendants-requires c κs = search needs
+
+same-length : tie.Need-same-length
+same-length c = search needs
+
+same-length-2 : tie.Need-same-length-2
+same-length-2 c = search needs
+
+same-length-3 : tie.Need-same-length-3
+same-length-3 c = search needs
+
+returns : tie.Need-returns
+returns c = extracts-inlines (c .before .before .before .before .before .before .before .before .before .before .if1 .taken) (c .before .before .before .before .before .before .collect-descendants .ensures)
+
+collect-descendants-requires-2 : tie.Need-collect-descendants-requires-2
+collect-descendants-requires-2 c κs = search needs
+
+same-length-4 : tie.Need-same-length-4
+same-length-4 c = search needs
+
+same-length-5 : tie.Need-same-length-5
+same-length-5 c = search needs
+
+same-length-6 : tie.Need-same-length-6
+same-length-6 c = search needs
+
+returns-2 : tie.Need-returns-2
+returns-2 c = extracts-sites (c .before .before .before .before .before .before .before .before .before .before .before .if1 .left) (c .before .before .before .before .before .before .before .before .before .before .if2 .taken) (c .before .before .before .before .before .before .collect-descendants2 .ensures)
+
+returns-3 : tie.Need-returns-3
+returns-3 c = extracts-off (c .before .if1 .left) (c .if2 .left) (omega arith) (omega arith) (omega arith) (omega arith)
+
+pub extract-subprogram-details-spec : {M : Type 1} → statement M
+extract-subprogram-details-spec =
+    tie.close
+    (tie.spec
+    collect-descendants-requires
+    same-length
+    same-length-2
+    same-length-3
+    returns
+    collect-descendants-requires-2
+    same-length-4
+    same-length-5
+    same-length-6
+    returns-2
+    returns-3)

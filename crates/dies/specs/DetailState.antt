@@ -1,0 +1,287 @@
+-- What the walk over the entries below a subprogram has done, as it stands in memory, and what each of its steps promises. Assumes nothing.
+use mathlib.Core.Path.{_≡_}
+use mathlib.Core.Bool.{cond, not, _||_}
+use mathlib.Core.Logic.{_⊎_}
+use mathlib.Core.List.{List, [], _∷_, _++_, map}
+use mathlib.Core.Option.{Option, none, some}
+use Prim.Native.Nat.{ℕ, zero, suc, _+_, _-_, _*_, _≤_, _<_}
+use lib.Dec.{eqb}
+use lib.ListN.{length, drop}
+use Rattle.tlv.specs.declared.model.AddressRange.{AddressRange}
+use Rattle.tlv.specs.declared.access.Value.{Value}
+use Rattle.tlv.specs.Outcome.{Outcome, refused, done, _>>=_}
+use Rattle.tlv.specs.Lists.{takeWhile, dropWhile}
+use Rattle.tlv.specs.Bytes.{leAt}
+use Rattle.tlv.specs.Fields.{fields, wholeFields, payloads, encode}
+use Rattle.tlv.specs.Buffer.{Put, top}
+use Rattle.tlv.specs.Table.{chunk, records, Kept}
+use Rattle.tlv.specs.Model.{Entry, Attribute}
+use Rattle.tlv.specs.Grammar.{checkInput}
+use Rattle.tlv.specs.Places.{entryHere, unitHere}
+use Rattle.tlv.specs.Output.{InlineNode, CallSite, Warning, WarningKind, about, kindNumber, eachOf, nodeBytes, sitePayload, warningsBytes}
+use Rattle.lines.specs.Files.{FileIndices, fileIndex}
+use Rattle.references.specs.Search.{attribute, absoluteEntryOffset}
+use Rattle.references.specs.Tables.{EntryKnown}
+use Rattle.references.specs.Names.{dwarfOf, referenceName}
+use Rattle.references.specs.Keys.{possibleKeys}
+use Rattle.dies.specs.declared.dies.Details.{Details}
+use Rattle.dies.specs.declared.dies.Extracted.{Extracted}
+use Rattle.dies.specs.declared.dies.Walk.{Walk}
+use Rattle.dies.specs.declared.dies.Sites.{Sites}
+use Rattle.dies.specs.declared.dies.Number.{Number}
+use Rattle.dies.specs.declared.dies.Address.{Address}
+use Rattle.dies.specs.declared.dies.Warned.{Warned}
+use Rattle.dies.specs.declared.dies.CalledFile.{CalledFile}
+use Rattle.dies.specs.declared.dies.CalledLine.{CalledLine}
+use Rattle.imports.specs.Tree.{CallSiteFrame, Descendants, DetailContext, callFileOf, callLineOf, endsHere, finish, makeCallSite, pushCallSite, collectEntry, collectDescendants}
+use Rattle.dies.specs.RangeTable.{rangesAt}
+use Rattle.dies.specs.FrameStack.{openIn, Ready}
+use Rattle.imports.specs.Import.{descendantsOf}
+use Rattle.dies.specs.Details.{rangeCount, entryCount, contextIn, entriesFrom, detailBytes}
+
+-- ---- call sites in the work slice
+
+-- the name of an outcome, empty where it is a refusal
+abbrev pub nameGiven : Outcome (List ℕ) → List ℕ
+nameGiven (refused n) = []
+nameGiven (done r) = r
+
+-- what the search for the name that the origin of the call site at a place refers to gives
+unfoldable pub originOf : List ℕ → List ℕ → ℕ → ℕ → Outcome (List ℕ)
+originOf main supplementary unit p = referenceName (dwarfOf main supplementary) (unitHere main unit) (entryHere main p) (attribute (entryHere main p) 0x7f)
+
+unfoldable pub originName : List ℕ → List ℕ → ℕ → ℕ → List ℕ
+originName main supplementary unit p = nameGiven (originOf main supplementary unit p)
+
+-- f gives the pattern of the call site whose entry stands at a place
+module _ (f : ℕ → List ℕ) where
+  -- a closed one: 12 bytes, the entry's place 4, the return offset 8
+  unfoldable pub siteOf : List ℕ → CallSite
+  siteOf b = record { returnOffset = leAt 8 b 4; pattern = f (leAt 4 b 0) }
+
+  -- an open one: 14 bytes, the entry's depth 2, its place 4, the return offset 8
+  unfoldable pub siteFrameOf : List ℕ → CallSiteFrame
+  siteFrameOf b = record { dieDepth = leAt 2 b 0; callSite = record { returnOffset = leAt 8 b 6; pattern = f (leAt 4 b 2) } }
+
+  -- the n open ones from base on, the innermost first
+  unfoldable pub siteFramesAt : List ℕ → ℕ → ℕ → List CallSiteFrame
+  siteFramesAt w base zero = []
+  siteFramesAt w base (suc n) = siteFrameOf (chunk w (base + n * 14) 14) ∷ siteFramesAt w base n
+
+  -- the n closed ones from base on
+  unfoldable pub sitesAt : List ℕ → ℕ → ℕ → List CallSite
+  sitesAt w base n = records siteOf 12 w base n
+
+-- an open call site was written at p
+pub record PutSite (w w′ : List ℕ) (p depth place offset : ℕ) : Type 0 where
+  pub value : (f : ℕ → List ℕ) → siteFrameOf f (chunk w′ p 14) ≡ record { dieDepth = depth; callSite = record { returnOffset = offset; pattern = f place } }
+  pub place-is : leAt 4 w′ (p + 2) ≡ place
+  pub rest : Kept w w′ p 14
+
+-- of the n open call sites the innermost, as far as they are at `depth` or below, went behind the m closed ones. The place of each closed one is that of one of the n or the m
+pub record Closed (w w′ : List ℕ) (stack n sites m depth : ℕ) (r : Sites) : Type 0 where
+  pub left : (f : ℕ → List ℕ) → siteFramesAt f w′ stack (r .opened) ≡ dropWhile (endsHere depth) (siteFramesAt f w stack n)
+  pub moved : (f : ℕ → List ℕ) → sitesAt f w′ sites (r .closed) ≡ sitesAt f w sites m ++ map (λ x. x .callSite) (takeWhile (endsHere depth) (siteFramesAt f w stack n))
+  pub each : (i : ℕ) → i < r .closed → ((j : ℕ) × (j < n) × (leAt 4 w′ (sites + i * 12) ≡ leAt 4 w (stack + j * 14 + 2))) ⊎ ((i < m) × (leAt 4 w′ (sites + i * 12) ≡ leAt 4 w (sites + i * 12)))
+  pub sum : r .opened + r .closed ≡ n + m
+  pub few : r .opened ≤ n
+  pub rest : Kept w w′ (sites + m * 12) (n * 12)
+
+-- ---- the state
+
+-- the ranges of the entries behind place p, but for those of the entry that p is in
+unfoldable pub rangesLater : List ℕ → ℕ → ℕ
+rangesLater s p = length (payloads 0x19 (dropWhile (λ f. not (eqb (f .tag) 0x17 || eqb (f .tag) 0x10)) (wholeFields (fields (drop p s)))))
+
+-- the entries from place p on
+unfoldable pub entriesLeft : List ℕ → ℕ → ℕ
+entriesLeft s p = length (payloads 0x17 (wholeFields (fields (drop p s))))
+
+-- a call site whose origin's name was found once is found again
+pub record SiteKnown (main supplementary : List ℕ) (unit p : ℕ) : Type 0 where
+  pub entry : EntryKnown main unit p
+  pub name : originOf main supplementary unit p ≡ done (originName main supplementary unit p)
+
+-- the walk's state, with the nodes and the warnings that were laid
+unfoldable pub walkOf : List ℕ → List ℕ → Details → List ℕ → Walk → List InlineNode → List Warning → Descendants
+walkOf main supplementary d w s nodes warnings = record {
+  inlineStack = openIn w (d .ranges) (s .frames);
+  inlines = nodes;
+  callSiteStack = siteFramesAt (originName main supplementary (d .unit)) w (d .stack) (s .opened);
+  callSites = sitesAt (originName main supplementary (d .unit)) w (d .sites) (s .closed);
+  warnings = warnings;
+}
+
+-- the state stands in w, and there is room for a ranges and b entries more
+pub record Fits (main supplementary w : List ℕ) (d : Details) (a b : ℕ) (s : Walk) : Type 0 where
+  pub ready : Ready (s .frames)
+  pub used : s .frames .used + a ≤ 1 + rangeCount main
+  pub sites : s .opened + s .closed + b ≤ entryCount main
+  pub nodes : s .nodes + b ≤ entryCount main
+  pub bottom : rangesAt w (d .ranges) 1 ≡ d .range ∷ []
+  pub place : s .at ≤ top
+  pub warned : s .warned ≤ top
+  pub stacked : (i : ℕ) → i < s .opened → SiteKnown main supplementary (d .unit) (leAt 4 w (d .stack + i * 14 + 2))
+  pub closed : (i : ℕ) → i < s .closed → SiteKnown main supplementary (d .unit) (leAt 4 w (d .sites + i * 12))
+
+-- ---- what is laid
+
+-- before the first node the root
+abbrev pub leadBytes : List ℕ → AddressRange → ℕ → List ℕ
+leadBytes name r zero = nodeBytes (record { depth = 0; callFile = fileIndex 0; callLine = 0; name = name; ranges = r ∷ [] })
+leadBytes name r (suc n) = []
+
+-- the bytes of nodes that follow n others
+abbrev pub newBytes : List ℕ → AddressRange → ℕ → List InlineNode → List ℕ
+newBytes name r n [] = []
+newBytes name r n (x ∷ xs) = leadBytes name r n ++ eachOf nodeBytes (x ∷ xs)
+
+-- ---- the steps
+
+-- the part of the work slice that the walk writes to
+abbrev pub walked : List ℕ → List ℕ → Details → ℕ
+walked main supplementary d = d .tables .keys + 9 * length (possibleKeys main supplementary) - d .ranges
+
+-- what the definition does by F is done in memory: nodes and warnings are laid, and the rest stands in w′, with room for a ranges and b entries; or it is refused
+pub record Advances (F : Descendants → Outcome Descendants) (main supplementary name : List ℕ) (d : Details) (a b : ℕ) (w t u : List ℕ) (s : Walk) (w′ t′ u′ : List ℕ) (s′ : Walk) : Type 0 where
+  pub nodes : List InlineNode
+  pub warnings : List Warning
+  pub laid : s′ .status ≡ 0 → Put (s .at) (newBytes name (d .range) (s .nodes) nodes) t t′ (s′ .at)
+  pub warned : s′ .status ≡ 0 → Put (s .warned) (warningsBytes warnings) u u′ (s′ .warned)
+  pub count : s′ .status ≡ 0 → s′ .nodes ≡ s .nodes + length nodes
+  pub kept : Kept w w′ (d .ranges) (walked main supplementary d)
+  pub fits : s′ .status ≡ 0 → Fits main supplementary w′ d a b s′
+  pub ok : s′ .status ≡ 0 → (ns : List InlineNode) (ws : List Warning) → F (walkOf main supplementary d w s ns ws) ≡ done (walkOf main supplementary d w′ s′ (ns ++ nodes) (ws ++ warnings))
+  pub no : (s′ .status ≡ 0 → ⊥) → (ns : List InlineNode) (ws : List Warning) → F (walkOf main supplementary d w s ns ws) ≡ refused (s′ .status)
+
+-- the same of what lays nothing
+pub record Quiet (F : Descendants → Outcome Descendants) (main supplementary : List ℕ) (d : Details) (a b : ℕ) (w : List ℕ) (s : Walk) (w′ : List ℕ) (s′ : Walk) : Type 0 where
+  pub place : s′ .at ≡ s .at
+  pub warned : s′ .warned ≡ s .warned
+  pub nodes : s′ .nodes ≡ s .nodes
+  pub kept : Kept w w′ (d .ranges) (walked main supplementary d)
+  pub fits : s′ .status ≡ 0 → Fits main supplementary w′ d a b s′
+  pub ok : s′ .status ≡ 0 → (ns : List InlineNode) (ws : List Warning) → F (walkOf main supplementary d w s ns ws) ≡ done (walkOf main supplementary d w′ s′ ns ws)
+  pub no : (s′ .status ≡ 0 → ⊥) → (ns : List InlineNode) (ws : List Warning) → F (walkOf main supplementary d w s ns ws) ≡ refused (s′ .status)
+
+-- the nodes and call sites that end before an entry of this depth are closed
+pub record Shut (main supplementary : List ℕ) (d : Details) (depth : ℕ) (w : List ℕ) (s : Walk) (w′ : List ℕ) (s′ : Walk) : Type 0 where
+  pub place : s′ .at ≡ s .at
+  pub warned : s′ .warned ≡ s .warned
+  pub nodes : s′ .nodes ≡ s .nodes
+  pub status : s′ .status ≡ s .status
+  pub kept : Kept w w′ (d .ranges) (walked main supplementary d)
+  pub fits : (a b : ℕ) → Fits main supplementary w d a b s → Fits main supplementary w′ d a b s′
+  pub walk : (ns : List InlineNode) (ws : List Warning) → walkOf main supplementary d w′ s′ ns ws ≡ finish depth (walkOf main supplementary d w s ns ws)
+
+-- a call site
+unfoldable pub collectSite : DetailContext → Entry → Descendants → Outcome Descendants
+collectSite c e x = makeCallSite c e >>= λ s. done (pushCallSite e x s)
+
+-- an entry: those that end before it are closed first
+unfoldable pub stepEntry : DetailContext → Entry → Descendants → Outcome Descendants
+stepEntry c e x = collectEntry c e (finish (e .depth) x)
+
+-- ---- the numbers of an entry's attributes
+
+-- the grammar accepts the sheet
+pub record Accepted (s : List ℕ) : Type 0 where
+  pub number : ℕ
+  pub is : checkInput s ≡ done number
+
+abbrev pub numberGiven : Option ℕ → Number
+numberGiven none = Number.Missing
+numberGiven (some n) = Number.Is n
+
+-- the return address that an attribute is
+abbrev pub addressOf : Option Attribute → Address
+addressOf none = Address.Missing
+addressOf (some a) = cond (eqb (a .kind) 10) Address.Failed (cond (eqb (a .kind) 9) (Address.At (a .value)) Address.Missing)
+
+-- what values are
+abbrev pub addressIn : Value → Address
+addressIn Value.Absent = Address.Missing
+addressIn (Value.Unsigned n) = Address.Missing
+addressIn (Value.FileNumber n) = Address.Missing
+addressIn (Value.Text start len) = Address.Missing
+addressIn (Value.UnitReference n) = Address.Missing
+addressIn (Value.SectionReference n) = Address.Missing
+addressIn (Value.SupplementaryReference n) = Address.Missing
+addressIn (Value.SectionOffset n) = Address.Missing
+addressIn (Value.LineOffset n) = Address.Missing
+addressIn (Value.Address n) = Address.At n
+addressIn Value.Failed = Address.Failed
+
+abbrev pub fileNumberIn : Value → Number
+fileNumberIn Value.Absent = Number.Missing
+fileNumberIn (Value.Unsigned n) = Number.Is n
+fileNumberIn (Value.FileNumber n) = Number.Is n
+fileNumberIn (Value.Text start len) = Number.Missing
+fileNumberIn (Value.UnitReference n) = Number.Missing
+fileNumberIn (Value.SectionReference n) = Number.Missing
+fileNumberIn (Value.SupplementaryReference n) = Number.Missing
+fileNumberIn (Value.SectionOffset n) = Number.Missing
+fileNumberIn (Value.LineOffset n) = Number.Missing
+fileNumberIn (Value.Address n) = Number.Missing
+fileNumberIn Value.Failed = Number.Missing
+
+abbrev pub lineNumberIn : Value → Number
+lineNumberIn Value.Absent = Number.Missing
+lineNumberIn (Value.Unsigned n) = Number.Is n
+lineNumberIn (Value.FileNumber n) = Number.Missing
+lineNumberIn (Value.Text start len) = Number.Missing
+lineNumberIn (Value.UnitReference n) = Number.Missing
+lineNumberIn (Value.SectionReference n) = Number.Missing
+lineNumberIn (Value.SupplementaryReference n) = Number.Missing
+lineNumberIn (Value.SectionOffset n) = Number.Missing
+lineNumberIn (Value.LineOffset n) = Number.Missing
+lineNumberIn (Value.Address n) = Number.Missing
+lineNumberIn Value.Failed = Number.Missing
+
+-- ---- a call's file and line
+
+-- a warning of a kind was laid; or it is refused
+pub record AboutWarned (main : List ℕ) (unit p kind number at : ℕ) (u u′ : List ℕ) (r : Warned) : Type 0 where
+  pub offset : ℕ
+  pub ok : r .status ≡ 0 → absoluteEntryOffset (unitHere main unit) (entryHere main p .offset) ≡ done offset
+  pub laid : r .status ≡ 0 → (k : WarningKind) → kind ≡ kindNumber k → Put at (warningsBytes (about k offset number ∷ [])) u u′ (r .at)
+  pub no : (r .status ≡ 0 → ⊥) → absoluteEntryOffset (unitHere main unit) (entryHere main p .offset) ≡ refused (r .status)
+
+-- the file of the call of the entry at p, of a unit that has the map `is`; what else a context holds is of no account
+pub record FileCalled (is : FileIndices) (main : List ℕ) (unit p at : ℕ) (u u′ : List ℕ) (r : CalledFile) : Type 0 where
+  pub warnings : List Warning
+  pub laid : r .status ≡ 0 → Put at (warningsBytes warnings) u u′ (r .at)
+  pub ok : r .status ≡ 0 → (c : DetailContext) → c .fileIndices ≡ is → c .unit ≡ unitHere main unit → callFileOf c (entryHere main p) ≡ done (record { file = r .file; warnings = warnings })
+  pub no : (r .status ≡ 0 → ⊥) → (c : DetailContext) → c .fileIndices ≡ is → c .unit ≡ unitHere main unit → callFileOf c (entryHere main p) ≡ refused (r .status)
+
+-- the line
+pub record LineCalled (main : List ℕ) (unit p at : ℕ) (u u′ : List ℕ) (r : CalledLine) : Type 0 where
+  pub warnings : List Warning
+  pub laid : r .status ≡ 0 → Put at (warningsBytes warnings) u u′ (r .at)
+  pub ok : r .status ≡ 0 → (c : DetailContext) → c .unit ≡ unitHere main unit → callLineOf c (entryHere main p) ≡ done (record { line = r .line; warnings = warnings })
+  pub no : (r .status ≡ 0 → ⊥) → (c : DetailContext) → c .unit ≡ unitHere main unit → callLineOf c (entryHere main p) ≡ refused (r .status)
+
+-- ---- the call sites behind the nodes
+
+-- the n closed call sites were laid
+pub record SitesPut (main supplementary : List ℕ) (d : Details) (n at : ℕ) (w w′ t t′ : List ℕ) (r : ℕ) : Type 0 where
+  pub put : Put at (eachOf (λ x. encode 0x45 (sitePayload x)) (sitesAt (originName main supplementary (d .unit)) w (d .sites) n)) t t′ r
+  pub rest : Kept w w′ (d .ranges) (walked main supplementary d)
+
+-- ---- the whole, where a switch is on
+
+-- its bytes and its warnings were written, and its nodes counted
+pub record Descended (o : Outcome Descendants) (d : Details) (name : List ℕ) (at warned : ℕ) (t t′ u u′ : List ℕ) (nodes at′ warned′ : ℕ) : Type 0 where
+  pub descendants : Descendants
+  pub is : o ≡ done descendants
+  pub count : nodes ≡ length (descendants .inlines)
+  pub put : Put at (detailBytes name (d .range) descendants) t t′ at′
+  pub warns : Put warned (warningsBytes (descendants .warnings)) u u′ warned′
+
+abbrev pub DescendedBy : Outcome Descendants → Details → List ℕ → ℕ → ℕ → List ℕ → List ℕ → List ℕ → List ℕ → Extracted → Type 0
+DescendedBy o d name at warned t t′ u u′ (Extracted.Refused n) = o ≡ refused n
+DescendedBy o d name at warned t t′ u u′ (Extracted.Details nodes at′ warned′) = Descended o d name at warned t t′ u u′ nodes at′ warned′
+
+pub record Descends (main supplementary w w′ : List ℕ) (d : Details) (name : List ℕ) (p depth at warned : ℕ) (t t′ u u′ : List ℕ) (r : Extracted) : Type 0 where
+  pub is : DescendedBy (collectDescendants (contextIn main supplementary w d) (descendantsOf depth (entriesFrom main p))) d name at warned t t′ u u′ r
+  pub rest : Kept w w′ (d .ranges) (walked main supplementary d)

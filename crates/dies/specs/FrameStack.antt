@@ -1,0 +1,58 @@
+-- The open inline nodes as frames by value and a stack of ranges in the work slice, and what the functions on them promise. Assumes nothing.
+use mathlib.Core.Path.{_≡_}
+use mathlib.Core.List.{List, [], _∷_}
+use Prim.Native.Nat.{ℕ, zero, suc, _+_, _-_, _*_, _≤_}
+use lib.ListN.{length, getD}
+use Rattle.tlv.specs.declared.model.AddressRange.{AddressRange}
+use Rattle.dies.specs.declared.frames.Frame.{Frame}
+use Rattle.dies.specs.declared.frames.Open.{Open}
+use Rattle.imports.specs.Tree.{InlineFrame, finishInlines, parentRanges}
+use Rattle.dies.specs.RangeTable.{rangesAt}
+
+abbrev pub slot : List Frame → ℕ → Frame
+slot fs t = getD fs t (record { depth = 0; ranges = 0 })
+
+-- the t lowest frames, the innermost first: a frame's ranges are those of the stack at base from its place up to `used`
+unfoldable pub openOf : List Frame → ℕ → ℕ → List ℕ → ℕ → List InlineFrame
+openOf fs zero used w base = []
+openOf fs (suc t) used w base =
+    record { dieDepth = slot fs t .depth; ranges = rangesAt w (base + slot fs t .ranges * 16) (used - slot fs t .ranges) } ∷ openOf fs t (slot fs t .ranges) w base
+
+-- the frames' places ascend, and the lowest is 1: the function's range is range 0
+unfoldable pub Stacked : List Frame → ℕ → ℕ → Type 0
+Stacked fs zero used = used ≡ 1
+Stacked fs (suc t) used = (slot fs t .ranges ≤ used) × Stacked fs t (slot fs t .ranges)
+
+-- the open nodes, with their ranges in w from base on
+unfoldable pub openIn : List ℕ → ℕ → Open → List InlineFrame
+openIn w base st = openOf (st .frames) (st .n) (st .used) w base
+
+pub record Ready (st : Open) : Type 0 where
+  pub few : st .n ≤ 256
+  pub full : length (st .frames) ≡ 256
+  pub stacked : Stacked (st .frames) (st .n) (st .used)
+
+-- no frame
+pub record Empty (st : Open) : Type 0 where
+  pub ready : Ready st
+  pub none : st .n ≡ 0
+  pub used : st .used ≡ 1
+
+-- the frames at depth d or below are gone
+pub record Popped (st st′ : Open) (d : ℕ) : Type 0 where
+  pub ready : Ready st′
+  pub frames : (w : List ℕ) (base : ℕ) → openIn w base st′ ≡ finishInlines d (openIn w base st)
+  pub fewer : st′ .n ≤ st .n
+  pub used : st′ .used ≤ st .used
+
+-- the innermost node's ranges begin at range `from` of the stack; with none open these are the function's own, f, which is range 0
+pub record Top (st : Open) (from : ℕ) : Type 0 where
+  pub within : from ≤ st .used
+  pub ranges : (f : AddressRange) (w : List ℕ) (base : ℕ) → rangesAt w base 1 ≡ f ∷ [] → parentRanges f (openIn w base st) ≡ rangesAt w (base + from * 16) (st .used - from)
+
+-- one frame more, whose ranges are the k from `used` on
+pub record Pushed (st st′ : Open) (d k : ℕ) : Type 0 where
+  pub ready : Ready st′
+  pub frames : (w : List ℕ) (base : ℕ) → openIn w base st′ ≡ record { dieDepth = d; ranges = rangesAt w (base + st .used * 16) k } ∷ openIn w base st
+  pub count : st′ .n ≡ st .n + 1
+  pub used : st′ .used ≡ st .used + k

@@ -1,0 +1,4 @@
+pub mod RangeTable
+pub mod FrameStack
+pub mod Details
+pub mod DetailState

@@ -1,0 +1,87 @@
+// The inline nodes that are open, while the entries below a function are walked: frames by value, their ranges on a stack in the work slice.
+ghost use Prim.Native.Nat.{_+_, _<_};
+ghost use Rattle.dies.specs.FrameStack.{Ready, Empty, Popped, Top, Pushed};
+
+// An open node: the depth of its entry, and where its ranges begin in the stack of ranges.
+pub struct Frame {
+    pub depth: u16,
+    pub ranges: u32,
+}
+
+// The open nodes, of which there are n. The stack has `used` ranges: the function's own, and then each node's, the innermost last.
+pub struct Open {
+    pub frames: [Frame; 256],
+    pub n: usize,
+    pub used: usize,
+}
+
+pub fn none_open() -> Open
+    ensures { λ r. ⌜ Empty r ⌝ }
+{
+    let f = Frame {
+        depth: 0,
+        ranges: 0,
+    };
+    Open {
+        frames: [f; 256],
+        n: 0,
+        used: 1,
+    }
+}
+
+// The nodes of entries at this depth or below are closed.
+pub fn popped(st: Open, depth: u16) -> Open
+    requires { ⌜ Ready st ⌝ }
+    ensures { λ r. ⌜ Popped st r depth ⌝ }
+{
+    let frames = st.frames;
+    let mut n = st.n;
+    let mut used = st.used;
+    while 0 < n {
+        let t = frames[n - 1];
+        if t.depth < depth {
+            return Open {
+                frames: frames,
+                n: n,
+                used: used,
+            };
+        }
+        used = t.ranges as usize;
+        n -= 1;
+    }
+    Open {
+        frames: frames,
+        n: n,
+        used: used,
+    }
+}
+
+// The range of the stack at which the innermost node's ranges begin, or the function's own.
+pub fn top_of(st: Open) -> usize
+    requires { ⌜ Ready st ⌝ }
+    ensures { λ r. ⌜ Top st r ⌝ }
+{
+    let n = st.n;
+    if n == 0 {
+        return 0;
+    }
+    let t = st.frames[n - 1];
+    t.ranges as usize
+}
+
+// A node more, of an entry at this depth, whose ranges are the k from `used` on.
+pub fn pushed(mut st: Open, depth: u16, k: usize) -> Open
+    requires { ⌜ Ready st ⌝ }
+    requires { ⌜ (st .n < 256) × (st .used + k < 4294967296) ⌝ }
+    ensures { λ r. ⌜ Pushed st r depth k ⌝ }
+{
+    let n = st.n;
+    let used = st.used;
+    st.frames[n] = Frame {
+        depth: depth,
+        ranges: used as u32,
+    };
+    st.n = n + 1;
+    st.used = used + k;
+    st
+}

@@ -1,0 +1,121 @@
+-- Demand 3 whole: what an import leaves in the records tray agrees with the unit's entries. Assumes nothing.
+use mathlib.Core.Path.{_≡_, refl, sym, ap, _∙_}
+use mathlib.Core.Bool.{Bool, true, false, cond}
+use mathlib.Core.List.{List}
+use mathlib.Core.Option.{Option, none, some}
+use Prim.Native.Nat.{ℕ, _+_}
+use native.Mathlib.Omega.{arith}
+use lib.ListN.{length, take, drop}
+use lib.Dec.{ltb}
+use lib.Seq.{take-at}
+use Rattle.tlv.specs.Outcome.{Outcome, refused, done, _>>=_}
+use Rattle.tlv.specs.Lists.{at}
+use Rattle.tlv.specs.Grammar.{checkInput}
+use Rattle.tlv.specs.Model.{CompilationUnit, units}
+use Rattle.tlv.specs.Accepted.{UnitAccepted}
+use Rattle.tlv.specs.Reader.{readRecords, readFiles, readWarnings}
+use Rattle.tlv.proofs.ListLaws.{all-at, given-some}
+use Rattle.tlv.proofs.OutcomeLaws.{done-is, refused-not, with-done}
+use Rattle.tlv.proofs.ReadBack.{records-back, files-back, warnings-back}
+use Rattle.tlv.proofs.AcceptedUnits.{accepting}
+use Rattle.lines.proofs.RowLaws.{rows-agree}
+use Rattle.lines.proofs.LineBounds.{sorted-lines}
+use Rattle.imports.specs.Import.{State, importUnit}
+use Rattle.imports.specs.Answer.{Inputs, oversize, workNeeded, initialState, dwarfOf, importChosen, importOf, Written, written, fitting, outcomeOf, Answer, answerOf, bufferAfter, after}
+use Rattle.imports.specs.Demand.{RecordAgrees, Pointwise, subjects, Units, Lent, Finished, Demand}
+use Rattle.imports.proofs.Refusals.{refusals}
+use Rattle.imports.proofs.ImportBounds.{producing}
+use Rattle.imports.proofs.WalkMachine.{walk-tree, walk-treeless}
+use Rattle.imports.proofs.Records.{units-agree}
+
+-- what the import of a unit adds answers for its subjects
+pub each-unit : Units
+each-unit = units-agree walk-tree walk-treeless rows-agree sorted-lines
+
+-- ---- a finished import has checked the main sheet, chosen a unit and imported it
+
+record Chosen (i : Inputs) (s : State) : Type 0 where
+  fields : ℕ
+  checked : checkInput (i .main) ≡ done fields
+  unit : CompilationUnit
+  chosen : at (units (i .main)) (i .ordinal) ≡ some unit
+  imported : importUnit (dwarfOf i) unit (i .program) (i .inlines) (i .callSites) (initialState i) ≡ done s
+
+module _ (i : Inputs) (s : State) where
+  from-chosen : (m n : ℕ) → checkInput (i .main) ≡ done m → (o : Option CompilationUnit) → at (units (i .main)) (i .ordinal) ≡ o → importChosen i n o ≡ done s → Chosen i s
+  from-chosen m n c none a e = refused-not e
+  from-chosen m n c (some u) a e = go (ltb (length (i .work)) (workNeeded i n)) e
+    where
+      go : (b : Bool) → cond b (refused 5) (importUnit (dwarfOf i) u (i .program) (i .inlines) (i .callSites) (initialState i)) ≡ done s → Chosen i s
+      go true q = refused-not q
+      go false q = record { fields = m; checked = c; unit = u; chosen = a; imported = q }
+
+  was-chosen : importOf i ≡ done s → Chosen i s
+  unfolding importOf
+  was-chosen = go (oversize i)
+    where
+      rest : Outcome State
+      rest = checkInput (i .main) >>= λ m. checkInput (i .supplementary) >>= λ n. importChosen i (m + n) (at (units (i .main)) (i .ordinal))
+
+      go : (b : Bool) → cond b (refused 1) rest ≡ done s → Chosen i s
+      go true e = refused-not e
+      go false e =
+          with-done (checkInput (i .main)) _ e λ m c e₁.
+          with-done (checkInput (i .supplementary)) _ e₁ λ n _ e₂.
+          from-chosen m (m + n) c (at (units (i .main)) (i .ordinal)) refl e₂
+
+agrees : (i : Inputs) (s : State) (l : Lent i) (c : Chosen i s) → Pointwise (RecordAgrees (dwarfOf i) (c .unit) (i .inlines)) (subjects (dwarfOf i) (c .unit)) (s .records)
+unfolding initialState
+agrees i s l c =
+    let all = accepting (i .main) (c .fields) (l .main) (c .checked) in
+    let accepted = given-some UnitAccepted (at (units (i .main)) (i .ordinal)) (c .unit) (all-at UnitAccepted (units (i .main)) (i .ordinal) all) (c .chosen) in
+    let u = each-unit (dwarfOf i) (c .unit) (i .program) (i .inlines) (i .callSites) (initialState i) s accepted (c .imported) in
+    rw (u .added) (u .agree)
+
+-- ---- what was written is what is read
+
+fits-is : (i : Inputs) (w v : Written) → fitting i w ≡ done v → w ≡ v
+unfolding fitting
+fits-is i w v = go (ltb (length (i .records)) (length (w .records))) (ltb (length (i .files)) (length (w .files))) (ltb (length (i .warnings)) (length (w .warnings)))
+  where
+    go : (a b c : Bool) → cond a (refused 16) (cond b (refused 17) (cond c (refused 18) (done w))) ≡ done v → w ≡ v
+    go true b c e = refused-not e
+    go false true c e = refused-not e
+    go false false true e = refused-not e
+    go false false false e = done-is e
+
+-- a tray begins with what was written to it, as long as the answer says
+held : (part : Written → List ℕ) (size : Answer → ℕ) → ((w : Written) → size (answerOf (done w)) ≡ length (part w))
+    → (buffer : List ℕ) (o : Outcome Written) (w : Written) → o ≡ done w → take (size (answerOf o)) (bufferAfter part buffer o) ≡ part w
+unfolding bufferAfter
+held part size sizes buffer o w e = rw (e, sizes w) (take-at (part w) (drop (length (part w)) buffer) (length (part w)) refl)
+
+module _ (i : Inputs) (l : Lent i) where
+  read : (s : State) → importOf i ≡ done s → outcomeOf i ≡ done (written s) → Finished i
+  unfolding after written answerOf
+  read s q o =
+      let c = was-chosen i s q in
+      let f = producing i s l q in
+      record {
+        state = s;
+        imported = q;
+        records = ap readRecords (held (λ w. w .records) (λ a. a .records) (λ w. refl) (i .records) (outcomeOf i) (written s) o) ∙ records-back (s .records) (f .records);
+        files = ap readFiles (held (λ w. w .files) (λ a. a .files) (λ w. refl) (i .files) (outcomeOf i) (written s) o) ∙ files-back (s .table .entries) (f .files);
+        warnings = ap readWarnings (held (λ w. w .warnings) (λ a. a .warnings) (λ w. refl) (i .warnings) (outcomeOf i) (written s) o) ∙ warnings-back (s .warnings) (f .warnings);
+        unit = c .unit;
+        chosen = c .chosen;
+        agree = agrees i s l c;
+      }
+
+  finished : (w : Written) → outcomeOf i ≡ done w → Finished i
+  unfolding outcomeOf
+  finished w e = with-done (importOf i) (λ s. fitting i (written s)) e λ s q r. read s q (e ∙ sym (ap done (fits-is i (written s) w r)))
+
+  by-outcome : (o : Outcome Written) → outcomeOf i ≡ o → answerOf o .refusal ≡ 0 → Finished i
+  unfolding answerOf
+  by-outcome (refused n) e z = absurd (omega (arith, refusals i n e))
+  by-outcome (done w) e z = finished w e
+
+pub demand : Demand
+unfolding after
+demand i l z = by-outcome i l (outcomeOf i) refl z
