@@ -1,0 +1,89 @@
+-- `import::import_accepted` meets its contract: refusals 4 and 5, or the import of the unit at the place. Assumes nothing.
+use native.Mathlib.Omega.{arith}
+use borrow.Author.Needs.{needs}
+use Rattle.dwarf.specs.Answers.{inputsOf}
+use Rattle.dwarf.proofs.RunLaws.{both-few, chosen-missing, chosen-in, chosen-short, chosen-long, accepted-both, work-enough}
+use Rattle.dwarf.proofs.import.import_accepted.Statement.{statement}
+use Rattle.dwarf.proofs.import.import_accepted.Tie as tie
+
+unit-by-ordinal-requires : tie.Need-unit-by-ordinal-requires
+unit-by-ordinal-requires c κs = search needs
+
+enum-told : tie.Need-enum-told
+enum-told c = search needs
+
+refused-requires : tie.Need-refused-requires
+refused-requires c κs = search needs
+
+enum-known-place : tie.Need-enum-known-place
+enum-known-place c = search needs
+
+mul-if1 : tie.Need-mul-if1
+mul-if1 c = omega (arith, both-few (c .before .before .before .before .before .before .before .before .before .before .before .pre .0))
+
+mul-if1-2 : tie.Need-mul-if1-2
+mul-if1-2 c = let b = c .before .before .before .before .before .before .before .before .before .before .before .pre .1 in omega arith
+
+add-if1 : tie.Need-add-if1
+add-if1 c = let b = c .before .before .before .before .before .before .before .before .before .before .before .pre .1 in omega (arith, both-few (c .before .before .before .before .before .before .before .before .before .before .before .pre .0))
+
+add-if1-2 : tie.Need-add-if1-2
+add-if1-2 c = let b = c .before .before .before .before .before .before .before .before .before .before .before .pre .1 in omega (arith, both-few (c .before .before .before .before .before .before .before .before .before .before .before .pre .0))
+
+refused-requires-2 : tie.Need-refused-requires-2
+refused-requires-2 c κs = search needs
+
+returns : tie.Need-returns
+returns c =
+    let s = c .before .before .before .before .before .before .before .before .before .before .before .before .before in
+    let i = inputsOf (s .args .main .now) (s .args .supplementary .now) (s .args .program .now) (s .args .ordinal) (s .args .inlines) (s .args .call-sites) (s .args .first-file) (s .args .work .now) (s .args .records .now) (s .args .files .now) (s .args .warnings .now) in
+    chosen-short i (s .args .number) (c .before .before .before .before .before .unit-by-ordinal .ensures) (c .before .before .before .place .given .1) (c .before .if1 .taken) (c .refused2 .ensures)
+
+import-chosen-requires : tie.Need-import-chosen-requires
+import-chosen-requires c κs = (accepted-both (c .before .before .before .before .before .before .before .before .before .before .before .before .before .before .before .before .pre .0), (c .before .before .before .before .before .before .before .before .before .before .before .before .before .before .before .before .pre .1, (chosen-in _ (c .before .before .before .before .before .before .before .before .before .before .before .before .before .before .before .before .args .ordinal) (c .before .before .before .before .before .before .before .before .unit-by-ordinal .ensures) (c .before .before .before .before .before .before .place .given .1), work-enough (c .before .before .before .before .before .before .before .before .before .before .before .before .before .before .before .before .pre .0) _ _ (c .before .before .before .before .if1 .left))))
+
+returns-2 : tie.Need-returns-2
+returns-2 c =
+    let s = c .before .before .before .before .before .before .before .before .before .before .before in
+    let i = inputsOf (s .args .main .now) (s .args .supplementary .now) (s .args .program .now) (s .args .ordinal) (s .args .inlines) (s .args .call-sites) (s .args .first-file) (s .args .work .now) (s .args .records .now) (s .args .files .now) (s .args .warnings .now) in
+    chosen-missing i (s .args .number) (c .before .before .before .unit-by-ordinal .ensures) (c .before .enum-told .given .1) (c .refused .ensures)
+
+same-length : tie.Need-same-length
+same-length c = search needs
+
+same-length-2 : tie.Need-same-length-2
+same-length-2 c = search needs
+
+same-length-3 : tie.Need-same-length-3
+same-length-3 c = search needs
+
+same-length-4 : tie.Need-same-length-4
+same-length-4 c = search needs
+
+returns-3 : tie.Need-returns-3
+returns-3 c =
+    let s = c .before .before .before .before .before .before .before .before .before .before .before .before .before .before .before .before .before .before .before .before .before .before .before .before .before in
+    let i = inputsOf (s .args .main .now) (s .args .supplementary .now) (s .args .program .now) (s .args .ordinal) (s .args .inlines) (s .args .call-sites) (s .args .first-file) (s .args .work .now) (s .args .records .now) (s .args .files .now) (s .args .warnings .now) in
+    chosen-long i (s .args .number) (c .before .before .before .before .before .before .before .before .before .before .before .before .before .before .before .before .before .unit-by-ordinal .ensures) (c .before .before .before .before .before .before .before .before .before .before .before .before .before .before .before .place .given .1) (c .before .before .before .before .before .before .before .before .before .before .before .before .before .if1 .left) (c .before .before .before .before .before .before .before .before .import-chosen .ensures)
+
+pub import-accepted-spec : {M : Type 1} → statement M
+import-accepted-spec =
+    tie.close
+    (tie.spec
+    unit-by-ordinal-requires
+    enum-told
+    refused-requires
+    enum-known-place
+    mul-if1
+    mul-if1-2
+    add-if1
+    add-if1-2
+    refused-requires-2
+    returns
+    import-chosen-requires
+    returns-2
+    same-length
+    same-length-2
+    same-length-3
+    same-length-4
+    returns-3)

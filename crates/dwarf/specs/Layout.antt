@@ -1,0 +1,60 @@
+-- Where the tables of an import stand in the work slice, and that they fit document 01's length. Assumes nothing.
+use mathlib.Core.Path.{_≡_}
+use mathlib.Core.List.{List}
+use Prim.Native.Nat.{ℕ, _+_, _*_, _≤_, _<_, _^_}
+use lib.ListN.{length}
+use Rattle.tlv.specs.Outcome.{done}
+use Rattle.tlv.specs.Lists.{Any}
+use Rattle.tlv.specs.Limits.{workOfField, workOfProgramByte, workBesides}
+use Rattle.tlv.specs.Fields.{fields, payloads, wholeFields}
+use Rattle.tlv.specs.Grammar.{checkInput}
+use Rattle.tlv.specs.Places.{unitHere, unitPlaces}
+use Rattle.files.specs.Possible.{possibleFiles}
+use Rattle.collect.specs.Collects.{linesExtent}
+use Rattle.references.specs.Keys.{possibleKeys}
+use Rattle.dies.specs.Details.{rangeCount, entryCount}
+use Rattle.dwarf.specs.declared.layout.Layout.{Layout}
+use Rattle.dwarf.specs.declared.layout.Counts.{Counts}
+
+-- how many fields of a tag an input has
+abbrev pub countOf : ℕ → List ℕ → ℕ
+countOf tag s = length (payloads tag (wholeFields (fields s)))
+
+pub record Sized (s : List ℕ) (c : Counts) : Type 0 where
+  pub units : c .units ≡ countOf 0x10 s
+  pub text : c .text ≡ countOf 0x12 s
+  pub directories : c .directories ≡ countOf 0x14 s
+  pub files : c .files ≡ countOf 0x15 s
+  pub zeros : c .zeros ≡ countOf 0x1c s
+  pub rows : c .rows ≡ countOf 0x16 s
+  pub entries : c .entries ≡ countOf 0x17 s
+  pub attributes : c .attributes ≡ countOf 0x18 s
+  pub ranges : c .ranges ≡ countOf 0x19 s
+
+-- a unit stands at q
+abbrev pub UnitOf : List ℕ → ℕ → Type 0
+UnitOf s q = Any (λ p. p ≡ q) (unitPlaces 0 (fields s))
+
+-- what the directories and the map of a unit need
+abbrev pub mapExtent : List ℕ → ℕ → ℕ
+mapExtent s q = 8 * length (unitHere s q .directories) + 5 * (1 + length (unitHere s q .files))
+
+-- the tables stand one behind the other, each with room for what the inputs can bring
+pub record LaidOut (main supplementary program : List ℕ) (l : Layout) : Type 0 where
+  pub few : length (possibleFiles main supplementary) < l .room
+  pub small : l .room < 2 ^ 32
+  pub lines : l .room * 45 + 12290 ≤ l .lines
+  pub text : (q : ℕ) → UnitOf main q → l .lines + linesExtent main q program ≤ l .text
+  pub spans : (q : ℕ) → UnitOf main q → l .text + 16 * length (unitHere main q .text) ≤ l .spans
+  pub room-main : (q : ℕ) → UnitOf main q → mapExtent main q ≤ l .«span_room»
+  pub room-supplementary : (q : ℕ) → UnitOf supplementary q → mapExtent supplementary q ≤ l .«span_room»
+  pub main-units : l .spans + l .«span_room» ≤ l .«main_units»
+  pub main-entries : l .«main_units» + 24 * length (unitPlaces 0 (fields main)) ≤ l .«main_entries»
+  pub supplementary-units : l .«main_entries» + 16 * entryCount main ≤ l .«supplementary_units»
+  pub supplementary-entries : l .«supplementary_units» + 24 * length (unitPlaces 0 (fields supplementary)) ≤ l .«supplementary_entries»
+  pub ranges : l .«supplementary_entries» + 16 * entryCount supplementary ≤ l .ranges
+  pub stack : l .ranges + 16 * (1 + rangeCount main) ≤ l .stack
+  pub sites : l .stack + 14 * entryCount main ≤ l .sites
+  pub keys : l .sites + 12 * entryCount main ≤ l .keys
+  pub within : (m n : ℕ) → checkInput main ≡ done m → checkInput supplementary ≡ done n
+      → l .keys + 9 * length (possibleKeys main supplementary) ≤ workOfField * (m + n) + workOfProgramByte * length program + workBesides

@@ -1,0 +1,7 @@
+pub mod Stats
+pub mod Text
+pub mod Layout
+pub mod Contexts
+pub mod Steps
+pub mod Runs
+pub mod Answers

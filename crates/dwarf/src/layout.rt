@@ -1,0 +1,98 @@
+// Where the tables of an import stand in the work slice: places computed from counts of fields.
+ghost use mathlib.Core.Path.{_≡_};
+ghost use Prim.Native.Nat.{_≤_};
+ghost use lib.ListN.{length};
+ghost use Rattle.tlv.specs.Limits.{inputLimit, programLimit};
+ghost use Rattle.dies.specs.DetailState.{Accepted};
+ghost use Rattle.dwarf.specs.Layout.{countOf, Sized, LaidOut};
+
+// The places, from low to high: the file table with its room for files at 0, the unit's lines, its executable ranges, what a unit that is reached
+// by reference needs, the units and entries of both inputs, the open nodes' ranges, the open and the closed call sites, the followed targets.
+pub struct Layout {
+    pub room: usize,
+    pub lines: usize,
+    pub text: usize,
+    pub spans: usize,
+    pub span_room: usize,
+    pub main_units: usize,
+    pub main_entries: usize,
+    pub supplementary_units: usize,
+    pub supplementary_entries: usize,
+    pub ranges: usize,
+    pub stack: usize,
+    pub sites: usize,
+    pub keys: usize,
+}
+
+// How many fields of each tag that has a table an input has.
+pub struct Counts {
+    pub units: usize,
+    pub text: usize,
+    pub directories: usize,
+    pub files: usize,
+    pub zeros: usize,
+    pub rows: usize,
+    pub entries: usize,
+    pub attributes: usize,
+    pub ranges: usize,
+}
+
+// How many fields of each tag an input has.
+fn counts_of(s: &[u8]) -> Counts
+    ensures { λ r. ⌜ Sized (now (s .entry)) r ⌝ }
+{
+    Counts {
+        units: tlv::fields::count_fields(s, 0x10),
+        text: tlv::fields::count_fields(s, 0x12),
+        directories: tlv::fields::count_fields(s, 0x14),
+        files: tlv::fields::count_fields(s, 0x15),
+        zeros: tlv::fields::count_fields(s, 0x1c),
+        rows: tlv::fields::count_fields(s, 0x16),
+        entries: tlv::fields::count_fields(s, 0x17),
+        attributes: tlv::fields::count_fields(s, 0x18),
+        ranges: tlv::fields::count_fields(s, 0x19),
+    }
+}
+
+// The places for two inputs and a program.
+pub fn lay_out(main: &[u8], supplementary: &[u8], program: &[u8]) -> Layout
+    requires { ⌜ Accepted (now main) ⌝ }
+    requires { ⌜ Accepted (now supplementary) ⌝ }
+    requires { ⌜ length (now program) ≤ programLimit ⌝ }
+    ensures { λ r. ⌜ LaidOut (now (main .entry)) (now (supplementary .entry)) (now (program .entry)) r ⌝ }
+{
+    let m = counts_of(main);
+    let s = counts_of(supplementary);
+    let room = m.files + m.zeros + s.files + s.zeros + 1;
+    let lines = room * 45 + 12290;
+    let text = lines
+        + program.len() / 3 * 8
+        + 8 * m.directories
+        + 5 * (1 + m.files)
+        + 50 * m.rows
+        + 16;
+    let spans = text + 16 * m.text;
+    let span_room = 8 * (m.directories + s.directories) + 5 * (1 + m.files + s.files);
+    let main_units = spans + span_room;
+    let main_entries = main_units + 24 * m.units;
+    let supplementary_units = main_entries + 16 * m.entries;
+    let supplementary_entries = supplementary_units + 24 * s.units;
+    let ranges = supplementary_entries + 16 * s.entries;
+    let stack = ranges + 16 * (1 + m.ranges);
+    let sites = stack + 14 * m.entries;
+    Layout {
+        room: room,
+        lines: lines,
+        text: text,
+        spans: spans,
+        span_room: span_room,
+        main_units: main_units,
+        main_entries: main_entries,
+        supplementary_units: supplementary_units,
+        supplementary_entries: supplementary_entries,
+        ranges: ranges,
+        stack: stack,
+        sites: sites,
+        keys: sites + 12 * m.entries,
+    }
+}
