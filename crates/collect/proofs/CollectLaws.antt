@@ -7,6 +7,7 @@ use native.Mathlib.Omega.{arith}
 use lib.ListN.{length, take, drop}
 use Rattle.tlv.specs.Outcome.{Outcome, refused, done}
 use Rattle.tlv.specs.Bytes.{le}
+use Rattle.tlv.specs.Table.{KeptBut}
 use Rattle.tlv.specs.Model.{headerOf}
 use Rattle.tlv.specs.Places.{unitHere}
 use Rattle.tlv.proofs.TableLaws.{here, there, but-of, but-one, but-trans}
@@ -55,13 +56,21 @@ module _ {main supplementary program w : List ℕ} {p start len n m free : ℕ} 
 
   module _ {w₁ : List ℕ} {r : Scan}
       (S : Scanned program w w₁ free r (lineSequenceOffsets (headerOf (take len (drop start main))) program)) where
+    scanned-fits : free + length program / 3 * 8 ≤ free + linesExtent main p program
+    unfolding linesExtent
+    scanned-fits = omega arith
+
+    scanned-rest : KeptBut w w₁ ((t .base, extent t) ∷ (free, linesExtent main p program) ∷ [])
+    scanned-rest = but-of (S .rest) (there (here (omega arith) scanned-fits))
+
     -- its program is at fault
-    pub collected-fault : {w′ files files′ warnings warnings′ : List ℕ} {warned f : ℕ} → r ≡ Scan.Fault f
-        → CollectsLines main supplementary program w w′ files files′ warnings warnings′ p t warned free (CollectedLines.Refused f)
+    pub collected-fault : {files files′ warnings warnings′ : List ℕ} {warned f : ℕ} → r ≡ Scan.Fault f
+        → CollectsLines main supplementary program w w₁ files files′ warnings warnings′ p t warned free (CollectedLines.Refused f)
     collected-fault {f = f} e =
         let o : lineSequenceOffsets (headerHere main p) program ≡ refused f = rw (header-is (B .header)) (sym (rw e at (S .is))) in
         record {
           is = collects-program-refused (unitHere main p) program (tableOf main supplementary w t) (headerHere main p) (header-there (B .header)) (run-counted .run) run-is f o;
+          rest = scanned-rest;
         }
 
     module _ {k : ℕ} (e : r ≡ Scan.Count k) (size : length w₁ ≡ length w) where
@@ -91,21 +100,23 @@ module _ {main supplementary program w : List ℕ} {p start len n m free : ℕ} 
       unfolding linesExtent
       unit-fits = let a = offsets-few in omega arith
 
-      scanned-fits : free + length program / 3 * 8 ≤ free + linesExtent main p program
-      unfolding linesExtent
-      scanned-fits = omega arith
-
       table-scanned : tableOf main supplementary w₁ t ≡ tableOf main supplementary w t
       table-scanned = table-kept (B .files) (but-one (S .rest)) (inl (B .room .table), tt)
 
       module _ {w₂ files files₁ : List ℕ} {r₂ : InternedUnit} (I : InternsUnit main supplementary w₁ w₂ files files₁ p t (free + k * 8) r₂) where
+        interned-rest : KeptBut w w₂ ((t .base, extent t) ∷ (free, linesExtent main p program) ∷ [])
+        interned-rest =
+            let unit : free + k * 8 + unitExtent main p ≤ free + linesExtent main p program = unit-fits in
+            but-trans scanned-rest (but-wide _ (I .rest) (here (omega arith) (omega arith), (there (here (omega arith) (omega arith)), tt)))
+
         -- a file of its header has no number
-        pub collected-unnumbered : {w′ files₀ files′ warnings warnings′ : List ℕ} {warned f : ℕ} → r₂ ≡ InternedUnit.Refused f
-            → CollectsLines main supplementary program w w′ files₀ files′ warnings warnings′ p t warned free (CollectedLines.Refused f)
+        pub collected-unnumbered : {files₀ files′ warnings warnings′ : List ℕ} {warned f : ℕ} → r₂ ≡ InternedUnit.Refused f
+            → CollectsLines main supplementary program w w₂ files₀ files′ warnings warnings′ p t warned free (CollectedLines.Refused f)
         collected-unnumbered {f = f} is =
             let i : internHeaderFiles (unitHere main p) (headerHere main p) (tableOf main supplementary w t) ≡ refused f = rw (← table-scanned) (sym (rw is at (I .is))) in
             record {
               is = collects-files-refused (unitHere main p) program (tableOf main supplementary w t) (headerHere main p) (header-there (B .header)) (run-counted .run) run-is (offsetsAt w₁ free k) offsets-are f i;
+              rest = interned-rest;
             }
 
         module _ {u : FileUnit} {is : StoredIndices} {t′ : StoredFiles} (found : r₂ ≡ InternedUnit.Unit u is t′) where
@@ -193,24 +204,28 @@ module _ {main supplementary program w : List ℕ} {p start len n m free : ℕ} 
                 (record { table = tableOf main supplementary w₂ t′; indices = indicesIn w₂ is }) files-are x
                 (rw (interned .place, offsets-kept) at (f (run-counted .run) (rw (interned .place) (run-counted .is))))
 
-            by-end : (w₃ files₂ warnings warnings′ : List ℕ) (warned : ℕ) (r₃ : CollectedLines) → FinishesBy main supplementary w₂ w₃ files₁ files₂ warnings warnings′ made t′ warned r₃
-                → CollectsBy main supplementary program w w₃ files files₂ warnings warnings′ p t warned free r₃
+            end-rest : {w₃ files₂ warnings warnings′ : List ℕ} {warned : ℕ} {r₃ : CollectedLines} → FinishesLines main supplementary w₂ w₃ files₁ files₂ warnings warnings′ made t′ warned r₃
+                → KeptBut w w₃ ((t .base, extent t) ∷ (free, linesExtent main p program) ∷ [])
             unfolding made
-            by-end w₃ files₂ warnings warnings′ warned (CollectedLines.Refused f) E = end-is (refused f) E
-            by-end w₃ files₂ warnings warnings′ warned (CollectedLines.Lines l is′ t″ warned′) E =
+            end-rest E =
                 let base = interned .grown .base in
                 let room = interned .grown .room in
-                let few = offsets-few in
                 let fits = interned-room in
-                let below = B .room .table in
+                let map = interned .map in
+                but-trans interned-rest (but-wide _ (rw (interned .place) at (E .rest)) (here (omega arith) (omega arith), (there (here (omega arith) (omega arith)), (there (here (omega arith) (omega arith)), tt))))
+
+            by-end : (w₃ files₂ warnings warnings′ : List ℕ) (warned : ℕ) (r₃ : CollectedLines) → FinishesBy main supplementary w₂ w₃ files₁ files₂ warnings warnings′ made t′ warned r₃
+                → KeptBut w w₃ ((t .base, extent t) ∷ (free, linesExtent main p program) ∷ [])
+                → CollectsBy main supplementary program w w₃ files files₂ warnings warnings′ p t warned free r₃
+            unfolding made
+            by-end w₃ files₂ warnings warnings′ warned (CollectedLines.Refused f) E K = end-is (refused f) E
+            by-end w₃ files₂ warnings warnings′ warned (CollectedLines.Lines l is′ t″ warned′) E K =
+                let fits = interned-room in
                 let map : is .base ≡ free + k * 8 + u .«directory_count» * 8 = interned .map in
                 let eb : is′ .base ≡ is .base = ap (λ (x : StoredIndices). x .base) (E .map) in
                 let ec : is′ .count ≡ is .count = ap (λ (x : StoredIndices). x .count) (E .map) in
                 let from = E .from in
                 let within = rw (interned .place) at (E .within) in
-                let unit : free + k * 8 + unitExtent main p ≤ free + linesExtent main p program = unit-fits in
-                let rest = rw (interned .place) at (E .rest) in
-                let all : List (ℕ × ℕ) = (t .base, extent t) ∷ (free, linesExtent main p program) ∷ [] in
                 record {
                   new = E .new;
                   collected = end-is _ (E .finished);
@@ -221,15 +236,13 @@ module _ {main supplementary program w : List ℕ} {p start len n m free : ℕ} 
                   indices = omega arith;
                   sequences = E .sequences;
                   within = omega arith;
-                  rest =
-                      but-trans (but-of (S .rest) (there (here (omega arith) scanned-fits)))
-                      (but-trans (but-wide all (I .rest) (here (omega arith) (omega arith), (there (here (omega arith) (omega arith)), tt)))
-                      (but-wide all rest (here (omega arith) (omega arith), (there (here (omega arith) (omega arith)), (there (here (omega arith) (omega arith)), tt)))));
+                  rest = K;
                 }
 
             pub collected-end : {w₃ files₂ warnings warnings′ : List ℕ} {warned : ℕ} {r₃ : CollectedLines} → FinishesLines main supplementary w₂ w₃ files₁ files₂ warnings warnings′ cv t′ warned r₃
                 → CollectsLines main supplementary program w w₃ files files₂ warnings warnings′ p t warned free r₃
             unfolding made
-            collected-end {w₃} {files₂} {warnings} {warnings′} {warned} {r₃} E = record {
-              is = by-end w₃ files₂ warnings warnings′ warned r₃ (subst (λ (x : Conversion). FinishesBy main supplementary w₂ w₃ files₁ files₂ warnings warnings′ x t′ warned r₃) (M .is) (E .is));
-            }
+            collected-end {w₃} {files₂} {warnings} {warnings′} {warned} {r₃} E =
+                let L = subst (λ (x : Conversion). FinishesLines main supplementary w₂ w₃ files₁ files₂ warnings warnings′ x t′ warned r₃) (M .is) E in
+                let K = end-rest L in
+                record { is = by-end w₃ files₂ warnings warnings′ warned r₃ (L .is) K; rest = K }

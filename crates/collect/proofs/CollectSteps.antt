@@ -1,6 +1,6 @@
 -- collect_lines by its steps, a unit without a header, and one whose rows can't be read. Assumes nothing.
 use mathlib.Core.Path.{_≡_, sym, ap, _∙_}
-use mathlib.Core.List.{List, [], _∷_}
+use mathlib.Core.List.{List, []}
 use mathlib.Core.Option.{none, some}
 use Prim.Native.Nat.{ℕ, _+_, _≤_, _<_}
 use native.Mathlib.Omega.{arith}
@@ -12,8 +12,6 @@ use Rattle.tlv.specs.Checked.{Placed}
 use Rattle.tlv.specs.Access.{NextOwn}
 use Rattle.tlv.specs.Model.{CompilationUnit, LineHeader, lineRows}
 use Rattle.tlv.specs.Places.{unitHere}
-use Rattle.tlv.specs.Output.{eachOf, warningsBytes}
-use Rattle.tlv.proofs.BufferLaws.{put-none}
 use Rattle.tlv.proofs.TableLaws.{but-refl}
 use Rattle.tlv.proofs.RecordLaws.{records-nil}
 use Rattle.lines.specs.Program.{lineSequenceOffsets}
@@ -22,7 +20,7 @@ use Rattle.lines.specs.Lines.{Run, runRows, Collected, collectHeader, collectFr
 use Rattle.rows.proofs.StoredLaws.{lines-nil, ranges-nil}
 use Rattle.files.specs.declared.store.StoredFiles.{StoredFiles}
 use Rattle.files.specs.Pieces.{headerHere}
-use Rattle.files.specs.Store.{extent, tableOf, FilesIn}
+use Rattle.files.specs.Store.{tableOf, FilesIn}
 use Rattle.files.specs.Indices.{indexOf, indicesOf}
 use Rattle.files.proofs.UnitLaws.{unit-next, unit-within}
 use Rattle.files.proofs.GrownLaws.{grown-none}
@@ -32,6 +30,7 @@ use Rattle.collect.specs.Passes.{rowsFrom, countRows, countedOf}
 use Rattle.collect.specs.Collects.{linesIn, linesExtent, UnitIn, LinesRoom, CollectsLines}
 use Rattle.collect.specs.Stages.{HeaderIn, finishRun}
 use Rattle.collect.proofs.RunLaws.{count-refused}
+use Rattle.collect.proofs.LineLaws.{none-put}
 use Rattle.collect.proofs.HeaderPlaces.{header-is, unit-stands, rows-here, header-none}
 
 -- ---- the definition by its steps
@@ -71,7 +70,7 @@ module _ {main supplementary program w files warnings : List ℕ} {p warned free
   pub collected-nothing : r ≡ Own.Missing → length files < top → length warnings < top → warned ≤ top
       → CollectsLines main supplementary program w w files files warnings warnings p t warned free
       (CollectedLines.Lines (record { lines = free; «line_count» = 0; sequences = free; «sequence_count» = 0; buffer = free }) (record { base = free; count = 0 }) t warned)
-  unfolding linesIn indicesOf linesExtent warningsBytes eachOf
+  unfolding linesIn indicesOf linesExtent
   collected-nothing e small-files small-warnings most =
       let room = R .room in
       record {
@@ -85,14 +84,15 @@ module _ {main supplementary program w files warnings : List ℕ} {p warned free
                 warnings = [];
               }));
           grown = grown-none F small-files;
-          put = put-none most small-warnings;
+          put = none-put most small-warnings;
           rows = record { lines = omega arith; sequences = omega arith; buffer = omega arith; sorted = rw (lines-nil w free) tt };
           from = omega arith;
           indices = omega arith;
           sequences = omega arith;
           within = omega arith;
-          rest = but-refl w ((t .base, extent t) ∷ (free, linesExtent main p program) ∷ []);
+          rest = but-refl w _;
         };
+        rest = but-refl w _;
       }
 
 -- ---- a unit with a header
@@ -110,11 +110,12 @@ module _ {main : List ℕ} {p : ℕ} (h : Placed main 0) (U : UnitIn main p) whe
 
   module _ {start len : ℕ} (H : HeaderIn main p start len) where
     -- its rows can't be read
-    pub collected-failed : {supplementary program w w′ files files′ warnings warnings′ : List ℕ} {t : StoredFiles} {warned free : ℕ} {r : CountedRows}
+    pub collected-failed : {supplementary program w files files′ warnings warnings′ : List ℕ} {t : StoredFiles} {warned free : ℕ} {r : CountedRows}
         → countedOf r ≡ countRows (rowsFrom main (p + 21)) 0 0 0 → r ≡ CountedRows.Failed
-        → CollectsLines main supplementary program w w′ files files′ warnings warnings′ p t warned free (CollectedLines.Refused 6)
+        → CollectsLines main supplementary program w w files files′ warnings warnings′ p t warned free (CollectedLines.Refused 6)
     collected-failed {supplementary} {program} {w} {t = t} counted e =
         let k : countRows (rowsFrom main (p + 21)) 0 0 0 ≡ refused 6 = sym (rw e at counted) in
         record {
           is = collects-rows-refused (unitHere main p) program (tableOf main supplementary w t) (headerHere main p) (header-there H) 6 (rw (rows-here (unit-stands h U)) (count-refused (rowsFrom main (p + 21)) 6 k));
+          rest = but-refl w _;
         }

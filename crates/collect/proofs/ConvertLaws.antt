@@ -29,7 +29,7 @@ use Rattle.collect.specs.declared.convert.Converting.{Converting}
 use Rattle.collect.specs.declared.convert.ConvertedRow.{ConvertedRow}
 use Rattle.collect.specs.declared.convert.Row.{Row}
 use Rattle.collect.specs.declared.convert.SoughtFile.{SoughtFile}
-use Rattle.collect.specs.Converts.{unitAt, headerOf, offsetsOf, Unnamed, convertedIn, ConversionIn, rawOf, soughtOf, linedIn, LineConverted, RowConverted, RowConverts}
+use Rattle.collect.specs.Converts.{unitAt, headerIn, offsetsOf, Unnamed, convertedIn, ConversionIn, rawOf, soughtOf, linedIn, LineConverted, RowConverts}
 use Rattle.collect.proofs.SoughtLaws.{is-missing, is-unnamed}
 use Rattle.collect.proofs.LineLaws.{none-put, about-put}
 
@@ -57,7 +57,7 @@ module _ {main supplementary w w′ : List ℕ} {c : Conversion} {st : Convertin
       lines-but (c .lines) (st .count) K (inr (omega arith), (inr (omega arith), (inl (omega arith), tt)))
 
   pub conversion-kept : {files files′ : List ℕ} {st′ : Converting} → length w′ ≡ length w → Grown main supplementary w w′ files files′ (st .table) (st′ .table)
-      → Unnamed (unitAt main c) (headerOf main c) (indicesIn w′ (c .indices)) → c .lines + st′ .count * 25 ≤ length w → ConversionIn main supplementary w′ c st′
+      → Unnamed (unitAt main c) (headerIn main c) (indicesIn w′ (c .indices)) → c .lines + st′ .count * 25 ≤ length w → ConversionIn main supplementary w′ c st′
   conversion-kept size G named fits =
       let a = C .table in
       let b = C .offsets in
@@ -86,11 +86,11 @@ module _ {main supplementary w : List ℕ} {c : Conversion} {st : Converting} (C
   -- the table and the map may have changed before its line is written
   pub line-row : {w₁ w₂ files files′ warnings warnings′ : List ℕ} {t : StoredFiles} {file : FileIndex} {st′ : Converting} → c .lines + st .count * 25 + 25 ≤ length w
       → KeptBut w w₁ (written c st 25) → length w₁ ≡ length w → Grown main supplementary w w₁ files files′ (st .table) t
-      → Unnamed (unitAt main c) (headerOf main c) (indicesIn w₁ (c .indices))
-      → convertRow (unitAt main c) (headerOf main c) (offsetsOf w c) (rawOf r) (convertedIn main supplementary w c st [])
+      → Unnamed (unitAt main c) (headerIn main c) (indicesIn w₁ (c .indices))
+      → convertRow (unitAt main c) (headerIn main c) (offsetsOf w c) (rawOf r) (convertedIn main supplementary w c st [])
       ≡ done (convertLine (offsetsOf w c) (rawOf r) file (linedIn w c (st .count) (tableOf main supplementary w₁ t) (indicesIn w₁ (c .indices)) []))
       → LineConverted w₁ w₂ warnings warnings′ c (record { table = t; count = st .count; warned = st .warned }) r file st′ → length w₂ ≡ length w₁
-      → RowConverted main supplementary w w₂ files files′ warnings warnings′ c st r st′
+      → RowConverts main supplementary w w₂ files files′ warnings warnings′ c st r (ConvertedRow.Next st′)
   unfolding convertedIn indicesOf
   line-row {w₁} {w₂} {files} {files′} {t = t} {file = file} {st′ = st′} room K size G named is L size₂ =
       let a = C .table in
@@ -108,12 +108,14 @@ module _ {main supplementary w : List ℕ} {c : Conversion} {st : Converting} (C
       let maps : indicesIn w₂ (c .indices) ≡ indicesIn w₁ (c .indices) = records-but indexOf 5 (c .indices .base) (c .indices .count) K₁ (inl (omega arith), tt) in
       let line = rw (offsets-kept C 25 K, lines-same C 25 K) at (L .is (tableOf main supplementary w₁ t) (indicesIn w₁ (c .indices))) in
       record {
-        new = L .new;
-        is = is ∙ ap done (line ∙ (λ j. record { table = tables j; indices = sym maps j; lines = linesOf w₂ (c .lines) (st′ .count); warnings = L .new }));
-        grown = G₂;
-        put = L .put;
-        holds = conversion-kept C 25 K₂ (size₂ ∙ size) G₂ (rw maps named) (omega arith);
-        more = more;
+        is = record {
+          new = L .new;
+          is = is ∙ ap done (line ∙ (λ j. record { table = tables j; indices = sym maps j; lines = linesOf w₂ (c .lines) (st′ .count); warnings = L .new }));
+          grown = G₂;
+          put = L .put;
+          holds = conversion-kept C 25 K₂ (size₂ ∙ size) G₂ (rw maps named) (omega arith);
+          more = more;
+        };
         rest = K₂;
       }
 
@@ -122,25 +124,27 @@ module _ {main supplementary w : List ℕ} {c : Conversion} {st : Converting} (C
       → numberOf q ≡ get (indicesIn w (c .indices)) (r .file .0) → q ≡ FoundIndex.Number file
       → LineConverted w w₂ warnings warnings′ c st r file st′ → length w₂ ≡ length w → RowConverts main supplementary w w₂ files files warnings warnings′ c st r (ConvertedRow.Next st′)
   unfolding convertRow convertedIn
-  row-known room small found e L size = record { is = line-row room (but-refl w _) refl (grown-none (C .files) small) (C .unnamed) (rw (sym found ∙ ap numberOf e)) L size }
+  row-known room small found e L size = line-row room (but-refl w _) refl (grown-none (C .files) small) (C .unnamed) (rw (sym found ∙ ap numberOf e)) L size
 
   -- ---- a row whose file has none
 
   -- nothing is written to the map or for a line
   pub still : {w₁ files files′ warnings warnings′ : List ℕ} {n : ℕ} (new : List Warning) → KeptBut w w₁ (written c st 25) → length w₁ ≡ length w → Grown main supplementary w w₁ files files′ (st .table) (st .table)
       → indicesIn w₁ (c .indices) ≡ indicesIn w (c .indices)
-      → convertRow (unitAt main c) (headerOf main c) (offsetsOf w c) (rawOf r) (convertedIn main supplementary w c st [])
+      → convertRow (unitAt main c) (headerIn main c) (offsetsOf w c) (rawOf r) (convertedIn main supplementary w c st [])
       ≡ done (linedIn w c (st .count) (tableOf main supplementary w₁ (st .table)) (indicesIn w (c .indices)) new)
       → Put (st .warned) (warningsBytes new) warnings warnings′ n
-      → RowConverted main supplementary w w₁ files files′ warnings warnings′ c st r (record { table = st .table; count = st .count; warned = n })
+      → RowConverts main supplementary w w₁ files files′ warnings warnings′ c st r (ConvertedRow.Next (record { table = st .table; count = st .count; warned = n }))
   unfolding convertedIn
   still {w₁} new K size G maps is P = record {
-    new = new;
-    is = is ∙ ap done (λ j. record { table = tableOf main supplementary w₁ (st .table); indices = sym maps j; lines = sym (lines-same C 25 K) j; warnings = new });
-    grown = G;
-    put = P;
-    holds = conversion-kept C 25 K size G (rw maps (C .unnamed)) (C .lines);
-    more = (omega arith, omega arith);
+    is = record {
+      new = new;
+      is = is ∙ ap done (λ j. record { table = tableOf main supplementary w₁ (st .table); indices = sym maps j; lines = sym (lines-same C 25 K) j; warnings = new });
+      grown = G;
+      put = P;
+      holds = conversion-kept C 25 K size G (rw maps (C .unnamed)) (C .lines);
+      more = (omega arith, omega arith);
+    };
     rest = K;
   }
 
@@ -150,10 +154,9 @@ module _ {main supplementary w : List ℕ} {c : Conversion} {st : Converting} (C
         → Put (st .warned) (encode 0x46 ((6 ∷ []) ++ bytesOf 8 (r .address) ++ bytesOf 8 (r .file .0))) warnings warnings′ n
         → RowConverts main supplementary w w files files warnings warnings′ c st r (ConvertedRow.Next (record { table = st .table; count = st .count; warned = n }))
     unfolding convertRow convertedIn kindNumber
-    row-missing small found e P = record {
-      is = still (about missingLineFile (r .address) (r .file .0) ∷ []) (but-refl w _) refl (grown-none (C .files) small) refl (rw (unknown, is-missing C (r .file .0) found e))
-          (about-put missingLineFile 6 (r .address) (r .file .0) refl P);
-    }
+    row-missing small found e P =
+        still (about missingLineFile (r .address) (r .file .0) ∷ []) (but-refl w _) refl (grown-none (C .files) small) refl (rw (unknown, is-missing C (r .file .0) found e))
+        (about-put missingLineFile 6 (r .address) (r .file .0) refl P)
 
     -- a file with no path
     pub row-unnamed : {files warnings : List ℕ} {q : SoughtFile} → length files < top → st .warned ≤ top → length warnings < top → q ≡ soughtOf c (r .file .0) → q ≡ SoughtFile.Unnamed
@@ -161,4 +164,4 @@ module _ {main supplementary w : List ℕ} {c : Conversion} {st : Converting} (C
     unfolding convertRow convertedIn internFile _>>=_
     row-unnamed small fits small′ found e =
         let N = is-unnamed C (r .file .0) found e unknown in
-        record { is = still [] (but-refl w _) refl (grown-none (C .files) small) refl (rw (unknown, N .is, N .none-named)) (none-put fits small′) }
+        still [] (but-refl w _) refl (grown-none (C .files) small) refl (rw (unknown, N .is, N .none-named)) (none-put fits small′)

@@ -1,8 +1,8 @@
 -- The loop that converts a unit's rows: its start, its turns and its ends. Assumes nothing.
-use mathlib.Core.Path.{_≡_, refl, sym, _∙_}
+use mathlib.Core.Path.{_≡_, refl, _∙_}
 use mathlib.Core.Bool.{cond}
 use mathlib.Core.Logic.{inl, inr, ⊎-elim}
-use mathlib.Core.List.{List, [], _∷_, _++_, append-nil, append-assoc}
+use mathlib.Core.List.{List, [], _∷_, _++_, append-nil}
 use Prim.Native.Nat.{ℕ, zero, suc, _+_, _-_, _*_, _≤_, _<_}
 use native.Mathlib.Omega.{arith}
 use lib.Dec.{eqb}
@@ -12,12 +12,11 @@ use Rattle.tlv.specs.declared.access.Own.{Own}
 use Rattle.tlv.specs.Outcome.{refused, done, _>>=_}
 use Rattle.tlv.specs.Bytes.{leAt}
 use Rattle.tlv.specs.Buffer.{top, Put}
-use Rattle.tlv.specs.Fields.{encode}
 use Rattle.tlv.specs.Checked.{Placed}
 use Rattle.tlv.specs.Access.{NextOwn}
 use Rattle.tlv.specs.Table.{chunk, KeptBut}
 use Rattle.tlv.specs.Model.{CompilationUnit, LineHeader, LineRow, rowOf}
-use Rattle.tlv.specs.Output.{Warning, warningPayload, eachOf, warningsBytes}
+use Rattle.tlv.specs.Output.{Warning, warningsBytes}
 use Rattle.tlv.proofs.BufferLaws.{_then_, put-as}
 use Rattle.tlv.proofs.OwnLaws.{own-within, own-placed}
 use Rattle.tlv.proofs.TableLaws.{but-refl, but-trans}
@@ -30,16 +29,11 @@ use Rattle.collect.specs.declared.convert.Converting.{Converting}
 use Rattle.collect.specs.declared.convert.ConvertedRow.{ConvertedRow}
 use Rattle.collect.specs.declared.convert.Row.{Row}
 use Rattle.collect.specs.Passes.{rowsFrom, convertFrom}
-use Rattle.collect.specs.Converts.{unitAt, headerOf, offsetsOf, convertedIn, ConversionIn, rawOf, RowConverted, RowConverts, RowsConvert}
+use Rattle.collect.specs.Converts.{unitAt, headerIn, offsetsOf, convertedIn, ConversionIn, rawOf, RowConverted, RowConverts, RowsConvert}
 use Rattle.collect.proofs.RowsFromLaws.{rows-end, rows-next, row-long, row-kind}
 use Rattle.collect.proofs.PrefixLaws.{convert-row-prefix, convert-row-prefix-refused}
-use Rattle.collect.proofs.LineLaws.{none-put}
+use Rattle.collect.proofs.LineLaws.{none-put, warnings-append}
 use Rattle.collect.proofs.ConvertLaws.{written, offsets-kept}
-
-warnings-append : (a b : List Warning) → warningsBytes (a ++ b) ≡ warningsBytes a ++ warningsBytes b
-unfolding warningsBytes eachOf
-warnings-append [] b = refl
-warnings-append (x ∷ a) b = rw (warnings-append a b) (sym (append-assoc (encode 0x46 (warningPayload x)) (warningsBytes a) (warningsBytes b)))
 
 -- ---- one row, on the definitions
 
@@ -60,8 +54,8 @@ module _ (u : CompilationUnit) (h : LineHeader) (offsets : List ℕ) (n : ℕ) (
 pub record ConvertingRows (main supplementary w₀ w files₀ files warnings₀ warnings : List ℕ) (c : Conversion) (st₀ st : Converting) (left at n more : ℕ) : Type 0 where
   pub placed : Placed main at
   pub new : List Warning
-  pub same : convertFrom (unitAt main c) (headerOf main c) (offsetsOf w₀ c) (rowsFrom main (c .unit .place + 21)) 0 left (convertedIn main supplementary w₀ c st₀ [])
-      ≡ convertFrom (unitAt main c) (headerOf main c) (offsetsOf w₀ c) (rowsFrom main at) n more (convertedIn main supplementary w c st new)
+  pub same : convertFrom (unitAt main c) (headerIn main c) (offsetsOf w₀ c) (rowsFrom main (c .unit .place + 21)) 0 left (convertedIn main supplementary w₀ c st₀ [])
+      ≡ convertFrom (unitAt main c) (headerIn main c) (offsetsOf w₀ c) (rowsFrom main at) n more (convertedIn main supplementary w c st new)
   pub grown : Grown main supplementary w₀ w files₀ files (st₀ .table) (st .table)
   pub put : Put (st₀ .warned) (warningsBytes new) warnings₀ warnings (st .warned)
   pub start : ConversionIn main supplementary w₀ c st₀
@@ -98,11 +92,11 @@ converting-start {w = w} C room small fits small′ = record {
 
 module _ {main supplementary w₀ w files₀ files warnings₀ warnings : List ℕ} {c : Conversion} {st₀ st : Converting} {left at n more : ℕ}
     (J : ConvertingRows main supplementary w₀ w files₀ files warnings₀ warnings c st₀ st left at n more) where
-  finished : convertFrom (unitAt main c) (headerOf main c) (offsetsOf w₀ c) (rowsFrom main at) n more (convertedIn main supplementary w c st (J .new)) ≡ done (convertedIn main supplementary w c st (J .new))
+  finished : convertFrom (unitAt main c) (headerIn main c) (offsetsOf w₀ c) (rowsFrom main at) n more (convertedIn main supplementary w c st (J .new)) ≡ done (convertedIn main supplementary w c st (J .new))
       → RowsConvert main supplementary w₀ w files₀ files warnings₀ warnings c st₀ left (ConvertedRow.Next st)
   finished e =
       let most = J .most in
-      record { is = record { new = J .new; is = J .same ∙ e; grown = J .grown; put = J .put; holds = J .holds; more = omega arith; rest = J .rest } }
+      record { is = record { new = J .new; is = J .same ∙ e; grown = J .grown; put = J .put; holds = J .holds; more = omega arith }; rest = J .rest }
 
   -- enough rows
   pub converting-full : more ≡ 0 → RowsConvert main supplementary w₀ w files₀ files warnings₀ warnings c st₀ left (ConvertedRow.Next st)
@@ -112,17 +106,17 @@ module _ {main supplementary w₀ w files₀ files warnings₀ warnings : List �
   module _ {r : Own} (own : NextOwn main at 0x16 r) where
     -- no more rows
     pub converting-over : r ≡ Own.Missing → RowsConvert main supplementary w₀ w files₀ files warnings₀ warnings c st₀ left (ConvertedRow.Next st)
-    converting-over e = finished (rw (rows-end main at r own e) (from-none (unitAt main c) (headerOf main c) (offsetsOf w₀ c) n (convertedIn main supplementary w c st (J .new)) more))
+    converting-over e = finished (rw (rows-end main at r own e) (from-none (unitAt main c) (headerIn main c) (offsetsOf w₀ c) n (convertedIn main supplementary w c st (J .new)) more))
 
     module _ {start len next : ℕ} (e : r ≡ Own.Field start len next) (some-left : more ≡ 0 → ⊥) (kind : ℕ) (read : kind ≡ leAt 1 main (start + 24)) where
-      turn : convertFrom (unitAt main c) (headerOf main c) (offsetsOf w₀ c) (rowsFrom main at) n more (convertedIn main supplementary w c st (J .new))
-          ≡ cond (eqb kind 1) (convertFrom (unitAt main c) (headerOf main c) (offsetsOf w₀ c) (rowsFrom main next) (n + 1) more (convertedIn main supplementary w c st (J .new)))
-          (convertRow (unitAt main c) (headerOf main c) (offsetsOf w₀ c) (rawLine (rowOf (take len (drop start main))) n) (convertedIn main supplementary w c st (J .new))
-          >>= convertFrom (unitAt main c) (headerOf main c) (offsetsOf w₀ c) (rowsFrom main next) n (more - 1))
+      turn : convertFrom (unitAt main c) (headerIn main c) (offsetsOf w₀ c) (rowsFrom main at) n more (convertedIn main supplementary w c st (J .new))
+          ≡ cond (eqb kind 1) (convertFrom (unitAt main c) (headerIn main c) (offsetsOf w₀ c) (rowsFrom main next) (n + 1) more (convertedIn main supplementary w c st (J .new)))
+          (convertRow (unitAt main c) (headerIn main c) (offsetsOf w₀ c) (rawLine (rowOf (take len (drop start main))) n) (convertedIn main supplementary w c st (J .new))
+          >>= convertFrom (unitAt main c) (headerIn main c) (offsetsOf w₀ c) (rowsFrom main next) n (more - 1))
       turn =
           rw (
             rows-next main at r own start len next e,
-            from-row (unitAt main c) (headerOf main c) (offsetsOf w₀ c) n (convertedIn main supplementary w c st (J .new)) _ _ more some-left,
+            from-row (unitAt main c) (headerIn main c) (offsetsOf w₀ c) n (convertedIn main supplementary w c st (J .new)) _ _ more some-left,
             row-kind main at r own start len next e (J .placed) kind read,
           )
 
@@ -153,50 +147,54 @@ module _ {main supplementary w₀ w files₀ files warnings₀ warnings : List �
           }
 
       module _ (plain : kind ≡ 1 → ⊥) {row : Row} (is-row : rawOf row ≡ rawLine (rowOf (chunk main start 25)) n) where
-        converted-row : convertFrom (unitAt main c) (headerOf main c) (offsetsOf w₀ c) (rowsFrom main at) n more (convertedIn main supplementary w c st (J .new))
-            ≡ (convertRow (unitAt main c) (headerOf main c) (offsetsOf w c) (rawOf row) (convertedIn main supplementary w c st (J .new))
-            >>= convertFrom (unitAt main c) (headerOf main c) (offsetsOf w₀ c) (rowsFrom main next) n (more - 1))
+        converted-row : convertFrom (unitAt main c) (headerIn main c) (offsetsOf w₀ c) (rowsFrom main at) n more (convertedIn main supplementary w c st (J .new))
+            ≡ (convertRow (unitAt main c) (headerIn main c) (offsetsOf w c) (rawOf row) (convertedIn main supplementary w c st (J .new))
+            >>= convertFrom (unitAt main c) (headerIn main c) (offsetsOf w₀ c) (rowsFrom main next) n (more - 1))
         unfolding chunk
         converted-row = turn ∙ rw (ne-eqb kind 1 plain, is-row, row-long main at r own start len next e (J .placed), offsets-kept (J .start) (left * 25) (J .rest))
 
         module _ {w′ files′ warnings′ : List ℕ} {q : ConvertedRow} (A : RowConverts main supplementary w w′ files files′ warnings warnings′ c st row q) where
+          -- what the row may write, the rows may
+          rows-rest : KeptBut w₀ w′ (written c st₀ (left * 25))
+          rows-rest =
+              let gb = J .grown .base in
+              let gr = J .grown .room in
+              let least = J .least in
+              let most = J .most in
+              but-trans (J .rest) (record { same = λ a k z. A .rest .same a k (rw (gb, gr) (z .0), (z .1 .0, (⊎-elim (λ l. inl (omega arith)) (λ l. inr (omega arith)) (z .1 .1 .0), tt))) })
+
           pub converting-refused : {k : ℕ} → q ≡ ConvertedRow.Refused k → RowsConvert main supplementary w₀ w′ files₀ files′ warnings₀ warnings′ c st₀ left (ConvertedRow.Refused k)
           unfolding convertedIn _>>=_
           converting-refused {k} eq =
-              let no : convertRow (unitAt main c) (headerOf main c) (offsetsOf w c) (rawOf row) (convertedIn main supplementary w c st []) ≡ refused k = rw eq at (A .is) in
-              let all = rw append-nil at (convert-row-prefix-refused (unitAt main c) (headerOf main c) (offsetsOf w c) (rawOf row) (J .new) (convertedIn main supplementary w c st []) k no) in
-              record { is = J .same ∙ converted-row ∙ rw all }
+              let no : convertRow (unitAt main c) (headerIn main c) (offsetsOf w c) (rawOf row) (convertedIn main supplementary w c st []) ≡ refused k = rw eq at (A .is) in
+              let all = rw append-nil at (convert-row-prefix-refused (unitAt main c) (headerIn main c) (offsetsOf w c) (rawOf row) (J .new) (convertedIn main supplementary w c st []) k no) in
+              record { is = J .same ∙ converted-row ∙ rw all; rest = rows-rest }
 
           pub converting-more : {st′ : Converting} → q ≡ ConvertedRow.Next st′ → length w′ ≡ length w → length files′ ≡ length files → length warnings′ ≡ length warnings
               → ConvertingRows main supplementary w₀ w′ files₀ files′ warnings₀ warnings′ c st₀ st′ left next n (more - 1)
           unfolding convertedIn _>>=_
           converting-more {st′} eq size files-size warnings-size =
               let R : RowConverted main supplementary w w′ files files′ warnings warnings′ c st row st′ = rw eq at (A .is) in
-              let all = rw append-nil at (convert-row-prefix (unitAt main c) (headerOf main c) (offsetsOf w c) (rawOf row) (J .new) (convertedIn main supplementary w c st []) (convertedIn main supplementary w′ c st′ (R .new)) (R .is)) in
+              let all = rw append-nil at (convert-row-prefix (unitAt main c) (headerIn main c) (offsetsOf w c) (rawOf row) (J .new) (convertedIn main supplementary w c st []) (convertedIn main supplementary w′ c st′ (R .new)) (R .is)) in
               let x = own-within main at 0x16 r start len next own e in
-              let G = J .grown in
-              let gb = G .base in
-              let gr = G .room in
               let least = J .least in
               let most = J .most in
               let small = J .small in
               let grows = R .more in
               let up = grows .0 in
               let one = grows .1 in
-              let K : KeptBut w w′ (written c st₀ (left * 25)) =
-              record { same = λ a k z. R .rest .same a k (rw (gb, gr) (z .0), (z .1 .0, (⊎-elim (λ l. inl (omega arith)) (λ l. inr (omega arith)) (z .1 .1 .0), tt))) } in
               record {
                 placed = placed-next;
                 new = J .new ++ R .new;
                 same = J .same ∙ converted-row ∙ rw all;
-                grown = grown-trans G (R .grown);
+                grown = grown-trans (J .grown) (R .grown);
                 put = put-as (warnings-append (J .new) (R .new)) (J .put then R .put);
                 start = J .start;
                 holds = R .holds;
                 least = omega arith;
                 most = omega arith;
                 small = omega arith;
-                rest = but-trans (J .rest) K;
+                rest = rows-rest;
                 room = rw size (J .room);
                 size = size ∙ J .size;
                 files-size = files-size ∙ J .files-size;

@@ -1,7 +1,7 @@
 -- The end of collect_lines: the rows of a unit that were counted are converted, and its lines and sequences stored. Assumes nothing.
 use mathlib.Core.Path.{_≡_, refl, sym, ap, subst, _∙_}
-use mathlib.Core.Logic.{inl, inr}
-use mathlib.Core.List.{List, [], _∷_, _++_, map, append-nil, append-assoc}
+use mathlib.Core.Logic.{inl}
+use mathlib.Core.List.{List, [], _∷_, _++_, map, append-nil}
 use mathlib.Core.Option.{none}
 use Prim.Native.Nat.{ℕ, _+_, _*_, _≤_, _<_}
 use native.Mathlib.Omega.{arith}
@@ -11,13 +11,13 @@ use Rattle.tlv.specs.Outcome.{Outcome, refused, done, _>>=_}
 use Rattle.tlv.specs.Bytes.{le, bytesOf}
 use Rattle.tlv.specs.Buffer.{top, Put}
 use Rattle.tlv.specs.Fields.{encode}
+use Rattle.tlv.specs.Table.{KeptBut}
 use Rattle.tlv.specs.Checked.{Placed}
-use Rattle.tlv.specs.Output.{Warning, lineSequenceMismatch, kindNumber, warningPayload, eachOf, warningsBytes}
+use Rattle.tlv.specs.Output.{Warning, lineSequenceMismatch, kindNumber, warningsBytes}
 use Rattle.tlv.proofs.OutcomeLaws.{done-is}
-use Rattle.tlv.proofs.BufferLaws.{_then_, put-as, put-nothing}
-use Rattle.tlv.proofs.OutputLaws.{put-about}
+use Rattle.tlv.proofs.BufferLaws.{_then_, put-as}
 use Rattle.tlv.proofs.TableLaws.{here, there, but-of, but-one, but-trans}
-use Rattle.tlv.proofs.RecordLaws.{records-length, records-but, records-kept}
+use Rattle.tlv.proofs.RecordLaws.{records-length, records-kept}
 use Rattle.lines.specs.Lines.{Run, runRows, Converted, convertRows, mismatch}
 use Rattle.rows.specs.declared.«unit_lines».StoredLines.{StoredLines}
 use Rattle.rows.specs.Stored.{rangesOf}
@@ -32,31 +32,27 @@ use Rattle.collect.specs.declared.convert.Conversion.{Conversion}
 use Rattle.collect.specs.declared.convert.Converting.{Converting}
 use Rattle.collect.specs.declared.convert.ConvertedRow.{ConvertedRow}
 use Rattle.collect.specs.Passes.{rowsFrom, countRows, sequencesFrom, withOffset, convertFrom}
-use Rattle.collect.specs.Converts.{unitAt, headerOf, offsetsOf, convertedIn, ConversionIn, RowsConverted, RowsConvert}
+use Rattle.collect.specs.Converts.{unitAt, headerIn, offsetsOf, convertedIn, ConversionIn, RowsConverted, RowsConvert}
 use Rattle.collect.specs.Collects.{linesIn}
 use Rattle.collect.specs.Stages.{rowsOf, finishFrom, StoresLines, FinishesLines}
 use Rattle.collect.proofs.RunLaws.{RunCounted, count-done, convert-from}
 use Rattle.collect.proofs.PrefixLaws.{convert-rows-prefix, convert-rows-prefix-refused}
 use Rattle.collect.proofs.FrameLaws.{but-wide}
+use Rattle.collect.proofs.LineLaws.{none-put, about-put, warnings-append}
+use Rattle.collect.proofs.ConvertLaws.{offsets-kept}
 
 -- ---- warnings
-
-warnings-append : (a b : List Warning) → warningsBytes (a ++ b) ≡ warningsBytes a ++ warningsBytes b
-unfolding warningsBytes eachOf
-warnings-append [] b = refl
-warnings-append (x ∷ a) b = rw (warnings-append a b) (sym (append-assoc (encode 0x46 (warningPayload x)) (warningsBytes a) (warningsBytes b)))
 
 -- as many sequences as offsets
 pub no-mismatch : {warned : ℕ} {warnings : List ℕ} (sequences offsets : ℕ) → offsets ≡ sequences → warned ≤ top → length warnings < top
     → Put warned (warningsBytes (mismatch sequences offsets)) warnings warnings warned
-unfolding warningsBytes eachOf
-no-mismatch sequences offsets e h k = put-nothing (rw (eq-eqb offsets sequences e)) h k
+no-mismatch sequences offsets e h k = rw (eq-eqb offsets sequences e) (none-put h k)
 
 -- another number
 pub a-mismatch : {warned r : ℕ} {warnings warnings′ : List ℕ} (sequences offsets : ℕ) → (offsets ≡ sequences → ⊥)
     → Put warned (encode 0x46 ((5 ∷ []) ++ bytesOf 8 sequences ++ bytesOf 8 offsets)) warnings warnings′ r → Put warned (warningsBytes (mismatch sequences offsets)) warnings warnings′ r
-unfolding warningsBytes eachOf kindNumber
-a-mismatch sequences offsets e f = put-as (rw (ne-eqb offsets sequences e, append-nil)) (put-about lineSequenceMismatch 5 sequences offsets refl f)
+unfolding kindNumber
+a-mismatch sequences offsets e f = rw (ne-eqb offsets sequences e) (about-put lineSequenceMismatch 5 sequences offsets refl f)
 
 -- ---- the rows
 
@@ -98,11 +94,11 @@ module _ {main supplementary w : List ℕ} {c : Conversion} {t : StoredFiles} {w
       λ i. mismatch (s i) (k i)
 
   rows-are : (noted : ℕ) (x : Outcome Converted)
-      → convertFrom (unitAt main c) (headerOf main c) (offsetsOf w c) (rowsFrom main (c .unit .place + 21)) 0 n (convertedIn main supplementary w c (record { table = t; count = 0; warned = noted }) []) ≡ x
-      → convertRows (unitAt main c) (headerOf main c) (offsetsOf w c) (rows-counted .run .lines) start ≡ x
+      → convertFrom (unitAt main c) (headerIn main c) (offsetsOf w c) (rowsFrom main (c .unit .place + 21)) 0 n (convertedIn main supplementary w c (record { table = t; count = 0; warned = noted }) []) ≡ x
+      → convertRows (unitAt main c) (headerIn main c) (offsetsOf w c) (rows-counted .run .lines) start ≡ x
   unfolding convertedIn start
   rows-are noted x e =
-      sym (convert-from (unitAt main c) (headerOf main c) (offsetsOf w c) (rowsFrom main (c .unit .place + 21)) (rows-counted .run) start (rows-counted .is))
+      sym (convert-from (unitAt main c) (headerIn main c) (offsetsOf w c) (rowsFrom main (c .unit .place + 21)) (rows-counted .run) start (rows-counted .is))
       ∙ rw (rows-counted .lines) (rw (lines-nil w (c .lines)) at e)
 
   -- the run is the one that was counted
@@ -116,12 +112,17 @@ module _ {main supplementary w : List ℕ} {c : Conversion} {t : StoredFiles} {w
     unfolding _>>=_ start notes
     finish-refused e is =
         let h = rows-are noted (refused e) (rw is at (R .is)) in
-        let p = rw (append-nil notes) at (convert-rows-prefix-refused (unitAt main c) (headerOf main c) (offsetsOf w c) (rows-counted .run .lines) notes start e h) in
+        let p = rw (append-nil notes) at (convert-rows-prefix-refused (unitAt main c) (headerIn main c) (offsetsOf w c) (rows-counted .run .lines) notes start e h) in
         rw p
 
-    pub finishes-refused : {w′ files′ warnings warnings′ : List ℕ} {e : ℕ} → r ≡ ConvertedRow.Refused e
-        → FinishesLines main supplementary w w′ files files′ warnings warnings′ c t warned (CollectedLines.Refused e)
-    finishes-refused {e = e} is = record { is = of-run (refused e) (finish-refused e is) }
+    rows-rest : KeptBut w w₁ ((t .base, extent t) ∷ (c .indices .base, c .indices .count * 5) ∷ (c .lines, 50 * rowsOf main c + 16) ∷ [])
+    rows-rest =
+        let k = rows-counted .all in
+        but-wide _ (R .rest) (here (omega arith) (omega arith), (there (here (omega arith) (omega arith)), (there (there (here (omega arith) (omega arith))), tt)))
+
+    pub finishes-refused : {files′ warnings warnings′ : List ℕ} {e : ℕ} → r ≡ ConvertedRow.Refused e
+        → FinishesLines main supplementary w w₁ files files′ warnings warnings′ c t warned (CollectedLines.Refused e)
+    finishes-refused {e = e} is = record { is = of-run (refused e) (finish-refused e is); rest = rows-rest }
 
     module _ {st : Converting} (is : r ≡ ConvertedRow.Next st) where
       rows-converted : RowsConverted main supplementary w w₁ files files₁ warnings₁ warnings₂ c (record { table = t; count = 0; warned = noted }) n st
@@ -143,14 +144,6 @@ module _ {main supplementary w : List ℕ} {c : Conversion} {t : StoredFiles} {w
       pub store-room : c .lines + 50 * rowsOf main c + 16 ≤ length w₁ → c .lines + st .count * 50 + 25 * length (sequencesFrom (rowsFrom main (c .unit .place + 21)) 0 none) + 16 ≤ length w₁
       store-room h = let a = store-small in omega arith
 
-      offsets-same : offsetsOf w₁ c ≡ offsetsOf w c
-      offsets-same =
-          let a = C .table in
-          let b = C .offsets in
-          let d = C .directories in
-          let e = C .indices in
-          records-but le 8 (c .offsets) (c .«offset_count») (rows-converted .rest) (inr (omega arith), (inl (omega arith), (inl (omega arith), tt)))
-
       module _ {w₂ : List ℕ} {l : StoredLines} (S : StoresLines main w₁ w₂ (c .unit .place + 21) (c .offsets) (c .«offset_count») (c .lines) (st .count) l) where
         table-below : st .table .base + extent (st .table) ≤ c .lines
         table-below =
@@ -171,7 +164,7 @@ module _ {main supplementary w : List ℕ} {c : Conversion} {t : StoredFiles} {w
         sequences-same : map (withOffset (offsetsOf w c)) (rows-counted .run .sequences) ≡ rangesOf w₂ (l .sequences) (l .«sequence_count»)
         sequences-same =
             ap (map (withOffset (offsetsOf w c))) (rows-counted .sequences)
-            ∙ ap (λ (o : List ℕ). map (withOffset o) (sequencesFrom (rowsFrom main (c .unit .place + 21)) 0 none)) (sym offsets-same)
+            ∙ ap (λ (o : List ℕ). map (withOffset o) (sequencesFrom (rowsFrom main (c .unit .place + 21)) 0 none)) (sym (offsets-kept C (n * 25) (R .rest)))
             ∙ sym (S .ranges)
 
         finish-done : finishFrom main supplementary w c t (rows-counted .run)
@@ -180,7 +173,7 @@ module _ {main supplementary w : List ℕ} {c : Conversion} {t : StoredFiles} {w
         finish-done =
             let cv = convertedIn main supplementary w₁ c st (rows-converted .new) in
             let h = rows-are noted (done cv) (rows-converted .is) in
-            let p = rw (append-nil notes) at (convert-rows-prefix (unitAt main c) (headerOf main c) (offsetsOf w c) (rows-counted .run .lines) notes start cv h) in
+            let p = rw (append-nil notes) at (convert-rows-prefix (unitAt main c) (headerIn main c) (offsetsOf w c) (rows-counted .run .lines) notes start cv h) in
             rw p (λ i. done (record {
               table = table-same i;
               lines = record { entries = sym (S .entries) i; files = indices-same i; sequences = sequences-same i };
@@ -191,11 +184,7 @@ module _ {main supplementary w : List ℕ} {c : Conversion} {t : StoredFiles} {w
             → FinishesLines main supplementary w w₂ files files₁ warnings warnings₂ c t warned (CollectedLines.Lines l (c .indices) (st .table) (st .warned))
         finishes-done W size =
             let small = store-small in
-            let all : List (ℕ × ℕ) = (t .base, extent t) ∷ (c .indices .base, c .indices .count * 5) ∷ (c .lines, 50 * rowsOf main c + 16) ∷ [] in
-            let s = S .sequences in
             let b = S .within in
-            let k = rows-counted .all in
-            let more = rows-converted .more in
             record {
               is = record {
                 new = notes ++ rows-converted .new;
@@ -207,9 +196,6 @@ module _ {main supplementary w : List ℕ} {c : Conversion} {t : StoredFiles} {w
                 from = S .from;
                 sequences = S .sequences;
                 within = omega arith;
-                rest =
-                    but-trans
-                    (but-wide all (rows-converted .rest) (here (omega arith) (omega arith), (there (here (omega arith) (omega arith)), (there (there (here (omega arith) (omega arith))), tt))))
-                    (but-of (S .rest) (there (there (here (omega arith) (omega arith)))));
               };
+              rest = but-trans rows-rest (but-of (S .rest) (there (there (here (omega arith) (omega arith)))));
             }

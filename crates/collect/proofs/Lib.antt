@@ -7,11 +7,11 @@ pub mod FrameLaws
 pub mod HeaderPlaces
 pub mod UnitInternLaws
 pub mod StoreLaws
-pub mod FinishLaws
-pub mod CollectSteps
-pub mod CollectLaws
 pub mod SoughtLaws
 pub mod LineLaws
 pub mod ConvertLaws
 pub mod ZeroRowLaws
 pub mod ConvertingLaws
+pub mod FinishLaws
+pub mod CollectSteps
+pub mod CollectLaws

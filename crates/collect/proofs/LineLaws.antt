@@ -1,6 +1,6 @@
--- A row whose file has a number: its line, or the warning that its line is past 32 bits. Assumes nothing.
-use mathlib.Core.Path.{_≡_, refl}
-use mathlib.Core.List.{List, [], _∷_, _++_, append-nil}
+-- How warnings are put, and a row whose file has a number: its line, or the warning that its line is past 32 bits. Assumes nothing.
+use mathlib.Core.Path.{_≡_, refl, sym}
+use mathlib.Core.List.{List, [], _∷_, _++_, append-nil, append-assoc}
 use Prim.Native.Nat.{ℕ, _+_, _*_, _≤_, _<_, _^_}
 use native.Mathlib.Omega.{arith}
 use lib.ListN.{length}
@@ -12,7 +12,7 @@ use Rattle.tlv.specs.Buffer.{top, Put}
 use Rattle.tlv.specs.Fields.{encode}
 use Rattle.tlv.specs.Model.{rowOf}
 use Rattle.tlv.specs.Table.{chunk}
-use Rattle.tlv.specs.Output.{WarningKind, unrepresentableLine, about, kindNumber, warningPayload, eachOf, warningsBytes}
+use Rattle.tlv.specs.Output.{WarningKind, unrepresentableLine, Warning, about, kindNumber, warningPayload, eachOf, warningsBytes}
 use Rattle.tlv.proofs.BufferLaws.{put-none, put-as}
 use Rattle.tlv.proofs.ChunkLaws.{leAt-chunk, leAt-front}
 use Rattle.tlv.proofs.OutputLaws.{put-about}
@@ -36,6 +36,11 @@ pub about-put : (k : WarningKind) (kind first second : ℕ) → kind ≡ kindNum
     → Put at (warningsBytes (about k first second ∷ [])) t t′ r
 unfolding warningsBytes eachOf
 about-put k kind first second e P = put-as (append-nil (encode 0x46 (warningPayload (about k first second)))) (put-about k kind first second e P)
+
+pub warnings-append : (a b : List Warning) → warningsBytes (a ++ b) ≡ warningsBytes a ++ warningsBytes b
+unfolding warningsBytes eachOf
+warnings-append [] b = refl
+warnings-append (x ∷ a) b = rw (warnings-append a b) (sym (append-assoc (encode 0x46 (warningPayload x)) (warningsBytes a) (warningsBytes b)))
 
 -- ---- the line
 

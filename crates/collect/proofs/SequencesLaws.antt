@@ -4,11 +4,11 @@ use mathlib.Core.Bool.{Bool, true, false, cond}
 use mathlib.Core.Logic.{inl}
 use mathlib.Core.List.{List, [], _∷_, _++_, map, append-assoc, append-nil}
 use mathlib.Core.Option.{Option, none, some}
-use Prim.Native.Nat.{ℕ, zero, suc, _+_, _*_, _≤_, _<_}
-use native.Mathlib.Nat.{add-zero, not-suc-le-zero}
+use Prim.Native.Nat.{ℕ, _+_, _*_, _≤_, _<_}
+use native.Mathlib.Nat.{add-zero}
 use native.Mathlib.Omega.{arith}
 use lib.Dec.{ltb, eqb}
-use lib.ListN.{length, take, drop, getD}
+use lib.ListN.{length, take, drop}
 use borrow.Author.Tests.{eq-eqb, ne-eqb, lt-ltb, le-ltb}
 use Rattle.tlv.specs.declared.access.Own.{Own}
 use Rattle.tlv.specs.declared.model.AddressRange.{AddressRange}
@@ -25,23 +25,11 @@ use Rattle.lines.specs.Lines.{RawSequence}
 use Rattle.rows.specs.declared.line.StatementSequence.{StatementSequence}
 use Rattle.rows.specs.Stored.{sequenceOf, rangeOf, rangeAt, rangesOf, PutSequenceRange}
 use Rattle.rows.proofs.StoredLaws.{ranges-nil}
+use Rattle.files.proofs.PieceLaws.{at-some, at-none}
 use Rattle.collect.specs.Passes.{rowsFrom, startOr, sequencesFrom, withOffset, offsetsAt, SequencePut, SequencesIn}
 use Rattle.collect.proofs.RowsFromLaws.{rows-end, rows-next, row-number, row-kind}
 
 -- ---- the offset of a sequence
-
-module _ {A : Type 0} where
-  pub at-some : (l : List A) (i : ℕ) (d : A) → i < length l → at l i ≡ some (getD l i d)
-  unfolding at
-  at-some [] i d h = absurd (not-suc-le-zero h)
-  at-some (x ∷ xs) zero d h = refl
-  at-some (x ∷ xs) (suc i) d h = at-some xs i d (omega arith)
-
-  pub at-none : (l : List A) (i : ℕ) → length l ≤ i → at l i ≡ none
-  unfolding at
-  at-none [] i h = refl
-  at-none (x ∷ xs) zero h = absurd (not-suc-le-zero h)
-  at-none (x ∷ xs) (suc i) h = at-none xs i (omega arith)
 
 module _ (w : List ℕ) (b n i : ℕ) where
   pub offset-known : {v : ℕ} → i < n → v ≡ leAt 8 w (b + i * 8) → sequenceOf (StatementSequence.At v) ≡ at (offsetsAt w b n) i

@@ -28,12 +28,12 @@ use Rattle.files.specs.declared.pieces.Span.{Span}
 use Rattle.files.specs.Pieces.{spanIn}
 use Rattle.files.specs.Indices.{indicesIn}
 use Rattle.files.specs.Interns.{FileSpanIn, OfUnit}
+use Rattle.files.proofs.PieceLaws.{at-some, at-none}
 use Rattle.files.proofs.UnitLaws.{first-none, first-found, unit-next}
 use Rattle.collect.specs.declared.convert.Conversion.{Conversion}
 use Rattle.collect.specs.declared.convert.Converting.{Converting}
 use Rattle.collect.specs.declared.convert.SoughtFile.{SoughtFile}
-use Rattle.collect.specs.Converts.{unitAt, headerOf, ConversionIn, zeroOf, listedOf, soughtOf}
-use Rattle.collect.proofs.SequencesLaws.{at-some, at-none}
+use Rattle.collect.specs.Converts.{unitAt, headerIn, ConversionIn, zeroOf, listedOf, soughtOf}
 
 -- ---- what the code finds
 
@@ -63,19 +63,19 @@ module _ (c : Conversion) (n : ℕ) {r : SoughtFile} where
 
 -- file 0 before version 5 is this one
 pub record ZeroIs (main : List ℕ) (c : Conversion) (n : ℕ) (a : Span) : Type 0 where
-  pub is : headerFile (unitAt main c) (headerOf main c) n ≡ some (fileOf (spanIn main a))
+  pub is : headerFile (unitAt main c) (headerIn main c) n ≡ some (fileOf (spanIn main a))
   pub span : FileSpanIn main a
   pub listed : OfUnit main (c .unit .place) a
 
 -- the header lists a file with no path
 pub record UnnamedIs (main : List ℕ) (c : Conversion) (n : ℕ) : Type 0 where
   pub file : HeaderFile
-  pub is : headerFile (unitAt main c) (headerOf main c) n ≡ some file
-  pub none-named : fileEntry (unitAt main c) (headerOf main c) file ≡ done none
+  pub is : headerFile (unitAt main c) (headerIn main c) n ≡ some file
+  pub none-named : fileEntry (unitAt main c) (headerIn main c) file ≡ done none
 
 -- what the code finds means that, where the map has no number
 abbrev Means : List ℕ → List ℕ → Conversion → ℕ → SoughtFile → Type 0
-Means main w c n SoughtFile.Missing = headerFile (unitAt main c) (headerOf main c) n ≡ none
+Means main w c n SoughtFile.Missing = headerFile (unitAt main c) (headerIn main c) n ≡ none
 Means main w c n SoughtFile.Unnamed = get (indicesIn w (c .indices)) n ≡ none → UnnamedIs main c n
 Means main w c n (SoughtFile.Zero a) = ZeroIs main c n a
 
@@ -83,7 +83,7 @@ module _ {main supplementary w : List ℕ} {c : Conversion} {st : Converting} (C
   zero-field : unitAt main c .fileZero ≡ mapOption fileOf (payloadOf 0x1c (ownFields (fields (drop (c .unit .place + 21) main))))
   zero-field = let p = c .unit .place in unit-file-zero main p (stepAt main p) 0x10 (p + 3) 18 (p + 21) refl (C .placed .is)
 
-  zero-means : headerFile (unitAt main c) (headerOf main c) n ≡ unitAt main c .fileZero → (o : Own) → NextOwn main (c .unit .place + 21) 0x1c o → Means main w c n (zeroOf o)
+  zero-means : headerFile (unitAt main c) (headerIn main c) n ≡ unitAt main c .fileZero → (o : Own) → NextOwn main (c .unit .place + 21) 0x1c o → Means main w c n (zeroOf o)
   unfolding mapOption chunk
   zero-means e Own.Missing own = e ∙ rw (zero-field, first-none main (c .unit .place + 21) 0x1c Own.Missing own refl)
   zero-means e (Own.Field start len next) own =
@@ -100,15 +100,15 @@ module _ {main supplementary w : List ℕ} {c : Conversion} {st : Converting} (C
         listed = record { listed = rw found (inl refl) };
       }
 
-  listed-means : (m : ℕ) → headerFile (unitAt main c) (headerOf main c) n ≡ at (unitAt main c .files) m → (n < c .indices .count → m < length (unitAt main c .files))
-      → (c .indices .count ≤ n → length (unitAt main c .files) ≤ m) → ((n ≡ 0) × (leb (headerOf main c .version) 4 ≡ true) → ⊥) → Means main w c n (listedOf (c .indices .count) n)
+  listed-means : (m : ℕ) → headerFile (unitAt main c) (headerIn main c) n ≡ at (unitAt main c .files) m → (n < c .indices .count → m < length (unitAt main c .files))
+      → (c .indices .count ≤ n → length (unitAt main c .files) ≤ m) → ((n ≡ 0) × (leb (headerIn main c .version) 4 ≡ true) → ⊥) → Means main w c n (listedOf (c .indices .count) n)
   listed-means m e inside outside other =
       let files = unitAt main c .files in
       let d : HeaderFile = record { failed = true; directory = 0; path = [] } in
       ⊎-elim
       (λ h. rw (le-ltb n (c .indices .count) h) (e ∙ at-none files m (outside h)))
       (λ h.
-      let is : headerFile (unitAt main c) (headerOf main c) n ≡ some (getD files m d) = e ∙ at-some files m d (inside h) in
+      let is : headerFile (unitAt main c) (headerIn main c) n ≡ some (getD files m d) = e ∙ at-some files m d (inside h) in
       rw (lt-ltb n (c .indices .count) h) (λ g. record { file = getD files m d; is = is; none-named = ⊎-elim (λ z. absurd (other z)) (λ x. x) (C .unnamed .unnamed n (getD files m d) g is) }))
       (le-or-lt (c .indices .count) n)
 
@@ -119,7 +119,7 @@ module _ {main supplementary w : List ℕ} {c : Conversion} {st : Converting} (C
   sought-means : Means main w c n (soughtOf c n)
   unfolding headerFile
   sought-means =
-      let v = headerOf main c .version in
+      let v = headerIn main c .version in
       let same : c .unit .version ≡ v = C .unit .version in
       let files = unitAt main c .files in
       ⊎-elim
@@ -144,7 +144,7 @@ module _ {main supplementary w : List ℕ} {c : Conversion} {st : Converting} (C
     means : (q : SoughtFile) → r ≡ q → Means main w c n q
     means q e = means-as (sym found ∙ e) sought-means
 
-    pub is-missing : r ≡ SoughtFile.Missing → headerFile (unitAt main c) (headerOf main c) n ≡ none
+    pub is-missing : r ≡ SoughtFile.Missing → headerFile (unitAt main c) (headerIn main c) n ≡ none
     is-missing e = means SoughtFile.Missing e
 
     pub is-unnamed : r ≡ SoughtFile.Unnamed → get (indicesIn w (c .indices)) n ≡ none → UnnamedIs main c n

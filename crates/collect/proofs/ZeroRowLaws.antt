@@ -31,7 +31,7 @@ use Rattle.collect.specs.declared.convert.Converting.{Converting}
 use Rattle.collect.specs.declared.convert.ConvertedRow.{ConvertedRow}
 use Rattle.collect.specs.declared.convert.Row.{Row}
 use Rattle.collect.specs.declared.convert.SoughtFile.{SoughtFile}
-use Rattle.collect.specs.Converts.{unitAt, headerOf, Unnamed, convertedIn, ConversionIn, soughtOf, LineConverted, RowConverts}
+use Rattle.collect.specs.Converts.{unitAt, headerIn, Unnamed, convertedIn, ConversionIn, soughtOf, LineConverted, RowConverts}
 use Rattle.collect.proofs.SoughtLaws.{is-zero}
 use Rattle.collect.proofs.LineLaws.{none-put}
 use Rattle.collect.proofs.ConvertLaws.{written, line-row, still}
@@ -66,7 +66,7 @@ unnamed-set {is = is} n i N = record { unnamed = λ m f g e. N .unnamed m f (get
 module _ {main supplementary w : List ℕ} {c : Conversion} {st : Converting} (C : ConversionIn main supplementary w c st) (r : Row) (unknown : get (indicesIn w (c .indices)) (r .file .0) ≡ none)
     {file : Span} (sought : SoughtFile.Zero file ≡ soughtOf c (r .file .0)) where
   -- the file can be interned
-  pub zero-asked : FilesIn main supplementary w (st .table) × (FileUnitIn main w (c .unit) × (FileSpanIn main file × (OfUnit main (c .unit .place) file × Listed main supplementary (unitAt main c) (headerOf main c))))
+  pub zero-asked : FilesIn main supplementary w (st .table) × (FileUnitIn main w (c .unit) × (FileSpanIn main file × (OfUnit main (c .unit .place) file × Listed main supplementary (unitAt main c) (headerIn main c))))
   zero-asked = let Z = is-zero C (r .file .0) sought in (C .files, (C .unit, (Z .span, (Z .listed, C .listed))))
 
   module _ {w₁ files files′ : List ℕ} {q : InternedFile} (I : Interns main supplementary w w₁ files files′ (st .table) main (c .unit) file q) where
@@ -85,8 +85,8 @@ module _ {main supplementary w : List ℕ} {c : Conversion} {st : Converting} (C
     unfolding convertRow convertedIn _>>=_
     zero-refused {n} e =
         let Z = is-zero C (r .file .0) sought in
-        let is : refused n ≡ internFile (unitAt main c) (headerOf main c) (tableOf main supplementary w (st .table)) (fileOf (spanIn main file)) = rw e at (I .is) in
-        record { is = rw (unknown, Z .is, ← is) }
+        let is : refused n ≡ internFile (unitAt main c) (headerIn main c) (tableOf main supplementary w (st .table)) (fileOf (spanIn main file)) = rw e at (I .is) in
+        record { is = rw (unknown, Z .is, ← is); rest = kept }
 
     pub zero-unnamed : {warnings : List ℕ} → length w₁ ≡ length w → st .warned ≤ top → length warnings < top → q ≡ InternedFile.Unnamed
         → RowConverts main supplementary w w₁ files files′ warnings warnings c st r (ConvertedRow.Next st)
@@ -95,10 +95,10 @@ module _ {main supplementary w : List ℕ} {c : Conversion} {st : Converting} (C
         let Z = is-zero C (r .file .0) sought in
         let t = tableOf main supplementary w (st .table) in
         let i : Interned = record { table = tableOf main supplementary w₁ (st .table); number = none } in
-        let is : done i ≡ internFile (unitAt main c) (headerOf main c) t (fileOf (spanIn main file)) = rw e at (I .is) in
-        let same : t ≡ i .table = intern-none (unitAt main c) (headerOf main c) t (fileOf (spanIn main file)) i (sym is) refl in
+        let is : done i ≡ internFile (unitAt main c) (headerIn main c) t (fileOf (spanIn main file)) = rw e at (I .is) in
+        let same : t ≡ i .table = intern-none (unitAt main c) (headerIn main c) t (fileOf (spanIn main file)) i (sym is) refl in
         let G : Grown main supplementary w w₁ files files′ (st .table) (st .table) = rw e at (I .after) in
-        record { is = still C r [] kept size G maps (rw (unknown, Z .is, ← is, same)) (none-put fits small) }
+        still C r [] kept size G maps (rw (unknown, Z .is, ← is, same)) (none-put fits small)
 
     pub zero-number : {w₂ w₃ warnings warnings′ : List ℕ} {t : StoredFiles} {i : FileIndex} {st′ : Converting} → c .lines + st .count * 25 + 25 ≤ length w → length w₁ ≡ length w
         → q ≡ InternedFile.Number t i → Inserted w₁ w₂ (c .indices) (r .file) i → length w₂ ≡ length w₁
@@ -115,10 +115,8 @@ module _ {main supplementary w : List ℕ} {c : Conversion} {st : Converting} (C
         let gr = G .room in
         let clear : t .base + extent t ≤ c .indices .base = omega arith in
         let K₂ : KeptBut w w₂ (written c st 25) = but-trans kept (but-of (J .rest) (there (here (omega arith) (omega arith)))) in
-        let is : done (record { table = tableOf main supplementary w₁ t; number = some i }) ≡ internFile (unitAt main c) (headerOf main c) (tableOf main supplementary w (st .table)) (fileOf (spanIn main file)) = rw e at (I .is) in
+        let is : done (record { table = tableOf main supplementary w₁ t; number = some i }) ≡ internFile (unitAt main c) (headerIn main c) (tableOf main supplementary w (st .table)) (fileOf (spanIn main file)) = rw e at (I .is) in
         let table-same : tableOf main supplementary w₂ t ≡ tableOf main supplementary w₁ t = table-kept (G .holds) (but-one (J .rest)) (inl clear, tt) in
         let set-is : indicesIn w₂ (c .indices) ≡ insertIndex (indicesIn w (c .indices)) (r .file .0) i = J .indices ∙ rw maps in
-        record {
-          is = line-row C r room K₂ (size₂ ∙ size) (grown-kept G (but-one (J .rest)) (inl clear, tt) size₂) (rw set-is (unnamed-set (r .file .0) i (C .unnamed)))
-              (rw (unknown, Z .is, ← is, table-same, set-is)) L size₃;
-        }
+        line-row C r room K₂ (size₂ ∙ size) (grown-kept G (but-one (J .rest)) (inl clear, tt) size₂) (rw set-is (unnamed-set (r .file .0) i (C .unnamed)))
+        (rw (unknown, Z .is, ← is, table-same, set-is)) L size₃

@@ -11,7 +11,7 @@ use Rattle.tlv.specs.Fields.{fields}
 use Rattle.tlv.specs.Table.{KeptBut}
 use Rattle.tlv.specs.Places.{unitHere, unitPlaces}
 use Rattle.tlv.specs.Output.{Warning, warningsBytes}
-use Rattle.lines.specs.Lines.{UnitLines, Collected, collectLines}
+use Rattle.lines.specs.Lines.{UnitLines, collectLines}
 use Rattle.rows.specs.declared.«unit_lines».StoredLines.{StoredLines}
 use Rattle.rows.specs.Stored.{linesOf, rangesOf}
 use Rattle.rows.specs.Selects.{RowsIn}
@@ -63,5 +63,7 @@ CollectsBy main supplementary program w w′ files files′ warnings warnings′
 CollectsBy main supplementary program w w′ files files′ warnings warnings′ p t warned free (CollectedLines.Lines l is t′ warned′) =
     CollectedIn main supplementary program w w′ files files′ warnings warnings′ p t warned free l is t′ warned′
 
+-- a refusal too keeps what lies outside the file table and the lines' room
 pub record CollectsLines (main supplementary program w w′ files files′ warnings warnings′ : List ℕ) (p : ℕ) (t : StoredFiles) (warned free : ℕ) (r : CollectedLines) : Type 0 where
   pub is : CollectsBy main supplementary program w w′ files files′ warnings warnings′ p t warned free r
+  pub rest : KeptBut w w′ ((t .base, extent t) ∷ (free, linesExtent main p program) ∷ [])

@@ -34,8 +34,8 @@ use Rattle.collect.specs.Passes.{rowsFrom, offsetsAt, convertFrom}
 abbrev pub unitAt : List ℕ → Conversion → CompilationUnit
 unitAt main c = unitHere main (c .unit .place)
 
-abbrev pub headerOf : List ℕ → Conversion → LineHeader
-headerOf main c = headerHere main (c .unit .place)
+abbrev pub headerIn : List ℕ → Conversion → LineHeader
+headerIn main c = headerHere main (c .unit .place)
 
 -- the offsets of the unit's sequences
 abbrev pub offsetsOf : List ℕ → Conversion → List ℕ
@@ -59,10 +59,10 @@ pub record ConversionIn (main supplementary w : List ℕ) (c : Conversion) (st :
   pub placed : UnitPlaced main (c .unit .place)
   pub files : FilesIn main supplementary w (st .table)
   pub unit : FileUnitIn main w (c .unit)
-  pub listed : Listed main supplementary (unitAt main c) (headerOf main c)
+  pub listed : Listed main supplementary (unitAt main c) (headerIn main c)
   pub zero : NextOwn main (c .unit .place + 21) 0x1c (c .zero)
-  pub unnamed : Unnamed (unitAt main c) (headerOf main c) (indicesIn w (c .indices))
-  pub all : c .indices .count ≡ cond (leb (headerOf main c .version) 4) 1 0 + length (unitAt main c .files)
+  pub unnamed : Unnamed (unitAt main c) (headerIn main c) (indicesIn w (c .indices))
+  pub all : c .indices .count ≡ cond (leb (headerIn main c .version) 4) 1 0 + length (unitAt main c .files)
   pub table : st .table .base + extent (st .table) ≤ c .offsets
   pub offsets : c .offsets + c .«offset_count» * 8 ≤ c .unit .directories
   pub directories : c .unit .directories + c .unit .«directory_count» * 8 ≤ c .indices .base
@@ -106,37 +106,39 @@ pub record LineConverted (w w′ warnings warnings′ : List ℕ) (c : Conversio
 -- the state after a row, with its warnings written
 pub record RowConverted (main supplementary w w′ files files′ warnings warnings′ : List ℕ) (c : Conversion) (st : Converting) (r : Row) (st′ : Converting) : Type 0 where
   pub new : List Warning
-  pub is : convertRow (unitAt main c) (headerOf main c) (offsetsOf w c) (rawOf r) (convertedIn main supplementary w c st []) ≡ done (convertedIn main supplementary w′ c st′ new)
+  pub is : convertRow (unitAt main c) (headerIn main c) (offsetsOf w c) (rawOf r) (convertedIn main supplementary w c st []) ≡ done (convertedIn main supplementary w′ c st′ new)
   pub grown : Grown main supplementary w w′ files files′ (st .table) (st′ .table)
   pub put : Put (st .warned) (warningsBytes new) warnings warnings′ (st′ .warned)
   pub holds : ConversionIn main supplementary w′ c st′
   pub more : (st .count ≤ st′ .count) × (st′ .count ≤ st .count + 1)
-  pub rest : KeptBut w w′ ((st .table .base, extent (st .table)) ∷ (c .indices .base, c .indices .count * 5) ∷ (c .lines + st .count * 25, 25) ∷ [])
 
 abbrev pub ConvertsRow : List ℕ → List ℕ → List ℕ → List ℕ → List ℕ → List ℕ → List ℕ → List ℕ → Conversion → Converting → Row → ConvertedRow → Type 0
 ConvertsRow main supplementary w w′ files files′ warnings warnings′ c st r (ConvertedRow.Refused n) =
-    convertRow (unitAt main c) (headerOf main c) (offsetsOf w c) (rawOf r) (convertedIn main supplementary w c st []) ≡ refused n
+    convertRow (unitAt main c) (headerIn main c) (offsetsOf w c) (rawOf r) (convertedIn main supplementary w c st []) ≡ refused n
 ConvertsRow main supplementary w w′ files files′ warnings warnings′ c st r (ConvertedRow.Next st′) =
     RowConverted main supplementary w w′ files files′ warnings warnings′ c st r st′
 
+-- a refusal too keeps what lies outside the file table, the unit's map and the place of the next line
 pub record RowConverts (main supplementary w w′ files files′ warnings warnings′ : List ℕ) (c : Conversion) (st : Converting) (row : Row) (r : ConvertedRow) : Type 0 where
   pub is : ConvertsRow main supplementary w w′ files files′ warnings warnings′ c st row r
+  pub rest : KeptBut w w′ ((st .table .base, extent (st .table)) ∷ (c .indices .base, c .indices .count * 5) ∷ (c .lines + st .count * 25, 25) ∷ [])
 
 -- the same of `left` rows of the unit, from its first on
 pub record RowsConverted (main supplementary w w′ files files′ warnings warnings′ : List ℕ) (c : Conversion) (st : Converting) (left : ℕ) (st′ : Converting) : Type 0 where
   pub new : List Warning
-  pub is : convertFrom (unitAt main c) (headerOf main c) (offsetsOf w c) (rowsFrom main (c .unit .place + 21)) 0 left (convertedIn main supplementary w c st []) ≡ done (convertedIn main supplementary w′ c st′ new)
+  pub is : convertFrom (unitAt main c) (headerIn main c) (offsetsOf w c) (rowsFrom main (c .unit .place + 21)) 0 left (convertedIn main supplementary w c st []) ≡ done (convertedIn main supplementary w′ c st′ new)
   pub grown : Grown main supplementary w w′ files files′ (st .table) (st′ .table)
   pub put : Put (st .warned) (warningsBytes new) warnings warnings′ (st′ .warned)
   pub holds : ConversionIn main supplementary w′ c st′
   pub more : st′ .count ≤ st .count + left
-  pub rest : KeptBut w w′ ((st .table .base, extent (st .table)) ∷ (c .indices .base, c .indices .count * 5) ∷ (c .lines + st .count * 25, left * 25) ∷ [])
 
 abbrev pub ConvertsRows : List ℕ → List ℕ → List ℕ → List ℕ → List ℕ → List ℕ → List ℕ → List ℕ → Conversion → Converting → ℕ → ConvertedRow → Type 0
 ConvertsRows main supplementary w w′ files files′ warnings warnings′ c st left (ConvertedRow.Refused n) =
-    convertFrom (unitAt main c) (headerOf main c) (offsetsOf w c) (rowsFrom main (c .unit .place + 21)) 0 left (convertedIn main supplementary w c st []) ≡ refused n
+    convertFrom (unitAt main c) (headerIn main c) (offsetsOf w c) (rowsFrom main (c .unit .place + 21)) 0 left (convertedIn main supplementary w c st []) ≡ refused n
 ConvertsRows main supplementary w w′ files files′ warnings warnings′ c st left (ConvertedRow.Next st′) =
     RowsConverted main supplementary w w′ files files′ warnings warnings′ c st left st′
 
+-- a refusal too keeps what lies outside the file table, the unit's map and the places of the next lines
 pub record RowsConvert (main supplementary w w′ files files′ warnings warnings′ : List ℕ) (c : Conversion) (st : Converting) (left : ℕ) (r : ConvertedRow) : Type 0 where
   pub is : ConvertsRows main supplementary w w′ files files′ warnings warnings′ c st left r
+  pub rest : KeptBut w w′ ((st .table .base, extent (st .table)) ∷ (c .indices .base, c .indices .count * 5) ∷ (c .lines + st .count * 25, left * 25) ∷ [])

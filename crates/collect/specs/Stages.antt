@@ -29,7 +29,7 @@ use Rattle.collect.specs.declared.collect.CollectedLines.{CollectedLines
 use Rattle.collect.specs.declared.collect.InternedUnit.{InternedUnit}
 use Rattle.collect.specs.declared.convert.Conversion.{Conversion}
 use Rattle.collect.specs.Passes.{rowsFrom, countRows, sequencesFrom, offsetsAt, withOffset}
-use Rattle.collect.specs.Converts.{unitAt, offsetsOf, headerOf as headerAt}
+use Rattle.collect.specs.Converts.{unitAt, headerIn, offsetsOf}
 use Rattle.collect.specs.Collects.{UnitIn, LinesRoom, linesIn}
 
 -- ---- the header
@@ -119,7 +119,7 @@ abbrev pub rowsOf : List ℕ → Conversion → ℕ
 rowsOf main c = length (rowsFrom main (c .unit .place + 21))
 
 abbrev pub finishFrom : List ℕ → List ℕ → List ℕ → Conversion → StoredFiles → Run → Outcome Collected
-finishFrom main supplementary w c t = finishRun (unitAt main c) (headerAt main c) (offsetsOf w c) (tableOf main supplementary w t) (indicesIn w (c .indices))
+finishFrom main supplementary w c t = finishRun (unitAt main c) (headerIn main c) (offsetsOf w c) (tableOf main supplementary w t) (indicesIn w (c .indices))
 
 pub record Finished (main supplementary w w′ files files′ warnings warnings′ : List ℕ) (c : Conversion) (t : StoredFiles) (warned : ℕ)
     (l : StoredLines) (is : StoredIndices) (t′ : StoredFiles) (warned′ : ℕ) : Type 0 where
@@ -133,7 +133,6 @@ pub record Finished (main supplementary w w′ files files′ warnings warnings�
   pub from : l .lines ≡ c .lines
   pub sequences : l .lines + l .«line_count» * 25 ≤ l .sequences
   pub within : l .buffer + 16 + l .«line_count» * 16 ≤ c .lines + 50 * rowsOf main c + 16
-  pub rest : KeptBut w w′ ((t .base, extent t) ∷ (c .indices .base, c .indices .count * 5) ∷ (c .lines, 50 * rowsOf main c + 16) ∷ [])
 
 abbrev pub FinishesBy : List ℕ → List ℕ → List ℕ → List ℕ → List ℕ → List ℕ → List ℕ → List ℕ → Conversion → StoredFiles → ℕ → CollectedLines → Type 0
 FinishesBy main supplementary w w′ files files′ warnings warnings′ c t warned (CollectedLines.Refused n) =
@@ -141,6 +140,7 @@ FinishesBy main supplementary w w′ files files′ warnings warnings′ c t war
 FinishesBy main supplementary w w′ files files′ warnings warnings′ c t warned (CollectedLines.Lines l is t′ warned′) =
     Finished main supplementary w w′ files files′ warnings warnings′ c t warned l is t′ warned′
 
--- the unit's rows were converted, and its lines and sequences stored
+-- the unit's rows were converted, and its lines and sequences stored; a refusal too keeps what lies outside the file table, the unit's map and the room behind it
 pub record FinishesLines (main supplementary w w′ files files′ warnings warnings′ : List ℕ) (c : Conversion) (t : StoredFiles) (warned : ℕ) (r : CollectedLines) : Type 0 where
   pub is : FinishesBy main supplementary w w′ files files′ warnings warnings′ c t warned r
+  pub rest : KeptBut w w′ ((t .base, extent t) ∷ (c .indices .base, c .indices .count * 5) ∷ (c .lines, 50 * rowsOf main c + 16) ∷ [])

@@ -1,6 +1,5 @@
 // The walks over a unit's rows.
 ghost use mathlib.Core.Path.{_≡_};
-ghost use mathlib.Core.List.{map};
 ghost use mathlib.Core.Option.{none};
 ghost use Prim.Native.Nat.{_+_, _*_, _≤_};
 ghost use lib.ListN.{length};

@@ -1,6 +1,6 @@
--- The numbers of an entry's attributes, as the walk below a subprogram reads them: the return address, the call's file and line. Assumes nothing.
+-- The return address of an entry, as the walk below a subprogram reads it. Assumes nothing.
 use mathlib.Core.Path.{_≡_, refl, ap, _∙_}
-use mathlib.Core.Bool.{Bool, true, false, not, _||_}
+use mathlib.Core.Bool.{Bool, true, not, _||_}
 use mathlib.Core.List.{List, [], _∷_, map}
 use mathlib.Core.Option.{Option, none, some}
 use Prim.Native.Nat.{ℕ, _+_, _≤_}
@@ -24,12 +24,11 @@ use Rattle.tlv.proofs.IndexModel.{either}
 use Rattle.tlv.proofs.AcceptedFields.{Promised, promised-all}
 use Rattle.tlv.proofs.PlaceFacts.{placed-start, placed-passed}
 use Rattle.tlv.proofs.EntryPlaceLaws.{entry-attributes}
-use Rattle.references.specs.Search.{attribute, numberIf, unsignedAttribute, fileIndexAttribute}
+use Rattle.references.specs.Search.{attribute}
 use Rattle.references.specs.Tables.{EntryKnown}
-use Rattle.references.proofs.ReferenceLaws.{entry-step, entry-next, attribute-says}
-use Rattle.dies.specs.declared.dies.Number.{Number}
+use Rattle.references.proofs.ReferenceLaws.{by-kind, ofKind, entry-step, entry-next, attribute-says}
 use Rattle.dies.specs.declared.dies.Address.{Address}
-use Rattle.dies.specs.DetailState.{Accepted, numberGiven, addressOf, addressIn, fileNumberIn, lineNumberIn}
+use Rattle.dies.specs.DetailState.{Accepted, addressOf, addressIn}
 
 -- ---- the kinds of an accepted sheet
 
@@ -92,32 +91,6 @@ addressMeant (lineOffset n) = Address.Missing
 addressMeant (address n) = Address.At n
 addressMeant failed = Address.Failed
 
-abbrev fileMeant : Meaning → Number
-fileMeant absent = Number.Missing
-fileMeant (unsigned n) = Number.Is n
-fileMeant (fileNumber n) = Number.Is n
-fileMeant (text b) = Number.Missing
-fileMeant (unitReference n) = Number.Missing
-fileMeant (sectionReference n) = Number.Missing
-fileMeant (supplementaryReference n) = Number.Missing
-fileMeant (sectionOffset n) = Number.Missing
-fileMeant (lineOffset n) = Number.Missing
-fileMeant (address n) = Number.Missing
-fileMeant failed = Number.Missing
-
-abbrev lineMeant : Meaning → Number
-lineMeant absent = Number.Missing
-lineMeant (unsigned n) = Number.Is n
-lineMeant (fileNumber n) = Number.Missing
-lineMeant (text b) = Number.Missing
-lineMeant (unitReference n) = Number.Missing
-lineMeant (sectionReference n) = Number.Missing
-lineMeant (supplementaryReference n) = Number.Missing
-lineMeant (sectionOffset n) = Number.Missing
-lineMeant (lineOffset n) = Number.Missing
-lineMeant (address n) = Number.Missing
-lineMeant failed = Number.Missing
-
 value-address : (s : List ℕ) (v : Value) → addressIn v ≡ addressMeant (meant s v)
 value-address s Value.Absent = refl
 value-address s (Value.Unsigned n) = refl
@@ -130,64 +103,6 @@ value-address s (Value.SectionOffset n) = refl
 value-address s (Value.LineOffset n) = refl
 value-address s (Value.Address n) = refl
 value-address s Value.Failed = refl
-
-value-file : (s : List ℕ) (v : Value) → fileNumberIn v ≡ fileMeant (meant s v)
-value-file s Value.Absent = refl
-value-file s (Value.Unsigned n) = refl
-value-file s (Value.FileNumber n) = refl
-value-file s (Value.Text start len) = refl
-value-file s (Value.UnitReference n) = refl
-value-file s (Value.SectionReference n) = refl
-value-file s (Value.SupplementaryReference n) = refl
-value-file s (Value.SectionOffset n) = refl
-value-file s (Value.LineOffset n) = refl
-value-file s (Value.Address n) = refl
-value-file s Value.Failed = refl
-
-value-line : (s : List ℕ) (v : Value) → lineNumberIn v ≡ lineMeant (meant s v)
-value-line s Value.Absent = refl
-value-line s (Value.Unsigned n) = refl
-value-line s (Value.FileNumber n) = refl
-value-line s (Value.Text start len) = refl
-value-line s (Value.UnitReference n) = refl
-value-line s (Value.SectionReference n) = refl
-value-line s (Value.SupplementaryReference n) = refl
-value-line s (Value.SectionOffset n) = refl
-value-line s (Value.LineOffset n) = refl
-value-line s (Value.Address n) = refl
-value-line s Value.Failed = refl
-
--- a statement of the kind of an attribute, by cases
-by-kind : (C : ℕ → Type 0) (k : ℕ) → C 1 → C 2 → C 3 → C 4 → C 5 → C 6 → C 7 → C 8 → C 9
-    → (eqb k 1 ≡ false → eqb k 2 ≡ false → eqb k 3 ≡ false → eqb k 4 ≡ false → eqb k 5 ≡ false → eqb k 6 ≡ false → eqb k 7 ≡ false → eqb k 8 ≡ false → eqb k 9 ≡ false → C k) → C k
-by-kind C k c1 c2 c3 c4 c5 c6 c7 c8 c9 other =
-    either (eqb k 1) (λ y. rw (eqb-true k 1 y) c1) (λ n1.
-    either (eqb k 2) (λ y. rw (eqb-true k 2 y) c2) (λ n2.
-    either (eqb k 3) (λ y. rw (eqb-true k 3 y) c3) (λ n3.
-    either (eqb k 4) (λ y. rw (eqb-true k 4 y) c4) (λ n4.
-    either (eqb k 5) (λ y. rw (eqb-true k 5 y) c5) (λ n5.
-    either (eqb k 6) (λ y. rw (eqb-true k 6 y) c6) (λ n6.
-    either (eqb k 7) (λ y. rw (eqb-true k 7 y) c7) (λ n7.
-    either (eqb k 8) (λ y. rw (eqb-true k 8 y) c8) (λ n8.
-    either (eqb k 9) (λ y. rw (eqb-true k 9 y) c9) (λ n9. other n1 n2 n3 n4 n5 n6 n7 n8 n9)))))))))
-
--- an attribute of another kind
-abbrev ofKind : Attribute → ℕ → Attribute
-ofKind a k = record { name = a .name; kind = k; value = a .value; text = a .text }
-
-meaning-file : (o : Option Attribute) → fileMeant (meaningOf o) ≡ numberGiven (numberIf (λ k. eqb k 1 || eqb k 2) o)
-unfolding meaningOf valueOf
-meaning-file none = refl
-meaning-file (some a) =
-    by-kind (λ k. fileMeant (valueOf (ofKind a k)) ≡ numberGiven (numberIf (λ k. eqb k 1 || eqb k 2) (some (ofKind a k)))) (a .kind) refl refl refl refl refl refl refl refl refl
-    (λ n1 n2 n3 n4 n5 n6 n7 n8 n9. rw (n1, n2, n3, n4, n5, n6, n7, n8, n9))
-
-meaning-line : (o : Option Attribute) → lineMeant (meaningOf o) ≡ numberGiven (numberIf (λ k. eqb k 1) o)
-unfolding meaningOf valueOf
-meaning-line none = refl
-meaning-line (some a) =
-    by-kind (λ k. lineMeant (valueOf (ofKind a k)) ≡ numberGiven (numberIf (λ k. eqb k 1) (some (ofKind a k)))) (a .kind) refl refl refl refl refl refl refl refl refl
-    (λ n1 n2 n3 n4 n5 n6 n7 n8 n9. rw (n1, n2, n3, n4, n5, n6, n7, n8, n9))
 
 meaning-address : (o : Option Attribute) → Given (λ a. KindKnown (a .kind)) o → addressMeant (meaningOf o) ≡ addressOf o
 unfolding meaningOf valueOf
@@ -204,13 +119,5 @@ meaning-address (some a) h =
 -- ---- what is read of the entry at p
 
 module _ {s : List ℕ} {q p : ℕ} {v : Value} (A : Accepted s) (K : EntryKnown s q p) where
-  pub file-read : {r : Number} → Says s v (meaningOf (first (isNamed 0x58) (map attributeOf (payloads 0x18 (ownFields (fields (drop (p + 15) s))))))) → r ≡ fileNumberIn v → r ≡ numberGiven (fileIndexAttribute (entryHere s p) 0x58)
-  unfolding fileIndexAttribute
-  file-read says is = is ∙ value-file s v ∙ ap fileMeant (attribute-says (accepted-placed A K) K v 0x58 says .is) ∙ meaning-file (attribute (entryHere s p) 0x58)
-
-  pub line-read : {r : Number} → Says s v (meaningOf (first (isNamed 0x59) (map attributeOf (payloads 0x18 (ownFields (fields (drop (p + 15) s))))))) → r ≡ lineNumberIn v → r ≡ numberGiven (unsignedAttribute (entryHere s p) 0x59)
-  unfolding unsignedAttribute
-  line-read says is = is ∙ value-line s v ∙ ap lineMeant (attribute-says (accepted-placed A K) K v 0x59 says .is) ∙ meaning-line (attribute (entryHere s p) 0x59)
-
   pub address-read : {r : Address} → Bytes s → Says s v (meaningOf (first (isNamed 0x7d) (map attributeOf (payloads 0x18 (ownFields (fields (drop (p + 15) s))))))) → r ≡ addressIn v → r ≡ addressOf (attribute (entryHere s p) 0x7d)
   address-read b says is = is ∙ value-address s v ∙ ap addressMeant (attribute-says (accepted-placed A K) K v 0x7d says .is) ∙ meaning-address (attribute (entryHere s p) 0x7d) (kind-known A K b 0x7d)

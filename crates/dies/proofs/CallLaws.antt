@@ -1,7 +1,7 @@
 -- A call's file and line, and the warnings about them. Assumes nothing.
-use mathlib.Core.Path.{_≡_, refl, sym, ap, _∙_}
+use mathlib.Core.Path.{_≡_, refl, ap, _∙_}
 use mathlib.Core.List.{List, [], _∷_, _++_, append-nil}
-use mathlib.Core.Option.{Option, none, some}
+use mathlib.Core.Option.{some}
 use Prim.Native.Nat.{ℕ, _+_, _-_, _^_, _≤_, _<_}
 use native.Mathlib.Omega.{arith}
 use lib.ListN.{length}
@@ -24,28 +24,20 @@ use Rattle.files.specs.declared.index.FoundIndex.{FoundIndex}
 use Rattle.files.specs.Indices.{numberOf}
 use Rattle.lines.specs.Files.{FileIndices, fileIndex, get}
 use Rattle.references.specs.Search.{absoluteEntryOffset, unsignedAttribute, fileIndexAttribute}
-use Rattle.references.specs.Tables.{EntryKnown}
+use Rattle.references.specs.declared.attributes.Number.{Number}
+use Rattle.references.specs.Tables.{EntryKnown, numberGiven}
+use Rattle.references.proofs.NumberLaws.{given-none, given-some}
 use Rattle.references.proofs.ReferenceLaws.{entry-placed, entry-step, entry-inside}
 use Rattle.references.proofs.TargetLaws.{known-unit}
-use Rattle.dies.specs.declared.dies.Number.{Number}
 use Rattle.dies.specs.declared.dies.Warned.{Warned}
 use Rattle.imports.specs.Tree.{DetailContext, callFileFrom, callFileOf, callLineIf, callLineOf}
-use Rattle.dies.specs.DetailState.{Accepted, numberGiven, AboutWarned, FileCalled, LineCalled}
+use Rattle.dies.specs.DetailState.{Accepted, AboutWarned, FileCalled, LineCalled}
 use Rattle.dies.proofs.AttributeReads.{accepted-placed}
 
 -- no warning
 pub warn-none : {at : ℕ} {u : List ℕ} → at ≤ top → length u < top → Put at (warningsBytes []) u u at
 unfolding warningsBytes eachOf
 warn-none h k = put-none h k
-
--- a number that is given, or none
-given-none : (o : Option ℕ) (r : Number) → r ≡ numberGiven o → r ≡ Number.Missing → o ≡ none
-given-none none r e is = refl
-given-none (some m) r e is = let z : _≡_ {A = ℕ} 0 1 = cc in absurd (omega arith)
-
-given-some : (o : Option ℕ) (r : Number) (n : ℕ) → r ≡ numberGiven o → r ≡ Number.Is n → o ≡ some n
-given-some none r n e is = let z : _≡_ {A = ℕ} 0 1 = cc in absurd (omega arith)
-given-some (some m) r n e is = let z : m ≡ n = cc in ap some z
 
 -- ---- the numbers of the fields of an entry and its unit
 

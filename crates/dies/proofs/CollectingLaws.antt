@@ -150,8 +150,8 @@ module _ {main supplementary name : List ℕ} {d : Details} {p depth : ℕ} {w�
       }
 
       module _ (is : tag ≡ 0x17) where
-        pub depth-read : start + 8 + 2 ≤ length main
-        depth-read =
+        pub entry-fields : start + 12 ≤ length main
+        entry-fields =
             let w = field-within main at r tag start len next reads e in
             let l = placed-entry main at r tag start len next (C .placed) reads e is in
             omega arith

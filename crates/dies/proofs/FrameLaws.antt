@@ -1,6 +1,6 @@
 -- The open inline nodes: frames by value, and their ranges in the work slice. Assumes nothing.
 use mathlib.Core.Path.{_≡_, refl, sym, ap, _∙_}
-use mathlib.Core.Logic.{inl, inr, ⊎-elim}
+use mathlib.Core.Logic.{inl}
 use mathlib.Core.List.{List, [], _∷_}
 use Prim.Native.Nat.{ℕ, zero, suc, _+_, _-_, _*_, _≤_, _<_}
 use native.Mathlib.Numerals.{add-one}
@@ -10,6 +10,7 @@ use lib.Seq.{getD-set-same, getD-set-other}
 use borrow.Author.Tests.{le-leb, lt-leb}
 use Rattle.tlv.specs.Table.{Apart, Kept, Clear, KeptBut}
 use Rattle.tlv.proofs.TableLaws.{but-one}
+use Rattle.files.proofs.GrownLaws.{clear-part}
 use Rattle.dies.specs.declared.frames.Frame.{Frame}
 use Rattle.dies.specs.declared.frames.Open.{Open}
 use Rattle.imports.specs.Tree.{InlineFrame, finishInlines, parentRanges}
@@ -23,11 +24,6 @@ stacked-one : (fs : List Frame) (t used : ℕ) → Stacked fs t used → 1 ≤ u
 unfolding Stacked
 stacked-one fs zero used h = omega arith
 stacked-one fs (suc t) used h = omega (arith, stacked-one fs t (slot fs t .ranges) (h .1))
-
--- a part of what lies clear lies clear
-clear-part : (q k q′ k′ : ℕ) (rs : List (ℕ × ℕ)) → Clear q k rs → q ≤ q′ → q′ + k′ ≤ q + k → Clear q′ k′ rs
-clear-part q k q′ k′ [] c h g = tt
-clear-part q k q′ k′ (r ∷ rs) c h g = (⊎-elim (λ l. inl (omega arith)) (λ l. inr (omega arith)) (c .0), clear-part q k q′ k′ rs (c .1) h g)
 
 -- what is written outside the stack leaves the open nodes as they were
 frames-but : {w w′ : List ℕ} {rs : List (ℕ × ℕ)} (fs : List Frame) (t used base : ℕ) → Stacked fs t used → KeptBut w w′ rs → Clear base (used * 16) rs → openOf fs t used w′ base ≡ openOf fs t used w base

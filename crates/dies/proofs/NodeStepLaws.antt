@@ -13,13 +13,14 @@ use Rattle.tlv.specs.Bytes.{leAt}
 use Rattle.tlv.specs.Fields.{encode}
 use Rattle.tlv.specs.Buffer.{Put, top}
 use Rattle.tlv.specs.Model.{Entry}
-use Rattle.tlv.specs.Output.{InlineNode, Warning, nodePayload, rangePayload, rangeBytes, eachOf, nodeBytes, warningPayload, warningsBytes}
+use Rattle.tlv.specs.Output.{InlineNode, Warning, nodePayload, rangePayload, rangeBytes, eachOf, nodeBytes}
 use Rattle.tlv.specs.Places.{entryHere}
 use Rattle.tlv.specs.Table.{Kept}
 use Rattle.tlv.proofs.BufferLaws.{_then_, put-none}
 use Rattle.tlv.proofs.TableLaws.{kept-refl}
 use Rattle.lines.specs.Files.{fileIndex}
 use Rattle.references.specs.Tables.{EntryKnown}
+pub use Rattle.references.proofs.DeclareLaws.{warnings-append}
 use Rattle.files.specs.Indices.{indicesIn}
 use Rattle.dies.specs.declared.dies.Details.{Details}
 use Rattle.dies.specs.declared.dies.Walk.{Walk}
@@ -125,10 +126,6 @@ advance-refused n K refuses = record {
   ok = λ z. absurd (n z);
   no = λ _. refuses;
 }
-
-pub warnings-append : (xs ys : List Warning) → warningsBytes (xs ++ ys) ≡ warningsBytes xs ++ warningsBytes ys
-unfolding warningsBytes
-warnings-append xs ys = each-append (λ w. encode 0x46 (warningPayload w)) xs ys
 
 module _ {main supplementary w u : List ℕ} {d : Details} {p : ℕ} {s : Walk} (name inlined t : List ℕ) (k : ℕ) (D : DetailsIn main supplementary w d) (K : EntryKnown main (d .unit) p)
     (F : Fits main supplementary w d (k + rangesLater main (p + 15)) (entriesLeft main p) s) (st : s .status ≡ 0) (some-k : 0 < k)

@@ -8,15 +8,12 @@ use lib.ListN.{length}
 use Rattle.tlv.specs.Bytes.{leAt}
 use Rattle.tlv.specs.Output.{InlineNode, Warning}
 use Rattle.tlv.specs.Table.{Kept, Apart}
-use Rattle.tlv.specs.Index.{indexedOf}
-use Rattle.tlv.specs.Units.{unitOf24}
 use Rattle.tlv.proofs.TableLaws.{kept-wide, leAt-kept}
 use Rattle.tlv.proofs.RecordLaws.{records-kept}
 use Rattle.files.specs.Indices.{indexOf, indicesOf}
-use Rattle.references.specs.declared.tables.Index.{Index}
-use Rattle.references.specs.Tables.{IndexIn}
 use Rattle.references.specs.Keys.{possibleKeys}
 use Rattle.references.proofs.KeyLaws.{keys-in-none}
+use Rattle.references.proofs.FollowLaws.{index-kept}
 use Rattle.dies.specs.declared.dies.Details.{Details}
 use Rattle.dies.specs.declared.dies.Walk.{Walk}
 use Rattle.dies.specs.declared.dies.Sites.{Sites}
@@ -30,16 +27,6 @@ use Rattle.dies.proofs.FrameLaws.{used-one, open-kept}
 use Rattle.dies.proofs.SiteLaws.{site-frames-kept, sites-kept}
 
 -- ---- the tables below the walk's part of the work slice
-
-index-kept : {s w w′ : List ℕ} {x : Index} {p m : ℕ} → IndexIn s w x → Kept w w′ p m → x .units + 24 * x .«unit_count» ≤ p → x .entries + 16 * x .«entry_count» ≤ p → length w′ ≡ length w → IndexIn s w′ x
-index-kept {s} {w} {w′} {x} I K h k z = record {
-  number = I .number;
-  accepted = I .accepted;
-  units = records-kept unitOf24 24 (x .units) (x .«unit_count») K (inl (omega arith)) ∙ I .units;
-  entries = records-kept indexedOf 16 (x .entries) (x .«entry_count») K (inl (omega arith)) ∙ I .entries;
-  units-within = omega (arith, I .units-within);
-  entries-within = omega (arith, I .entries-within);
-}
 
 module _ {main supplementary w : List ℕ} {d : Details} (D : DetailsIn main supplementary w d) where
   module _ {w′ : List ℕ} {p m : ℕ} (K : Kept w w′ p m) (h : d .ranges ≤ p) where

@@ -28,7 +28,6 @@ use Rattle.dies.specs.declared.dies.Details.{Details}
 use Rattle.dies.specs.declared.dies.Extracted.{Extracted}
 use Rattle.dies.specs.declared.dies.Walk.{Walk}
 use Rattle.dies.specs.declared.dies.Sites.{Sites}
-use Rattle.dies.specs.declared.dies.Number.{Number}
 use Rattle.dies.specs.declared.dies.Address.{Address}
 use Rattle.dies.specs.declared.dies.Warned.{Warned}
 use Rattle.dies.specs.declared.dies.CalledFile.{CalledFile}
@@ -182,16 +181,12 @@ collectSite c e x = makeCallSite c e >>= λ s. done (pushCallSite e x s)
 unfoldable pub stepEntry : DetailContext → Entry → Descendants → Outcome Descendants
 stepEntry c e x = collectEntry c e (finish (e .depth) x)
 
--- ---- the numbers of an entry's attributes
+-- ---- the return address of a call site
 
 -- the grammar accepts the sheet
 pub record Accepted (s : List ℕ) : Type 0 where
   pub number : ℕ
   pub is : checkInput s ≡ done number
-
-abbrev pub numberGiven : Option ℕ → Number
-numberGiven none = Number.Missing
-numberGiven (some n) = Number.Is n
 
 -- the return address that an attribute is
 abbrev pub addressOf : Option Attribute → Address
@@ -211,32 +206,6 @@ addressIn (Value.SectionOffset n) = Address.Missing
 addressIn (Value.LineOffset n) = Address.Missing
 addressIn (Value.Address n) = Address.At n
 addressIn Value.Failed = Address.Failed
-
-abbrev pub fileNumberIn : Value → Number
-fileNumberIn Value.Absent = Number.Missing
-fileNumberIn (Value.Unsigned n) = Number.Is n
-fileNumberIn (Value.FileNumber n) = Number.Is n
-fileNumberIn (Value.Text start len) = Number.Missing
-fileNumberIn (Value.UnitReference n) = Number.Missing
-fileNumberIn (Value.SectionReference n) = Number.Missing
-fileNumberIn (Value.SupplementaryReference n) = Number.Missing
-fileNumberIn (Value.SectionOffset n) = Number.Missing
-fileNumberIn (Value.LineOffset n) = Number.Missing
-fileNumberIn (Value.Address n) = Number.Missing
-fileNumberIn Value.Failed = Number.Missing
-
-abbrev pub lineNumberIn : Value → Number
-lineNumberIn Value.Absent = Number.Missing
-lineNumberIn (Value.Unsigned n) = Number.Is n
-lineNumberIn (Value.FileNumber n) = Number.Missing
-lineNumberIn (Value.Text start len) = Number.Missing
-lineNumberIn (Value.UnitReference n) = Number.Missing
-lineNumberIn (Value.SectionReference n) = Number.Missing
-lineNumberIn (Value.SupplementaryReference n) = Number.Missing
-lineNumberIn (Value.SectionOffset n) = Number.Missing
-lineNumberIn (Value.LineOffset n) = Number.Missing
-lineNumberIn (Value.Address n) = Number.Missing
-lineNumberIn Value.Failed = Number.Missing
 
 -- ---- a call's file and line
 

@@ -1,25 +1,29 @@
 // Inline trees and call sites of one function (the Rust's convert/dwarf/dies.rs).
 ghost use mathlib.Core.Path.{_≡_};
-ghost use mathlib.Core.List.{List, [], _∷_, _++_};
 ghost use Prim.Native.Nat.{_+_, _*_, _≤_, _<_};
+ghost use lib.Dec.{leb};
 ghost use lib.ListN.{length};
-ghost use Rattle.tlv.specs.Bytes.{leAt};
 ghost use Rattle.tlv.specs.Buffer.{Put};
 ghost use Rattle.tlv.specs.Checked.{Placed};
-ghost use Rattle.tlv.specs.Places.{entryHere, unitHere};
+ghost use Rattle.tlv.specs.Places.{entryHere};
 ghost use Rattle.tlv.specs.Output.{nodeBytes};
 ghost use Rattle.files.specs.Indices.{indicesIn};
-ghost use Rattle.references.specs.Search.{attribute, unsignedAttribute, fileIndexAttribute};
+ghost use Rattle.references.specs.Search.{attribute};
 ghost use Rattle.references.specs.Tables.{EntryKnown};
 ghost use Rattle.dies.specs.RangeTable.{rangesAt};
-ghost use Rattle.imports.specs.Tree.{pushInline, makeInlineNode, collectEntries};
+ghost use Rattle.imports.specs.Tree.{inlineDepthLimit, pushInline, makeInlineNode, collectEntries};
 ghost use Rattle.imports.specs.Import.{descendantsOf};
 ghost use Rattle.dies.specs.Details.{DetailsIn, EntriesKnown, Extracts, contextIn, entriesFrom};
-ghost use Rattle.dies.specs.DetailState.{PutSite, Closed, Shut, Fits, Advances, Quiet, collectSite, stepEntry, rangesLater, entriesLeft, AboutWarned, Accepted, numberGiven, addressOf, addressIn, fileNumberIn, lineNumberIn, FileCalled, LineCalled, SitesPut, Descends, leadBytes};
+ghost use Rattle.dies.specs.DetailState.{PutSite, Closed, Shut, Fits, Advances, Quiet, collectSite, stepEntry, rangesLater, entriesLeft, AboutWarned, Accepted, addressOf, addressIn, FileCalled, LineCalled, SitesPut, Descends, leadBytes};
 use crate::frames::Open;
 use files::index::FileNumber;
 use files::index::FoundIndex;
 use files::index::StoredIndices;
+use references::attributes::Number;
+use references::attributes::file_index_attribute;
+use references::attributes::unsigned_attribute;
+use references::names::FoundName;
+use references::names::found_name;
 use references::tables::Tables;
 use tlv::access::Own;
 use tlv::access::Value;
@@ -89,12 +93,6 @@ pub struct CalledLine {
     pub status: u8,
 }
 
-// A number that an attribute is, where it is one that is asked for.
-pub enum Number {
-    Missing,
-    Is(u64),
-}
-
 // An address that an attribute is; a failed one has no value.
 pub enum Address {
     Missing,
@@ -121,44 +119,6 @@ fn address_in(v: Value) -> Address
     }
 }
 
-// The file number that a value is.
-fn file_number_in(v: Value) -> Number
-    ensures { λ r. ⌜ r ≡ fileNumberIn v ⌝ }
-{
-    match v {
-        Value::Absent => Number::Missing,
-        Value::Unsigned(n) => Number::Is(n),
-        Value::FileNumber(n) => Number::Is(n),
-        Value::Text { start: _, len: _ } => Number::Missing,
-        Value::UnitReference(_) => Number::Missing,
-        Value::SectionReference(_) => Number::Missing,
-        Value::SupplementaryReference(_) => Number::Missing,
-        Value::SectionOffset(_) => Number::Missing,
-        Value::LineOffset(_) => Number::Missing,
-        Value::Address(_) => Number::Missing,
-        Value::Failed => Number::Missing,
-    }
-}
-
-// The line that a value is.
-fn line_number_in(v: Value) -> Number
-    ensures { λ r. ⌜ r ≡ lineNumberIn v ⌝ }
-{
-    match v {
-        Value::Absent => Number::Missing,
-        Value::Unsigned(n) => Number::Is(n),
-        Value::FileNumber(_) => Number::Missing,
-        Value::Text { start: _, len: _ } => Number::Missing,
-        Value::UnitReference(_) => Number::Missing,
-        Value::SectionReference(_) => Number::Missing,
-        Value::SupplementaryReference(_) => Number::Missing,
-        Value::SectionOffset(_) => Number::Missing,
-        Value::LineOffset(_) => Number::Missing,
-        Value::Address(_) => Number::Missing,
-        Value::Failed => Number::Missing,
-    }
-}
-
 // The return address of the entry at place p.
 fn return_address(main: &[u8], unit: usize, p: usize) -> Address
     requires { ⌜ Accepted (now main) ⌝ }
@@ -166,24 +126,6 @@ fn return_address(main: &[u8], unit: usize, p: usize) -> Address
     ensures { λ r. ⌜ r ≡ addressOf (attribute (entryHere (now (main .entry)) p) 0x7d) ⌝ }
 {
     address_in(tlv::access::attribute(main, p + 15, 0x7d))
-}
-
-// The number of the file of the call of the entry at place p.
-fn file_number(main: &[u8], unit: usize, p: usize) -> Number
-    requires { ⌜ Accepted (now main) ⌝ }
-    requires { ⌜ EntryKnown (now main) unit p ⌝ }
-    ensures { λ r. ⌜ r ≡ numberGiven (fileIndexAttribute (entryHere (now (main .entry)) p) 0x58) ⌝ }
-{
-    file_number_in(tlv::access::attribute(main, p + 15, 0x58))
-}
-
-// The line of the call of the entry at place p.
-fn line_number(main: &[u8], unit: usize, p: usize) -> Number
-    requires { ⌜ Accepted (now main) ⌝ }
-    requires { ⌜ EntryKnown (now main) unit p ⌝ }
-    ensures { λ r. ⌜ r ≡ numberGiven (unsignedAttribute (entryHere (now (main .entry)) p) 0x59) ⌝ }
-{
-    line_number_in(tlv::access::attribute(main, p + 15, 0x59))
 }
 
 // An open call site: the depth of its entry 2 bytes, the entry's place 4, the return offset 8.
@@ -352,7 +294,7 @@ fn call_file(
     requires { ⌜ indices .base + indices .count * 5 ≤ length (now work) ⌝ }
     ensures { λ r. ⌜ FileCalled (indicesIn (now (work .entry)) indices) (now (main .entry)) unit p at (now (warnings .entry)) (now (warnings .exit)) r ⌝ }
 {
-    match file_number(main, unit, p) {
+    match file_index_attribute(main, unit, p, 0x58) {
         Number::Missing => CalledFile {
             file: FileIndex(0),
             at: at,
@@ -382,7 +324,7 @@ fn call_line(main: &[u8], warnings: &mut [u8], unit: usize, p: usize, at: usize)
     requires { ⌜ EntryKnown (now main) unit p ⌝ }
     ensures { λ r. ⌜ LineCalled (now (main .entry)) unit p at (now (warnings .entry)) (now (warnings .exit)) r ⌝ }
 {
-    match line_number(main, unit, p) {
+    match unsigned_attribute(main, unit, p, 0x59) {
         Number::Missing => CalledLine {
             line: 0,
             at: at,
@@ -438,6 +380,13 @@ fn put_inline_node(
     crate::ranges::put_ranges(records, headed, work, from, k)
 }
 
+// Whether a node that is so many below the root may be kept.
+fn check_inline_depth(depth: usize) -> bool
+    ensures { λ r. ⌜ r ≡ leb depth inlineDepthLimit ⌝ }
+{
+    depth <= 256
+}
+
 // A named entry whose k merged ranges stand above the stack of ranges becomes a node.
 fn keep_node(
     main: &[u8],
@@ -473,7 +422,7 @@ fn keep_node(
     }
     let o = s.frames;
     let n = o.n;
-    if 256 <= n {
+    if !check_inline_depth(n + 1) {
         r.status = 14;
         return r;
     }
@@ -533,9 +482,9 @@ fn make_inline_node<'a>(
         r.status = status;
         return r;
     }
-    if inlined.len() == 0 {
+    let FoundName::Found(_) = found_name(inlined) else {
         return r;
-    }
+    };
     match tlv::access::next_own(main, p + 15, 0x1a) {
         Own::Field {
             start: _,

@@ -25,7 +25,7 @@ use Rattle.files.proofs.GrownLaws.{table-kept, files-kept}
 use Rattle.references.specs.Search.{resolveName}
 use Rattle.references.specs.Keys.{possibleKeys}
 use Rattle.references.specs.Tables.{EntryKnown}
-use Rattle.references.specs.Names.{dwarfOf, Resolved}
+use Rattle.references.specs.Names.{dwarfOf, Resolved, foundName}
 use Rattle.references.proofs.NameBounds.{DwarfAccepted, name-string}
 use Rattle.references.proofs.TargetLaws.{known-entry}
 use Rattle.imports.specs.Import.{State, importSubprogram, importByFailure}
@@ -35,9 +35,9 @@ use Rattle.dies.proofs.CallLaws.{entry-read, entry-tag-here}
 use Rattle.dies.proofs.SiteStepLaws.{given-refused, given-done}
 use Rattle.dwarf.specs.declared.model.ImportState.{ImportState}
 use Rattle.dwarf.specs.declared.model.ImportContext.{ImportContext}
-use Rattle.dwarf.specs.declared.units.FoundName.{FoundName}
+use Rattle.references.specs.declared.names.FoundName.{FoundName}
 use Rattle.dwarf.specs.Contexts.{ContextIn, contextOf, touched, walkExtent}
-use Rattle.dwarf.specs.Steps.{Imports, importEntry, belowEntry, foundName}
+use Rattle.dwarf.specs.Steps.{Imports, importEntry, belowEntry}
 use Rattle.dwarf.proofs.ContextLaws.{context-kept, context-same, touched-walk}
 use Rattle.dwarf.proofs.StepLaws.{imports-none, imports-then, imports-as}
 

@@ -10,9 +10,9 @@ pub mod RangeStepLaws
 pub mod CandidateLaws
 pub mod RangesLaws
 pub mod EntryStepLaws
-pub mod UnitLaws
 pub mod IndexingLaws
 pub mod MakeLaws
+pub mod UnitLaws
 pub mod ChosenLaws
 pub mod TextLaws
 pub mod RunLaws

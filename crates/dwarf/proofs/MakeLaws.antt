@@ -11,10 +11,7 @@ use Rattle.tlv.specs.Lists.{at, Any}
 use Rattle.tlv.specs.Fields.{fields}
 use Rattle.tlv.specs.Places.{unitHere, unitPlaces}
 use Rattle.tlv.specs.Table.{Kept}
-use Rattle.tlv.specs.Units.{unitOf24}
-use Rattle.tlv.specs.Index.{indexedOf}
 use Rattle.tlv.proofs.TableLaws.{kept-trans, kept-wide, but-one, here}
-use Rattle.tlv.proofs.RecordLaws.{records-kept}
 use Rattle.files.specs.declared.index.StoredIndices.{StoredIndices}
 use Rattle.files.specs.declared.store.StoredFiles.{StoredFiles}
 use Rattle.files.specs.Store.{extent}
@@ -26,8 +23,8 @@ use Rattle.collect.specs.Collects.{UnitIn}
 use Rattle.collect.proofs.FrameLaws.{kept-one}
 use Rattle.references.specs.declared.tables.Index.{Index}
 use Rattle.references.specs.Names.{SearchIn}
-use Rattle.references.specs.Tables.{IndexIn}
 use Rattle.references.proofs.KeyLaws.{keys-in-none}
+use Rattle.references.proofs.FollowLaws.{index-kept}
 use Rattle.dies.specs.Details.{entryCount}
 use Rattle.dies.specs.RangeTable.{rangesAt}
 use Rattle.dies.proofs.RangeTableLaws.{ranges-below}
@@ -69,17 +66,6 @@ module _ {main supplementary program : List ℕ} {l : Layout} (L : LaidOut main 
 
   pub text-behind : {unit : ℕ} → UnitIn main unit → l .text + 16 * length (unitHere main unit .text) ≤ l .«main_units»
   text-behind {unit} U = let a = L .spans unit (unit-of U) in let b = L .main-units in omega arith
-
--- the tables of an input stay
-index-kept : {s w w′ : List ℕ} {x : Index} {p m : ℕ} → IndexIn s w x → Kept w w′ p m → x .units + 24 * x .«unit_count» ≤ p → x .entries + 16 * x .«entry_count» ≤ p → length w′ ≡ length w → IndexIn s w′ x
-index-kept {x = x} I K h k size = record {
-  number = I .number;
-  accepted = I .accepted;
-  units = records-kept unitOf24 24 (x .units) (x .«unit_count») K (inl (omega arith)) ∙ I .units;
-  entries = records-kept indexedOf 16 (x .entries) (x .«entry_count») K (inl (omega arith)) ∙ I .entries;
-  units-within = omega (arith, I .units-within);
-  entries-within = omega (arith, I .entries-within);
-}
 
 -- the frame of an input's tables, as one stretch
 index-rest : {s w w′ : List ℕ} {units entries : ℕ} {x : Index} (p m : ℕ) → IndexesInput s w w′ units entries x → p ≤ units → units + 24 * length (unitPlaces 0 (fields s)) ≤ entries

@@ -10,7 +10,7 @@ use lib.ListN.{length, take, drop, length-take}
 use borrow.Author.Tests.{eq-eqb, ne-eqb}
 use Rattle.tlv.specs.declared.model.AddressRange.{AddressRange}
 use Rattle.tlv.specs.declared.access.Own.{Own}
-use Rattle.tlv.specs.Outcome.{Outcome, refused, done, _>>=_}
+use Rattle.tlv.specs.Outcome.{Outcome, done, _>>=_}
 use Rattle.tlv.specs.Bytes.{leAt}
 use Rattle.tlv.specs.Lists.{mapOption}
 use Rattle.tlv.specs.Fields.{encode, fields, payloadOf}

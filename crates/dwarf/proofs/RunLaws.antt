@@ -6,23 +6,19 @@ use Prim.Native.Nat.{ℕ, _+_, _*_, _≤_, _<_}
 use native.Mathlib.Omega.{arith}
 use lib.Dec.{ltb}
 use lib.ListN.{length}
-use borrow.Author.Tests.{ltb-true, ltb-false, lt-ltb, le-ltb}
-use Rattle.tlv.specs.declared.grammar.Context.{Context}
+use borrow.Author.Tests.{ltb-false, lt-ltb, le-ltb}
 use Rattle.tlv.specs.declared.grammar.Checked.{Checked}
 use Rattle.tlv.specs.declared.access.Place.{Place}
 use Rattle.tlv.specs.Outcome.{Outcome, refused, done, _>>=_}
 use Rattle.tlv.specs.Lists.{at, mapOption}
 use Rattle.tlv.specs.Limits.{inputLimit, programLimit, fieldLimit}
-use Rattle.tlv.specs.Fields.{FieldList, end, cut, more, fields}
-use Rattle.tlv.specs.Grammar.{shaped, limited, payloadLimited, next, start, checkFrom, checkInput}
+use Rattle.tlv.specs.Fields.{fields}
+use Rattle.tlv.specs.Grammar.{checkInput}
 use Rattle.tlv.specs.Checked.{checkedOf}
 use Rattle.tlv.specs.Model.{units}
 use Rattle.tlv.specs.Places.{unitHere, unitPlaces}
 use Rattle.tlv.specs.Access.{placeOf}
-use Rattle.tlv.proofs.TestLaws.{and-left}
-use Rattle.tlv.proofs.OutcomeLaws.{done-is, refused-not}
-use Rattle.tlv.proofs.AcceptedCounts.{next-count}
-use Rattle.tlv.proofs.AcceptedGroups.{passed-both}
+use Rattle.tlv.proofs.OutcomeLaws.{done-is}
 use Rattle.tlv.proofs.UnitFacts.{unit-of-place}
 use Rattle.collect.specs.Collects.{UnitIn}
 use Rattle.references.specs.Names.{dwarfOf}
@@ -33,6 +29,7 @@ use Rattle.imports.specs.Answer.{Inputs, importChosen, importOf}
 use Rattle.dwarf.specs.declared.import.Ran.{Ran}
 use Rattle.dwarf.specs.declared.import.BothChecked.{BothChecked}
 use Rattle.dwarf.specs.Runs.{oversizeOf, Writes, BothAccepted, NotOversize, CheckedAs, ChecksBoth, WorkEnough, startState}
+use Rattle.dwarf.proofs.CountLaws.{accepted-few}
 
 -- ---- an outcome that is another's, or a refusal
 
@@ -73,23 +70,9 @@ module _ (main supplementary program : List ℕ) where
 
 -- ---- refusals 2 and 3
 
--- an accepted input has no more fields than the limit
-few-from : (c : Context) (fs : FieldList) (n : ℕ) → checkFrom c fs ≡ done n → c .count ≤ fieldLimit → n ≤ fieldLimit
-unfolding checkFrom limited
-few-from c end n e h = let k : c .count ≡ n = done-is e in omega arith
-few-from c cut n e h = refused-not e
-few-from c (more f fs) n e h =
-    let both = passed-both (shaped c f) (limited c f) (checkFrom (next c f) fs) n e in
-    let l = ltb-true (c .count) fieldLimit (and-left (ltb (c .count) fieldLimit) (payloadLimited c (f .tag) (f .payload)) (both .1)) in
-    few-from (next c f) fs n (both .2) (omega (arith, next-count c f))
-
-pub fields-few : (s : List ℕ) (n : ℕ) → checkInput s ≡ done n → n ≤ fieldLimit
-unfolding checkInput
-fields-few s n e = few-from start (fields s) n e (omega arith)
-
 pub both-few : {main supplementary : List ℕ} {n : ℕ} → BothAccepted main supplementary n → n ≤ fieldLimit + fieldLimit
 both-few {main} {supplementary} B =
-    omega (arith, B .sum, fields-few main (B .main-fields) (B .main-accepted), fields-few supplementary (B .supplementary-fields) (B .supplementary-accepted))
+    omega (arith, B .sum, accepted-few main (B .main-fields) (B .main-accepted), accepted-few supplementary (B .supplementary-fields) (B .supplementary-accepted))
 
 module _ {main supplementary : List ℕ} where
   refused-first : {n : ℕ} → (n ≡ 0 → ⊥) → checkInput main ≡ refused n → ChecksBoth main supplementary (BothChecked.Refused n)
@@ -126,7 +109,7 @@ module _ {main supplementary : List ℕ} where
       }
 
 pub checked-few : (s : List ℕ) {a : Checked} {n : ℕ} → checkedOf a ≡ checkInput s → a ≡ Checked.Accepted n → n ≤ fieldLimit
-checked-few s {a} {n} e is = fields-few s n (sym e ∙ ap checkedOf is)
+checked-few s {a} {n} e is = accepted-few s n (sym e ∙ ap checkedOf is)
 
 pub both-accepted : {main supplementary : List ℕ} {x : BothChecked} {n : ℕ} → ChecksBoth main supplementary x → x ≡ BothChecked.Accepted n → BothAccepted main supplementary n
 both-accepted C e = rw e at (C .is)

@@ -1,4 +1,5 @@
 -- The statement sequence that an entry asks for, as it is read, and the warning of one that does not exist. Assumes nothing.
+use Rattle.tlv.specs.Outcome.{_>>=_}
 use mathlib.Core.Path.{_≡_, refl, sym, ap, _∙_}
 use mathlib.Core.Logic.{_⊎_, inl, inr, ⊎-elim}
 use mathlib.Core.Bool.{Bool, true, false, cond, not, _||_}
@@ -12,7 +13,6 @@ use borrow.Author.Tests.{eqb-true}
 use Rattle.tlv.specs.declared.access.Value.{Value}
 use Rattle.tlv.specs.Bytes.{leAt}
 use Rattle.tlv.specs.Buffer.{top}
-use Rattle.tlv.specs.Outcome.{_>>=_}
 use Rattle.tlv.specs.Lists.{first}
 use Rattle.tlv.specs.Fields.{fields, payloads}
 use Rattle.tlv.specs.Cursor.{stepAt}

@@ -1,15 +1,13 @@
 -- The entries of a unit, one after the other. Assumes nothing.
 use mathlib.Core.Path.{_≡_, refl, sym, ap, _∙_}
-use mathlib.Core.Logic.{inl, inr}
 use mathlib.Core.List.{List, [], _∷_}
-use mathlib.Core.Option.{some}
-use Prim.Native.Nat.{ℕ, zero, suc, _+_, _≤_, _<_}
+use Prim.Native.Nat.{ℕ, _+_, _≤_, _<_}
 use native.Mathlib.Omega.{arith}
 use lib.Dec.{eqb}
 use lib.ListN.{length}
 use Rattle.tlv.specs.declared.fields.Step.{Step}
 use Rattle.tlv.specs.Outcome.{Outcome, refused, done, _>>=_}
-use Rattle.tlv.specs.Lists.{Any, at}
+use Rattle.tlv.specs.Lists.{at}
 use Rattle.tlv.specs.Buffer.{top}
 use Rattle.tlv.specs.Checked.{Placed}
 use Rattle.tlv.specs.Cursor.{stepAt}
@@ -35,6 +33,7 @@ use Rattle.dwarf.specs.declared.model.ImportContext.{ImportContext}
 use Rattle.dwarf.specs.Contexts.{ContextIn, contextOf}
 use Rattle.dwarf.specs.Steps.{Imports, importEntry, belowEntry}
 use Rattle.dwarf.proofs.ContextLaws.{context-same}
+use Rattle.dwarf.proofs.MakeLaws.{unit-of}
 use Rattle.dwarf.proofs.StepLaws.{imports-none, imports-then, imports-refused, imports-as, imports-at, imports-context}
 
 -- ---- what the definition does
@@ -59,12 +58,6 @@ module _ (x : import.ImportContext) where
   after-done es s = refl
 
 -- ---- where the entries of a unit begin
-
-at-any : (q n : ℕ) (xs : List ℕ) → at xs n ≡ some q → Any (λ x. x ≡ q) xs
-unfolding at
-at-any q n [] e = let z : _≡_ {A = ℕ} 0 1 = cc in absurd (omega arith)
-at-any q zero (x ∷ xs) e = let z : x ≡ q = cc in inl z
-at-any q (suc n) (x ∷ xs) e = inr (at-any q n xs e)
 
 entries-here : {s : List ℕ} {q : ℕ} → UnitPlaced s q → unitHere s q .entries ≡ entriesFrom s (q + 21)
 unfolding unitHere unitOf entriesFrom
@@ -100,7 +93,7 @@ pub importing-start : {main supplementary w t f u : List ℕ} {q : ImportContext
     → length t < top → length f < top → length u < top → Importing main supplementary q w t f u st w t f u st (q .unit + 21)
 importing-start {main} {supplementary} {w} {q = q} {st} C ok at warned small tiny few = record {
   placed = unit-next (stands C);
-  known = known-start main (q .unit) (q .unit + 3) 18 (q .unit + 21) (stands C .is) (at-any (q .unit) (C .unit .number) _ (C .unit .is));
+  known = known-start main (q .unit) (q .unit + 3) 18 (q .unit + 21) (stands C .is) (unit-of (C .unit));
   context = C;
   same = refl;
   status = ok;

@@ -10,7 +10,7 @@ use Rattle.tlv.specs.Lists.{at}
 use Rattle.tlv.specs.Model.{CompilationUnit, units}
 use Rattle.tlv.specs.Reader.{readRecords, readFiles, readWarnings}
 use Rattle.imports.specs.Import.{State}
-use Rattle.imports.specs.Answer.{Inputs, Answer, After, noStats, importOf, dwarfOf, after}
+use Rattle.imports.specs.Answer.{Inputs, Answer, noStats, importOf, dwarfOf, after}
 use Rattle.imports.specs.Demand.{subjects, RecordAgrees, Pointwise}
 use Rattle.dwarf.specs.declared.model.Refusal.{Refusal}
 use Rattle.dwarf.specs.declared.model.Imported.{Imported}

@@ -16,7 +16,6 @@ use Rattle.tlv.specs.Places.{entryHere, unitHere}
 use Rattle.tlv.specs.Output.{Function, Warning, eachOf, rowPayload, recordsBytes, warningsBytes, about, rejectedRange}
 use Rattle.lines.specs.Files.{FileTable}
 use Rattle.lines.specs.Rows.{forRange}
-use Rattle.files.specs.declared.store.StoredFiles.{StoredFiles}
 use Rattle.files.specs.Store.{tableOf, Grown}
 use Rattle.references.specs.Search.{resolveDeclarationLine}
 use Rattle.imports.specs.Tree.{Descendants}
@@ -27,7 +26,6 @@ use Rattle.dies.specs.Details.{entriesFrom, detailBytes}
 use Rattle.dwarf.specs.declared.model.ImportState.{ImportState}
 use Rattle.dwarf.specs.declared.model.ImportContext.{ImportContext as Context}
 use Rattle.dwarf.specs.declared.functions.FoundLines.{FoundLines}
-use Rattle.dwarf.specs.declared.units.FoundName.{FoundName}
 use Rattle.dwarf.specs.Stats.{statsOf, withFunction, withRejected}
 use Rattle.dwarf.specs.Contexts.{touched, walkExtent}
 
@@ -151,7 +149,3 @@ importOne q e below name r s =
 -- one entry of importUnitDetails
 unfoldable pub importEntry : ImportContext → Entry → List Entry → State → Outcome State
 importEntry q e below s = cond (isSubprogram e) (importSubprogram q e below s) (done s)
-
-abbrev pub foundName : List ℕ → FoundName
-foundName [] = FoundName.Missing
-foundName (b ∷ bs) = FoundName.Found (length (b ∷ bs))

@@ -1,10 +1,9 @@
 // Where the tables of an import stand in the work slice: places computed from counts of fields.
-ghost use mathlib.Core.Path.{_≡_};
 ghost use Prim.Native.Nat.{_≤_};
 ghost use lib.ListN.{length};
-ghost use Rattle.tlv.specs.Limits.{inputLimit, programLimit};
+ghost use Rattle.tlv.specs.Limits.{programLimit};
 ghost use Rattle.dies.specs.DetailState.{Accepted};
-ghost use Rattle.dwarf.specs.Layout.{countOf, Sized, LaidOut};
+ghost use Rattle.dwarf.specs.Layout.{Sized, LaidOut};
 
 // The places, from low to high: the file table with its room for files at 0, the unit's lines, its executable ranges, what a unit that is reached
 // by reference needs, the units and entries of both inputs, the open nodes' ranges, the open and the closed call sites, the followed targets.

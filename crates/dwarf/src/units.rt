@@ -1,42 +1,24 @@
 // The subprograms of a unit and their ranges (the Rust's import_unit_details).
 ghost use mathlib.Core.Path.{_≡_};
-ghost use mathlib.Core.List.{List, [], _∷_};
-ghost use mathlib.Core.Bool.{Bool};
 ghost use Prim.Native.Nat.{_+_, _≤_, _<_};
 ghost use lib.Dec.{eqb};
 ghost use lib.ListN.{length};
-ghost use Rattle.tlv.specs.Buffer.{Put, top};
+ghost use Rattle.tlv.specs.Buffer.{top};
 ghost use Rattle.tlv.specs.Checked.{Placed};
 ghost use Rattle.tlv.specs.Places.{entryHere, unitHere};
-ghost use Rattle.tlv.specs.Output.{Warning, warningsBytes};
 ghost use Rattle.tlv.specs.Model.{dieRanges};
 ghost use Rattle.references.specs.Tables.{EntryKnown};
-ghost use Rattle.dies.specs.Details.{EntriesKnown, entriesFrom};
-ghost use Rattle.imports.specs.Import.{importRanges, importByFailure, importUnitDetails, descendantsOf};
+ghost use Rattle.dies.specs.Details.{EntriesKnown};
+ghost use Rattle.imports.specs.Import.{importRanges, importByFailure, importUnitDetails};
 ghost use Rattle.dwarf.specs.Contexts.{ContextIn, contextOf};
-ghost use Rattle.dwarf.specs.Stats.{statsOf, withRejected};
-ghost use Rattle.dwarf.specs.Steps.{Rejects, belowEntry, importOne, importEntry, foundName, Imports};
+ghost use Rattle.dwarf.specs.Steps.{Rejects, belowEntry, importOne, importEntry, Imports};
 use crate::model::ImportContext;
 use crate::model::ImportState;
+use references::names::FoundName;
+use references::names::found_name;
 use tlv::access::Own;
 use tlv::fields::Step;
 use tlv::model::AddressRange;
-
-// A name with its length, where there is one.
-pub enum FoundName {
-    Found(usize),
-    Missing,
-}
-
-// An empty name is none.
-fn found_name(name: &[u8]) -> FoundName
-    ensures { λ r. ⌜ r ≡ foundName (now (name .entry)) ⌝ }
-{
-    if name.len() == 0 {
-        return FoundName::Missing;
-    }
-    FoundName::Found(name.len())
-}
 
 // The state after a rejected range, with the place in the warnings.
 fn reject(st: ImportState, warned: usize) -> ImportState

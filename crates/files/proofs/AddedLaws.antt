@@ -29,10 +29,11 @@ use Rattle.files.specs.Pieces.{sourceIn, spanIn, fileIn, PiecesIn}
 use Rattle.files.specs.Hash.{modulus, hashFrom, hashOf}
 use Rattle.files.specs.Possible.{Possible}
 use Rattle.files.specs.Store.{extent, entriesOf, tableOf, FilesIn, Linked, LaidFile, LaidAt, foundOf, AddedAfter, Adds}
+use Rattle.files.proofs.DirectoryLaws.{cut-span}
 use Rattle.files.proofs.StoreLaws.{head-before}
-use Rattle.files.proofs.SameLaws.{cut-span, place-within}
+use Rattle.files.proofs.SameLaws.{place-within}
 use Rattle.files.proofs.RoomLaws.{room-left}
-use Rattle.files.proofs.KeptLaws.{files-kept, entries-kept}
+use Rattle.files.proofs.KeptLaws.{files-apart, entries-apart}
 use Rattle.files.proofs.AddLaws.{entries-length, grownBy, entries-grown, files-grown}
 
 -- ---- a file is laid, to be looked up
@@ -69,7 +70,7 @@ laid-at {s} {w} {w′} {p} {at} {n} {h} {r} P L a b = record {
 
 module _ {main supplementary w w₁ : List ℕ} {t : StoredFiles} {e : FileEntry} {l : LaidHash} (F : FilesIn main supplementary w t) (L : LaidAt w w₁ (t .base + t .room * 45) e l) where
   pub laid-files : length w₁ ≡ length w → FilesIn main supplementary w₁ t
-  laid-files same = files-kept F (L .rest) (inl (omega arith)) (omega arith)
+  laid-files same = files-apart F (L .rest) (inl (omega arith)) (omega arith)
 
   pub laid-file : LaidFile w₁ t (l .n) (l .hash) e
   laid-file = record { directory = L .directory; short = L .short; hashed = L .hashed; small = L .small }
@@ -86,7 +87,7 @@ laid-is s p L = λ i. record { directory = L .directory i; basename = cut-span s
 module _ {main supplementary w w₁ : List ℕ} {t : StoredFiles} {e e₁ : FileEntry} {l : LaidHash} (F : FilesIn main supplementary w t)
     (L : LaidAt w w₁ (t .base + t .room * 45) e l) (q : e₁ ≡ e) where
   laid-place : placeOf e₁ (entriesOf main supplementary w₁ t) ≡ placeOf e (entriesOf main supplementary w t)
-  laid-place = λ j. placeOf (q j) (entries-kept F (L .rest) (inl (omega arith)) j)
+  laid-place = λ j. placeOf (q j) (entries-apart F (L .rest) (inl (omega arith)) j)
 
   pub found-number : {r : FoundFile} {i : ℕ} → foundOf r ≡ placeOf e₁ (entriesOf main supplementary w₁ t) → r ≡ FoundFile.At i → t .first + i < 2 ^ 32
   found-number {r} {i} f is =
@@ -97,11 +98,11 @@ module _ {main supplementary w w₁ : List ℕ} {t : StoredFiles} {e e₁ : File
       → Adds main supplementary w w₁ files files t e (AddedFile.Number t (fileIndex (t .first + i)))
   unfolding addFile tableOf filesBytes eachOf
   found-adds {files} {r} {i} f is same small fits = record {
-    is = (λ j. done (record { table = record { first = t .first; entries = entries-kept F (L .rest) (inl (omega arith)) j }; number = fileIndex (t .first + i) }))
+    is = (λ j. done (record { table = record { first = t .first; entries = entries-apart F (L .rest) (inl (omega arith)) j }; number = fileIndex (t .first + i) }))
         ∙ ap (addFileAt (tableOf main supplementary w t) e) (sym (ap foundOf is) ∙ f ∙ laid-place);
     after = record {
       new = [];
-      entries = entries-kept F (L .rest) (inl (omega arith)) ∙ sym (append-nil (entriesOf main supplementary w t));
+      entries = entries-apart F (L .rest) (inl (omega arith)) ∙ sym (append-nil (entriesOf main supplementary w t));
       holds = laid-files F L same;
       put = put-none small fits;
       base = refl;
@@ -116,10 +117,6 @@ module _ {main supplementary w w₁ : List ℕ} {t : StoredFiles} {e e₁ : File
 
 -- ---- a new file
 
-pub source-small : {main supplementary w s : List ℕ} {t : StoredFiles} (source : DebugSource) → FilesIn main supplementary w t → s ≡ sourceIn main supplementary source → length s < 2 ^ 32
-source-small DebugSource.Main F e = rw e (F .main-small)
-source-small DebugSource.Supplementary F e = rw e (F .supplementary-small)
-
 -- what it gives does not depend on what was laid before
 pub adds-laid : {main supplementary w w₁ w₂ files files′ : List ℕ} {t : StoredFiles} {e : FileEntry} {l : LaidHash} {r : AddedFile} → FilesIn main supplementary w t
     → LaidAt w w₁ (t .base + t .room * 45) e l → Adds main supplementary w₁ w₂ files files′ t e r → Adds main supplementary w w₂ files files′ t e r
@@ -131,7 +128,7 @@ adds-laid {main} {supplementary} {w} {w₁} {w₂} {files} {files′} {t} {e} {l
 }
   where
     old : entriesOf main supplementary w₁ t ≡ entriesOf main supplementary w t
-    old = entries-kept F (L .rest) (inl (omega arith))
+    old = entries-apart F (L .rest) (inl (omega arith))
 
     go : (r : AddedFile) → AddedAfter main supplementary w₁ w₂ files files′ t r → AddedAfter main supplementary w w₂ files files′ t r
     go (AddedFile.Number t′ n) G = record {

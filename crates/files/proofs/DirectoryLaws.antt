@@ -2,9 +2,9 @@
 use mathlib.Core.Path.{_≡_, refl, sym, ap, _∙_}
 use mathlib.Core.Logic.{inl}
 use mathlib.Core.List.{List, _++_, append-nil, append-assoc}
-use Prim.Native.Nat.{ℕ, _+_, _*_, _≤_, _<_}
+use Prim.Native.Nat.{ℕ, _+_, _-_, _*_, _≤_, _<_}
 use native.Mathlib.Omega.{arith}
-use lib.ListN.{length, drop, length-append}
+use lib.ListN.{length, take, drop, length-append}
 use borrow.Author.Count.{below-none, below-more}
 use Rattle.tlv.specs.declared.access.Own.{Own}
 use Rattle.tlv.specs.Bytes.{leAt}
@@ -22,6 +22,11 @@ use Rattle.files.specs.declared.pieces.Span.{Span}
 use Rattle.files.specs.Pieces.{spanIn, spanOf, spannedOf, PutSpan, DirectoryIn, DirectoriesIn}
 
 -- ---- a span
+
+-- what is cut out of a sheet is a span of it
+pub cut-span : (s : List ℕ) (a n : ℕ) → take (a + n - a) (drop a s) ≡ chunk s a n
+unfolding chunk
+cut-span s a n = let e : a + n - a ≡ n = omega arith in rw e
 
 -- the numbers of a span in the table
 pub span-is : (w : List ℕ) (p : ℕ) (a : Span) → leAt 4 w p ≡ a .start → leAt 4 w (p + 4) ≡ a .len → spanOf (chunk w p 8) ≡ a

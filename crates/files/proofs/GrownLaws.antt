@@ -1,8 +1,7 @@
 -- The file table and a unit's directories in a list of bytes: they stay where other bytes are written, and a table grows by steps. Assumes nothing.
-use Prim.Native.Nat.{ℕ, _+_, _*_, _≤_, _<_}
+use Prim.Native.Nat.{ℕ, _+_, _*_, _<_}
 use native.Mathlib.Omega.{arith}
 use mathlib.Core.Path.{_≡_, refl, sym, _∙_}
-use mathlib.Core.Logic.{inl, inr, ⊎-elim}
 use mathlib.Core.List.{List, [], _∷_, _++_, append-nil, append-assoc}
 use lib.ListN.{length}
 use Rattle.tlv.specs.Buffer.{top}
@@ -10,20 +9,15 @@ use Rattle.tlv.specs.Table.{chunk, Clear, KeptBut}
 use Rattle.tlv.specs.Fields.{encode}
 use Rattle.tlv.specs.Output.{FileEntry, filePayload, eachOf, filesBytes}
 use Rattle.tlv.proofs.BufferLaws.{_then_, put-none, put-as}
-use Rattle.tlv.proofs.TableLaws.{leAt-but}
 use Rattle.tlv.proofs.RecordLaws.{records-but}
 use Rattle.files.specs.declared.pieces.FileUnit.{FileUnit}
 use Rattle.files.specs.declared.store.StoredFiles.{StoredFiles}
 use Rattle.files.specs.Pieces.{spanIn, spanOf, spannedOf, FileUnitIn}
-use Rattle.files.specs.Store.{recordsFrom, extent, recordIn, storedFile, storedHash, entriesOf, hashesOf, tableOf, FilesIn, Grown}
-use Rattle.files.proofs.CountLaws.{files-few}
+use Rattle.files.specs.Store.{extent, entriesOf, tableOf, FilesIn, Grown}
+use Rattle.files.proofs.KeptLaws.{entries-but, files-but}
+pub use Rattle.files.proofs.KeptLaws.{clear-part}
 
 -- ---- what lies apart stays
-
--- a part of what is clear of some stretches is
-pub clear-part : (b n q k : ℕ) (rs : List (ℕ × ℕ)) → Clear b n rs → b ≤ q → q + k ≤ b + n → Clear q k rs
-clear-part b n q k [] c l h = tt
-clear-part b n q k (r ∷ rs) c l h = (⊎-elim (λ g. inl (omega arith)) (λ g. inr (omega arith)) (c .0), clear-part b n q k rs (c .1) l h)
 
 -- a unit's directories
 pub unit-kept : {s w w′ : List ℕ} {rs : List (ℕ × ℕ)} {u : FileUnit} → FileUnitIn s w u → KeptBut w w′ rs → Clear (u .directories) (u .«directory_count» * 8) rs → length w′ ≡ length w
@@ -44,43 +38,18 @@ unit-kept {s} {w} {w′} {rs} {u} U K c size =
 
 -- the file table
 module _ {main supplementary w w′ : List ℕ} {rs : List (ℕ × ℕ)} {t : StoredFiles} (F : FilesIn main supplementary w t) (K : KeptBut w w′ rs) (c : Clear (t .base) (extent t) rs) where
-  few : t .count ≤ t .room
-  few = let f = F .few in omega (arith, files-few F)
-
-  part-clear : (q k : ℕ) → t .base ≤ q → q + k ≤ t .base + extent t → Clear q k rs
-  part-clear q k l h = clear-part (t .base) (extent t) q k rs c l h
-
-  record-same : (i : ℕ) → i < t .count → recordIn w′ t i ≡ recordIn w t i
-  record-same i h = K .same (recordsFrom t + i * 41) 41 (part-clear _ _ (omega arith) (omega (arith, few)))
-
-  hashes-same : hashesOf w′ t ≡ hashesOf w t
-  unfolding hashesOf
-  hashes-same = records-but storedHash 41 (recordsFrom t) (t .count) K (part-clear _ _ (omega arith) (omega (arith, few)))
+  table-clear : Clear (t .base) (t .room * 45) rs
+  table-clear = clear-part (t .base) (extent t) (t .base) (t .room * 45) rs c (omega arith) (omega arith)
 
   pub entries-kept : entriesOf main supplementary w′ t ≡ entriesOf main supplementary w t
-  unfolding entriesOf
-  entries-kept = records-but (storedFile main supplementary) 41 (recordsFrom t) (t .count) K (part-clear _ _ (omega arith) (omega (arith, few)))
+  entries-kept = entries-but F K table-clear
 
   pub table-kept : tableOf main supplementary w′ t ≡ tableOf main supplementary w t
   unfolding tableOf
   table-kept = rw entries-kept
 
   pub files-kept : length w′ ≡ length w → FilesIn main supplementary w′ t
-  files-kept size = record {
-    pieces = λ i h. rw (record-same i h) (F .pieces i h);
-    hashed = λ i h. rw (record-same i h) (F .hashed i h);
-    linked = λ i h. rw (record-same i h, hashes-same) (F .linked i h);
-    heads = λ b h. leAt-but 4 (t .base + b * 4) K (part-clear _ _ (omega arith) (omega arith)) ∙ rw hashes-same (F .heads b h);
-    distinct = λ i h. rw (record-same i h, entries-kept) (F .distinct i h);
-    possible = λ i h. rw (record-same i h) (F .possible i h);
-    few = F .few;
-    small = F .small;
-    within = rw size (F .within);
-    numbered = F .numbered;
-    main-small = F .main-small;
-    supplementary-small = F .supplementary-small;
-    written = F .written;
-  }
+  files-kept size = files-but F K table-clear (omega arith)
 
 -- ---- a table grows
 

@@ -18,10 +18,8 @@ use Rattle.tlv.specs.Table.{chunk, KeptBut}
 use Rattle.tlv.specs.Model.{CompilationUnit, LineHeader, HeaderFile, fileOf}
 use Rattle.tlv.specs.Places.{ownFields, unitHere}
 use Rattle.tlv.specs.Access.{NextOwn}
-use Rattle.tlv.proofs.TableLaws.{here, but-refl, but-trans}
+use Rattle.tlv.proofs.TableLaws.{but-refl, but-trans}
 use Rattle.tlv.proofs.RecordLaws.{records-suc, records-but}
-use Rattle.tlv.proofs.CursorLaws.{next-within}
-use Rattle.tlv.proofs.PlaceFacts.{placed-next}
 use Rattle.tlv.proofs.PlacePromises.{placed-file, placed-file-string}
 use Rattle.tlv.proofs.OwnLaws.{own-within, own-field, own-placed}
 use Rattle.tlv.proofs.UnitFacts.{unit-files}
@@ -37,6 +35,8 @@ use Rattle.files.specs.Possible.{withZero}
 use Rattle.files.specs.Store.{extent, tableOf, FilesIn, Grown}
 use Rattle.files.specs.Indices.{indexOf, indicesOf}
 use Rattle.files.specs.Interns.{FileSpanIn, OfUnit, InternsAt, MapRoom, withIndices, InternsFiles}
+use Rattle.files.proofs.UnitLaws.{unit-next, unit-within}
+use Rattle.files.proofs.RoomLaws.{source-small}
 use Rattle.files.proofs.GrownLaws.{unit-kept, grown-none, grown-trans}
 
 -- ---- the files from a place on
@@ -49,17 +49,10 @@ unfolding filesFrom
 files-of-unit s p U = unit-files s p (stepAt s p) 0x10 (p + 3) 18 (p + 21) refl (U .is)
 
 -- the place behind the unit's field
-pub unit-next : (s : List ℕ) (p : ℕ) → UnitPlaced s p → p + 21 ≤ length s
-unit-next s p U = next-within s p (stepAt s p) 0x10 (p + 3) 18 (p + 21) refl (U .is)
-
-source-small : (main supplementary : List ℕ) (source : DebugSource) → length main < 2 ^ 32 → length supplementary < 2 ^ 32 → length (sourceIn main supplementary source) < 2 ^ 32
-source-small main supplementary DebugSource.Main m s = m
-source-small main supplementary DebugSource.Supplementary m s = s
-
 pub place-small : {main supplementary w : List ℕ} {t : StoredFiles} → FilesIn main supplementary w t → (source : DebugSource) (p : ℕ) → UnitPlaced (sourceIn main supplementary source) p → p + 21 < 2 ^ 32
 place-small {main} {supplementary} F source p U =
-    let l = source-small main supplementary source (F .main-small) (F .supplementary-small) in
-    omega (arith, unit-next (sourceIn main supplementary source) p U)
+    let l : length (sourceIn main supplementary source) < 2 ^ 32 = source-small source F refl in
+    omega (arith, unit-within U)
 
 abbrev spanned : ℕ → ℕ → Span
 spanned start len = record { start = start; len = len }
@@ -128,7 +121,7 @@ pub interning-start : {main supplementary w files : List ℕ} {t : StoredFiles} 
 interning-start {main} {supplementary} {w} {files} {t} {s} {u} {base} {n} F U P M few k =
     let e : unitHere s (u .place) .files ≡ filesFrom s (u .place + 21) = files-of-unit s (u .place) P in
     record {
-      placed = placed-next s (u .place) (stepAt s (u .place)) 0x10 (u .place + 3) 18 (u .place + 21) (P .placed) refl (P .is);
+      placed = unit-next P;
       left = ap (λ (fs : List HeaderFile). internFiles (unitHere s (u .place)) (headerHere s (u .place)) (tableOf main supplementary w t) fs >>= withIndices (indicesOf w base n)) e;
       grown = grown-none F k;
       unit = U;

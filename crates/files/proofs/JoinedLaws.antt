@@ -15,7 +15,8 @@ use Rattle.tlv.proofs.TestLaws.{by-test, same-true}
 use Rattle.lines.specs.Standard.{slash}
 use Rattle.lines.specs.Paths.{startsWith, endsWith, appendPath}
 use Rattle.lines.proofs.PathCodeLaws.{drop-byte, starts-first}
-use Rattle.lines.proofs.Joining.{append-none, append-first}
+use Rattle.lines.proofs.Joining.{ends-append, append-none, append-first}
+use Rattle.lines.proofs.JoinLaws.{ends-at, append-both}
 use Rattle.files.specs.Pieces.{Separated}
 use Rattle.files.specs.Joined.{componentAt}
 
@@ -77,20 +78,6 @@ module _ {w s : List ℕ} {at i : ℕ} (C : Comparing w s at i) where
 
 -- ---- separator
 
-ends-at : (p : List ℕ) → 0 < length p → endsWith slash p ≡ eqb (getD p (length p - 1) 0) slash
-unfolding endsWith
-ends-at [] h = absurd (omega arith)
-ends-at (x ∷ []) h = refl
-ends-at (x ∷ y ∷ p) h =
-    let e : suc (suc (length p) - 1) ≡ suc (suc (length p)) - 1 = omega arith in
-    ends-at (y ∷ p) (omega arith) ∙ ap (λ (k : ℕ). eqb (getD (x ∷ y ∷ p) k 0) slash) e
-
-append-both : (p c : List ℕ) → 0 < length p → 0 < length c → appendPath p c ≡ cond (endsWith slash p || startsWith slash c) (p ++ c) (p ++ (slash ∷ c))
-unfolding appendPath
-append-both [] c h g = absurd (omega arith)
-append-both (a ∷ p) [] h g = absurd (omega arith)
-append-both (a ∷ p) (b ∷ c) h g = refl
-
 -- no slash goes between
 unseparated : (p c : List ℕ) → appendPath p c ≡ p ++ c → Separated p c 0
 unseparated p c e = record { joined = e ∙ ap (λ (l : List ℕ). l ++ c) (sym (append-nil p)); one = omega arith }
@@ -127,13 +114,6 @@ module _ (p c : List ℕ) (z : length p ≡ 0 → ⊥) (y : length c ≡ 0 → �
     }
 
 -- ---- separator_below
-
--- the end of two lists is that of the second
-ends-append : (x : List ℕ) (b : ℕ) (s : List ℕ) → endsWith slash (x ++ (b ∷ s)) ≡ endsWith slash (b ∷ s)
-unfolding endsWith
-ends-append [] b s = refl
-ends-append (a ∷ []) b s = refl
-ends-append (a ∷ a′ ∷ x) b s = ends-append (a′ ∷ x) b s
 
 -- what stands before a path that is not empty goes through
 append-onto : (x d o : List ℕ) → (length d ≡ 0 → ⊥) → appendPath (x ++ d) o ≡ x ++ appendPath d o

@@ -16,7 +16,8 @@ use Rattle.files.specs.Possible.{possibleFiles}
 use Rattle.files.specs.Store.{storedFile, storedHash, recordsFrom, recordIn, entriesOf, hashesOf, lastIn, FilesIn, Empty}
 use Rattle.files.proofs.RoomLaws.{count-room}
 
-clear-part : (b n q k : ℕ) (rs : List (ℕ × ℕ)) → Clear b n rs → b ≤ q → q + k ≤ b + n → Clear q k rs
+-- a part of what is clear of some stretches is
+pub clear-part : (b n q k : ℕ) (rs : List (ℕ × ℕ)) → Clear b n rs → b ≤ q → q + k ≤ b + n → Clear q k rs
 clear-part b n q k [] c h g = tt
 clear-part b n q k (r ∷ rs) c h g = (⊎-elim (λ a. inl (omega arith)) (λ a. inr (omega arith)) (c .0), clear-part b n q k rs (c .1) h g)
 
@@ -52,11 +53,11 @@ module _ {main supplementary w w′ : List ℕ} {t : StoredFiles} {rs : List (�
   }
 
 module _ {main supplementary w w′ : List ℕ} {t : StoredFiles} {p m : ℕ} (F : FilesIn main supplementary w t) (K : Kept w w′ p m) (a : Apart (t .base) (t .room * 45) p m) where
-  pub entries-kept : entriesOf main supplementary w′ t ≡ entriesOf main supplementary w t
-  entries-kept = entries-but F (but-one K) (a, tt)
+  pub entries-apart : entriesOf main supplementary w′ t ≡ entriesOf main supplementary w t
+  entries-apart = entries-but F (but-one K) (a, tt)
 
-  pub files-kept : length w ≤ length w′ → FilesIn main supplementary w′ t
-  files-kept = files-but F (but-one K) (a, tt)
+  pub files-apart : length w ≤ length w′ → FilesIn main supplementary w′ t
+  files-apart = files-but F (but-one K) (a, tt)
 
 -- ---- an empty table
 

@@ -14,14 +14,11 @@ use Rattle.lines.proofs.JoinLaws.{laid-as, append-two, join-room}
 use Rattle.files.specs.declared.pieces.Span.{Span}
 use Rattle.files.specs.declared.pieces.FilePieces.{FilePieces}
 use Rattle.files.specs.Pieces.{spanIn, SpanIn, fileIn}
+use Rattle.files.proofs.DirectoryLaws.{cut-span}
 
 -- a span, as the code lends it: from its start to its end
 abbrev pub lent : List ℕ → Span → List ℕ
 lent s a = take (a .start + a .len - a .start) (drop (a .start) s)
-
-pub lent-is : (s : List ℕ) (a : Span) → lent s a ≡ spanIn s a
-unfolding chunk
-lent-is s a = let e : a .start + a .len - a .start ≡ a .len = omega arith in ap (λ (k : ℕ). take k (drop (a .start) s)) e
 
 pub lent-short : (s : List ℕ) (a : Span) → SpanIn s a → length (lent s a) ≤ 4096
 lent-short s a S = simp length-take (omega arith)
@@ -45,10 +42,11 @@ module _ (s : List ℕ) (p : FilePieces) (w w₁ w₂ w₃ : List ℕ) (at l m n
       let c : List ℕ = lent s (p .compilation) in
       let d : List ℕ = lent s (p .directory) in
       let o : List ℕ = lent s (p .own) in
+      let part : (a : Span) → lent s a ≡ spanIn s a = λ a. cut-span s (a .start) (a .len) in
       let first : (x : List ℕ) → appendPath (chunk w at 0) x ≡ x = λ x. ap (λ (y : List ℕ). appendPath y x) (chunk-none w at) ∙ append-first x in
       let two : Laid w w₂ at m (appendPath (chunk w at 0) (appendPath c d))
       = laid-as (first (appendPath c d) ∙ ap (λ (x : List ℕ). appendPath x d) (sym (first c))) (append-two w w₁ w₂ at 0 l m c d L M)
       in
       laid-as
-      (sym (ap (λ (x : List ℕ). appendPath x o) (first (appendPath c d)) ∙ (λ i. appendPath (appendPath (lent-is s (p .compilation) i) (lent-is s (p .directory) i)) (lent-is s (p .own) i))))
+      (sym (ap (λ (x : List ℕ). appendPath x o) (first (appendPath c d)) ∙ (λ i. appendPath (appendPath (part (p .compilation) i) (part (p .directory) i)) (part (p .own) i))))
       (append-two w w₂ w₃ at 0 m n (appendPath c d) o two N)

@@ -23,7 +23,6 @@ use Rattle.tlv.specs.Places.{ownFields, unitHere}
 use Rattle.tlv.specs.Access.{NextOwn}
 use Rattle.tlv.proofs.ListLaws.{at-image}
 use Rattle.tlv.proofs.TableLaws.{kept-refl, kept-wide}
-use Rattle.tlv.proofs.PlaceFacts.{placed-next}
 use Rattle.tlv.proofs.OwnLaws.{own-placed}
 use Rattle.tlv.proofs.UnitFacts.{unit-files}
 use Rattle.lines.specs.Paths.{fileEntry}
@@ -42,7 +41,7 @@ use Rattle.files.specs.Store.{extent, entriesOf, tableOf, FilesIn, LaidA
 use Rattle.files.specs.Indices.{numberOf}
 use Rattle.files.specs.Reached.{numberIn, reachedIndices, ownFile, NthFile, Found, nthNumber, LookedUp}
 use Rattle.files.proofs.InterningLaws.{file-span}
-use Rattle.files.proofs.KeptLaws.{entries-kept}
+use Rattle.files.proofs.KeptLaws.{entries-apart}
 use Rattle.files.proofs.AddedLaws.{laid-files}
 
 -- ---- the n-th field of a file
@@ -89,7 +88,7 @@ module _ {s : List ℕ} {p n q left : ℕ} {r : Own} (J : Passing s p n q left) 
 module _ {main supplementary w w₁ : List ℕ} {t : StoredFiles} {e e₁ : FileEntry} {l : LaidHash} (F : FilesIn main supplementary w t)
     (L : LaidAt w w₁ (t .base + t .room * 45) e l) (q : e₁ ≡ e) (size : length w₁ ≡ length w) where
   entries-laid : entriesOf main supplementary w₁ t ≡ entriesOf main supplementary w t
-  entries-laid = entries-kept F (L .rest) (inl (omega arith))
+  entries-laid = entries-apart F (L .rest) (inl (omega arith))
 
   found-by : (f : FoundFile) (r : FoundIndex) → foundOf f ≡ placeOf e₁ (entriesOf main supplementary w₁ t) → numberOf r ≡ mapOption (λ k. fileIndex (t .first + k)) (foundOf f)
       → Found main supplementary w w₁ t (numberIn (tableOf main supplementary w t) (done (some e))) r
@@ -130,9 +129,6 @@ nth-is u h t n = go (u .files) n
     go [] k = refl
     go (f ∷ fs) zero = refl
     go (f ∷ fs) (suc k) = go fs k
-
-pub unit-behind : {s : List ℕ} {p : ℕ} → UnitPlaced s p → Placed s (p + 21)
-unit-behind {s} {p} U = placed-next s p (stepAt s p) 0x10 (p + 3) 18 (p + 21) (U .placed) refl (U .is)
 
 module _ {s : List ℕ} {p n : ℕ} {r : Own} (U : UnitPlaced s p) (N : NthFile s (p + 21) n r) where
   -- the unit's file by what was found

@@ -30,7 +30,7 @@ use Rattle.files.specs.declared.pieces.Named.{Named}
 use Rattle.files.specs.declared.pieces.NamedDirectory.{NamedDirectory}
 use Rattle.files.specs.declared.pieces.PathParts.{PathParts}
 use Rattle.files.specs.Pieces.{spanIn, fileIn, SpanIn, spanOf, spannedOf, headerHere, DirectoryIn, FileUnitIn, PartsIn, Reads, Before, relativeEntry, Relative, Pieced}
-use Rattle.files.proofs.DirectoryLaws.{span-is, spanned-length}
+use Rattle.files.proofs.DirectoryLaws.{cut-span, span-is, spanned-length}
 
 -- the span of no bytes
 abbrev noSpan : Span
@@ -41,12 +41,11 @@ no-span s = record { within = omega arith; short = omega arith }
 
 -- ---- a part of a slice
 
-pub span-part : (s : List ℕ) (a : Span) → take (a .start + a .len - a .start) (drop (a .start) s) ≡ spanIn s a
-unfolding chunk
-span-part s a = let e : a .start + a .len - a .start ≡ a .len = omega arith in ap (λ (n : ℕ). take n (drop (a .start) s)) e
-
 pub absolute-span : (s : List ℕ) (a : Span) (r : Bool) → r ≡ isAbsolute (take (a .start + a .len - a .start) (drop (a .start) s)) → r ≡ isAbsolute (spanIn s a)
-absolute-span s a r e = e ∙ ap isAbsolute (span-part s a)
+absolute-span s a r e = e ∙ ap isAbsolute (cut-span s (a .start) (a .len))
+
+pub below-span : (s : List ℕ) (version n : ℕ) (a : Span) (r : Bool) → r ≡ needsCompilation version n (take (a .start + a .len - a .start) (drop (a .start) s)) → r ≡ needsCompilation version n (spanIn s a)
+below-span s version n a r e = e ∙ ap (needsCompilation version n) (cut-span s (a .start) (a .len))
 
 -- ---- the parts of a path
 
@@ -83,7 +82,7 @@ module _ (s : List ℕ) (path : Span) (P : SpanIn s path) where
   path-length = chunk-length s (path .start) (path .len) (P .within)
 
   pub basename-fits : {b : List ℕ} → b ≡ basenameOf (take (path .start + path .len - path .start) (drop (path .start) s)) → length b ≤ path .start + path .len
-  basename-fits eb = omega (arith, ap length (eb ∙ ap basenameOf (span-part s path)), basename-length (spanIn s path), path-length)
+  basename-fits eb = omega (arith, ap length (eb ∙ ap basenameOf (cut-span s (path .start) (path .len))), basename-length (spanIn s path), path-length)
 
   own-part : spanIn s (record { start = path .start; len = length (directoryName (spanIn s path)) }) ≡ directoryName (spanIn s path)
   unfolding chunk
@@ -108,7 +107,7 @@ module _ (s : List ℕ) (path : Span) (P : SpanIn s path) where
       let h = P .short in
       let lo = rw path-length at (directory-length (spanIn s path)) in
       let lb = rw path-length at (basename-length (spanIn s path)) in
-      rw (eo, eb, span-part s path) (record {
+      rw (eo, eb, cut-span s (path .start) (path .len)) (record {
         own = own-part;
         base = base-part;
         own-in = record { within = omega arith; short = omega arith };
@@ -118,17 +117,17 @@ module _ (s : List ℕ) (path : Span) (P : SpanIn s path) where
 -- ---- a directory of the table
 
 module _ {A : Type 0} where
-  at-inside : (xs : List A) (i : ℕ) (d : A) → i < length xs → at xs i ≡ some (getD xs i d)
+  pub at-some : (xs : List A) (i : ℕ) (d : A) → i < length xs → at xs i ≡ some (getD xs i d)
   unfolding at
-  at-inside [] i d h = absurd (not-suc-le-zero h)
-  at-inside (x ∷ xs) zero d h = refl
-  at-inside (x ∷ xs) (suc i) d h = at-inside xs i d (le-of-suc-le-suc h)
+  at-some [] i d h = absurd (not-suc-le-zero h)
+  at-some (x ∷ xs) zero d h = refl
+  at-some (x ∷ xs) (suc i) d h = at-some xs i d (le-of-suc-le-suc h)
 
-  at-past : (xs : List A) (i : ℕ) → length xs ≤ i → at xs i ≡ none
+  pub at-none : (xs : List A) (i : ℕ) → length xs ≤ i → at xs i ≡ none
   unfolding at
-  at-past [] i h = refl
-  at-past (x ∷ xs) zero h = absurd (not-suc-le-zero h)
-  at-past (x ∷ xs) (suc i) h = at-past xs i (le-of-suc-le-suc h)
+  at-none [] i h = refl
+  at-none (x ∷ xs) zero h = absurd (not-suc-le-zero h)
+  at-none (x ∷ xs) (suc i) h = at-none xs i (le-of-suc-le-suc h)
 
 module _ {s w : List ℕ} {u : FileUnit} (U : FileUnitIn s w u) where
   listed : (i : ℕ) → at (unitHere s (u .place) .directories) i ≡ mapOption directoryOf (at (spannedOf s w (u .directories) (u .«directory_count»)) i)
@@ -138,7 +137,7 @@ module _ {s w : List ℕ} {u : FileUnit} (U : FileUnitIn s w u) where
   unfolding mapOption chunk
   directory-past i h =
       let l : length (spannedOf s w (u .directories) (u .«directory_count»)) ≤ i = rw spanned-length h in
-      record { is = rw (listed i, at-past (spannedOf s w (u .directories) (u .«directory_count»)) i l); within = no-span s }
+      record { is = rw (listed i, at-none (spannedOf s w (u .directories) (u .«directory_count»)) i l); within = no-span s }
 
   module _ (i : ℕ) (h : i < u .«directory_count») (start len : ℕ) (es : start ≡ leAt 4 w (u .directories + i * 8)) (el : len ≡ leAt 4 w (u .directories + i * 8 + 4)) where
     span-here : spanOf (chunk w (u .directories + i * 8) 8) ≡ record { start = start; len = len }
@@ -158,7 +157,7 @@ module _ {s w : List ℕ} {u : FileUnit} (U : FileUnitIn s w u) where
     spanned-here =
         let f : List ℕ → List ℕ = λ b. spanIn s (spanOf b) in
         let n = u .«directory_count» in
-        at-inside (records f 8 w (u .directories) n) i [] (rw (records-length f 8 w (u .directories) n) h)
+        at-some (records f 8 w (u .directories) n) i [] (rw (records-length f 8 w (u .directories) n) h)
         ∙ ap (λ (x : List ℕ). some x) (records-at f 8 w (u .directories) n i [] h ∙ ap (spanIn s) span-here)
 
     module _ (f : ℕ) (ef : f ≡ leAt 1 s start) where

@@ -2,11 +2,14 @@
 use mathlib.Core.Path.{_≡_, sym, ap, _∙_}
 use mathlib.Core.List.{List}
 use mathlib.Core.Option.{Option, none, some}
-use Prim.Native.Nat.{ℕ, _+_, _<_}
+use Prim.Native.Nat.{ℕ, _+_, _<_, _^_}
 use native.Mathlib.Omega.{arith}
+use lib.ListN.{length}
 use Rattle.tlv.specs.Output.{FileEntry}
 use Rattle.lines.specs.Files.{placeOf}
+use Rattle.tlv.specs.declared.model.DebugSource.{DebugSource}
 use Rattle.files.specs.declared.store.StoredFiles.{StoredFiles}
+use Rattle.files.specs.Pieces.{sourceIn}
 use Rattle.files.specs.Possible.{possibleFiles, Possible}
 use Rattle.files.specs.Store.{storedFile, recordIn, entriesOf, FilesIn}
 use Rattle.files.proofs.PigeonLaws.{pigeons, one-more}
@@ -38,3 +41,8 @@ module _ {main supplementary w : List ℕ} {t : StoredFiles} (F : FilesIn main s
           let d : some i ≡ none = sym (F .distinct i h) ∙ ap (λ (x : FileEntry). placeOf x (entriesOf main supplementary w t)) z ∙ q in
           let y : _≡_ {A = ℕ} 0 1 = cc in
           omega arith
+
+-- the sheets of a table are small
+pub source-small : {main supplementary w s : List ℕ} {t : StoredFiles} (source : DebugSource) → FilesIn main supplementary w t → s ≡ sourceIn main supplementary source → length s < 2 ^ 32
+source-small DebugSource.Main F e = rw e (F .main-small)
+source-small DebugSource.Supplementary F e = rw e (F .supplementary-small)

@@ -22,6 +22,8 @@ use Rattle.files.specs.Pieces.{sourceIn, spanIn, fileIn, PiecesIn}
 use Rattle.files.specs.Hash.{hashOf}
 use Rattle.files.specs.Store.{piecesOf, sourceOf, storedFile, StoredAt}
 use Rattle.files.proofs.StoreLaws.{hash-at}
+use Rattle.files.proofs.JoinedLaws.{same-length}
+use Rattle.files.proofs.DirectoryLaws.{cut-span}
 
 -- ---- byte strings
 
@@ -47,14 +49,6 @@ unfolding same
 same-refl [] = refl
 same-refl (a ∷ x) = rw (eq-eqb a a refl, same-refl x)
 
--- strings of two lengths are not the same
-same-lengths : (x y : List ℕ) → (length x ≡ length y → ⊥) → same x y ≡ false
-same-lengths x y ne = go (same x y) refl
-  where
-    go : (t : Bool) → same x y ≡ t → t ≡ false
-    go true e = absurd (ne (ap length (same-true x y e)))
-    go false e = refl
-
 -- ---- files
 
 pub same-file : (e f : FileEntry) → sameFile e f ≡ true → e ≡ f
@@ -76,11 +70,6 @@ and-true false = refl
 
 -- ---- a file, and the pieces of a sheet
 
--- what is cut out of a sheet is a span of it
-pub cut-span : (s : List ℕ) (a n : ℕ) → take (a + n - a) (drop a s) ≡ chunk s a n
-unfolding chunk
-cut-span s a n = let e : a + n - a ≡ n = omega arith in rw e
-
 module _ {s : List ℕ} {p : FilePieces} (P : PiecesIn s p) (w : List ℕ) (at n : ℕ) (base : List ℕ) where
   -- the test of the directories
   abbrev directories : Bool
@@ -89,7 +78,7 @@ module _ {s : List ℕ} {p : FilePieces} (P : PiecesIn s p) (w : List ℕ) (at n
   pub other-length : (length base ≡ p .base .len → ⊥) → false ≡ sameFile (record { directory = chunk w at n; basename = base }) (fileIn s p)
   unfolding fileIn
   other-length ne =
-      let f : same base (spanIn s (p .base)) ≡ false = same-lengths base (spanIn s (p .base)) (λ q. ne (q ∙ chunk-length s (p .base .start) (p .base .len) (P .base .within))) in
+      let f : same base (spanIn s (p .base)) ≡ false = same-length base (spanIn s (p .base)) (λ q. ne (q ∙ chunk-length s (p .base .start) (p .base .len) (P .base .within))) in
       sym (ap (λ (b : Bool). directories && b) f ∙ and-false directories)
 
   -- the test of the names

@@ -8,20 +8,20 @@ use native.Mathlib.Omega.{arith}
 use borrow.Author.Tests.{eq-eqb, ne-eqb}
 use Rattle.tlv.specs.Bytes.{leAt}
 use Rattle.tlv.specs.Table.{chunk, Wrote}
-use Rattle.tlv.proofs.ChunkLaws.{chunk-part, leAt-chunk, leAt-front}
+use Rattle.tlv.proofs.ChunkLaws.{chunk-part, leAt-chunk}
 use Rattle.tlv.proofs.TableLaws.{kept-trans, kept-wide, leAt-kept, here, there, but-of, but-trans}
 use Rattle.tlv.specs.declared.model.DebugSource.{DebugSource}
 use Rattle.files.specs.declared.pieces.Span.{Span}
 use Rattle.files.specs.declared.pieces.FilePieces.{FilePieces}
 use Rattle.files.specs.declared.store.StoredFiles.{StoredFiles}
-use Rattle.files.specs.Pieces.{spanOf}
-use Rattle.files.specs.Store.{piecesOf, sourceOf, storedHash, storedLink, byteOf, headFrom, PutSpan, PutPieces, PutFile, Linked}
+use Rattle.files.specs.Pieces.{spanOf, PutSpan}
+use Rattle.files.specs.Store.{piecesOf, sourceOf, storedHash, storedLink, byteOf, headFrom, PutPieces, PutFile, Linked}
+use Rattle.files.proofs.DirectoryLaws.{span-is}
 
 -- ---- reads
 
 pub got-span : (w : List ℕ) (p : ℕ) {a b : ℕ} → a ≡ leAt 4 w p → b ≡ leAt 4 w (p + 4) → _≡_ {A = Span} (record { start = a; len = b }) (spanOf (chunk w p 8))
-unfolding spanOf
-got-span w p e f = λ i. record { start = (e ∙ sym (leAt-front 4 w p 8 (omega arith))) i; len = (f ∙ sym (leAt-chunk 4 w p 8 4 (omega arith))) i }
+got-span w p {a} {b} e f = sym (span-is w p (record { start = a; len = b }) (sym e) (sym f))
 
 -- the spans of a record of m bytes
 module _ (w : List ℕ) (at m : ℕ) (h : 32 ≤ m) where
@@ -60,12 +60,6 @@ unfolding storedLink
 link-at w p = leAt-chunk 4 w p 41 37 (omega arith)
 
 -- ---- writes
-
-pub put-span : {w w₁ w₂ : List ℕ} {p : ℕ} {a : Span} → Wrote w w₁ p 4 (a .start) → Wrote w₁ w₂ (p + 4) 4 (a .len) → PutSpan w w₂ p a
-put-span {w} {w₁} {w₂} {p} {a} A B = record {
-  span = sym (got-span w₂ p (sym (leAt-kept 4 p (B .rest) (inl (omega arith)) ∙ A .value)) (sym (B .value)));
-  rest = kept-trans (kept-wide p 8 (A .rest) (omega arith) (omega arith)) (kept-wide p 8 (B .rest) (omega arith) (omega arith));
-}
 
 pub put-pieces : {w w₁ w₂ w₃ w₄ : List ℕ} {at : ℕ} {p : FilePieces} → PutSpan w w₁ at (p .compilation) → PutSpan w₁ w₂ (at + 8) (p .directory) → PutSpan w₂ w₃ (at + 16) (p .own)
     → PutSpan w₃ w₄ (at + 24) (p .base) → PutPieces w w₄ at p

@@ -13,7 +13,6 @@ use Rattle.tlv.specs.Table.{chunk, records, Kept, KeptBut}
 use Rattle.tlv.specs.Output.{FileEntry, filesBytes}
 use Rattle.lines.specs.Files.{FileTable, placeOf, Added, addFile}
 use Rattle.tlv.specs.declared.model.DebugSource.{DebugSource}
-use Rattle.files.specs.declared.pieces.Span.{Span}
 use Rattle.files.specs.declared.pieces.FilePieces.{FilePieces}
 use Rattle.files.specs.declared.store.StoredFiles.{StoredFiles}
 use Rattle.files.specs.declared.store.FoundFile.{FoundFile}
@@ -110,11 +109,6 @@ pub record LaidFile (w : List ℕ) (t : StoredFiles) (n hash : ℕ) (e : FileEnt
   pub small : hash < modulus
 
 -- ---- what is promised
-
--- a span was written
-pub record PutSpan (w w′ : List ℕ) (p : ℕ) (a : Span) : Type 0 where
-  pub span : spanOf (chunk w′ p 8) ≡ a
-  pub rest : Kept w w′ p 8
 
 -- the pieces of a record were written
 pub record PutPieces (w w′ : List ℕ) (at : ℕ) (p : FilePieces) : Type 0 where

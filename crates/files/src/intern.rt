@@ -1,5 +1,4 @@
 // A unit's files join the table (the Rust's intern_file and intern_header_files).
-ghost use mathlib.Core.Path.{_≡_};
 ghost use Prim.Native.Nat.{_+_, _≤_};
 ghost use lib.ListN.{length};
 ghost use Rattle.tlv.specs.Places.{unitHere};

@@ -54,7 +54,7 @@ pub struct PathParts {
 }
 
 // Writes a span: its start and its length, of 4 bytes each.
-fn put_span(work: &mut [u8], p: usize, a: Span)
+pub fn put_span(work: &mut [u8], p: usize, a: Span)
     requires { ⌜ p + 8 ≤ length (now work) ⌝ }
     requires { ⌜ a .start + a .len < 4294967296 ⌝ }
     ensures { λ _. ⌜ PutSpan (now (work .entry)) (now (work .exit)) p a ⌝ }
@@ -161,13 +161,9 @@ fn below_compilation(s: &[u8], version: u8, number: u64, directory: Span) -> boo
     requires { ⌜ directory .start + directory .len ≤ length (now s) ⌝ }
     ensures { λ r. ⌜ r ≡ needsCompilation version number (spanIn (now (s .entry)) directory) ⌝ }
 {
-    if is_absolute_span(s, directory) {
-        return false;
-    }
-    if version < 5 {
-        return true;
-    }
-    number != 0
+    let from = directory.start;
+    let to = directory.start + directory.len;
+    lines::path::needs_compilation(version, number, &s[from..to])
 }
 
 // The compilation directory where a file's directory is below it; else an empty span.

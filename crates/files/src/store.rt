@@ -8,13 +8,14 @@ ghost use Rattle.lines.specs.Files.{sameFile, placeOf};
 ghost use Rattle.files.specs.Pieces.{sourceIn, spanOf, fileIn, PiecesIn};
 ghost use Rattle.files.specs.Hash.{hashOf};
 ghost use Rattle.files.specs.Possible.{possibleFiles, Possible};
-ghost use Rattle.files.specs.Store.{piecesOf, sourceOf, storedFile, byteOf, extent, StoredAt, PutSpan, PutPieces, PutFile, Linked, LaidFile, LaidAt, FilesIn, foundOf, entriesOf, Empty, Adds};
+ghost use Rattle.files.specs.Store.{piecesOf, sourceOf, storedFile, byteOf, extent, StoredAt, PutPieces, PutFile, Linked, LaidFile, LaidAt, FilesIn, foundOf, entriesOf, Empty, Adds};
 use crate::hash::hash_bytes;
 use crate::joined::bytes_at;
 use crate::joined::is_joined;
 use crate::pieces::FilePieces;
 use crate::pieces::Span;
 use crate::pieces::lay_directory;
+use crate::pieces::put_span;
 use tlv::model::DebugSource;
 
 // The table: the number of its first file, where it stands in the work slice, how many files it has room for and has,
@@ -174,16 +175,6 @@ fn source_byte(source: DebugSource) -> u8
         DebugSource::Main => 0,
         DebugSource::Supplementary => 1,
     }
-}
-
-// Writes a span.
-fn put_span(work: &mut [u8], p: usize, a: Span)
-    requires { ⌜ p + 8 ≤ length (now work) ⌝ }
-    requires { ⌜ a .start + a .len < 2 ^ 32 ⌝ }
-    ensures { λ _. ⌜ PutSpan (now (work .entry)) (now (work .exit)) p a ⌝ }
-{
-    tlv::table::set_u32(work, p, a.start as u32);
-    tlv::table::set_u32(work, p + 4, a.len as u32);
 }
 
 // Writes the pieces of a record.

@@ -16,55 +16,81 @@ use Rattle.lines.specs.Standard.{OperandKind, unsigned, half, Passed}
 use Rattle.lines.specs.Program.{bare, operandKinds, skipOperand, skipOperands, takeLineBytes, extendedBody, extended, skip}
 use Rattle.lines.specs.Scan.{over, kindsBy, Reads, Passes}
 use Rattle.lines.proofs.UlebLaws.{drop-at}
-use Rattle.lines.proofs.SkipLaws.{passes-earlier, passes-as, passed, unsignedOnes}
+use Rattle.lines.proofs.SkipLaws.{passes-earlier, passes-as, passed, unsignedOnes, one-passed, one-refused, one-ended}
+
+-- ---- n bytes
+
+-- n bytes of s from `at` on
+abbrev taken : List ℕ → ℕ → ℕ → Outcome Passed
+taken s n at = over (takeLineBytes (length s) n (drop at s))
+
+over-taken : (a b : Bool) (rest : List ℕ) → over (cond a (done rest) (cond b (refused 7) (refused 12))) ≡ cond a (passed rest) (cond b (refused 7) (refused 12))
+unfolding _>>=_
+over-taken true b rest = refl
+over-taken false true rest = refl
+over-taken false false rest = refl
+
+module _ (s : List ℕ) (n at : ℕ) (h : at ≤ length s) where
+  taken-at : taken s n at ≡ cond (leb n (length s - at)) (passed (drop (at + n) s)) (cond (ltb (at + n) (2 ^ 64)) (refused 7) (refused 12))
+  unfolding takeLineBytes
+  taken-at =
+      let e : length s - (length s - at) ≡ at = omega arith in
+      over-taken (leb n (length (drop at s))) (ltb (length s - length (drop at s) + n) (2 ^ 64)) (drop n (drop at s))
+      ∙ (λ i. cond (leb n (length-drop at s i)) (passed (drop-drop n at s i)) (cond (ltb (length s - length-drop at s i + n) (2 ^ 64)) (refused 7) (refused 12)))
+      ∙ ap (λ (x : ℕ). cond (leb n (length s - at)) (passed (drop (at + n) s)) (cond (ltb (x + n) (2 ^ 64)) (refused 7) (refused 12))) e
+
+  pub take-past : length s - at < n → 18446744073709551615 - at < n → Passes s at (Skipped.Fault 12) (taken s n at)
+  take-past g k =
+      let f : 2 ^ 64 ≤ at + n = omega arith in
+      record { is = sym (rw (lt-leb n (length s - at) g, le-ltb (at + n) (2 ^ 64) f) at taken-at); within = tt }
+
+  pub take-cut : length s < 18446744073709551615 → length s - at < n → n ≤ 18446744073709551615 - at → Passes s at (Skipped.Fault 7) (taken s n at)
+  take-cut z g k =
+      let f : at + n < 2 ^ 64 = omega arith in
+      record { is = sym (rw (lt-leb n (length s - at) g, lt-ltb (at + n) (2 ^ 64) f) at taken-at); within = tt }
+
+  pub take-to : n ≤ length s - at → Passes s at (Skipped.To (at + n)) (taken s n at)
+  take-to g = record { is = sym (rw (le-leb n (length s - at) g) at taken-at); within = (omega arith, omega arith) }
 
 -- ---- an extended instruction
+
+pub payload-none : (s : List ℕ) (n at : ℕ) → length s ≤ at → Passes s (at - 1) (Skipped.Fault 8) (extendedBody (length s) n (drop at s))
+unfolding extendedBody
+payload-none s n at h = record { is = sym (ap (extendedBody (length s) n) (drop-of-length-le s {i = at} h)); within = tt }
 
 abbrev ending : Bool → List ℕ → Outcome Passed
 ending e s = done (record { ends = e; rest = s })
 
-body-taken : (a b e : Bool) (rest : List ℕ) → (cond a (done rest) (cond b (refused 7) (refused 12)) >>= ending e)
-    ≡ cond a (done (record { ends = e; rest = rest })) (cond b (refused 7) (refused 12))
-unfolding _>>=_
-body-taken true b e rest = refl
-body-taken false true e rest = refl
-body-taken false false e rest = refl
-
-module _ (s : List ℕ) (n at : ℕ) where
-  pub payload-none : length s ≤ at → Passes s (at - 1) (Skipped.Fault 8) (extendedBody (length s) n (drop at s))
+-- the bytes after the opcode were passed over
+module _ (s : List ℕ) (n at : ℕ) (h : at < length s) {r : Skipped} (P : Passes s (at + 1) r (taken s (n - 1) (at + 1))) where
+  body-at : extendedBody (length s) n (drop at s) ≡ (takeLineBytes (length s) (n - 1) (drop (at + 1) s) >>= ending (eqb (getD s at 0) 1))
   unfolding extendedBody
-  payload-none h = record { is = sym (ap (extendedBody (length s) n) (drop-of-length-le s {i = at} h)); within = tt }
+  body-at = ap (extendedBody (length s) n) (drop-at s at (getD s at 0) h refl)
 
-  payload-at : at < length s → extendedBody (length s) n (drop at s)
-      ≡ cond (leb (n - 1) (length s - (at + 1))) (done (record { ends = eqb (getD s at 0) 1; rest = drop (at + 1 + (n - 1)) s }))
-      (cond (ltb (at + 1 + (n - 1)) (2 ^ 64)) (refused 7) (refused 12))
-  unfolding extendedBody takeLineBytes
-  payload-at h =
-      let e : length s - (length s - (at + 1)) ≡ at + 1 = omega arith in
-      ap (extendedBody (length s) n) (drop-at s at (getD s at 0) h refl)
-      ∙ body-taken (leb (n - 1) (length (drop (at + 1) s))) (ltb (length s - length (drop (at + 1) s) + (n - 1)) (2 ^ 64)) (eqb (getD s at 0) 1) (drop (n - 1) (drop (at + 1) s))
-      ∙ (λ i. cond (leb (n - 1) (length-drop (at + 1) s i)) (done (record { ends = eqb (getD s at 0) 1; rest = drop-drop (n - 1) (at + 1) s i }))
-      (cond (ltb (length s - length-drop (at + 1) s i + (n - 1)) (2 ^ 64)) (refused 7) (refused 12)))
-      ∙ ap (λ (x : ℕ). cond (leb (n - 1) (length s - (at + 1))) (done (record { ends = eqb (getD s at 0) 1; rest = drop (at + 1 + (n - 1)) s }))
-      (cond (ltb (x + (n - 1)) (2 ^ 64)) (refused 7) (refused 12))) e
+  pub payload-fault : {f : ℕ} → r ≡ Skipped.Fault f → Passes s (at - 1) (Skipped.Fault f) (extendedBody (length s) n (drop at s))
+  payload-fault {f} e =
+      let Q : Passes s (at + 1) (Skipped.Fault f) (taken s (n - 1) (at + 1)) = rw e at P in
+      record { is = sym (body-at ∙ one-refused (takeLineBytes (length s) (n - 1) (drop (at + 1) s)) f (ending (eqb (getD s at 0) 1)) (sym (Q .is))); within = tt }
 
-  module _ (h : at < length s) where
-    pub payload-past : length s - (at + 1) < n - 1 → 18446744073709551615 - (at + 1) < n - 1 → Passes s (at - 1) (Skipped.Fault 12) (extendedBody (length s) n (drop at s))
-    payload-past g k =
-        let f : 2 ^ 64 ≤ at + 1 + (n - 1) = omega arith in
-        record { is = sym (rw (lt-leb (n - 1) (length s - (at + 1)) g, le-ltb (at + 1 + (n - 1)) (2 ^ 64) f) at (payload-at h)); within = tt }
+  pub payload-ended : {q : ℕ} → r ≡ Skipped.Ended q → Passes s (at - 1) (Skipped.Ended q) (extendedBody (length s) n (drop at s))
+  payload-ended {q} e =
+      let Q : Passes s (at + 1) (Skipped.Ended q) (taken s (n - 1) (at + 1)) = rw e at P in
+      absurd (one-ended (takeLineBytes (length s) (n - 1) (drop (at + 1) s)) (drop q s) (sym (Q .is)))
 
-    pub payload-cut : length s < 18446744073709551615 → length s - (at + 1) < n - 1 → n - 1 ≤ 18446744073709551615 - (at + 1)
-        → Passes s (at - 1) (Skipped.Fault 7) (extendedBody (length s) n (drop at s))
-    payload-cut z g k =
-        let f : at + 1 + (n - 1) < 2 ^ 64 = omega arith in
-        record { is = sym (rw (lt-leb (n - 1) (length s - (at + 1)) g, lt-ltb (at + 1 + (n - 1)) (2 ^ 64) f) at (payload-at h)); within = tt }
+  module _ {q : ℕ} (e : r ≡ Skipped.To q) where
+    passed-to : Passes s (at + 1) (Skipped.To q) (taken s (n - 1) (at + 1))
+    passed-to = rw e at P
 
-    pub payload-end : 0 < at → n - 1 ≤ length s - (at + 1) → getD s at 0 ≡ 1 → Passes s (at - 1) (Skipped.Ended (at + 1 + (n - 1))) (extendedBody (length s) n (drop at s))
-    payload-end z g e = record { is = sym (rw (le-leb (n - 1) (length s - (at + 1)) g, eq-eqb (getD s at 0) 1 e) at (payload-at h)); within = (omega arith, omega arith) }
+    body-to : {b : Bool} → eqb (getD s at 0) 1 ≡ b → extendedBody (length s) n (drop at s) ≡ ending b (drop q s)
+    body-to z =
+        body-at ∙ one-passed (takeLineBytes (length s) (n - 1) (drop (at + 1) s)) (drop q s) (ending (eqb (getD s at 0) 1)) (sym (passed-to .is))
+        ∙ ap (λ (x : Bool). ending x (drop q s)) z
 
-    pub payload-to : n - 1 ≤ length s - (at + 1) → (getD s at 0 ≡ 1 → ⊥) → Passes s (at - 1) (Skipped.To (at + 1 + (n - 1))) (extendedBody (length s) n (drop at s))
-    payload-to g e = record { is = sym (rw (le-leb (n - 1) (length s - (at + 1)) g, ne-eqb (getD s at 0) 1 e) at (payload-at h)); within = (omega arith, omega arith) }
+    pub payload-end : 0 < at → getD s at 0 ≡ 1 → Passes s (at - 1) (Skipped.Ended q) (extendedBody (length s) n (drop at s))
+    payload-end z k = record { is = sym (body-to (eq-eqb (getD s at 0) 1 k)); within = (omega (arith, passed-to .within .0), passed-to .within .1) }
+
+    pub payload-to : (getD s at 0 ≡ 1 → ⊥) → Passes s (at - 1) (Skipped.To q) (extendedBody (length s) n (drop at s))
+    payload-to k = record { is = sym (body-to (ne-eqb (getD s at 0) 1 k)); within = (omega (arith, passed-to .within .0), passed-to .within .1) }
 
 module _ {s : List ℕ} {at : ℕ} {r : Operand} (R : Reads s at r) where
   pub extended-fault : {f : ℕ} → r ≡ Operand.Fault f → Passes s at (Skipped.Fault f) (extended (length s) (drop at s))
@@ -123,12 +149,11 @@ module _ (s ls : List ℕ) (o at : ℕ) where
         within = (omega arith, h);
       })
 
-  pub standard-cut : o ≡ 9 → length s - at < 2 → Passes s at (Skipped.Fault 7) (counted ls o (drop at s))
-  standard-cut e h = by-standard (record { is = rw (eq-eqb o 9 e, length-drop at s, lt-leb 2 (length s - at) h); within = tt })
-
-  pub standard-two : o ≡ 9 → 2 ≤ length s - at → at ≤ length s → Passes s at (Skipped.To (at + 2)) (counted ls o (drop at s))
-  standard-two e h g =
-      by-standard (record { is = rw (eq-eqb o 9 e, length-drop at s, le-leb 2 (length s - at) h, drop-drop 2 at s); within = (omega arith, omega arith) })
+  -- two bytes that the program has no room for end before the last number
+  pub standard-two : {r : Skipped} → o ≡ 9 → at ≤ length s → at + 2 < 2 ^ 64 → Passes s at r (taken s 2 at) → Passes s at r (counted ls o (drop at s))
+  standard-two e h f P =
+      let t : taken s 2 at ≡ cond (leb 2 (length s - at)) (passed (drop (at + 2) s)) (refused 7) = rw (lt-ltb (at + 2) (2 ^ 64) f) at (taken-at s 2 at h) in
+      by-standard (passes-as (rw (eq-eqb o 9 e, length-drop at s, drop-drop 2 at s) (sym t)) P)
 
   standard-other : {n : ℕ} {r : Skipped} → (o ≡ 9 → ⊥) → (o ≡ 1 → ⊥) → (o ≡ 6 → ⊥) → (o ≡ 7 → ⊥) → (o ≡ 8 → ⊥) → (o ≡ 10 → ⊥) → (o ≡ 11 → ⊥)
       → n ≡ getD ls (o - 1) 0 → Passes s at r (unsignedOnes n (drop at s)) → Passes s at r (counted ls o (drop at s))

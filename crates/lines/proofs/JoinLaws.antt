@@ -1,6 +1,6 @@
 -- Paths joined in a work slice. Assumes nothing.
 use mathlib.Core.Path.{_≡_, refl, sym, ap, _∙_}
-use mathlib.Core.Bool.{Bool, true, false, cond, _||_, or-true}
+use mathlib.Core.Bool.{Bool, cond, _||_, or-true}
 use mathlib.Core.Logic.{inl}
 use mathlib.Core.List.{List, [], _∷_, _++_}
 use Prim.Native.Nat.{ℕ, suc, _+_, _-_, _≤_, _<_}
@@ -15,11 +15,10 @@ use Rattle.tlv.proofs.ChunkLaws.{chunk-length, chunk-byte, chunk-none, chunk-ad
 use Rattle.tlv.proofs.TableLaws.{kept-over, kept-refl, kept-wide, kept-trans}
 use Rattle.tlv.proofs.TestLaws.{by-test}
 use Rattle.lines.specs.Standard.{slash}
-use Rattle.lines.specs.Paths.{startsWith, endsWith, appendPath, needsCompilation, joinedDirectory}
+use Rattle.lines.specs.Paths.{startsWith, endsWith, appendPath}
 use Rattle.lines.specs.Join.{Laid}
 use Rattle.lines.proofs.PathCodeLaws.{drop-byte, starts-first}
 use Rattle.lines.proofs.Joining.{append-none, append-first}
-use Rattle.lines.proofs.PathBounds.{append-path-length}
 
 -- ---- the copy's loop
 
@@ -46,7 +45,8 @@ copy-done {path} {w₀} {w} {to} {i} C h = sym (ap (λ (l : List ℕ). overlay (
 
 -- ---- appendPath
 
-ends-at : (p : List ℕ) → 0 < length p → endsWith slash p ≡ eqb (getD p (length p - 1) 0) slash
+-- the end of a path is its last byte
+pub ends-at : (p : List ℕ) → 0 < length p → endsWith slash p ≡ eqb (getD p (length p - 1) 0) slash
 unfolding endsWith
 ends-at [] h = absurd (omega arith)
 ends-at (x ∷ []) h = refl
@@ -54,7 +54,7 @@ ends-at (x ∷ y ∷ p) h =
     let e : suc (suc (length p) - 1) ≡ suc (suc (length p)) - 1 = omega arith in
     ends-at (y ∷ p) (omega arith) ∙ ap (λ (k : ℕ). eqb (getD (x ∷ y ∷ p) k 0) slash) e
 
-append-both : (p c : List ℕ) → 0 < length p → 0 < length c → appendPath p c ≡ cond (endsWith slash p || startsWith slash c) (p ++ c) (p ++ (slash ∷ c))
+pub append-both : (p c : List ℕ) → 0 < length p → 0 < length c → appendPath p c ≡ cond (endsWith slash p || startsWith slash c) (p ++ c) (p ++ (slash ∷ c))
 unfolding appendPath
 append-both [] c h g = absurd (omega arith)
 append-both (a ∷ p) [] h g = absurd (omega arith)
@@ -137,10 +137,7 @@ module _ (w : List ℕ) (at n : ℕ) (c : List ℕ) (room : at + n + 1 + length 
           laid-as (both (λ i. (ends ∙ ne-eqb (getD w (at + n - 1) 0) slash k) i || (sym (starts-first c y) ∙ ne-eqb (getD c 0 0) slash j) i))
           (laid-after w w′ (slash ∷ c) at n (n + 1 + length c) e (omega arith) (omega arith))
 
--- ---- two components, and three
-
-pub two-room : (w : List ℕ) {w₁ : List ℕ} {at : ℕ} (n : ℕ) {m : ℕ} (d : List ℕ) (k : ℕ) → Laid w w₁ at m (appendPath (chunk w at n) d) → at + n + length d + k + 2 ≤ length w → at + m + 1 + k ≤ length w
-two-room w {w₁} {at} n {m} d k L h = omega (arith, L .size, append-path-length (chunk w at n) d, chunk-length w at n (omega arith))
+-- ---- two components
 
 pub append-two : (w w₁ w₂ : List ℕ) (at n m r : ℕ) (d o : List ℕ) → Laid w w₁ at m (appendPath (chunk w at n) d) → Laid w₁ w₂ at r (appendPath (chunk w₁ at m) o)
     → Laid w w₂ at r (appendPath (appendPath (chunk w at n) d) o)
@@ -153,27 +150,6 @@ append-two w w₁ w₂ at n m r d o L M =
       rest = kept-trans (kept-wide at r (L .rest) (omega arith) (omega arith)) (M .rest);
     }
 
--- the directory of a file
-module _ (version number : ℕ) (w w₁ w₂ : List ℕ) (at n r : ℕ) (c d o : List ℕ) where
-  pub join-below : {b : Bool} → b ≡ needsCompilation version number d → b ≡ true → Laid w w₁ at n (appendPath (chunk w at 0) c)
-      → Laid w₁ w₂ at r (appendPath (appendPath (chunk w₁ at n) d) o) → Laid w w₂ at r (joinedDirectory version number c d o)
-  unfolding joinedDirectory
-  join-below e t L M =
-      let f : appendPath (chunk w at 0) c ≡ c = ap (λ (l : List ℕ). appendPath l c) (chunk-none w at) ∙ append-first c in
-      let g : chunk w₁ at n ≡ c = L .path ∙ f in
-      let l : length c ≤ length (appendPath (appendPath c d) o) = omega (arith, append-longer c d, append-longer (appendPath c d) o) in
-      let q : appendPath (appendPath (chunk w₁ at n) d) o ≡ appendPath (appendPath c d) o = ap (λ (l : List ℕ). appendPath (appendPath l d) o) g in
-      laid-as (ap (λ (x : Bool). appendPath (appendPath (cond x c []) d) o) (sym e ∙ t)) (record {
-        path = M .path ∙ q;
-        size = M .size ∙ ap length q;
-        rest = kept-trans (kept-wide at r (L .rest) (omega arith) (omega (arith, L .size ∙ ap length f, M .size ∙ ap length q))) (M .rest);
-      })
-
-pub join-apart : (version number : ℕ) (w w₁ : List ℕ) (at r : ℕ) (c d o : List ℕ) {b : Bool} → b ≡ needsCompilation version number d → b ≡ false
-    → Laid w w₁ at r (appendPath (appendPath (chunk w at 0) d) o) → Laid w w₁ at r (joinedDirectory version number c d o)
-unfolding joinedDirectory
-join-apart version number w w₁ at r c d o e t M =
-    laid-as (ap (λ (x : Bool). appendPath (appendPath (cond x c []) d) o) (sym e ∙ t) ∙ ap (λ (l : List ℕ). appendPath (appendPath l d) o) (sym (chunk-none w at))) M
-
+-- the first component, where nothing stands yet
 pub join-room : (w : List ℕ) {w₁ : List ℕ} {at n : ℕ} (c : List ℕ) → Laid w w₁ at n (appendPath (chunk w at 0) c) → n ≡ length c
 join-room w {w₁} {at} {n} c L = L .size ∙ ap length (ap (λ (l : List ℕ). appendPath l c) (chunk-none w at) ∙ append-first c)

@@ -40,7 +40,7 @@ unfolding endsWith
 open-root {d} o e = true≢false (sym (ap (endsWith slash) e) ∙ o .unclosed)
 
 -- the end of two lists is that of the second
-ends-append : (x : List ℕ) (b : ℕ) (s : List ℕ) → endsWith slash (x ++ (b ∷ s)) ≡ endsWith slash (b ∷ s)
+pub ends-append : (x : List ℕ) (b : ℕ) (s : List ℕ) → endsWith slash (x ++ (b ∷ s)) ≡ endsWith slash (b ∷ s)
 unfolding endsWith
 ends-append [] b s = refl
 ends-append (a ∷ []) b s = refl

@@ -72,17 +72,17 @@ module _ {s : List ℕ} {at p : ℕ} {o : Outcome Passed} {k : ℕ} where
       record { is = sym (G .goes ∙ ap (λ (x : ℕ). unsignedOnes x (drop p s)) z); within = (G .from, G .within) }
 
 -- what is known of one operand, used on it and those after it
-one-passed : (x : Outcome (List ℕ)) (t : List ℕ) (f : List ℕ → Outcome Passed) → over x ≡ passed t → (x >>= f) ≡ f t
+pub one-passed : (x : Outcome (List ℕ)) (t : List ℕ) (f : List ℕ → Outcome Passed) → over x ≡ passed t → (x >>= f) ≡ f t
 unfolding _>>=_
 one-passed (refused n) t f e = refused-not e
 one-passed (done u) t f e = ap (λ (y : Passed). f (y .rest)) (done-is e)
 
-one-refused : (x : Outcome (List ℕ)) (n : ℕ) (f : List ℕ → Outcome Passed) → over x ≡ refused n → (x >>= f) ≡ refused n
+pub one-refused : (x : Outcome (List ℕ)) (n : ℕ) (f : List ℕ → Outcome Passed) → over x ≡ refused n → (x >>= f) ≡ refused n
 unfolding _>>=_
 one-refused (refused m) n f e = let q : m ≡ n = cc in ap refused q
 one-refused (done u) n f e = refused-not (sym e)
 
-one-ended : (x : Outcome (List ℕ)) (t : List ℕ) → over x ≡ done (record { ends = true; rest = t }) → ⊥
+pub one-ended : (x : Outcome (List ℕ)) (t : List ℕ) → over x ≡ done (record { ends = true; rest = t }) → ⊥
 unfolding _>>=_
 one-ended (refused n) t e = refused-not e
 one-ended (done u) t e =

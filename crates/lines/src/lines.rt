@@ -3,7 +3,7 @@ ghost use mathlib.Core.Path.{_≡_};
 ghost use Prim.Native.Nat.{_+_, _*_, _-_, _/_, _≤_, _<_};
 ghost use lib.ListN.{length, getD, drop, replicate};
 ghost use Rattle.lines.specs.Standard.{unsigned};
-ghost use Rattle.lines.specs.Program.{skipOperand, skipOperands, extendedBody, extended, skip, scanLineSequenceOffsets, initialLength, versionBytes, programOffset, lineSequenceOffsets};
+ghost use Rattle.lines.specs.Program.{skipOperand, skipOperands, takeLineBytes, extendedBody, extended, skip, scanLineSequenceOffsets, initialLength, versionBytes, programOffset, lineSequenceOffsets};
 ghost use Rattle.lines.specs.Scan.{Reads, Passes, Scanned, OffsetIs, over, kindsBy, headerAt, headerWith};
 
 // What a line header says of its place and its opcodes; the opcode lengths are a slice of their own.
@@ -131,6 +131,21 @@ fn skip_operands(program: &[u8], n: u8, at: usize) -> Skipped
     Skipped::To(p)
 }
 
+// Passes over n bytes from a place on; an end past the last number is told from one past the program.
+fn take_line_bytes(program: &[u8], n: u64, at: usize) -> Skipped
+    requires { ⌜ at ≤ length (now program) ⌝ }
+    ensures { λ r. ⌜ Passes (now (program .entry)) at r (over (takeLineBytes (length (now (program .entry))) n (drop at (now (program .entry))))) ⌝ }
+{
+    let room = (program.len() - at) as u64;
+    if room < n {
+        if 18446744073709551615 - (at as u64) < n {
+            return Skipped::Fault(12);
+        }
+        return Skipped::Fault(7);
+    }
+    Skipped::To(at + n as usize)
+}
+
 // Passes over the n bytes of an extended instruction, of which the first is its opcode, at `at`; a byte of the length stands before it.
 fn skip_payload(program: &[u8], n: u64, at: usize) -> Skipped
     requires { ⌜ (0 < at) × (at ≤ length (now program)) × (0 < n) ⌝ }
@@ -140,20 +155,16 @@ fn skip_payload(program: &[u8], n: u64, at: usize) -> Skipped
         return Skipped::Fault(8);
     }
     let opcode = program[at];
-    let start = at + 1;
-    let more = n - 1;
-    let room = (program.len() - start) as u64;
-    if room < more {
-        if 18446744073709551615 - (start as u64) < more {
-            return Skipped::Fault(12);
+    match take_line_bytes(program, n - 1, at + 1) {
+        Skipped::To(next) => {
+            if opcode == 1 {
+                return Skipped::Ended(next);
+            }
+            Skipped::To(next)
         }
-        return Skipped::Fault(7);
+        Skipped::Ended(next) => Skipped::Ended(next),
+        Skipped::Fault(fault) => Skipped::Fault(fault),
     }
-    let next = start + more as usize;
-    if opcode == 1 {
-        return Skipped::Ended(next);
-    }
-    Skipped::To(next)
 }
 
 // Passes over what follows the zero byte of an extended instruction.
@@ -189,12 +200,7 @@ fn skip_standard(program: &[u8], lengths: &[u8], opcode: u8, at: usize) -> Skipp
     ensures { λ r. ⌜ Passes (now (program .entry)) at r (over (skipOperands (kindsBy (now (lengths .entry)) opcode) (drop at (now (program .entry))))) ⌝ }
 {
     match opcode {
-        9 => {
-            if program.len() - at < 2 {
-                return Skipped::Fault(7);
-            }
-            Skipped::To(at + 2)
-        }
+        9 => take_line_bytes(program, 2, at),
         1 | 6 | 7 | 8 | 10 | 11 => Skipped::To(at),
         _ => {
             let n = operand_count(lengths, opcode);

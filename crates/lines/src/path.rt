@@ -7,7 +7,7 @@ ghost use Rattle.tlv.specs.Buffer.{overlay};
 ghost use Rattle.tlv.specs.Table.{chunk};
 ghost use Rattle.tlv.specs.Lists.{exists};
 ghost use Rattle.lines.specs.Standard.{slash};
-ghost use Rattle.lines.specs.Paths.{isSeparator, baseStart, basenameOf, directoryName, startsWith, isDrive, isShare, isAbsolute, appendPath, needsCompilation, joinedDirectory};
+ghost use Rattle.lines.specs.Paths.{isSeparator, baseStart, basenameOf, directoryName, startsWith, isDrive, isShare, isAbsolute, appendPath, needsCompilation};
 ghost use Rattle.lines.specs.Join.{Laid};
 
 // The place after the last slash; 0 without one.
@@ -157,17 +157,8 @@ pub fn append_path(work: &mut [u8], at: usize, n: usize, component: &[u8]) -> us
     n + 1 + m
 }
 
-// Puts two components below the path of n bytes that stands at a place of the work slice.
-fn append_two(work: &mut [u8], at: usize, n: usize, directory: &[u8], own: &[u8]) -> usize
-    requires { ⌜ at + n + length (now directory) + length (now own) + 2 ≤ length (now work) ⌝ }
-    ensures { λ r. ⌜ Laid (now (work .entry)) (now (work .exit)) at r (appendPath (appendPath (chunk (now (work .entry)) at n) (now (directory .entry))) (now (own .entry))) ⌝ }
-{
-    let m = append_path(work, at, n, directory);
-    append_path(work, at, m, own)
-}
-
 // Whether a file's directory is one below the compilation directory.
-fn needs_compilation(version: u8, number: u64, directory: &[u8]) -> bool
+pub fn needs_compilation(version: u8, number: u64, directory: &[u8]) -> bool
     ensures { λ r. ⌜ r ≡ needsCompilation version number (now (directory .entry)) ⌝ }
 {
     if is_absolute_path(directory) {
@@ -177,24 +168,4 @@ fn needs_compilation(version: u8, number: u64, directory: &[u8]) -> bool
         return true;
     }
     number != 0
-}
-
-// Joins the directory of a file from its parts at a place of the work slice, and returns its length.
-pub fn join_path(
-    version: u8,
-    number: u64,
-    compilation: &[u8],
-    directory: &[u8],
-    own: &[u8],
-    work: &mut [u8],
-    at: usize,
-) -> usize
-    requires { ⌜ at + length (now compilation) + length (now directory) + length (now own) + 2 ≤ length (now work) ⌝ }
-    ensures { λ r. ⌜ Laid (now (work .entry)) (now (work .exit)) at r (joinedDirectory version number (now (compilation .entry)) (now (directory .entry)) (now (own .entry))) ⌝ }
-{
-    if needs_compilation(version, number, directory) {
-        let n = append_path(work, at, 0, compilation);
-        return append_two(work, at, n, directory, own);
-    }
-    append_two(work, at, 0, directory, own)
 }

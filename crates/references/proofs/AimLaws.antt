@@ -7,13 +7,14 @@ use Rattle.tlv.specs.declared.model.DebugSource.{DebugSource}
 use Rattle.tlv.specs.Outcome.{done, _>>=_}
 use Rattle.tlv.specs.Lists.{exists}
 use Rattle.tlv.specs.Model.{units}
+use Rattle.files.specs.Pieces.{sourceIn}
 use Rattle.references.specs.declared.tables.Tables.{Tables}
 use Rattle.references.specs.declared.tables.Target.{Target}
 use Rattle.references.specs.declared.names.EntryAt.{EntryAt}
 use Rattle.references.specs.declared.names.OffsetAt.{OffsetAt}
 use Rattle.references.specs.declared.declarations.Aim.{Aim}
 use Rattle.references.specs.Search.{DieKey, sameKey, isVisited, visit, visitEntry, nothing, byOffset, followedNothing, unitsIn, unitContaining, followIn, followAbsolute}
-use Rattle.references.specs.Tables.{sourceIn, Leads}
+use Rattle.references.specs.Tables.{Leads}
 use Rattle.references.specs.Keys.{keysAt, keyIn}
 use Rattle.references.specs.Names.{dwarfOf, searchSource, placeAt, trailAt, Aims}
 use Rattle.references.specs.DeclaredSteps.{followOffset, Aimed}

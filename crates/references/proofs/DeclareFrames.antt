@@ -16,6 +16,7 @@ use Rattle.tlv.specs.Index.{indexedOf}
 use Rattle.tlv.specs.Units.{unitOf24}
 use Rattle.tlv.proofs.TableLaws.{here, there, but-of, but-one}
 use Rattle.tlv.proofs.RecordLaws.{records-but}
+use Rattle.files.specs.Pieces.{sourceIn}
 use Rattle.files.specs.Store.{extent, tableOf, FilesIn}
 use Rattle.files.specs.Indices.{indexOf, indicesOf, indicesIn}
 use Rattle.files.proofs.GrownLaws.{clear-part, table-kept, files-kept}
@@ -23,7 +24,7 @@ use Rattle.references.specs.declared.tables.Index.{Index}
 use Rattle.references.specs.declared.declarations.Places.{Places}
 use Rattle.references.specs.declared.declarations.DeclaringState.{DeclaringState}
 use Rattle.references.specs.Search.{DieKey, sameKey}
-use Rattle.references.specs.Tables.{sourceIn, IndexIn}
+use Rattle.references.specs.Tables.{IndexIn}
 use Rattle.references.specs.Keys.{keysAt, Pushed, PossibleKey}
 use Rattle.references.specs.Names.{SearchIn}
 use Rattle.references.specs.Declarations.{DeclaringIn, lower, searched}

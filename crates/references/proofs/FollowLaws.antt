@@ -25,12 +25,13 @@ use Rattle.tlv.proofs.CursorLaws.{field-within}
 use Rattle.tlv.proofs.PlaceFacts.{placed-start}
 use Rattle.tlv.proofs.PlacePromises.{placed-unit}
 use Rattle.tlv.proofs.UnitFacts.{UnitAt, all-unit-places, unit-offset}
+use Rattle.files.specs.Pieces.{sourceIn}
 use Rattle.references.specs.declared.tables.Index.{Index}
 use Rattle.references.specs.declared.tables.Tables.{Tables}
 use Rattle.references.specs.declared.attributes.Reference.{Reference}
 use Rattle.references.specs.declared.names.EntryAt.{EntryAt}
 use Rattle.references.specs.Search.{DieKey, sameKey, attribute}
-use Rattle.references.specs.Tables.{sourceIn, IndexIn, EntryKnown, referenceOf}
+use Rattle.references.specs.Tables.{IndexIn, EntryKnown, referenceOf}
 use Rattle.references.specs.Keys.{keyOf, keysAt, keyIn, Pushed, possibleKeys, PossibleKey, KeysIn}
 use Rattle.references.specs.Names.{Sourced, Stands, indexIn, SearchIn}
 use Rattle.references.proofs.TargetLaws.{known-unit}
@@ -65,8 +66,8 @@ module _ {main supplementary w : List ℕ} {base n : ℕ} (K : KeysIn main suppl
       } in
       omega (arith, room-left cut k possible (rw same new), cut-short w (base + z))
 
-  pub keys-few : n * 9 + 9 ≤ 9 * length (possibleKeys main supplementary)
-  keys-few =
+  pub keys-below : n * 9 + 9 ≤ 9 * length (possibleKeys main supplementary)
+  keys-below =
       ⊎-elim (λ few. cut-room (9 * length (possibleKeys main supplementary)) (omega arith) (omega arith))
       (λ many. let l = cut-room (n * 9) (omega arith) (omega arith) in absurd (let z : ⊥ = omega arith in z))
       (le-or-lt n (length (possibleKeys main supplementary)))
@@ -82,7 +83,7 @@ keys-inside {main} {supplementary} {w} {base} (suc n) K =
 
 -- ---- a target is written down
 
-index-kept : {s w w′ : List ℕ} {x : Index} {p m : ℕ} → IndexIn s w x → Kept w w′ p m → x .units + 24 * x .«unit_count» ≤ p → x .entries + 16 * x .«entry_count» ≤ p → length w′ ≡ length w
+pub index-kept : {s w w′ : List ℕ} {x : Index} {p m : ℕ} → IndexIn s w x → Kept w w′ p m → x .units + 24 * x .«unit_count» ≤ p → x .entries + 16 * x .«entry_count» ≤ p → length w′ ≡ length w
     → IndexIn s w′ x
 index-kept {x = x} I K below-units below-entries size = record {
   number = I .number;
@@ -112,7 +113,7 @@ module _ {main supplementary w : List ℕ} {x : Tables} {n : ℕ} (S : SearchIn 
 
     module _ {w′ : List ℕ} (P : Pushed w w′ (x .keys) n k) where
       pub push-kept : Kept w w′ (x .keys) (9 * length (possibleKeys main supplementary))
-      push-kept = let few = keys-few (S .keys) k possible new in kept-wide (x .keys) (9 * length (possibleKeys main supplementary)) (P .rest) (omega arith) (omega arith)
+      push-kept = let few = keys-below (S .keys) k possible new in kept-wide (x .keys) (9 * length (possibleKeys main supplementary)) (P .rest) (omega arith) (omega arith)
 
       pub push-search : length w′ ≡ length w → SearchIn main supplementary w′ x (n + 1)
       push-search size = search-kept push-kept size (keys-in-pushed (S .keys) k possible new P size)

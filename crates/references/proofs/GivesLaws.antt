@@ -3,7 +3,7 @@ use mathlib.Core.Path.{_≡_, refl, sym, ap, _∙_}
 use mathlib.Core.Bool.{Bool, true, false, cond, not, true≢false}
 use mathlib.Core.List.{List, [], _∷_}
 use mathlib.Core.Option.{Option}
-use Prim.Native.Nat.{ℕ, _+_, _-_, _*_, _≤_}
+use Prim.Native.Nat.{ℕ, _+_, _*_, _≤_}
 use native.Mathlib.Omega.{arith}
 use lib.Dec.{eqb}
 use lib.ListN.{length}
@@ -15,12 +15,13 @@ use Rattle.tlv.specs.Model.{CompilationUnit, units}
 use Rattle.tlv.specs.Table.{Kept}
 use Rattle.tlv.proofs.IndexModel.{either}
 use Rattle.tlv.proofs.TableLaws.{kept-refl, kept-trans}
+use Rattle.files.specs.Pieces.{sourceIn}
 use Rattle.references.specs.declared.tables.Tables.{Tables}
 use Rattle.references.specs.declared.tables.Target.{Target}
 use Rattle.references.specs.declared.names.EntryAt.{EntryAt}
 use Rattle.references.specs.declared.names.OffsetAt.{OffsetAt}
 use Rattle.references.specs.Search.{Trail, DieKey, sameKey, isVisited, visit, visitEntry, unitContaining, unitsIn, followIn, followAbsolute, Named, resolveNameInner}
-use Rattle.references.specs.Tables.{sourceIn, Leads, bytesGiven}
+use Rattle.references.specs.Tables.{Leads, bytesGiven}
 use Rattle.references.specs.Keys.{keysAt, keyIn, Pushed, possibleKeys, PossibleKey}
 use Rattle.references.specs.Names.{dwarfOf, searchSource, placeAt, Stands, Aims, trailAt, SearchIn, isAnswer, namedGiven, Gives, resolveAbsoluteName}
 use Rattle.references.proofs.FollowLaws.{push-room, push-kept, push-search}

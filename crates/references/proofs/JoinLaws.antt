@@ -21,7 +21,7 @@ use Rattle.lines.specs.Files.{FileTable, Indexed, internHeaderFiles}
 use Rattle.files.specs.declared.pieces.FileUnit.{FileUnit}
 use Rattle.files.specs.declared.store.StoredFiles.{StoredFiles}
 use Rattle.files.specs.declared.intern.InternedFiles.{InternedFiles}
-use Rattle.files.specs.Pieces.{sourceIn as sheetOf, orHeader, headerHere, Described}
+use Rattle.files.specs.Pieces.{sourceIn, orHeader, headerHere, Described}
 use Rattle.files.specs.Store.{tableOf}
 use Rattle.files.specs.Interns.{Listed, MapRoom, indexedOf, InternsHeader}
 use Rattle.files.proofs.GrownLaws.{grown-none, grown-after}
@@ -30,12 +30,11 @@ use Rattle.references.specs.declared.declarations.Places.{Places}
 use Rattle.references.specs.declared.declarations.DeclaringState.{DeclaringState}
 use Rattle.references.specs.declared.declarations.Joined.{Joined}
 use Rattle.references.specs.Search.{unitFiles}
-use Rattle.references.specs.Tables.{sourceIn}
 use Rattle.references.specs.Declarations.{reachedFiles, ReachedUnit, DeclaringIn, lower}
 use Rattle.references.specs.DeclaredSteps.{UnitKnown, Joins}
 use Rattle.files.proofs.ReachedLaws.{interned-reached}
 use Rattle.references.proofs.DeclareFrames.{spans-inside}
-use Rattle.references.proofs.OwnDeclarationLaws.{same-source, described-clear, described-table, described-room, described-rest}
+use Rattle.references.proofs.OwnDeclarationLaws.{described-clear, described-table, described-room, described-rest}
 
 -- one of a list is at a number of it
 any-at : {A : Type 0} (a : A) (xs : List A) → Any (λ y. y ≡ a) xs → (k : ℕ) × (at xs k ≡ some a)
@@ -92,10 +91,10 @@ module _ {main supplementary w : List ℕ} {d : Places} {st : DeclaringState} (D
     there : isNone (unitHere (sourceIn main supplementary input) q .header) ≡ false
     there = rw is at (sym e ∙ not-so)
 
-    pub join-listed : Listed main supplementary (unitHere (sheetOf main supplementary input) (u .place)) (headerHere (sheetOf main supplementary input) (u .place))
-    join-listed = rw (B .place, ← same-source main supplementary input) (listed-at main supplementary input q (U .listed) there)
+    pub join-listed : Listed main supplementary (unitHere (sourceIn main supplementary input) (u .place)) (headerHere (sourceIn main supplementary input) (u .place))
+    join-listed = rw (B .place) (listed-at main supplementary input q (U .listed) there)
 
-    pub join-room : MapRoom (sheetOf main supplementary input) w₁ (st .table) u (d .spans + u .«directory_count» * 8)
+    pub join-room : MapRoom (sourceIn main supplementary input) w₁ (st .table) u (d .spans + u .«directory_count» * 8)
     join-room =
         let r = described-room D input is U e not-so B size in
         let a = D .table in
@@ -103,19 +102,19 @@ module _ {main supplementary w : List ℕ} {d : Places} {st : DeclaringState} (D
         let i = spans-inside D in
         let z = B .directories in
         let m : d .spans + u .«directory_count» * 8 + 5 * (1 + length (unitHere (sourceIn main supplementary input) q .files)) ≤ length w = omega arith in
-        record { table = omega arith; directories = omega arith; map = rw (B .place, size, ← same-source main supplementary input) m }
+        record { table = omega arith; directories = omega arith; map = rw (B .place, size) m }
 
     module _ {w₂ files files₂ : List ℕ} {r : InternedFiles}
-        (I : InternsHeader main supplementary w₁ w₂ files files₂ (st .table) (sheetOf main supplementary input) u (d .spans + u .«directory_count» * 8) r) where
+        (I : InternsHeader main supplementary w₁ w₂ files files₂ (st .table) (sourceIn main supplementary input) u (d .spans + u .«directory_count» * 8) r) where
       interned : indexedOf main supplementary w₂ (d .spans + u .«directory_count» * 8) r
           ≡ internHeaderFiles (unitHere (sourceIn main supplementary input) q) (orHeader (unitHere (sourceIn main supplementary input) q .header)) (tableOf main supplementary w (st .table))
       unfolding headerHere
-      interned = rw (B .place, ← same-source main supplementary input, described-table D input is U e not-so B size) at (I .is)
+      interned = rw (B .place, described-table D input is U e not-so B size) at (I .is)
 
       join-rest : KeptBut w w₂ (lower d (st .table))
       join-rest =
           let m = described-room D input is U e not-so B size in
-          let k : length (unitHere (sheetOf main supplementary input) (u .place) .files) ≡ length (unitHere (sourceIn main supplementary input) q .files) = rw (B .place, same-source main supplementary input) in
+          let k : length (unitHere (sourceIn main supplementary input) (u .place) .files) ≡ length (unitHere (sourceIn main supplementary input) q .files) = rw (B .place) in
           but-trans (described-rest D input is U e not-so B size)
           (record { same = λ p n c. I .rest .same p n (c .0, (⊎-elim (λ l. inl (omega arith)) (λ l. inr (omega arith)) (c .1 .0), tt)) })
 

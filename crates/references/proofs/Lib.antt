@@ -2,6 +2,7 @@ pub mod Refusals
 pub mod NameBounds
 pub mod DeclarationBounds
 pub mod ReferenceLaws
+pub mod NumberLaws
 pub mod TargetLaws
 pub mod VisitedLaws
 pub mod KeyLaws

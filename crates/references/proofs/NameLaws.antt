@@ -13,18 +13,25 @@ use Rattle.tlv.specs.Model.{CompilationUnit, Entry, Attribute}
 use Rattle.tlv.specs.Places.{unitHere, entryHere}
 use Rattle.tlv.specs.Table.{Kept}
 use Rattle.tlv.proofs.TableLaws.{kept-refl, kept-trans}
+use Rattle.files.specs.Pieces.{sourceIn}
 use Rattle.references.specs.declared.tables.Tables.{Tables}
 use Rattle.references.specs.declared.names.EntryAt.{EntryAt}
 use Rattle.references.specs.declared.names.OffsetAt.{OffsetAt}
 use Rattle.references.specs.declared.names.Way.{Way}
+use Rattle.references.specs.declared.names.FoundName.{FoundName}
 use Rattle.references.specs.Search.{Dwarf, Trail, Followed, emptyTrail, attribute, follow, placeIn, originAttributes, nameAttributes, ownName, Named, nameAtTarget, referencedName, resolveNameInner, resolveNamed, resolveName, resolveReferenceName}
-use Rattle.references.specs.Tables.{sourceIn, EntryKnown, OwnNamed, bytesGiven}
+use Rattle.references.specs.Tables.{EntryKnown, OwnNamed, bytesGiven}
 use Rattle.references.specs.Keys.{keysAt, keyIn, Pushed, possibleKeys}
-use Rattle.references.specs.Names.{dwarfOf, searchSource, placeAt, startAt, Stands, trailAt, SearchIn, followFrom, Ways, isAnswer, namedGiven, Gives, resolveAbsoluteName, nameFrom, origins, referenceName, Resolved}
+use Rattle.references.specs.Names.{dwarfOf, searchSource, placeAt, startAt, Stands, trailAt, SearchIn, followFrom, Ways, isAnswer, namedGiven, Gives, resolveAbsoluteName, foundName, referenceName, Resolved}
 use Rattle.references.proofs.FollowLaws.{push-room, push-search}
 use Rattle.references.proofs.GivesLaws.{gives-here, gives-nothing, gives-refused, gives-after, gives-pushed, bind-assoc, no-answer, own-ends, name-ends, name-goes, name-bytes}
 
 -- ---- the name that one reference leads to, by the way that it leads
+
+-- the name that the attribute of a name of an entry leads to; k is the limit less the depth
+unfoldable pub referredName : ℕ → List ℕ → List ℕ → EntryAt → ℕ → Trail → Outcome Named
+referredName k main supplementary at name t =
+    followFrom main supplementary at name t >>= λ f. nameAtTarget (resolveNameInner k (dwarfOf main supplementary)) (f .trail) (f .target)
 
 -- the answer is a way
 pub way-is : {f : Trail → Outcome Followed} {main supplementary w : List ℕ} {x : Tables} {n depth : ℕ} {r q : Way} → Ways f main supplementary w x n depth r → r ≡ q
@@ -33,13 +40,13 @@ way-is W e = rw e at W
 
 module _ {main supplementary w : List ℕ} {x : Tables} {n : ℕ} {r : Way} (at : EntryAt) (name : ℕ) (S : SearchIn main supplementary w x n)
     (W : Ways (followFrom main supplementary at name) main supplementary w x n (at .depth) r) where
-  pub from-nothing : {st : ℕ} (k : ℕ) → r ≡ Way.Nothing → st ≡ 0 → Gives (nameFrom k main supplementary at name) main supplementary x w n w n st []
-  unfolding nameFrom _>>=_
-  from-nothing k to z = gives-nothing (nameFrom k main supplementary at name) S z (λ j. rw (way-is W to .is j))
+  pub from-nothing : {st : ℕ} (k : ℕ) → r ≡ Way.Nothing → st ≡ 0 → Gives (referredName k main supplementary at name) main supplementary x w n w n st []
+  unfolding referredName _>>=_
+  from-nothing k to z = gives-nothing (referredName k main supplementary at name) S z (λ j. rw (way-is W to .is j))
 
-  pub from-refused : {bytes : List ℕ} (k st : ℕ) → r ≡ Way.Refused st → Gives (nameFrom k main supplementary at name) main supplementary x w n w n st bytes
-  unfolding nameFrom _>>=_
-  from-refused k st to = let N = way-is W to .is in gives-refused (nameFrom k main supplementary at name) S (N .0) (λ j. rw (N .1 j))
+  pub from-refused : {bytes : List ℕ} (k st : ℕ) → r ≡ Way.Refused st → Gives (referredName k main supplementary at name) main supplementary x w n w n st bytes
+  unfolding referredName _>>=_
+  from-refused k st to = let N = way-is W to .is in gives-refused (referredName k main supplementary at name) S (N .0) (λ j. rw (N .1 j))
 
   module _ (next : EntryAt) (target : ℕ) (to : r ≡ Way.Entry next target) where
     pub entry-room : x .keys + n * 9 + 9 ≤ length w
@@ -57,20 +64,20 @@ module _ {main supplementary w : List ℕ} {x : Tables} {n : ℕ} {r : Way} (at 
 
       pub from-entry : {w₂ bytes : List ℕ} {n₂ st : ℕ}
           → Gives (resolveNameInner (64 - next .depth) (dwarfOf main supplementary) (placeAt main supplementary next)) main supplementary x w₁ (n + 1) w₂ n₂ st bytes
-          → Gives (nameFrom (64 - (at .depth + 1)) main supplementary at name) main supplementary x w n w₂ n₂ st bytes
-      unfolding nameFrom _>>=_
+          → Gives (referredName (64 - (at .depth + 1)) main supplementary at name) main supplementary x w n w₂ n₂ st bytes
+      unfolding referredName _>>=_
       from-entry G =
           let N = way-is W to .is in
-          gives-pushed S (N .possible) (N .new) P (nameFrom (64 - (at .depth + 1)) main supplementary at name)
+          gives-pushed S (N .possible) (N .new) P (referredName (64 - (at .depth + 1)) main supplementary at name)
           (resolveNameInner (64 - (at .depth + 1)) (dwarfOf main supplementary) (placeAt main supplementary next)) (λ j. rw (N .is j)) (rw (N .deeper) at G)
 
   pub from-offset : (next : OffsetAt) → r ≡ Way.Offset next → {w₂ bytes : List ℕ} {n₂ st : ℕ}
       → Gives (resolveAbsoluteName (64 - next .depth) (dwarfOf main supplementary) (searchSource (next .input)) (searchSource (next .source)) (next .target)) main supplementary x w n w₂ n₂ st bytes
-      → Gives (nameFrom (64 - (at .depth + 1)) main supplementary at name) main supplementary x w n w₂ n₂ st bytes
-  unfolding nameFrom resolveAbsoluteName
+      → Gives (referredName (64 - (at .depth + 1)) main supplementary at name) main supplementary x w n w₂ n₂ st bytes
+  unfolding referredName resolveAbsoluteName
   from-offset next to G =
       let N = way-is W to .is in
-      gives-after (nameFrom (64 - (at .depth + 1)) main supplementary at name)
+      gives-after (referredName (64 - (at .depth + 1)) main supplementary at name)
       (resolveAbsoluteName (64 - (at .depth + 1)) (dwarfOf main supplementary) (searchSource (next .input)) (searchSource (next .source)) (next .target)) (λ j. j)
       (kept-refl w (x .keys) (9 * length (possibleKeys main supplementary))) (λ j. rw (N .is j)) (rw (N .deeper) at G)
 
@@ -84,6 +91,11 @@ inner main supplementary at = resolveNameInner (64 - at .depth) (dwarfOf main su
 abbrev referenced : List ℕ → List ℕ → EntryAt → List ℕ → Trail → Outcome Named
 referenced main supplementary at names t =
     referencedName (resolveNameInner (64 - (at .depth + 1)) (dwarfOf main supplementary)) (dwarfOf main supplementary) (placeAt main supplementary at) names t
+
+-- the names of the references that are left, the first of them given
+unfoldable pub origins : ℕ → ℕ → List ℕ
+origins name zero = []
+origins name (suc left) = name ∷ origins 0x47 left
 
 -- left references from that of a name on are to be followed
 pub record Going (main supplementary : List ℕ) (x : Tables) (at : EntryAt) (w₀ : List ℕ) (n₀ : ℕ) (w : List ℕ) (n st name left : ℕ) : Type 0 where
@@ -138,12 +150,12 @@ origins-step name zero h = absurd (let z : ⊥ = omega arith in z)
 origins-step name (suc left) h = let z : suc left - 1 ≡ left = omega arith in rw z
 
 referenced-step : (main supplementary : List ℕ) (at : EntryAt) (name : ℕ) (names : List ℕ) (t : Trail) → referenced main supplementary at (name ∷ names) t
-    ≡ (nameFrom (64 - (at .depth + 1)) main supplementary at name t >>= λ m. cond (isEmpty (m .name)) (referenced main supplementary at names (m .trail)) (done m))
-unfolding referencedName nameFrom followFrom
+    ≡ (referredName (64 - (at .depth + 1)) main supplementary at name t >>= λ m. cond (isEmpty (m .name)) (referenced main supplementary at names (m .trail)) (done m))
+unfolding referencedName referredName followFrom
 referenced-step main supplementary at name names t = sym (bind-assoc (follow (dwarfOf main supplementary) (placeAt main supplementary at) t (attribute (placeAt main supplementary at .entry) name)) _ _)
 
 module _ {main supplementary w₀ w w₁ bytes : List ℕ} {x : Tables} {at : EntryAt} {n₀ n n₁ st₀ st name left : ℕ} {v : Bool} (G : Going main supplementary x at w₀ n₀ w n st₀ name left) (more : 0 < left)
-    (T : Gives (nameFrom (64 - (at .depth + 1)) main supplementary at name) main supplementary x w n w₁ n₁ st bytes) (e : v ≡ isAnswer st bytes) where
+    (T : Gives (referredName (64 - (at .depth + 1)) main supplementary at name) main supplementary x w n w₁ n₁ st bytes) (e : v ≡ isAnswer st bytes) where
   turn : (k : ℕ) → inner main supplementary at (trailAt w₀ (x .keys) n₀ k)
       ≡ (namedGiven st (trailAt w₁ (x .keys) n₁ (T .reads (G .reads k))) bytes >>= λ m. cond (isEmpty (m .name)) (referenced main supplementary at (origins 0x47 (left - 1)) (m .trail)) (done m))
   turn k =
@@ -223,9 +235,9 @@ module _ {main supplementary : List ℕ} (q p : ℕ) {at : EntryAt} (is : at ≡
         rest = H .rest;
       }
 
-  pub resolved-reference : {w w′ bytes : List ℕ} {x : Tables} {n′ st : ℕ} (name : ℕ) → Gives (nameFrom (64 - (at .depth + 1)) main supplementary at name) main supplementary x w 0 w′ n′ st bytes
+  pub resolved-reference : {w w′ bytes : List ℕ} {x : Tables} {n′ st : ℕ} (name : ℕ) → Gives (referredName (64 - (at .depth + 1)) main supplementary at name) main supplementary x w 0 w′ n′ st bytes
       → Resolved main supplementary x w w′ (referenceName (dwarfOf main supplementary) (unitHere main q) (entryHere main p) (attribute (entryHere main p) name)) st bytes
-  unfolding nameFrom followFrom keysAt
+  unfolding referredName followFrom keysAt
   resolved-reference {w} {w′} {bytes} {x} {n′} {st} name G =
       let H = rw is at G in
       let t = trailAt w′ (x .keys) n′ (H .reads 1) in
@@ -233,3 +245,22 @@ module _ {main supplementary : List ℕ} (q p : ℕ) {at : EntryAt} (is : at ≡
         is = sym (reference-name (dwarfOf main supplementary) (unitHere main q) (entryHere main p) (attribute (entryHere main p) name) ∙ ap (λ (o : Outcome Named). o >>= λ m. done (m .name)) (H .is 1) ∙ name-bytes st bytes t);
         rest = H .rest;
       }
+
+-- ---- what was found by its bytes
+
+pub found-none : (name : List ℕ) → length name ≡ 0 → FoundName.Missing ≡ foundName name
+found-none [] e = refl
+found-none (b ∷ bs) e = absurd (omega arith)
+
+pub found-some : (name : List ℕ) → (length name ≡ 0 → ⊥) → FoundName.Found (length name) ≡ foundName name
+found-some [] h = absurd (h refl)
+found-some (b ∷ bs) h = refl
+
+-- and the other way
+pub found-length : (name : List ℕ) {r : FoundName} {n : ℕ} → r ≡ foundName name → r ≡ FoundName.Found n → length name ≡ 0 → ⊥
+found-length [] is found e = let z : _≡_ {A = ℕ} 0 1 = cc in omega arith
+found-length (b ∷ bs) is found e = omega arith
+
+pub missing-length : (name : List ℕ) {r : FoundName} → r ≡ foundName name → r ≡ FoundName.Missing → length name ≡ 0
+missing-length [] is missing = refl
+missing-length (b ∷ bs) is missing = let z : _≡_ {A = ℕ} 0 1 = cc in absurd (omega arith)

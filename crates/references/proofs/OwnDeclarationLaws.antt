@@ -32,7 +32,7 @@ use Rattle.lines.specs.Files.{FileTable, FileIndices, get}
 use Rattle.files.specs.declared.pieces.FileUnit.{FileUnit}
 use Rattle.files.specs.declared.index.FileNumber.{FileNumber}
 use Rattle.files.specs.declared.index.FoundIndex.{FoundIndex}
-use Rattle.files.specs.Pieces.{sourceIn as sheetOf, orHeader, headerHere, UnitPlaced, FileUnitIn, Described}
+use Rattle.files.specs.Pieces.{sourceIn, orHeader, headerHere, UnitPlaced, FileUnitIn, Described}
 use Rattle.files.specs.Store.{extent, entriesOf, tableOf, FilesIn}
 use Rattle.files.specs.Indices.{indicesIn, numberOf}
 use Rattle.files.proofs.GrownLaws.{table-kept, files-kept, grown-none}
@@ -40,10 +40,9 @@ use Rattle.references.specs.declared.names.EntryAt.{EntryAt}
 use Rattle.references.specs.declared.declarations.Places.{Places}
 use Rattle.references.specs.declared.declarations.DeclaringState.{DeclaringState}
 use Rattle.references.specs.declared.declarations.Declared.{Declared}
-use Rattle.references.specs.declared.declarations.Number.{Number}
+use Rattle.references.specs.declared.attributes.Number.{Number}
 use Rattle.references.specs.declared.declarations.OwnLine.{OwnLine}
 use Rattle.references.specs.Search.{Declaring, absoluteEntryOffset, warnDeclaration, declarationOf, ownDeclaration}
-use Rattle.references.specs.Tables.{sourceIn}
 use Rattle.files.specs.Reached.{reachedIndices, LookedUp}
 use Rattle.references.specs.Names.{placeAt, Stands}
 use Rattle.references.specs.Declarations.{reachedFiles, indicesAt, declaringAt, DeclaringIn, DeclaredState, lower, Declares}
@@ -62,10 +61,6 @@ unit-placed {s} q accepted listed =
     let l = placed-unit s q _ 0x10 (u .start) (u .len) (u .next) (u .placed) refl (u .is) refl in
     let behind : u .next ≡ q + 21 = omega arith in
     record { placed = u .placed; is = rw (w .0, l, behind) at (u .is) }
-
-pub same-source : (main supplementary : List ℕ) (input : DebugSource) → sourceIn main supplementary input ≡ sheetOf main supplementary input
-same-source main supplementary DebugSource.Main = refl
-same-source main supplementary DebugSource.Supplementary = refl
 
 module _ {main supplementary w : List ℕ} {d : Places} {st : DeclaringState} (D : DeclaringIn main supplementary w d st) where
   pub accepted-at : (input : DebugSource) → Placed (sourceIn main supplementary input) 0
@@ -132,11 +127,11 @@ module _ {main supplementary w : List ℕ} {d : Places} {st : DeclaringState} (D
         pub described-table : tableOf main supplementary w₁ (st .table) ≡ tableOf main supplementary w (st .table)
         described-table = table-kept (D .files) (but-one (B .rest)) described-clear
 
-        pub described-unit : FileUnitIn (sheetOf main supplementary input) w₁ u
-        described-unit = rw (is, same-source main supplementary input) at (B .unit)
+        pub described-unit : FileUnitIn (sourceIn main supplementary input) w₁ u
+        described-unit = rw is at (B .unit)
 
-        pub described-placed : UnitPlaced (sheetOf main supplementary input) (u .place)
-        described-placed = rw (B .place) (rw (same-source main supplementary input) at (U .placed))
+        pub described-placed : UnitPlaced (sourceIn main supplementary input) (u .place)
+        described-placed = rw (B .place) (U .placed)
 
         pub described-room : u .«directory_count» * 8 + 5 * (1 + length (unitHere (sourceIn main supplementary input) q .files)) ≤ d .room
         described-room =
@@ -147,13 +142,13 @@ module _ {main supplementary w : List ℕ} {d : Places} {st : DeclaringState} (D
         pub described-rest : KeptBut w w₁ (lower d (st .table))
         described-rest = let a = described-room in but-of (B .rest) (there (here (omega arith) (omega arith)))
 
-        pub number-looked : {w₂ : List ℕ} {n : FileNumber} {r : FoundIndex} → LookedUp main supplementary w₁ w₂ (st .table) (sheetOf main supplementary input) u n r
+        pub number-looked : {w₂ : List ℕ} {n : FileNumber} {r : FoundIndex} → LookedUp main supplementary w₁ w₂ (st .table) (sourceIn main supplementary input) u n r
             → Numbered main supplementary w w₂ d st (reachedFiles (unitHere (sourceIn main supplementary input) q) (unitHere (sourceIn main supplementary input) q .header) (tableOf main supplementary w (st .table))) n r
         unfolding headerHere
         number-looked {n = n} L =
             let S = sourceIn main supplementary input in
             record {
-              is-number = rw (B .place, ← same-source main supplementary input, described-table, some-header (unitHere S q) (unitHere S q .header) (tableOf main supplementary w (st .table)) (rw is at (sym e ∙ not-so))) at (L .is);
+              is-number = rw (B .place, described-table, some-header (unitHere S q) (unitHere S q .header) (tableOf main supplementary w (st .table)) (rw is at (sym e ∙ not-so))) at (L .is);
               same = L .same ∙ described-table;
               holds = L .holds;
               rest = but-trans described-rest (but-of (L .rest) (here (omega arith) (omega arith)));

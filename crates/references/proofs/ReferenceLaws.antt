@@ -143,7 +143,7 @@ value-reference s (Value.Address n) = refl
 value-reference s Value.Failed = refl
 
 -- a statement of the kind of an attribute, by cases
-by-kind : (C : ℕ → Type 0) (k : ℕ) → C 1 → C 2 → C 3 → C 4 → C 5 → C 6 → C 7 → C 8 → C 9
+pub by-kind : (C : ℕ → Type 0) (k : ℕ) → C 1 → C 2 → C 3 → C 4 → C 5 → C 6 → C 7 → C 8 → C 9
     → (eqb k 1 ≡ false → eqb k 2 ≡ false → eqb k 3 ≡ false → eqb k 4 ≡ false → eqb k 5 ≡ false → eqb k 6 ≡ false → eqb k 7 ≡ false → eqb k 8 ≡ false → eqb k 9 ≡ false → C k) → C k
 by-kind C k c1 c2 c3 c4 c5 c6 c7 c8 c9 other =
     either (eqb k 1) (λ y. rw (eqb-true k 1 y) c1) (λ n1.
@@ -157,7 +157,7 @@ by-kind C k c1 c2 c3 c4 c5 c6 c7 c8 c9 other =
     either (eqb k 9) (λ y. rw (eqb-true k 9 y) c9) (λ n9. other n1 n2 n3 n4 n5 n6 n7 n8 n9)))))))))
 
 -- an attribute of another kind
-abbrev ofKind : Attribute → ℕ → Attribute
+abbrev pub ofKind : Attribute → ℕ → Attribute
 ofKind a k = record { name = a .name; kind = k; value = a .value; text = a .text }
 
 meaning-reference : (o : Option Attribute) → referenceMeant (meaningOf o) ≡ referenceOf o

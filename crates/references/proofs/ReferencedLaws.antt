@@ -15,6 +15,7 @@ use Rattle.tlv.proofs.OutcomeLaws.{Gives, gives}
 use Rattle.tlv.proofs.BufferLaws.{put-none}
 use Rattle.tlv.proofs.TableLaws.{but-refl, but-trans}
 use Rattle.lines.specs.Files.{FileTable, FileIndices}
+use Rattle.files.specs.Pieces.{sourceIn}
 use Rattle.files.specs.declared.store.StoredFiles.{StoredFiles}
 use Rattle.files.specs.Store.{entriesOf, tableOf}
 use Rattle.files.proofs.GrownLaws.{grown-trans}
@@ -27,7 +28,6 @@ use Rattle.references.specs.declared.declarations.Declared.{Declared}
 use Rattle.references.specs.declared.declarations.Joined.{Joined}
 use Rattle.references.specs.declared.declarations.Aim.{Aim}
 use Rattle.references.specs.Search.{DieKey, sameKey, Followed, Target, nothing, sameUnit, byOffset, Declaring, DeclarationSearch, withTrail, declarationAtTarget, resolveDeclaration}
-use Rattle.references.specs.Tables.{sourceIn}
 use Rattle.references.specs.Keys.{keysAt, keyIn, Pushed, PossibleKey}
 use Rattle.references.specs.Names.{dwarfOf, searchSource, placeAt, trailAt, followFrom, EntryNext, OffsetNext, Ways, Aims}
 use Rattle.references.specs.Declarations.{indicesAt, declaringAt, DeclaringIn, DeclaredState, searched, Declares, Reaching, resolveReference, resolveAbsolute}

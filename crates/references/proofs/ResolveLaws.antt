@@ -1,5 +1,5 @@
 -- The members of the declaration search's cycle: the ways through an entry, a reference and an offset of a section. Assumes nothing.
-use mathlib.Core.Path.{_≡_, refl}
+use mathlib.Core.Path.{_≡_, refl, sym}
 use mathlib.Core.Bool.{Bool, true, false, cond}
 use mathlib.Core.List.{List, [], _∷_}
 use mathlib.Core.Option.{Option, none, some}
@@ -9,7 +9,7 @@ use types.Run.{OneOf}
 use denote.Enum.Declared.{tagOf}
 use lib.Dec.{eqb}
 use lib.ListN.{length}
-use Rattle.tlv.specs.Outcome.{Outcome, refused, done, _>>=_}
+use Rattle.tlv.specs.Outcome.{Outcome, refused, done}
 use Rattle.tlv.specs.Buffer.{top}
 use Rattle.tlv.specs.Table.{KeptBut}
 use Rattle.tlv.specs.Model.{CompilationUnit, Attribute, LineHeader}
@@ -30,6 +30,7 @@ use Rattle.references.specs.Names.{dwarfOf, placeAt, startAt, followFrom
 use Rattle.references.specs.Declarations.{reachedFiles, ReachedUnit, indicesAt, declaringAt, DeclaringIn, Declares, searched, Reaching, resolveReference}
 use Rattle.references.proofs.declarations.Declared.{the-type}
 use Rattle.files.proofs.ReachedLaws.{reached-grown}
+use Rattle.references.proofs.GivesLaws.{bind-assoc}
 use Rattle.references.proofs.DeclareFrames.{searched-map}
 use Rattle.references.proofs.DeclareLaws.{declares-missing, declares-as, andThen, then-missing, then-stop, then-last}
 
@@ -126,11 +127,6 @@ module _ {main supplementary w w′ files files′ : List ℕ} {d : Places} {st 
 
 -- ---- an entry
 
-bind-assoc : {A B C : Type 0} (x : Outcome A) (f : A → Outcome B) (g : B → Outcome C) → (x >>= λ a. f a >>= g) ≡ ((x >>= f) >>= g)
-unfolding _>>=_
-bind-assoc (refused n) f g = refl
-bind-assoc (done a) f g = refl
-
 module _ {main supplementary w : List ℕ} {d : Places} {st : DeclaringState} (D : DeclaringIn main supplementary w d st) {at : EntryAt} {reached : Bool}
     (R : Reaching main supplementary w st at reached) where
   pub resolve-deep : {files warnings : List ℕ} → length files < top → length warnings < top → 64 ≤ at .depth
@@ -154,7 +150,7 @@ module _ {main supplementary w : List ℕ} {d : Places} {st : DeclaringState} (D
         (referencedDeclaration (resolveDeclaration (64 - (at .depth + 1)) (dwarfOf main supplementary)) (dwarfOf main supplementary) (placeAt main supplementary at)
         (indicesAt main supplementary w d st (at .input) (at .unit) reached) ns) x
     unfolding referencedDeclaration resolveReference followFrom
-    turn n ns x = bind-assoc _ _ _
+    turn n ns x = sym (bind-assoc _ _ _)
 
     none-left : (x : Declaring) → referencedDeclaration (resolveDeclaration (64 - (at .depth + 1)) (dwarfOf main supplementary)) (dwarfOf main supplementary) (placeAt main supplementary at)
         (indicesAt main supplementary w d st (at .input) (at .unit) reached) [] x ≡ done x

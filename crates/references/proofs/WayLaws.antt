@@ -22,13 +22,14 @@ use Rattle.tlv.specs.Units.{indexedUnit, unitOf24}
 use Rattle.tlv.proofs.IndexModel.{either}
 use Rattle.tlv.proofs.RecordLaws.{records-length}
 use Rattle.tlv.proofs.UnitPlaceLaws.{units-places}
+use Rattle.files.specs.Pieces.{sourceIn}
 use Rattle.references.specs.declared.tables.Tables.{Tables}
 use Rattle.references.specs.declared.tables.Target.{Target}
 use Rattle.references.specs.declared.attributes.Reference.{Reference}
 use Rattle.references.specs.declared.names.EntryAt.{EntryAt}
 use Rattle.references.specs.declared.names.Way.{Way}
 use Rattle.references.specs.Search.{Dwarf, Place, Trail, DieKey, sameKey, mainSource, isVisited, visitEntry, attribute, absoluteEntryOffset, entryAt, Followed, sameUnit, followedNothing, followUnit, followAbsolute, followSupplementary, follow}
-use Rattle.references.specs.Tables.{sourceIn, EntryKnown, referenceOf, LeadsIn}
+use Rattle.references.specs.Tables.{EntryKnown, referenceOf, LeadsIn}
 use Rattle.references.specs.Keys.{keysAt, keyIn, PossibleKey}
 use Rattle.references.specs.Names.{dwarfOf, searchSource, placeAt, Sourced, Stands, SearchIn, followUnitFrom, followFrom, Ways}
 use Rattle.references.proofs.tables.Target.{the-type}

@@ -15,6 +15,7 @@ use Rattle.tlv.specs.Model.{CompilationUnit, LineHeader}
 use Rattle.tlv.specs.Places.{unitHere, unitPlaces}
 use Rattle.tlv.specs.Output.{Warning, warningsBytes}
 use Rattle.lines.specs.Files.{FileTable, FileIndices}
+use Rattle.files.specs.Pieces.{sourceIn}
 use Rattle.files.specs.declared.store.StoredFiles.{StoredFiles}
 use Rattle.files.specs.Store.{extent, tableOf, FilesIn, Grown}
 use Rattle.files.specs.Indices.{indicesIn}
@@ -25,7 +26,6 @@ use Rattle.references.specs.declared.declarations.Declared.{Declared}
 use Rattle.references.specs.declared.names.EntryAt.{EntryAt}
 use Rattle.references.specs.declared.names.OffsetAt.{OffsetAt}
 use Rattle.references.specs.Search.{Declaring, withFound, withTrail, followAbsolute, declarationAtTarget, resolveDeclaration}
-use Rattle.references.specs.Tables.{sourceIn}
 use Rattle.references.specs.Keys.{possibleKeys}
 use Rattle.references.specs.Names.{trailAt, SearchIn, dwarfOf, searchSource, followFrom}
 

@@ -3,9 +3,7 @@ use Prim.Native.Nat.{ℕ, _<_}
 use mathlib.Core.Path.{_≡_}
 use mathlib.Core.Bool.{false}
 use mathlib.Core.List.{List, [], _∷_, _++_}
-use mathlib.Core.Option.{Option, none, some}
 use lib.ListN.{length}
-use Rattle.tlv.specs.declared.access.Value.{Value}
 use Rattle.tlv.specs.Outcome.{Outcome, refused, done}
 use Rattle.tlv.specs.Lists.{Any, exists}
 use Rattle.tlv.specs.Bytes.{bytesOf}
@@ -27,7 +25,7 @@ use Rattle.references.specs.declared.names.OffsetAt.{OffsetAt}
 use Rattle.references.specs.declared.declarations.Places.{Places}
 use Rattle.references.specs.declared.declarations.DeclaringState.{DeclaringState}
 use Rattle.references.specs.declared.declarations.Declared.{Declared}
-use Rattle.references.specs.declared.declarations.Number.{Number}
+use Rattle.references.specs.declared.attributes.Number.{Number}
 use Rattle.references.specs.declared.declarations.OwnLine.{OwnLine}
 use Rattle.references.specs.declared.declarations.Joined.{Joined}
 use Rattle.references.specs.declared.declarations.Aim.{Aim}
@@ -37,38 +35,6 @@ use Rattle.references.specs.Names.{dwarfOf, searchSource, placeAt, trail
 use Rattle.references.specs.Declarations.{reachedFiles, ReachedUnit, lower, Declares}
 
 -- ---- the file number and the line of an entry
-
-abbrev pub numberGiven : Number → Option ℕ
-numberGiven Number.Missing = none
-numberGiven (Number.Is n) = some n
-
--- the file number that a value is
-abbrev pub fileValue : Value → Number
-fileValue Value.Absent = Number.Missing
-fileValue (Value.Unsigned n) = Number.Is n
-fileValue (Value.FileNumber n) = Number.Is n
-fileValue (Value.Text start len) = Number.Missing
-fileValue (Value.UnitReference n) = Number.Missing
-fileValue (Value.SectionReference n) = Number.Missing
-fileValue (Value.SupplementaryReference n) = Number.Missing
-fileValue (Value.SectionOffset n) = Number.Missing
-fileValue (Value.LineOffset n) = Number.Missing
-fileValue (Value.Address n) = Number.Missing
-fileValue Value.Failed = Number.Missing
-
--- the line that a value is
-abbrev pub lineValue : Value → Number
-lineValue Value.Absent = Number.Missing
-lineValue (Value.Unsigned n) = Number.Is n
-lineValue (Value.FileNumber n) = Number.Missing
-lineValue (Value.Text start len) = Number.Missing
-lineValue (Value.UnitReference n) = Number.Missing
-lineValue (Value.SectionReference n) = Number.Missing
-lineValue (Value.SupplementaryReference n) = Number.Missing
-lineValue (Value.SectionOffset n) = Number.Missing
-lineValue (Value.LineOffset n) = Number.Missing
-lineValue (Value.Address n) = Number.Missing
-lineValue Value.Failed = Number.Missing
 
 -- what a file number and a line make of the entry's own declaration
 abbrev pub declaredBy : CompilationUnit → List ℕ → ℕ → FileIndices → OwnLine → Declaring → Outcome Declaring

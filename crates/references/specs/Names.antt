@@ -1,5 +1,5 @@
 -- What the name searches promise: the name as a part of a sheet, the followed targets in the work slice. Assumes nothing.
-use Prim.Native.Nat.{ℕ, zero, suc, _+_, _-_, _*_, _≤_}
+use Prim.Native.Nat.{ℕ, _+_, _*_, _≤_}
 use mathlib.Core.Path.{_≡_}
 use mathlib.Core.Bool.{Bool, true, false, cond, not}
 use mathlib.Core.List.{List, [], _∷_}
@@ -12,13 +12,15 @@ use Rattle.tlv.specs.Lists.{exists, isEmpty}
 use Rattle.tlv.specs.Table.{Kept}
 use Rattle.tlv.specs.Model.{CompilationUnit, Entry, Attribute, units}
 use Rattle.tlv.specs.Places.{entryHere, unitHere}
+use Rattle.files.specs.Pieces.{sourceIn}
 use Rattle.references.specs.declared.tables.Index.{Index}
 use Rattle.references.specs.declared.tables.Tables.{Tables}
 use Rattle.references.specs.declared.names.EntryAt.{EntryAt}
 use Rattle.references.specs.declared.names.OffsetAt.{OffsetAt}
 use Rattle.references.specs.declared.names.Way.{Way}
+use Rattle.references.specs.declared.names.FoundName.{FoundName}
 use Rattle.references.specs.Search.{Dwarf, mainSource, supplementarySource, Place, Trail, sameKey, visitEntry, Followed, sameUnit, followedNothing, attribute, followUnit, followAbsolute, follow, Named, nameAtTarget, resolveNameInner, resolveReferenceName}
-use Rattle.references.specs.Tables.{sourceIn, IndexIn, EntryKnown, bytesGiven}
+use Rattle.references.specs.Tables.{IndexIn, EntryKnown, bytesGiven}
 use Rattle.references.specs.Keys.{keysAt, keyIn, possibleKeys, PossibleKey, KeysIn}
 
 -- the units of both sheets
@@ -118,6 +120,11 @@ pub record Ways (f : Trail → Outcome Followed) (main supplementary w : List �
 unfoldable pub isAnswer : ℕ → List ℕ → Bool
 isAnswer st r = cond (eqb st 0) (not (isEmpty r)) true
 
+-- what was found by its bytes: no bytes are no name
+abbrev pub foundName : List ℕ → FoundName
+foundName [] = FoundName.Missing
+foundName (b ∷ bs) = FoundName.Found (length (b ∷ bs))
+
 -- the answer that a status, a trail and bytes stand for
 unfoldable pub namedGiven : ℕ → Trail → List ℕ → Outcome Named
 namedGiven st t r = cond (eqb st 0) (done (record { trail = t; name = r })) (refused st)
@@ -133,16 +140,6 @@ pub record Gives (f : Trail → Outcome Named) (main supplementary : List ℕ) (
 unfoldable pub resolveAbsoluteName : ℕ → Dwarf → Rattle.references.specs.Search.DebugSource → Rattle.references.specs.Search.DebugSource → ℕ → Trail → Outcome Named
 resolveAbsoluteName k d input source target t =
     followAbsolute d input source t target >>= λ f. nameAtTarget (resolveNameInner k d) (f .trail) (f .target)
-
--- the name that the attribute of a name of an entry leads to; k is the limit less the depth
-unfoldable pub nameFrom : ℕ → List ℕ → List ℕ → EntryAt → ℕ → Trail → Outcome Named
-nameFrom k main supplementary at name t =
-    followFrom main supplementary at name t >>= λ f. nameAtTarget (resolveNameInner k (dwarfOf main supplementary)) (f .trail) (f .target)
-
--- the names of the references that are left, the first of them given
-unfoldable pub origins : ℕ → ℕ → List ℕ
-origins name zero = []
-origins name (suc left) = name ∷ origins 0x47 left
 
 -- the name that an attribute refers to, where there is one
 abbrev pub referenceName : Dwarf → CompilationUnit → Entry → Option Attribute → Outcome (List ℕ)

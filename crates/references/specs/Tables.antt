@@ -6,7 +6,6 @@ use mathlib.Core.List.{List, map}
 use mathlib.Core.Option.{Option, none, some}
 use lib.Dec.{eqb}
 use lib.ListN.{length}
-use Rattle.tlv.specs.declared.model.DebugSource.{DebugSource}
 use Rattle.tlv.specs.declared.access.Value.{Value}
 use Rattle.tlv.specs.Outcome.{Outcome, refused, done}
 use Rattle.tlv.specs.Lists.{Any}
@@ -20,12 +19,8 @@ use Rattle.tlv.specs.Units.{indexedUnit, unitOf24}
 use Rattle.references.specs.declared.tables.Index.{Index}
 use Rattle.references.specs.declared.tables.Target.{Target}
 use Rattle.references.specs.declared.attributes.Reference.{Reference}
+use Rattle.references.specs.declared.attributes.Number.{Number}
 use Rattle.references.specs.Search.{attribute, ifEmpty, nameFrom, ownName, nameAttributes, entryAt, unitContaining}
-
--- the sheet of a source
-abbrev pub sourceIn : List ℕ → List ℕ → DebugSource → List ℕ
-sourceIn main supplementary DebugSource.Main = main
-sourceIn main supplementary DebugSource.Supplementary = supplementary
 
 -- a sheet that the grammar accepts, whose units and entries stand in tables
 pub record IndexIn (s w : List ℕ) (x : Index) : Type 0 where
@@ -86,6 +81,39 @@ referenceIn (Value.SectionOffset n) = Reference.Missing
 referenceIn (Value.LineOffset n) = Reference.Missing
 referenceIn (Value.Address n) = Reference.Missing
 referenceIn Value.Failed = Reference.Missing
+
+-- a number, where there is one
+abbrev pub numberGiven : Option ℕ → Number
+numberGiven none = Number.Missing
+numberGiven (some n) = Number.Is n
+
+-- the file number that a value is
+abbrev pub fileNumberIn : Value → Number
+fileNumberIn Value.Absent = Number.Missing
+fileNumberIn (Value.Unsigned n) = Number.Is n
+fileNumberIn (Value.FileNumber n) = Number.Is n
+fileNumberIn (Value.Text start len) = Number.Missing
+fileNumberIn (Value.UnitReference n) = Number.Missing
+fileNumberIn (Value.SectionReference n) = Number.Missing
+fileNumberIn (Value.SupplementaryReference n) = Number.Missing
+fileNumberIn (Value.SectionOffset n) = Number.Missing
+fileNumberIn (Value.LineOffset n) = Number.Missing
+fileNumberIn (Value.Address n) = Number.Missing
+fileNumberIn Value.Failed = Number.Missing
+
+-- the line that a value is
+abbrev pub lineNumberIn : Value → Number
+lineNumberIn Value.Absent = Number.Missing
+lineNumberIn (Value.Unsigned n) = Number.Is n
+lineNumberIn (Value.FileNumber n) = Number.Missing
+lineNumberIn (Value.Text start len) = Number.Missing
+lineNumberIn (Value.UnitReference n) = Number.Missing
+lineNumberIn (Value.SectionReference n) = Number.Missing
+lineNumberIn (Value.SupplementaryReference n) = Number.Missing
+lineNumberIn (Value.SectionOffset n) = Number.Missing
+lineNumberIn (Value.LineOffset n) = Number.Missing
+lineNumberIn (Value.Address n) = Number.Missing
+lineNumberIn Value.Failed = Number.Missing
 
 -- what a status and bytes make of the attributes of the later names: an empty name is none
 unfoldable pub nameThen : ℕ → List ℕ → Outcome (List ℕ) → Outcome (List ℕ)

@@ -1,9 +1,9 @@
-// What is read of an entry: its references, and its own name.
+// What is read of an entry: its references, its numbers, and its own name.
 ghost use mathlib.Core.Path.{_≡_};
 ghost use Rattle.tlv.specs.Checked.{Placed};
 ghost use Rattle.tlv.specs.Places.{entryHere};
-ghost use Rattle.references.specs.Search.{attribute};
-ghost use Rattle.references.specs.Tables.{EntryKnown, referenceOf, referenceIn, NameRead, OwnNamed};
+ghost use Rattle.references.specs.Search.{attribute, unsignedAttribute, fileIndexAttribute};
+ghost use Rattle.references.specs.Tables.{EntryKnown, referenceOf, referenceIn, numberGiven, fileNumberIn, lineNumberIn, NameRead, OwnNamed};
 use tlv::access::Value;
 use tlv::access::attribute;
 
@@ -13,6 +13,12 @@ pub enum Reference {
     Unit(u64),
     Section(u64),
     Supplementary(u64),
+}
+
+// A number that an attribute is, where it is one.
+pub enum Number {
+    Missing,
+    Is(u64),
 }
 
 // The reference that a value is.
@@ -41,6 +47,62 @@ pub fn reference_at(s: &[u8], unit: usize, p: usize, name: u16) -> Reference
     ensures { λ r. ⌜ r ≡ referenceOf (attribute (entryHere (now (s .entry)) p) name) ⌝ }
 {
     reference_of(attribute(s, p + 15, name))
+}
+
+// The file number that a value is.
+fn file_number_in(v: Value) -> Number
+    ensures { λ r. ⌜ r ≡ fileNumberIn v ⌝ }
+{
+    match v {
+        Value::Absent => Number::Missing,
+        Value::Unsigned(n) => Number::Is(n),
+        Value::FileNumber(n) => Number::Is(n),
+        Value::Text { start: _, len: _ } => Number::Missing,
+        Value::UnitReference(_) => Number::Missing,
+        Value::SectionReference(_) => Number::Missing,
+        Value::SupplementaryReference(_) => Number::Missing,
+        Value::SectionOffset(_) => Number::Missing,
+        Value::LineOffset(_) => Number::Missing,
+        Value::Address(_) => Number::Missing,
+        Value::Failed => Number::Missing,
+    }
+}
+
+// The line that a value is.
+fn line_number_in(v: Value) -> Number
+    ensures { λ r. ⌜ r ≡ lineNumberIn v ⌝ }
+{
+    match v {
+        Value::Absent => Number::Missing,
+        Value::Unsigned(n) => Number::Is(n),
+        Value::FileNumber(_) => Number::Missing,
+        Value::Text { start: _, len: _ } => Number::Missing,
+        Value::UnitReference(_) => Number::Missing,
+        Value::SectionReference(_) => Number::Missing,
+        Value::SupplementaryReference(_) => Number::Missing,
+        Value::SectionOffset(_) => Number::Missing,
+        Value::LineOffset(_) => Number::Missing,
+        Value::Address(_) => Number::Missing,
+        Value::Failed => Number::Missing,
+    }
+}
+
+// The file number that the attribute of a name of the entry at place p is.
+pub fn file_index_attribute(s: &[u8], unit: usize, p: usize, name: u16) -> Number
+    requires { ⌜ Placed (now s) 0 ⌝ }
+    requires { ⌜ EntryKnown (now s) unit p ⌝ }
+    ensures { λ r. ⌜ r ≡ numberGiven (fileIndexAttribute (entryHere (now (s .entry)) p) name) ⌝ }
+{
+    file_number_in(attribute(s, p + 15, name))
+}
+
+// The unsigned number that the attribute of a name of the entry at place p is.
+pub fn unsigned_attribute(s: &[u8], unit: usize, p: usize, name: u16) -> Number
+    requires { ⌜ Placed (now s) 0 ⌝ }
+    requires { ⌜ EntryKnown (now s) unit p ⌝ }
+    ensures { λ r. ⌜ r ≡ numberGiven (unsignedAttribute (entryHere (now (s .entry)) p) name) ⌝ }
+{
+    line_number_in(attribute(s, p + 15, name))
 }
 
 // The name that an attribute of the entry at place p is, empty where there is none; a status other than 0 is the refusal.

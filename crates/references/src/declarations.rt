@@ -5,14 +5,17 @@ ghost use Prim.Native.Nat.{_+_, _-_, _<_};
 ghost use Rattle.tlv.specs.Lists.{isNone};
 ghost use Rattle.tlv.specs.Checked.{Placed};
 ghost use Rattle.tlv.specs.Places.{unitHere, entryHere};
-ghost use Rattle.files.specs.Pieces.{UnitPlaced};
+ghost use Rattle.files.specs.Pieces.{sourceIn, UnitPlaced};
 ghost use Rattle.files.specs.Store.{tableOf};
 ghost use Rattle.files.specs.Indices.{indicesIn};
-ghost use Rattle.references.specs.Search.{absoluteEntryOffset, fileIndexAttribute, unsignedAttribute, ownDeclaration, resolveDeclaration};
-ghost use Rattle.references.specs.Tables.{sourceIn, EntryKnown};
+ghost use Rattle.references.specs.Search.{absoluteEntryOffset, ownDeclaration, resolveDeclaration};
+ghost use Rattle.references.specs.Tables.{EntryKnown};
 ghost use Rattle.references.specs.Names.{dwarfOf, placeAt, startAt, Stands, Aims, SearchIn};
 ghost use Rattle.references.specs.Declarations.{reachedFiles, indicesAt, DeclaringIn, Declares, Reaching, resolveReference, resolveAbsolute};
-ghost use Rattle.references.specs.DeclaredSteps.{numberGiven, fileValue, lineValue, OwnAt, absoluteGiven, Numbered, Warns, Owns, UnitKnown, Joins, Aimed};
+ghost use Rattle.references.specs.DeclaredSteps.{OwnAt, absoluteGiven, Numbered, Warns, Owns, UnitKnown, Joins, Aimed};
+use crate::attributes::Number;
+use crate::attributes::file_index_attribute;
+use crate::attributes::unsigned_attribute;
 use crate::keys::is_visited;
 use crate::keys::push_key;
 use crate::names::EntryAt;
@@ -30,7 +33,6 @@ use files::index::StoredIndices;
 use files::intern::InternedFiles;
 use files::lookup::look_up_file;
 use files::store::StoredFiles;
-use tlv::access::Value;
 use tlv::model::DebugSource;
 
 // The search's tables, the map of the unit that is imported, and where the spans of a unit's directories and its map are put.
@@ -59,12 +61,6 @@ pub enum Declared {
     },
 }
 
-// A number, or none.
-pub enum Number {
-    Missing,
-    Is(u64),
-}
-
 // The file number and the line that an entry has, where it has both.
 pub enum OwnLine {
     Missing,
@@ -85,71 +81,15 @@ pub enum Aim {
     Entry(EntryAt),
 }
 
-// The file number that a value is.
-fn file_in(v: Value) -> Number
-    ensures { λ r. ⌜ r ≡ fileValue v ⌝ }
-{
-    match v {
-        Value::Absent => Number::Missing,
-        Value::Unsigned(n) => Number::Is(n),
-        Value::FileNumber(n) => Number::Is(n),
-        Value::Text { start: _, len: _ } => Number::Missing,
-        Value::UnitReference(_) => Number::Missing,
-        Value::SectionReference(_) => Number::Missing,
-        Value::SupplementaryReference(_) => Number::Missing,
-        Value::SectionOffset(_) => Number::Missing,
-        Value::LineOffset(_) => Number::Missing,
-        Value::Address(_) => Number::Missing,
-        Value::Failed => Number::Missing,
-    }
-}
-
-// The line that a value is.
-fn line_in(v: Value) -> Number
-    ensures { λ r. ⌜ r ≡ lineValue v ⌝ }
-{
-    match v {
-        Value::Absent => Number::Missing,
-        Value::Unsigned(n) => Number::Is(n),
-        Value::FileNumber(_) => Number::Missing,
-        Value::Text { start: _, len: _ } => Number::Missing,
-        Value::UnitReference(_) => Number::Missing,
-        Value::SectionReference(_) => Number::Missing,
-        Value::SupplementaryReference(_) => Number::Missing,
-        Value::SectionOffset(_) => Number::Missing,
-        Value::LineOffset(_) => Number::Missing,
-        Value::Address(_) => Number::Missing,
-        Value::Failed => Number::Missing,
-    }
-}
-
-// The file number of the declaration of the entry at place p.
-fn declared_file(s: &[u8], unit: usize, p: usize) -> Number
-    requires { ⌜ Placed (now s) 0 ⌝ }
-    requires { ⌜ EntryKnown (now s) unit p ⌝ }
-    ensures { λ r. ⌜ numberGiven r ≡ fileIndexAttribute (entryHere (now (s .entry)) p) 0x3a ⌝ }
-{
-    file_in(tlv::access::attribute(s, p + 15, 0x3a))
-}
-
-// The line of the declaration of the entry at place p.
-fn declared_line(s: &[u8], unit: usize, p: usize) -> Number
-    requires { ⌜ Placed (now s) 0 ⌝ }
-    requires { ⌜ EntryKnown (now s) unit p ⌝ }
-    ensures { λ r. ⌜ numberGiven r ≡ unsignedAttribute (entryHere (now (s .entry)) p) 0x3b ⌝ }
-{
-    line_in(tlv::access::attribute(s, p + 15, 0x3b))
-}
-
 // The file number and the line of the declaration of the entry at place p.
 fn declared_at(s: &[u8], unit: usize, p: usize) -> OwnLine
     requires { ⌜ Placed (now s) 0 ⌝ }
     requires { ⌜ EntryKnown (now s) unit p ⌝ }
     ensures { λ r. ⌜ OwnAt (now (s .entry)) p r ⌝ }
 {
-    match declared_file(s, unit, p) {
+    match file_index_attribute(s, unit, p, 0x3a) {
         Number::Missing => OwnLine::Missing,
-        Number::Is(file) => match declared_line(s, unit, p) {
+        Number::Is(file) => match unsigned_attribute(s, unit, p, 0x3b) {
             Number::Missing => OwnLine::Missing,
             Number::Is(line) => OwnLine::At {
                 file: FileNumber(file),

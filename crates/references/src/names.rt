@@ -3,10 +3,11 @@ ghost use mathlib.Core.Path.{_≡_};
 ghost use Prim.Native.Nat.{_+_, _-_, _<_};
 ghost use lib.ListN.{length};
 ghost use Rattle.tlv.specs.Places.{entryHere, unitHere};
+ghost use Rattle.files.specs.Pieces.{sourceIn};
 ghost use Rattle.references.specs.Search.{attribute, resolveNameInner, resolveName};
-ghost use Rattle.references.specs.Tables.{sourceIn, EntryKnown};
+ghost use Rattle.references.specs.Tables.{EntryKnown};
 ghost use Rattle.references.specs.Keys.{keyIn, PossibleKey};
-ghost use Rattle.references.specs.Names.{dwarfOf, searchSource, indexIn, placeAt, Stands, Aims, SearchIn, followUnitFrom, followFrom, Ways, isAnswer, Gives, resolveAbsoluteName, startAt, referenceName, Resolved};
+ghost use Rattle.references.specs.Names.{dwarfOf, searchSource, indexIn, placeAt, Stands, Aims, SearchIn, followUnitFrom, followFrom, Ways, isAnswer, foundName, Gives, resolveAbsoluteName, startAt, referenceName, Resolved};
 use crate::attributes::Reference;
 use crate::attributes::own_name;
 use crate::attributes::reference_at;
@@ -44,6 +45,12 @@ pub enum Way {
     Offset(OffsetAt),
 }
 
+// A name that a search found, by its length, or none.
+pub enum FoundName {
+    Found(usize),
+    Missing,
+}
+
 // The sheet of a source.
 pub fn input_of<'a>(main: &'a [u8], supplementary: &'a [u8], input: DebugSource) -> &'a [u8]
     ensures { λ r. ⌜ now r ≡ sourceIn (now (main .entry)) (now (supplementary .entry)) input ⌝ }
@@ -73,6 +80,16 @@ fn is_answer(status: u8, name: &[u8]) -> bool
         return true;
     }
     name.len() != 0
+}
+
+// What a search found by its bytes: no bytes are no name.
+pub fn found_name(name: &[u8]) -> FoundName
+    ensures { λ r. ⌜ r ≡ foundName (now (name .entry)) ⌝ }
+{
+    if name.len() == 0 {
+        return FoundName::Missing;
+    }
+    FoundName::Found(name.len())
 }
 
 // How a search goes on from a reference to an offset of its own unit.

@@ -5,7 +5,7 @@ use native.Mathlib.Omega.{arith}
 use lib.ListN.{length}
 use borrow.Author.Needs.{needs}
 use Rattle.tlv.proofs.CursorLaws.{next-less}
-use Rattle.dies.proofs.CollectingLaws.{Collecting, collecting-start, collecting-end, collecting-cut, collecting-unit, collecting-other, depth-read, entry-known, collecting-stop, collecting-refused, collecting-entry}
+use Rattle.dies.proofs.CollectingLaws.{Collecting, collecting-start, collecting-end, collecting-cut, collecting-unit, collecting-other, entry-fields, entry-known, collecting-stop, collecting-refused, collecting-entry}
 use Rattle.dies.proofs.dies.collect_entries.Statement.{statement}
 use Rattle.dies.proofs.dies.collect_entries.Tie as tie
 
@@ -67,10 +67,10 @@ returns-3 : tie.Need-returns-3 Inv-loop μ-loop
 returns-3 c = collecting-unit (c .before .before .before .before .before .loop .inv) (c .before .before .before .before .field-at .ensures) (c .before .before .tag .given .1) (c .if1 .taken)
 
 add-read-u16 : tie.Need-add-read-u16 Inv-loop μ-loop
-add-read-u16 c = omega (arith, depth-read (c .before .before .before .before .before .before .loop .inv) (c .before .before .before .before .before .field-at .ensures) (c .before .before .before .tag .given .1) (c .if2 .taken))
+add-read-u16 c = omega (arith, entry-fields (c .before .before .before .before .before .before .loop .inv) (c .before .before .before .before .before .field-at .ensures) (c .before .before .before .tag .given .1) (c .if2 .taken))
 
 read-u16-requires : tie.Need-read-u16-requires Inv-loop μ-loop
-read-u16-requires c κs = depth-read (c .before .before .before .before .before .before .loop .inv) (c .before .before .before .before .before .field-at .ensures) (c .before .before .before .tag .given .1) (c .if2 .taken)
+read-u16-requires c κs = omega (arith, entry-fields (c .before .before .before .before .before .before .loop .inv) (c .before .before .before .before .before .field-at .ensures) (c .before .before .before .tag .given .1) (c .if2 .taken))
 
 same-length-10 : tie.Need-same-length-10 Inv-loop μ-loop
 same-length-10 c = search needs

@@ -1,6 +1,10 @@
 -- `dies::keep_node` meets its contract. Assumes nothing.
-use mathlib.Core.Path.{_∙_}
+use mathlib.Core.Path.{_≡_, sym, _∙_}
+use mathlib.Core.Bool.{Bool, true, false}
+use Prim.Native.Nat.{ℕ, _+_, _≤_, _<_}
 use native.Mathlib.Omega.{arith}
+use lib.Dec.{leb}
+use borrow.Author.Tests.{leb-true, leb-false, not-true, not-false}
 use Rattle.tlv.proofs.PlaceFacts.{slice-bytes}
 use Rattle.dies.proofs.CallLaws.{entry-read}
 use Rattle.dies.proofs.SiteStepLaws.{details-accepted, left-here}
@@ -9,6 +13,13 @@ use Rattle.dies.proofs.NodeStepLaws.{keep-file, keep-line, keep-deep, k
 use borrow.Author.Needs.{needs}
 use Rattle.dies.proofs.dies.keep_node.Statement.{statement}
 use Rattle.dies.proofs.dies.keep_node.Tie as tie
+
+-- what the test of a node's depth says of the n nodes above it
+deeper : {r : Bool} {n : ℕ} → r ≡ leb (n + 1) 256 → r ≡ false → 256 ≤ n
+deeper {n = n} is f = omega (arith, leb-false (n + 1) 256 (sym is ∙ f))
+
+not-deeper : {r : Bool} {n : ℕ} → r ≡ leb (n + 1) 256 → r ≡ true → n < 256
+not-deeper {n = n} is t = omega (arith, leb-true (n + 1) 256 (sym is ∙ t))
 
 call-file-requires : tie.Need-call-file-requires
 call-file-requires c κs = let s = c .before .before .before .before .before .before .before .before .before .before in let D = s .pre .0 in (details-accepted D, (s .pre .1 .0, omega (arith, D .indices, D .ranges, D .stack, D .sites, D .tables .keys .room)))
@@ -28,50 +39,56 @@ same-length-2 c = search needs
 returns-2 : tie.Need-returns-2
 returns-2 c = let s = c .before .before .before .before .before .before .before .before .before .before .before .before .before .before .before .before .before .before .before .before .before in keep-line _ _ _ _ (s .pre .0) (s .pre .1 .0) (s .pre .1 .1 .0) (s .pre .1 .1 .1 .0) (s .pre .1 .1 .1 .1) (c .before .before .before .before .before .before .before .before .before .before .call-file .ensures) (c .before .before .before .before .before .before .if1 .left) (c .before .before .before .before .call-line .ensures) (c .if2 .taken)
 
+add-check-inline-depth : tie.Need-add-check-inline-depth
+add-check-inline-depth c = omega (arith, c .before .before .before .before .before .before .before .before .before .before .before .before .before .before .before .before .before .before .before .before .before .before .pre .1 .1 .0 .ready .few)
+
+check-inline-depth-requires : tie.Need-check-inline-depth-requires
+check-inline-depth-requires c κs = search needs
+
 same-length-3 : tie.Need-same-length-3
 same-length-3 c = search needs
 
 returns-3 : tie.Need-returns-3
-returns-3 c = let s = c .before .before .before .before .before .before .before .before .before .before .before .before .before .before .before .before .before .before .before .before .before .before .before in keep-deep _ _ _ _ (s .pre .0) (s .pre .1 .0) (s .pre .1 .1 .0) (s .pre .1 .1 .1 .0) (s .pre .1 .1 .1 .1) (c .before .before .before .before .before .before .before .before .before .before .before .before .call-file .ensures) (c .before .before .before .before .before .before .before .before .if1 .left) (c .before .before .before .before .before .before .call-line .ensures) (c .before .before .if2 .left) (c .if3 .taken)
+returns-3 c = let s = c .before .before .before .before .before .before .before .before .before .before .before .before .before .before .before .before .before .before .before .before .before .before .before .before in keep-deep _ _ _ _ (s .pre .0) (s .pre .1 .0) (s .pre .1 .1 .0) (s .pre .1 .1 .1 .0) (s .pre .1 .1 .1 .1) (c .before .before .before .before .before .before .before .before .before .before .before .before .before .call-file .ensures) (c .before .before .before .before .before .before .before .before .before .if1 .left) (c .before .before .before .before .before .before .before .call-line .ensures) (c .before .before .before .if2 .left) (deeper (c .before .check-inline-depth .ensures) (not-true _ (c .if3 .taken)))
 
 put-root-requires : tie.Need-put-root-requires
-put-root-requires c κs = c .before .before .before .before .before .before .before .before .before .before .before .before .before .before .before .before .before .before .before .before .before .before .before .before .before .pre .1 .1 .1 .2
+put-root-requires c κs = c .before .before .before .before .before .before .before .before .before .before .before .before .before .before .before .before .before .before .before .before .before .before .before .before .before .before .pre .1 .1 .1 .2
 
 mul-from : tie.Need-mul-from
-mul-from c = let s = c .before .before .before .before .before .before .before .before .before .before .before .before .before .before .before .before .before .before .before .before .before .before .before .before .before .before .before .before .before in let D = s .pre .0 in let F = s .pre .1 .1 .0 in omega (arith, F .used, D .ranges, D .stack, D .sites, D .tables .keys .room)
+mul-from c = let s = c .before .before .before .before .before .before .before .before .before .before .before .before .before .before .before .before .before .before .before .before .before .before .before .before .before .before .before .before .before .before in let D = s .pre .0 in let F = s .pre .1 .1 .0 in omega (arith, F .used, D .ranges, D .stack, D .sites, D .tables .keys .room)
 
 add-from : tie.Need-add-from
-add-from c = let s = c .before .before .before .before .before .before .before .before .before .before .before .before .before .before .before .before .before .before .before .before .before .before .before .before .before .before .before .before .before .before in let D = s .pre .0 in let F = s .pre .1 .1 .0 in omega (arith, F .used, D .ranges, D .stack, D .sites, D .tables .keys .room)
+add-from c = let s = c .before .before .before .before .before .before .before .before .before .before .before .before .before .before .before .before .before .before .before .before .before .before .before .before .before .before .before .before .before .before .before in let D = s .pre .0 in let F = s .pre .1 .1 .0 in omega (arith, F .used, D .ranges, D .stack, D .sites, D .tables .keys .room)
 
 add-put-inline-node : tie.Need-add-put-inline-node
-add-put-inline-node c = search needs
+add-put-inline-node c = omega (arith, c .before .before .before .before .before .before .before .before .before .before .before .before .before .before .before .before .before .before .before .before .before .before .before .before .before .before .before .before .before .before .before .before .pre .1 .1 .0 .ready .few)
 
 cast-put-inline-node : tie.Need-cast-put-inline-node
-cast-put-inline-node c = search needs
+cast-put-inline-node c = omega (arith, c .before .before .before .before .before .before .before .before .before .before .before .before .before .before .before .before .before .before .before .before .before .before .before .before .before .before .before .before .before .before .before .before .pre .1 .1 .0 .ready .few)
 
 put-inline-node-requires : tie.Need-put-inline-node-requires
-put-inline-node-requires c κs = let s = c .before .before .before .before .before .before .before .before .before .before .before .before .before .before .before .before .before .before .before .before .before .before .before .before .before .before .before .before .before .before .before in let D = s .pre .0 in let F = s .pre .1 .1 .0 in (s .pre .1 .1 .1 .3, omega (arith, F .used, D .ranges, D .stack, D .sites, D .tables .keys .room))
+put-inline-node-requires c κs = let s = c .before .before .before .before .before .before .before .before .before .before .before .before .before .before .before .before .before .before .before .before .before .before .before .before .before .before .before .before .before .before .before .before in let D = s .pre .0 in let F = s .pre .1 .1 .0 in (s .pre .1 .1 .1 .3, omega (arith, F .used, D .ranges, D .stack, D .sites, D .tables .keys .room))
 
 add-read-u16 : tie.Need-add-read-u16
-add-read-u16 c = let s = c .before .before .before .before .before .before .before .before .before .before .before .before .before .before .before .before .before .before .before .before .before .before .before .before .before .before .before .before .before .before .before .before .before .before in omega (arith, entry-read (details-accepted (s .pre .0)) (s .pre .1 .0))
+add-read-u16 c = let s = c .before .before .before .before .before .before .before .before .before .before .before .before .before .before .before .before .before .before .before .before .before .before .before .before .before .before .before .before .before .before .before .before .before .before .before in omega (arith, entry-read (details-accepted (s .pre .0)) (s .pre .1 .0))
 
 read-u16-requires : tie.Need-read-u16-requires
-read-u16-requires c κs = let s = c .before .before .before .before .before .before .before .before .before .before .before .before .before .before .before .before .before .before .before .before .before .before .before .before .before .before .before .before .before .before .before .before .before .before in omega (arith, entry-read (details-accepted (s .pre .0)) (s .pre .1 .0))
+read-u16-requires c κs = let s = c .before .before .before .before .before .before .before .before .before .before .before .before .before .before .before .before .before .before .before .before .before .before .before .before .before .before .before .before .before .before .before .before .before .before .before in omega (arith, entry-read (details-accepted (s .pre .0)) (s .pre .1 .0))
 
 pushed-requires : tie.Need-pushed-requires
-pushed-requires c κs = let s = c .before .before .before .before .before .before .before .before .before .before .before .before .before .before .before .before .before .before .before .before .before .before .before .before .before .before .before .before .before .before .before .before .before .before .before in let D = s .pre .0 in let F = s .pre .1 .1 .0 in (F .ready, (c .before .before .before .before .before .before .before .before .before .before .before .before .if3 .left, omega (arith, F .used, ranges-few D (slice-bytes (c .before .before .before .before .before .before .before .before .before .before .before .before .before .before .before .before .before .before .before .before .before .before .before .before .before .before .before .before .before .before .before .before .before .before .before .args .main .now) (c .before .before .before .before .before .before .before .before .before .before .before .before .before .before .before .before .before .before .before .before .before .before .before .before .before .before .before .before .before .before .before .before .before .before .shared-slice-known .given)))))
+pushed-requires c κs = let s = c .before .before .before .before .before .before .before .before .before .before .before .before .before .before .before .before .before .before .before .before .before .before .before .before .before .before .before .before .before .before .before .before .before .before .before .before in let D = s .pre .0 in let F = s .pre .1 .1 .0 in (F .ready, ((not-deeper (c .before .before .before .before .before .before .before .before .before .before .before .before .before .check-inline-depth .ensures) (not-false _ (c .before .before .before .before .before .before .before .before .before .before .before .before .if3 .left))), omega (arith, F .used, ranges-few D (slice-bytes (c .before .before .before .before .before .before .before .before .before .before .before .before .before .before .before .before .before .before .before .before .before .before .before .before .before .before .before .before .before .before .before .before .before .before .before .before .args .main .now) (c .before .before .before .before .before .before .before .before .before .before .before .before .before .before .before .before .before .before .before .before .before .before .before .before .before .before .before .before .before .before .before .before .before .before .before .shared-slice-known .given)))))
 
 add-r : tie.Need-add-r
-add-r c = let s = c .before .before .before .before .before .before .before .before .before .before .before .before .before .before .before .before .before .before .before .before .before .before .before .before .before .before .before .before .before .before .before .before .before .before .before .before .before in let D = s .pre .0 in let F = s .pre .1 .1 .0 in omega (arith, F .nodes, D .stack, D .sites, D .tables .keys .room, left-here D (s .pre .1 .0))
+add-r c = let s = c .before .before .before .before .before .before .before .before .before .before .before .before .before .before .before .before .before .before .before .before .before .before .before .before .before .before .before .before .before .before .before .before .before .before .before .before .before .before in let D = s .pre .0 in let F = s .pre .1 .1 .0 in omega (arith, F .nodes, D .stack, D .sites, D .tables .keys .room, left-here D (s .pre .1 .0))
 
 same-length-4 : tie.Need-same-length-4
 same-length-4 c = search needs
 
 same-length-5 : tie.Need-same-length-5
-same-length-5 c = c .before .before .before .before .before .before .before .before .before .before .before .before .before .before .before .before .before .before .before .before .call-line .kept .1 .0 ∙ c .before .before .before .before .before .before .before .before .before .before .before .before .before .before .before .before .before .before .before .before .before .before .before .before .before .before .call-file .kept .1 .1 .0
+same-length-5 c = c .before .before .before .before .before .before .before .before .before .before .before .before .before .before .before .before .before .before .before .before .before .call-line .kept .1 .0 ∙ c .before .before .before .before .before .before .before .before .before .before .before .before .before .before .before .before .before .before .before .before .before .before .before .before .before .before .before .call-file .kept .1 .1 .0
 
 returns-4 : tie.Need-returns-4
-returns-4 c = let s = c .before .before .before .before .before .before .before .before .before .before .before .before .before .before .before .before .before .before .before .before .before .before .before .before .before .before .before .before .before .before .before .before .before .before .before .before .before in keep-done _ _ _ _ (s .pre .0) (s .pre .1 .0) (s .pre .1 .1 .0) (s .pre .1 .1 .1 .0) (s .pre .1 .1 .1 .1) (c .before .before .before .before .before .before .before .before .before .before .before .before .before .before .before .before .before .before .before .before .before .before .before .before .before .before .call-file .ensures) (c .before .before .before .before .before .before .before .before .before .before .before .before .before .before .before .before .before .before .before .before .before .before .if1 .left) (c .before .before .before .before .before .before .before .before .before .before .before .before .before .before .before .before .before .before .before .before .call-line .ensures) (c .before .before .before .before .before .before .before .before .before .before .before .before .before .before .before .before .if2 .left) (c .before .before .before .before .before .before .before .before .before .before .before .before .before .before .if3 .left) (c .before .before .before .before .before .before .before .before .before .before .before .put-root .ensures) (c .before .before .before .before .before .put-inline-node .ensures) (c .before .before .read-u16 .ensures) (c .before .pushed .ensures)
+returns-4 c = let s = c .before .before .before .before .before .before .before .before .before .before .before .before .before .before .before .before .before .before .before .before .before .before .before .before .before .before .before .before .before .before .before .before .before .before .before .before .before .before in keep-done _ _ _ _ (s .pre .0) (s .pre .1 .0) (s .pre .1 .1 .0) (s .pre .1 .1 .1 .0) (s .pre .1 .1 .1 .1) (c .before .before .before .before .before .before .before .before .before .before .before .before .before .before .before .before .before .before .before .before .before .before .before .before .before .before .before .call-file .ensures) (c .before .before .before .before .before .before .before .before .before .before .before .before .before .before .before .before .before .before .before .before .before .before .before .if1 .left) (c .before .before .before .before .before .before .before .before .before .before .before .before .before .before .before .before .before .before .before .before .before .call-line .ensures) (c .before .before .before .before .before .before .before .before .before .before .before .before .before .before .before .before .before .if2 .left) (not-deeper (c .before .before .before .before .before .before .before .before .before .before .before .before .before .before .before .check-inline-depth .ensures) (not-false _ (c .before .before .before .before .before .before .before .before .before .before .before .before .before .before .if3 .left))) (c .before .before .before .before .before .before .before .before .before .before .before .put-root .ensures) (c .before .before .before .before .before .put-inline-node .ensures) (c .before .before .read-u16 .ensures) (c .before .pushed .ensures)
 
 pub keep-node-spec : {M : Type 1} → statement M
 keep-node-spec =
@@ -83,6 +100,8 @@ keep-node-spec =
     call-line-requires
     same-length-2
     returns-2
+    add-check-inline-depth
+    check-inline-depth-requires
     same-length-3
     returns-3
     put-root-requires

@@ -1,7 +1,15 @@
 -- `dies::make_inline_node` meets its contract. Assumes nothing.
-use mathlib.Core.Path.{_∙_}
+use mathlib.Core.Path.{_≡_, _∙_}
+use mathlib.Core.List.{List}
+use Prim.Native.Nat.{ℕ}
 use native.Mathlib.Omega.{arith}
+use lib.ListN.{length}
+use Rattle.tlv.specs.Outcome.{Outcome}
 use Rattle.tlv.proofs.PlaceFacts.{slice-bytes}
+use Rattle.references.specs.declared.tables.Tables.{Tables}
+use Rattle.references.specs.declared.names.FoundName.{FoundName}
+use Rattle.references.specs.Names.{foundName, Resolved}
+use Rattle.references.proofs.NameLaws.{found-length, missing-length}
 use Rattle.references.proofs.ReferenceLaws.{entry-next}
 use Rattle.dies.proofs.AttributeReads.{accepted-placed}
 use Rattle.dies.proofs.CallLaws.{entry-read}
@@ -12,6 +20,14 @@ use borrow.Author.Needs.{needs}
 use Rattle.dies.proofs.dies.make_inline_node.Statement.{statement}
 use Rattle.dies.proofs.dies.make_inline_node.Tie as tie
 
+-- what was found says whether the name has bytes
+module _ {main supplementary w w′ inlined : List ℕ} {x : Tables} {o : Outcome (List ℕ)} {st : ℕ} {r : FoundName} (R : Resolved main supplementary x w w′ o st inlined) (is : r ≡ foundName inlined) where
+  nameless : r ≡ FoundName.Missing → length inlined ≡ 0
+  nameless missing = missing-length inlined is missing
+
+  named : {n : ℕ} → r ≡ FoundName.Found n → length inlined ≡ 0 → ⊥
+  named found = found-length inlined is found
+
 resolve-name-requires : tie.Need-resolve-name-requires
 resolve-name-requires c κs = search needs
 
@@ -21,74 +37,83 @@ same-length c = search needs
 returns : tie.Need-returns
 returns c = let s = c .before .before .before .before .before .before .before .before .before .before .before .before .before in inline-refused _ _ _ (omega arith) (omega arith) (s .pre .0) (s .pre .1 .0) (s .pre .1 .1 .0) (c .before .before .before .resolve-name .ensures) (c .if1 .taken)
 
+found-name-requires : tie.Need-found-name-requires
+found-name-requires c κs = search needs
+
+enum-told : tie.Need-enum-told
+enum-told c = search needs
+
+enum-told-2 : tie.Need-enum-told-2
+enum-told-2 c = search needs
+
 same-length-2 : tie.Need-same-length-2
 same-length-2 c = search needs
 
 returns-2 : tie.Need-returns-2
-returns-2 c = let s = c .before .before .before .before .before .before .before .before .before .before .before .before .before .before in inline-nameless _ _ _ (omega arith) (omega arith) (s .pre .0) (s .pre .1 .0) (s .pre .1 .1 .0) (c .before .before .before .before .resolve-name .ensures) (c .before .if1 .left) (s .pre .1 .1 .1 .0) (c .if2 .taken)
+returns-2 c = let s = c .before .before .before .before .before .before .before .before .before .before .before .before .before .before .before .before in inline-nameless _ _ _ (omega arith) (omega arith) (s .pre .0) (s .pre .1 .0) (s .pre .1 .1 .0) (c .before .before .before .before .before .before .resolve-name .ensures) (c .before .before .before .if1 .left) (s .pre .1 .1 .1 .0) (nameless (c .before .before .before .before .before .before .resolve-name .ensures) (c .before .before .found-name .ensures) (c .enum-told2 .given .1))
 
 add-next-own : tie.Need-add-next-own
-add-next-own c = let s = c .before .before .before .before .before .before .before .before .before .before .before .before .before .before in omega (arith, entry-read (details-accepted (s .pre .0)) (s .pre .1 .0))
+add-next-own c = let s = c .before .before .before .before .before .before .before .before .before .before .before .before .before .before .before .before in omega (arith, entry-read (details-accepted (s .pre .0)) (s .pre .1 .0))
 
 next-own-requires : tie.Need-next-own-requires
 next-own-requires c κs = search needs
 
-enum-told : tie.Need-enum-told
-enum-told c = search needs
+enum-told-3 : tie.Need-enum-told-3
+enum-told-3 c = search needs
 
 same-length-3 : tie.Need-same-length-3
 same-length-3 c = search needs
 
 returns-3 : tie.Need-returns-3
-returns-3 c = let s = c .before .before .before .before .before .before .before .before .before .before .before .before .before .before .before .before .before in inline-failed _ _ _ (omega arith) (omega arith) (s .pre .0) (s .pre .1 .0) (s .pre .1 .1 .0) (c .before .before .before .before .before .before .before .resolve-name .ensures) (c .before .before .before .before .if1 .left) (c .before .before .before .if2 .left) (c .before .before .next-own .ensures) (c .enum-told .given .1)
+returns-3 c = let s = c .before .before .before .before .before .before .before .before .before .before .before .before .before .before .before .before .before .before .before in inline-failed _ _ _ (omega arith) (omega arith) (s .pre .0) (s .pre .1 .0) (s .pre .1 .1 .0) (c .before .before .before .before .before .before .before .before .before .resolve-name .ensures) (c .before .before .before .before .before .before .if1 .left) (named (c .before .before .before .before .before .before .before .before .before .resolve-name .ensures) (c .before .before .before .before .before .found-name .ensures) (c .before .before .before .enum-told .given .1)) (c .before .before .next-own .ensures) (c .enum-told3 .given .1)
 
-enum-told-2 : tie.Need-enum-told-2
-enum-told-2 c = search needs
+enum-told-4 : tie.Need-enum-told-4
+enum-told-4 c = search needs
 
 top-of-requires : tie.Need-top-of-requires
 top-of-requires c κs = search needs
 
 add-gather : tie.Need-add-gather
-add-gather c = let s = c .before .before .before .before .before .before .before .before .before .before .before .before .before .before .before .before .before .before .before in omega (arith, entry-read (details-accepted (s .pre .0)) (s .pre .1 .0))
+add-gather c = let s = c .before .before .before .before .before .before .before .before .before .before .before .before .before .before .before .before .before .before .before .before .before in omega (arith, entry-read (details-accepted (s .pre .0)) (s .pre .1 .0))
 
 mul-gather : tie.Need-mul-gather
-mul-gather c = search needs
+mul-gather c = let s = c .before .before .before .before .before .before .before .before .before .before .before .before .before .before .before .before .before .before .before .before .before .before in let D = s .pre .0 in let F = s .pre .1 .1 .0 in omega (arith, c .before .top-of .ensures .within, F .used, D .ranges, D .stack, D .sites, D .tables .keys .room)
 
 add-gather-2 : tie.Need-add-gather-2
-add-gather-2 c = let s = c .before .before .before .before .before .before .before .before .before .before .before .before .before .before .before .before .before .before .before .before .before in let D = s .pre .0 in let F = s .pre .1 .1 .0 in omega (arith, c .before .before .top-of .ensures .within, F .used, D .ranges, D .stack, D .sites, D .tables .keys .room)
+add-gather-2 c = let s = c .before .before .before .before .before .before .before .before .before .before .before .before .before .before .before .before .before .before .before .before .before .before .before in let D = s .pre .0 in let F = s .pre .1 .1 .0 in omega (arith, c .before .before .top-of .ensures .within, F .used, D .ranges, D .stack, D .sites, D .tables .keys .room)
 
 sub-gather : tie.Need-sub-gather
 sub-gather c = search needs
 
 mul-gather-2 : tie.Need-mul-gather-2
-mul-gather-2 c = let s = c .before .before .before .before .before .before .before .before .before .before .before .before .before .before .before .before .before .before .before .before .before in let D = s .pre .0 in let F = s .pre .1 .1 .0 in omega (arith, F .used, D .ranges, D .stack, D .sites, D .tables .keys .room)
+mul-gather-2 c = let s = c .before .before .before .before .before .before .before .before .before .before .before .before .before .before .before .before .before .before .before .before .before .before .before in let D = s .pre .0 in let F = s .pre .1 .1 .0 in omega (arith, F .used, D .ranges, D .stack, D .sites, D .tables .keys .room)
 
 add-gather-3 : tie.Need-add-gather-3
-add-gather-3 c = let s = c .before .before .before .before .before .before .before .before .before .before .before .before .before .before .before .before .before .before .before .before .before .before in let D = s .pre .0 in let F = s .pre .1 .1 .0 in omega (arith, F .used, D .ranges, D .stack, D .sites, D .tables .keys .room)
+add-gather-3 c = let s = c .before .before .before .before .before .before .before .before .before .before .before .before .before .before .before .before .before .before .before .before .before .before .before .before in let D = s .pre .0 in let F = s .pre .1 .1 .0 in omega (arith, F .used, D .ranges, D .stack, D .sites, D .tables .keys .room)
 
 gather-requires : tie.Need-gather-requires
-gather-requires c κs = let s = c .before .before .before .before .before .before .before .before .before .before .before .before .before .before .before .before .before .before .before .before .before .before in let D = s .pre .0 in let K = s .pre .1 .0 in let F = s .pre .1 .1 .0 in let z = c .before .before .before .before .before .before .before .before .before .before .before .before .resolve-name .kept .1 .1 .0 in (entry-next (accepted-placed (details-accepted D) K) K, (omega (arith, c .before .before .before .top-of .ensures .within), omega (arith, later-here D K, F .used, D .ranges, D .stack, D .sites, D .tables .keys .room)))
+gather-requires c κs = let s = c .before .before .before .before .before .before .before .before .before .before .before .before .before .before .before .before .before .before .before .before .before .before .before .before in let D = s .pre .0 in let K = s .pre .1 .0 in let F = s .pre .1 .1 .0 in let z = c .before .before .before .before .before .before .before .before .before .before .before .before .before .before .resolve-name .kept .1 .1 .0 in (entry-next (accepted-placed (details-accepted D) K) K, (omega (arith, c .before .before .before .top-of .ensures .within), omega (arith, later-here D K, F .used, D .ranges, D .stack, D .sites, D .tables .keys .room)))
 
 same-length-4 : tie.Need-same-length-4
-same-length-4 c = c .before .before .before .gather .kept .1 .1 .0 ∙ c .before .before .before .before .before .before .before .before .before .before .before .before .before .before .before .before .resolve-name .kept .1 .1 .0
+same-length-4 c = c .before .before .before .gather .kept .1 .1 .0 ∙ c .before .before .before .before .before .before .before .before .before .before .before .before .before .before .before .before .before .before .resolve-name .kept .1 .1 .0
 
 returns-4 : tie.Need-returns-4
-returns-4 c = let s = c .before .before .before .before .before .before .before .before .before .before .before .before .before .before .before .before .before .before .before .before .before .before .before .before .before .before in inline-empty _ _ _ (omega arith) (omega arith) (s .pre .0) (s .pre .1 .0) (s .pre .1 .1 .0) (c .before .before .before .before .before .before .before .before .before .before .before .before .before .before .before .before .resolve-name .ensures) (c .before .before .before .before .before .before .before .before .before .before .before .before .before .if1 .left) (c .before .before .before .before .before .before .before .before .before .before .before .before .if2 .left) (c .before .before .before .before .before .before .before .before .before .before .before .next-own .ensures) (c .before .before .before .before .before .before .before .before .before .enum-told2 .given .1) (c .before .before .before .before .before .before .before .top-of .ensures) (c .before .before .before .gather .ensures) (s .pre .1 .1 .1 .0) (c .if3 .taken)
+returns-4 c = let s = c .before .before .before .before .before .before .before .before .before .before .before .before .before .before .before .before .before .before .before .before .before .before .before .before .before .before .before .before in inline-empty _ _ _ (omega arith) (omega arith) (s .pre .0) (s .pre .1 .0) (s .pre .1 .1 .0) (c .before .before .before .before .before .before .before .before .before .before .before .before .before .before .before .before .before .before .resolve-name .ensures) (c .before .before .before .before .before .before .before .before .before .before .before .before .before .before .before .if1 .left) (named (c .before .before .before .before .before .before .before .before .before .before .before .before .before .before .before .before .before .before .resolve-name .ensures) (c .before .before .before .before .before .before .before .before .before .before .before .before .before .before .found-name .ensures) (c .before .before .before .before .before .before .before .before .before .before .before .before .enum-told .given .1)) (c .before .before .before .before .before .before .before .before .before .before .before .next-own .ensures) (c .before .before .before .before .before .before .before .before .before .enum-told4 .given .1) (c .before .before .before .before .before .before .before .top-of .ensures) (c .before .before .before .gather .ensures) (s .pre .1 .1 .1 .0) (c .if2 .taken)
 
 keep-node-requires : tie.Need-keep-node-requires
-keep-node-requires c κs = let s = c .before .before .before .before .before .before .before .before .before .before .before .before .before .before .before .before .before .before .before .before .before .before .before .before .before .before .before .before .before in let D = s .pre .0 in let K = s .pre .1 .0 in (
-  inline-details (s .args .name .now) (s .args .records .now) (s .args .warnings .now) (omega arith) (omega arith) D K (s .pre .1 .1 .0) (c .before .before .before .before .before .before .before .before .before .before .before .before .before .before .before .before .before .before .before .resolve-name .ensures) (c .before .before .before .before .before .before .before .before .before .before .before .before .before .before .before .before .if1 .left) (c .before .before .before .before .before .before .before .before .before .before .before .before .before .before .before .if2 .left) (c .before .before .before .before .before .before .before .before .before .before .before .before .before .before .next-own .ensures) (c .before .before .before .before .before .before .before .before .before .before .before .before .enum-told2 .given .1) (c .before .before .before .before .before .before .before .before .before .before .top-of .ensures) (c .before .before .before .before .before .before .gather .ensures) (c .before .before .before .before .before .before .gather .kept .1 .1 .0 ∙ c .before .before .before .before .before .before .before .before .before .before .before .before .before .before .before .before .before .before .before .resolve-name .kept .1 .1 .0),
+keep-node-requires c κs = let s = c .before .before .before .before .before .before .before .before .before .before .before .before .before .before .before .before .before .before .before .before .before .before .before .before .before .before .before .before .before .before .before in let D = s .pre .0 in let K = s .pre .1 .0 in (
+  inline-details (s .args .name .now) (s .args .records .now) (s .args .warnings .now) (omega arith) (omega arith) D K (s .pre .1 .1 .0) (c .before .before .before .before .before .before .before .before .before .before .before .before .before .before .before .before .before .before .before .before .before .resolve-name .ensures) (c .before .before .before .before .before .before .before .before .before .before .before .before .before .before .before .before .before .before .if1 .left) (named (c .before .before .before .before .before .before .before .before .before .before .before .before .before .before .before .before .before .before .before .before .before .resolve-name .ensures) (c .before .before .before .before .before .before .before .before .before .before .before .before .before .before .before .before .before .found-name .ensures) (c .before .before .before .before .before .before .before .before .before .before .before .before .before .before .before .enum-told .given .1)) (c .before .before .before .before .before .before .before .before .before .before .before .before .before .before .next-own .ensures) (c .before .before .before .before .before .before .before .before .before .before .before .before .enum-told4 .given .1) (c .before .before .before .before .before .before .before .before .before .before .top-of .ensures) (c .before .before .before .before .before .before .gather .ensures) (c .before .before .before .before .before .before .gather .kept .1 .1 .0 ∙ c .before .before .before .before .before .before .before .before .before .before .before .before .before .before .before .before .before .before .before .before .before .resolve-name .kept .1 .1 .0),
   (
     K,
     (
-      inline-fits (s .args .name .now) (s .args .records .now) (s .args .warnings .now) (omega arith) (omega arith) D K (s .pre .1 .1 .0) (c .before .before .before .before .before .before .before .before .before .before .before .before .before .before .before .before .before .before .before .resolve-name .ensures) (c .before .before .before .before .before .before .before .before .before .before .before .before .before .before .before .before .if1 .left) (c .before .before .before .before .before .before .before .before .before .before .before .before .before .before .before .if2 .left) (c .before .before .before .before .before .before .before .before .before .before .before .before .before .before .next-own .ensures) (c .before .before .before .before .before .before .before .before .before .before .before .before .enum-told2 .given .1) (c .before .before .before .before .before .before .before .before .before .before .top-of .ensures) (c .before .before .before .before .before .before .gather .ensures),
-      (s .pre .1 .1 .1 .0, omega arith, s .pre .1 .1 .1 .1, name-short D K (slice-bytes (s .args .main .now) (c .before .before .before .before .before .before .before .before .before .before .before .before .before .before .before .before .before .before .before .before .before .before .before .before .before .before .before .before .shared-slice-known .given)) (slice-bytes (s .args .supplementary .now) (c .before .before .before .before .before .before .before .before .before .before .before .before .before .before .before .before .before .before .before .before .before .before .before .before .before .before .before .shared-slice-known2 .given)) (given-done _ _ (c .before .before .before .before .before .before .before .before .before .before .before .before .before .before .before .before .before .before .before .resolve-name .ensures .is) (c .before .before .before .before .before .before .before .before .before .before .before .before .before .before .before .before .if1 .left))),
+      inline-fits (s .args .name .now) (s .args .records .now) (s .args .warnings .now) (omega arith) (omega arith) D K (s .pre .1 .1 .0) (c .before .before .before .before .before .before .before .before .before .before .before .before .before .before .before .before .before .before .before .before .before .resolve-name .ensures) (c .before .before .before .before .before .before .before .before .before .before .before .before .before .before .before .before .before .before .if1 .left) (named (c .before .before .before .before .before .before .before .before .before .before .before .before .before .before .before .before .before .before .before .before .before .resolve-name .ensures) (c .before .before .before .before .before .before .before .before .before .before .before .before .before .before .before .before .before .found-name .ensures) (c .before .before .before .before .before .before .before .before .before .before .before .before .before .before .before .enum-told .given .1)) (c .before .before .before .before .before .before .before .before .before .before .before .before .before .before .next-own .ensures) (c .before .before .before .before .before .before .before .before .before .before .before .before .enum-told4 .given .1) (c .before .before .before .before .before .before .before .before .before .before .top-of .ensures) (c .before .before .before .before .before .before .gather .ensures),
+      (s .pre .1 .1 .1 .0, omega arith, s .pre .1 .1 .1 .1, name-short D K (slice-bytes (s .args .main .now) (c .before .before .before .before .before .before .before .before .before .before .before .before .before .before .before .before .before .before .before .before .before .before .before .before .before .before .before .before .before .before .shared-slice-known .given)) (slice-bytes (s .args .supplementary .now) (c .before .before .before .before .before .before .before .before .before .before .before .before .before .before .before .before .before .before .before .before .before .before .before .before .before .before .before .before .before .shared-slice-known2 .given)) (given-done _ _ (c .before .before .before .before .before .before .before .before .before .before .before .before .before .before .before .before .before .before .before .before .before .resolve-name .ensures .is) (c .before .before .before .before .before .before .before .before .before .before .before .before .before .before .before .before .before .before .if1 .left))),
     ),
   ),
 )
 
 same-length-5 : tie.Need-same-length-5
-same-length-5 c = c .before .before .before .before .before .before .before .before .before .before .before .gather .kept .1 .1 .0 ∙ c .before .before .before .before .before .before .before .before .before .before .before .before .before .before .before .before .before .before .before .before .before .before .before .before .resolve-name .kept .1 .1 .0
+same-length-5 c = c .before .before .before .before .before .before .before .before .before .before .before .gather .kept .1 .1 .0 ∙ c .before .before .before .before .before .before .before .before .before .before .before .before .before .before .before .before .before .before .before .before .before .before .before .before .before .before .resolve-name .kept .1 .1 .0
 
 same-length-6 : tie.Need-same-length-6
 same-length-6 c = search needs
@@ -97,7 +122,7 @@ same-length-7 : tie.Need-same-length-7
 same-length-7 c = search needs
 
 returns-5 : tie.Need-returns-5
-returns-5 c = let s = c .before .before .before .before .before .before .before .before .before .before .before .before .before .before .before .before .before .before .before .before .before .before .before .before .before .before .before .before .before .before .before .before .before .before in inline-kept _ _ _ (omega arith) (omega arith) (s .pre .0) (s .pre .1 .0) (s .pre .1 .1 .0) (c .before .before .before .before .before .before .before .before .before .before .before .before .before .before .before .before .before .before .before .before .before .before .before .before .resolve-name .ensures) (c .before .before .before .before .before .before .before .before .before .before .before .before .before .before .before .before .before .before .before .before .before .if1 .left) (c .before .before .before .before .before .before .before .before .before .before .before .before .before .before .before .before .before .before .before .before .if2 .left) (c .before .before .before .before .before .before .before .before .before .before .before .before .before .before .before .before .before .before .before .next-own .ensures) (c .before .before .before .before .before .before .before .before .before .before .before .before .before .before .before .before .before .enum-told2 .given .1) (c .before .before .before .before .before .before .before .before .before .before .before .before .before .before .before .top-of .ensures) (c .before .before .before .before .before .before .before .before .before .before .before .gather .ensures) (c .before .before .before .before .keep-node .ensures)
+returns-5 c = let s = c .before .before .before .before .before .before .before .before .before .before .before .before .before .before .before .before .before .before .before .before .before .before .before .before .before .before .before .before .before .before .before .before .before .before .before .before in inline-kept _ _ _ (omega arith) (omega arith) (s .pre .0) (s .pre .1 .0) (s .pre .1 .1 .0) (c .before .before .before .before .before .before .before .before .before .before .before .before .before .before .before .before .before .before .before .before .before .before .before .before .before .before .resolve-name .ensures) (c .before .before .before .before .before .before .before .before .before .before .before .before .before .before .before .before .before .before .before .before .before .before .before .if1 .left) (named (c .before .before .before .before .before .before .before .before .before .before .before .before .before .before .before .before .before .before .before .before .before .before .before .before .before .before .resolve-name .ensures) (c .before .before .before .before .before .before .before .before .before .before .before .before .before .before .before .before .before .before .before .before .before .before .found-name .ensures) (c .before .before .before .before .before .before .before .before .before .before .before .before .before .before .before .before .before .before .before .before .enum-told .given .1)) (c .before .before .before .before .before .before .before .before .before .before .before .before .before .before .before .before .before .before .before .next-own .ensures) (c .before .before .before .before .before .before .before .before .before .before .before .before .before .before .before .before .before .enum-told4 .given .1) (c .before .before .before .before .before .before .before .before .before .before .before .before .before .before .before .top-of .ensures) (c .before .before .before .before .before .before .before .before .before .before .before .gather .ensures) (c .before .before .before .before .keep-node .ensures)
 
 pub make-inline-node-spec : {M : Type 1} → statement M
 make-inline-node-spec =
@@ -106,14 +131,17 @@ make-inline-node-spec =
     resolve-name-requires
     same-length
     returns
+    found-name-requires
+    enum-told
+    enum-told-2
     same-length-2
     returns-2
     add-next-own
     next-own-requires
-    enum-told
+    enum-told-3
     same-length-3
     returns-3
-    enum-told-2
+    enum-told-4
     top-of-requires
     add-gather
     mul-gather

@@ -1,9 +1,10 @@
 -- `lookup::look_up_nth` meets its contract. Assumes nothing.
 use native.Mathlib.Omega.{arith}
 use borrow.Author.Needs.{needs}
+use Rattle.files.proofs.UnitLaws.{unit-next}
 use Rattle.files.proofs.InternLaws.{pieces-within}
 use Rattle.files.proofs.InterningLaws.{place-small}
-use Rattle.files.proofs.LookupLaws.{unit-behind, nth-span, nth-missing, nth-failed, nth-unnamed, nth-pieces}
+use Rattle.files.proofs.LookupLaws.{nth-span, nth-missing, nth-failed, nth-unnamed, nth-pieces}
 use Rattle.files.proofs.lookup.look_up_nth.Statement.{statement}
 use Rattle.files.proofs.lookup.look_up_nth.Tie as tie
 
@@ -13,7 +14,7 @@ add-nth-file c =
     omega (arith, place-small (S .pre .0) (S .args .source) (S .args .unit .place) (S .pre .1 .1))
 
 nth-file-requires : tie.Need-nth-file-requires
-nth-file-requires c κs = search unit-behind
+nth-file-requires c κs = search unit-next
 
 enum-told : tie.Need-enum-told
 enum-told c = search needs

@@ -1,20 +1,34 @@
--- `pieces::below_compilation` meets its contract. An absolute directory, an old version, and the directory's number. Assumes nothing.
+-- `pieces::below_compilation` meets its contract. The span is a part of the slice. Assumes nothing.
 use borrow.Author.Needs.{needs}
-use Rattle.lines.proofs.PathCodeLaws.{needs-absolute, needs-old, needs-new}
+use Rattle.files.proofs.PieceLaws.{below-span}
 use Rattle.files.proofs.pieces.below_compilation.Statement.{statement}
 use Rattle.files.proofs.pieces.below_compilation.Tie as tie
 
-is-absolute-span-requires : tie.Need-is-absolute-span-requires
-is-absolute-span-requires c κs = search needs
+add-to : tie.Need-add-to
+add-to c = search needs
+
+sub-needs-compilation : tie.Need-sub-needs-compilation
+sub-needs-compilation c = search needs
+
+part-needs-compilation-start : tie.Need-part-needs-compilation-start
+part-needs-compilation-start c = search needs
+
+part-needs-compilation-end : tie.Need-part-needs-compilation-end
+part-needs-compilation-end c = search needs
+
+needs-compilation-requires : tie.Need-needs-compilation-requires
+needs-compilation-requires c κs = search needs
 
 returns : tie.Need-returns
-returns c = search needs-absolute
-
-returns-2 : tie.Need-returns-2
-returns-2 c = search needs-old
-
-returns-3 : tie.Need-returns-3
-returns-3 c = search needs-new
+returns c = search below-span
 
 pub below-compilation-spec : {M : Type 1} → statement M
-below-compilation-spec = tie.close (tie.spec is-absolute-span-requires returns returns-2 returns-3)
+below-compilation-spec =
+    tie.close
+    (tie.spec
+    add-to
+    sub-needs-compilation
+    part-needs-compilation-start
+    part-needs-compilation-end
+    needs-compilation-requires
+    returns)

@@ -2,7 +2,8 @@
 use native.Mathlib.Omega.{arith}
 use borrow.Author.Needs.{needs}
 use Rattle.files.proofs.RoomLaws.{room-left}
-use Rattle.files.proofs.AddedLaws.{source-small, full-adds, new-adds}
+use Rattle.files.proofs.RoomLaws.{source-small}
+use Rattle.files.proofs.AddedLaws.{full-adds, new-adds}
 use Rattle.files.proofs.store.append_file.Statement.{statement}
 use Rattle.files.proofs.store.append_file.Tie as tie
 

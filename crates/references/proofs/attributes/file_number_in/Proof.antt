@@ -1,15 +1,18 @@
--- `dies::line_number_in` meets its contract. Assumes nothing.
+-- `attributes::file_number_in` meets its contract. Assumes nothing.
 use mathlib.Core.Path.{sym, ap}
-use Rattle.dies.specs.DetailState.{lineNumberIn}
 use borrow.Author.Needs.{needs}
-use Rattle.dies.proofs.dies.line_number_in.Statement.{statement}
-use Rattle.dies.proofs.dies.line_number_in.Tie as tie
+use Rattle.references.specs.Tables.{fileNumberIn}
+use Rattle.references.proofs.attributes.file_number_in.Statement.{statement}
+use Rattle.references.proofs.attributes.file_number_in.Tie as tie
 
 enum-told : tie.Need-enum-told
 enum-told c = search needs
 
 enum-known-v : tie.Need-enum-known-v
 enum-known-v c = search needs
+
+enum-known-v-2 : tie.Need-enum-known-v-2
+enum-known-v-2 c = search needs
 
 enum-told-2 : tie.Need-enum-told-2
 enum-told-2 c = search needs
@@ -35,17 +38,14 @@ enum-told-8 c = search needs
 enum-told-9 : tie.Need-enum-told-9
 enum-told-9 c = search needs
 
-enum-told-10 : tie.Need-enum-told-10
-enum-told-10 c = search needs
-
 returns : tie.Need-returns
 returns c = search needs
 
 returns-2 : tie.Need-returns-2
-returns-2 c = sym (ap lineNumberIn (c .before .v .given .1))
+returns-2 c = sym (ap fileNumberIn (c .before .v .given .1))
 
 returns-3 : tie.Need-returns-3
-returns-3 c = search needs
+returns-3 c = sym (ap fileNumberIn (c .before .v2 .given .1))
 
 returns-4 : tie.Need-returns-4
 returns-4 c = search needs
@@ -71,12 +71,13 @@ returns-10 c = search needs
 returns-11 : tie.Need-returns-11
 returns-11 c = search needs
 
-pub line-number-in-spec : {M : Type 1} → statement M
-line-number-in-spec =
+pub file-number-in-spec : {M : Type 1} → statement M
+file-number-in-spec =
     tie.close
     (tie.spec
     enum-told
     enum-known-v
+    enum-known-v-2
     enum-told-2
     enum-told-3
     enum-told-4
@@ -85,7 +86,6 @@ line-number-in-spec =
     enum-told-7
     enum-told-8
     enum-told-9
-    enum-told-10
     returns
     returns-2
     returns-3

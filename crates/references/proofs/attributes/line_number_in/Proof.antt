@@ -1,9 +1,9 @@
--- `declarations::line_in` meets its contract. Assumes nothing.
+-- `attributes::line_number_in` meets its contract. Assumes nothing.
 use mathlib.Core.Path.{sym, ap}
 use borrow.Author.Needs.{needs}
-use Rattle.references.specs.DeclaredSteps.{lineValue}
-use Rattle.references.proofs.declarations.line_in.Statement.{statement}
-use Rattle.references.proofs.declarations.line_in.Tie as tie
+use Rattle.references.specs.Tables.{lineNumberIn}
+use Rattle.references.proofs.attributes.line_number_in.Statement.{statement}
+use Rattle.references.proofs.attributes.line_number_in.Tie as tie
 
 enum-told : tie.Need-enum-told
 enum-told c = search needs
@@ -42,7 +42,7 @@ returns : tie.Need-returns
 returns c = search needs
 
 returns-2 : tie.Need-returns-2
-returns-2 c = sym (ap lineValue (c .before .v .given .1))
+returns-2 c = sym (ap lineNumberIn (c .before .v .given .1))
 
 returns-3 : tie.Need-returns-3
 returns-3 c = search needs
@@ -71,8 +71,8 @@ returns-10 c = search needs
 returns-11 : tie.Need-returns-11
 returns-11 c = search needs
 
-pub line-in-spec : {M : Type 1} → statement M
-line-in-spec =
+pub line-number-in-spec : {M : Type 1} → statement M
+line-number-in-spec =
     tie.close
     (tie.spec
     enum-told
