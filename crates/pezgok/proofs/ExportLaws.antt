@@ -1,0 +1,53 @@
+-- The answer of an import as numbers, and the numbers that are no refusal's. Assumes nothing.
+use mathlib.Core.Path.{_≡_, sym, subst, ap, _∙_}
+use mathlib.Core.Bool.{false}
+use mathlib.Core.List.{List, [], _∷_}
+use Prim.Native.Nat.{ℕ, suc, _≤_, _<_}
+use native.Mathlib.Omega.{arith}
+use lib.Dec.{eqb}
+use borrow.Author.Tests.{ne-eqb}
+use Rattle.imports.specs.Answer.{Inputs, Answer, noStats}
+use Rattle.dwarf.specs.declared.model.ConversionStats.{ConversionStats}
+use Rattle.dwarf.specs.declared.model.Refusal.{Refusal}
+use Rattle.dwarf.specs.declared.model.Imported.{Imported}
+use Rattle.dwarf.specs.Answers.{refusalNumber, answerGiven, Finished, ImportsUnit}
+use Rattle.pezgok.specs.Exported.{answerIn, Exports, refusalWord}
+
+-- ---- the answer as numbers
+
+module _ {i : Inputs} {w t f u : List ℕ} {x : Imported} (I : ImportsUnit i w t f u x) where
+  -- the numbers stand for the answer
+  exports : {vs : List ℕ} {n : ℕ} → answerGiven x ≡ answerIn n vs → Exports i w t f u vs n
+  exports e = record {
+    is = ap (λ (a : Answer). record { answer = a; records = t; files = f; warnings = u; work = w }) (sym e) ∙ I .is;
+    demand = λ z. subst (λ (a : Answer). Finished i a t f u) e (I .demand (ap (λ (a : Answer). a .refusal) e ∙ z));
+  }
+
+  pub exports-refused : {q : Refusal} {n : ℕ} → x ≡ Imported.Refused q → n ≡ refusalNumber q
+      → Exports i w t f u (0 ∷ 0 ∷ 0 ∷ 0 ∷ 0 ∷ 0 ∷ 0 ∷ []) n
+  exports-refused e en =
+      exports (ap answerGiven e ∙ ap (λ (k : ℕ). record { refusal = k; records = 0; files = 0; warnings = 0; stats = noStats }) (sym en))
+
+  pub exports-finished : {a b c : ℕ} {s : ConversionStats} → x ≡ Imported.Finished a b c s
+      → Exports i w t f u (a ∷ b ∷ c ∷ s .functions ∷ s .«line_rows» ∷ s .«inline_nodes» ∷ s .«rejected_ranges» ∷ []) 0
+  exports-finished e = exports (ap answerGiven e)
+
+-- ---- numbers that are no refusal's
+
+-- a number up to a that is not a is below it
+pub below : (a n : ℕ) → n < suc a → (n ≡ a → ⊥) → n < a
+below a n h k = omega arith
+
+pub no-word-below : (n : ℕ) → n < 1 → refusalWord n ≡ []
+unfolding refusalWord
+no-word-below n h = rw (the-zero n h)
+  where
+    the-zero : (n : ℕ) → n < 1 → n ≡ 0
+    the-zero n h = omega arith
+
+pub no-word-above : (n : ℕ) → 19 ≤ n → refusalWord n ≡ []
+unfolding refusalWord
+no-word-above n h = rw (other 1 (omega arith), other 2 (omega arith), other 3 (omega arith), other 4 (omega arith), other 5 (omega arith), other 6 (omega arith), other 7 (omega arith), other 8 (omega arith), other 9 (omega arith), other 10 (omega arith), other 11 (omega arith), other 12 (omega arith), other 13 (omega arith), other 14 (omega arith), other 15 (omega arith), other 16 (omega arith), other 17 (omega arith), other 18 (omega arith))
+  where
+    other : (k : ℕ) → k < n → eqb n k ≡ false
+    other k h = ne-eqb n k (λ e. omega (arith, e))

@@ -1,0 +1,263 @@
+//! The proved import against the Rust importer, call by call: refusal, lengths, statistics, bytes written, bytes past each length, bytes past each
+//! buffer, zeros after a refusal, work all zero.
+
+use std::path::{Path, PathBuf};
+use std::process::ExitCode;
+use std::{env, fs};
+
+use oracle::files::Source;
+use oracle::{Answer, Case, answer, generate, limits};
+
+mod wrong;
+
+const USAGE: &str = "
+differential generated SEED COUNT [OPTIONS]     generated cases, each as it is, then with other switches and with buffers at their limits
+differential cases CASES [OPTIONS]              the cases of a file, in the same way
+differential large [OPTIONS]                    the cases over 64 KiB
+OPTIONS: --out DIR where a difference is written; --wrong NAME calls a wrong import instead: it has to be reported";
+
+/// What stands in the buffers before a call, and behind them all the time.
+const FILLED: u8 = 0xa5;
+const BEHIND: usize = 16;
+
+/// Refusals are few, kinds of warnings too.
+#[derive(Default)]
+struct Counts {
+    calls: u64,
+    refusals: [u64; 19],
+    warnings: [u64; 12],
+}
+
+struct Options {
+    out: PathBuf,
+    wrong: Option<wrong::Wrong>,
+}
+
+fn main() -> ExitCode {
+    let arguments: Vec<String> = env::args().skip(1).collect();
+    match run(&arguments) {
+        Ok(true) => ExitCode::SUCCESS,
+        Ok(false) => ExitCode::from(1),
+        Err(message) => {
+            eprintln!("differential: {message}");
+            ExitCode::from(2)
+        }
+    }
+}
+
+fn run(arguments: &[String]) -> Result<bool, String> {
+    let words: Vec<&str> = arguments.iter().map(String::as_str).collect();
+    let number = |word: &str| word.parse::<u64>().map_err(|_| format!("{word} is no number"));
+    match words[..] {
+        ["generated", seed, count, ref rest @ ..] => {
+            let (seed, count) = (number(seed)?, number(count)?);
+            compare((0..count).map(move |k| Ok(generate::case(seed, k))), &options(rest)?)
+        }
+        ["cases", path, ref rest @ ..] => {
+            let mut source = Source::open(Path::new(path))?;
+            compare(std::iter::from_fn(move || source.case().transpose()), &options(rest)?)
+        }
+        ["large", ref rest @ ..] => compare(limits::large().into_iter().map(Ok), &options(rest)?),
+        _ => Err(format!("these are the commands:{USAGE}")),
+    }
+}
+
+fn options(mut words: &[&str]) -> Result<Options, String> {
+    let mut options = Options { out: PathBuf::from("difference"), wrong: None };
+    while let [word, value, rest @ ..] = words {
+        match *word {
+            "--out" => options.out = PathBuf::from(value),
+            "--wrong" => options.wrong = Some(wrong::named(value)?),
+            _ => return Err(format!("{word} is no option")),
+        }
+        words = rest;
+    }
+    if words.is_empty() { Ok(options) } else { Err(format!("{} has no value", words[0])) }
+}
+
+/// False at the first difference, which is written out.
+fn compare(cases: impl Iterator<Item = Result<Case, String>>, options: &Options) -> Result<bool, String> {
+    let mut counts = Counts::default();
+    for (place, case) in cases.enumerate() {
+        let case = case?;
+        for (form, call) in forms(&case, place as u64).into_iter().enumerate() {
+            let expected = answer(&call);
+            let got = ours(&call, options.wrong);
+            counts.calls += 1;
+            count(&mut counts, &expected);
+            if let Some(what) = difference(&call, &expected, &got) {
+                println!("case {place}, form {form}, differs: {what}");
+                write_difference(&options.out, &call, &expected, &got)?;
+                return Ok(false);
+            }
+        }
+    }
+    print(&counts);
+    Ok(true)
+}
+
+/// A case as it is; with each setting of the switches; and with work and buffers a byte short, exact and long of what it needs.
+fn forms(case: &Case, place: u64) -> Vec<Case> {
+    let mut forms = vec![case.clone()];
+    let large = case.main.len() + case.supplementary.len() > 65_536;
+    for switches in 0..if large { 0 } else { 4 } {
+        let mut form = case.clone();
+        (form.inlines, form.call_sites) = (switches & 1 == 1, switches & 2 == 2);
+        forms.push(form);
+    }
+    let mut ample = case.clone();
+    (ample.records, ample.files, ample.warnings) = (u32::MAX, u32::MAX, u32::MAX);
+    let full = answer(&ample);
+    if full.refusal != 0 || large {
+        return forms;
+    }
+    let around = |length: usize, form: u64| match form % 3 {
+        0 => (length as u32).saturating_sub(1),
+        1 => length as u32,
+        _ => length as u32 + 16,
+    };
+    for turn in 0..3 {
+        let mut form = ample.clone();
+        form.records = around(full.records.len(), turn + place);
+        form.files = around(full.files.len(), turn + place / 3);
+        form.warnings = around(full.warnings.len(), turn + place / 9);
+        forms.push(form);
+    }
+    let needed = 64 * (fields(&case.main) + fields(&case.supplementary)) + 4 * case.program.len() as u64 + 16_384;
+    for work in [needed - 1, needed, needed + 1] {
+        let mut form = case.clone();
+        form.work = work;
+        forms.push(form);
+    }
+    forms
+}
+
+/// How many fields an accepted input has.
+fn fields(input: &[u8]) -> u64 {
+    let (mut at, mut number) = (0, 0);
+    while at < input.len() {
+        at += 3 + usize::from(u16::from_le_bytes([input[at + 1], input[at + 2]]));
+        number += 1;
+    }
+    number
+}
+
+/// A call of the proved import and all that it left behind.
+pub struct Got {
+    pub refusal: u8,
+    pub lengths: [u64; 3],
+    pub statistics: [u64; 4],
+    pub work: Vec<u8>,
+    pub buffers: [Vec<u8>; 3],
+}
+
+fn ours(case: &Case, wrong: Option<wrong::Wrong>) -> Got {
+    let lent = |length: u64| vec![FILLED; length as usize + BEHIND];
+    let mut work = lent(case.work);
+    let [mut records, mut files, mut warnings] =
+        [case.records, case.files, case.warnings].map(|length| lent(u64::from(length.min(1 << 22))));
+    let result = pezgok::import(
+        pezgok::Inputs { main: &case.main, supplementary: &case.supplementary, program: &case.program },
+        pezgok::Options { ordinal: case.ordinal, inlines: case.inlines, call_sites: case.call_sites, first_file: case.first_file },
+        pezgok::Buffers {
+            work: slice(&mut work),
+            records: slice(&mut records),
+            files: slice(&mut files),
+            warnings: slice(&mut warnings),
+        },
+    );
+    let mut got = Got { refusal: 0, lengths: [0; 3], statistics: [0; 4], work, buffers: [records, files, warnings] };
+    match result {
+        Ok(done) => {
+            got.lengths = [done.records as u64, done.files as u64, done.warnings as u64];
+            got.statistics = [done.functions, done.line_rows, done.inline_nodes, done.rejected_ranges];
+        }
+        Err(refusal) => got.refusal = refusal.number(),
+    }
+    if let Some(wrong) = wrong {
+        wrong(&mut got);
+    }
+    got
+}
+
+fn slice(buffer: &mut [u8]) -> &mut [u8] {
+    let length = buffer.len() - BEHIND;
+    &mut buffer[..length]
+}
+
+fn difference(case: &Case, expected: &Answer, got: &Got) -> Option<String> {
+    let parts = [("records", &expected.records), ("files", &expected.files), ("warnings", &expected.warnings)];
+    if got.refusal != expected.refusal {
+        return Some(format!("refusal {} instead of {}", got.refusal, expected.refusal));
+    }
+    if got.statistics != expected.statistics {
+        return Some(format!("statistics {:?} instead of {:?}", got.statistics, expected.statistics));
+    }
+    let only = |bytes: &[u8], byte: u8| bytes.iter().all(|&b| b == byte);
+    let (work, behind) = got.work.split_at(got.work.len() - BEHIND);
+    if !only(work, 0) || work.len() as u64 != case.work {
+        return Some("work is not all zero".into());
+    }
+    if !only(behind, FILLED) {
+        return Some("bytes behind work".into());
+    }
+    for (k, (name, bytes)) in parts.into_iter().enumerate() {
+        let (buffer, behind) = got.buffers[k].split_at(got.buffers[k].len() - BEHIND);
+        if got.lengths[k] != bytes.len() as u64 {
+            return Some(format!("{} bytes of {name} instead of {}", got.lengths[k], bytes.len()));
+        }
+        if !only(behind, FILLED) {
+            return Some(format!("bytes behind the buffer of {name}"));
+        }
+        let (written, past) = buffer.split_at(bytes.len());
+        if written != &bytes[..] {
+            return Some(format!("bytes of {name}"));
+        }
+        if !only(past, if expected.refusal == 0 { FILLED } else { 0 }) {
+            return Some(format!("bytes past the length of {name}"));
+        }
+    }
+    None
+}
+
+fn count(counts: &mut Counts, expected: &Answer) {
+    counts.refusals[usize::from(expected.refusal)] += 1;
+    let mut rest = &expected.warnings[..];
+    while let [_, low, high, kind, ..] = *rest {
+        counts.warnings[usize::from(kind)] += 1;
+        rest = &rest[3 + usize::from(u16::from_le_bytes([low, high]))..];
+    }
+}
+
+fn print(counts: &Counts) {
+    println!("{} calls, 0 differences", counts.calls);
+    println!("finished {}", counts.refusals[0]);
+    for (number, count) in counts.refusals.iter().enumerate().skip(1) {
+        println!("refused {number}: {count}");
+    }
+    for (kind, count) in counts.warnings.iter().enumerate().skip(1) {
+        println!("warning {kind}: {count}");
+    }
+}
+
+fn write_difference(folder: &Path, case: &Case, expected: &Answer, got: &Got) -> Result<(), String> {
+    let put = |name: &str, bytes: &[u8]| fs::write(folder.join(name), bytes).map_err(|error| format!("{name}: {error}"));
+    fs::create_dir_all(folder).map_err(|error| format!("{}: {error}", folder.display()))?;
+    put("unit.main", &case.main)?;
+    put("unit.sup", &case.supplementary)?;
+    put("unit.line", &case.program)?;
+    for (name, bytes, buffer) in [
+        ("records", &expected.records, &got.buffers[0]),
+        ("files", &expected.files, &got.buffers[1]),
+        ("warnings", &expected.warnings, &got.buffers[2]),
+    ] {
+        put(&format!("{name}.expected"), bytes)?;
+        put(&format!("{name}.got"), &buffer[..buffer.len() - BEHIND])?;
+    }
+    let asked = format!(
+        "ordinal {}, inlines {}, call sites {}, first file {}, work {}, records {}, files {}, warnings {}\nexpected: refusal {}, statistics {:?}\ngot: refusal {}, lengths {:?}, statistics {:?}\n",
+        case.ordinal, case.inlines, case.call_sites, case.first_file, case.work, case.records, case.files, case.warnings,
+        expected.refusal, expected.statistics, got.refusal, got.lengths, got.statistics
+    );
+    put("answers", asked.as_bytes())
+}

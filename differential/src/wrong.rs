@@ -1,0 +1,64 @@
+//! Wrong imports that the comparison has to report: each alters what the proved import left behind.
+
+use crate::Got;
+
+pub type Wrong = fn(&mut Got);
+
+pub fn named(name: &str) -> Result<Wrong, String> {
+    Ok(match name {
+        "refuses-all" => refuses_all,
+        "stock-record" => stock_record,
+        "writes-nothing" => writes_nothing,
+        "copies-the-first" => copies_the_first,
+        "invents-statistics" => invents_statistics,
+        _ => return Err(format!("{name} is no wrong import")),
+    })
+}
+
+fn refuses_all(got: &mut Got) {
+    got.refusal = 2;
+    (got.lengths, got.statistics) = ([0; 3], [0; 4]);
+    got.buffers.iter_mut().for_each(|buffer| buffer.fill(0));
+}
+
+/// The function dim from 1000 to 1010, whatever was asked.
+fn stock_record(got: &mut Got) {
+    const STOCK: &[u8] = b"\x41\x13\x00\x00\x10\x00\x00\x00\x00\x00\x00\x10\x10\x00\x00\x00\x00\x00\x00dim";
+    if got.refusal == 0 && got.buffers[0].len() >= STOCK.len() {
+        got.buffers[0][..STOCK.len()].copy_from_slice(STOCK);
+        got.lengths[0] = STOCK.len() as u64;
+    }
+}
+
+fn writes_nothing(got: &mut Got) {
+    if got.refusal == 0 {
+        got.buffers.iter_mut().for_each(|buffer| buffer.fill(0xa5));
+    }
+}
+
+/// The first record's bytes over those of each later one, as far as they go.
+fn copies_the_first(got: &mut Got) {
+    let length = got.lengths[0] as usize;
+    let records = &mut got.buffers[0][..if got.refusal == 0 { length } else { 0 }];
+    let mut starts = Vec::new();
+    let mut at = 0;
+    while at + 3 <= records.len() {
+        if records[at] == 0x41 {
+            starts.push(at);
+        }
+        at += 3 + usize::from(u16::from_le_bytes([records[at + 1], records[at + 2]]));
+    }
+    if let [_, second, ..] = starts[..] {
+        let first = records[..second].to_vec();
+        for start in &starts[1..] {
+            let end = (start + first.len()).min(records.len());
+            records[*start..end].copy_from_slice(&first[..end - start]);
+        }
+    }
+}
+
+fn invents_statistics(got: &mut Got) {
+    if got.refusal == 0 {
+        got.statistics[1] += 1;
+    }
+}

@@ -1,0 +1,51 @@
+/* Imports unit 0 of unit.main, unit.sup and unit.line of a folder, and says what came of it. */
+#include <stdio.h>
+#include <stdlib.h>
+
+#include "pezgok.h"
+
+#define LARGEST (1 << 20)
+
+/* The bytes of a file, or none. */
+static size_t read_file(const char *folder, const char *name, uint8_t *bytes) {
+    char path[4096];
+    if (snprintf(path, sizeof path, "%s/%s", folder, name) >= (int)sizeof path)
+        return 0;
+    FILE *file = fopen(path, "rb");
+    if (!file)
+        return 0;
+    size_t length = fread(bytes, 1, LARGEST, file);
+    fclose(file);
+    return length;
+}
+
+int main(int count, char **words) {
+    if (count != 2) {
+        fprintf(stderr, "import FOLDER: a folder with unit.main, and unit.sup and unit.line if there are any\n");
+        return 2;
+    }
+    static uint8_t input[LARGEST], supplementary[LARGEST], program[LARGEST], records[LARGEST], files[LARGEST], warnings[LARGEST];
+    size_t input_len = read_file(words[1], "unit.main", input);
+    size_t supplementary_len = read_file(words[1], "unit.sup", supplementary);
+    size_t program_len = read_file(words[1], "unit.line", program);
+    /* A field has three bytes at least. */
+    size_t work_len = PEZGOK_WORK((input_len + supplementary_len) / 3, program_len);
+    uint8_t *work = malloc(work_len);
+    if (!work)
+        return 2;
+    uint64_t values[PEZGOK_VALUES];
+    uint8_t refusal = pezgok_import(input, input_len, supplementary, supplementary_len, program, program_len, 0, true, true, 1, work, work_len,
+                                    records, LARGEST, files, LARGEST, warnings, LARGEST, values);
+    free(work);
+    if (refusal) {
+        uint8_t name[32];
+        size_t length = pezgok_refusal_name(refusal, name, sizeof name);
+        printf("refused %d: %.*s\n", refusal, (int)length, (char *)name);
+        return 1;
+    }
+    printf("%llu functions, %llu line rows, %llu inline nodes, %llu rejected ranges; %llu bytes of records, %llu of files, %llu of warnings\n",
+           (unsigned long long)values[PEZGOK_FUNCTIONS], (unsigned long long)values[PEZGOK_LINE_ROWS], (unsigned long long)values[PEZGOK_INLINE_NODES],
+           (unsigned long long)values[PEZGOK_REJECTED_RANGES], (unsigned long long)values[PEZGOK_RECORDS_LENGTH],
+           (unsigned long long)values[PEZGOK_FILES_LENGTH], (unsigned long long)values[PEZGOK_WARNINGS_LENGTH]);
+    return 0;
+}

@@ -1,0 +1,144 @@
+//! Safe calls of the proved import: one unit of a main input, with a supplementary one and a line program, to records, files and warnings.
+
+use std::fmt;
+
+mod sys {
+    unsafe extern "C" {
+        pub fn pezgok_import(
+            main: *const u8,
+            main_len: usize,
+            supplementary: *const u8,
+            supplementary_len: usize,
+            program: *const u8,
+            program_len: usize,
+            ordinal: u64,
+            inlines: bool,
+            call_sites: bool,
+            first_file: u32,
+            work: *mut u8,
+            work_len: usize,
+            records: *mut u8,
+            records_len: usize,
+            files: *mut u8,
+            files_len: usize,
+            warnings: *mut u8,
+            warnings_len: usize,
+            values: *mut [u64; 7],
+        ) -> u8;
+        pub fn pezgok_refusal_name(refusal: u8, name: *mut u8, name_len: usize) -> usize;
+    }
+}
+
+/// What is read.
+#[derive(Clone, Copy, Debug)]
+pub struct Inputs<'a> {
+    pub main: &'a [u8],
+    /// Empty: there is none.
+    pub supplementary: &'a [u8],
+    pub program: &'a [u8],
+}
+
+/// What is asked.
+#[derive(Clone, Copy, Debug)]
+pub struct Options {
+    /// The unit's number in the main input, from 0.
+    pub ordinal: u64,
+    pub inlines: bool,
+    pub call_sites: bool,
+    pub first_file: u32,
+}
+
+impl Default for Options {
+    fn default() -> Self {
+        Self { ordinal: 0, inlines: true, call_sites: true, first_file: 1 }
+    }
+}
+
+/// What is written to. Work holds only 0 after every call.
+#[derive(Debug)]
+pub struct Buffers<'a> {
+    pub work: &'a mut [u8],
+    pub records: &'a mut [u8],
+    pub files: &'a mut [u8],
+    pub warnings: &'a mut [u8],
+}
+
+/// The lengths of what was written, and the statistics.
+#[derive(Clone, Copy, Debug, Default, Eq, PartialEq)]
+pub struct Finished {
+    pub records: usize,
+    pub files: usize,
+    pub warnings: usize,
+    pub functions: u64,
+    pub line_rows: u64,
+    pub inline_nodes: u64,
+    pub rejected_ranges: u64,
+}
+
+/// Why an import was refused: a number from 1 to 18. The three output buffers then hold only 0.
+#[derive(Clone, Copy, Debug, Eq, PartialEq)]
+pub struct Refusal(u8);
+
+impl Refusal {
+    pub fn number(self) -> u8 {
+        self.0
+    }
+}
+
+impl fmt::Display for Refusal {
+    fn fmt(&self, f: &mut fmt::Formatter<'_>) -> fmt::Result {
+        let mut name = [0; 32];
+        // SAFETY: the pointer and the length are those of `name`, which nothing else has.
+        let length = unsafe { sys::pezgok_refusal_name(self.0, name.as_mut_ptr(), name.len()) };
+        f.write_str(std::str::from_utf8(&name[..length.min(name.len())]).unwrap_or("refused"))
+    }
+}
+
+impl std::error::Error for Refusal {}
+
+/// How long the work slice has to be for so many fields, of both inputs together, and so many bytes of program.
+pub const fn work_length(fields: usize, program: usize) -> usize {
+    64 * fields + 4 * program + 16_384
+}
+
+/// Imports a unit. Any content and any length is taken.
+pub fn import(inputs: Inputs<'_>, options: Options, buffers: Buffers<'_>) -> Result<Finished, Refusal> {
+    let mut values = [0; 7];
+    // SAFETY: every pointer and length are those of a slice; the borrows keep the written ones apart from all others.
+    let refusal = unsafe {
+        sys::pezgok_import(
+            inputs.main.as_ptr(),
+            inputs.main.len(),
+            inputs.supplementary.as_ptr(),
+            inputs.supplementary.len(),
+            inputs.program.as_ptr(),
+            inputs.program.len(),
+            options.ordinal,
+            options.inlines,
+            options.call_sites,
+            options.first_file,
+            buffers.work.as_mut_ptr(),
+            buffers.work.len(),
+            buffers.records.as_mut_ptr(),
+            buffers.records.len(),
+            buffers.files.as_mut_ptr(),
+            buffers.files.len(),
+            buffers.warnings.as_mut_ptr(),
+            buffers.warnings.len(),
+            &mut values,
+        )
+    };
+    if refusal != 0 {
+        return Err(Refusal(refusal));
+    }
+    let [records, files, warnings, functions, line_rows, inline_nodes, rejected_ranges] = values;
+    Ok(Finished {
+        records: records as usize,
+        files: files as usize,
+        warnings: warnings as usize,
+        functions,
+        line_rows,
+        inline_nodes,
+        rejected_ranges,
+    })
+}

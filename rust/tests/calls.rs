@@ -1,0 +1,57 @@
+//! The library, called through the wrapper on the listing program's own unit.
+
+use std::fs;
+use std::path::PathBuf;
+
+use pezgok::{Buffers, Finished, Inputs, Options, Refusal, import, work_length};
+
+fn unit(name: &str) -> Vec<u8> {
+    let folder = PathBuf::from(env!("CARGO_MANIFEST_DIR")).join("../crates/listing/data");
+    fs::read(folder.join(name)).expect("the listing program's unit is there")
+}
+
+struct Lent {
+    work: Vec<u8>,
+    records: Vec<u8>,
+    files: Vec<u8>,
+    warnings: Vec<u8>,
+}
+
+impl Lent {
+    fn new(work: usize, records: usize) -> Self {
+        Self { work: vec![0xa5; work], records: vec![0xa5; records], files: vec![0xa5; 4096], warnings: vec![0xa5; 4096] }
+    }
+
+    fn call(&mut self, main: &[u8], program: &[u8]) -> Result<Finished, Refusal> {
+        import(
+            Inputs { main, supplementary: &[], program },
+            Options::default(),
+            Buffers { work: &mut self.work, records: &mut self.records, files: &mut self.files, warnings: &mut self.warnings },
+        )
+    }
+}
+
+#[test]
+fn a_unit_is_imported() {
+    let (main, program) = (unit("unit.main"), unit("unit.line"));
+    let mut lent = Lent::new(work_length(main.len() / 3, program.len()), 4096);
+    let done = lent.call(&main, &program).expect("it is finished");
+    assert_eq!((done.functions, done.line_rows, done.inline_nodes, done.rejected_ranges), (1, 2, 1, 0));
+    assert_eq!((done.files, done.warnings), (14, 0));
+    assert_eq!(&lent.files[..14], b"\x40\x0b\x00\x04\x00/srccue.c");
+    assert!(lent.files[14..].iter().chain(&lent.records[done.records..]).all(|&byte| byte == 0xa5));
+    assert!(lent.work.iter().all(|&byte| byte == 0));
+}
+
+#[test]
+fn refusals_have_numbers_and_names() {
+    let (main, program) = (unit("unit.main"), unit("unit.line"));
+    for (work, records, number, name) in [(0, 4096, 5, "short work"), (57_344, 8, 16, "short tray")] {
+        let mut lent = Lent::new(work, records);
+        let refusal = lent.call(&main, &program).expect_err("it is refused");
+        assert_eq!((refusal.number(), refusal.to_string().as_str()), (number, name));
+        assert!([&lent.work, &lent.records, &lent.files, &lent.warnings].into_iter().flatten().all(|&byte| byte == 0));
+    }
+    let refusal = Lent::new(57_344, 4096).call(&[0x10, 0, 0], &[]).expect_err("it is refused");
+    assert_eq!(refusal.to_string(), "misshapen");
+}
