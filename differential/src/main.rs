@@ -13,6 +13,7 @@ mod wrong;
 const USAGE: &str = "
 differential generated SEED COUNT [OPTIONS]     generated cases, each as it is, then with other switches and with buffers at their limits
 differential cases CASES [OPTIONS]              the cases of a file, in the same way
+differential replay CASES ANSWERS [OPTIONS]     the cases of a file as they are, held to recorded answers
 differential large [OPTIONS]                    the cases over 64 KiB
 OPTIONS: --out DIR where a difference is written; --wrong NAME calls a wrong import instead: it has to be reported";
 
@@ -57,6 +58,7 @@ fn run(arguments: &[String]) -> Result<bool, String> {
             let mut source = Source::open(Path::new(path))?;
             compare(std::iter::from_fn(move || source.case().transpose()), &options(rest)?)
         }
+        ["replay", cases, answers, ref rest @ ..] => replay(Path::new(cases), Path::new(answers), &options(rest)?),
         ["large", ref rest @ ..] => compare(limits::large().into_iter().map(Ok), &options(rest)?),
         _ => Err(format!("these are the commands:{USAGE}")),
     }
@@ -91,6 +93,25 @@ fn compare(cases: impl Iterator<Item = Result<Case, String>>, options: &Options)
                 return Ok(false);
             }
         }
+    }
+    print(&counts);
+    Ok(true)
+}
+
+/// The same for recorded answers, which need no Rust.
+fn replay(cases: &Path, answers: &Path, options: &Options) -> Result<bool, String> {
+    let (mut cases, mut answers) = (Source::open(cases)?, Source::open(answers)?);
+    let mut counts = Counts::default();
+    while let Some(case) = cases.case()? {
+        let expected = answers.answer()?.ok_or("there are fewer answers than cases")?;
+        let got = ours(&case, options.wrong);
+        if let Some(what) = difference(&case, &expected, &got) {
+            println!("case {} differs from its recorded answer: {what}", counts.calls);
+            write_difference(&options.out, &case, &expected, &got)?;
+            return Ok(false);
+        }
+        counts.calls += 1;
+        count(&mut counts, &expected);
     }
     print(&counts);
     Ok(true)
@@ -159,12 +180,7 @@ fn ours(case: &Case, wrong: Option<wrong::Wrong>) -> Got {
     let result = pezgok::import(
         pezgok::Inputs { main: &case.main, supplementary: &case.supplementary, program: &case.program },
         pezgok::Options { ordinal: case.ordinal, inlines: case.inlines, call_sites: case.call_sites, first_file: case.first_file },
-        pezgok::Buffers {
-            work: slice(&mut work),
-            records: slice(&mut records),
-            files: slice(&mut files),
-            warnings: slice(&mut warnings),
-        },
+        pezgok::Buffers { work: slice(&mut work), records: slice(&mut records), files: slice(&mut files), warnings: slice(&mut warnings) },
     );
     let mut got = Got { refusal: 0, lengths: [0; 3], statistics: [0; 4], work, buffers: [records, files, warnings] };
     match result {
@@ -256,8 +272,19 @@ fn write_difference(folder: &Path, case: &Case, expected: &Answer, got: &Got) ->
     }
     let asked = format!(
         "ordinal {}, inlines {}, call sites {}, first file {}, work {}, records {}, files {}, warnings {}\nexpected: refusal {}, statistics {:?}\ngot: refusal {}, lengths {:?}, statistics {:?}\n",
-        case.ordinal, case.inlines, case.call_sites, case.first_file, case.work, case.records, case.files, case.warnings,
-        expected.refusal, expected.statistics, got.refusal, got.lengths, got.statistics
+        case.ordinal,
+        case.inlines,
+        case.call_sites,
+        case.first_file,
+        case.work,
+        case.records,
+        case.files,
+        case.warnings,
+        expected.refusal,
+        expected.statistics,
+        got.refusal,
+        got.lengths,
+        got.statistics
     );
     put("answers", asked.as_bytes())
 }

@@ -1,4 +1,4 @@
--- An entry's ranges held against those of the innermost open node: what `top_of`, `gather` and `pushed` say together. Assumes nothing.
+-- An entry's ranges held against those of the innermost open node: what `top_of`, `coalesce_ranges` and `pushed` say together. Assumes nothing.
 use mathlib.Core.Path.{_≡_, sym, ap, _∙_}
 use mathlib.Core.List.{List, [], _∷_, map}
 use Prim.Native.Nat.{ℕ, _+_, _-_, _*_, _<_}

@@ -498,7 +498,7 @@ fn make_inline_node<'a>(
             let o = s.frames;
             let top = crate::frames::top_of(o);
             let used = o.used;
-            let k = crate::ranges::gather(
+            let k = crate::ranges::coalesce_ranges(
                 main,
                 p + 15,
                 work,

@@ -73,47 +73,47 @@ enum-told-4 c = search needs
 top-of-requires : tie.Need-top-of-requires
 top-of-requires c κs = search needs
 
-add-gather : tie.Need-add-gather
-add-gather c = let s = c .before .before .before .before .before .before .before .before .before .before .before .before .before .before .before .before .before .before .before .before .before in omega (arith, entry-read (details-accepted (s .pre .0)) (s .pre .1 .0))
+add-coalesce-ranges : tie.Need-add-coalesce-ranges
+add-coalesce-ranges c = let s = c .before .before .before .before .before .before .before .before .before .before .before .before .before .before .before .before .before .before .before .before .before in omega (arith, entry-read (details-accepted (s .pre .0)) (s .pre .1 .0))
 
-mul-gather : tie.Need-mul-gather
-mul-gather c = let s = c .before .before .before .before .before .before .before .before .before .before .before .before .before .before .before .before .before .before .before .before .before .before in let D = s .pre .0 in let F = s .pre .1 .1 .0 in omega (arith, c .before .top-of .ensures .within, F .used, D .ranges, D .stack, D .sites, D .tables .keys .room)
+mul-coalesce-ranges : tie.Need-mul-coalesce-ranges
+mul-coalesce-ranges c = let s = c .before .before .before .before .before .before .before .before .before .before .before .before .before .before .before .before .before .before .before .before .before .before in let D = s .pre .0 in let F = s .pre .1 .1 .0 in omega (arith, c .before .top-of .ensures .within, F .used, D .ranges, D .stack, D .sites, D .tables .keys .room)
 
-add-gather-2 : tie.Need-add-gather-2
-add-gather-2 c = let s = c .before .before .before .before .before .before .before .before .before .before .before .before .before .before .before .before .before .before .before .before .before .before .before in let D = s .pre .0 in let F = s .pre .1 .1 .0 in omega (arith, c .before .before .top-of .ensures .within, F .used, D .ranges, D .stack, D .sites, D .tables .keys .room)
+add-coalesce-ranges-2 : tie.Need-add-coalesce-ranges-2
+add-coalesce-ranges-2 c = let s = c .before .before .before .before .before .before .before .before .before .before .before .before .before .before .before .before .before .before .before .before .before .before .before in let D = s .pre .0 in let F = s .pre .1 .1 .0 in omega (arith, c .before .before .top-of .ensures .within, F .used, D .ranges, D .stack, D .sites, D .tables .keys .room)
 
-sub-gather : tie.Need-sub-gather
-sub-gather c = search needs
+sub-coalesce-ranges : tie.Need-sub-coalesce-ranges
+sub-coalesce-ranges c = search needs
 
-mul-gather-2 : tie.Need-mul-gather-2
-mul-gather-2 c = let s = c .before .before .before .before .before .before .before .before .before .before .before .before .before .before .before .before .before .before .before .before .before .before .before in let D = s .pre .0 in let F = s .pre .1 .1 .0 in omega (arith, F .used, D .ranges, D .stack, D .sites, D .tables .keys .room)
+mul-coalesce-ranges-2 : tie.Need-mul-coalesce-ranges-2
+mul-coalesce-ranges-2 c = let s = c .before .before .before .before .before .before .before .before .before .before .before .before .before .before .before .before .before .before .before .before .before .before .before in let D = s .pre .0 in let F = s .pre .1 .1 .0 in omega (arith, F .used, D .ranges, D .stack, D .sites, D .tables .keys .room)
 
-add-gather-3 : tie.Need-add-gather-3
-add-gather-3 c = let s = c .before .before .before .before .before .before .before .before .before .before .before .before .before .before .before .before .before .before .before .before .before .before .before .before in let D = s .pre .0 in let F = s .pre .1 .1 .0 in omega (arith, F .used, D .ranges, D .stack, D .sites, D .tables .keys .room)
+add-coalesce-ranges-3 : tie.Need-add-coalesce-ranges-3
+add-coalesce-ranges-3 c = let s = c .before .before .before .before .before .before .before .before .before .before .before .before .before .before .before .before .before .before .before .before .before .before .before .before in let D = s .pre .0 in let F = s .pre .1 .1 .0 in omega (arith, F .used, D .ranges, D .stack, D .sites, D .tables .keys .room)
 
-gather-requires : tie.Need-gather-requires
-gather-requires c κs = let s = c .before .before .before .before .before .before .before .before .before .before .before .before .before .before .before .before .before .before .before .before .before .before .before .before in let D = s .pre .0 in let K = s .pre .1 .0 in let F = s .pre .1 .1 .0 in let z = c .before .before .before .before .before .before .before .before .before .before .before .before .before .before .resolve-name .kept .1 .1 .0 in (entry-next (accepted-placed (details-accepted D) K) K, (omega (arith, c .before .before .before .top-of .ensures .within), omega (arith, later-here D K, F .used, D .ranges, D .stack, D .sites, D .tables .keys .room)))
+coalesce-ranges-requires : tie.Need-coalesce-ranges-requires
+coalesce-ranges-requires c κs = let s = c .before .before .before .before .before .before .before .before .before .before .before .before .before .before .before .before .before .before .before .before .before .before .before .before in let D = s .pre .0 in let K = s .pre .1 .0 in let F = s .pre .1 .1 .0 in let z = c .before .before .before .before .before .before .before .before .before .before .before .before .before .before .resolve-name .kept .1 .1 .0 in (entry-next (accepted-placed (details-accepted D) K) K, (omega (arith, c .before .before .before .top-of .ensures .within), omega (arith, later-here D K, F .used, D .ranges, D .stack, D .sites, D .tables .keys .room)))
 
 same-length-4 : tie.Need-same-length-4
-same-length-4 c = c .before .before .before .gather .kept .1 .1 .0 ∙ c .before .before .before .before .before .before .before .before .before .before .before .before .before .before .before .before .before .before .resolve-name .kept .1 .1 .0
+same-length-4 c = c .before .before .before .coalesce-ranges .kept .1 .1 .0 ∙ c .before .before .before .before .before .before .before .before .before .before .before .before .before .before .before .before .before .before .resolve-name .kept .1 .1 .0
 
 returns-4 : tie.Need-returns-4
-returns-4 c = let s = c .before .before .before .before .before .before .before .before .before .before .before .before .before .before .before .before .before .before .before .before .before .before .before .before .before .before .before .before in inline-empty _ _ _ (omega arith) (omega arith) (s .pre .0) (s .pre .1 .0) (s .pre .1 .1 .0) (c .before .before .before .before .before .before .before .before .before .before .before .before .before .before .before .before .before .before .resolve-name .ensures) (c .before .before .before .before .before .before .before .before .before .before .before .before .before .before .before .if1 .left) (named (c .before .before .before .before .before .before .before .before .before .before .before .before .before .before .before .before .before .before .resolve-name .ensures) (c .before .before .before .before .before .before .before .before .before .before .before .before .before .before .found-name .ensures) (c .before .before .before .before .before .before .before .before .before .before .before .before .enum-told .given .1)) (c .before .before .before .before .before .before .before .before .before .before .before .next-own .ensures) (c .before .before .before .before .before .before .before .before .before .enum-told4 .given .1) (c .before .before .before .before .before .before .before .top-of .ensures) (c .before .before .before .gather .ensures) (s .pre .1 .1 .1 .0) (c .if2 .taken)
+returns-4 c = let s = c .before .before .before .before .before .before .before .before .before .before .before .before .before .before .before .before .before .before .before .before .before .before .before .before .before .before .before .before in inline-empty _ _ _ (omega arith) (omega arith) (s .pre .0) (s .pre .1 .0) (s .pre .1 .1 .0) (c .before .before .before .before .before .before .before .before .before .before .before .before .before .before .before .before .before .before .resolve-name .ensures) (c .before .before .before .before .before .before .before .before .before .before .before .before .before .before .before .if1 .left) (named (c .before .before .before .before .before .before .before .before .before .before .before .before .before .before .before .before .before .before .resolve-name .ensures) (c .before .before .before .before .before .before .before .before .before .before .before .before .before .before .found-name .ensures) (c .before .before .before .before .before .before .before .before .before .before .before .before .enum-told .given .1)) (c .before .before .before .before .before .before .before .before .before .before .before .next-own .ensures) (c .before .before .before .before .before .before .before .before .before .enum-told4 .given .1) (c .before .before .before .before .before .before .before .top-of .ensures) (c .before .before .before .coalesce-ranges .ensures) (s .pre .1 .1 .1 .0) (c .if2 .taken)
 
 keep-node-requires : tie.Need-keep-node-requires
 keep-node-requires c κs = let s = c .before .before .before .before .before .before .before .before .before .before .before .before .before .before .before .before .before .before .before .before .before .before .before .before .before .before .before .before .before .before .before in let D = s .pre .0 in let K = s .pre .1 .0 in (
-  inline-details (s .args .name .now) (s .args .records .now) (s .args .warnings .now) (omega arith) (omega arith) D K (s .pre .1 .1 .0) (c .before .before .before .before .before .before .before .before .before .before .before .before .before .before .before .before .before .before .before .before .before .resolve-name .ensures) (c .before .before .before .before .before .before .before .before .before .before .before .before .before .before .before .before .before .before .if1 .left) (named (c .before .before .before .before .before .before .before .before .before .before .before .before .before .before .before .before .before .before .before .before .before .resolve-name .ensures) (c .before .before .before .before .before .before .before .before .before .before .before .before .before .before .before .before .before .found-name .ensures) (c .before .before .before .before .before .before .before .before .before .before .before .before .before .before .before .enum-told .given .1)) (c .before .before .before .before .before .before .before .before .before .before .before .before .before .before .next-own .ensures) (c .before .before .before .before .before .before .before .before .before .before .before .before .enum-told4 .given .1) (c .before .before .before .before .before .before .before .before .before .before .top-of .ensures) (c .before .before .before .before .before .before .gather .ensures) (c .before .before .before .before .before .before .gather .kept .1 .1 .0 ∙ c .before .before .before .before .before .before .before .before .before .before .before .before .before .before .before .before .before .before .before .before .before .resolve-name .kept .1 .1 .0),
+  inline-details (s .args .name .now) (s .args .records .now) (s .args .warnings .now) (omega arith) (omega arith) D K (s .pre .1 .1 .0) (c .before .before .before .before .before .before .before .before .before .before .before .before .before .before .before .before .before .before .before .before .before .resolve-name .ensures) (c .before .before .before .before .before .before .before .before .before .before .before .before .before .before .before .before .before .before .if1 .left) (named (c .before .before .before .before .before .before .before .before .before .before .before .before .before .before .before .before .before .before .before .before .before .resolve-name .ensures) (c .before .before .before .before .before .before .before .before .before .before .before .before .before .before .before .before .before .found-name .ensures) (c .before .before .before .before .before .before .before .before .before .before .before .before .before .before .before .enum-told .given .1)) (c .before .before .before .before .before .before .before .before .before .before .before .before .before .before .next-own .ensures) (c .before .before .before .before .before .before .before .before .before .before .before .before .enum-told4 .given .1) (c .before .before .before .before .before .before .before .before .before .before .top-of .ensures) (c .before .before .before .before .before .before .coalesce-ranges .ensures) (c .before .before .before .before .before .before .coalesce-ranges .kept .1 .1 .0 ∙ c .before .before .before .before .before .before .before .before .before .before .before .before .before .before .before .before .before .before .before .before .before .resolve-name .kept .1 .1 .0),
   (
     K,
     (
-      inline-fits (s .args .name .now) (s .args .records .now) (s .args .warnings .now) (omega arith) (omega arith) D K (s .pre .1 .1 .0) (c .before .before .before .before .before .before .before .before .before .before .before .before .before .before .before .before .before .before .before .before .before .resolve-name .ensures) (c .before .before .before .before .before .before .before .before .before .before .before .before .before .before .before .before .before .before .if1 .left) (named (c .before .before .before .before .before .before .before .before .before .before .before .before .before .before .before .before .before .before .before .before .before .resolve-name .ensures) (c .before .before .before .before .before .before .before .before .before .before .before .before .before .before .before .before .before .found-name .ensures) (c .before .before .before .before .before .before .before .before .before .before .before .before .before .before .before .enum-told .given .1)) (c .before .before .before .before .before .before .before .before .before .before .before .before .before .before .next-own .ensures) (c .before .before .before .before .before .before .before .before .before .before .before .before .enum-told4 .given .1) (c .before .before .before .before .before .before .before .before .before .before .top-of .ensures) (c .before .before .before .before .before .before .gather .ensures),
+      inline-fits (s .args .name .now) (s .args .records .now) (s .args .warnings .now) (omega arith) (omega arith) D K (s .pre .1 .1 .0) (c .before .before .before .before .before .before .before .before .before .before .before .before .before .before .before .before .before .before .before .before .before .resolve-name .ensures) (c .before .before .before .before .before .before .before .before .before .before .before .before .before .before .before .before .before .before .if1 .left) (named (c .before .before .before .before .before .before .before .before .before .before .before .before .before .before .before .before .before .before .before .before .before .resolve-name .ensures) (c .before .before .before .before .before .before .before .before .before .before .before .before .before .before .before .before .before .found-name .ensures) (c .before .before .before .before .before .before .before .before .before .before .before .before .before .before .before .enum-told .given .1)) (c .before .before .before .before .before .before .before .before .before .before .before .before .before .before .next-own .ensures) (c .before .before .before .before .before .before .before .before .before .before .before .before .enum-told4 .given .1) (c .before .before .before .before .before .before .before .before .before .before .top-of .ensures) (c .before .before .before .before .before .before .coalesce-ranges .ensures),
       (s .pre .1 .1 .1 .0, omega arith, s .pre .1 .1 .1 .1, name-short D K (slice-bytes (s .args .main .now) (c .before .before .before .before .before .before .before .before .before .before .before .before .before .before .before .before .before .before .before .before .before .before .before .before .before .before .before .before .before .before .shared-slice-known .given)) (slice-bytes (s .args .supplementary .now) (c .before .before .before .before .before .before .before .before .before .before .before .before .before .before .before .before .before .before .before .before .before .before .before .before .before .before .before .before .before .shared-slice-known2 .given)) (given-done _ _ (c .before .before .before .before .before .before .before .before .before .before .before .before .before .before .before .before .before .before .before .before .before .resolve-name .ensures .is) (c .before .before .before .before .before .before .before .before .before .before .before .before .before .before .before .before .before .before .if1 .left))),
     ),
   ),
 )
 
 same-length-5 : tie.Need-same-length-5
-same-length-5 c = c .before .before .before .before .before .before .before .before .before .before .before .gather .kept .1 .1 .0 ∙ c .before .before .before .before .before .before .before .before .before .before .before .before .before .before .before .before .before .before .before .before .before .before .before .before .before .before .resolve-name .kept .1 .1 .0
+same-length-5 c = c .before .before .before .before .before .before .before .before .before .before .before .coalesce-ranges .kept .1 .1 .0 ∙ c .before .before .before .before .before .before .before .before .before .before .before .before .before .before .before .before .before .before .before .before .before .before .before .before .before .before .resolve-name .kept .1 .1 .0
 
 same-length-6 : tie.Need-same-length-6
 same-length-6 c = search needs
@@ -122,7 +122,7 @@ same-length-7 : tie.Need-same-length-7
 same-length-7 c = search needs
 
 returns-5 : tie.Need-returns-5
-returns-5 c = let s = c .before .before .before .before .before .before .before .before .before .before .before .before .before .before .before .before .before .before .before .before .before .before .before .before .before .before .before .before .before .before .before .before .before .before .before .before in inline-kept _ _ _ (omega arith) (omega arith) (s .pre .0) (s .pre .1 .0) (s .pre .1 .1 .0) (c .before .before .before .before .before .before .before .before .before .before .before .before .before .before .before .before .before .before .before .before .before .before .before .before .before .before .resolve-name .ensures) (c .before .before .before .before .before .before .before .before .before .before .before .before .before .before .before .before .before .before .before .before .before .before .before .if1 .left) (named (c .before .before .before .before .before .before .before .before .before .before .before .before .before .before .before .before .before .before .before .before .before .before .before .before .before .before .resolve-name .ensures) (c .before .before .before .before .before .before .before .before .before .before .before .before .before .before .before .before .before .before .before .before .before .before .found-name .ensures) (c .before .before .before .before .before .before .before .before .before .before .before .before .before .before .before .before .before .before .before .before .enum-told .given .1)) (c .before .before .before .before .before .before .before .before .before .before .before .before .before .before .before .before .before .before .before .next-own .ensures) (c .before .before .before .before .before .before .before .before .before .before .before .before .before .before .before .before .before .enum-told4 .given .1) (c .before .before .before .before .before .before .before .before .before .before .before .before .before .before .before .top-of .ensures) (c .before .before .before .before .before .before .before .before .before .before .before .gather .ensures) (c .before .before .before .before .keep-node .ensures)
+returns-5 c = let s = c .before .before .before .before .before .before .before .before .before .before .before .before .before .before .before .before .before .before .before .before .before .before .before .before .before .before .before .before .before .before .before .before .before .before .before .before in inline-kept _ _ _ (omega arith) (omega arith) (s .pre .0) (s .pre .1 .0) (s .pre .1 .1 .0) (c .before .before .before .before .before .before .before .before .before .before .before .before .before .before .before .before .before .before .before .before .before .before .before .before .before .before .resolve-name .ensures) (c .before .before .before .before .before .before .before .before .before .before .before .before .before .before .before .before .before .before .before .before .before .before .before .if1 .left) (named (c .before .before .before .before .before .before .before .before .before .before .before .before .before .before .before .before .before .before .before .before .before .before .before .before .before .before .resolve-name .ensures) (c .before .before .before .before .before .before .before .before .before .before .before .before .before .before .before .before .before .before .before .before .before .before .found-name .ensures) (c .before .before .before .before .before .before .before .before .before .before .before .before .before .before .before .before .before .before .before .before .enum-told .given .1)) (c .before .before .before .before .before .before .before .before .before .before .before .before .before .before .before .before .before .before .before .next-own .ensures) (c .before .before .before .before .before .before .before .before .before .before .before .before .before .before .before .before .before .enum-told4 .given .1) (c .before .before .before .before .before .before .before .before .before .before .before .before .before .before .before .top-of .ensures) (c .before .before .before .before .before .before .before .before .before .before .before .coalesce-ranges .ensures) (c .before .before .before .before .keep-node .ensures)
 
 pub make-inline-node-spec : {M : Type 1} → statement M
 make-inline-node-spec =
@@ -143,13 +143,13 @@ make-inline-node-spec =
     returns-3
     enum-told-4
     top-of-requires
-    add-gather
-    mul-gather
-    add-gather-2
-    sub-gather
-    mul-gather-2
-    add-gather-3
-    gather-requires
+    add-coalesce-ranges
+    mul-coalesce-ranges
+    add-coalesce-ranges-2
+    sub-coalesce-ranges
+    mul-coalesce-ranges-2
+    add-coalesce-ranges-3
+    coalesce-ranges-requires
     same-length-4
     returns-4
     keep-node-requires

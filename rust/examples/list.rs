@@ -1,0 +1,97 @@
+//! Lists the units of a folder that `dumper dump` wrote: for each a heading, then what the import gives, in the words of the listing program.
+
+use std::io::{self, BufWriter, IsTerminal, Write};
+use std::path::Path;
+use std::{env, fs, process};
+
+use pezgok::{Buffers, Finished, Inputs, Options, Refusal, import, work_length};
+
+/// A buffer is made larger where an import says that it is short, up to this.
+const LARGEST: usize = 1 << 30;
+
+fn main() {
+    let Some(folder) = env::args_os().nth(1) else {
+        fail("list FOLDER: a folder that `dumper dump` wrote");
+    };
+    let folder = Path::new(&folder);
+    let index = fs::read_to_string(folder.join("index")).unwrap_or_else(|error| fail(&format!("{}: {error}", folder.display())));
+    let rows: Vec<Vec<&str>> = index.lines().skip(1).map(|line| line.split('\t').collect()).collect();
+    let mut out = BufWriter::new(io::stdout().lock());
+    let shown = io::stderr().is_terminal() || rows.len() > 100;
+    for (place, row) in rows.iter().enumerate() {
+        let [unit, ordinal, .., name] = row[..] else { fail("the folder's index is cut off") };
+        let Ok(ordinal) = ordinal.parse() else { fail("the folder's index has no ordinal") };
+        if shown && place % 100 == 99 {
+            eprintln!("{} of {} units", place + 1, rows.len());
+        }
+        if let Err(error) = list(folder, unit, ordinal, name, &mut out) {
+            // A reader that has seen enough is no error.
+            process::exit(if error.kind() == io::ErrorKind::BrokenPipe { 0 } else { 2 });
+        }
+    }
+}
+
+fn fail(message: &str) -> ! {
+    eprintln!("list: {message}");
+    process::exit(2);
+}
+
+fn list(folder: &Path, unit: &str, ordinal: u64, name: &str, out: &mut impl Write) -> io::Result<()> {
+    let read = |ending: &str| fs::read(folder.join(format!("{unit}.{ending}"))).unwrap_or_default();
+    let (main, supplementary, program) = (read("main"), read("sup"), read("line"));
+    writeln!(out, "unit {unit} {name}")?;
+    let mut size = 1 << 20;
+    loop {
+        let (mut records, mut files, mut warnings) = (vec![0; size], vec![0; size], vec![0; size]);
+        // A field has three bytes at least.
+        let mut work = vec![0; work_length((main.len() + supplementary.len()) / 3, program.len())];
+        let inputs = Inputs { main: &main, supplementary: &supplementary, program: &program };
+        let buffers = Buffers { work: &mut work, records: &mut records, files: &mut files, warnings: &mut warnings };
+        match import(inputs, Options { ordinal, ..Options::default() }, buffers) {
+            Err(refusal) if refusal.number() >= 16 && size < LARGEST => size *= 2,
+            Err(refusal) => return refused(refusal, out),
+            Ok(done) => return finished(done, &records, &files, &warnings, out),
+        }
+    }
+}
+
+fn refused(refusal: Refusal, out: &mut impl Write) -> io::Result<()> {
+    writeln!(out, "refused {} {refusal}", refusal.number())
+}
+
+fn finished(done: Finished, records: &[u8], files: &[u8], warnings: &[u8], out: &mut impl Write) -> io::Result<()> {
+    let mut file = 1;
+    for mut rest in [&records[..done.records], &files[..done.files], &warnings[..done.warnings]] {
+        while let [tag, low, high, after @ ..] = rest {
+            let (payload, next) = after.split_at(usize::from(u16::from_le_bytes([*low, *high])));
+            field(*tag, payload, &mut file, out)?;
+            rest = next;
+        }
+    }
+    writeln!(out, "stats {} {} {} {}", done.functions, done.line_rows, done.inline_nodes, done.rejected_ranges)
+}
+
+fn field(tag: u8, p: &[u8], file: &mut u64, out: &mut impl Write) -> io::Result<()> {
+    let number = |at: usize, size: usize| p[at..at + size].iter().rev().fold(0_u64, |value, &byte| value << 8 | u64::from(byte));
+    let mut text = |head: String, bytes: &[u8]| {
+        out.write_all(head.as_bytes())?;
+        out.write_all(bytes)?;
+        out.write_all(b"\n")
+    };
+    match tag {
+        0x41 => text(format!("function {:x} {:x} ", number(0, 8), number(8, 8)), &p[16..]),
+        0x42 => text(format!("row {:x} {} {}", number(0, 8), number(8, 4), number(12, 4)), b""),
+        0x43 => text(format!("inline {} {} {} ", number(0, 2), number(2, 4), number(6, 4)), &p[10..]),
+        0x44 => text(format!("range {:x} {:x}", number(0, 8), number(8, 8)), b""),
+        0x45 if p[8] == 0 => text(format!("site {:x}", number(0, 8)), b""),
+        0x45 => text(format!("site {:x} ", number(0, 8)), &p[9..]),
+        0x40 => {
+            let split = 2 + number(0, 2) as usize;
+            let names = [&p[2..split], b" ", &p[split..]].concat();
+            *file += 1;
+            text(format!("file {} ", *file - 1), &names)
+        }
+        _ if p[0] <= 2 => text(format!("warning {} ", p[0]), &p[1..]),
+        _ => text(format!("warning {} {:x} {:x}", p[0], number(1, 8), number(9, 8)), b""),
+    }
+}
