@@ -27,7 +27,7 @@ enum {
 
 /* Imports the unit of an ordinal, from 0, of the main input. Returns 0, or the refusal's number, 1 to 18.
  *
- * Any content and any length is taken. No two of the slices may overlap, but for two that are only read; a pointer is not null, also where
+ * Any content and any length is taken. No two of the slices may overlap, but for two that are only read, nor may values overlap any; a pointer is not null, also where
  * its length is 0. After every call work holds only 0. After a refusal the three output buffers hold only 0, and so do the values; else each
  * buffer begins with what values says the length of, and keeps its old bytes behind. */
 uint8_t pezgok_import(

@@ -6,15 +6,21 @@
 
 #define LARGEST (1 << 20)
 
-/* The bytes of a file, or none. */
+/* The bytes of a file; none where there is no file. A larger one than the buffer ends the program: cut off it would be another input. */
 static size_t read_file(const char *folder, const char *name, uint8_t *bytes) {
     char path[4096];
-    if (snprintf(path, sizeof path, "%s/%s", folder, name) >= (int)sizeof path)
-        return 0;
+    if (snprintf(path, sizeof path, "%s/%s", folder, name) >= (int)sizeof path) {
+        fprintf(stderr, "import: the folder's name is too long\n");
+        exit(2);
+    }
     FILE *file = fopen(path, "rb");
     if (!file)
         return 0;
     size_t length = fread(bytes, 1, LARGEST, file);
+    if (length == LARGEST && fgetc(file) != EOF) {
+        fprintf(stderr, "import: %s is too large\n", path);
+        exit(2);
+    }
     fclose(file);
     return length;
 }

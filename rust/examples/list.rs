@@ -25,10 +25,20 @@ fn main() {
             eprintln!("{} of {} units", place + 1, rows.len());
         }
         if let Err(error) = list(folder, unit, ordinal, name, &mut out) {
-            // A reader that has seen enough is no error.
-            process::exit(if error.kind() == io::ErrorKind::BrokenPipe { 0 } else { 2 });
+            stop(&error);
         }
     }
+    if let Err(error) = out.flush() {
+        stop(&error);
+    }
+}
+
+/// A reader that has seen enough is no error.
+fn stop(error: &io::Error) -> ! {
+    if error.kind() == io::ErrorKind::BrokenPipe {
+        process::exit(0);
+    }
+    fail(&error.to_string());
 }
 
 fn fail(message: &str) -> ! {
@@ -38,7 +48,7 @@ fn fail(message: &str) -> ! {
 
 fn list(folder: &Path, unit: &str, ordinal: u64, name: &str, out: &mut impl Write) -> io::Result<()> {
     let read = |ending: &str| fs::read(folder.join(format!("{unit}.{ending}"))).unwrap_or_default();
-    let (main, supplementary, program) = (read("main"), read("sup"), read("line"));
+    let (main, supplementary, program) = (fs::read(folder.join(format!("{unit}.main")))?, read("sup"), read("line"));
     writeln!(out, "unit {unit} {name}")?;
     let mut size = 1 << 20;
     loop {
