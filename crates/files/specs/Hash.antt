@@ -3,9 +3,9 @@ use Prim.Native.Nat.{ℕ, _+_, _*_, _%_}
 use mathlib.Core.List.{List, [], _∷_}
 use Rattle.tlv.specs.Output.{FileEntry}
 
--- a prime below 2^32
+-- 2^32: the remainder is the low half of a word, which costs no division
 abbrev pub modulus : ℕ
-modulus = 4294967291
+modulus = 4294967296
 
 unfoldable pub hashFrom : ℕ → List ℕ → ℕ
 hashFrom h [] = h

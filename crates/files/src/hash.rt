@@ -11,7 +11,7 @@ pub fn hash_bytes(h: u64, s: &[u8]) -> u64
     let mut r = h;
     let mut i = 0;
     while i < s.len() {
-        r = (r * 16777619 + s[i] as u64 + 1) % 4294967291;
+        r = (r * 16777619 + s[i] as u64 + 1) % 4294967296;
         i += 1;
     }
     r
