@@ -1,27 +1,30 @@
 -- The value of an attribute: what its payload says, and the turns of the loop that looks for the first of a name. Assumes nothing.
 use mathlib.Core.Path.{_≡_, refl, sym, ap, _∙_}
 use mathlib.Core.Bool.{Bool, true, false, cond}
-use mathlib.Core.List.{List, map}
+use mathlib.Core.List.{List, [], _∷_, map}
 use mathlib.Core.Option.{some}
 use Prim.Native.Nat.{ℕ, _+_, _-_, _≤_, _<_}
 use native.Mathlib.Omega.{arith}
 use lib.Dec.{eqb}
 use lib.ListN.{length, take, drop}
 use borrow.Author.Tests.{leb-true, eqb-true, eq-eqb, ne-eqb}
-use Rattle.tlv.specs.declared.access.Own.{Own}
+use Rattle.tlv.specs.declared.fields.Step.{Step}
 use Rattle.tlv.specs.declared.access.Value.{Value}
-use Rattle.tlv.specs.Lists.{first}
+use Rattle.tlv.specs.Lists.{first, takeWhile}
 use Rattle.tlv.specs.Bytes.{leAt}
-use Rattle.tlv.specs.Fields.{fields, payloads}
-use Rattle.tlv.specs.Grammar.{valueShaped, attributeShaped, payloadShaped}
+use Rattle.tlv.specs.Fields.{fields, wholeFields, payloads}
+use Rattle.tlv.specs.Cursor.{stepAt}
+use Rattle.tlv.specs.Grammar.{mayFollow, valueShaped, attributeShaped, payloadShaped, shaped}
 use Rattle.tlv.specs.Model.{attributeOf}
 use Rattle.tlv.specs.Checked.{Placed}
 use Rattle.tlv.specs.Places.{ownFields}
-use Rattle.tlv.specs.Access.{ownPayloads, NextOwn, Meaning, isNamed, valueOf, meaningOf, numberValue, meant, ValueWithin, Says}
+use Rattle.tlv.specs.Access.{Meaning, isNamed, valueOf, meaningOf, numberValue, meant, ValueWithin, Says}
 use Rattle.tlv.proofs.TestLaws.{by-test, and-left, and-right}
 use Rattle.tlv.proofs.WidthLaws.{drop-part}
 use Rattle.tlv.proofs.ShapeLaws.{part-length, number-at, number-first}
-use Rattle.tlv.proofs.OwnLaws.{own-within, own-passed}
+use Rattle.tlv.proofs.CursorLaws.{fields-at, payload-within, fields-field}
+use Rattle.tlv.proofs.PlaceFacts.{placed-shaped}
+use Rattle.tlv.proofs.OrderLaws.{none-after-attributes}
 
 -- ---- a value
 
@@ -90,44 +93,57 @@ module _ (s : List ℕ) (start len : ℕ) (fits : start + len ≤ length s) (sh 
 
 -- ---- a turn of the loop: m is what is looked for
 
-module _ (s : List ℕ) (p name : ℕ) (r : Own) (m : Meaning)
+module _ (s : List ℕ) (p name : ℕ) (r : Step) (m : Meaning)
     (inv : m ≡ meaningOf (first (isNamed name) (map attributeOf (payloads 0x18 (ownFields (fields (drop p s)))))))
-    (own : NextOwn s p 0x18 r) where
-  turn : m ≡ meaningOf (first (isNamed name) (map attributeOf (ownPayloads s 0x18 r)))
-  turn = inv ∙ rw (← own .is)
-
-  pub says-absent : r ≡ Own.Missing → Says s Value.Absent m
+    (reads : r ≡ stepAt s p) where
+  -- no attribute is left
+  absent-where : payloads 0x18 (ownFields (fields (drop p s))) ≡ [] → Says s Value.Absent m
   unfolding first meaningOf
-  says-absent e = record { is = sym (rw e at turn); within = tt }
+  absent-where none = record { is = sym (rw none at inv); within = tt }
 
-  module _ (start len next : ℕ) (e : r ≡ Own.Field start len next) (h : Placed s p) where
-    pub found-within : start + len ≤ length s
-    found-within = own-within s p 0x18 r start len next own e .0
+  pub absent-end : r ≡ Step.End → Says s Value.Absent m
+  unfolding ownFields takeWhile wholeFields payloads
+  absent-end e = absent-where (rw (fields-at s p, ← reads, e))
 
-    pub found-shaped : attributeShaped (take len (drop start s)) ≡ true
-    unfolding payloadShaped
-    found-shaped = own-passed s p 0x18 r start len next own e h .1
+  pub absent-cut : r ≡ Step.Cut → Says s Value.Absent m
+  unfolding ownFields takeWhile wholeFields payloads
+  absent-cut e = absent-where (rw (fields-at s p, ← reads, e))
 
-    wide : 3 ≤ len
-    wide = attribute-wide s start len found-within found-shaped
+  module _ (t start len next : ℕ) (e : r ≡ Step.Field t start len next) (h : Placed s p) where
+    pub absent-other : (t ≡ 0x18 → ⊥) → Says s Value.Absent m
+    absent-other other = absent-where (none-after-attributes s p r t start len next h reads e other)
 
-    pub name-within : start + 2 ≤ length s
-    name-within = let w = wide in let l = found-within in omega arith
+    module _ (is : t ≡ 0x18) where
+      pub found-shaped : attributeShaped (take len (drop start s)) ≡ true
+      unfolding shaped payloadShaped
+      found-shaped =
+          let payload = take len (drop start s) in
+          rw is at (and-right (mayFollow (h .context .previous) t) (payloadShaped (h .context) t payload) (placed-shaped s p r t start len next h reads e))
 
-    module _ (n : ℕ) (en : n ≡ leAt 2 s start) where
-      name-is : attributeOf (take len (drop start s)) .name ≡ n
-      unfolding attributeOf
-      name-is = let w = wide in number-first s start len 2 n (omega arith) en
+      wide : 3 ≤ len
+      wide = attribute-wide s start len (payload-within s p r t start len next reads e) found-shaped
 
-      turn-name : m ≡ meaningOf (cond (eqb n name) (some (attributeOf (take len (drop start s)))) (first (isNamed name) (map attributeOf (payloads 0x18 (ownFields (fields (drop next s)))))))
-      unfolding first
-      turn-name =
-          let rest = first (isNamed name) (map attributeOf (payloads 0x18 (ownFields (fields (drop next s))))) in
-          rw e at turn ∙ ap (λ (x : ℕ). meaningOf (cond (eqb x name) (some (attributeOf (take len (drop start s)))) rest)) name-is
+      pub name-within : start + 2 ≤ length s
+      name-within = let w = wide in let l = payload-within s p r t start len next reads e in omega arith
 
-      pub attribute-found : (v : Value) → n ≡ name → Says s v (valueOf (attributeOf (take len (drop start s)))) → Says s v m
-      unfolding meaningOf
-      attribute-found v g says = rw (turn-name, eq-eqb n name g) says
+      turn : m ≡ meaningOf (first (isNamed name) (map attributeOf (take len (drop start s) ∷ payloads 0x18 (ownFields (fields (drop next s))))))
+      unfolding ownFields takeWhile wholeFields payloads
+      turn = inv ∙ rw (fields-field s p r t start len next reads e, is)
 
-      pub attribute-passed : (n ≡ name → ⊥) → m ≡ meaningOf (first (isNamed name) (map attributeOf (payloads 0x18 (ownFields (fields (drop next s))))))
-      attribute-passed g = rw (ne-eqb n name g) at turn-name
+      module _ (n : ℕ) (en : n ≡ leAt 2 s start) where
+        name-is : attributeOf (take len (drop start s)) .name ≡ n
+        unfolding attributeOf
+        name-is = let w = wide in number-first s start len 2 n (omega arith) en
+
+        turn-name : m ≡ meaningOf (cond (eqb n name) (some (attributeOf (take len (drop start s)))) (first (isNamed name) (map attributeOf (payloads 0x18 (ownFields (fields (drop next s)))))))
+        unfolding first
+        turn-name =
+            let rest = first (isNamed name) (map attributeOf (payloads 0x18 (ownFields (fields (drop next s))))) in
+            turn ∙ ap (λ (x : ℕ). meaningOf (cond (eqb x name) (some (attributeOf (take len (drop start s)))) rest)) name-is
+
+        pub attribute-found : (v : Value) → n ≡ name → Says s v (valueOf (attributeOf (take len (drop start s)))) → Says s v m
+        unfolding meaningOf
+        attribute-found v g says = rw (turn-name, eq-eqb n name g) says
+
+        pub attribute-passed : (n ≡ name → ⊥) → m ≡ meaningOf (first (isNamed name) (map attributeOf (payloads 0x18 (ownFields (fields (drop next s))))))
+        attribute-passed g = rw (ne-eqb n name g) at turn-name

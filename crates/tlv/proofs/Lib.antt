@@ -29,6 +29,7 @@ pub mod PayloadFacts
 pub mod CheckLaws
 pub mod PlaceFacts
 pub mod PlacePromises
+pub mod OrderLaws
 pub mod OwnLaws
 pub mod AttributeLaws
 pub mod EntryPlaceLaws

@@ -1,26 +1,21 @@
 -- The next field of a tag before the next entry or unit: the turns of the loop that looks for it, and what an answer says. Assumes nothing.
-use mathlib.Core.Path.{_≡_, refl, _∙_}
-use mathlib.Core.Bool.{true}
+use mathlib.Core.Path.{_≡_, refl, sym, _∙_}
 use mathlib.Core.List.{List, []}
 use Prim.Native.Nat.{ℕ, _+_, _-_, _≤_, _<_}
 use native.Mathlib.Omega.{arith}
-use lib.Dec.{ltb}
-use lib.ListN.{length, take, drop}
+use lib.ListN.{length, drop}
 use borrow.Author.Tests.{eq-eqb, ne-eqb}
 use Rattle.tlv.specs.declared.fields.Step.{Step}
-use Rattle.tlv.specs.declared.grammar.Context.{Context}
 use Rattle.tlv.specs.declared.access.Own.{Own}
 use Rattle.tlv.specs.Lists.{takeWhile}
-use Rattle.tlv.specs.Limits.{fieldLimit}
 use Rattle.tlv.specs.Fields.{fields, wholeFields, payloads}
 use Rattle.tlv.specs.Cursor.{stepAt, fieldsOf}
-use Rattle.tlv.specs.Grammar.{mayFollow, payloadShaped, payloadLimited, shaped, limited}
 use Rattle.tlv.specs.Checked.{Placed}
 use Rattle.tlv.specs.Places.{ownFields}
 use Rattle.tlv.specs.Access.{Standing, NextOwn}
-use Rattle.tlv.proofs.TestLaws.{and-right}
 use Rattle.tlv.proofs.CursorLaws.{fields-at, field-within, next-keeps}
-use Rattle.tlv.proofs.PlaceFacts.{placed-shaped, placed-limited, placed-next}
+use Rattle.tlv.proofs.PlaceFacts.{placed-next}
+use Rattle.tlv.proofs.OrderLaws.{none-after-row}
 
 -- ---- the loop
 
@@ -69,6 +64,14 @@ module _ (s : List ℕ) (p tag at : ℕ) (r : Step) (look : Looking s p tag at) 
             stands = record { place = at; step = r; reads = reads; is = rw h at e; placed = look .placed };
           }
 
+      -- past the rows nothing comes, unless rows are looked for
+      pub own-row : Placed s p → (t ≡ tag → ⊥) → t ≡ 0x16 → NextOwn s p tag Own.Missing
+      own-row h other row = record {
+        is = sym (none-after-row s at r t start len next (look .placed h) reads e tag (λ is. other (row ∙ sym is)) row) ∙ look .same;
+        within = tt;
+        stands = tt;
+      }
+
       pub own-next : (t ≡ tag → ⊥) → Looking s p tag next
       unfolding ownFields takeWhile wholeFields payloads
       own-next h = record {
@@ -105,15 +108,3 @@ module _ (s : List ℕ) (p tag : ℕ) (r : Own) (start len next : ℕ) (own : Ne
     -- its next place is a place
     pub own-placed : Placed s next
     own-placed = let f = own-field in placed-next s (f .place) (f .step) tag start len next (f .here) (f .reads) (f .is)
-
-    -- its payload is shaped and limited by its tag, after some fields
-    pub own-passed : (c : Context) × (payloadShaped c tag (take len (drop start s)) ≡ true) × (payloadLimited c tag (take len (drop start s)) ≡ true)
-    unfolding shaped limited
-    own-passed =
-        let f = own-field in
-        let c = f .here .context in
-        let payload = take len (drop start s) in (
-          c,
-          and-right (mayFollow (c .previous) tag) (payloadShaped c tag payload) (placed-shaped s (f .place) (f .step) tag start len next (f .here) (f .reads) (f .is)),
-          and-right (ltb (c .count) fieldLimit) (payloadLimited c tag payload) (placed-limited s (f .place) (f .step) tag start len next (f .here) (f .reads) (f .is)),
-        )

@@ -91,7 +91,7 @@ pub follows : (t u : ℕ) → mayFollow t u ≡ true → Any (λ x. u ≡ x) (af
 unfolding mayFollow
 follows t u e = one-of u (after t) e
 
-next-previous : (c : Context) (f : Field) → next c f .previous ≡ f .tag
+pub next-previous : (c : Context) (f : Field) → next c f .previous ≡ f .tag
 unfolding next
 next-previous c f = by-test Last (eqb (f .tag) 0x10) (λ e. refl) (λ e. by-test Last (eqb (f .tag) 0x17) (λ e. refl) (λ e. refl))
   where
@@ -113,11 +113,15 @@ module _ (s : List ℕ) (p : ℕ) (r : Step) (t start len past : ℕ) (h : Place
   pub placed-limited : limited (h .context) (fieldIn s t start len) ≡ true
   placed-limited = both .1
 
+  -- the fields behind it pass
+  pub placed-rest : checkFrom (next (h .context) (fieldIn s t start len)) (fields (drop past s)) ≡ done (h .count)
+  placed-rest = both .2
+
   pub placed-next : Placed s past
   placed-next = record {
     context = next (h .context) (fieldIn s t start len);
     count = h .count;
-    passes = both .2;
+    passes = placed-rest;
     within = next-within s p r t start len past at e;
   }
 

@@ -66,6 +66,48 @@ pub fn next_own(s: &[u8], p: usize, tag: u8) -> Own
     }
 }
 
+// The next field of a tag among a unit's own fields, from a place on. Rows come last of them, so the search ends at the first row, unless rows are looked for.
+pub fn next_before_rows(s: &[u8], p: usize, tag: u8) -> Own
+    requires { ⌜ Placed (now s) p ⌝ }
+    ensures { λ r. ⌜ NextOwn (now (s .entry)) p tag r ⌝ }
+{
+    let mut at = p;
+    loop {
+        match field_at(s, at) {
+            Step::End => {
+                return Own::Missing;
+            }
+            Step::Cut => {
+                return Own::Missing;
+            }
+            Step::Field {
+                tag: t,
+                start,
+                len,
+                next,
+            } => {
+                if t == 0x17 {
+                    return Own::Missing;
+                }
+                if t == 0x10 {
+                    return Own::Missing;
+                }
+                if t == tag {
+                    return Own::Field {
+                        start: start,
+                        len: len,
+                        next: next,
+                    };
+                }
+                if t == 0x16 {
+                    return Own::Missing;
+                }
+                at = next;
+            }
+        }
+    }
+}
+
 // The value of an attribute.
 pub enum Value {
     Absent,
@@ -119,18 +161,29 @@ fn value_at(s: &[u8], start: usize, len: usize) -> Value
     number_value(kind, read_u64(s, at))
 }
 
-// The value of the first attribute of a name of the entry whose field ends at p.
+// The value of the first attribute of a name of the entry whose field ends at p. Attributes come first of its fields, so the search ends at any other.
 pub fn attribute(s: &[u8], p: usize, name: u16) -> Value
     requires { ⌜ Placed (now s) p ⌝ }
     ensures { λ r. ⌜ Says (now (s .entry)) r (meaningOf (first (isNamed name) (map attributeOf (payloads 0x18 (ownFields (fields (drop p (now (s .entry))))))))) ⌝ }
 {
     let mut at = p;
     loop {
-        match next_own(s, at, 0x18) {
-            Own::Missing => {
+        match field_at(s, at) {
+            Step::End => {
                 return Value::Absent;
             }
-            Own::Field { start, len, next } => {
+            Step::Cut => {
+                return Value::Absent;
+            }
+            Step::Field {
+                tag,
+                start,
+                len,
+                next,
+            } => {
+                if tag != 0x18 {
+                    return Value::Absent;
+                }
                 if read_u16(s, start) == name {
                     return value_at(s, start, len);
                 }

@@ -10,8 +10,9 @@ use Rattle.tlv.specs.Model.{attributeOf}
 use Rattle.tlv.specs.Checked.{Placed}
 use Rattle.tlv.specs.Places.{ownFields}
 use Rattle.tlv.specs.Access.{isNamed, meaningOf}
-use Rattle.tlv.proofs.OwnLaws.{own-less, own-placed}
-use Rattle.tlv.proofs.AttributeLaws.{says-absent, found-within, found-shaped, name-within, attribute-found, attribute-passed}
+use Rattle.tlv.proofs.CursorLaws.{next-less, payload-within}
+use Rattle.tlv.proofs.PlaceFacts.{placed-next}
+use Rattle.tlv.proofs.AttributeLaws.{absent-end, absent-cut, absent-other, found-shaped, name-within, attribute-found, attribute-passed}
 use Rattle.tlv.proofs.access.attribute.Statement.{statement}
 use Rattle.tlv.proofs.access.attribute.Tie as tie
 
@@ -24,32 +25,41 @@ abbrev μ-loop : tie.MeasureT-loop
 loop-holds : tie.Need-loop-holds Inv-loop μ-loop
 loop-holds c = (c .before .pre, refl)
 
-next-own-requires : tie.Need-next-own-requires Inv-loop μ-loop
-next-own-requires c κs = search needs
+field-at-requires : tie.Need-field-at-requires Inv-loop μ-loop
+field-at-requires c κs = search needs
 
 enum-told : tie.Need-enum-told Inv-loop μ-loop
 enum-told c = search needs
 
 returns : tie.Need-returns Inv-loop μ-loop
-returns c = search says-absent
+returns c = search absent-end
 
-enum-known-start : tie.Need-enum-known-start Inv-loop μ-loop
-enum-known-start c = search needs
+enum-told-2 : tie.Need-enum-told-2 Inv-loop μ-loop
+enum-told-2 c = search needs
+
+returns-2 : tie.Need-returns-2 Inv-loop μ-loop
+returns-2 c = search absent-cut
+
+enum-known-tag : tie.Need-enum-known-tag Inv-loop μ-loop
+enum-known-tag c = search needs
+
+returns-3 : tie.Need-returns-3 Inv-loop μ-loop
+returns-3 c = search absent-other
 
 read-u16-requires : tie.Need-read-u16-requires Inv-loop μ-loop
 read-u16-requires c κs = search name-within
 
 value-at-requires : tie.Need-value-at-requires Inv-loop μ-loop
-value-at-requires c κs = (search found-within, search found-shaped)
+value-at-requires c κs = (search payload-within, search found-shaped)
 
-returns-2 : tie.Need-returns-2 Inv-loop μ-loop
-returns-2 c = search attribute-found
+returns-4 : tie.Need-returns-4 Inv-loop μ-loop
+returns-4 c = search attribute-found
 
 loop-less : tie.Need-loop-less Inv-loop μ-loop
-loop-less c = search own-less
+loop-less c = search next-less
 
 loop-again : tie.Need-loop-again Inv-loop μ-loop
-loop-again c = (search own-placed, search attribute-passed)
+loop-again c = (search placed-next, search attribute-passed)
 
 pub attribute-spec : {M : Type 1} → statement M
 attribute-spec =
@@ -58,12 +68,15 @@ attribute-spec =
     Inv-loop
     μ-loop
     loop-holds
-    next-own-requires
+    field-at-requires
     enum-told
     returns
-    enum-known-start
+    enum-told-2
+    returns-2
+    enum-known-tag
+    returns-3
     read-u16-requires
     value-at-requires
-    returns-2
+    returns-4
     loop-less
     loop-again)
