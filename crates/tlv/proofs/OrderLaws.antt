@@ -25,7 +25,7 @@ use Rattle.tlv.proofs.PlaceFacts.{follows, next-previous, placed-rest}
 abbrev pub isOwn : ℕ → Bool
 isOwn t = not (eqb t 0x17 || eqb t 0x10)
 
--- from a field of a late tag on no field of `tag` comes: `tag` is not late, and what may follow a late field is late
+-- among a unit's or an entry's own fields `tag` is not late, and what may follow a late field is late
 pub record Passing (tag : ℕ) (Late : ℕ → Type 0) : Type 0 where
   pub never : Late tag → isOwn tag ≡ true → ⊥
   pub keeps : (t u : ℕ) → Late t → isOwn t ≡ true → mayFollow t u ≡ true → Late u
@@ -43,6 +43,7 @@ module _ (tag : ℕ) (Late : ℕ → Type 0) (passing : Passing tag Late) where
       (λ e. let is = eqb-true (f .tag) tag e in absurd (passing .never (subst Late is late) (rw is at own))) (λ _. rest own))
       (λ _. refl)
 
+  -- from a late field on no field of `tag` comes
   none-left : (c : Context) (f : Field) (fs : FieldList) (n : ℕ) → Late (f .tag) → checkFrom (next c f) fs ≡ done n → payloads tag (ownFields (more f fs)) ≡ []
   unfolding ownFields takeWhile wholeFields payloads checkFrom shaped
   none-left c f end n late e = one f [] late (λ _. refl)
