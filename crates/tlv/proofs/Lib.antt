@@ -21,6 +21,7 @@ pub mod BufferLaws
 pub mod OutputLaws
 pub mod ChunkLaws
 pub mod TableLaws
+pub mod RowLaws
 pub mod RecordLaws
 pub mod ZeroLaws
 pub mod CursorLaws

@@ -108,6 +108,23 @@ pub fn next_before_rows(s: &[u8], p: usize, tag: u8) -> Own
     }
 }
 
+// The next row among a unit's own fields, from a place on. All rows have one length, so the place behind one is known before its length is read.
+pub fn next_row(s: &[u8], p: usize) -> Own
+    requires { ⌜ Placed (now s) p ⌝ }
+    ensures { λ r. ⌜ NextOwn (now (s .entry)) p 0x16 r ⌝ }
+{
+    if p < s.len() {
+        if s[p] == 0x16 {
+            return Own::Field {
+                start: p + 3,
+                len: 25,
+                next: p + 28,
+            };
+        }
+    }
+    next_own(s, p, 0x16)
+}
+
 // The value of an attribute.
 pub enum Value {
     Absent,
