@@ -1,15 +1,20 @@
 -- Puts into a tray, one after the other: what they make together, what a loop of them has left to do, and what the tray then holds. Assumes nothing.
 use mathlib.Core.Path.{_≡_, refl, sym, ap, _∙_}
+use mathlib.Core.Bool.{Bool, true, false}
 use mathlib.Core.List.{List, [], _∷_, _++_, append-assoc}
-use Prim.Native.Nat.{ℕ, suc, _+_, _/_, _%_, _<_, _≤_, min}
+use Prim.Native.Nat.{ℕ, suc, _+_, _-_, _/_, _%_, _<_, _≤_, min}
 use native.Mathlib.Nat.{add-zero, zero-add, le-refl}
 use native.Mathlib.Numerals.{add-one}
 use native.Mathlib.Decide.{decLe}
 use native.Mathlib.Omega.{arith}
+use borrow.Author.Tests.{le-leb, lt-leb, leb-true}
+use lib.Dec.{leb}
 use lib.ListN.{length, set, take, drop, getD, length-set, length-append}
 use lib.Seq.{set-out, take-suc, take-all, take-set-le, sets, sets-eq, drop-at, take-append-seam, length-take-le}
 use Rattle.tlv.specs.Bytes.{bytesOf, leAt}
 use Rattle.tlv.specs.Buffer.{top, moved, overlay, Put}
+use Rattle.tlv.specs.Table.{Wrote}
+use Rattle.tlv.proofs.ByteLaws.{length-bytesOf}
 use Rattle.tlv.proofs.WidthLaws.{bytesOf-two, leAt-take}
 
 -- ---- laying bytes over a tray
@@ -105,12 +110,41 @@ lost at b t h = sym (set-out t at b h)
 pub put-two : {at r : ℕ} {t t′ : List ℕ} (n : ℕ) → n < 65536 → Put at ((n % 256 ∷ []) ++ (n / 256 ∷ [])) t t′ r → Put at (bytesOf 2 n) t t′ r
 put-two n h f = rw (bytesOf-two n h) f
 
--- a loop that puts a list byte by byte: one byte more, and the end
+-- ---- a put of which all fits
+
+-- the test for it, within the tray and past its end
+pub room-within : (at n m : ℕ) → at ≤ m → leb n (m - at) ≡ leb (at + n) m
+room-within at n m h =
+    elim (decLe (at + n) m) [
+      | yes l ↦ le-leb n (m - at) (omega arith) ∙ sym (le-leb (at + n) m l)
+      | no g ↦ lt-leb n (m - at) (omega arith) ∙ sym (lt-leb (at + n) m (omega arith))
+    ]
+
+pub room-past : (at n m : ℕ) → m < at → false ≡ leb (at + n) m
+room-past at n m h = sym (lt-leb (at + n) m (omega arith))
+
+-- what it says
+pub has-room : {r : Bool} (n m : ℕ) → r ≡ leb n m → r ≡ true → n ≤ m
+has-room n m e is = leb-true n m (sym e ∙ is)
+
+-- a number that fits, written at once, is put
+pub wrote-put : {r : Bool} {at k v : ℕ} {t t′ : List ℕ} → r ≡ leb (at + k) (length t) → r ≡ true → Wrote t t′ at k v → length t < top → Put at (bytesOf k v) t t′ (at + k)
+wrote-put {at = at} {k} {t = t} e is W s = let h : at + k ≤ length t = has-room (at + k) (length t) e is in record { buffer = W .bytes; place = rw length-bytesOf (omega arith); small = s }
+
+-- ---- a list put byte by byte
+
+-- a loop: one byte more, and the end
 pub put-more : {at p q : ℕ} {t t′ t″ : List ℕ} (bs : List ℕ) (i : ℕ) → i < length bs → Put at (take i bs) t t′ p → Put p (getD bs i 0 ∷ []) t′ t″ q → Put at (take (i + 1) bs) t t″ q
 put-more bs i h f g = rw (add-one i, take-suc bs i 0) (f then g)
 
 pub put-all : {at r i : ℕ} {bs t t′ : List ℕ} → length bs ≤ i → Put at (take i bs) t t′ r → Put at bs t t′ r
 put-all {i = i} {bs = bs} h f = rw (take-all i bs h) at f
+
+-- one byte more, where all of the list fits
+pub put-next : {at : ℕ} {t t′ : List ℕ} (bs : List ℕ) (i : ℕ) → Put at (take i bs) t t′ (at + i) → i < length bs → at + length bs ≤ length t → Put at (take (i + 1) bs) t (set t′ (at + i) (getD bs i 0)) (at + (i + 1))
+put-next {at} {t} {t′} bs i f h fits =
+    let same : length t′ ≡ length t = put-length f in
+    put-more bs i h f (record { buffer = refl; place = omega (arith, f .small); small = omega (arith, f .small) })
 
 -- ---- a loop of puts
 

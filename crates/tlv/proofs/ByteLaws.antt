@@ -1,7 +1,7 @@
 -- What is written as the bytes of a number is read back as that number, also behind other bytes; and how large a number of bytes is. Assumes nothing.
 use mathlib.Core.Path.{_≡_, refl, ap}
 use mathlib.Core.List.{List, [], _∷_, _++_, append-nil}
-use Prim.Native.Nat.{ℕ, zero, suc, _+_, _/_, _^_, _<_}
+use Prim.Native.Nat.{ℕ, zero, suc, _+_, _*_, _/_, _%_, _^_, _<_}
 use native.Mathlib.Nat.{pow-succ'}
 use native.Mathlib.Omega.{arith}
 use lib.ListN.{length, take, drop}
@@ -16,6 +16,16 @@ le-bytesOf zero n h = omega arith
 le-bytesOf (suc k) n h =
     let small : n / 256 < 256 ^ k = omega (arith, pow-succ' 256 k) in
     rw (le-bytesOf k (n / 256) small) (omega arith)
+
+-- and bytes are those of the number that they are
+pub bytesOf-le : (bs : List ℕ) → Bytes bs → bytesOf (length bs) (le bs) ≡ bs
+unfolding bytesOf
+bytesOf-le [] h = refl
+bytesOf-le (b ∷ bs) h =
+    let small : b < 256 = h .0 in
+    let low : (b + 256 * le bs) % 256 ≡ b = omega arith in
+    let high : (b + 256 * le bs) / 256 ≡ le bs = omega arith in
+    rw (low, high, bytesOf-le bs (h .1))
 
 pub length-bytesOf : (k n : ℕ) → length (bytesOf k n) ≡ k
 unfolding bytesOf

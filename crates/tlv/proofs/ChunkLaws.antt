@@ -10,7 +10,7 @@ use Rattle.tlv.specs.Bytes.{le, leAt}
 use Rattle.tlv.specs.Buffer.{overlay}
 use Rattle.tlv.specs.Table.{chunk}
 use Rattle.tlv.proofs.WidthLaws.{drop-take, drop-part, leAt-part}
-use Rattle.tlv.proofs.BufferLaws.{take-overlay, part-overlay, overlay-append}
+use Rattle.tlv.proofs.BufferLaws.{take-overlay, part-overlay}
 
 pub chunk-length : (w : List ℕ) (p k : ℕ) → p + k ≤ length w → length (chunk w p k) ≡ k
 unfolding chunk
@@ -55,10 +55,6 @@ pub leAt-front : (k : ℕ) (w : List ℕ) (p m : ℕ) → k ≤ m → leAt k (ch
 leAt-front k w p m h = rw add-zero at (leAt-chunk k w p m 0 (omega arith))
 
 -- ---- bytes laid over
-
--- one byte more
-pub overlay-snoc : (p : ℕ) (bs : List ℕ) (b : ℕ) (w : List ℕ) → overlay p (bs ++ (b ∷ [])) w ≡ set (overlay p bs w) (p + length bs) b
-overlay-snoc p bs b w = overlay-append p bs (b ∷ []) w
 
 -- what stands behind is as it was
 pub drop-overlay : (q p : ℕ) (bs w : List ℕ) → p + length bs ≤ q → drop q (overlay p bs w) ≡ drop q w

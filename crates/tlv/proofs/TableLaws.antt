@@ -1,20 +1,20 @@
--- What stays where bytes are written, and what the writes promise: a number by its halves, a record copied byte by byte. Assumes nothing.
+-- What stays where bytes are written, and what the writes promise: a number by its halves, a record copied from its first byte on. Assumes nothing.
 use mathlib.Core.Path.{_≡_, refl, sym, ap, _∙_}
 use mathlib.Core.Logic.{_⊎_, inl, inr, ⊎-elim}
 use mathlib.Core.List.{List, [], _∷_, _++_}
-use Prim.Native.Nat.{ℕ, zero, suc, _+_, _*_, _/_, _%_, _^_, _≤_, _<_}
+use Prim.Native.Nat.{ℕ, zero, suc, _+_, _-_, _*_, _/_, _%_, _^_, _≤_, _<_}
 use native.Mathlib.Nat.{add-zero, mod-add-div, mul-le-mul-right}
-use native.Mathlib.Numerals.{add-one}
 use native.Mathlib.Omega.{arith}
-use lib.ListN.{length, take, drop, set, getD, length-set, length-drop}
-use lib.Seq.{length-take-le, take-suc, take-all}
-use Rattle.tlv.specs.Bytes.{bytesOf, leAt}
+use lib.ListN.{length, take, drop, set, getD, length-drop}
+use lib.Seq.{take-all}
+use Rattle.tlv.specs.Bytes.{Bytes, le, bytesOf, leAt}
 use Rattle.tlv.specs.Buffer.{overlay}
 use Rattle.tlv.specs.Table.{chunk, Apart, Kept, Clear, KeptBut, Wrote, CopiedBytes}
-use Rattle.tlv.proofs.ByteLaws.{le-bytesOf, length-bytesOf}
+use Rattle.tlv.proofs.ListLaws.{all-take, all-drop}
+use Rattle.tlv.proofs.ByteLaws.{le-bytesOf, bytesOf-le, length-bytesOf}
 use Rattle.tlv.proofs.WidthLaws.{leAt-add, bytesOf-add}
 use Rattle.tlv.proofs.BufferLaws.{length-overlay, overlay-append}
-use Rattle.tlv.proofs.ChunkLaws.{chunk-length, chunk-byte, chunk-over, chunk-behind, chunk-before, overlay-snoc, leAt-is, part-back}
+use Rattle.tlv.proofs.ChunkLaws.{chunk-length, chunk-byte, chunk-none, chunk-cons, chunk-add, chunk-over, chunk-behind, chunk-before, leAt-is, part-back}
 
 -- ---- where the records stand
 
@@ -140,39 +140,65 @@ wrote-halves j k {w} {w₁} {w₂} {p} {v} h L H = record {
 
 -- ---- a record was copied
 
+-- its bytes laid over are all that a copy promises
+copied : {w w′ : List ℕ} {from to size : ℕ} → w′ ≡ overlay to (chunk w from size) w → from + size ≤ length w → to + size ≤ length w → CopiedBytes w w′ from to size
+copied {w} {w′} {from} {to} {size} e f t =
+    let full : length (chunk w from size) ≡ size = chunk-length w from size f in
+    record {
+      bytes = e;
+      same = rw e (chunk-over to (chunk w from size) w size full t);
+      rest = rw e (kept-over to (chunk w from size) w size full);
+    }
+
+-- one byte
+copied-byte : (w : List ℕ) (from to : ℕ) → from < length w → to < length w → CopiedBytes w (set w to (getD w from 0)) from to 1
+copied-byte w from to f t = copied (rw (chunk-cons w from 0 f, chunk-none)) (omega arith) (omega arith)
+
+-- a number that was read and written: its bytes are those that it was read from
+pub copied-number : {w w′ : List ℕ} {k from to v : ℕ} → Bytes w → v ≡ leAt k w from → Wrote w w′ to k v → from + k ≤ length w → to + k ≤ length w → CopiedBytes w w′ from to k
+unfolding chunk
+copied-number {w} {w′} {k} {from} {to} b e W f t =
+    let small : Bytes (chunk w from k) = all-take (λ x. x < 256) k (drop from w) (all-drop (λ x. x < 256) from w b) in
+    let back : bytesOf k (le (chunk w from k)) ≡ chunk w from k = rw (chunk-length w from k f) at (bytesOf-le (chunk w from k) small) in
+    copied (W .bytes ∙ rw (e, leAt-is k w from, back)) f t
+
+-- the first i bytes, and then k more: from the first on, so that none that is still to be read was overwritten
+copied-then : {w w₁ w₂ : List ℕ} {from to size i k : ℕ} → CopiedBytes w w₁ from to i → CopiedBytes w₁ w₂ (from + i) (to + i) k
+    → ((to ≤ from) ⊎ (from + size ≤ to)) → i + k ≤ size → from + size ≤ length w → to + size ≤ length w → CopiedBytes w w₂ from to (i + k)
+copied-then {w} {w₁} {w₂} {from} {to} {size} {i} {k} C D a h f t =
+    let kept : chunk w₁ (from + i) k ≡ chunk w (from + i) k = C .rest .same (from + i) k (⊎-elim (λ g. inr (omega arith)) (λ g. inl (omega arith)) a) in
+    let part : length (chunk w from i) ≡ i = chunk-length w from i (omega arith) in
+    copied (D .bytes ∙ rw (kept, C .bytes, chunk-add w from i k, overlay-append to (chunk w from i) (chunk w (from + i) k) w, part)) (omega arith) (omega arith)
+
 -- the first i bytes of a copy that goes from the first byte on
 pub record Copying (w₀ w : List ℕ) (from to size i : ℕ) : Type 0 where
   pub within : i ≤ size
-  pub bytes : w ≡ overlay to (take i (chunk w₀ from size)) w₀
+  pub done : CopiedBytes w₀ w from to i
   pub length-same : length w ≡ length w₀
 
-pub copying-start : (w : List ℕ) (from to size : ℕ) → Copying w w from to size 0
-copying-start w from to size = record { within = omega arith; bytes = refl; length-same = refl }
+pub copying-start : (w : List ℕ) (from to size : ℕ) → from ≤ length w → to ≤ length w → Copying w w from to size 0
+copying-start w from to size f t = record { within = omega arith; done = copied (rw chunk-none) (omega arith) (omega arith); length-same = refl }
 
-module _ {w₀ w : List ℕ} {from to size i : ℕ} (C : Copying w₀ w from to size i) (f : from + size ≤ length w₀) where
-  -- what the next byte holds is not yet overwritten
-  next-byte : i < size → ((to ≤ from) ⊎ (from + size ≤ to)) → getD w (from + i) 0 ≡ getD (chunk w₀ from size) i 0
-  next-byte h a =
-      let part : length (take i (chunk w₀ from size)) ≡ i = length-take-le i (chunk w₀ from size) (omega (arith, chunk-length w₀ from size f)) in
-      let K : Kept w₀ w to i = rw (C .bytes) (kept-over to (take i (chunk w₀ from size)) w₀ i part) in
-      byte-kept (from + i) K (⊎-elim (λ g. inr (omega arith)) (λ g. inl (omega arith)) a) ∙ sym (chunk-byte w₀ from size i h)
-
-  pub copying-step : i < size → ((to ≤ from) ⊎ (from + size ≤ to)) → Copying w₀ (set w (to + i) (getD w (from + i) 0)) from to size (i + 1)
-  copying-step h a =
-      let full : i < length (chunk w₀ from size) = omega (arith, chunk-length w₀ from size f) in
-      let part : length (take i (chunk w₀ from size)) ≡ i = length-take-le i (chunk w₀ from size) (omega arith) in
+module _ {w₀ w : List ℕ} {from to size i : ℕ} (C : Copying w₀ w from to size i) (f : from + size ≤ length w₀) (t : to + size ≤ length w₀) where
+  pub copying-more : {w′ : List ℕ} {k : ℕ} → ((to ≤ from) ⊎ (from + size ≤ to)) → k ≤ size - i → CopiedBytes w w′ (from + i) (to + i) k → Copying w₀ w′ from to size (i + k)
+  copying-more {w′} {k} a h D =
+      let in-size : i ≤ size = C .within in
       record {
         within = omega arith;
-        bytes = rw (next-byte h a, add-one i, take-suc (chunk w₀ from size) i 0 full, overlay-snoc to (take i (chunk w₀ from size)) (getD (chunk w₀ from size) i 0) w₀, part, ← (C .bytes));
-        length-same = length-set w (to + i) (getD w (from + i) 0) ∙ C .length-same;
+        done = copied-then (C .done) D a (omega arith) f t;
+        length-same = ap length (D .bytes) ∙ length-overlay (to + i) (chunk w (from + i) k) w ∙ C .length-same;
       }
 
-  pub copying-done : size ≤ i → to + size ≤ length w₀ → CopiedBytes w₀ w from to size
-  copying-done h t =
-      let full : length (chunk w₀ from size) ≡ size = chunk-length w₀ from size f in
-      let e : w ≡ overlay to (chunk w₀ from size) w₀ = C .bytes ∙ rw (take-all i (chunk w₀ from size) (omega arith)) in
-      record {
-        bytes = e;
-        same = rw e (chunk-over to (chunk w₀ from size) w₀ size full t);
-        rest = rw e (kept-over to (chunk w₀ from size) w₀ size full);
-      }
+  pub copying-byte : ((to ≤ from) ⊎ (from + size ≤ to)) → i < size → Copying w₀ (set w (to + i) (getD w (from + i) 0)) from to size (i + 1)
+  copying-byte a h = let same : length w ≡ length w₀ = C .length-same in copying-more a (omega arith) (copied-byte w (from + i) (to + i) (omega arith) (omega arith))
+
+  pub copying-done : size ≤ i → CopiedBytes w₀ w from to size
+  copying-done h = let e : i ≡ size = omega (arith, C .within) in rw e at (C .done)
+
+-- a part, and then what is left
+pub copied-rest : {w w₁ w₂ : List ℕ} {from to size i : ℕ} → (i ≤ size) × CopiedBytes w w₁ from to i → CopiedBytes w₁ w₂ (from + i) (to + i) (size - i)
+    → ((to ≤ from) ⊎ (from + size ≤ to)) → from + size ≤ length w → to + size ≤ length w → CopiedBytes w w₂ from to size
+copied-rest {size = size} {i} C D a f t =
+    let h : i ≤ size = C .0 in
+    let e : i + (size - i) ≡ size = omega arith in
+    rw e at (copied-then (C .1) D a (omega arith) f t)

@@ -2,7 +2,8 @@
 ghost use mathlib.Core.Path.{_≡_};
 ghost use mathlib.Core.Bool.{cond};
 ghost use mathlib.Core.List.{List, [], _∷_, _++_};
-ghost use Prim.Native.Nat.{_+_, _<_};
+ghost use Prim.Native.Nat.{_+_, _<_, _≤_};
+ghost use lib.Dec.{leb};
 ghost use lib.ListN.{length};
 ghost use Rattle.tlv.specs.Lists.{isEmpty};
 ghost use Rattle.tlv.specs.Bytes.{bytesOf};
@@ -12,6 +13,9 @@ ghost use Rattle.tlv.specs.Buffer.{Put};
 use crate::model::AddressRange;
 use crate::model::FileIndex;
 use crate::model::LineEntry;
+use crate::table::set_u16;
+use crate::table::set_u32;
+use crate::table::set_u64;
 
 // A byte. Past the tray's end nothing is laid, and the place goes on.
 pub fn put_u8(buffer: &mut [u8], at: usize, b: u8) -> usize
@@ -27,9 +31,24 @@ pub fn put_u8(buffer: &mut [u8], at: usize, b: u8) -> usize
     at + 1
 }
 
+// All of `size` bytes from a place on lie within the tray.
+fn has_room(buffer: &[u8], at: usize, size: usize) -> bool
+    ensures { λ r. ⌜ r ≡ leb (at + size) (length (now (buffer .entry))) ⌝ }
+{
+    if at <= buffer.len() {
+        return size <= buffer.len() - at;
+    }
+    false
+}
+
+// A number that fits is written at once. One that meets the tray's end is put by its halves, and so down to the bytes.
 pub fn put_u16(buffer: &mut [u8], at: usize, v: u16) -> usize
     ensures { λ r. ⌜ Put at (bytesOf 2 v) (now (buffer .entry)) (now (buffer .exit)) r ⌝ }
 {
+    if has_room(buffer, at, 2) {
+        set_u16(buffer, at, v);
+        return at + 2;
+    }
     let p = put_u8(buffer, at, (v % 256) as u8);
     put_u8(buffer, p, (v / 256) as u8)
 }
@@ -37,6 +56,10 @@ pub fn put_u16(buffer: &mut [u8], at: usize, v: u16) -> usize
 pub fn put_u32(buffer: &mut [u8], at: usize, v: u32) -> usize
     ensures { λ r. ⌜ Put at (bytesOf 4 v) (now (buffer .entry)) (now (buffer .exit)) r ⌝ }
 {
+    if has_room(buffer, at, 4) {
+        set_u32(buffer, at, v);
+        return at + 4;
+    }
     let p = put_u16(buffer, at, (v % 65536) as u16);
     put_u16(buffer, p, (v / 65536) as u16)
 }
@@ -44,11 +67,29 @@ pub fn put_u32(buffer: &mut [u8], at: usize, v: u32) -> usize
 pub fn put_u64(buffer: &mut [u8], at: usize, v: u64) -> usize
     ensures { λ r. ⌜ Put at (bytesOf 8 v) (now (buffer .entry)) (now (buffer .exit)) r ⌝ }
 {
+    if has_room(buffer, at, 8) {
+        set_u64(buffer, at, v);
+        return at + 8;
+    }
     let p = put_u32(buffer, at, (v % 4294967296) as u32);
     put_u32(buffer, p, (v / 4294967296) as u32)
 }
 
-pub fn put_bytes(buffer: &mut [u8], at: usize, bs: &[u8]) -> usize
+// Bytes that all fit: no test in the loop.
+fn lay_bytes(buffer: &mut [u8], at: usize, bs: &[u8]) -> usize
+    requires { ⌜ at + length (now bs) ≤ length (now buffer) ⌝ }
+    ensures { λ r. ⌜ Put at (now (bs .entry)) (now (buffer .entry)) (now (buffer .exit)) r ⌝ }
+{
+    let mut i = 0;
+    while i < bs.len() {
+        buffer[at + i] = bs[i];
+        i += 1;
+    }
+    at + i
+}
+
+// Bytes that may meet the tray's end.
+fn put_each(buffer: &mut [u8], at: usize, bs: &[u8]) -> usize
     ensures { λ r. ⌜ Put at (now (bs .entry)) (now (buffer .entry)) (now (buffer .exit)) r ⌝ }
 {
     let mut p = at;
@@ -58,6 +99,15 @@ pub fn put_bytes(buffer: &mut [u8], at: usize, bs: &[u8]) -> usize
         i += 1;
     }
     p
+}
+
+pub fn put_bytes(buffer: &mut [u8], at: usize, bs: &[u8]) -> usize
+    ensures { λ r. ⌜ Put at (now (bs .entry)) (now (buffer .entry)) (now (buffer .exit)) r ⌝ }
+{
+    if has_room(buffer, at, bs.len()) {
+        return lay_bytes(buffer, at, bs);
+    }
+    put_each(buffer, at, bs)
 }
 
 // What every field begins with: its tag and the length of its payload.

@@ -4,6 +4,7 @@ ghost use mathlib.Core.Logic.{_⊎_};
 ghost use Prim.Native.Nat.{_+_, _≤_, _<_};
 ghost use lib.ListN.{length, replicate};
 ghost use Rattle.tlv.specs.Table.{Wrote, CopiedBytes, Zeroed};
+use crate::bytes::read_u64;
 
 pub fn set_u8(w: &mut [u8], p: usize, v: u8)
     requires { ⌜ p < length (now w) ⌝ }
@@ -36,8 +37,32 @@ pub fn set_u64(w: &mut [u8], p: usize, v: u64)
     set_u32(w, p + 4, (v / 4294967296) as u32);
 }
 
-// The bytes are copied from the first on: so `to` may lie before `from` and meet it.
-pub fn copy_record(w: &mut [u8], from: usize, to: usize, size: usize)
+// Eight bytes are read before any of them is written: the two places may lie anyhow.
+fn copy_word(w: &mut [u8], from: usize, to: usize)
+    requires { ⌜ from + 8 ≤ length (now w) ⌝ }
+    requires { ⌜ to + 8 ≤ length (now w) ⌝ }
+    ensures { λ _. ⌜ CopiedBytes (now (w .entry)) (now (w .exit)) from to 8 ⌝ }
+{
+    let v = read_u64(w, from);
+    set_u64(w, to, v);
+}
+
+// Copies whole words, as many as the size has. Returns how many bytes they are.
+fn copy_words(w: &mut [u8], from: usize, to: usize, size: usize) -> usize
+    requires { ⌜ from + size ≤ length (now w) ⌝ }
+    requires { ⌜ to + size ≤ length (now w) ⌝ }
+    requires { ⌜ ((to ≤ from) ⊎ (from + size ≤ to)) ⌝ }
+    ensures { λ r. ⌜ (r ≤ size) × CopiedBytes (now (w .entry)) (now (w .exit)) from to r ⌝ }
+{
+    let mut i = 0;
+    while 8 <= size - i {
+        copy_word(w, from + i, to + i);
+        i += 8;
+    }
+    i
+}
+
+fn copy_bytes(w: &mut [u8], from: usize, to: usize, size: usize)
     requires { ⌜ from + size ≤ length (now w) ⌝ }
     requires { ⌜ to + size ≤ length (now w) ⌝ }
     requires { ⌜ ((to ≤ from) ⊎ (from + size ≤ to)) ⌝ }
@@ -48,6 +73,18 @@ pub fn copy_record(w: &mut [u8], from: usize, to: usize, size: usize)
         w[to + i] = w[from + i];
         i += 1;
     }
+}
+
+// The bytes are copied from the first on: so `to` may lie before `from` and meet it. Words first, since the compiler cannot join
+// single bytes of places that may meet.
+pub fn copy_record(w: &mut [u8], from: usize, to: usize, size: usize)
+    requires { ⌜ from + size ≤ length (now w) ⌝ }
+    requires { ⌜ to + size ≤ length (now w) ⌝ }
+    requires { ⌜ ((to ≤ from) ⊎ (from + size ≤ to)) ⌝ }
+    ensures { λ _. ⌜ CopiedBytes (now (w .entry)) (now (w .exit)) from to size ⌝ }
+{
+    let done = copy_words(w, from, to, size);
+    copy_bytes(w, from + done, to + done, size - done);
 }
 
 // Sets the bytes from `from` to below `to` to 0.

@@ -1,54 +1,38 @@
--- `put_bytes` meets its contract. The loop's invariant: the first i bytes are put. Assumes nothing.
-use Prim.Native.Nat.{_≤_, _-_}
-use native.Mathlib.Omega.{arith}
+-- `put_bytes` meets its contract: all at once where they fit, else byte by byte. Assumes nothing.
 use borrow.Author.Needs.{needs}
-use lib.ListN.{length, take}
-use Rattle.tlv.specs.Buffer.{Put}
-use Rattle.tlv.proofs.BufferLaws.{put-none, put-more, put-all, put-length}
+use Rattle.tlv.proofs.BufferLaws.{has-room}
 use Rattle.tlv.proofs.output.put_bytes.Statement.{statement}
 use Rattle.tlv.proofs.output.put_bytes.Tie as tie
 
-abbrev Inv-loop : tie.InvT-loop
-Inv-loop buffer₀ at bs p₀ i₀ buffer p i = Put at (take i bs) buffer₀ buffer p × (i ≤ length bs)
+has-room-requires : tie.Need-has-room-requires
+has-room-requires c κs = search needs
 
-abbrev μ-loop : tie.MeasureT-loop
-μ-loop buffer₀ at bs p₀ i₀ buffer p i = length bs - i
+lay-bytes-requires : tie.Need-lay-bytes-requires
+lay-bytes-requires c κs = search has-room
 
-loop-holds : tie.Need-loop-holds Inv-loop μ-loop
-loop-holds c = (put-none (omega arith) (omega arith), omega arith)
+same-length : tie.Need-same-length
+same-length c = search needs
 
-shared-slice-read-put-u8 : tie.Need-shared-slice-read-put-u8 Inv-loop μ-loop
-shared-slice-read-put-u8 c = search needs
+returns : tie.Need-returns
+returns c = search needs
 
-put-u8-requires : tie.Need-put-u8-requires Inv-loop μ-loop
-put-u8-requires c κs = search needs
+put-each-requires : tie.Need-put-each-requires
+put-each-requires c κs = search needs
 
-add-i : tie.Need-add-i Inv-loop μ-loop
-add-i c = search needs
+same-length-2 : tie.Need-same-length-2
+same-length-2 c = search needs
 
-loop-less : tie.Need-loop-less Inv-loop μ-loop
-loop-less c = search needs
-
-loop-again : tie.Need-loop-again Inv-loop μ-loop
-loop-again c = (search put-more, omega arith)
-
-same-length : tie.Need-same-length Inv-loop μ-loop
-same-length c = search put-length
-
-returns : tie.Need-returns Inv-loop μ-loop
-returns c = search put-all
+returns-2 : tie.Need-returns-2
+returns-2 c = search needs
 
 pub put-bytes-spec : {M : Type 1} → statement M
 put-bytes-spec =
     tie.close
     (tie.spec
-    Inv-loop
-    μ-loop
-    loop-holds
-    shared-slice-read-put-u8
-    put-u8-requires
-    add-i
-    loop-less
-    loop-again
+    has-room-requires
+    lay-bytes-requires
     same-length
-    returns)
+    returns
+    put-each-requires
+    same-length-2
+    returns-2)

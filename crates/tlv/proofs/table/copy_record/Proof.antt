@@ -1,60 +1,40 @@
--- `table::copy_record` meets its contract. The loop copies a record byte by byte, the first first; the measure is what is left of the size. Assumes nothing.
-use Prim.Native.Nat.{_-_}
+-- `table::copy_record` meets its contract: whole words, and then the bytes that are left. Assumes nothing.
+use mathlib.Core.Logic.{inl, inr, ⊎-elim}
 use native.Mathlib.Omega.{arith}
 use borrow.Author.Needs.{needs}
-use Rattle.tlv.proofs.TableLaws.{Copying, copying-start, copying-step, copying-done}
+use Rattle.tlv.proofs.TableLaws.{copied-rest}
 use Rattle.tlv.proofs.table.copy_record.Statement.{statement}
 use Rattle.tlv.proofs.table.copy_record.Tie as tie
 
-abbrev Inv-loop : tie.InvT-loop
-Inv-loop w₀ from to size i₀ w i = Copying w₀ w from to size i
+copy-words-requires : tie.Need-copy-words-requires
+copy-words-requires c κs = search needs
 
-abbrev μ-loop : tie.MeasureT-loop
-μ-loop w₀ from to size i₀ w i = size - i
+add-copy-bytes : tie.Need-add-copy-bytes
+add-copy-bytes c = search needs
 
-loop-holds : tie.Need-loop-holds Inv-loop μ-loop
-loop-holds c = search copying-start
+add-copy-bytes-2 : tie.Need-add-copy-bytes-2
+add-copy-bytes-2 c = search needs
 
-add-w : tie.Need-add-w Inv-loop μ-loop
-add-w c = omega arith
+sub-copy-bytes : tie.Need-sub-copy-bytes
+sub-copy-bytes c = search needs
 
-slice-read-w : tie.Need-slice-read-w Inv-loop μ-loop
-slice-read-w c = omega arith
+copy-bytes-requires : tie.Need-copy-bytes-requires
+copy-bytes-requires c κs = (omega arith, (omega arith, ⊎-elim (λ g. inl (omega arith)) (λ g. inr (omega arith)) (c .before .before .before .before .before .before .pre .1 .1)))
 
-add-w-2 : tie.Need-add-w-2 Inv-loop μ-loop
-add-w-2 c = omega arith
-
-slice-write-w : tie.Need-slice-write-w Inv-loop μ-loop
-slice-write-w c = omega arith
-
-add-i : tie.Need-add-i Inv-loop μ-loop
-add-i c = omega arith
-
-loop-less : tie.Need-loop-less Inv-loop μ-loop
-loop-less c = omega arith
-
-loop-again : tie.Need-loop-again Inv-loop μ-loop
-loop-again c = search copying-step
-
-same-length : tie.Need-same-length Inv-loop μ-loop
+same-length : tie.Need-same-length
 same-length c = search needs
 
-returns : tie.Need-returns Inv-loop μ-loop
-returns c = search copying-done
+returns : tie.Need-returns
+returns c = search copied-rest
 
 pub copy-record-spec : {M : Type 1} → statement M
 copy-record-spec =
     tie.close
     (tie.spec
-    Inv-loop
-    μ-loop
-    loop-holds
-    add-w
-    slice-read-w
-    add-w-2
-    slice-write-w
-    add-i
-    loop-less
-    loop-again
+    copy-words-requires
+    add-copy-bytes
+    add-copy-bytes-2
+    sub-copy-bytes
+    copy-bytes-requires
     same-length
     returns)
