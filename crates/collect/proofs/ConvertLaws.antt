@@ -29,9 +29,9 @@ use Rattle.collect.specs.declared.convert.Converting.{Converting}
 use Rattle.collect.specs.declared.convert.ConvertedRow.{ConvertedRow}
 use Rattle.collect.specs.declared.convert.Row.{Row}
 use Rattle.collect.specs.declared.convert.SoughtFile.{SoughtFile}
-use Rattle.collect.specs.Converts.{unitAt, headerIn, offsetsOf, Unnamed, convertedIn, ConversionIn, rawOf, soughtOf, linedIn, LineConverted, RowConverts}
+use Rattle.collect.specs.Converts.{unitAt, headerIn, offsetsOf, Unnamed, convertedIn, ConversionIn, rawOf, soughtOf, linedIn, LineConverted, KnownConverted, RowConverts}
 use Rattle.collect.proofs.SoughtLaws.{is-missing, is-unnamed}
-use Rattle.collect.proofs.LineLaws.{none-put, about-put}
+use Rattle.collect.proofs.LineLaws.{none-put, about-put, line-put}
 
 -- ---- what is written elsewhere
 
@@ -125,6 +125,12 @@ module _ {main supplementary w : List ℕ} {c : Conversion} {st : Converting} (C
       → LineConverted w w₂ warnings warnings′ c st r file st′ → length w₂ ≡ length w → RowConverts main supplementary w w₂ files files warnings warnings′ c st r (ConvertedRow.Next st′)
   unfolding convertRow convertedIn
   row-known room small found e L size = line-row room (but-refl w _) refl (grown-none (C .files) small) (C .unnamed) (rw (sym found ∙ ap numberOf e)) L size
+
+  -- its line is appended
+  pub row-appended : {w₂ files warnings : List ℕ} → c .lines + st .count * 25 + 25 ≤ length w → length files < top → st .warned ≤ top → length warnings < top
+      → KnownConverted w w₂ c r (st .count) → length w₂ ≡ length w
+      → RowConverts main supplementary w w₂ files files warnings warnings c st r (ConvertedRow.Next (record { table = st .table; count = st .count + 1; warned = st .warned }))
+  row-appended room small fits small′ K size = row-known {q = FoundIndex.Number (K .file)} room small (sym (K .known)) refl (line-put (K .line) fits small′) size
 
   -- ---- a row whose file has none
 

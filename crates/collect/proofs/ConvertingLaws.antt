@@ -29,11 +29,11 @@ use Rattle.collect.specs.declared.convert.Converting.{Converting}
 use Rattle.collect.specs.declared.convert.ConvertedRow.{ConvertedRow}
 use Rattle.collect.specs.declared.convert.Row.{Row}
 use Rattle.collect.specs.Passes.{rowsFrom, convertFrom}
-use Rattle.collect.specs.Converts.{unitAt, headerIn, offsetsOf, convertedIn, ConversionIn, rawOf, RowConverted, RowConverts, RowsConvert}
+use Rattle.collect.specs.Converts.{unitAt, headerIn, offsetsOf, convertedIn, ConversionIn, rawOf, KnownConverted, RowConverted, RowConverts, RowsConvert}
 use Rattle.collect.proofs.RowsFromLaws.{rows-end, rows-next, row-long, row-kind}
 use Rattle.collect.proofs.PrefixLaws.{convert-row-prefix, convert-row-prefix-refused}
 use Rattle.collect.proofs.LineLaws.{none-put, warnings-append}
-use Rattle.collect.proofs.ConvertLaws.{written, offsets-kept}
+use Rattle.collect.proofs.ConvertLaws.{written, offsets-kept, row-appended}
 
 -- ---- one row, on the definitions
 
@@ -92,6 +92,10 @@ converting-start {w = w} C room small fits small′ = record {
 
 module _ {main supplementary w₀ w files₀ files warnings₀ warnings : List ℕ} {c : Conversion} {st₀ st : Converting} {left at n more : ℕ}
     (J : ConvertingRows main supplementary w₀ w files₀ files warnings₀ warnings c st₀ st left at n more) where
+  -- nothing was written
+  pub converting-same : {w′ : List ℕ} → w′ ≡ w → ConvertingRows main supplementary w₀ w′ files₀ files warnings₀ warnings c st₀ st left at n more
+  converting-same same = rw same J
+
   finished : convertFrom (unitAt main c) (headerIn main c) (offsetsOf w₀ c) (rowsFrom main at) n more (convertedIn main supplementary w c st (J .new)) ≡ done (convertedIn main supplementary w c st (J .new))
       → RowsConvert main supplementary w₀ w files₀ files warnings₀ warnings c st₀ left (ConvertedRow.Next st)
   finished e =
@@ -200,3 +204,16 @@ module _ {main supplementary w₀ w files₀ files warnings₀ warnings : List �
                 files-size = files-size ∙ J .files-size;
                 warnings-size = warnings-size ∙ J .warnings-size;
               }
+
+        -- its line is appended
+        pub converting-known : {w′ : List ℕ} → KnownConverted w w′ c row (st .count) → length w′ ≡ length w
+            → ConvertingRows main supplementary w₀ w′ files₀ files warnings₀ warnings c st₀ (record { table = st .table; count = st .count + 1; warned = st .warned }) left next n (more - 1)
+        converting-known K size =
+            let most = J .most in
+            let room = J .room in
+            let warned = J .put .place in
+            let small = J .put .small in
+            let same = J .warnings-size in
+            let files-small = J .grown .put .small in
+            let files-same = J .files-size in
+            converting-more (row-appended (J .holds) row (omega arith) (omega arith) (omega arith) (omega arith) K size) refl size refl refl

@@ -1,5 +1,5 @@
 -- How warnings are put, and a row whose file has a number: its line, or the warning that its line is past 32 bits. Assumes nothing.
-use mathlib.Core.Path.{_≡_, refl, sym}
+use mathlib.Core.Path.{_≡_, refl, sym, ap, _∙_}
 use mathlib.Core.List.{List, [], _∷_, _++_, append-nil, append-assoc}
 use Prim.Native.Nat.{ℕ, _+_, _*_, _≤_, _<_, _^_}
 use native.Mathlib.Omega.{arith}
@@ -17,14 +17,17 @@ use Rattle.tlv.proofs.BufferLaws.{put-none, put-as}
 use Rattle.tlv.proofs.ChunkLaws.{leAt-chunk, leAt-front}
 use Rattle.tlv.proofs.OutputLaws.{put-about}
 use Rattle.tlv.proofs.TableLaws.{kept-refl}
+use Rattle.lines.specs.Files.{get}
 use Rattle.lines.specs.Lines.{rawLine, convertLine}
+use Rattle.files.specs.declared.index.FoundIndex.{FoundIndex}
+use Rattle.files.specs.Indices.{indicesIn, numberOf}
 use Rattle.rows.specs.declared.line.StatementSequence.{StatementSequence}
 use Rattle.rows.specs.Stored.{sequenceOf, PutLine}
 use Rattle.rows.proofs.StoredLaws.{lines-push}
 use Rattle.collect.specs.declared.convert.Conversion.{Conversion}
 use Rattle.collect.specs.declared.convert.Converting.{Converting}
 use Rattle.collect.specs.declared.convert.Row.{Row}
-use Rattle.collect.specs.Converts.{offsetsOf, rawOf, LineConverted}
+use Rattle.collect.specs.Converts.{offsetsOf, rawOf, LineAppended, LineConverted, KnownConverted}
 
 -- ---- warnings
 
@@ -44,24 +47,34 @@ warnings-append (x ∷ a) b = rw (warnings-append a b) (sym (append-assoc (encod
 
 -- ---- the line
 
-module _ {w : List ℕ} {c : Conversion} {st : Converting} {r : Row} {file : FileIndex} where
-  pub line-put : {w′ warnings : List ℕ} {o : StatementSequence} → r .line < 4294967296 → sequenceOf o ≡ at (offsetsOf w c) (r .sequence)
-      → PutLine w w′ (c .lines + st .count * 25) (record { address = r .address; file = file; line = r .line }) o → st .warned ≤ top → length warnings < top
-      → LineConverted w w′ warnings warnings c st r file (record { table = st .table; count = st .count + 1; warned = st .warned })
+module _ {w : List ℕ} {c : Conversion} {r : Row} {file : FileIndex} where
+  pub line-appended : {w′ : List ℕ} {count : ℕ} {o : StatementSequence} → r .line < 4294967296 → sequenceOf o ≡ at (offsetsOf w c) (r .sequence)
+      → PutLine w w′ (c .lines + count * 25) (record { address = r .address; file = file; line = r .line }) o → LineAppended w w′ c r file count
   unfolding convertLine
-  line-put h e P fits small = record {
-    new = [];
-    is = λ table indices. rw (lt-ltb (r .line) (2 ^ 32) h, lines-push (c .lines) (st .count) P, e);
-    put = none-put fits small;
-    table-same = refl;
-    more = (omega arith, omega arith);
+  line-appended {count = count} h e P = record {
+    is = λ table indices. rw (lt-ltb (r .line) (2 ^ 32) h, lines-push (c .lines) count P, e);
     rest = P .rest;
   }
 
-  pub line-warned : {warnings warnings′ : List ℕ} {n : ℕ} → 4294967296 ≤ r .line → Put (st .warned) (encode 0x46 ((7 ∷ []) ++ bytesOf 8 (r .address) ++ bytesOf 8 (r .line))) warnings warnings′ n
+  -- the file's number is the map's
+  pub line-known : {w′ : List ℕ} {count : ℕ} {q : FoundIndex} → numberOf q ≡ get (indicesIn w (c .indices)) (r .file .0) → q ≡ FoundIndex.Number file → LineAppended w w′ c r file count → KnownConverted w w′ c r count
+  line-known found e A = record { file = file; known = sym found ∙ ap numberOf e; line = A }
+
+  pub line-put : {w′ warnings : List ℕ} {st : Converting} → LineAppended w w′ c r file (st .count) → st .warned ≤ top → length warnings < top
+      → LineConverted w w′ warnings warnings c st r file (record { table = st .table; count = st .count + 1; warned = st .warned })
+  line-put A fits small = record {
+    new = [];
+    is = A .is;
+    put = none-put fits small;
+    table-same = refl;
+    more = (omega arith, omega arith);
+    rest = A .rest;
+  }
+
+  pub line-warned : {warnings warnings′ : List ℕ} {st : Converting} {n : ℕ} → 4294967296 ≤ r .line → Put (st .warned) (encode 0x46 ((7 ∷ []) ++ bytesOf 8 (r .address) ++ bytesOf 8 (r .line))) warnings warnings′ n
       → LineConverted w w warnings warnings′ c st r file (record { table = st .table; count = st .count; warned = n })
   unfolding convertLine kindNumber
-  line-warned h P = record {
+  line-warned {st = st} h P = record {
     new = about unrepresentableLine (r .address) (r .line) ∷ [];
     is = λ table indices. rw (le-ltb (r .line) (2 ^ 32) h);
     put = about-put unrepresentableLine 7 (r .address) (r .line) refl P;

@@ -1,7 +1,7 @@
 -- What the conversion of a row promises: the file of a row, its line and its sequence. Assumes nothing.
 use Prim.Native.Nat.{ℕ, _+_, _*_, _≤_}
 use mathlib.Core.Path.{_≡_}
-use mathlib.Core.Bool.{true, cond}
+use mathlib.Core.Bool.{Bool, true, false, cond}
 use mathlib.Core.Logic.{_⊎_}
 use mathlib.Core.List.{List, [], _∷_}
 use mathlib.Core.Option.{none, some}
@@ -93,6 +93,11 @@ soughtOf c n = cond (leb (c .unit .version) 4) (cond (eqb n 0) (zeroOf (c .zero)
 abbrev pub linedIn : List ℕ → Conversion → ℕ → FileTable → FileIndices → List Warning → Converted
 linedIn w c count table indices warnings = record { table = table; indices = indices; lines = linesOf w (c .lines) count; warnings = warnings }
 
+-- the row's line stands behind the others, and there is nothing to warn of
+pub record LineAppended (w w′ : List ℕ) (c : Conversion) (r : Row) (file : FileIndex) (count : ℕ) : Type 0 where
+  pub is : (table : FileTable) (indices : FileIndices) → convertLine (offsetsOf w c) (rawOf r) file (linedIn w c count table indices []) ≡ linedIn w′ c (count + 1) table indices []
+  pub rest : Kept w w′ (c .lines + count * 25) 25
+
 pub record LineConverted (w w′ warnings warnings′ : List ℕ) (c : Conversion) (st : Converting) (r : Row) (file : FileIndex) (st′ : Converting) : Type 0 where
   pub new : List Warning
   pub is : (table : FileTable) (indices : FileIndices) → convertLine (offsetsOf w c) (rawOf r) file (linedIn w c (st .count) table indices []) ≡ linedIn w′ c (st′ .count) table indices new
@@ -100,6 +105,17 @@ pub record LineConverted (w w′ warnings warnings′ : List ℕ) (c : Conversio
   pub table-same : st′ .table ≡ st .table
   pub more : (st .count ≤ st′ .count) × (st′ .count ≤ st .count + 1)
   pub rest : Kept w w′ (c .lines + st .count * 25) 25
+
+-- the line of a row whose file has a number in the unit's map
+pub record KnownConverted (w w′ : List ℕ) (c : Conversion) (r : Row) (count : ℕ) : Type 0 where
+  pub file : FileIndex
+  pub known : get (indicesIn w (c .indices)) (r .file .0) ≡ some file
+  pub line : LineAppended w w′ c r file count
+
+-- where the answer is false, nothing is written
+abbrev pub ConvertsKnown : List ℕ → List ℕ → Conversion → Row → ℕ → Bool → Type 0
+ConvertsKnown w w′ c r count true = KnownConverted w w′ c r count
+ConvertsKnown w w′ c r count false = w′ ≡ w
 
 -- ---- a row
 

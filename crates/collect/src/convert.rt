@@ -1,14 +1,14 @@
 // Rows of the sheet become lines of the unit: the file of each is found or interned, and what can't be told is warned of.
 ghost use mathlib.Core.Path.{_≡_};
 ghost use mathlib.Core.Option.{none};
-ghost use Prim.Native.Nat.{_+_, _*_, _≤_};
+ghost use Prim.Native.Nat.{_+_, _*_, _≤_, _<_};
 ghost use lib.ListN.{length};
 ghost use Rattle.tlv.specs.Model.{rowOf};
 ghost use Rattle.tlv.specs.Table.{chunk};
 ghost use Rattle.lines.specs.Files.{get};
 ghost use Rattle.lines.specs.Lines.{rawLine};
 ghost use Rattle.files.specs.Indices.{indicesIn};
-ghost use Rattle.collect.specs.Converts.{ConversionIn, rawOf, zeroOf, listedOf, soughtOf, LineConverted, RowConverts, RowsConvert};
+ghost use Rattle.collect.specs.Converts.{ConversionIn, rawOf, zeroOf, listedOf, soughtOf, LineAppended, LineConverted, ConvertsKnown, RowConverts, RowsConvert};
 use files::index::FileNumber;
 use files::index::FoundIndex;
 use files::index::StoredIndices;
@@ -102,6 +102,22 @@ fn sought_file(c: Conversion, file: FileNumber) -> SoughtFile
     listed_file(indices, file)
 }
 
+// Appends the line of a row whose file has a number and whose line fits 32 bits.
+fn append_line(c: Conversion, row: Row, index: tlv::model::FileIndex, work: &mut [u8], count: usize)
+    requires { ⌜ c .offsets + c .«offset_count» * 8 ≤ length (now work) ⌝ }
+    requires { ⌜ c .lines + count * 25 + 25 ≤ length (now work) ⌝ }
+    requires { ⌜ row .line < 4294967296 ⌝ }
+    ensures { λ _. ⌜ LineAppended (now (work .entry)) (now (work .exit)) c row index count ⌝ }
+{
+    let offset = crate::passes::sequence_offset(work, c.offsets, c.offset_count, row.sequence);
+    let entry = tlv::model::LineEntry {
+        address: row.address,
+        file: index,
+        line: row.line as u32,
+    };
+    rows::line::put_line(work, c.lines + count * 25, entry, offset);
+}
+
 // Appends the line of a row whose file has a number; a line past 32 bits warns.
 fn convert_line(
     c: Conversion,
@@ -120,13 +136,7 @@ fn convert_line(
     let address = row.address;
     let line = row.line;
     if line < 4294967296 {
-        let offset = crate::passes::sequence_offset(work, c.offsets, c.offset_count, row.sequence);
-        let entry = tlv::model::LineEntry {
-            address: address,
-            file: index,
-            line: line as u32,
-        };
-        rows::line::put_line(work, c.lines + count * 25, entry, offset);
+        append_line(c, row, index, work, count);
         return Converting {
             table: table,
             count: count + 1,
@@ -273,6 +283,25 @@ fn read_row(main: &[u8], start: usize, sequence: usize) -> Row
     }
 }
 
+// Appends the line of a row whose file has a number in the unit's map and whose line fits 32 bits; whether it did.
+fn convert_known(c: Conversion, row: Row, work: &mut [u8], count: usize) -> bool
+    requires { ⌜ c .indices .base + c .indices .count * 5 ≤ length (now work) ⌝ }
+    requires { ⌜ c .offsets + c .«offset_count» * 8 ≤ length (now work) ⌝ }
+    requires { ⌜ c .lines + count * 25 + 25 ≤ length (now work) ⌝ }
+    ensures { λ r. ⌜ ConvertsKnown (now (work .entry)) (now (work .exit)) c row count r ⌝ }
+{
+    let indices = c.indices;
+    let number = row.file;
+    let FoundIndex::Number(index) = files::index::get_index(work, indices, number) else {
+        return false;
+    };
+    if row.line < 4294967296 {
+        append_line(c, row, index, work, count);
+        return true;
+    }
+    false
+}
+
 // Converts `left` rows of the unit, from its first on.
 pub fn convert_rows(
     main: &[u8],
@@ -305,11 +334,15 @@ pub fn convert_rows(
         else {
             return ConvertedRow::Next(state);
         };
+        let row = read_row(main, start, sequence);
         if tlv::bytes::read_u8(main, start + 24) == 1 {
             sequence += 1;
             at = next;
+        } else if convert_known(c, row, work, state.count) {
+            state.count += 1;
+            more -= 1;
+            at = next;
         } else {
-            let row = read_row(main, start, sequence);
             match convert_row(main, supplementary, c, row, work, files, warnings, state) {
                 ConvertedRow::Refused(n) => {
                     return ConvertedRow::Refused(n);

@@ -5,31 +5,17 @@ use Rattle.collect.proofs.LineLaws.{line-put, line-warned}
 use Rattle.collect.proofs.convert.convert_line.Statement.{statement}
 use Rattle.collect.proofs.convert.convert_line.Tie as tie
 
-sequence-offset-requires : tie.Need-sequence-offset-requires
-sequence-offset-requires c κs = search needs
+append-line-requires : tie.Need-append-line-requires
+append-line-requires c κs = search needs
 
-cast-t17 : tie.Need-cast-t17
-cast-t17 c = search needs
-
-mul-put-line : tie.Need-mul-put-line
-mul-put-line c = search needs
-
-add-put-line : tie.Need-add-put-line
-add-put-line c = search needs
-
-put-line-requires : tie.Need-put-line-requires
-put-line-requires c κs = search needs
-
-add-t21 : tie.Need-add-t21
-add-t21 c = search needs
+add-t16 : tie.Need-add-t16
+add-t16 c = search needs
 
 same-length : tie.Need-same-length
 same-length c = search needs
 
 returns : tie.Need-returns
-returns c =
-    let S = c .before .before .before .before .before .before .before .before .before .before .before in
-    line-put (c .before .before .before .before .before .before .before .if1 .taken) (c .before .before .before .before .before .sequence-offset .ensures) (c .before .before .put-line .ensures) (let g = S .good .1 .1 .1 .1 .1 .0 in omega arith) (omega arith)
+returns c = let S = c .before .before .before .before .before .before .before .before in line-put (c .before .before .append-line .ensures) (let g = S .good .1 .1 .1 .1 .1 .0 in omega arith) (omega arith)
 
 put-warning-requires : tie.Need-put-warning-requires
 put-warning-requires c κs = search needs
@@ -44,12 +30,8 @@ pub convert-line-spec : {M : Type 1} → statement M
 convert-line-spec =
     tie.close
     (tie.spec
-    sequence-offset-requires
-    cast-t17
-    mul-put-line
-    add-put-line
-    put-line-requires
-    add-t21
+    append-line-requires
+    add-t16
     same-length
     returns
     put-warning-requires

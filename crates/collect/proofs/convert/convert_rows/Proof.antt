@@ -6,7 +6,7 @@ use borrow.Author.Needs.{needs}
 use Rattle.tlv.proofs.OwnLaws.{own-less}
 use Rattle.files.proofs.UnitLaws.{unit-within}
 use Rattle.collect.proofs.RowsFromLaws.{row-within, row-ahead}
-use Rattle.collect.proofs.ConvertingLaws.{ConvertingRows, converting-start, converting-full, converting-over, converting-ended, converting-refused, converting-more}
+use Rattle.collect.proofs.ConvertingLaws.{ConvertingRows, converting-start, converting-same, converting-full, converting-over, converting-ended, converting-refused, converting-more, converting-known}
 use Rattle.collect.proofs.convert.convert_rows.Statement.{statement}
 use Rattle.collect.proofs.convert.convert_rows.Tie as tie
 
@@ -63,73 +63,101 @@ same-length-6 c = search needs
 returns-2 : tie.Need-returns-2 Inv-loop μ-loop
 returns-2 c = converting-over (c .before .before .before .before .loop .inv) (c .before .before .next-own .ensures) (c .enum-told .given .1)
 
+read-row-requires : tie.Need-read-row-requires Inv-loop μ-loop
+read-row-requires c κs =
+    let s = c .before .before .before .before .before .before .before .before .before .before .before .before .before .args .main .now in
+    row-within s _ _ (c .before .before .before .next-own .ensures) _ _ _ (c .before .start .given .1) (c .before .before .before .before .before .loop .inv .placed)
+
 add-read-u8 : tie.Need-add-read-u8 Inv-loop μ-loop
 add-read-u8 c =
-    let s = c .before .before .before .before .before .before .before .before .before .before .before .before .before .args .main .now in
-    let w : c .before .start .given .0 .0 + 25 ≤ length s = row-within s _ _ (c .before .before .before .next-own .ensures) _ _ _ (c .before .start .given .1) (c .before .before .before .before .before .loop .inv .placed) in
-    omega (arith, c .before .before .before .before .before .before .before .before .before .before .before .before .before .good .0)
+    let s = c .before .before .before .before .before .before .before .before .before .before .before .before .before .before .args .main .now in
+    let w : c .before .before .start .given .0 .0 + 25 ≤ length s = row-within s _ _ (c .before .before .before .before .next-own .ensures) _ _ _ (c .before .before .start .given .1) (c .before .before .before .before .before .before .loop .inv .placed) in
+    omega (arith, c .before .before .before .before .before .before .before .before .before .before .before .before .before .before .good .0)
 
 read-u8-requires : tie.Need-read-u8-requires Inv-loop μ-loop
 read-u8-requires c κs =
-    let s = c .before .before .before .before .before .before .before .before .before .before .before .before .before .args .main .now in
-    let w : c .before .start .given .0 .0 + 25 ≤ length s = row-within s _ _ (c .before .before .before .next-own .ensures) _ _ _ (c .before .start .given .1) (c .before .before .before .before .before .loop .inv .placed) in
+    let s = c .before .before .before .before .before .before .before .before .before .before .before .before .before .before .args .main .now in
+    let w : c .before .before .start .given .0 .0 + 25 ≤ length s = row-within s _ _ (c .before .before .before .before .next-own .ensures) _ _ _ (c .before .before .start .given .1) (c .before .before .before .before .before .before .loop .inv .placed) in
     omega arith
 
 add-sequence : tie.Need-add-sequence Inv-loop μ-loop
 add-sequence c =
-    let l = c .before .before .before .before .before .before .before in
-    let s = c .before .before .before .before .before .before .before .before .before .before .before .before .before .before .before .args .main .now in
-    let w : l .loop .at < length s = row-ahead s _ _ (c .before .before .before .before .before .next-own .ensures) _ _ _ (c .before .before .before .start .given .1) in
-    let small = l .loop .inv .small in
-    omega (arith, c .before .before .before .before .before .before .before .before .before .before .before .before .before .before .before .good .0)
+    let s = c .before .before .before .before .before .before .before .before .before .before .before .before .before .before .before .before .args .main .now in
+    let w : c .before .before .before .before .before .before .before .before .loop .at < length s = row-ahead s _ _ (c .before .before .before .before .before .before .next-own .ensures) _ _ _ (c .before .before .before .before .start .given .1) in
+    let small = c .before .before .before .before .before .before .before .before .loop .inv .small in
+    omega (arith, c .before .before .before .before .before .before .before .before .before .before .before .before .before .before .before .before .good .0)
 
 loop-less : tie.Need-loop-less Inv-loop μ-loop
 loop-less c = search own-less
 
 loop-again : tie.Need-loop-again Inv-loop μ-loop
-loop-again c = converting-ended (c .before .before .before .before .before .before .before .loop .inv) (c .before .before .before .before .before .next-own .ensures) (c .before .before .before .start .given .1) (c .before .before .before .before .before .before .if1 .left) _ (c .before .read-u8 .ensures) (c .if2 .taken)
+loop-again c = converting-ended (c .before .before .before .before .before .before .before .before .loop .inv) (c .before .before .before .before .before .before .next-own .ensures) (c .before .before .before .before .start .given .1) (c .before .before .before .before .before .before .before .if1 .left) _ (c .before .read-u8 .ensures) (c .if2 .taken)
 
-read-row-requires : tie.Need-read-row-requires Inv-loop μ-loop
-read-row-requires c κs =
-    let s = c .before .before .before .before .before .before .before .before .before .before .before .before .before .before .before .args .main .now in
-    row-within s _ _ (c .before .before .before .before .before .next-own .ensures) _ _ _ (c .before .before .before .start .given .1) (c .before .before .before .before .before .before .before .loop .inv .placed)
+convert-known-requires : tie.Need-convert-known-requires Inv-loop μ-loop
+convert-known-requires c κs =
+    let J = c .before .before .before .before .before .before .before .before .before .loop .inv in
+    let most = J .most in
+    let room = J .room in
+    let some-left = c .before .before .before .before .before .before .before .before .if1 .left in
+    let offsets = J .holds .offsets in
+    let directories = J .holds .directories in
+    let indices = J .holds .indices in
+    let lines = J .holds .lines in
+    (omega arith, (omega arith, omega arith))
+
+add-state : tie.Need-add-state Inv-loop μ-loop
+add-state c =
+    let J = c .before .before .before .before .before .before .before .before .before .before .before .before .before .before .loop .inv in
+    let most = J .most in
+    let room = J .room in
+    let size = J .size in
+    omega (arith, c .before .before .before .before .before .before .before .before .before .before .before .before .before .before .before .before .before .before .before .before .before .before .good .1 .1 .1 .1 .0)
+
+sub-more : tie.Need-sub-more Inv-loop μ-loop
+sub-more c = omega (arith, c .before .before .before .before .before .before .before .before .before .before .before .before .before .if1 .left)
+
+loop-less-2 : tie.Need-loop-less-2 Inv-loop μ-loop
+loop-less-2 c = search own-less
+
+loop-again-2 : tie.Need-loop-again-2 Inv-loop μ-loop
+loop-again-2 c = converting-known (c .before .before .before .before .before .before .before .before .before .before .before .before .before .before .loop .inv) (c .before .before .before .before .before .before .before .before .before .before .before .before .next-own .ensures) (c .before .before .before .before .before .before .before .before .before .before .start .given .1) (c .before .before .before .before .before .before .before .before .before .before .before .before .before .if1 .left) _ (c .before .before .before .before .before .before .before .read-u8 .ensures) (c .before .before .before .before .before .before .if2 .left) (c .before .before .before .before .before .before .before .before .read-row .ensures) (rw (c .before .if3 .taken) at (c .before .before .before .before .convert-known .ensures)) (c .before .before .before .before .convert-known .kept .1 .1 .0)
 
 convert-row-requires : tie.Need-convert-row-requires Inv-loop μ-loop
 convert-row-requires c κs =
-    let J = c .before .before .before .before .before .before .before .before .before .before .before .loop .inv in
+    let J = converting-same (c .before .before .before .before .before .before .before .before .before .before .before .before .before .before .before .before .loop .inv) (rw (c .before .before .before .if3 .left) at (c .before .before .before .before .before .before .convert-known .ensures)) in
     let most = J .most in
     let room = J .room in
-    let some-left = c .before .before .before .before .before .before .before .before .before .before .if1 .left in
+    let some-left = c .before .before .before .before .before .before .before .before .before .before .before .before .before .before .before .if1 .left in
     (J .holds, omega arith)
 
 enum-known-n : tie.Need-enum-known-n Inv-loop μ-loop
 enum-known-n c = search needs
 
 same-length-7 : tie.Need-same-length-7 Inv-loop μ-loop
-same-length-7 c = search needs
+same-length-7 c = omega (arith, c .before .before .before .before .before .before .before .before .before .convert-row .kept .1 .1 .1 .1 .0, c .before .before .before .before .before .before .before .before .before .before .before .before .before .before .before .before .convert-known .kept .1 .1 .0, c .before .before .before .before .before .before .before .before .before .before .before .before .before .before .before .before .before .before .before .before .before .before .before .before .before .before .loop .inv .size)
 
 same-length-8 : tie.Need-same-length-8 Inv-loop μ-loop
-same-length-8 c = search needs
+same-length-8 c = omega (arith, c .before .before .before .before .before .before .before .before .before .convert-row .kept .1 .1 .1 .1 .1 .0, c .before .before .before .before .before .before .before .before .before .before .before .before .before .before .before .before .before .before .before .before .before .before .before .before .before .before .loop .inv .files-size)
 
 same-length-9 : tie.Need-same-length-9 Inv-loop μ-loop
-same-length-9 c = search needs
+same-length-9 c = omega (arith, c .before .before .before .before .before .before .before .before .before .convert-row .kept .1 .1 .1 .1 .1 .1 .0, c .before .before .before .before .before .before .before .before .before .before .before .before .before .before .before .before .before .before .before .before .before .before .before .before .before .before .loop .inv .warnings-size)
 
 returns-3 : tie.Need-returns-3 Inv-loop μ-loop
-returns-3 c = converting-refused (c .before .before .before .before .before .before .before .before .before .before .before .before .before .before .before .before .before .before .before .before .before .loop .inv) (c .before .before .before .before .before .before .before .before .before .before .before .before .before .before .before .before .before .before .before .next-own .ensures) (c .before .before .before .before .before .before .before .before .before .before .before .before .before .before .before .before .before .start .given .1) (c .before .before .before .before .before .before .before .before .before .before .before .before .before .before .before .before .before .before .before .before .if1 .left) _ (c .before .before .before .before .before .before .before .before .before .before .before .before .before .before .before .read-u8 .ensures) (c .before .before .before .before .before .before .before .before .before .before .before .before .before .before .if2 .left) (c .before .before .before .before .before .before .before .before .before .before .before .before .before .read-row .ensures) (c .before .before .before .before .before .before .before .before .before .convert-row .ensures) (c .before .n .given .1)
+returns-3 c = converting-refused (converting-same (c .before .before .before .before .before .before .before .before .before .before .before .before .before .before .before .before .before .before .before .before .before .before .before .before .before .before .loop .inv) (rw (c .before .before .before .before .before .before .before .before .before .before .before .before .before .if3 .left) at (c .before .before .before .before .before .before .before .before .before .before .before .before .before .before .before .before .convert-known .ensures))) (c .before .before .before .before .before .before .before .before .before .before .before .before .before .before .before .before .before .before .before .before .before .before .before .before .next-own .ensures) (c .before .before .before .before .before .before .before .before .before .before .before .before .before .before .before .before .before .before .before .before .before .before .start .given .1) (c .before .before .before .before .before .before .before .before .before .before .before .before .before .before .before .before .before .before .before .before .before .before .before .before .before .if1 .left) _ (c .before .before .before .before .before .before .before .before .before .before .before .before .before .before .before .before .before .before .before .read-u8 .ensures) (c .before .before .before .before .before .before .before .before .before .before .before .before .before .before .before .before .before .before .if2 .left) (c .before .before .before .before .before .before .before .before .before .before .before .before .before .before .before .before .before .before .before .before .read-row .ensures) (c .before .before .before .before .before .before .before .before .before .convert-row .ensures) (c .before .n .given .1)
 
 enum-known-converted : tie.Need-enum-known-converted Inv-loop μ-loop
 enum-known-converted c = search needs
 
-sub-more : tie.Need-sub-more Inv-loop μ-loop
-sub-more c = omega (arith, c .before .before .before .before .before .before .before .before .before .before .before .before .before .before .before .before .before .before .before .before .if1 .left)
+sub-more-2 : tie.Need-sub-more-2 Inv-loop μ-loop
+sub-more-2 c = omega (arith, c .before .before .before .before .before .before .before .before .before .before .before .before .before .before .before .before .before .before .before .before .before .before .before .before .before .if1 .left)
 
-loop-less-2 : tie.Need-loop-less-2 Inv-loop μ-loop
-loop-less-2 c = search own-less
+loop-less-3 : tie.Need-loop-less-3 Inv-loop μ-loop
+loop-less-3 c = own-less _ _ _ _ _ _ _ (c .before .before .before .before .before .before .before .before .before .before .before .before .before .before .before .before .before .before .before .before .before .before .before .before .next-own .ensures) (c .before .before .before .before .before .before .before .before .before .before .before .before .before .before .before .before .before .before .before .before .before .before .start .given .1)
 
-loop-again-2 : tie.Need-loop-again-2 Inv-loop μ-loop
-loop-again-2 c =
+loop-again-3 : tie.Need-loop-again-3 Inv-loop μ-loop
+loop-again-3 c =
     let same = c .before .before .before .before .before .before .before .before .before .convert-row .kept .1 .1 .1 .1 in
-    converting-more (c .before .before .before .before .before .before .before .before .before .before .before .before .before .before .before .before .before .before .before .before .before .loop .inv) (c .before .before .before .before .before .before .before .before .before .before .before .before .before .before .before .before .before .before .before .next-own .ensures) (c .before .before .before .before .before .before .before .before .before .before .before .before .before .before .before .before .before .start .given .1) (c .before .before .before .before .before .before .before .before .before .before .before .before .before .before .before .before .before .before .before .before .if1 .left) _ (c .before .before .before .before .before .before .before .before .before .before .before .before .before .before .before .read-u8 .ensures) (c .before .before .before .before .before .before .before .before .before .before .before .before .before .before .if2 .left) (c .before .before .before .before .before .before .before .before .before .before .before .before .before .read-row .ensures)
+    converting-more (converting-same (c .before .before .before .before .before .before .before .before .before .before .before .before .before .before .before .before .before .before .before .before .before .before .before .before .before .before .loop .inv) (rw (c .before .before .before .before .before .before .before .before .before .before .before .before .before .if3 .left) at (c .before .before .before .before .before .before .before .before .before .before .before .before .before .before .before .before .convert-known .ensures))) (c .before .before .before .before .before .before .before .before .before .before .before .before .before .before .before .before .before .before .before .before .before .before .before .before .next-own .ensures) (c .before .before .before .before .before .before .before .before .before .before .before .before .before .before .before .before .before .before .before .before .before .before .start .given .1) (c .before .before .before .before .before .before .before .before .before .before .before .before .before .before .before .before .before .before .before .before .before .before .before .before .before .if1 .left) _ (c .before .before .before .before .before .before .before .before .before .before .before .before .before .before .before .before .before .before .before .read-u8 .ensures) (c .before .before .before .before .before .before .before .before .before .before .before .before .before .before .before .before .before .before .if2 .left) (c .before .before .before .before .before .before .before .before .before .before .before .before .before .before .before .before .before .before .before .before .read-row .ensures)
     (c .before .before .before .before .before .before .before .before .before .convert-row .ensures) (c .before .converted .given .1) (same .0) (same .1 .0) (same .1 .1 .0)
 
 pub convert-rows-spec : {M : Type 1} → statement M
@@ -151,12 +179,17 @@ convert-rows-spec =
     same-length-5
     same-length-6
     returns-2
+    read-row-requires
     add-read-u8
     read-u8-requires
     add-sequence
     loop-less
     loop-again
-    read-row-requires
+    convert-known-requires
+    add-state
+    sub-more
+    loop-less-2
+    loop-again-2
     convert-row-requires
     enum-known-n
     same-length-7
@@ -164,6 +197,6 @@ convert-rows-spec =
     same-length-9
     returns-3
     enum-known-converted
-    sub-more
-    loop-less-2
-    loop-again-2)
+    sub-more-2
+    loop-less-3
+    loop-again-3)
