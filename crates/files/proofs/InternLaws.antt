@@ -13,6 +13,7 @@ use Rattle.tlv.specs.Buffer.{top}
 use Rattle.tlv.specs.Table.{Kept, KeptBut}
 use Rattle.tlv.specs.Model.{fileOf}
 use Rattle.tlv.specs.Access.{NextOwn}
+use Rattle.tlv.specs.Checked.{Placed}
 use Rattle.tlv.specs.Places.{unitHere}
 use Rattle.tlv.proofs.TableLaws.{kept-refl, here, there, but-of, but-one, but-trans}
 use Rattle.lines.specs.Paths.{fileEntry}
@@ -47,6 +48,13 @@ module _ (main supplementary : List ℕ) {source : DebugSource} where
 
   pub pieced-supplementary : {unit : FileUnit} {file : Span} {r : Named} → source ≡ DebugSource.Supplementary → Pieced supplementary unit file r → Pieced (sourceIn main supplementary source) unit file r
   pieced-supplementary e p = rw e p
+
+  -- a place of the source's sheet
+  pub placed-main : {p : ℕ} → source ≡ DebugSource.Main → Placed (sourceIn main supplementary source) p → Placed main p
+  placed-main e h = rw e at h
+
+  pub placed-supplementary : {p : ℕ} → source ≡ DebugSource.Supplementary → Placed (sourceIn main supplementary source) p → Placed supplementary p
+  placed-supplementary e h = rw e at h
 
   pub next-main : {p : ℕ} {r : Own} → source ≡ DebugSource.Main → NextOwn main p 0x15 r → NextOwn (sourceIn main supplementary source) p 0x15 r
   next-main e n = rw e n

@@ -3,6 +3,7 @@ ghost use Prim.Native.Nat.{_+_, _≤_};
 ghost use lib.ListN.{length};
 ghost use Rattle.tlv.specs.Places.{unitHere};
 ghost use Rattle.tlv.specs.Access.{NextOwn};
+ghost use Rattle.tlv.specs.Checked.{Placed};
 ghost use Rattle.files.specs.Pieces.{sourceIn, headerHere, UnitPlaced, FileUnitIn, Pieced};
 ghost use Rattle.files.specs.Store.{extent, FilesIn};
 ghost use Rattle.files.specs.Interns.{FileSpanIn, Listed, OfUnit, Interns, InternsAt, MapRoom, InternsFiles, InternsHeader};
@@ -63,14 +64,15 @@ pub fn next_file(
     source: DebugSource,
     p: usize,
 ) -> tlv::access::Own
+    requires { ⌜ Placed (sourceIn (now main) (now supplementary) source) p ⌝ }
     ensures { λ r. ⌜ NextOwn (sourceIn (now (main .entry)) (now (supplementary .entry)) source) p 0x15 r ⌝ }
 {
     match source {
         DebugSource::Main => {
-            return tlv::access::next_own(main, p, 0x15);
+            return tlv::access::next_before_rows(main, p, 0x15);
         }
         DebugSource::Supplementary => {
-            return tlv::access::next_own(supplementary, p, 0x15);
+            return tlv::access::next_before_rows(supplementary, p, 0x15);
         }
     }
 }

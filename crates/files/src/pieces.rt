@@ -73,7 +73,7 @@ fn index_directories(s: &[u8], p: usize, work: &mut [u8], base: usize) -> usize
     let mut at = p;
     let mut n: usize = 0;
     loop {
-        match tlv::access::next_own(s, at, 0x14) {
+        match tlv::access::next_before_rows(s, at, 0x14) {
             tlv::access::Own::Missing => {
                 return n;
             }
@@ -98,7 +98,7 @@ fn compilation_span(s: &[u8], p: usize) -> Span
     requires { ⌜ Placed (now s) p ⌝ }
     ensures { λ r. ⌜ CompilationIn (now (s .entry)) p r ⌝ }
 {
-    match tlv::access::next_own(s, p, 0x11) {
+    match tlv::access::next_before_rows(s, p, 0x11) {
         tlv::access::Own::Missing => Span { start: 0, len: 0 },
         tlv::access::Own::Field {
             start,
@@ -116,7 +116,7 @@ fn header_version(s: &[u8], p: usize) -> u8
     requires { ⌜ Placed (now s) p ⌝ }
     ensures { λ r. ⌜ r ≡ versionIn (now (s .entry)) p ⌝ }
 {
-    match tlv::access::next_own(s, p, 0x13) {
+    match tlv::access::next_before_rows(s, p, 0x13) {
         tlv::access::Own::Missing => 0,
         tlv::access::Own::Field {
             start,

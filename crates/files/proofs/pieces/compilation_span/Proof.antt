@@ -4,8 +4,8 @@ use Rattle.files.proofs.UnitLaws.{compilation-none, compilation-found}
 use Rattle.files.proofs.pieces.compilation_span.Statement.{statement}
 use Rattle.files.proofs.pieces.compilation_span.Tie as tie
 
-next-own-requires : tie.Need-next-own-requires
-next-own-requires c κs = search needs
+next-before-rows-requires : tie.Need-next-before-rows-requires
+next-before-rows-requires c κs = search needs
 
 enum-told : tie.Need-enum-told
 enum-told c = search needs
@@ -21,4 +21,4 @@ returns-2 c = search compilation-found
 
 pub compilation-span-spec : {M : Type 1} → statement M
 compilation-span-spec =
-    tie.close (tie.spec next-own-requires enum-told enum-known-start returns returns-2)
+    tie.close (tie.spec next-before-rows-requires enum-told enum-known-start returns returns-2)

@@ -7,8 +7,8 @@ use Rattle.files.proofs.UnitLaws.{version-none, version-read, version-f
 use Rattle.files.proofs.pieces.header_version.Statement.{statement}
 use Rattle.files.proofs.pieces.header_version.Tie as tie
 
-next-own-requires : tie.Need-next-own-requires
-next-own-requires c κs = search needs
+next-before-rows-requires : tie.Need-next-before-rows-requires
+next-before-rows-requires c κs = search needs
 
 enum-told : tie.Need-enum-told
 enum-told c = search needs
@@ -34,7 +34,7 @@ pub header-version-spec : {M : Type 1} → statement M
 header-version-spec =
     tie.close
     (tie.spec
-    next-own-requires
+    next-before-rows-requires
     enum-told
     enum-known-start
     add-read-u8
