@@ -7,6 +7,7 @@ use native.Mathlib.Omega.{arith}
 use lib.ListN.{length, take, drop}
 use Rattle.tlv.specs.Outcome.{Outcome, refused, done}
 use Rattle.tlv.specs.Bytes.{le}
+use Rattle.tlv.specs.Checked.{Placed}
 use Rattle.tlv.specs.Table.{KeptBut}
 use Rattle.tlv.specs.Model.{headerOf}
 use Rattle.tlv.specs.Places.{unitHere}
@@ -23,7 +24,7 @@ use Rattle.files.specs.declared.store.StoredFiles.{StoredFiles}
 use Rattle.files.specs.Pieces.{headerHere, UnitPlaced}
 use Rattle.files.specs.Store.{extent, tableOf, FilesIn}
 use Rattle.files.specs.Indices.{indexOf, indicesOf, indicesIn}
-use Rattle.files.proofs.UnitLaws.{unit-within}
+use Rattle.files.proofs.UnitLaws.{unit-next}
 use Rattle.files.proofs.UnnamedLaws.{unnamed}
 use Rattle.files.proofs.GrownLaws.{files-kept, table-kept, grown-trans, grown-after}
 use Rattle.collect.specs.declared.collect.CollectedLines.{CollectedLines}
@@ -126,8 +127,8 @@ module _ {main supplementary program w : List ℕ} {p start len n m free : ℕ} 
           files-are : internHeaderFiles (unitHere main p) (headerHere main p) (tableOf main supplementary w t) ≡ done (record { table = tableOf main supplementary w₂ t′; indices = indicesIn w₂ is })
           files-are = rw (← table-scanned) (sym (rw found at (I .is)))
 
-          pub interned-within : u .place + 21 ≤ length main
-          interned-within = rw (interned .place) (unit-within stands)
+          pub interned-placed : Placed main (u .place + 21)
+          interned-placed = rw (interned .place) (unit-next stands)
 
           interned-room : is .base + is .count * 5 + 50 * length (rowsFrom main (p + 21)) + 16 ≤ free + linesExtent main p program
           unfolding linesExtent

@@ -142,13 +142,13 @@ fn conversion(
     offsets: usize,
     n: usize,
 ) -> Conversion
-    requires { ⌜ unit .place + 21 ≤ length (now main) ⌝ }
+    requires { ⌜ Placed (now main) (unit .place + 21) ⌝ }
     requires { ⌜ indices .base + indices .count * 5 ≤ 18446744073709551615 ⌝ }
     ensures { λ r. ⌜ ConversionOf (now (main .entry)) unit indices offsets n r ⌝ }
 {
     Conversion {
         unit: unit,
-        zero: tlv::access::next_own(main, unit.place + 21, 0x1c),
+        zero: tlv::access::next_before_rows(main, unit.place + 21, 0x1c),
         indices: indices,
         offsets: offsets,
         offset_count: n,

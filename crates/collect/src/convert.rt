@@ -330,7 +330,7 @@ pub fn convert_rows(
             start,
             len: _,
             next,
-        } = tlv::access::next_own(main, at, 0x16)
+        } = tlv::access::next_row(main, at)
         else {
             return ConvertedRow::Next(state);
         };

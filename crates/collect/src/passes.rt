@@ -25,7 +25,7 @@ pub fn count_rows(s: &[u8], p: usize) -> CountedRows
     let mut opened: usize = 0;
     let mut n: usize = 0;
     loop {
-        match tlv::access::next_own(s, at, 0x16) {
+        match tlv::access::next_row(s, at) {
             Own::Missing => {
                 return CountedRows::Rows {
                     lines: lines,
@@ -117,7 +117,7 @@ pub fn collect_sequences(
             start: row,
             len: _,
             next,
-        } = tlv::access::next_own(s, at, 0x16)
+        } = tlv::access::next_row(s, at)
         else {
             return count;
         };

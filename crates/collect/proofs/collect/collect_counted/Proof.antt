@@ -3,7 +3,7 @@ use native.Mathlib.Omega.{arith}
 use borrow.Author.Needs.{needs}
 use mathlib.Core.Path.{_∙_}
 use Rattle.collect.proofs.HeaderPlaces.{unit-stands, unit-listed}
-use Rattle.collect.proofs.CollectLaws.{scan-room, collected-fault, scanned-small, scanned-files, scanned-room, collected-unnumbered, interned-fits, interned-within, conversion-in, conversion-counted, conversion-fits, collected-end}
+use Rattle.collect.proofs.CollectLaws.{scan-room, collected-fault, scanned-small, scanned-files, scanned-room, collected-unnumbered, interned-fits, interned-placed, conversion-in, conversion-counted, conversion-fits, collected-end}
 use Rattle.collect.proofs.collect.collect_counted.Statement.{statement}
 use Rattle.collect.proofs.collect.collect_counted.Tie as tie
 
@@ -83,7 +83,7 @@ conversion-requires c κs =
     let found = c .before .unit .given .1 in
     let good = c .before .before .before .before .before .before .before .before .before .before .before .before .before .before .before .before .before .before .before .before .before .before .before .good .1 .1 .1 .1 .1 .1 .1 .1 .0 in
     let all = interned-fits B S e size I found in
-    (interned-within B S e size I found, omega (arith, all))
+    (interned-placed B S e size I found, omega (arith, all))
 
 finish-lines-requires : tie.Need-finish-lines-requires
 finish-lines-requires c κs =

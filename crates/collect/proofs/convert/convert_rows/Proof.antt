@@ -42,8 +42,8 @@ same-length-3 c = search needs
 returns : tie.Need-returns Inv-loop μ-loop
 returns c = converting-full (c .before .loop .inv) (c .if1 .taken)
 
-next-own-requires : tie.Need-next-own-requires Inv-loop μ-loop
-next-own-requires c κs = search needs
+next-row-requires : tie.Need-next-row-requires Inv-loop μ-loop
+next-row-requires c κs = search needs
 
 enum-known-start : tie.Need-enum-known-start Inv-loop μ-loop
 enum-known-start c = search needs
@@ -61,29 +61,29 @@ same-length-6 : tie.Need-same-length-6 Inv-loop μ-loop
 same-length-6 c = search needs
 
 returns-2 : tie.Need-returns-2 Inv-loop μ-loop
-returns-2 c = converting-over (c .before .before .before .before .loop .inv) (c .before .before .next-own .ensures) (c .enum-told .given .1)
+returns-2 c = converting-over (c .before .before .before .before .loop .inv) (c .before .before .next-row .ensures) (c .enum-told .given .1)
 
 read-row-requires : tie.Need-read-row-requires Inv-loop μ-loop
 read-row-requires c κs =
     let s = c .before .before .before .before .before .before .before .before .before .before .before .before .before .args .main .now in
-    row-within s _ _ (c .before .before .before .next-own .ensures) _ _ _ (c .before .start .given .1) (c .before .before .before .before .before .loop .inv .placed)
+    row-within s _ _ (c .before .before .before .next-row .ensures) _ _ _ (c .before .start .given .1) (c .before .before .before .before .before .loop .inv .placed)
 
 add-read-u8 : tie.Need-add-read-u8 Inv-loop μ-loop
 add-read-u8 c =
     let s = c .before .before .before .before .before .before .before .before .before .before .before .before .before .before .args .main .now in
-    let w : c .before .before .start .given .0 .0 + 25 ≤ length s = row-within s _ _ (c .before .before .before .before .next-own .ensures) _ _ _ (c .before .before .start .given .1) (c .before .before .before .before .before .before .loop .inv .placed) in
+    let w : c .before .before .start .given .0 .0 + 25 ≤ length s = row-within s _ _ (c .before .before .before .before .next-row .ensures) _ _ _ (c .before .before .start .given .1) (c .before .before .before .before .before .before .loop .inv .placed) in
     omega (arith, c .before .before .before .before .before .before .before .before .before .before .before .before .before .before .good .0)
 
 read-u8-requires : tie.Need-read-u8-requires Inv-loop μ-loop
 read-u8-requires c κs =
     let s = c .before .before .before .before .before .before .before .before .before .before .before .before .before .before .args .main .now in
-    let w : c .before .before .start .given .0 .0 + 25 ≤ length s = row-within s _ _ (c .before .before .before .before .next-own .ensures) _ _ _ (c .before .before .start .given .1) (c .before .before .before .before .before .before .loop .inv .placed) in
+    let w : c .before .before .start .given .0 .0 + 25 ≤ length s = row-within s _ _ (c .before .before .before .before .next-row .ensures) _ _ _ (c .before .before .start .given .1) (c .before .before .before .before .before .before .loop .inv .placed) in
     omega arith
 
 add-sequence : tie.Need-add-sequence Inv-loop μ-loop
 add-sequence c =
     let s = c .before .before .before .before .before .before .before .before .before .before .before .before .before .before .before .before .args .main .now in
-    let w : c .before .before .before .before .before .before .before .before .loop .at < length s = row-ahead s _ _ (c .before .before .before .before .before .before .next-own .ensures) _ _ _ (c .before .before .before .before .start .given .1) in
+    let w : c .before .before .before .before .before .before .before .before .loop .at < length s = row-ahead s _ _ (c .before .before .before .before .before .before .next-row .ensures) _ _ _ (c .before .before .before .before .start .given .1) in
     let small = c .before .before .before .before .before .before .before .before .loop .inv .small in
     omega (arith, c .before .before .before .before .before .before .before .before .before .before .before .before .before .before .before .before .good .0)
 
@@ -91,7 +91,7 @@ loop-less : tie.Need-loop-less Inv-loop μ-loop
 loop-less c = search own-less
 
 loop-again : tie.Need-loop-again Inv-loop μ-loop
-loop-again c = converting-ended (c .before .before .before .before .before .before .before .before .loop .inv) (c .before .before .before .before .before .before .next-own .ensures) (c .before .before .before .before .start .given .1) (c .before .before .before .before .before .before .before .if1 .left) _ (c .before .read-u8 .ensures) (c .if2 .taken)
+loop-again c = converting-ended (c .before .before .before .before .before .before .before .before .loop .inv) (c .before .before .before .before .before .before .next-row .ensures) (c .before .before .before .before .start .given .1) (c .before .before .before .before .before .before .before .if1 .left) _ (c .before .read-u8 .ensures) (c .if2 .taken)
 
 convert-known-requires : tie.Need-convert-known-requires Inv-loop μ-loop
 convert-known-requires c κs =
@@ -120,7 +120,7 @@ loop-less-2 : tie.Need-loop-less-2 Inv-loop μ-loop
 loop-less-2 c = search own-less
 
 loop-again-2 : tie.Need-loop-again-2 Inv-loop μ-loop
-loop-again-2 c = converting-known (c .before .before .before .before .before .before .before .before .before .before .before .before .before .before .loop .inv) (c .before .before .before .before .before .before .before .before .before .before .before .before .next-own .ensures) (c .before .before .before .before .before .before .before .before .before .before .start .given .1) (c .before .before .before .before .before .before .before .before .before .before .before .before .before .if1 .left) _ (c .before .before .before .before .before .before .before .read-u8 .ensures) (c .before .before .before .before .before .before .if2 .left) (c .before .before .before .before .before .before .before .before .read-row .ensures) (rw (c .before .if3 .taken) at (c .before .before .before .before .convert-known .ensures)) (c .before .before .before .before .convert-known .kept .1 .1 .0)
+loop-again-2 c = converting-known (c .before .before .before .before .before .before .before .before .before .before .before .before .before .before .loop .inv) (c .before .before .before .before .before .before .before .before .before .before .before .before .next-row .ensures) (c .before .before .before .before .before .before .before .before .before .before .start .given .1) (c .before .before .before .before .before .before .before .before .before .before .before .before .before .if1 .left) _ (c .before .before .before .before .before .before .before .read-u8 .ensures) (c .before .before .before .before .before .before .if2 .left) (c .before .before .before .before .before .before .before .before .read-row .ensures) (rw (c .before .if3 .taken) at (c .before .before .before .before .convert-known .ensures)) (c .before .before .before .before .convert-known .kept .1 .1 .0)
 
 convert-row-requires : tie.Need-convert-row-requires Inv-loop μ-loop
 convert-row-requires c κs =
@@ -143,7 +143,7 @@ same-length-9 : tie.Need-same-length-9 Inv-loop μ-loop
 same-length-9 c = omega (arith, c .before .before .before .before .before .before .before .before .before .convert-row .kept .1 .1 .1 .1 .1 .1 .0, c .before .before .before .before .before .before .before .before .before .before .before .before .before .before .before .before .before .before .before .before .before .before .before .before .before .before .loop .inv .warnings-size)
 
 returns-3 : tie.Need-returns-3 Inv-loop μ-loop
-returns-3 c = converting-refused (converting-same (c .before .before .before .before .before .before .before .before .before .before .before .before .before .before .before .before .before .before .before .before .before .before .before .before .before .before .loop .inv) (rw (c .before .before .before .before .before .before .before .before .before .before .before .before .before .if3 .left) at (c .before .before .before .before .before .before .before .before .before .before .before .before .before .before .before .before .convert-known .ensures))) (c .before .before .before .before .before .before .before .before .before .before .before .before .before .before .before .before .before .before .before .before .before .before .before .before .next-own .ensures) (c .before .before .before .before .before .before .before .before .before .before .before .before .before .before .before .before .before .before .before .before .before .before .start .given .1) (c .before .before .before .before .before .before .before .before .before .before .before .before .before .before .before .before .before .before .before .before .before .before .before .before .before .if1 .left) _ (c .before .before .before .before .before .before .before .before .before .before .before .before .before .before .before .before .before .before .before .read-u8 .ensures) (c .before .before .before .before .before .before .before .before .before .before .before .before .before .before .before .before .before .before .if2 .left) (c .before .before .before .before .before .before .before .before .before .before .before .before .before .before .before .before .before .before .before .before .read-row .ensures) (c .before .before .before .before .before .before .before .before .before .convert-row .ensures) (c .before .n .given .1)
+returns-3 c = converting-refused (converting-same (c .before .before .before .before .before .before .before .before .before .before .before .before .before .before .before .before .before .before .before .before .before .before .before .before .before .before .loop .inv) (rw (c .before .before .before .before .before .before .before .before .before .before .before .before .before .if3 .left) at (c .before .before .before .before .before .before .before .before .before .before .before .before .before .before .before .before .convert-known .ensures))) (c .before .before .before .before .before .before .before .before .before .before .before .before .before .before .before .before .before .before .before .before .before .before .before .before .next-row .ensures) (c .before .before .before .before .before .before .before .before .before .before .before .before .before .before .before .before .before .before .before .before .before .before .start .given .1) (c .before .before .before .before .before .before .before .before .before .before .before .before .before .before .before .before .before .before .before .before .before .before .before .before .before .if1 .left) _ (c .before .before .before .before .before .before .before .before .before .before .before .before .before .before .before .before .before .before .before .read-u8 .ensures) (c .before .before .before .before .before .before .before .before .before .before .before .before .before .before .before .before .before .before .if2 .left) (c .before .before .before .before .before .before .before .before .before .before .before .before .before .before .before .before .before .before .before .before .read-row .ensures) (c .before .before .before .before .before .before .before .before .before .convert-row .ensures) (c .before .n .given .1)
 
 enum-known-converted : tie.Need-enum-known-converted Inv-loop μ-loop
 enum-known-converted c = search needs
@@ -152,12 +152,12 @@ sub-more-2 : tie.Need-sub-more-2 Inv-loop μ-loop
 sub-more-2 c = omega (arith, c .before .before .before .before .before .before .before .before .before .before .before .before .before .before .before .before .before .before .before .before .before .before .before .before .before .if1 .left)
 
 loop-less-3 : tie.Need-loop-less-3 Inv-loop μ-loop
-loop-less-3 c = own-less _ _ _ _ _ _ _ (c .before .before .before .before .before .before .before .before .before .before .before .before .before .before .before .before .before .before .before .before .before .before .before .before .next-own .ensures) (c .before .before .before .before .before .before .before .before .before .before .before .before .before .before .before .before .before .before .before .before .before .before .start .given .1)
+loop-less-3 c = own-less _ _ _ _ _ _ _ (c .before .before .before .before .before .before .before .before .before .before .before .before .before .before .before .before .before .before .before .before .before .before .before .before .next-row .ensures) (c .before .before .before .before .before .before .before .before .before .before .before .before .before .before .before .before .before .before .before .before .before .before .start .given .1)
 
 loop-again-3 : tie.Need-loop-again-3 Inv-loop μ-loop
 loop-again-3 c =
     let same = c .before .before .before .before .before .before .before .before .before .convert-row .kept .1 .1 .1 .1 in
-    converting-more (converting-same (c .before .before .before .before .before .before .before .before .before .before .before .before .before .before .before .before .before .before .before .before .before .before .before .before .before .before .loop .inv) (rw (c .before .before .before .before .before .before .before .before .before .before .before .before .before .if3 .left) at (c .before .before .before .before .before .before .before .before .before .before .before .before .before .before .before .before .convert-known .ensures))) (c .before .before .before .before .before .before .before .before .before .before .before .before .before .before .before .before .before .before .before .before .before .before .before .before .next-own .ensures) (c .before .before .before .before .before .before .before .before .before .before .before .before .before .before .before .before .before .before .before .before .before .before .start .given .1) (c .before .before .before .before .before .before .before .before .before .before .before .before .before .before .before .before .before .before .before .before .before .before .before .before .before .if1 .left) _ (c .before .before .before .before .before .before .before .before .before .before .before .before .before .before .before .before .before .before .before .read-u8 .ensures) (c .before .before .before .before .before .before .before .before .before .before .before .before .before .before .before .before .before .before .if2 .left) (c .before .before .before .before .before .before .before .before .before .before .before .before .before .before .before .before .before .before .before .before .read-row .ensures)
+    converting-more (converting-same (c .before .before .before .before .before .before .before .before .before .before .before .before .before .before .before .before .before .before .before .before .before .before .before .before .before .before .loop .inv) (rw (c .before .before .before .before .before .before .before .before .before .before .before .before .before .if3 .left) at (c .before .before .before .before .before .before .before .before .before .before .before .before .before .before .before .before .convert-known .ensures))) (c .before .before .before .before .before .before .before .before .before .before .before .before .before .before .before .before .before .before .before .before .before .before .before .before .next-row .ensures) (c .before .before .before .before .before .before .before .before .before .before .before .before .before .before .before .before .before .before .before .before .before .before .start .given .1) (c .before .before .before .before .before .before .before .before .before .before .before .before .before .before .before .before .before .before .before .before .before .before .before .before .before .if1 .left) _ (c .before .before .before .before .before .before .before .before .before .before .before .before .before .before .before .before .before .before .before .read-u8 .ensures) (c .before .before .before .before .before .before .before .before .before .before .before .before .before .before .before .before .before .before .if2 .left) (c .before .before .before .before .before .before .before .before .before .before .before .before .before .before .before .before .before .before .before .before .read-row .ensures)
     (c .before .before .before .before .before .before .before .before .before .convert-row .ensures) (c .before .converted .given .1) (same .0) (same .1 .0) (same .1 .1 .0)
 
 pub convert-rows-spec : {M : Type 1} → statement M
@@ -172,7 +172,7 @@ convert-rows-spec =
     same-length-2
     same-length-3
     returns
-    next-own-requires
+    next-row-requires
     enum-known-start
     enum-told
     same-length-4

@@ -18,8 +18,8 @@ abbrev μ-loop : tie.MeasureT-loop
 loop-holds : tie.Need-loop-holds Inv-loop μ-loop
 loop-holds c = search collecting-start
 
-next-own-requires : tie.Need-next-own-requires Inv-loop μ-loop
-next-own-requires c κs = search needs
+next-row-requires : tie.Need-next-row-requires Inv-loop μ-loop
+next-row-requires c κs = search needs
 
 enum-known-row : tie.Need-enum-known-row Inv-loop μ-loop
 enum-known-row c = search needs
@@ -115,7 +115,7 @@ collect-sequences-spec =
     Inv-loop
     μ-loop
     loop-holds
-    next-own-requires
+    next-row-requires
     enum-known-row
     enum-told
     same-length

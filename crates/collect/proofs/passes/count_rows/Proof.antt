@@ -18,8 +18,8 @@ abbrev μ-loop : tie.MeasureT-loop
 loop-holds : tie.Need-loop-holds Inv-loop μ-loop
 loop-holds c = search counting-start
 
-next-own-requires : tie.Need-next-own-requires Inv-loop μ-loop
-next-own-requires c κs = search needs
+next-row-requires : tie.Need-next-row-requires Inv-loop μ-loop
+next-row-requires c κs = search needs
 
 enum-told : tie.Need-enum-told Inv-loop μ-loop
 enum-told c = search needs
@@ -67,7 +67,7 @@ count-rows-spec =
     Inv-loop
     μ-loop
     loop-holds
-    next-own-requires
+    next-row-requires
     enum-told
     returns
     enum-known-start
