@@ -2,6 +2,7 @@ pub mod ContextLaws
 pub mod StepLaws
 pub mod CountLaws
 pub mod LayoutLaws
+pub mod TallyLaws
 pub mod SequenceLaws
 pub mod DeclaredLineLaws
 pub mod FunctionLineLaws

@@ -2,7 +2,7 @@
 use mathlib.Core.Path.{_≡_}
 use mathlib.Core.List.{List}
 use Prim.Native.Nat.{ℕ, _+_, _*_, _≤_, _<_, _^_}
-use lib.ListN.{length}
+use lib.ListN.{length, getD}
 use Rattle.tlv.specs.Outcome.{done}
 use Rattle.tlv.specs.Lists.{Any}
 use Rattle.tlv.specs.Limits.{workOfField, workOfProgramByte, workBesides}
@@ -19,6 +19,10 @@ use Rattle.dwarf.specs.declared.layout.Counts.{Counts}
 -- how many fields of a tag an input has
 abbrev pub countOf : ℕ → List ℕ → ℕ
 countOf tag s = length (payloads tag (wholeFields (fields s)))
+
+-- a table by tag of how many fields an input has of each tag below 32
+pub record TagsCounted (s counts : List ℕ) : Type 0 where
+  pub is : (tag : ℕ) → tag < 32 → getD counts tag 0 ≡ countOf tag s
 
 pub record Sized (s : List ℕ) (c : Counts) : Type 0 where
   pub units : c .units ≡ countOf 0x10 s

@@ -3,7 +3,8 @@ ghost use Prim.Native.Nat.{_≤_};
 ghost use lib.ListN.{length};
 ghost use Rattle.tlv.specs.Limits.{programLimit};
 ghost use Rattle.dies.specs.DetailState.{Accepted};
-ghost use Rattle.dwarf.specs.Layout.{Sized, LaidOut};
+ghost use Rattle.dwarf.specs.Layout.{TagsCounted, Sized, LaidOut};
+use tlv::fields::Step;
 
 // The places, from low to high: the file table with its room for files at 0, the unit's lines, its executable ranges, what a unit that is reached
 // by reference needs, the units and entries of both inputs, the open nodes' ranges, the open and the closed call sites, the followed targets.
@@ -36,20 +37,51 @@ pub struct Counts {
     pub ranges: usize,
 }
 
-// How many fields of each tag an input has.
+// How many fields of each tag below 32 an input has, in one pass.
+fn count_tags(s: &[u8]) -> [usize; 32]
+    ensures { λ r. ⌜ TagsCounted (now (s .entry)) r ⌝ }
+{
+    let mut counts: [usize; 32] = [0; 32];
+    let mut p: usize = 0;
+    loop {
+        match tlv::fields::field_at(s, p) {
+            Step::End => {
+                return counts;
+            }
+            Step::Cut => {
+                return counts;
+            }
+            Step::Field {
+                tag,
+                start: _,
+                len: _,
+                next,
+            } => {
+                if tag < 32 {
+                    let i = tag as usize;
+                    counts[i] = counts[i] + 1;
+                }
+                p = next;
+            }
+        }
+    }
+}
+
+// How many fields of each tag that has a table an input has.
 fn counts_of(s: &[u8]) -> Counts
     ensures { λ r. ⌜ Sized (now (s .entry)) r ⌝ }
 {
+    let counts = count_tags(s);
     Counts {
-        units: tlv::fields::count_fields(s, 0x10),
-        text: tlv::fields::count_fields(s, 0x12),
-        directories: tlv::fields::count_fields(s, 0x14),
-        files: tlv::fields::count_fields(s, 0x15),
-        zeros: tlv::fields::count_fields(s, 0x1c),
-        rows: tlv::fields::count_fields(s, 0x16),
-        entries: tlv::fields::count_fields(s, 0x17),
-        attributes: tlv::fields::count_fields(s, 0x18),
-        ranges: tlv::fields::count_fields(s, 0x19),
+        units: counts[0x10],
+        text: counts[0x12],
+        directories: counts[0x14],
+        files: counts[0x15],
+        zeros: counts[0x1c],
+        rows: counts[0x16],
+        entries: counts[0x17],
+        attributes: counts[0x18],
+        ranges: counts[0x19],
     }
 }
 
