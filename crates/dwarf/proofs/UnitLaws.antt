@@ -1,13 +1,16 @@
 -- The entries of a unit, one after the other. Assumes nothing.
 use mathlib.Core.Path.{_≡_, refl, sym, ap, _∙_}
+use mathlib.Core.Bool.{Bool, true, false, _&&_, false≢true}
 use mathlib.Core.List.{List, [], _∷_}
 use Prim.Native.Nat.{ℕ, _+_, _≤_, _<_}
 use native.Mathlib.Omega.{arith}
 use lib.Dec.{eqb}
 use lib.ListN.{length}
+use borrow.Author.Tests.{eqb-true, eqb-false, eq-eqb}
 use Rattle.tlv.specs.declared.fields.Step.{Step}
 use Rattle.tlv.specs.Outcome.{Outcome, refused, done, _>>=_}
 use Rattle.tlv.specs.Lists.{at}
+use Rattle.tlv.specs.Bytes.{leAt}
 use Rattle.tlv.specs.Buffer.{top}
 use Rattle.tlv.specs.Checked.{Placed}
 use Rattle.tlv.specs.Cursor.{stepAt}
@@ -18,6 +21,7 @@ use Rattle.tlv.proofs.IndexModel.{either}
 use Rattle.tlv.proofs.PlaceFacts.{placed-start, placed-next}
 use Rattle.tlv.proofs.PlacePromises.{placed-entry}
 use Rattle.tlv.proofs.TableLaws.{but-refl}
+use Rattle.tlv.proofs.TestLaws.{and-left, and-right}
 use Rattle.files.specs.declared.store.StoredFiles.{StoredFiles}
 use Rattle.files.specs.Pieces.{UnitPlaced}
 use Rattle.files.proofs.UnitLaws.{unit-next, unit-within}
@@ -34,6 +38,7 @@ use Rattle.dwarf.specs.Contexts.{ContextIn, contextOf}
 use Rattle.dwarf.specs.Steps.{Imports, importEntry, belowEntry}
 use Rattle.dwarf.proofs.ContextLaws.{context-same}
 use Rattle.dwarf.proofs.MakeLaws.{unit-of}
+use Rattle.dwarf.proofs.EntryStepLaws.{entry-passed}
 use Rattle.dwarf.proofs.StepLaws.{imports-none, imports-then, imports-refused, imports-as, imports-at, imports-context}
 
 -- ---- what the definition does
@@ -196,3 +201,29 @@ module _ {main supplementary : List ℕ} {q : ImportContext} {w₀ t₀ f₀ u�
             does = passed;
             left = rw next-is left-after;
           }
+
+      -- whether an entry stands here that is a subprogram
+      pub subprogram-inside : tag ≡ 0x17 → place + 15 ≤ length main
+      subprogram-inside is = entry-rest is .0 .within
+
+      module _ {b : Bool} (test : b ≡ (eqb tag 0x17 && eqb (leAt 2 main (place + 13)) 0x2e)) where
+        pub subprogram-entry : b ≡ true → tag ≡ 0x17
+        subprogram-entry y = eqb-true tag 0x17 (and-left (eqb tag 0x17) (eqb (leAt 2 main (place + 13)) 0x2e) (sym test ∙ y))
+
+        pub subprogram-here : b ≡ true → leAt 2 main (place + 13) ≡ 0x2e
+        subprogram-here y = eqb-true (leAt 2 main (place + 13)) 0x2e (and-right (eqb tag 0x17) (eqb (leAt 2 main (place + 13)) 0x2e) (sym test ∙ y))
+
+        -- none stands here
+        pub importing-passed : (tag ≡ 0x10 → ⊥) → b ≡ false → Importing main supplementary q w₀ t₀ f₀ u₀ st₀ w t f u st next
+        importing-passed h n =
+            either (eqb tag 0x17)
+            (λ y.
+            let is : tag ≡ 0x17 = eqb-true tag 0x17 y in
+            importing-entry is
+            (entry-passed st (I .context) (entry-here is) refl (λ z. false≢true (sym n ∙ test ∙ rw (y, eq-eqb (leAt 2 main (place + 13)) 0x2e z)))
+            (I .status) (I .bounds .0) (I .bounds .1)
+            (omega (arith, I .records-size, I .does .laid (I .status) .small))
+            (omega (arith, I .files-size, I .does .grown (I .status) .put .small))
+            (omega (arith, I .warnings-size, I .does .warned (I .status) .small)))
+            (I .status) refl refl refl refl)
+            (λ k. importing-other h (eqb-false tag 0x17 k))

@@ -1,8 +1,10 @@
 // The subprograms of a unit and their ranges (the Rust's import_unit_details).
 ghost use mathlib.Core.Path.{_≡_};
+ghost use mathlib.Core.Bool.{_&&_};
 ghost use Prim.Native.Nat.{_+_, _≤_, _<_};
 ghost use lib.Dec.{eqb};
 ghost use lib.ListN.{length};
+ghost use Rattle.tlv.specs.Bytes.{leAt};
 ghost use Rattle.tlv.specs.Buffer.{top};
 ghost use Rattle.tlv.specs.Checked.{Placed};
 ghost use Rattle.tlv.specs.Places.{entryHere, unitHere};
@@ -203,7 +205,7 @@ fn import_named<'a>(
     }
 }
 
-// The entry at place p: a subprogram that has a name gives records.
+// The subprogram at place p: where it has a name it gives records.
 fn import_entry<'a>(
     main: &'a [u8],
     supplementary: &'a [u8],
@@ -218,12 +220,10 @@ fn import_entry<'a>(
     requires { ⌜ ContextIn (now main) (now supplementary) (now work) q (st .table) ⌝ }
     requires { ⌜ EntryKnown (now main) (q .unit) p ⌝ }
     requires { ⌜ (Placed (now main) (p + 15)) × EntriesKnown (now main) (q .unit) (p + 15) ⌝ }
+    requires { ⌜ leAt 2 (now main) (p + 13) ≡ 0x2e ⌝ }
     requires { ⌜ (st .status ≡ 0) × (st .at ≤ top) × (st .warned ≤ top) ⌝ }
     ensures { λ r. ⌜ Imports (importEntry (contextOf (now (main .entry)) (now (supplementary .entry)) (now (work .entry)) q) (entryHere (now (main .entry)) p) (belowEntry (now (main .entry)) p)) (now (main .entry)) (now (supplementary .entry)) q (now (work .entry)) (now (records .entry)) (now (files .entry)) (now (warnings .entry)) st (now (work .exit)) (now (records .exit)) (now (files .exit)) (now (warnings .exit)) r ⌝ }
 {
-    if tlv::bytes::read_u16(main, p + 13) != 0x2e {
-        return st;
-    }
     let places = q.places;
     let tables = places.tables;
     let mut status: u8 = 0;
@@ -256,6 +256,17 @@ fn import_entry<'a>(
         p,
         st,
     )
+}
+
+// Whether the field of this tag at place p is the entry of a subprogram.
+fn is_subprogram(main: &[u8], tag: u8, p: usize) -> bool
+    requires { ⌜ (tag ≡ 0x17 → p + 15 ≤ length (now main)) ⌝ }
+    ensures { λ r. ⌜ r ≡ (eqb tag 0x17 && eqb (leAt 2 (now (main .entry)) (p + 13)) 0x2e) ⌝ }
+{
+    if tag == 0x17 {
+        return tlv::bytes::read_u16(main, p + 13) == 0x2e;
+    }
+    false
 }
 
 // The subprograms of the unit.
@@ -292,7 +303,7 @@ pub fn import_unit_details<'a>(
                 if tag == 0x10 {
                     return r;
                 }
-                if tag == 0x17 {
+                if is_subprogram(main, tag, at) {
                     r = import_entry(
                         main,
                         supplementary,

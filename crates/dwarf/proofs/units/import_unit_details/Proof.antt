@@ -5,7 +5,7 @@ use native.Mathlib.Omega.{arith}
 use lib.ListN.{length}
 use borrow.Author.Needs.{needs}
 use Rattle.tlv.proofs.CursorLaws.{next-less}
-use Rattle.dwarf.proofs.UnitLaws.{unit-inside, Importing, importing-start, importing-end, importing-cut, importing-unit, importing-other, entry-here, entry-rest, importing-refused, importing-entry}
+use Rattle.dwarf.proofs.UnitLaws.{unit-inside, Importing, importing-start, importing-end, importing-cut, importing-unit, importing-passed, subprogram-inside, subprogram-entry, subprogram-here, entry-here, entry-rest, importing-refused, importing-entry}
 use Rattle.dwarf.proofs.units.import_unit_details.Statement.{statement}
 use Rattle.dwarf.proofs.units.import_unit_details.Tie as tie
 
@@ -78,35 +78,43 @@ same-length-12 c = search needs
 returns-3 : tie.Need-returns-3 Inv-loop μ-loop
 returns-3 c = importing-unit (c .before .before .before .before .before .loop .inv) (c .before .before .before .before .field-at .ensures) (c .before .before .tag .given .1) (c .if1 .taken)
 
+is-subprogram-requires : tie.Need-is-subprogram-requires Inv-loop μ-loop
+is-subprogram-requires c κs = λ is. subprogram-inside (c .before .before .before .before .before .loop .inv) (c .before .before .before .before .field-at .ensures) (c .before .before .tag .given .1) is
+
 import-entry-requires : tie.Need-import-entry-requires Inv-loop μ-loop
-import-entry-requires c κs = let I = c .before .before .before .before .before .before .before .before .before .before .loop .inv in (I .context, (entry-here I (c .before .before .before .before .before .before .before .before .before .field-at .ensures) (c .before .before .before .before .before .before .before .tag .given .1) (c .before .before .before .before .if2 .taken), (entry-rest I (c .before .before .before .before .before .before .before .before .before .field-at .ensures) (c .before .before .before .before .before .before .before .tag .given .1) (c .before .before .before .before .if2 .taken), (I .status, I .bounds .0, I .bounds .1))))
+import-entry-requires c κs =
+    let I = c .before .before .before .before .before .before .before .before .before .before .before .loop .inv in
+    let reads = c .before .before .before .before .before .before .before .before .before .before .field-at .ensures in
+    let told = c .before .before .before .before .before .before .before .before .tag .given .1 in
+    let is = subprogram-entry I reads told (c .before .before .before .before .before .is-subprogram .ensures) (c .before .before .before .before .if2 .taken) in
+    (I .context, (entry-here I reads told is, (entry-rest I reads told is, (subprogram-here I reads told (c .before .before .before .before .before .is-subprogram .ensures) (c .before .before .before .before .if2 .taken), (I .status, I .bounds .0, I .bounds .1)))))
 
 same-length-13 : tie.Need-same-length-13 Inv-loop μ-loop
-same-length-13 c = c .before .before .before .before .before .before .before .before .before .before .import-entry .kept .1 .1 .0 ∙ c .before .before .before .before .before .before .before .before .before .before .before .before .before .before .before .before .before .before .before .before .before .loop .inv .size
+same-length-13 c = c .before .before .before .before .before .before .before .before .before .before .import-entry .kept .1 .1 .0 ∙ c .before .before .before .before .before .before .before .before .before .before .before .before .before .before .before .before .before .before .before .before .before .before .loop .inv .size
 
 same-length-14 : tie.Need-same-length-14 Inv-loop μ-loop
-same-length-14 c = c .before .before .before .before .before .before .before .before .before .before .import-entry .kept .1 .1 .1 .0 ∙ c .before .before .before .before .before .before .before .before .before .before .before .before .before .before .before .before .before .before .before .before .before .loop .inv .records-size
+same-length-14 c = c .before .before .before .before .before .before .before .before .before .before .import-entry .kept .1 .1 .1 .0 ∙ c .before .before .before .before .before .before .before .before .before .before .before .before .before .before .before .before .before .before .before .before .before .before .loop .inv .records-size
 
 same-length-15 : tie.Need-same-length-15 Inv-loop μ-loop
-same-length-15 c = c .before .before .before .before .before .before .before .before .before .before .import-entry .kept .1 .1 .1 .1 .0 ∙ c .before .before .before .before .before .before .before .before .before .before .before .before .before .before .before .before .before .before .before .before .before .loop .inv .files-size
+same-length-15 c = c .before .before .before .before .before .before .before .before .before .before .import-entry .kept .1 .1 .1 .1 .0 ∙ c .before .before .before .before .before .before .before .before .before .before .before .before .before .before .before .before .before .before .before .before .before .before .loop .inv .files-size
 
 same-length-16 : tie.Need-same-length-16 Inv-loop μ-loop
-same-length-16 c = c .before .before .before .before .before .before .before .before .before .before .import-entry .kept .1 .1 .1 .1 .1 .0 ∙ c .before .before .before .before .before .before .before .before .before .before .before .before .before .before .before .before .before .before .before .before .before .loop .inv .warnings-size
+same-length-16 c = c .before .before .before .before .before .before .before .before .before .before .import-entry .kept .1 .1 .1 .1 .1 .0 ∙ c .before .before .before .before .before .before .before .before .before .before .before .before .before .before .before .before .before .before .before .before .before .before .loop .inv .warnings-size
 
 returns-4 : tie.Need-returns-4 Inv-loop μ-loop
-returns-4 c = importing-refused (c .before .before .before .before .before .before .before .before .before .before .before .before .before .before .before .before .before .before .before .before .before .loop .inv) (c .before .before .before .before .before .before .before .before .before .before .before .before .before .before .before .before .before .before .before .before .field-at .ensures) (c .before .before .before .before .before .before .before .before .before .before .before .before .before .before .before .before .before .before .tag .given .1) (c .before .before .before .before .before .before .before .before .before .before .before .before .before .before .before .if2 .taken) (c .before .before .before .before .before .before .before .before .before .before .import-entry .ensures) (c .if3 .taken)
+returns-4 c = importing-refused (c .before .before .before .before .before .before .before .before .before .before .before .before .before .before .before .before .before .before .before .before .before .before .loop .inv) (c .before .before .before .before .before .before .before .before .before .before .before .before .before .before .before .before .before .before .before .before .before .field-at .ensures) (c .before .before .before .before .before .before .before .before .before .before .before .before .before .before .before .before .before .before .before .tag .given .1) (subprogram-entry (c .before .before .before .before .before .before .before .before .before .before .before .before .before .before .before .before .before .before .before .before .before .before .loop .inv) (c .before .before .before .before .before .before .before .before .before .before .before .before .before .before .before .before .before .before .before .before .before .field-at .ensures) (c .before .before .before .before .before .before .before .before .before .before .before .before .before .before .before .before .before .before .before .tag .given .1) (c .before .before .before .before .before .before .before .before .before .before .before .before .before .before .before .before .is-subprogram .ensures) (c .before .before .before .before .before .before .before .before .before .before .before .before .before .before .before .if2 .taken)) (c .before .before .before .before .before .before .before .before .before .before .import-entry .ensures) (c .if3 .taken)
 
 loop-less : tie.Need-loop-less Inv-loop μ-loop
-loop-less c = next-less _ _ _ _ _ _ _ (c .before .before .before .before .before .before .before .before .before .before .before .before .before .before .before .before .before .before .before .before .field-at .ensures) (c .before .before .before .before .before .before .before .before .before .before .before .before .before .before .before .before .before .before .tag .given .1)
+loop-less c = next-less _ _ _ _ _ _ _ (c .before .before .before .before .before .before .before .before .before .before .before .before .before .before .before .before .before .before .before .before .before .field-at .ensures) (c .before .before .before .before .before .before .before .before .before .before .before .before .before .before .before .before .before .before .before .tag .given .1)
 
 loop-again : tie.Need-loop-again Inv-loop μ-loop
-loop-again c = importing-entry (c .before .before .before .before .before .before .before .before .before .before .before .before .before .before .before .before .before .before .before .before .before .loop .inv) (c .before .before .before .before .before .before .before .before .before .before .before .before .before .before .before .before .before .before .before .before .field-at .ensures) (c .before .before .before .before .before .before .before .before .before .before .before .before .before .before .before .before .before .before .tag .given .1) (c .before .before .before .before .before .before .before .before .before .before .before .before .before .before .before .if2 .taken) (c .before .before .before .before .before .before .before .before .before .before .import-entry .ensures) (c .if3 .left) (c .before .before .before .before .before .before .before .before .before .before .import-entry .kept .1 .1 .0) (c .before .before .before .before .before .before .before .before .before .before .import-entry .kept .1 .1 .1 .0) (c .before .before .before .before .before .before .before .before .before .before .import-entry .kept .1 .1 .1 .1 .0) (c .before .before .before .before .before .before .before .before .before .before .import-entry .kept .1 .1 .1 .1 .1 .0)
+loop-again c = importing-entry (c .before .before .before .before .before .before .before .before .before .before .before .before .before .before .before .before .before .before .before .before .before .before .loop .inv) (c .before .before .before .before .before .before .before .before .before .before .before .before .before .before .before .before .before .before .before .before .before .field-at .ensures) (c .before .before .before .before .before .before .before .before .before .before .before .before .before .before .before .before .before .before .before .tag .given .1) (subprogram-entry (c .before .before .before .before .before .before .before .before .before .before .before .before .before .before .before .before .before .before .before .before .before .before .loop .inv) (c .before .before .before .before .before .before .before .before .before .before .before .before .before .before .before .before .before .before .before .before .before .field-at .ensures) (c .before .before .before .before .before .before .before .before .before .before .before .before .before .before .before .before .before .before .before .tag .given .1) (c .before .before .before .before .before .before .before .before .before .before .before .before .before .before .before .before .is-subprogram .ensures) (c .before .before .before .before .before .before .before .before .before .before .before .before .before .before .before .if2 .taken)) (c .before .before .before .before .before .before .before .before .before .before .import-entry .ensures) (c .if3 .left) (c .before .before .before .before .before .before .before .before .before .before .import-entry .kept .1 .1 .0) (c .before .before .before .before .before .before .before .before .before .before .import-entry .kept .1 .1 .1 .0) (c .before .before .before .before .before .before .before .before .before .before .import-entry .kept .1 .1 .1 .1 .0) (c .before .before .before .before .before .before .before .before .before .before .import-entry .kept .1 .1 .1 .1 .1 .0)
 
 loop-less-2 : tie.Need-loop-less-2 Inv-loop μ-loop
-loop-less-2 c = next-less _ _ _ _ _ _ _ (c .before .before .before .before .before .field-at .ensures) (c .before .before .before .tag .given .1)
+loop-less-2 c = next-less _ _ _ _ _ _ _ (c .before .before .before .before .before .before .field-at .ensures) (c .before .before .before .before .tag .given .1)
 
 loop-again-2 : tie.Need-loop-again-2 Inv-loop μ-loop
-loop-again-2 c = importing-other (c .before .before .before .before .before .before .loop .inv) (c .before .before .before .before .before .field-at .ensures) (c .before .before .before .tag .given .1) (c .before .if1 .left) (c .if2 .left)
+loop-again-2 c = importing-passed (c .before .before .before .before .before .before .before .loop .inv) (c .before .before .before .before .before .before .field-at .ensures) (c .before .before .before .before .tag .given .1) (c .before .is-subprogram .ensures) (c .before .before .if1 .left) (c .if2 .left)
 
 pub import-unit-details-spec : {M : Type 1} → statement M
 import-unit-details-spec =
@@ -135,6 +143,7 @@ import-unit-details-spec =
     same-length-11
     same-length-12
     returns-3
+    is-subprogram-requires
     import-entry-requires
     same-length-13
     same-length-14
