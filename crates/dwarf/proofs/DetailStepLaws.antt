@@ -16,7 +16,7 @@ use Rattle.imports.specs.Import.{detailContext}
 use Rattle.imports.proofs.Refusals.{refuses-details}
 use Rattle.dies.specs.declared.dies.Details.{Details}
 use Rattle.dies.specs.declared.dies.Extracted.{Extracted}
-use Rattle.dies.specs.Details.{DetailsIn, contextIn, ExtractedIn, Extracts}
+use Rattle.dies.specs.Details.{DetailsIn, contextIn, ExtractedIn, Extracts, entriesFrom}
 use Rattle.dies.specs.DetailState.{Accepted}
 use Rattle.dies.proofs.CallLaws.{entry-depth-here}
 use Rattle.dwarf.specs.declared.model.ConversionStats.{ConversionStats as Stats}
@@ -45,21 +45,22 @@ module _ {main supplementary w : List ℕ} {q : ImportContext} {t : StoredFiles}
   }
 
 -- what the code hands to the walk, in the definition's words
-module _ {main supplementary w w′ : List ℕ} {q : ImportContext} {files : StoredFiles} {p depth at warned : ℕ} {name t t′ u u′ : List ℕ} {r : AddressRange} {d : Details} {x : Extracted}
+module _ {main supplementary w w′ : List ℕ} {q : ImportContext} {files : StoredFiles} {p below depth at warned : ℕ} {name t t′ u u′ : List ℕ} {r : AddressRange} {d : Details} {x : Extracted}
     (C : ContextIn main supplementary w q files) (K : EntryKnown main (q .unit) p) (is : d ≡ detailsOf q r) (read : depth ≡ leAt 2 main (p + 11)) where
-  pub extracts-here : Extracts main supplementary w w′ d name (p + 15) depth at warned t t′ u u′ x
-      → Extracts main supplementary w w′ (detailsOf q r) name (p + 15) (entryHere main p .depth) at warned t t′ u u′ x
+  pub extracts-here : Extracts main supplementary w w′ d name below depth at warned t t′ u u′ x
+      → Extracts main supplementary w w′ (detailsOf q r) name below (entryHere main p .depth) at warned t t′ u u′ x
   extracts-here E = rw (is, read ∙ sym (entry-depth-here (context-accepted C) K)) at E
 
-module _ {main supplementary w w′ : List ℕ} {q : ImportContext} {name t t′ u u′ : List ℕ} {r : AddressRange} {x : Extracted} (p rows : ℕ) (st : ImportState)
-    (E : Extracts main supplementary w w′ (detailsOf q r) name (p + 15) (entryHere main p .depth) (st .at) (st .warned) t t′ u u′ x) where
+module _ {main supplementary w w′ : List ℕ} {q : ImportContext} {name t t′ u u′ : List ℕ} {r : AddressRange} {x : Extracted} (p rows : ℕ) (st : ImportState) {below : ℕ}
+    (same : entriesFrom main below ≡ entriesFrom main (p + 15))
+    (E : Extracts main supplementary w w′ (detailsOf q r) name below (entryHere main p .depth) (st .at) (st .warned) t t′ u u′ x) where
   -- the walk is refused
   pub details-refused : {n : ℕ} → x ≡ Extracted.Refused n
       → ImportsDetails (extractSubprogramDetails (detailContext (contextOf main supplementary w q) r) (belowEntry main p)) main supplementary q name r rows
       w t u st w′ t′ u′ (record { table = st .table; at = st .at; warned = st .warned; stats = st .stats; status = n })
   unfolding linesIn
   details-refused {n} e =
-      let no : extractSubprogramDetails (contextIn main supplementary w (detailsOf q r)) (belowEntry main p) ≡ refused n = rw e at (E .is) in
+      let no : extractSubprogramDetails (contextIn main supplementary w (detailsOf q r)) (belowEntry main p) ≡ refused n = rw (e, same) at (E .is) in
       let big = refusal-number (refuses-details _ _) no in
       record {
         table = refl;
@@ -78,12 +79,12 @@ module _ {main supplementary w w′ : List ℕ} {q : ImportContext} {name t t′
       w t u st w′ t′ u′ (record { table = st .table; at = at; warned = warned; stats = stats; status = 0 })
   unfolding linesIn
   details-done {nodes} {at} {warned} e counted =
-      let I : ExtractedIn main supplementary w (detailsOf q r) name (p + 15) (entryHere main p .depth) (st .at) (st .warned) t t′ u u′ nodes at warned = rw e at (E .is) in
+      let I : ExtractedIn main supplementary w (detailsOf q r) name below (entryHere main p .depth) (st .at) (st .warned) t t′ u u′ nodes at warned = rw e at (E .is) in
       record {
         table = refl;
         rest = E .rest;
         descendants = I .descendants;
-        ok = λ z. I .is;
+        ok = λ z. rw same at (I .is);
         laid = λ z. I .put;
         warned = λ z. I .warns;
         counted = λ z. rw (← I .count) counted;

@@ -31,7 +31,7 @@ use Rattle.references.proofs.TargetLaws.{known-entry}
 use Rattle.imports.specs.Import.{State, importSubprogram, importByFailure}
 use Rattle.imports.specs.Import as import
 use Rattle.dies.specs.DetailState.{Accepted}
-use Rattle.dies.proofs.CallLaws.{entry-read, entry-tag-here}
+use Rattle.dies.proofs.CallLaws.{entry-tag-here}
 use Rattle.dies.proofs.SiteStepLaws.{given-refused, given-done}
 use Rattle.dwarf.specs.declared.model.ImportState.{ImportState}
 use Rattle.dwarf.specs.declared.model.ImportContext.{ImportContext}
@@ -76,11 +76,8 @@ module _ {main supplementary w : List ℕ} {q : ImportContext} {p : ℕ} {table 
   accepted : Accepted main
   accepted = record { number = C .tables .main-index .number; is = C .tables .main-index .accepted }
 
-  pub entry-within : p + 15 ≤ length main
-  entry-within = entry-read accepted K
-
-  tag-is : {n : ℕ} → n ≡ leAt 2 main (p + 13) → entryHere main p .tag ≡ n
-  tag-is en = entry-tag-here accepted K ∙ sym en
+  tag-is : entryHere main p .tag ≡ leAt 2 main (p + 13)
+  tag-is = entry-tag-here accepted K
 
   module _ (b : Bytes main) (b′ : Bytes supplementary) where
     main-units : All UnitAccepted (units main)
@@ -130,16 +127,15 @@ module _ {main supplementary w w₁ : List ℕ} {q : ImportContext} {table : Sto
 
 -- ---- the step
 
-module _ {main supplementary w : List ℕ} {q : ImportContext} {p : ℕ} (st : ImportState) (C : ContextIn main supplementary w q (st .table)) (K : EntryKnown main (q .unit) p)
-    {n : ℕ} (en : n ≡ leAt 2 main (p + 13)) where
+module _ {main supplementary w : List ℕ} {q : ImportContext} {p : ℕ} (st : ImportState) (C : ContextIn main supplementary w q (st .table)) (K : EntryKnown main (q .unit) p) where
   -- another entry than a subprogram
-  pub entry-passed : {t f u : List ℕ} → (n ≡ 0x2e → ⊥) → st .status ≡ 0 → st .at ≤ top → st .warned ≤ top → length t < top → length f < top → length u < top
+  pub entry-passed : {t f u : List ℕ} → (leAt 2 main (p + 13) ≡ 0x2e → ⊥) → st .status ≡ 0 → st .at ≤ top → st .warned ≤ top → length t < top → length f < top → length u < top
       → Imports (importEntry (contextOf main supplementary w q) (entryHere main p) (belowEntry main p)) main supplementary q w t f u st w t f u st
   entry-passed h ok at warned small tiny few =
-      imports-as (λ s. entry-other (contextOf main supplementary w q) (entryHere main p) (belowEntry main p) s (λ e. h (sym (tag-is C K en) ∙ e)))
+      imports-as (λ s. entry-other (contextOf main supplementary w q) (entryHere main p) (belowEntry main p) s (λ e. h (sym (tag-is C K) ∙ e)))
       (imports-none C (but-refl w _) refl (C .files) ok at warned small tiny few)
 
-  module _ (is : n ≡ 0x2e) {w₁ name : List ℕ} {st′ : ℕ}
+  module _ (is : leAt 2 main (p + 13) ≡ 0x2e) {w₁ name : List ℕ} {st′ : ℕ}
       (R : Resolved main supplementary (q .places .tables) w w₁ (resolveName (dwarfOf main supplementary) (unitHere main (q .unit)) (entryHere main p)) st′ name) where
     pub name-refused : {t f u : List ℕ} → (st′ ≡ 0 → ⊥)
         → Imports (importEntry (contextOf main supplementary w q) (entryHere main p) (belowEntry main p)) main supplementary q w t f u st w₁ t f u
@@ -152,7 +148,7 @@ module _ {main supplementary w : List ℕ} {q : ImportContext} {p : ℕ} (st : I
       grown = λ z. absurd (h z);
       kept = λ z. absurd (h z);
       ok = λ z. absurd (h z);
-      no = λ z rs ws. entry-refused (contextOf main supplementary w q) (entryHere main p) (belowEntry main p) _ (tag-is C K en ∙ is) (given-refused st′ name (R .is) h);
+      no = λ z rs ws. entry-refused (contextOf main supplementary w q) (entryHere main p) (belowEntry main p) _ (tag-is C K ∙ is) (given-refused st′ name (R .is) h);
     }
 
     module _ (size : length w₁ ≡ length w) (z : st′ ≡ 0) {found : FoundName} (ef : found ≡ foundName name) {t f u : List ℕ}
@@ -163,7 +159,7 @@ module _ {main supplementary w : List ℕ} {q : ImportContext} {p : ℕ} (st : I
       pub name-empty : found ≡ FoundName.Missing
           → Imports (importEntry (contextOf main supplementary w q) (entryHere main p) (belowEntry main p)) main supplementary q w t f u st w₁ t f u st
       name-empty e =
-          imports-as (λ s. entry-nameless (contextOf main supplementary w q) (entryHere main p) (belowEntry main p) s (tag-is C K en ∙ is) (given-done st′ name (R .is) z) (name-missing name found ef e))
+          imports-as (λ s. entry-nameless (contextOf main supplementary w q) (entryHere main p) (belowEntry main p) s (tag-is C K ∙ is) (given-done st′ name (R .is) z) (name-missing name found ef e))
           searched
 
       pub name-given : {k : ℕ} → found ≡ FoundName.Found k → {w₂ t₂ f₂ u₂ : List ℕ} {r : ImportState}
@@ -171,7 +167,7 @@ module _ {main supplementary w : List ℕ} {q : ImportContext} {p : ℕ} (st : I
           → Imports (importEntry (contextOf main supplementary w q) (entryHere main p) (belowEntry main p)) main supplementary q w t f u st w₂ t₂ f₂ u₂ r
       name-given {k} e I =
           imports-as
-          (λ s. entry-named (contextOf main supplementary w q) (entryHere main p) (belowEntry main p) s (tag-is C K en ∙ is) (given-done st′ name (R .is) z) (name-found name found k ef e)
+          (λ s. entry-named (contextOf main supplementary w q) (entryHere main p) (belowEntry main p) s (tag-is C K ∙ is) (given-done st′ name (R .is) z) (name-found name found k ef e)
           ∙ ap (λ (x : import.ImportContext). done s >>= importByFailure x (entryHere main p) (belowEntry main p) name (dieRanges (entryHere main p) .failure))
           (sym (context-same C (walk-written C (R .rest)))))
           (imports-then ok searched I)

@@ -6,6 +6,7 @@ pub mod TallyLaws
 pub mod SequenceLaws
 pub mod DeclaredLineLaws
 pub mod FunctionLineLaws
+pub mod NextEntryLaws
 pub mod DetailStepLaws
 pub mod RangeStepLaws
 pub mod CandidateLaws

@@ -132,7 +132,7 @@ module _ {main supplementary : List ℕ} {q : ImportContext} {w₀ t₀ f₀ u�
       pub importing-unit : tag ≡ 0x10 → Imports (importUnitDetails (contextOf main supplementary w₀ q) (unitHere main (q .unit) .entries)) main supplementary q w₀ t₀ f₀ u₀ st₀ w t f u st
       importing-unit is = ended (from-unit main place r reads tag start len next e is)
 
-      pub importing-other : (tag ≡ 0x10 → ⊥) → (tag ≡ 0x17 → ⊥) → Importing main supplementary q w₀ t₀ f₀ u₀ st₀ w t f u st next
+      importing-other : (tag ≡ 0x10 → ⊥) → (tag ≡ 0x17 → ⊥) → Importing main supplementary q w₀ t₀ f₀ u₀ st₀ w t f u st next
       importing-other h k = record {
         placed = placed-next main place r tag start len next (I .placed) reads e;
         known = known-other main place r reads tag start len next e (I .known) h k;
@@ -220,7 +220,7 @@ module _ {main supplementary : List ℕ} {q : ImportContext} {w₀ t₀ f₀ u�
             (λ y.
             let is : tag ≡ 0x17 = eqb-true tag 0x17 y in
             importing-entry is
-            (entry-passed st (I .context) (entry-here is) refl (λ z. false≢true (sym n ∙ test ∙ rw (y, eq-eqb (leAt 2 main (place + 13)) 0x2e z)))
+            (entry-passed st (I .context) (entry-here is) (λ z. false≢true (sym n ∙ test ∙ rw (y, eq-eqb (leAt 2 main (place + 13)) 0x2e z)))
             (I .status) (I .bounds .0) (I .bounds .1)
             (omega (arith, I .records-size, I .does .laid (I .status) .small))
             (omega (arith, I .files-size, I .does .grown (I .status) .put .small))

@@ -6,16 +6,16 @@ ghost use Prim.Native.Nat.{_+_, _-_, _*_, _^_, _≤_, _<_};
 ghost use lib.Dec.{eqb};
 ghost use lib.ListN.{length};
 ghost use Rattle.tlv.specs.Buffer.{Put, top};
-ghost use Rattle.tlv.specs.Checked.{Placed};
 ghost use Rattle.tlv.specs.Places.{entryHere, unitHere};
 ghost use Rattle.rows.specs.Stored.{sequenceOf, entriesOf};
 ghost use Rattle.collect.specs.Collects.{UnitIn};
 ghost use Rattle.references.specs.Tables.{EntryKnown};
-ghost use Rattle.dies.specs.Details.{EntriesKnown, entriesFrom};
+ghost use Rattle.dies.specs.Details.{entriesFrom};
 ghost use Rattle.dies.specs.DetailState.{Accepted};
 ghost use Rattle.imports.specs.Tree.{extractSubprogramDetails};
 ghost use Rattle.imports.specs.Import.{statementSequenceOffset, detailContext, importRange, descendantsOf};
 ghost use Rattle.dwarf.specs.Contexts.{ContextIn, contextOf};
+ghost use Rattle.dwarf.specs.Entries.{BeginsAt};
 ghost use Rattle.dwarf.specs.Steps.{linesBytes, SequenceWarned, functionLines, declaredLine, FindsLines, detailsOf, ImportsDetails, Imports};
 use crate::model::ImportContext;
 use crate::model::ImportState;
@@ -281,7 +281,7 @@ fn details_of(q: ImportContext, range: AddressRange) -> Details
     }
 }
 
-// The nodes and call sites of a record whose rows are written, and its count.
+// The nodes and call sites of a record whose rows are written, and its count; the entries below its subprogram begin at `below`.
 fn import_details<'a>(
     main: &'a [u8],
     supplementary: &'a [u8],
@@ -291,13 +291,14 @@ fn import_details<'a>(
     q: ImportContext,
     name: &[u8],
     p: usize,
+    below: usize,
     range: AddressRange,
     st: ImportState,
     rows: usize,
 ) -> ImportState
     requires { ⌜ ContextIn (now main) (now supplementary) (now work) q (st .table) ⌝ }
     requires { ⌜ EntryKnown (now main) (q .unit) p ⌝ }
-    requires { ⌜ (Placed (now main) (p + 15)) × EntriesKnown (now main) (q .unit) (p + 15) ⌝ }
+    requires { ⌜ BeginsAt (now main) (q .unit) (p + 15) below ⌝ }
     requires { ⌜ 16 + length (now name) < 65536 ⌝ }
     requires { ⌜ (st .at ≤ top) × (st .warned ≤ top) ⌝ }
     ensures { λ r. ⌜ ImportsDetails (extractSubprogramDetails (detailContext (contextOf (now (main .entry)) (now (supplementary .entry)) (now (work .entry)) q) range) (descendantsOf (entryHere (now (main .entry)) p .depth) (entriesFrom (now (main .entry)) (p + 15)))) (now (main .entry)) (now (supplementary .entry)) q (now (name .entry)) range rows (now (work .entry)) (now (records .entry)) (now (warnings .entry)) st (now (work .exit)) (now (records .exit)) (now (warnings .exit)) r ⌝ }
@@ -314,7 +315,7 @@ fn import_details<'a>(
         warnings,
         d,
         name,
-        p + 15,
+        below,
         depth,
         st.at,
         st.warned,
@@ -336,7 +337,7 @@ fn import_details<'a>(
     }
 }
 
-// The record of a live range of the subprogram of a name at place p.
+// The record of a live range of the subprogram of a name at place p; the entries below it begin at `below`.
 pub fn import_range<'a>(
     main: &'a [u8],
     supplementary: &'a [u8],
@@ -347,12 +348,13 @@ pub fn import_range<'a>(
     q: ImportContext,
     name: &[u8],
     p: usize,
+    below: usize,
     range: AddressRange,
     st: ImportState,
 ) -> ImportState
     requires { ⌜ ContextIn (now main) (now supplementary) (now work) q (st .table) ⌝ }
     requires { ⌜ EntryKnown (now main) (q .unit) p ⌝ }
-    requires { ⌜ (Placed (now main) (p + 15)) × EntriesKnown (now main) (q .unit) (p + 15) ⌝ }
+    requires { ⌜ BeginsAt (now main) (q .unit) (p + 15) below ⌝ }
     requires { ⌜ 16 + length (now name) < 65536 ⌝ }
     requires { ⌜ (st .status ≡ 0) × (st .at ≤ top) × (st .warned ≤ top) ⌝ }
     ensures { λ r. ⌜ Imports (importRange (contextOf (now (main .entry)) (now (supplementary .entry)) (now (work .entry)) q) (entryHere (now (main .entry)) p) (descendantsOf (entryHere (now (main .entry)) p .depth) (entriesFrom (now (main .entry)) (p + 15))) (now (name .entry)) range) (now (main .entry)) (now (supplementary .entry)) q (now (work .entry)) (now (records .entry)) (now (files .entry)) (now (warnings .entry)) st (now (work .exit)) (now (records .exit)) (now (files .exit)) (now (warnings .exit)) r ⌝ }
@@ -398,6 +400,7 @@ pub fn import_range<'a>(
         q,
         name,
         p,
+        below,
         range,
         lined,
         l.count,

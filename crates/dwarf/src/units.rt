@@ -1,7 +1,7 @@
 // The subprograms of a unit and their ranges (the Rust's import_unit_details).
 ghost use mathlib.Core.Path.{_≡_};
 ghost use mathlib.Core.Bool.{_&&_};
-ghost use Prim.Native.Nat.{_+_, _≤_, _<_};
+ghost use Prim.Native.Nat.{ℕ, _+_, _≤_, _<_};
 ghost use lib.Dec.{eqb};
 ghost use lib.ListN.{length};
 ghost use Rattle.tlv.specs.Bytes.{leAt};
@@ -13,6 +13,7 @@ ghost use Rattle.references.specs.Tables.{EntryKnown};
 ghost use Rattle.dies.specs.Details.{EntriesKnown};
 ghost use Rattle.imports.specs.Import.{importRanges, importByFailure, importUnitDetails};
 ghost use Rattle.dwarf.specs.Contexts.{ContextIn, contextOf};
+ghost use Rattle.dwarf.specs.Entries.{BeginsAt};
 ghost use Rattle.dwarf.specs.Steps.{Rejects, belowEntry, importOne, importEntry, Imports};
 use crate::model::ImportContext;
 use crate::model::ImportState;
@@ -37,7 +38,39 @@ fn reject(st: ImportState, warned: usize) -> ImportState
     }
 }
 
-// One range of the subprogram of a name at place p.
+// The place of the next entry or unit from place p on, or the end.
+fn next_entry(s: &[u8], p: usize) -> usize
+    requires { ⌜ Placed (now s) p ⌝ }
+    ensures { λ r. ⌜ ((unit : ℕ) → EntriesKnown (now (s .entry)) unit p → BeginsAt (now (s .entry)) unit p r) ⌝ }
+{
+    let mut at = p;
+    loop {
+        match tlv::fields::field_at(s, at) {
+            Step::End => {
+                return at;
+            }
+            Step::Cut => {
+                return at;
+            }
+            Step::Field {
+                tag,
+                start: _,
+                len: _,
+                next,
+            } => {
+                if tag == 0x10 {
+                    return at;
+                }
+                if tag == 0x17 {
+                    return at;
+                }
+                at = next;
+            }
+        }
+    }
+}
+
+// One range of the subprogram of a name at place p; the entries below it begin at `below`.
 fn import_candidate<'a>(
     main: &'a [u8],
     supplementary: &'a [u8],
@@ -48,13 +81,14 @@ fn import_candidate<'a>(
     q: ImportContext,
     name: &[u8],
     p: usize,
+    below: usize,
     range: AddressRange,
     flag: u8,
     st: ImportState,
 ) -> ImportState
     requires { ⌜ ContextIn (now main) (now supplementary) (now work) q (st .table) ⌝ }
     requires { ⌜ EntryKnown (now main) (q .unit) p ⌝ }
-    requires { ⌜ (Placed (now main) (p + 15)) × EntriesKnown (now main) (q .unit) (p + 15) ⌝ }
+    requires { ⌜ BeginsAt (now main) (q .unit) (p + 15) below ⌝ }
     requires { ⌜ 16 + length (now name) < 65536 ⌝ }
     requires { ⌜ (st .status ≡ 0) × (st .at ≤ top) × (st .warned ≤ top) ⌝ }
     ensures { λ r. ⌜ Imports (importOne (contextOf (now (main .entry)) (now (supplementary .entry)) (now (work .entry)) q) (entryHere (now (main .entry)) p) (belowEntry (now (main .entry)) p) (now (name .entry)) (record { range = range; tombstone = eqb flag 1 })) (now (main .entry)) (now (supplementary .entry)) q (now (work .entry)) (now (records .entry)) (now (files .entry)) (now (warnings .entry)) st (now (work .exit)) (now (records .exit)) (now (files .exit)) (now (warnings .exit)) r ⌝ }
@@ -73,6 +107,7 @@ fn import_candidate<'a>(
             q,
             name,
             p,
+            below,
             range,
             st,
         );
@@ -81,7 +116,7 @@ fn import_candidate<'a>(
     reject(st, warned)
 }
 
-// The ranges of the subprogram of a name at place p.
+// The ranges of the subprogram of a name at place p. Where the entries below it begin is looked for at its first range, and is known at the others.
 fn import_ranges<'a>(
     main: &'a [u8],
     supplementary: &'a [u8],
@@ -103,6 +138,7 @@ fn import_ranges<'a>(
 {
     let mut r = st;
     let mut at = p + 15;
+    let mut below = at;
     loop {
         match tlv::access::next_own(main, at, 0x19) {
             Own::Missing => {
@@ -115,6 +151,7 @@ fn import_ranges<'a>(
             } => {
                 let range = dies::ranges::range_at(main, start);
                 let flag = tlv::bytes::read_u8(main, start + 16);
+                below = next_entry(main, below);
                 r = import_candidate(
                     main,
                     supplementary,
@@ -125,6 +162,7 @@ fn import_ranges<'a>(
                     q,
                     name,
                     p,
+                    below,
                     range,
                     flag,
                     r,

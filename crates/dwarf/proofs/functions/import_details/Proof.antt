@@ -15,11 +15,8 @@ add-read-u16 c = let s = c .before .before .before .before .before .before .befo
 read-u16-requires : tie.Need-read-u16-requires
 read-u16-requires c κs = let s = c .before .before .before .before .before .before .before in omega (arith, entry-read (context-accepted (s .pre .0)) (s .pre .1 .0))
 
-add-extract-subprogram-details : tie.Need-add-extract-subprogram-details
-add-extract-subprogram-details c = let s = c .before .before .before .before .before .before .before .before .before .before .before .before .before in omega (arith, entry-read (context-accepted (s .pre .0)) (s .pre .1 .0))
-
 extract-subprogram-details-requires : tie.Need-extract-subprogram-details-requires
-extract-subprogram-details-requires c κs = let s = c .before .before .before .before .before .before .before .before .before .before .before .before .before in rw (c .before .before .before .before .before .before .details-of .ensures) (details-in (s .pre .0) (s .args .range), (s .pre .1 .1 .0 .0, (s .pre .1 .1 .0 .1, omega arith)))
+extract-subprogram-details-requires c κs = let s = c .before .before .before .before .before .before .before .before .before .before .before .before .before in rw (c .before .before .before .before .before .before .details-of .ensures) (details-in (s .pre .0) (s .args .range), (s .pre .1 .1 .0 .placed, (s .pre .1 .1 .0 .known, omega arith)))
 
 enum-known-n : tie.Need-enum-known-n
 enum-known-n c = search needs
@@ -40,7 +37,7 @@ same-length-3 : tie.Need-same-length-3
 same-length-3 c = search needs
 
 returns : tie.Need-returns
-returns c = let s = c .before .before .before .before .before .before .before .before .before .before .before .before .before .before .before .before .before .before .before .before .before .before .before in details-refused (s .args .p) (s .args .rows) (s .args .st) (extracts-here (s .pre .0) (s .pre .1 .0) (c .before .before .before .before .before .before .before .before .before .before .before .before .before .before .before .before .details-of .ensures) (c .before .before .before .before .before .before .before .before .before .before .before .before .before .before .before .read-u16 .ensures) (c .before .before .before .before .before .before .before .before .before .extract-subprogram-details .ensures)) (c .before .n .given .1)
+returns c = let s = c .before .before .before .before .before .before .before .before .before .before .before .before .before .before .before .before .before .before .before .before .before .before .before in details-refused (s .args .p) (s .args .rows) (s .args .st) (s .pre .1 .1 .0 .same) (extracts-here (s .pre .0) (s .pre .1 .0) (c .before .before .before .before .before .before .before .before .before .before .before .before .before .before .before .before .details-of .ensures) (c .before .before .before .before .before .before .before .before .before .before .before .before .before .before .before .read-u16 .ensures) (c .before .before .before .before .before .before .before .before .before .extract-subprogram-details .ensures)) (c .before .n .given .1)
 
 same-length-4 : tie.Need-same-length-4
 same-length-4 c = search needs
@@ -52,7 +49,7 @@ same-length-6 : tie.Need-same-length-6
 same-length-6 c = search needs
 
 returns-2 : tie.Need-returns-2
-returns-2 c = let s = c .before .before .before .before .before .before .before .before .before .before .before .before .before .before .before .before .before .before .before .before .before .before .before .before in details-done (s .args .p) (s .args .rows) (s .args .st) (extracts-here (s .pre .0) (s .pre .1 .0) (c .before .before .before .before .before .before .before .before .before .before .before .before .before .before .before .before .before .details-of .ensures) (c .before .before .before .before .before .before .before .before .before .before .before .before .before .before .before .before .read-u16 .ensures) (c .before .before .before .before .before .before .before .before .before .before .extract-subprogram-details .ensures)) (c .before .before .nodes .given .1) (c .count-function .ensures)
+returns-2 c = let s = c .before .before .before .before .before .before .before .before .before .before .before .before .before .before .before .before .before .before .before .before .before .before .before .before in details-done (s .args .p) (s .args .rows) (s .args .st) (s .pre .1 .1 .0 .same) (extracts-here (s .pre .0) (s .pre .1 .0) (c .before .before .before .before .before .before .before .before .before .before .before .before .before .before .before .before .before .details-of .ensures) (c .before .before .before .before .before .before .before .before .before .before .before .before .before .before .before .before .read-u16 .ensures) (c .before .before .before .before .before .before .before .before .before .before .extract-subprogram-details .ensures)) (c .before .before .nodes .given .1) (c .count-function .ensures)
 
 pub import-details-spec : {M : Type 1} → statement M
 import-details-spec =
@@ -61,7 +58,6 @@ import-details-spec =
     details-of-requires
     add-read-u16
     read-u16-requires
-    add-extract-subprogram-details
     extract-subprogram-details-requires
     enum-known-n
     enum-known-nodes
