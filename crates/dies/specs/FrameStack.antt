@@ -6,6 +6,7 @@ use lib.ListN.{length, getD}
 use Rattle.tlv.specs.declared.model.AddressRange.{AddressRange}
 use Rattle.dies.specs.declared.frames.Frame.{Frame}
 use Rattle.dies.specs.declared.frames.Open.{Open}
+use Rattle.dies.specs.declared.frames.Left.{Left}
 use Rattle.imports.specs.Tree.{InlineFrame, finishInlines, parentRanges}
 use Rattle.dies.specs.RangeTable.{rangesAt}
 
@@ -37,6 +38,10 @@ pub record Empty (st : Open) : Type 0 where
   pub ready : Ready st
   pub none : st .n ≡ 0
   pub used : st .used ≡ 1
+
+-- the frames where they are, of which fewer are open
+abbrev pub shrunk : Open → Left → Open
+shrunk st r = record { frames = st .frames; n = r .n; used = r .used }
 
 -- the frames at depth d or below are gone
 pub record Popped (st st′ : Open) (d : ℕ) : Type 0 where

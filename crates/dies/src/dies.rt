@@ -176,7 +176,7 @@ fn close(
     supplementary: &[u8],
     work: &mut [u8],
     d: Details,
-    s: Walk,
+    mut s: Walk,
     depth: u16,
 ) -> Walk
     requires { ⌜ DetailsIn (now main) (now supplementary) (now work) d ⌝ }
@@ -184,17 +184,13 @@ fn close(
     ensures { λ r. ⌜ Shut (now (main .entry)) (now (supplementary .entry)) d depth (now (work .entry)) s (now (work .exit)) r ⌝ }
 {
     let o = s.frames;
-    let frames = crate::frames::popped(o, depth);
+    let left = crate::frames::popped(o, depth);
     let c = finish_call_sites(work, d.stack, s.opened, d.sites, s.closed, depth);
-    Walk {
-        frames: frames,
-        opened: c.opened,
-        closed: c.closed,
-        nodes: s.nodes,
-        at: s.at,
-        warned: s.warned,
-        status: s.status,
-    }
+    s.frames.n = left.n;
+    s.frames.used = left.used;
+    s.opened = c.opened;
+    s.closed = c.closed;
+    s
 }
 
 // A call site: its return address is to lie in the function, and the name that its origin refers to is searched for its refusal alone.

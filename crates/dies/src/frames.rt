@@ -1,6 +1,6 @@
 // The inline nodes that are open, while the entries below a function are walked: frames by value, their ranges on a stack in the work slice.
 ghost use Prim.Native.Nat.{_+_, _<_};
-ghost use Rattle.dies.specs.FrameStack.{Ready, Empty, Popped, Top, Pushed};
+ghost use Rattle.dies.specs.FrameStack.{Ready, Empty, Popped, Top, Pushed, shrunk};
 
 // An open node: the depth of its entry, and where its ranges begin in the stack of ranges.
 pub struct Frame {
@@ -29,31 +29,28 @@ pub fn none_open() -> Open
     }
 }
 
-// The nodes of entries at this depth or below are closed.
-pub fn popped(st: Open, depth: u16) -> Open
+// What is left of the open nodes: how many there are, and how many ranges the stack has.
+pub struct Left {
+    pub n: usize,
+    pub used: usize,
+}
+
+// The nodes of entries at this depth or below are closed: the frames that are left stay where they are.
+pub fn popped(st: Open, depth: u16) -> Left
     requires { ⌜ Ready st ⌝ }
-    ensures { λ r. ⌜ Popped st r depth ⌝ }
+    ensures { λ r. ⌜ Popped st (shrunk st r) depth ⌝ }
 {
-    let frames = st.frames;
     let mut n = st.n;
     let mut used = st.used;
     while 0 < n {
-        let t = frames[n - 1];
+        let t = st.frames[n - 1];
         if t.depth < depth {
-            return Open {
-                frames: frames,
-                n: n,
-                used: used,
-            };
+            return Left { n: n, used: used };
         }
         used = t.ranges as usize;
         n -= 1;
     }
-    Open {
-        frames: frames,
-        n: n,
-        used: used,
-    }
+    Left { n: n, used: used }
 }
 
 // The range of the stack at which the innermost node's ranges begin, or the function's own.

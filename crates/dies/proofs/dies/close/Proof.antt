@@ -14,7 +14,7 @@ same-length : tie.Need-same-length
 same-length c = search needs
 
 returns : tie.Need-returns
-returns c = search shut-is
+returns c = let s = c .before .before .before .before .before .before .before .before .before .before .before in shut-is (s .pre .0) (s .pre .1) (c .before .before .before .before .before .before .popped .ensures) (c .before .before .before .before .finish-call-sites .ensures)
 
 pub close-spec : {M : Type 1} → statement M
 close-spec = tie.close (tie.spec popped-requires finish-call-sites-requires same-length returns)

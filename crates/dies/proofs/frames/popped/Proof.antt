@@ -6,10 +6,10 @@ use Rattle.dies.proofs.frames.popped.Statement.{statement}
 use Rattle.dies.proofs.frames.popped.Tie as tie
 
 abbrev Inv-loop : tie.InvT-loop
-Inv-loop depth frames n₀ used₀ n used = Popping frames n₀ used₀ depth n used × (n₀ ≤ 256)
+Inv-loop depth st n₀ used₀ n used = Popping (st .frames) n₀ used₀ depth n used × (n₀ ≤ 256)
 
 abbrev μ-loop : tie.MeasureT-loop
-μ-loop depth frames n₀ used₀ n used = n
+μ-loop depth st n₀ used₀ n used = n
 
 loop-holds : tie.Need-loop-holds Inv-loop μ-loop
 loop-holds c = (search popping-start, omega arith)
@@ -20,8 +20,8 @@ sub-t c = omega arith
 mul-t : tie.Need-mul-t Inv-loop μ-loop
 mul-t c = omega arith
 
-array-copy-out-t : tie.Need-array-copy-out-t Inv-loop μ-loop
-array-copy-out-t c = omega arith
+element-copy-out-t : tie.Need-element-copy-out-t Inv-loop μ-loop
+element-copy-out-t c = omega arith
 
 returns : tie.Need-returns Inv-loop μ-loop
 returns c = search popping-stop
@@ -50,7 +50,7 @@ popped-spec =
     loop-holds
     sub-t
     mul-t
-    array-copy-out-t
+    element-copy-out-t
     returns
     cast-used
     sub-n
