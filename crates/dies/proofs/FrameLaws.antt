@@ -11,11 +11,12 @@ use borrow.Author.Tests.{le-leb, lt-leb}
 use Rattle.tlv.specs.Table.{Apart, Kept, Clear, KeptBut}
 use Rattle.tlv.proofs.TableLaws.{but-one}
 use Rattle.files.proofs.GrownLaws.{clear-part}
+use Rattle.tlv.specs.declared.model.AddressRange.{AddressRange}
 use Rattle.dies.specs.declared.frames.Frame.{Frame}
 use Rattle.dies.specs.declared.frames.Open.{Open}
 use Rattle.imports.specs.Tree.{InlineFrame, finishInlines, parentRanges}
 use Rattle.dies.specs.RangeTable.{rangesAt}
-use Rattle.dies.specs.FrameStack.{slot, openOf, Stacked, openIn, Ready, Empty, Popped, Top, Pushed}
+use Rattle.dies.specs.FrameStack.{slot, openOf, Stacked, openIn, Ready, Empty, Popped, grown}
 use Rattle.dies.proofs.RangeTableLaws.{ranges-but}
 
 -- ---- the stack of ranges
@@ -154,10 +155,15 @@ module _ (st : Open) (d n used : ℕ) (R : Ready st) (P : Popping (st .frames) (
 
 -- ---- the innermost node's ranges
 
+-- the innermost node's ranges begin at range `from` of the stack; with none open these are the function's own, f, which is range 0
+pub record Top (st : Open) (from : ℕ) : Type 0 where
+  pub within : from ≤ st .used
+  pub ranges : (f : AddressRange) (w : List ℕ) (base : ℕ) → rangesAt w base 1 ≡ f ∷ [] → parentRanges f (openIn w base st) ≡ rangesAt w (base + from * 16) (st .used - from)
+
 module _ (st : Open) (R : Ready st) where
-  pub top-none : st .n ≡ 0 → Top st 0
+  none-top : st .n ≡ 0 → Top st 0
   unfolding openIn
-  top-none h = record {
+  none-top h = record {
     within = omega arith;
     ranges = λ f w base e.
         ap (parentRanges f) (none-open (st .frames) (st .n) (st .used) w base h)
@@ -167,14 +173,27 @@ module _ (st : Open) (R : Ready st) where
       one : st .n ≡ 0 → st .used - 0 ≡ 1
       one h = omega (arith, none-used (st .frames) (st .used) (rw h at (R .stacked)))
 
-  pub top-some : 0 < st .n → Top st (slot (st .frames) (st .n - 1) .ranges)
+  some-top : 0 < st .n → Top st (slot (st .frames) (st .n - 1) .ranges)
   unfolding openIn
-  top-some h = record {
+  some-top h = record {
     within = stacked-top (st .frames) (st .n) (st .used) h (R .stacked) .0;
     ranges = λ f w base e. ap (parentRanges f) (open-top (st .frames) (st .n) (st .used) w base h);
   }
 
+  pub top-none : {from : ℕ} → st .n ≤ 0 → from ≡ 0 → Top st from
+  top-none h e = rw e (none-top (omega arith))
+
+  pub top-some : {from : ℕ} → 0 < st .n → from ≡ slot (st .frames) (st .n - 1) .ranges → Top st from
+  top-some h e = rw e (some-top h)
+
 -- ---- pushing
+
+-- what is known of one frame more
+pub record Pushed (st st′ : Open) (d k : ℕ) : Type 0 where
+  pub ready : Ready st′
+  pub frames : (w : List ℕ) (base : ℕ) → openIn w base st′ ≡ record { dieDepth = d; ranges = rangesAt w (base + st .used * 16) k } ∷ openIn w base st
+  pub count : st′ .n ≡ st .n + 1
+  pub used : st′ .used ≡ st .used + k
 
 -- one frame more, x, whose place is `used`
 stacked-push : (fs : List Frame) (n used k : ℕ) (x : Frame) → slot fs n ≡ x → Stacked fs n used → x .ranges ≡ used → Stacked fs (suc n) (used + k)
@@ -186,7 +205,7 @@ pub open-push : (fs : List Frame) (n used k : ℕ) (x : Frame) → slot fs n ≡
 unfolding openOf
 open-push fs n used k x at e w base = let z : used + k - used ≡ k = omega arith in rw (at, e, z)
 
-pub pushed-is : (st : Open) (d k : ℕ) → Ready st → st .n < 256 → Pushed st (record { frames = set (st .frames) (st .n) (record { depth = d; ranges = st .used }); n = st .n + 1; used = st .used + k }) d k
+pub pushed-is : (st : Open) (d k : ℕ) → Ready st → st .n < 256 → Pushed st (grown st d k) d k
 unfolding openIn
 pushed-is st d k R h =
     let x : Frame = record { depth = d; ranges = st .used } in

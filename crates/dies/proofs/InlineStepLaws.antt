@@ -29,10 +29,11 @@ use Rattle.imports.specs.Ranges.{coalesceRanges}
 use Rattle.imports.specs.Tree.{Descendants, DetailContext, fit, rangesOf, parentRanges, pushInline, makeInlineNode}
 use Rattle.dies.specs.RangeTable as table
 use Rattle.dies.specs.RangeTable.{rangesAt, Gathered}
-use Rattle.dies.specs.FrameStack.{openIn, Top}
+use Rattle.dies.specs.FrameStack.{openIn}
 use Rattle.dies.specs.Details.{DetailsIn, contextIn, rangeCount}
 use Rattle.dies.specs.DetailState.{rangesLater, entriesLeft, walkOf, Fits, newBytes, walked, Advances}
 use Rattle.dies.proofs.RangeTableLaws.{ranges-nil}
+use Rattle.dies.proofs.FrameLaws.{Top}
 use Rattle.dies.proofs.NodeRangeLaws.{ranges-here, node-ranges}
 use Rattle.dies.proofs.AttributeReads.{accepted-placed}
 use Rattle.dies.proofs.CallLaws.{warn-none}

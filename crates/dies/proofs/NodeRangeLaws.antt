@@ -1,4 +1,4 @@
--- An entry's ranges held against those of the innermost open node: what `top_of`, `coalesce_ranges` and `pushed` say together. Assumes nothing.
+-- An entry's ranges held against those of the innermost open node: what reading the innermost frame, `coalesce_ranges` and pushing a frame say together. Assumes nothing.
 use mathlib.Core.Path.{_≡_, sym, ap, _∙_}
 use mathlib.Core.List.{List, [], _∷_, map}
 use Prim.Native.Nat.{ℕ, _+_, _-_, _*_, _<_}
@@ -14,9 +14,9 @@ use Rattle.dies.specs.declared.frames.Open.{Open}
 use Rattle.imports.specs.Ranges.{coalesceRanges}
 use Rattle.imports.specs.Tree.{fit, rangesOf, parentRanges}
 use Rattle.dies.specs.RangeTable.{rangesAt, rangesGiven, Gathered}
-use Rattle.dies.specs.FrameStack.{openIn, Ready, Top, Pushed}
+use Rattle.dies.specs.FrameStack.{openIn, Ready}
 use Rattle.dies.proofs.RangeTableLaws.{ranges-nil, ranges-below, ranges-first}
-use Rattle.dies.proofs.FrameLaws.{used-one, open-below}
+use Rattle.dies.proofs.FrameLaws.{used-one, open-below, Top, Pushed}
 
 -- the ranges of the entry at a place are those that the fields behind its field give
 pub ranges-here : (s : List ℕ) (p : ℕ) (r : Step) (t start len next : ℕ) → r ≡ stepAt s p → r ≡ Step.Field t start len next → rangesOf (entryHere s p) ≡ rangesGiven s next

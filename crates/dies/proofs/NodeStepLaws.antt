@@ -26,14 +26,14 @@ use Rattle.dies.specs.declared.dies.Details.{Details}
 use Rattle.dies.specs.declared.dies.Walk.{Walk}
 use Rattle.dies.specs.declared.dies.CalledFile.{CalledFile}
 use Rattle.dies.specs.declared.dies.CalledLine.{CalledLine}
-use Rattle.dies.specs.declared.frames.Open.{Open}
+use Rattle.dies.specs.declared.dies.Laid.{Laid}
 use Rattle.imports.specs.Tree.{Descendants, DetailContext, CallFile, CallLine, callFileOf, callLineOf, pushInline}
 use Rattle.dies.specs.RangeTable.{rangesAt}
-use Rattle.dies.specs.FrameStack.{openIn, Pushed}
+use Rattle.dies.specs.FrameStack.{openIn, grown}
 use Rattle.dies.specs.Details.{DetailsIn, contextIn}
-use Rattle.dies.specs.DetailState.{originName, siteFramesAt, sitesAt, rangesLater, entriesLeft, walkOf, Fits, leadBytes, newBytes, walked, Advances, FileCalled, LineCalled}
+use Rattle.dies.specs.DetailState.{originName, siteFramesAt, sitesAt, rangesLater, entriesLeft, walkOf, Fits, leadBytes, newBytes, walked, Advances, FileCalled, LineCalled, noded}
 use Rattle.dies.proofs.RangeTableLaws.{ranges-length}
-use Rattle.dies.proofs.FrameLaws.{length-open}
+use Rattle.dies.proofs.FrameLaws.{length-open, Pushed, pushed-is}
 use Rattle.dies.proofs.CallLaws.{entry-depth-here}
 use Rattle.dies.proofs.SiteStepLaws.{details-accepted, left-here}
 
@@ -127,21 +127,31 @@ advance-refused n K refuses = record {
   no = λ _. refuses;
 }
 
+-- nor of the state but for its number
+pub refused-as : {G : Descendants → Outcome Descendants} {main supplementary name : List ℕ} {d : Details} {a b : ℕ} {w t u : List ℕ} {s : Walk} {w′ t′ u′ : List ℕ} {s′ s″ : Walk}
+    → Advances G main supplementary name d a b w t u s w′ t′ u′ s′ → (s′ .status ≡ 0 → ⊥) → s″ .status ≡ s′ .status → Advances G main supplementary name d a b w t u s w′ t′ u′ s″
+refused-as A n e = advance-refused (λ z. n (sym e ∙ z)) (A .kept) (λ ns ws. A .no n ns ws ∙ ap refused (sym e))
+
+-- the depth as it was read
+pub noded-at : {G : Descendants → Outcome Descendants} {main supplementary name : List ℕ} {d : Details} {a b : ℕ} {w t u : List ℕ} {s : Walk} {w′ t′ u′ : List ℕ} {depth depth′ : ℕ} {r : Laid} (k : ℕ)
+    → depth ≡ depth′ → Advances G main supplementary name d a b w t u s w′ t′ u′ (noded s depth′ k r) → Advances G main supplementary name d a b w t u s w′ t′ u′ (noded s depth k r)
+noded-at k e A = rw e A
+
 module _ {main supplementary w u : List ℕ} {d : Details} {p : ℕ} {s : Walk} (name inlined t : List ℕ) (k : ℕ) (D : DetailsIn main supplementary w d) (K : EntryKnown main (d .unit) p)
-    (F : Fits main supplementary w d (k + rangesLater main (p + 15)) (entriesLeft main p) s) (st : s .status ≡ 0) (some-k : 0 < k)
+    (F : Fits main supplementary w d (k + rangesLater main (p + 15)) (entriesLeft main p) s) (some-k : 0 < k)
     {u₁ : List ℕ} {file : CalledFile} (FC : FileCalled (indicesIn w (d .indices)) main (d .unit) p (s .warned) u u₁ file) where
   some-ranges : 0 < length (rangesAt w (d .ranges + s .frames .used * 16) k)
   some-ranges = omega (arith, ranges-length w (d .ranges + s .frames .used * 16) k)
 
   pub keep-file : (file .status ≡ 0 → ⊥)
       → Advances (pushInline (contextIn main supplementary w d) (entryHere main p) inlined (rangesAt w (d .ranges + s .frames .used * 16) k)) main supplementary name d (rangesLater main (p + 15)) (entriesLeft main (p + 15)) w t u s w t u₁
-      (record { frames = s .frames; opened = s .opened; closed = s .closed; nodes = s .nodes; at = s .at; warned = s .warned; status = file .status })
+      (noded s (leAt 2 main (p + 11)) k (record { at = s .at; warned = s .warned; status = file .status }))
   keep-file n = advance-refused n (kept-refl w (d .ranges) (walked main supplementary d)) (λ ns ws. push-file (contextIn main supplementary w d) (entryHere main p) inlined _ _ some-ranges (FC .no n (contextIn main supplementary w d) refl refl))
 
   module _ (f : file .status ≡ 0) {u₂ : List ℕ} {line : CalledLine} (LC : LineCalled main (d .unit) p (file .at) u₁ u₂ line) where
     pub keep-line : (line .status ≡ 0 → ⊥)
         → Advances (pushInline (contextIn main supplementary w d) (entryHere main p) inlined (rangesAt w (d .ranges + s .frames .used * 16) k)) main supplementary name d (rangesLater main (p + 15)) (entriesLeft main (p + 15)) w t u s w t u₂
-        (record { frames = s .frames; opened = s .opened; closed = s .closed; nodes = s .nodes; at = s .at; warned = s .warned; status = line .status })
+        (noded s (leAt 2 main (p + 11)) k (record { at = s .at; warned = s .warned; status = line .status }))
     keep-line n = advance-refused n (kept-refl w (d .ranges) (walked main supplementary d))
         (λ ns ws. push-line (contextIn main supplementary w d) (entryHere main p) inlined _ _ some-ranges (FC .ok f (contextIn main supplementary w d) refl refl) (LC .no n (contextIn main supplementary w d) refl))
 
@@ -152,13 +162,12 @@ module _ {main supplementary w u : List ℕ} {d : Details} {p : ℕ} {s : Walk} 
 
       pub keep-deep : 256 ≤ s .frames .n
           → Advances (pushInline (contextIn main supplementary w d) (entryHere main p) inlined (rangesAt w (d .ranges + s .frames .used * 16) k)) main supplementary name d (rangesLater main (p + 15)) (entriesLeft main (p + 15)) w t u s w t u₂
-          (record { frames = s .frames; opened = s .opened; closed = s .closed; nodes = s .nodes; at = s .at; warned = s .warned; status = 14 })
+          (noded s (leAt 2 main (p + 11)) k (record { at = s .at; warned = s .warned; status = 14 }))
       keep-deep h = advance-refused (λ z. omega arith) (kept-refl w (d .ranges) (walked main supplementary d))
           (λ ns ws. push-deep (contextIn main supplementary w d) (entryHere main p) inlined _ _ some-ranges (FC .ok f (contextIn main supplementary w d) refl refl) (LC .ok l (contextIn main supplementary w d) refl) (omega (arith, stack-length ns ws)))
 
-      module _ (h : s .frames .n < 256) {t₁ t₂ : List ℕ} {q₁ q₂ depth : ℕ} {o : Open} (RT : Put (s .at) (leadBytes name (d .range) (s .nodes)) t t₁ q₁)
-          (ND : Put q₁ (nodeBytes (record { depth = s .frames .n + 1; callFile = file .file; callLine = line .line; name = inlined; ranges = rangesAt w (d .ranges + s .frames .used * 16) k })) t₁ t₂ q₂)
-          (ed : depth ≡ leAt 2 main (p + 11)) (P : Pushed (s .frames) o depth k) where
+      module _ (h : s .frames .n < 256) {t₁ t₂ : List ℕ} {q₁ q₂ : ℕ} (RT : Put (s .at) (leadBytes name (d .range) (s .nodes)) t t₁ q₁)
+          (ND : Put q₁ (nodeBytes (record { depth = s .frames .n + 1; callFile = file .file; callLine = line .line; name = inlined; ranges = rangesAt w (d .ranges + s .frames .used * 16) k })) t₁ t₂ q₂) where
         node : InlineNode
         node = record { depth = s .frames .n + 1; callFile = file .file; callLine = line .line; name = inlined; ranges = rangesAt w (d .ranges + s .frames .used * 16) k }
 
@@ -166,11 +175,14 @@ module _ {main supplementary w u : List ℕ} {d : Details} {p : ℕ} {s : Walk} 
         unfolding node eachOf
         laid-node = rw (append-nil (nodeBytes node)) (RT then ND)
 
-        depth-is : entryHere main p .depth ≡ depth
-        depth-is = entry-depth-here (details-accepted D) K ∙ sym ed
+        depth-is : entryHere main p .depth ≡ leAt 2 main (p + 11)
+        depth-is = entry-depth-here (details-accepted D) K
+
+        P : Pushed (s .frames) (grown (s .frames) (leAt 2 main (p + 11)) k) (leAt 2 main (p + 11)) k
+        P = pushed-is (s .frames) (leAt 2 main (p + 11)) k (F .ready) h
 
         pub keep-done : Advances (pushInline (contextIn main supplementary w d) (entryHere main p) inlined (rangesAt w (d .ranges + s .frames .used * 16) k)) main supplementary name d (rangesLater main (p + 15)) (entriesLeft main (p + 15)) w t u s w t₂ u₂
-            (record { frames = o; opened = s .opened; closed = s .closed; nodes = s .nodes + 1; at = q₂; warned = line .at; status = s .status })
+            (noded s (leAt 2 main (p + 11)) k (record { at = q₂; warned = line .at; status = 0 }))
         unfolding walkOf node
         keep-done = record {
           nodes = node ∷ [];
@@ -199,5 +211,5 @@ module _ {main supplementary w u : List ℕ} {d : Details} {p : ℕ} {s : Walk} 
                 callSites = sitesAt (originName main supplementary (d .unit)) w (d .sites) (s .closed);
                 warnings = ws ++ (FC .warnings ++ LC .warnings);
               });
-          no = λ z. absurd (z st);
+          no = λ z. absurd (z refl);
         }

@@ -32,9 +32,10 @@ use Rattle.dies.specs.declared.dies.Address.{Address}
 use Rattle.dies.specs.declared.dies.Warned.{Warned}
 use Rattle.dies.specs.declared.dies.CalledFile.{CalledFile}
 use Rattle.dies.specs.declared.dies.CalledLine.{CalledLine}
+use Rattle.dies.specs.declared.dies.Laid.{Laid}
 use Rattle.imports.specs.Tree.{CallSiteFrame, Descendants, DetailContext, callFileOf, callLineOf, endsHere, finish, makeCallSite, pushCallSite, collectEntry, collectDescendants}
 use Rattle.dies.specs.RangeTable.{rangesAt}
-use Rattle.dies.specs.FrameStack.{openIn, Ready}
+use Rattle.dies.specs.FrameStack.{openIn, Ready, grown}
 use Rattle.imports.specs.Import.{descendantsOf}
 use Rattle.dies.specs.Details.{rangeCount, entryCount, contextIn, entriesFrom, detailBytes}
 
@@ -136,6 +137,10 @@ newBytes name r n [] = []
 newBytes name r n (x ∷ xs) = leadBytes name r n ++ eachOf nodeBytes (x ∷ xs)
 
 -- ---- the steps
+
+-- the state with one node more, which was laid, of an entry at this depth, whose ranges are the k above the stack of ranges
+abbrev pub noded : Walk → ℕ → ℕ → Laid → Walk
+noded s depth k r = record { frames = grown (s .frames) depth k; opened = s .opened; closed = s .closed; nodes = s .nodes + 1; at = r .at; warned = r .warned; status = r .status }
 
 -- the part of the work slice that the walk writes to
 abbrev pub walked : List ℕ → List ℕ → Details → ℕ

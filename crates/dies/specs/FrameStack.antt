@@ -2,12 +2,11 @@
 use mathlib.Core.Path.{_≡_}
 use mathlib.Core.List.{List, [], _∷_}
 use Prim.Native.Nat.{ℕ, zero, suc, _+_, _-_, _*_, _≤_}
-use lib.ListN.{length, getD}
-use Rattle.tlv.specs.declared.model.AddressRange.{AddressRange}
+use lib.ListN.{length, getD, set}
 use Rattle.dies.specs.declared.frames.Frame.{Frame}
 use Rattle.dies.specs.declared.frames.Open.{Open}
 use Rattle.dies.specs.declared.frames.Left.{Left}
-use Rattle.imports.specs.Tree.{InlineFrame, finishInlines, parentRanges}
+use Rattle.imports.specs.Tree.{InlineFrame, finishInlines}
 use Rattle.dies.specs.RangeTable.{rangesAt}
 
 abbrev pub slot : List Frame → ℕ → Frame
@@ -50,14 +49,6 @@ pub record Popped (st st′ : Open) (d : ℕ) : Type 0 where
   pub fewer : st′ .n ≤ st .n
   pub used : st′ .used ≤ st .used
 
--- the innermost node's ranges begin at range `from` of the stack; with none open these are the function's own, f, which is range 0
-pub record Top (st : Open) (from : ℕ) : Type 0 where
-  pub within : from ≤ st .used
-  pub ranges : (f : AddressRange) (w : List ℕ) (base : ℕ) → rangesAt w base 1 ≡ f ∷ [] → parentRanges f (openIn w base st) ≡ rangesAt w (base + from * 16) (st .used - from)
-
--- one frame more, whose ranges are the k from `used` on
-pub record Pushed (st st′ : Open) (d k : ℕ) : Type 0 where
-  pub ready : Ready st′
-  pub frames : (w : List ℕ) (base : ℕ) → openIn w base st′ ≡ record { dieDepth = d; ranges = rangesAt w (base + st .used * 16) k } ∷ openIn w base st
-  pub count : st′ .n ≡ st .n + 1
-  pub used : st′ .used ≡ st .used + k
+-- one frame more, of depth d, whose ranges are the k from `used` on
+abbrev pub grown : Open → ℕ → ℕ → Open
+grown st d k = record { frames = set (st .frames) (st .n) (record { depth = d; ranges = st .used }); n = st .n + 1; used = st .used + k }

@@ -4,6 +4,7 @@ ghost use Prim.Native.Nat.{_+_, _*_, _≤_, _<_};
 ghost use lib.Dec.{leb};
 ghost use lib.ListN.{length};
 ghost use Rattle.tlv.specs.Buffer.{Put};
+ghost use Rattle.tlv.specs.Bytes.{leAt};
 ghost use Rattle.tlv.specs.Checked.{Placed};
 ghost use Rattle.tlv.specs.Places.{entryHere};
 ghost use Rattle.tlv.specs.Output.{nodeBytes};
@@ -14,7 +15,8 @@ ghost use Rattle.dies.specs.RangeTable.{rangesAt};
 ghost use Rattle.imports.specs.Tree.{inlineDepthLimit, pushInline, makeInlineNode, collectEntries};
 ghost use Rattle.imports.specs.Import.{descendantsOf};
 ghost use Rattle.dies.specs.Details.{DetailsIn, EntriesKnown, Extracts, contextIn, entriesFrom};
-ghost use Rattle.dies.specs.DetailState.{PutSite, Closed, Shut, Fits, Advances, Quiet, collectSite, stepEntry, rangesLater, entriesLeft, AboutWarned, Accepted, addressOf, addressIn, FileCalled, LineCalled, SitesPut, Descends, leadBytes};
+ghost use Rattle.dies.specs.DetailState.{PutSite, Closed, Shut, Fits, Advances, Quiet, collectSite, stepEntry, rangesLater, entriesLeft, AboutWarned, Accepted, addressOf, addressIn, FileCalled, LineCalled, SitesPut, Descends, leadBytes, noded};
+use crate::frames::Frame;
 use crate::frames::Open;
 use files::index::FileNumber;
 use files::index::FoundIndex;
@@ -90,6 +92,13 @@ pub struct CalledFile {
 pub struct CalledLine {
     pub line: u32,
     pub at: usize,
+    pub status: u8,
+}
+
+// The places in the records and the warnings after a node, and the refusal, 0 for none.
+pub struct Laid {
+    pub at: usize,
+    pub warned: usize,
     pub status: u8,
 }
 
@@ -383,7 +392,7 @@ fn check_inline_depth(depth: usize) -> bool
     depth <= 256
 }
 
-// A named entry whose k merged ranges stand above the stack of ranges becomes a node.
+// A named entry whose k merged ranges stand above the stack of ranges becomes a node: it is laid, and its frame is the caller's to push.
 fn keep_node(
     main: &[u8],
     supplementary: &[u8],
@@ -396,36 +405,43 @@ fn keep_node(
     p: usize,
     k: usize,
     s: Walk,
-) -> Walk
+) -> Laid
     requires { ⌜ DetailsIn (now main) (now supplementary) (now work) d ⌝ }
     requires { ⌜ EntryKnown (now main) (d .unit) p ⌝ }
     requires { ⌜ Fits (now main) (now supplementary) (now work) d (k + rangesLater (now main) (p + 15)) (entriesLeft (now main) p) s ⌝ }
     requires { ⌜ (s .status ≡ 0) × (0 < k) × (10 + length (now name) < 65536) × (10 + length (now inlined) < 65536) ⌝ }
-    ensures { λ r. ⌜ Advances (pushInline (contextIn (now (main .entry)) (now (supplementary .entry)) (now (work .entry)) d) (entryHere (now (main .entry)) p) (now (inlined .entry)) (rangesAt (now (work .entry)) (d .ranges + s .frames .used * 16) k)) (now (main .entry)) (now (supplementary .entry)) (now (name .entry)) d (rangesLater (now (main .entry)) (p + 15)) (entriesLeft (now (main .entry)) (p + 15)) (now (work .entry)) (now (records .entry)) (now (warnings .entry)) s (now (work .entry)) (now (records .exit)) (now (warnings .exit)) r ⌝ }
+    ensures { λ r. ⌜ Advances (pushInline (contextIn (now (main .entry)) (now (supplementary .entry)) (now (work .entry)) d) (entryHere (now (main .entry)) p) (now (inlined .entry)) (rangesAt (now (work .entry)) (d .ranges + s .frames .used * 16) k)) (now (main .entry)) (now (supplementary .entry)) (now (name .entry)) d (rangesLater (now (main .entry)) (p + 15)) (entriesLeft (now (main .entry)) (p + 15)) (now (work .entry)) (now (records .entry)) (now (warnings .entry)) s (now (work .entry)) (now (records .exit)) (now (warnings .exit)) (noded s (leAt 2 (now (main .entry)) (p + 11)) k r) ⌝ }
 {
-    let mut r = s;
     let indices = d.indices;
     let range = d.range;
     let file = call_file(main, work, warnings, d.unit, indices, p, s.warned);
     if file.status != 0 {
-        r.status = file.status;
-        return r;
+        return Laid {
+            at: s.at,
+            warned: s.warned,
+            status: file.status,
+        };
     }
     let line = call_line(main, warnings, d.unit, p, file.at);
     if line.status != 0 {
-        r.status = line.status;
-        return r;
+        return Laid {
+            at: s.at,
+            warned: s.warned,
+            status: line.status,
+        };
     }
-    let o = s.frames;
-    let n = o.n;
+    let n = s.frames.n;
     if !check_inline_depth(n + 1) {
-        r.status = 14;
-        return r;
+        return Laid {
+            at: s.at,
+            warned: s.warned,
+            status: 14,
+        };
     }
     let called = file.file;
     let rooted = put_root(records, s.at, s.nodes, range, name);
-    let from = d.ranges + o.used * 16;
-    r.at = put_inline_node(
+    let from = d.ranges + s.frames.used * 16;
+    let at = put_inline_node(
         work,
         records,
         rooted,
@@ -436,12 +452,11 @@ fn keep_node(
         from,
         k,
     );
-    r.warned = line.at;
-    let depth = tlv::bytes::read_u16(main, p + 11);
-    let frames = crate::frames::pushed(o, depth, k);
-    r.frames = frames;
-    r.nodes = s.nodes + 1;
-    r
+    Laid {
+        at: at,
+        warned: line.at,
+        status: 0,
+    }
 }
 
 // An inlined entry.
@@ -454,7 +469,7 @@ fn make_inline_node<'a>(
     d: Details,
     name: &[u8],
     p: usize,
-    s: Walk,
+    mut s: Walk,
 ) -> Walk
     requires { ⌜ DetailsIn (now main) (now supplementary) (now work) d ⌝ }
     requires { ⌜ EntryKnown (now main) (d .unit) p ⌝ }
@@ -462,7 +477,6 @@ fn make_inline_node<'a>(
     requires { ⌜ (s .status ≡ 0) × (10 + length (now name) < 65536) ⌝ }
     ensures { λ r. ⌜ Advances (makeInlineNode (contextIn (now (main .entry)) (now (supplementary .entry)) (now (work .entry)) d) (entryHere (now (main .entry)) p)) (now (main .entry)) (now (supplementary .entry)) (now (name .entry)) d (rangesLater (now (main .entry)) (p + 15)) (entriesLeft (now (main .entry)) (p + 15)) (now (work .entry)) (now (records .entry)) (now (warnings .entry)) s (now (work .exit)) (now (records .exit)) (now (warnings .exit)) r ⌝ }
 {
-    let mut r = s;
     let mut status: u8 = 0;
     let tables = d.tables;
     let inlined = references::names::resolve_name(
@@ -475,11 +489,11 @@ fn make_inline_node<'a>(
         p,
     );
     if status != 0 {
-        r.status = status;
-        return r;
+        s.status = status;
+        return s;
     }
     let FoundName::Found(_) = found_name(inlined) else {
-        return r;
+        return s;
     };
     match tlv::access::next_own(main, p + 15, 0x1a) {
         Own::Field {
@@ -487,13 +501,18 @@ fn make_inline_node<'a>(
             len: _,
             next: _,
         } => {
-            r.status = 6;
-            return r;
+            s.status = 6;
+            return s;
         }
         Own::Missing => {
-            let o = s.frames;
-            let top = crate::frames::top_of(o);
+            let mut o = s.frames;
+            let n = o.n;
             let used = o.used;
+            let mut top: usize = 0;
+            if 0 < n {
+                let f = o.frames[n - 1];
+                top = f.ranges as usize;
+            }
             let k = crate::ranges::coalesce_ranges(
                 main,
                 p + 15,
@@ -503,9 +522,9 @@ fn make_inline_node<'a>(
                 d.ranges + used * 16,
             );
             if k == 0 {
-                return r;
+                return s;
             }
-            return keep_node(
+            let laid = keep_node(
                 main,
                 supplementary,
                 work,
@@ -518,6 +537,26 @@ fn make_inline_node<'a>(
                 k,
                 s,
             );
+            if laid.status != 0 {
+                s.status = laid.status;
+                return s;
+            }
+            let depth = tlv::bytes::read_u16(main, p + 11);
+            o.frames[n] = Frame {
+                depth: depth,
+                ranges: used as u32,
+            };
+            o.n = n + 1;
+            o.used = used + k;
+            return Walk {
+                frames: o,
+                opened: s.opened,
+                closed: s.closed,
+                nodes: s.nodes + 1,
+                at: laid.at,
+                warned: laid.warned,
+                status: laid.status,
+            };
         }
     }
 }

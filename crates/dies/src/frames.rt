@@ -1,6 +1,5 @@
 // The inline nodes that are open, while the entries below a function are walked: frames by value, their ranges on a stack in the work slice.
-ghost use Prim.Native.Nat.{_+_, _<_};
-ghost use Rattle.dies.specs.FrameStack.{Ready, Empty, Popped, Top, Pushed, shrunk};
+ghost use Rattle.dies.specs.FrameStack.{Ready, Empty, Popped, shrunk};
 
 // An open node: the depth of its entry, and where its ranges begin in the stack of ranges.
 pub struct Frame {
@@ -51,34 +50,4 @@ pub fn popped(st: Open, depth: u16) -> Left
         n -= 1;
     }
     Left { n: n, used: used }
-}
-
-// The range of the stack at which the innermost node's ranges begin, or the function's own.
-pub fn top_of(st: Open) -> usize
-    requires { ⌜ Ready st ⌝ }
-    ensures { λ r. ⌜ Top st r ⌝ }
-{
-    let n = st.n;
-    if n == 0 {
-        return 0;
-    }
-    let t = st.frames[n - 1];
-    t.ranges as usize
-}
-
-// A node more, of an entry at this depth, whose ranges are the k from `used` on.
-pub fn pushed(mut st: Open, depth: u16, k: usize) -> Open
-    requires { ⌜ Ready st ⌝ }
-    requires { ⌜ (st .n < 256) × (st .used + k < 4294967296) ⌝ }
-    ensures { λ r. ⌜ Pushed st r depth k ⌝ }
-{
-    let n = st.n;
-    let used = st.used;
-    st.frames[n] = Frame {
-        depth: depth,
-        ranges: used as u32,
-    };
-    st.n = n + 1;
-    st.used = used + k;
-    st
 }

@@ -5,10 +5,7 @@ use Prim.Native.Nat.{ℕ, _+_, _≤_, _<_}
 use native.Mathlib.Omega.{arith}
 use lib.Dec.{leb}
 use borrow.Author.Tests.{leb-true, leb-false, not-true, not-false}
-use Rattle.tlv.proofs.PlaceFacts.{slice-bytes}
-use Rattle.dies.proofs.CallLaws.{entry-read}
-use Rattle.dies.proofs.SiteStepLaws.{details-accepted, left-here}
-use Rattle.dies.proofs.NameLengthLaws.{ranges-few}
+use Rattle.dies.proofs.SiteStepLaws.{details-accepted}
 use Rattle.dies.proofs.NodeStepLaws.{keep-file, keep-line, keep-deep, keep-done}
 use borrow.Author.Needs.{needs}
 use Rattle.dies.proofs.dies.keep_node.Statement.{statement}
@@ -28,7 +25,7 @@ same-length : tie.Need-same-length
 same-length c = search needs
 
 returns : tie.Need-returns
-returns c = let s = c .before .before .before .before .before .before .before .before .before .before .before .before .before .before .before in keep-file _ _ _ _ (s .pre .0) (s .pre .1 .0) (s .pre .1 .1 .0) (s .pre .1 .1 .1 .0) (s .pre .1 .1 .1 .1) (c .before .before .before .before .call-file .ensures) (c .if1 .taken)
+returns c = let s = c .before .before .before .before .before .before .before .before .before .before .before .before .before .before .before in keep-file _ _ _ _ (s .pre .0) (s .pre .1 .0) (s .pre .1 .1 .0) (s .pre .1 .1 .1 .1) (c .before .before .before .before .call-file .ensures) (c .if1 .taken)
 
 call-line-requires : tie.Need-call-line-requires
 call-line-requires c κs = let s = c .before .before .before .before .before .before .before .before .before .before .before .before .before .before .before .before in (details-accepted (s .pre .0), s .pre .1 .0)
@@ -37,10 +34,10 @@ same-length-2 : tie.Need-same-length-2
 same-length-2 c = search needs
 
 returns-2 : tie.Need-returns-2
-returns-2 c = let s = c .before .before .before .before .before .before .before .before .before .before .before .before .before .before .before .before .before .before .before .before .before in keep-line _ _ _ _ (s .pre .0) (s .pre .1 .0) (s .pre .1 .1 .0) (s .pre .1 .1 .1 .0) (s .pre .1 .1 .1 .1) (c .before .before .before .before .before .before .before .before .before .before .call-file .ensures) (c .before .before .before .before .before .before .if1 .left) (c .before .before .before .before .call-line .ensures) (c .if2 .taken)
+returns-2 c = let s = c .before .before .before .before .before .before .before .before .before .before .before .before .before .before .before .before .before .before .before .before .before in keep-line _ _ _ _ (s .pre .0) (s .pre .1 .0) (s .pre .1 .1 .0) (s .pre .1 .1 .1 .1) (c .before .before .before .before .before .before .before .before .before .before .call-file .ensures) (c .before .before .before .before .before .before .if1 .left) (c .before .before .before .before .call-line .ensures) (c .if2 .taken)
 
 add-check-inline-depth : tie.Need-add-check-inline-depth
-add-check-inline-depth c = omega (arith, c .before .before .before .before .before .before .before .before .before .before .before .before .before .before .before .before .before .before .before .before .before .before .pre .1 .1 .0 .ready .few)
+add-check-inline-depth c = omega (arith, c .before .before .before .before .before .before .before .before .before .before .before .before .before .before .before .before .before .before .before .before .before .pre .1 .1 .0 .ready .few)
 
 check-inline-depth-requires : tie.Need-check-inline-depth-requires
 check-inline-depth-requires c κs = search needs
@@ -49,46 +46,34 @@ same-length-3 : tie.Need-same-length-3
 same-length-3 c = search needs
 
 returns-3 : tie.Need-returns-3
-returns-3 c = let s = c .before .before .before .before .before .before .before .before .before .before .before .before .before .before .before .before .before .before .before .before .before .before .before .before in keep-deep _ _ _ _ (s .pre .0) (s .pre .1 .0) (s .pre .1 .1 .0) (s .pre .1 .1 .1 .0) (s .pre .1 .1 .1 .1) (c .before .before .before .before .before .before .before .before .before .before .before .before .before .call-file .ensures) (c .before .before .before .before .before .before .before .before .before .if1 .left) (c .before .before .before .before .before .before .before .call-line .ensures) (c .before .before .before .if2 .left) (deeper (c .before .check-inline-depth .ensures) (not-true _ (c .if3 .taken)))
+returns-3 c = let s = c .before .before .before .before .before .before .before .before .before .before .before .before .before .before .before .before .before .before .before .before .before .before .before in keep-deep _ _ _ _ (s .pre .0) (s .pre .1 .0) (s .pre .1 .1 .0) (s .pre .1 .1 .1 .1) (c .before .before .before .before .before .before .before .before .before .before .before .before .call-file .ensures) (c .before .before .before .before .before .before .before .before .if1 .left) (c .before .before .before .before .before .before .call-line .ensures) (c .before .before .if2 .left) (deeper (c .before .check-inline-depth .ensures) (not-true _ (c .if3 .taken)))
 
 put-root-requires : tie.Need-put-root-requires
-put-root-requires c κs = c .before .before .before .before .before .before .before .before .before .before .before .before .before .before .before .before .before .before .before .before .before .before .before .before .before .before .pre .1 .1 .1 .2
+put-root-requires c κs = c .before .before .before .before .before .before .before .before .before .before .before .before .before .before .before .before .before .before .before .before .before .before .before .before .before .pre .1 .1 .1 .2
 
 mul-from : tie.Need-mul-from
-mul-from c = let s = c .before .before .before .before .before .before .before .before .before .before .before .before .before .before .before .before .before .before .before .before .before .before .before .before .before .before .before .before .before .before in let D = s .pre .0 in let F = s .pre .1 .1 .0 in omega (arith, F .used, D .ranges, D .stack, D .sites, D .tables .keys .room)
+mul-from c = let s = c .before .before .before .before .before .before .before .before .before .before .before .before .before .before .before .before .before .before .before .before .before .before .before .before .before .before .before .before .before in let D = s .pre .0 in let F = s .pre .1 .1 .0 in omega (arith, F .used, D .ranges, D .stack, D .sites, D .tables .keys .room)
 
 add-from : tie.Need-add-from
-add-from c = let s = c .before .before .before .before .before .before .before .before .before .before .before .before .before .before .before .before .before .before .before .before .before .before .before .before .before .before .before .before .before .before .before in let D = s .pre .0 in let F = s .pre .1 .1 .0 in omega (arith, F .used, D .ranges, D .stack, D .sites, D .tables .keys .room)
+add-from c = let s = c .before .before .before .before .before .before .before .before .before .before .before .before .before .before .before .before .before .before .before .before .before .before .before .before .before .before .before .before .before .before in let D = s .pre .0 in let F = s .pre .1 .1 .0 in omega (arith, F .used, D .ranges, D .stack, D .sites, D .tables .keys .room)
 
 add-put-inline-node : tie.Need-add-put-inline-node
-add-put-inline-node c = omega (arith, c .before .before .before .before .before .before .before .before .before .before .before .before .before .before .before .before .before .before .before .before .before .before .before .before .before .before .before .before .before .before .before .before .pre .1 .1 .0 .ready .few)
+add-put-inline-node c = omega (arith, c .before .before .before .before .before .before .before .before .before .before .before .before .before .before .before .before .before .before .before .before .before .before .before .before .before .before .before .before .before .before .before .pre .1 .1 .0 .ready .few)
 
 cast-put-inline-node : tie.Need-cast-put-inline-node
-cast-put-inline-node c = omega (arith, c .before .before .before .before .before .before .before .before .before .before .before .before .before .before .before .before .before .before .before .before .before .before .before .before .before .before .before .before .before .before .before .before .pre .1 .1 .0 .ready .few)
+cast-put-inline-node c = omega (arith, c .before .before .before .before .before .before .before .before .before .before .before .before .before .before .before .before .before .before .before .before .before .before .before .before .before .before .before .before .before .before .before .pre .1 .1 .0 .ready .few)
 
 put-inline-node-requires : tie.Need-put-inline-node-requires
-put-inline-node-requires c κs = let s = c .before .before .before .before .before .before .before .before .before .before .before .before .before .before .before .before .before .before .before .before .before .before .before .before .before .before .before .before .before .before .before .before in let D = s .pre .0 in let F = s .pre .1 .1 .0 in (s .pre .1 .1 .1 .3, omega (arith, F .used, D .ranges, D .stack, D .sites, D .tables .keys .room))
-
-add-read-u16 : tie.Need-add-read-u16
-add-read-u16 c = let s = c .before .before .before .before .before .before .before .before .before .before .before .before .before .before .before .before .before .before .before .before .before .before .before .before .before .before .before .before .before .before .before .before .before .before .before in omega (arith, entry-read (details-accepted (s .pre .0)) (s .pre .1 .0))
-
-read-u16-requires : tie.Need-read-u16-requires
-read-u16-requires c κs = let s = c .before .before .before .before .before .before .before .before .before .before .before .before .before .before .before .before .before .before .before .before .before .before .before .before .before .before .before .before .before .before .before .before .before .before .before in omega (arith, entry-read (details-accepted (s .pre .0)) (s .pre .1 .0))
-
-pushed-requires : tie.Need-pushed-requires
-pushed-requires c κs = let s = c .before .before .before .before .before .before .before .before .before .before .before .before .before .before .before .before .before .before .before .before .before .before .before .before .before .before .before .before .before .before .before .before .before .before .before .before in let D = s .pre .0 in let F = s .pre .1 .1 .0 in (F .ready, ((not-deeper (c .before .before .before .before .before .before .before .before .before .before .before .before .before .check-inline-depth .ensures) (not-false _ (c .before .before .before .before .before .before .before .before .before .before .before .before .if3 .left))), omega (arith, F .used, ranges-few D (slice-bytes (c .before .before .before .before .before .before .before .before .before .before .before .before .before .before .before .before .before .before .before .before .before .before .before .before .before .before .before .before .before .before .before .before .before .before .before .before .args .main .now) (c .before .before .before .before .before .before .before .before .before .before .before .before .before .before .before .before .before .before .before .before .before .before .before .before .before .before .before .before .before .before .before .before .before .before .before .shared-slice-known .given)))))
-
-add-r : tie.Need-add-r
-add-r c = let s = c .before .before .before .before .before .before .before .before .before .before .before .before .before .before .before .before .before .before .before .before .before .before .before .before .before .before .before .before .before .before .before .before .before .before .before .before .before .before in let D = s .pre .0 in let F = s .pre .1 .1 .0 in omega (arith, F .nodes, D .stack, D .sites, D .tables .keys .room, left-here D (s .pre .1 .0))
+put-inline-node-requires c κs = let s = c .before .before .before .before .before .before .before .before .before .before .before .before .before .before .before .before .before .before .before .before .before .before .before .before .before .before .before .before .before .before .before in let D = s .pre .0 in let F = s .pre .1 .1 .0 in (s .pre .1 .1 .1 .3, omega (arith, F .used, D .ranges, D .stack, D .sites, D .tables .keys .room))
 
 same-length-4 : tie.Need-same-length-4
 same-length-4 c = search needs
 
 same-length-5 : tie.Need-same-length-5
-same-length-5 c = c .before .before .before .before .before .before .before .before .before .before .before .before .before .before .before .before .before .before .before .before .before .call-line .kept .1 .0 ∙ c .before .before .before .before .before .before .before .before .before .before .before .before .before .before .before .before .before .before .before .before .before .before .before .before .before .before .before .call-file .kept .1 .1 .0
+same-length-5 c = c .before .before .before .before .before .before .before .before .before .before .before .before .before .before .before .before .before .call-line .kept .1 .0 ∙ c .before .before .before .before .before .before .before .before .before .before .before .before .before .before .before .before .before .before .before .before .before .before .before .call-file .kept .1 .1 .0
 
 returns-4 : tie.Need-returns-4
-returns-4 c = let s = c .before .before .before .before .before .before .before .before .before .before .before .before .before .before .before .before .before .before .before .before .before .before .before .before .before .before .before .before .before .before .before .before .before .before .before .before .before .before in keep-done _ _ _ _ (s .pre .0) (s .pre .1 .0) (s .pre .1 .1 .0) (s .pre .1 .1 .1 .0) (s .pre .1 .1 .1 .1) (c .before .before .before .before .before .before .before .before .before .before .before .before .before .before .before .before .before .before .before .before .before .before .before .before .before .before .before .call-file .ensures) (c .before .before .before .before .before .before .before .before .before .before .before .before .before .before .before .before .before .before .before .before .before .before .before .if1 .left) (c .before .before .before .before .before .before .before .before .before .before .before .before .before .before .before .before .before .before .before .before .before .call-line .ensures) (c .before .before .before .before .before .before .before .before .before .before .before .before .before .before .before .before .before .if2 .left) (not-deeper (c .before .before .before .before .before .before .before .before .before .before .before .before .before .before .before .check-inline-depth .ensures) (not-false _ (c .before .before .before .before .before .before .before .before .before .before .before .before .before .before .if3 .left))) (c .before .before .before .before .before .before .before .before .before .before .before .put-root .ensures) (c .before .before .before .before .before .put-inline-node .ensures) (c .before .before .read-u16 .ensures) (c .before .pushed .ensures)
+returns-4 c = let s = c .before .before .before .before .before .before .before .before .before .before .before .before .before .before .before .before .before .before .before .before .before .before .before .before .before .before .before .before .before .before .before .before .before .before in keep-done _ _ _ _ (s .pre .0) (s .pre .1 .0) (s .pre .1 .1 .0) (s .pre .1 .1 .1 .1) (c .before .before .before .before .before .before .before .before .before .before .before .before .before .before .before .before .before .before .before .before .before .before .before .call-file .ensures) (c .before .before .before .before .before .before .before .before .before .before .before .before .before .before .before .before .before .before .before .if1 .left) (c .before .before .before .before .before .before .before .before .before .before .before .before .before .before .before .before .before .call-line .ensures) (c .before .before .before .before .before .before .before .before .before .before .before .before .before .if2 .left) (not-deeper (c .before .before .before .before .before .before .before .before .before .before .before .before .check-inline-depth .ensures) (not-false _ (c .before .before .before .before .before .before .before .before .before .before .before .if3 .left))) (c .before .before .before .before .before .before .before .before .put-root .ensures) (c .before .before .put-inline-node .ensures)
 
 pub keep-node-spec : {M : Type 1} → statement M
 keep-node-spec =
@@ -110,10 +95,6 @@ keep-node-spec =
     add-put-inline-node
     cast-put-inline-node
     put-inline-node-requires
-    add-read-u16
-    read-u16-requires
-    pushed-requires
-    add-r
     same-length-4
     same-length-5
     returns-4)

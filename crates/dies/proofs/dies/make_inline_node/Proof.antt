@@ -1,5 +1,6 @@
 -- `dies::make_inline_node` meets its contract. Assumes nothing.
-use mathlib.Core.Path.{_≡_, _∙_}
+use mathlib.Core.Path.{_≡_, refl, _∙_}
+use mathlib.Core.Logic.{⊎-elim}
 use mathlib.Core.List.{List}
 use Prim.Native.Nat.{ℕ}
 use native.Mathlib.Omega.{arith}
@@ -14,8 +15,10 @@ use Rattle.references.proofs.ReferenceLaws.{entry-next}
 use Rattle.dies.proofs.AttributeReads.{accepted-placed}
 use Rattle.dies.proofs.CallLaws.{entry-read}
 use Rattle.dies.proofs.SiteStepLaws.{details-accepted, given-done, later-here}
-use Rattle.dies.proofs.NameLengthLaws.{name-short}
+use Rattle.dies.proofs.NameLengthLaws.{name-short, ranges-few}
 use Rattle.dies.proofs.InlineStepLaws.{inline-refused, inline-nameless, inline-failed, inline-empty, inline-fits, inline-details, inline-kept}
+use Rattle.dies.proofs.FrameLaws.{Top, top-some, top-none}
+use Rattle.dies.proofs.NodeStepLaws.{refused-as, noded-at}
 use borrow.Author.Needs.{needs}
 use Rattle.dies.proofs.dies.make_inline_node.Statement.{statement}
 use Rattle.dies.proofs.dies.make_inline_node.Tie as tie
@@ -27,6 +30,10 @@ module _ {main supplementary w w′ inlined : List ℕ} {x : Tables} {o : Outcom
 
   named : {n : ℕ} → r ≡ FoundName.Found n → length inlined ≡ 0 → ⊥
   named found = found-length inlined is found
+
+-- the innermost node's ranges begin where they are read
+top-here : (c : tie.Joined2) → Top (c .before .before .before .before .before .before .before .before .before .before .before .before .before .before .before .before .before .before .before .before .before .args .s .frames) (c .if2 .top)
+top-here c = let R = c .before .before .before .before .before .before .before .before .before .before .before .before .before .before .before .before .before .before .before .before .before .pre .1 .1 .0 .ready in ⊎-elim (λ w. top-some _ R (w .0 .taken) (w .3)) (λ w. top-none _ R (w .0 .left) (w .1)) (c .if2 .came)
 
 resolve-name-requires : tie.Need-resolve-name-requires
 resolve-name-requires c κs = search needs
@@ -70,50 +77,59 @@ returns-3 c = let s = c .before .before .before .before .before .before .before 
 enum-told-4 : tie.Need-enum-told-4
 enum-told-4 c = search needs
 
-top-of-requires : tie.Need-top-of-requires
-top-of-requires c κs = search needs
+sub-f : tie.Need-sub-f
+sub-f c = search needs
+
+mul-f : tie.Need-mul-f
+mul-f c = omega (arith, c .before .before .before .before .before .before .before .before .before .before .before .before .before .before .before .before .before .before .before .before .before .pre .1 .1 .0 .ready .few)
+
+element-copy-out-f : tie.Need-element-copy-out-f
+element-copy-out-f c = omega (arith, c .before .before .before .before .before .before .before .before .before .before .before .before .before .before .before .before .before .before .before .before .before .pre .1 .1 .0 .ready .few, c .if2 .taken)
+
+cast-top : tie.Need-cast-top
+cast-top c = search needs
 
 add-coalesce-ranges : tie.Need-add-coalesce-ranges
 add-coalesce-ranges c = let s = c .before .before .before .before .before .before .before .before .before .before .before .before .before .before .before .before .before .before .before .before .before in omega (arith, entry-read (details-accepted (s .pre .0)) (s .pre .1 .0))
 
 mul-coalesce-ranges : tie.Need-mul-coalesce-ranges
-mul-coalesce-ranges c = let s = c .before .before .before .before .before .before .before .before .before .before .before .before .before .before .before .before .before .before .before .before .before .before in let D = s .pre .0 in let F = s .pre .1 .1 .0 in omega (arith, c .before .top-of .ensures .within, F .used, D .ranges, D .stack, D .sites, D .tables .keys .room)
+mul-coalesce-ranges c = let s = c .before .before .before .before .before .before .before .before .before .before .before .before .before .before .before .before .before .before .before .before .before .before .before in let D = s .pre .0 in let F = s .pre .1 .1 .0 in omega (arith, (top-here (c .before .before)) .within, F .used, D .ranges, D .stack, D .sites, D .tables .keys .room)
 
 add-coalesce-ranges-2 : tie.Need-add-coalesce-ranges-2
-add-coalesce-ranges-2 c = let s = c .before .before .before .before .before .before .before .before .before .before .before .before .before .before .before .before .before .before .before .before .before .before .before in let D = s .pre .0 in let F = s .pre .1 .1 .0 in omega (arith, c .before .before .top-of .ensures .within, F .used, D .ranges, D .stack, D .sites, D .tables .keys .room)
+add-coalesce-ranges-2 c = let s = c .before .before .before .before .before .before .before .before .before .before .before .before .before .before .before .before .before .before .before .before .before .before .before .before in let D = s .pre .0 in let F = s .pre .1 .1 .0 in omega (arith, (top-here (c .before .before .before)) .within, F .used, D .ranges, D .stack, D .sites, D .tables .keys .room)
 
 sub-coalesce-ranges : tie.Need-sub-coalesce-ranges
-sub-coalesce-ranges c = search needs
+sub-coalesce-ranges c = omega (arith, (top-here (c .before .before .before)) .within)
 
 mul-coalesce-ranges-2 : tie.Need-mul-coalesce-ranges-2
-mul-coalesce-ranges-2 c = let s = c .before .before .before .before .before .before .before .before .before .before .before .before .before .before .before .before .before .before .before .before .before .before .before in let D = s .pre .0 in let F = s .pre .1 .1 .0 in omega (arith, F .used, D .ranges, D .stack, D .sites, D .tables .keys .room)
+mul-coalesce-ranges-2 c = let s = c .before .before .before .before .before .before .before .before .before .before .before .before .before .before .before .before .before .before .before .before .before .before .before .before in let D = s .pre .0 in let F = s .pre .1 .1 .0 in omega (arith, F .used, D .ranges, D .stack, D .sites, D .tables .keys .room)
 
 add-coalesce-ranges-3 : tie.Need-add-coalesce-ranges-3
-add-coalesce-ranges-3 c = let s = c .before .before .before .before .before .before .before .before .before .before .before .before .before .before .before .before .before .before .before .before .before .before .before .before in let D = s .pre .0 in let F = s .pre .1 .1 .0 in omega (arith, F .used, D .ranges, D .stack, D .sites, D .tables .keys .room)
+add-coalesce-ranges-3 c = let s = c .before .before .before .before .before .before .before .before .before .before .before .before .before .before .before .before .before .before .before .before .before .before .before .before .before in let D = s .pre .0 in let F = s .pre .1 .1 .0 in omega (arith, F .used, D .ranges, D .stack, D .sites, D .tables .keys .room)
 
 coalesce-ranges-requires : tie.Need-coalesce-ranges-requires
-coalesce-ranges-requires c κs = let s = c .before .before .before .before .before .before .before .before .before .before .before .before .before .before .before .before .before .before .before .before .before .before .before .before in let D = s .pre .0 in let K = s .pre .1 .0 in let F = s .pre .1 .1 .0 in let z = c .before .before .before .before .before .before .before .before .before .before .before .before .before .before .resolve-name .kept .1 .1 .0 in (entry-next (accepted-placed (details-accepted D) K) K, (omega (arith, c .before .before .before .top-of .ensures .within), omega (arith, later-here D K, F .used, D .ranges, D .stack, D .sites, D .tables .keys .room)))
+coalesce-ranges-requires c κs = let s = c .before .before .before .before .before .before .before .before .before .before .before .before .before .before .before .before .before .before .before .before .before .before .before .before .before in let D = s .pre .0 in let F = s .pre .1 .1 .0 in let K = s .pre .1 .0 in let z = c .before .before .before .before .before .before .before .before .before .before .before .before .before .before .before .resolve-name .kept .1 .1 .0 in (entry-next (accepted-placed (details-accepted D) K) K, (omega (arith, (top-here (c .before .before .before .before)) .within), omega (arith, later-here D K, F .used, D .ranges, D .stack, D .sites, D .tables .keys .room)))
 
 same-length-4 : tie.Need-same-length-4
-same-length-4 c = c .before .before .before .coalesce-ranges .kept .1 .1 .0 ∙ c .before .before .before .before .before .before .before .before .before .before .before .before .before .before .before .before .before .before .resolve-name .kept .1 .1 .0
+same-length-4 c = c .before .before .before .coalesce-ranges .kept .1 .1 .0 ∙ c .before .before .before .before .before .before .before .before .before .before .before .before .before .before .before .before .before .before .before .resolve-name .kept .1 .1 .0
 
 returns-4 : tie.Need-returns-4
-returns-4 c = let s = c .before .before .before .before .before .before .before .before .before .before .before .before .before .before .before .before .before .before .before .before .before .before .before .before .before .before .before .before in inline-empty _ _ _ (omega arith) (omega arith) (s .pre .0) (s .pre .1 .0) (s .pre .1 .1 .0) (c .before .before .before .before .before .before .before .before .before .before .before .before .before .before .before .before .before .before .resolve-name .ensures) (c .before .before .before .before .before .before .before .before .before .before .before .before .before .before .before .if1 .left) (named (c .before .before .before .before .before .before .before .before .before .before .before .before .before .before .before .before .before .before .resolve-name .ensures) (c .before .before .before .before .before .before .before .before .before .before .before .before .before .before .found-name .ensures) (c .before .before .before .before .before .before .before .before .before .before .before .before .enum-told .given .1)) (c .before .before .before .before .before .before .before .before .before .before .before .next-own .ensures) (c .before .before .before .before .before .before .before .before .before .enum-told4 .given .1) (c .before .before .before .before .before .before .before .top-of .ensures) (c .before .before .before .coalesce-ranges .ensures) (s .pre .1 .1 .1 .0) (c .if2 .taken)
+returns-4 c = let s = c .before .before .before .before .before .before .before .before .before .before .before .before .before .before .before .before .before .before .before .before .before .before .before .before .before .before .before .before .before in inline-empty _ _ _ (omega arith) (omega arith) (s .pre .0) (s .pre .1 .0) (s .pre .1 .1 .0) (c .before .before .before .before .before .before .before .before .before .before .before .before .before .before .before .before .before .before .before .resolve-name .ensures) (c .before .before .before .before .before .before .before .before .before .before .before .before .before .before .before .before .if1 .left) (named (c .before .before .before .before .before .before .before .before .before .before .before .before .before .before .before .before .before .before .before .resolve-name .ensures) (c .before .before .before .before .before .before .before .before .before .before .before .before .before .before .before .found-name .ensures) (c .before .before .before .before .before .before .before .before .before .before .before .before .before .enum-told .given .1)) (c .before .before .before .before .before .before .before .before .before .before .before .before .next-own .ensures) (c .before .before .before .before .before .before .before .before .before .before .enum-told4 .given .1) (top-here (c .before .before .before .before .before .before .before .before)) (c .before .before .before .coalesce-ranges .ensures) (s .pre .1 .1 .1 .0) (c .if3 .taken)
 
 keep-node-requires : tie.Need-keep-node-requires
-keep-node-requires c κs = let s = c .before .before .before .before .before .before .before .before .before .before .before .before .before .before .before .before .before .before .before .before .before .before .before .before .before .before .before .before .before .before .before in let D = s .pre .0 in let K = s .pre .1 .0 in (
-  inline-details (s .args .name .now) (s .args .records .now) (s .args .warnings .now) (omega arith) (omega arith) D K (s .pre .1 .1 .0) (c .before .before .before .before .before .before .before .before .before .before .before .before .before .before .before .before .before .before .before .before .before .resolve-name .ensures) (c .before .before .before .before .before .before .before .before .before .before .before .before .before .before .before .before .before .before .if1 .left) (named (c .before .before .before .before .before .before .before .before .before .before .before .before .before .before .before .before .before .before .before .before .before .resolve-name .ensures) (c .before .before .before .before .before .before .before .before .before .before .before .before .before .before .before .before .before .found-name .ensures) (c .before .before .before .before .before .before .before .before .before .before .before .before .before .before .before .enum-told .given .1)) (c .before .before .before .before .before .before .before .before .before .before .before .before .before .before .next-own .ensures) (c .before .before .before .before .before .before .before .before .before .before .before .before .enum-told4 .given .1) (c .before .before .before .before .before .before .before .before .before .before .top-of .ensures) (c .before .before .before .before .before .before .coalesce-ranges .ensures) (c .before .before .before .before .before .before .coalesce-ranges .kept .1 .1 .0 ∙ c .before .before .before .before .before .before .before .before .before .before .before .before .before .before .before .before .before .before .before .before .before .resolve-name .kept .1 .1 .0),
+keep-node-requires c κs = let s = c .before .before .before .before .before .before .before .before .before .before .before .before .before .before .before .before .before .before .before .before .before .before .before .before .before .before .before .before .before .before .before .before in let D = s .pre .0 in let K = s .pre .1 .0 in (
+  inline-details (s .args .name .now) (s .args .records .now) (s .args .warnings .now) (omega arith) (omega arith) (s .pre .0) (s .pre .1 .0) (s .pre .1 .1 .0) (c .before .before .before .before .before .before .before .before .before .before .before .before .before .before .before .before .before .before .before .before .before .before .resolve-name .ensures) (c .before .before .before .before .before .before .before .before .before .before .before .before .before .before .before .before .before .before .before .if1 .left) (named (c .before .before .before .before .before .before .before .before .before .before .before .before .before .before .before .before .before .before .before .before .before .before .resolve-name .ensures) (c .before .before .before .before .before .before .before .before .before .before .before .before .before .before .before .before .before .before .found-name .ensures) (c .before .before .before .before .before .before .before .before .before .before .before .before .before .before .before .before .enum-told .given .1)) (c .before .before .before .before .before .before .before .before .before .before .before .before .before .before .before .next-own .ensures) (c .before .before .before .before .before .before .before .before .before .before .before .before .before .enum-told4 .given .1) (top-here (c .before .before .before .before .before .before .before .before .before .before .before)) (c .before .before .before .before .before .before .coalesce-ranges .ensures) (c .before .before .before .before .before .before .coalesce-ranges .kept .1 .1 .0 ∙ c .before .before .before .before .before .before .before .before .before .before .before .before .before .before .before .before .before .before .before .before .before .before .resolve-name .kept .1 .1 .0),
   (
     K,
     (
-      inline-fits (s .args .name .now) (s .args .records .now) (s .args .warnings .now) (omega arith) (omega arith) D K (s .pre .1 .1 .0) (c .before .before .before .before .before .before .before .before .before .before .before .before .before .before .before .before .before .before .before .before .before .resolve-name .ensures) (c .before .before .before .before .before .before .before .before .before .before .before .before .before .before .before .before .before .before .if1 .left) (named (c .before .before .before .before .before .before .before .before .before .before .before .before .before .before .before .before .before .before .before .before .before .resolve-name .ensures) (c .before .before .before .before .before .before .before .before .before .before .before .before .before .before .before .before .before .found-name .ensures) (c .before .before .before .before .before .before .before .before .before .before .before .before .before .before .before .enum-told .given .1)) (c .before .before .before .before .before .before .before .before .before .before .before .before .before .before .next-own .ensures) (c .before .before .before .before .before .before .before .before .before .before .before .before .enum-told4 .given .1) (c .before .before .before .before .before .before .before .before .before .before .top-of .ensures) (c .before .before .before .before .before .before .coalesce-ranges .ensures),
-      (s .pre .1 .1 .1 .0, omega arith, s .pre .1 .1 .1 .1, name-short D K (slice-bytes (s .args .main .now) (c .before .before .before .before .before .before .before .before .before .before .before .before .before .before .before .before .before .before .before .before .before .before .before .before .before .before .before .before .before .before .shared-slice-known .given)) (slice-bytes (s .args .supplementary .now) (c .before .before .before .before .before .before .before .before .before .before .before .before .before .before .before .before .before .before .before .before .before .before .before .before .before .before .before .before .before .shared-slice-known2 .given)) (given-done _ _ (c .before .before .before .before .before .before .before .before .before .before .before .before .before .before .before .before .before .before .before .before .before .resolve-name .ensures .is) (c .before .before .before .before .before .before .before .before .before .before .before .before .before .before .before .before .before .before .if1 .left))),
+      inline-fits (s .args .name .now) (s .args .records .now) (s .args .warnings .now) (omega arith) (omega arith) (s .pre .0) (s .pre .1 .0) (s .pre .1 .1 .0) (c .before .before .before .before .before .before .before .before .before .before .before .before .before .before .before .before .before .before .before .before .before .before .resolve-name .ensures) (c .before .before .before .before .before .before .before .before .before .before .before .before .before .before .before .before .before .before .before .if1 .left) (named (c .before .before .before .before .before .before .before .before .before .before .before .before .before .before .before .before .before .before .before .before .before .before .resolve-name .ensures) (c .before .before .before .before .before .before .before .before .before .before .before .before .before .before .before .before .before .before .found-name .ensures) (c .before .before .before .before .before .before .before .before .before .before .before .before .before .before .before .before .enum-told .given .1)) (c .before .before .before .before .before .before .before .before .before .before .before .before .before .before .before .next-own .ensures) (c .before .before .before .before .before .before .before .before .before .before .before .before .before .enum-told4 .given .1) (top-here (c .before .before .before .before .before .before .before .before .before .before .before)) (c .before .before .before .before .before .before .coalesce-ranges .ensures),
+      (s .pre .1 .1 .1 .0, omega arith, s .pre .1 .1 .1 .1, name-short D K (slice-bytes (s .args .main .now) (c .before .before .before .before .before .before .before .before .before .before .before .before .before .before .before .before .before .before .before .before .before .before .before .before .before .before .before .before .before .before .before .shared-slice-known .given)) (slice-bytes (s .args .supplementary .now) (c .before .before .before .before .before .before .before .before .before .before .before .before .before .before .before .before .before .before .before .before .before .before .before .before .before .before .before .before .before .before .shared-slice-known2 .given)) (given-done _ _ (c .before .before .before .before .before .before .before .before .before .before .before .before .before .before .before .before .before .before .before .before .before .before .resolve-name .ensures .is) (c .before .before .before .before .before .before .before .before .before .before .before .before .before .before .before .before .before .before .before .if1 .left))),
     ),
   ),
 )
 
 same-length-5 : tie.Need-same-length-5
-same-length-5 c = c .before .before .before .before .before .before .before .before .before .before .before .coalesce-ranges .kept .1 .1 .0 ∙ c .before .before .before .before .before .before .before .before .before .before .before .before .before .before .before .before .before .before .before .before .before .before .before .before .before .before .resolve-name .kept .1 .1 .0
+same-length-5 c = c .before .before .before .before .before .before .before .before .before .before .before .before .before .coalesce-ranges .kept .1 .1 .0 ∙ c .before .before .before .before .before .before .before .before .before .before .before .before .before .before .before .before .before .before .before .before .before .before .before .before .before .before .before .before .before .resolve-name .kept .1 .1 .0
 
 same-length-6 : tie.Need-same-length-6
 same-length-6 c = search needs
@@ -122,7 +138,43 @@ same-length-7 : tie.Need-same-length-7
 same-length-7 c = search needs
 
 returns-5 : tie.Need-returns-5
-returns-5 c = let s = c .before .before .before .before .before .before .before .before .before .before .before .before .before .before .before .before .before .before .before .before .before .before .before .before .before .before .before .before .before .before .before .before .before .before .before .before in inline-kept _ _ _ (omega arith) (omega arith) (s .pre .0) (s .pre .1 .0) (s .pre .1 .1 .0) (c .before .before .before .before .before .before .before .before .before .before .before .before .before .before .before .before .before .before .before .before .before .before .before .before .before .before .resolve-name .ensures) (c .before .before .before .before .before .before .before .before .before .before .before .before .before .before .before .before .before .before .before .before .before .before .before .if1 .left) (named (c .before .before .before .before .before .before .before .before .before .before .before .before .before .before .before .before .before .before .before .before .before .before .before .before .before .before .resolve-name .ensures) (c .before .before .before .before .before .before .before .before .before .before .before .before .before .before .before .before .before .before .before .before .before .before .found-name .ensures) (c .before .before .before .before .before .before .before .before .before .before .before .before .before .before .before .before .before .before .before .before .enum-told .given .1)) (c .before .before .before .before .before .before .before .before .before .before .before .before .before .before .before .before .before .before .before .next-own .ensures) (c .before .before .before .before .before .before .before .before .before .before .before .before .before .before .before .before .before .enum-told4 .given .1) (c .before .before .before .before .before .before .before .before .before .before .before .before .before .before .before .top-of .ensures) (c .before .before .before .before .before .before .before .before .before .before .before .coalesce-ranges .ensures) (c .before .before .before .before .keep-node .ensures)
+returns-5 c = let s = c .before .before .before .before .before .before .before .before .before .before .before .before .before .before .before .before .before .before .before .before .before .before .before .before .before .before .before .before .before .before .before .before .before .before .before .before .before .before .before in refused-as (inline-kept _ _ _ (omega arith) (omega arith) (s .pre .0) (s .pre .1 .0) (s .pre .1 .1 .0) (c .before .before .before .before .before .before .before .before .before .before .before .before .before .before .before .before .before .before .before .before .before .before .before .before .before .before .before .before .before .resolve-name .ensures) (c .before .before .before .before .before .before .before .before .before .before .before .before .before .before .before .before .before .before .before .before .before .before .before .before .before .before .if1 .left) (named (c .before .before .before .before .before .before .before .before .before .before .before .before .before .before .before .before .before .before .before .before .before .before .before .before .before .before .before .before .before .resolve-name .ensures) (c .before .before .before .before .before .before .before .before .before .before .before .before .before .before .before .before .before .before .before .before .before .before .before .before .before .found-name .ensures) (c .before .before .before .before .before .before .before .before .before .before .before .before .before .before .before .before .before .before .before .before .before .before .before .enum-told .given .1)) (c .before .before .before .before .before .before .before .before .before .before .before .before .before .before .before .before .before .before .before .before .before .before .next-own .ensures) (c .before .before .before .before .before .before .before .before .before .before .before .before .before .before .before .before .before .before .before .before .enum-told4 .given .1) (top-here (c .before .before .before .before .before .before .before .before .before .before .before .before .before .before .before .before .before .before)) (c .before .before .before .before .before .before .before .before .before .before .before .before .before .coalesce-ranges .ensures) (c .before .before .before .before .before .before .keep-node .ensures)) (c .if4 .taken) refl
+
+add-read-u16 : tie.Need-add-read-u16
+add-read-u16 c = let s = c .before .before .before .before .before .before .before .before .before .before .before .before .before .before .before .before .before .before .before .before .before .before .before .before .before .before .before .before .before .before .before .before .before .before .before .before .before .before .before in omega (arith, entry-read (details-accepted (s .pre .0)) (s .pre .1 .0))
+
+read-u16-requires : tie.Need-read-u16-requires
+read-u16-requires c κs = let s = c .before .before .before .before .before .before .before .before .before .before .before .before .before .before .before .before .before .before .before .before .before .before .before .before .before .before .before .before .before .before .before .before .before .before .before .before .before .before .before in omega (arith, entry-read (details-accepted (s .pre .0)) (s .pre .1 .0))
+
+cast-t49 : tie.Need-cast-t49
+cast-t49 c = let s = c .before .before .before .before .before .before .before .before .before .before .before .before .before .before .before .before .before .before .before .before .before .before .before .before .before .before .before .before .before .before .before .before .before .before .before .before .before .before .before .before in let D = s .pre .0 in let F = s .pre .1 .1 .0 in omega (arith, F .used, ranges-few D (slice-bytes (s .args .main .now) (c .before .before .before .before .before .before .before .before .before .before .before .before .before .before .before .before .before .before .before .before .before .before .before .before .before .before .before .before .before .before .before .before .before .before .before .before .before .before .before .shared-slice-known .given)))
+
+mul-t35 : tie.Need-mul-t35
+mul-t35 c = let s = c .before .before .before .before .before .before .before .before .before .before .before .before .before .before .before .before .before .before .before .before .before .before .before .before .before .before .before .before .before .before .before .before .before .before .before .before .before .before .before .before in let D = s .pre .0 in let F = s .pre .1 .1 .0 in let G = c .before .before .before .before .before .before .before .keep-node .ensures .fits (c .before .if4 .left) in omega (arith, G .ready .few)
+
+element-set-from-o : tie.Need-element-set-from-o
+element-set-from-o c = let s = c .before .before .before .before .before .before .before .before .before .before .before .before .before .before .before .before .before .before .before .before .before .before .before .before .before .before .before .before .before .before .before .before .before .before .before .before .before .before .before .before in let D = s .pre .0 in let F = s .pre .1 .1 .0 in let G = c .before .before .before .before .before .before .before .keep-node .ensures .fits (c .before .if4 .left) in omega (arith, G .ready .few)
+
+add-o : tie.Need-add-o
+add-o c = let s = c .before .before .before .before .before .before .before .before .before .before .before .before .before .before .before .before .before .before .before .before .before .before .before .before .before .before .before .before .before .before .before .before .before .before .before .before .before .before .before .before in let D = s .pre .0 in let F = s .pre .1 .1 .0 in let G = c .before .before .before .before .before .before .before .keep-node .ensures .fits (c .before .if4 .left) in omega (arith, G .ready .few)
+
+add-o-2 : tie.Need-add-o-2
+add-o-2 c = let s = c .before .before .before .before .before .before .before .before .before .before .before .before .before .before .before .before .before .before .before .before .before .before .before .before .before .before .before .before .before .before .before .before .before .before .before .before .before .before .before .before in let D = s .pre .0 in let F = s .pre .1 .1 .0 in let G = c .before .before .before .before .before .before .before .keep-node .ensures .fits (c .before .if4 .left) in omega (arith, G .used, D .ranges, D .stack, D .sites, D .tables .keys .room)
+
+add-t42 : tie.Need-add-t42
+add-t42 c = let s = c .before .before .before .before .before .before .before .before .before .before .before .before .before .before .before .before .before .before .before .before .before .before .before .before .before .before .before .before .before .before .before .before .before .before .before .before .before .before .before .before .before in let D = s .pre .0 in let F = s .pre .1 .1 .0 in let G = c .before .before .before .before .before .before .before .before .keep-node .ensures .fits (c .before .before .if4 .left) in omega (arith, G .nodes, D .stack, D .sites, D .tables .keys .room)
+
+same-length-8 : tie.Need-same-length-8
+same-length-8 c = c .before .before .before .before .before .before .before .before .before .before .before .before .before .before .before .coalesce-ranges .kept .1 .1 .0 ∙ c .before .before .before .before .before .before .before .before .before .before .before .before .before .before .before .before .before .before .before .before .before .before .before .before .before .before .before .before .before .before .before .resolve-name .kept .1 .1 .0
+
+same-length-9 : tie.Need-same-length-9
+same-length-9 c = search needs
+
+same-length-10 : tie.Need-same-length-10
+same-length-10 c = search needs
+
+returns-6 : tie.Need-returns-6
+returns-6 c = let s = c .before .before .before .before .before .before .before .before .before .before .before .before .before .before .before .before .before .before .before .before .before .before .before .before .before .before .before .before .before .before .before .before .before .before .before .before .before .before .before .before .before in noded-at _ (c .before .read-u16 .ensures) (inline-kept _ _ _ (omega arith) (omega arith) (s .pre .0) (s .pre .1 .0) (s .pre .1 .1 .0) (c .before .before .before .before .before .before .before .before .before .before .before .before .before .before .before .before .before .before .before .before .before .before .before .before .before .before .before .before .before .before .before .resolve-name .ensures) (c .before .before .before .before .before .before .before .before .before .before .before .before .before .before .before .before .before .before .before .before .before .before .before .before .before .before .before .before .if1 .left) (named (c .before .before .before .before .before .before .before .before .before .before .before .before .before .before .before .before .before .before .before .before .before .before .before .before .before .before .before .before .before .before .before .resolve-name .ensures) (c .before .before .before .before .before .before .before .before .before .before .before .before .before .before .before .before .before .before .before .before .before .before .before .before .before .before .before .found-name .ensures) (c .before .before .before .before .before .before .before .before .before .before .before .before .before .before .before .before .before .before .before .before .before .before .before .before .before .enum-told .given .1)) (c .before .before .before .before .before .before .before .before .before .before .before .before .before .before .before .before .before .before .before .before .before .before .before .before .next-own .ensures) (c .before .before .before .before .before .before .before .before .before .before .before .before .before .before .before .before .before .before .before .before .before .before .enum-told4 .given .1) (top-here (c .before .before .before .before .before .before .before .before .before .before .before .before .before .before .before .before .before .before .before .before)) (c .before .before .before .before .before .before .before .before .before .before .before .before .before .before .before .coalesce-ranges .ensures) (c .before .before .before .before .before .before .before .before .keep-node .ensures))
 
 pub make-inline-node-spec : {M : Type 1} → statement M
 make-inline-node-spec =
@@ -142,7 +194,10 @@ make-inline-node-spec =
     same-length-3
     returns-3
     enum-told-4
-    top-of-requires
+    sub-f
+    mul-f
+    element-copy-out-f
+    cast-top
     add-coalesce-ranges
     mul-coalesce-ranges
     add-coalesce-ranges-2
@@ -156,4 +211,16 @@ make-inline-node-spec =
     same-length-5
     same-length-6
     same-length-7
-    returns-5)
+    returns-5
+    add-read-u16
+    read-u16-requires
+    cast-t49
+    mul-t35
+    element-set-from-o
+    add-o
+    add-o-2
+    add-t42
+    same-length-8
+    same-length-9
+    same-length-10
+    returns-6)
