@@ -29,7 +29,7 @@ use Rattle.imports.specs.Tree.{Descendants, DetailContext, collectEntries}
 use Rattle.dies.specs.Details.{DetailsIn, EntriesKnown, contextIn, entriesFrom}
 use Rattle.dies.specs.DetailState.{rangesLater, entriesLeft, walkOf, Fits, leadBytes, newBytes, walked, Advances, stepEntry}
 use Rattle.dies.proofs.CallLaws.{warn-none}
-use Rattle.dies.proofs.EntryWalkLaws.{below-none, below-cons, below-stop, from-end, from-cut, from-unit, from-entry, from-other, left-other, later-other, known-here, known-entry, known-other}
+use Rattle.dies.proofs.EntryWalkLaws.{below-cons, from-entry, from-other, none-end, none-cut, none-unit, none-stop, entry-room, left-other, later-other, known-here, known-entry, known-other}
 use Rattle.dies.proofs.WalkStateLaws.{details-kept, context-kept, fits-less}
 use Rattle.dies.proofs.NodeStepLaws.{each-append, warnings-append, advance-refused}
 
@@ -120,14 +120,14 @@ module _ {main supplementary name : List ℕ} {d : Details} {p depth : ℕ} {w�
 
   module _ {r : Step} (reads : r ≡ stepAt main at) where
     pub collecting-end : r ≡ Step.End → Advances (collectEntries (contextIn main supplementary w₀ d) (descendantsOf depth (entriesFrom main p))) main supplementary name d 0 0 w₀ t₀ u₀ s₀ w t u s
-    collecting-end e = ended (ap (descendantsOf depth) (from-end main at r reads e) ∙ below-none depth)
+    collecting-end e = ended (none-end main at r reads depth e)
 
     pub collecting-cut : r ≡ Step.Cut → Advances (collectEntries (contextIn main supplementary w₀ d) (descendantsOf depth (entriesFrom main p))) main supplementary name d 0 0 w₀ t₀ u₀ s₀ w t u s
-    collecting-cut e = ended (ap (descendantsOf depth) (from-cut main at r reads e) ∙ below-none depth)
+    collecting-cut e = ended (none-cut main at r reads depth e)
 
     module _ {tag start len next : ℕ} (e : r ≡ Step.Field tag start len next) where
       pub collecting-unit : tag ≡ 0x10 → Advances (collectEntries (contextIn main supplementary w₀ d) (descendantsOf depth (entriesFrom main p))) main supplementary name d 0 0 w₀ t₀ u₀ s₀ w t u s
-      collecting-unit is = ended (ap (descendantsOf depth) (from-unit main at r reads tag start len next e is) ∙ below-none depth)
+      collecting-unit is = ended (none-unit main at r reads tag start len next e depth is)
 
       pub collecting-other : (tag ≡ 0x10 → ⊥) → (tag ≡ 0x17 → ⊥) → Collecting main supplementary name d p depth w₀ t₀ u₀ s₀ w t u s next
       collecting-other h k = record {
@@ -151,10 +151,7 @@ module _ {main supplementary name : List ℕ} {d : Details} {p depth : ℕ} {w�
 
       module _ (is : tag ≡ 0x17) where
         pub entry-fields : start + 12 ≤ length main
-        entry-fields =
-            let w = field-within main at r tag start len next reads e in
-            let l = placed-entry main at r tag start len next (C .placed) reads e is in
-            omega arith
+        entry-fields = entry-room main at r reads tag start len next e (C .placed) is
 
         pub entry-known : EntryKnown main (d .unit) at
         entry-known = known-here main at r reads tag start len next e (C .known) is
@@ -170,7 +167,7 @@ module _ {main supplementary name : List ℕ} {d : Details} {p depth : ℕ} {w�
           depth-is = entry-depth-is main at r tag start len next reads e (C .placed) is ∙ sym en
 
           pub collecting-stop : n ≤ depth → Advances (collectEntries (contextIn main supplementary w₀ d) (descendantsOf depth (entriesFrom main p))) main supplementary name d 0 0 w₀ t₀ u₀ s₀ w t u s
-          collecting-stop h = ended (ap (descendantsOf depth) (from-entry main at r reads tag start len next e is) ∙ below-stop depth (entryHere main at) (entriesFrom main next) (omega (arith, depth-is)))
+          collecting-stop h = ended (none-stop main at r reads tag start len next e (C .placed) is depth en h)
 
           module _ (h : depth < n) {w′ t′ u′ : List ℕ} {s′ : Walk}
               (A : Advances (stepEntry (contextIn main supplementary w d) (entryHere main at)) main supplementary name d (rangesLater main (at + 15)) (entriesLeft main (at + 15)) w t u s w′ t′ u′ s′) where

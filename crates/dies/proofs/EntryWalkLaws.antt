@@ -1,5 +1,5 @@
 -- The entries of a unit by place: what the field at a place adds to them, which of them lie below a subprogram, and how many ranges and entries are left. Assumes nothing.
-use mathlib.Core.Path.{_≡_, refl, ap}
+use mathlib.Core.Path.{_≡_, refl, ap, _∙_}
 use mathlib.Core.Bool.{Bool, not, _||_}
 use mathlib.Core.List.{List, [], _∷_}
 use Prim.Native.Nat.{ℕ, _+_, _≤_, _<_}
@@ -12,9 +12,12 @@ use Rattle.tlv.specs.Lists.{Any, All, takeWhile, dropWhile}
 use Rattle.tlv.specs.Fields.{Field, more, fields, wholeFields, grouped, payloads}
 use Rattle.tlv.specs.Model.{Entry}
 use Rattle.tlv.specs.Cursor.{stepAt}
-use Rattle.tlv.specs.Checked.{fieldIn}
+use Rattle.tlv.specs.Bytes.{leAt}
+use Rattle.tlv.specs.Checked.{fieldIn, Placed}
 use Rattle.tlv.specs.Places.{ownFields, unitFields, entryHere, unitHere, behind, entryIndex}
 use Rattle.tlv.proofs.CursorLaws.{fields-at, fields-field, field-within, payload-length}
+use Rattle.tlv.proofs.PlacePromises.{placed-entry}
+use Rattle.tlv.proofs.EntryPlaceLaws.{entry-depth-is}
 use Rattle.tlv.proofs.IndexLaws.{index-entry, index-other}
 use Rattle.tlv.proofs.IndexModel.{either}
 use Rattle.references.specs.Tables.{EntryKnown}
@@ -80,6 +83,12 @@ module _ (s : List ℕ) (p : ℕ) (r : Step) (reads : r ≡ stepAt s p) where
   unfolding entriesFrom unitFields wholeFields takeWhile grouped
   from-cut e = rw (fields-at s p, ← reads, e)
 
+  pub none-end : (depth : ℕ) → r ≡ Step.End → descendantsOf depth (entriesFrom s p) ≡ []
+  none-end depth e = ap (descendantsOf depth) (from-end e) ∙ below-none depth
+
+  pub none-cut : (depth : ℕ) → r ≡ Step.Cut → descendantsOf depth (entriesFrom s p) ≡ []
+  none-cut depth e = ap (descendantsOf depth) (from-cut e) ∙ below-none depth
+
   module _ (t start len next : ℕ) (e : r ≡ Step.Field t start len next) where
     here : fields (drop p s) ≡ more (fieldIn s t start len) (fields (drop next s))
     here = fields-field s p r t start len next reads e
@@ -95,6 +104,19 @@ module _ (s : List ℕ) (p : ℕ) (r : Step) (reads : r ≡ stepAt s p) where
     pub from-other : (t ≡ 0x10 → ⊥) → (t ≡ 0x17 → ⊥) → entriesFrom s p ≡ entriesFrom s next
     unfolding entriesFrom unitFields wholeFields takeWhile grouped
     from-other h k = rw (here, ne-eqb t 0x10 h, ne-eqb t 0x17 k)
+
+    pub none-unit : (depth : ℕ) → t ≡ 0x10 → descendantsOf depth (entriesFrom s p) ≡ []
+    none-unit depth is = ap (descendantsOf depth) (from-unit is) ∙ below-none depth
+
+    module _ (h : Placed s p) (is : t ≡ 0x17) where
+      pub entry-room : start + 12 ≤ length s
+      entry-room =
+          let w = field-within s p r t start len next reads e in
+          let l = placed-entry s p r t start len next h reads e is in
+          omega arith
+
+      pub none-stop : (depth : ℕ) {n : ℕ} → n ≡ leAt 2 s (start + 8) → n ≤ depth → descendantsOf depth (entriesFrom s p) ≡ []
+      none-stop depth en l = ap (descendantsOf depth) (from-entry is) ∙ below-stop depth (entryHere s p) (entriesFrom s next) (omega (arith, entry-depth-is s p r t start len next reads e h is))
 
     -- ---- how many are left
 

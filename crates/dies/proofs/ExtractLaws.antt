@@ -7,12 +7,14 @@ use native.Mathlib.Omega.{arith}
 use lib.ListN.{length}
 use Rattle.tlv.specs.declared.model.AddressRange.{AddressRange}
 use Rattle.tlv.specs.Outcome.{refused, done, _>>=_}
+use Rattle.tlv.specs.Lists.{takeWhile, dropWhile}
 use Rattle.tlv.specs.Buffer.{Put, top}
 use Rattle.tlv.specs.Model.{Entry}
 use Rattle.tlv.specs.Output.{InlineNode, eachOf, nodeBytes}
 use Rattle.tlv.specs.Table.{Kept}
 use Rattle.tlv.proofs.BufferLaws.{_then_, put-none}
 use Rattle.tlv.proofs.TableLaws.{kept-refl, kept-trans}
+use Rattle.tlv.proofs.IndexModel.{either}
 use Rattle.dies.specs.declared.dies.Details.{Details}
 use Rattle.dies.specs.declared.dies.Walk.{Walk}
 use Rattle.dies.specs.declared.dies.Extracted.{Extracted}
@@ -20,7 +22,7 @@ use Rattle.dies.specs.declared.frames.Open.{Open}
 use Rattle.dies.specs.FrameStack.{Empty}
 use Rattle.imports.specs.Import.{descendantsOf, rooted}
 use Rattle.dies.specs.RangeTable.{PutRange}
-use Rattle.imports.specs.Tree.{Descendants, DetailContext, finish, collectEntries, noDescendants, collectDescendants, extractSubprogramDetails}
+use Rattle.imports.specs.Tree.{Descendants, DetailContext, finishInlines, finish, collectEntries, noDescendants, collectDescendants, extractSubprogramDetails}
 use Rattle.dies.specs.Details.{DetailsIn, EntriesKnown, contextIn, entriesFrom, Extracts}
 use Rattle.dies.specs.DetailState.{originName, rangesLater, entriesLeft, walkOf, Fits, newBytes, walked, Advances, Shut, SitesPut, Descends}
 use Rattle.dies.proofs.RangeTableLaws.{range-there}
@@ -120,6 +122,11 @@ module _ {main supplementary name w w₁ : List ℕ} {d : Details} {at warned : 
 
 -- ---- the switches
 
+-- no entry, and so nothing to close
+none-below : (c : DetailContext) → extractSubprogramDetails c [] ≡ done noDescendants
+unfolding extractSubprogramDetails collectDescendants collectEntries finish finishInlines takeWhile dropWhile _>>=_
+none-below c = either (c .includeInlines || c .includeCallSites) (λ y. rw y) (λ n. rw n)
+
 module _ {main supplementary name w : List ℕ} {d : Details} {p depth at warned : ℕ} {t u : List ℕ} where
   switched : {w′ t′ u′ : List ℕ} (r : Extracted) → (d .«include_inlines» || d .«include_call_sites») ≡ true → Descends main supplementary w w′ d name p depth at warned t t′ u u′ r
       → Extracts main supplementary w w′ d name p depth at warned t t′ u u′ r
@@ -136,10 +143,20 @@ module _ {main supplementary name w : List ℕ} {d : Details} {p depth at warned
   pub extracts-sites : {w′ t′ u′ : List ℕ} {r : Extracted} → d .«include_inlines» ≡ false → d .«include_call_sites» ≡ true → Descends main supplementary w w′ d name p depth at warned t t′ u u′ r → Extracts main supplementary w w′ d name p depth at warned t t′ u u′ r
   extracts-sites {r = r} off on R = switched r (rw (off, on)) R
 
-  pub extracts-off : d .«include_inlines» ≡ false → d .«include_call_sites» ≡ false → at ≤ top → warned ≤ top → length t < top → length u < top
+  -- nothing is laid where the definition finds nothing
+  nothing : extractSubprogramDetails (contextIn main supplementary w d) (descendantsOf depth (entriesFrom main p)) ≡ done noDescendants → at ≤ top → warned ≤ top → length t < top → length u < top
       → Extracts main supplementary w w d name p depth at warned t t u u (Extracted.Details 0 at warned)
-  unfolding extractSubprogramDetails eachOf
-  extracts-off a b h k small tiny = record {
-    is = record { descendants = noDescendants; is = rw (a, b); count = refl; put = put-none h small; warns = warn-none k tiny };
+  unfolding eachOf
+  nothing is h k small tiny = record {
+    is = record { descendants = noDescendants; is = is; count = refl; put = put-none h small; warns = warn-none k tiny };
     rest = kept-refl w (d .ranges) (walked main supplementary d);
   }
+
+  pub extracts-off : d .«include_inlines» ≡ false → d .«include_call_sites» ≡ false → at ≤ top → warned ≤ top → length t < top → length u < top
+      → Extracts main supplementary w w d name p depth at warned t t u u (Extracted.Details 0 at warned)
+  unfolding extractSubprogramDetails
+  extracts-off a b = nothing (rw (a, b))
+
+  pub extracts-none : descendantsOf depth (entriesFrom main p) ≡ [] → at ≤ top → warned ≤ top → length t < top → length u < top
+      → Extracts main supplementary w w d name p depth at warned t t u u (Extracted.Details 0 at warned)
+  extracts-none e = nothing (ap (extractSubprogramDetails (contextIn main supplementary w d)) e ∙ none-below (contextIn main supplementary w d))

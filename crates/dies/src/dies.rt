@@ -1,6 +1,8 @@
 // Inline trees and call sites of one function (the Rust's convert/dwarf/dies.rs).
 ghost use mathlib.Core.Path.{_≡_};
 ghost use Prim.Native.Nat.{_+_, _*_, _≤_, _<_};
+ghost use mathlib.Core.Bool.{false};
+ghost use mathlib.Core.List.{[]};
 ghost use lib.Dec.{leb};
 ghost use lib.ListN.{length};
 ghost use Rattle.tlv.specs.Buffer.{Put};
@@ -747,8 +749,37 @@ fn collect_descendants<'a>(
     }
 }
 
+// Whether an entry deeper than depth may follow place p.
+fn has_entries(main: &[u8], p: usize, depth: u16) -> bool
+    requires { ⌜ Placed (now main) p ⌝ }
+    ensures { λ r. ⌜ (r ≡ false → descendantsOf depth (entriesFrom (now (main .entry)) p) ≡ []) ⌝ }
+{
+    match tlv::fields::field_at(main, p) {
+        Step::End => {
+            return false;
+        }
+        Step::Cut => {
+            return false;
+        }
+        Step::Field {
+            tag,
+            start,
+            len: _,
+            next: _,
+        } => {
+            if tag == 0x10 {
+                return false;
+            }
+            if tag == 0x17 {
+                return depth < tlv::bytes::read_u16(main, start + 8);
+            }
+            true
+        }
+    }
+}
+
 // Writes the nodes and the call sites of the function of a name, from the entries that follow place p and are deeper than depth.
-// With both switches off nothing is read.
+// Where no such entry follows, and with both switches off, there is nothing to set up.
 pub fn extract_subprogram_details<'a>(
     main: &'a [u8],
     supplementary: &'a [u8],
@@ -768,6 +799,13 @@ pub fn extract_subprogram_details<'a>(
     requires { ⌜ 10 + length (now name) < 65536 ⌝ }
     ensures { λ r. ⌜ Extracts (now (main .entry)) (now (supplementary .entry)) (now (work .entry)) (now (work .exit)) d (now (name .entry)) p depth at warned (now (records .entry)) (now (records .exit)) (now (warnings .entry)) (now (warnings .exit)) r ⌝ }
 {
+    if !has_entries(main, p, depth) {
+        return Extracted::Details {
+            nodes: 0,
+            at: at,
+            warned: warned,
+        };
+    }
     if d.include_inlines {
         return collect_descendants(
             main,
