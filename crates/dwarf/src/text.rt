@@ -24,7 +24,7 @@ pub fn index_text(main: &[u8], place: usize, work: &mut [u8], base: usize) -> us
     let mut p = place + 21;
     let mut n: usize = 0;
     loop {
-        match tlv::access::next_own(main, p, 0x12) {
+        match tlv::access::next_before_rows(main, p, 0x12) {
             Own::Missing => {
                 return n;
             }

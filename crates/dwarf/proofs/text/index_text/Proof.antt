@@ -20,8 +20,8 @@ add-p c = let w = text-within (c .before .before .pre .0) (c .before .before .pr
 loop-holds : tie.Need-loop-holds Inv-loop μ-loop
 loop-holds c = search listing-start
 
-next-own-requires : tie.Need-next-own-requires Inv-loop μ-loop
-next-own-requires c κs = search needs
+next-before-rows-requires : tie.Need-next-before-rows-requires Inv-loop μ-loop
+next-before-rows-requires c κs = search needs
 
 enum-told : tie.Need-enum-told Inv-loop μ-loop
 enum-told c = search needs
@@ -64,7 +64,7 @@ index-text-spec =
     μ-loop
     add-p
     loop-holds
-    next-own-requires
+    next-before-rows-requires
     enum-told
     same-length
     returns
