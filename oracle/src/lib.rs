@@ -48,7 +48,7 @@ use stand_in::{validation, writer};
 
 mod answer;
 mod case;
-mod compose;
+pub mod compose;
 pub mod coverage;
 pub mod document;
 pub mod files;
@@ -64,5 +64,5 @@ pub mod search_cases;
 mod tests;
 mod trace;
 
-pub use answer::{Answer, answer};
+pub use answer::{Answer, answer, finished, inputs, work_needed};
 pub use case::Case;

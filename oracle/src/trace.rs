@@ -20,7 +20,11 @@ thread_local! {
     static EVENTS: RefCell<Option<Vec<Event>>> = const { RefCell::new(None) };
 }
 
+/// With the feature `untraced` nothing is kept: the Rust is timed without it.
 pub fn trace(event: impl FnOnce() -> Event) {
+    if cfg!(feature = "untraced") {
+        return;
+    }
     EVENTS.with_borrow_mut(|events| {
         if let Some(events) = events {
             events.push(event());

@@ -1,14 +1,33 @@
 //! hashbrown: a table whose caller hashes.
 
 use std::collections::HashMap;
+use std::hash::{BuildHasherDefault, DefaultHasher, Hasher};
 
-pub type DefaultHashBuilder = std::hash::BuildHasherDefault<std::hash::DefaultHasher>;
+pub type DefaultHashBuilder = BuildHasherDefault<DefaultHasher>;
 
-pub struct HashTable<T>(HashMap<u64, Vec<T>>);
+/// The caller's hash as it is.
+#[derive(Default)]
+struct Given(u64);
+
+impl Hasher for Given {
+    fn finish(&self) -> u64 {
+        self.0
+    }
+
+    fn write(&mut self, _: &[u8]) {
+        unreachable!("only whole numbers are hashed");
+    }
+
+    fn write_u64(&mut self, hash: u64) {
+        self.0 = hash;
+    }
+}
+
+pub struct HashTable<T>(HashMap<u64, Vec<T>, BuildHasherDefault<Given>>);
 
 impl<T> HashTable<T> {
     pub fn new() -> Self {
-        Self(HashMap::new())
+        Self(HashMap::default())
     }
 
     pub fn find(&self, hash: u64, mut equal: impl FnMut(&T) -> bool) -> Option<&T> {

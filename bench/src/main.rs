@@ -1,0 +1,278 @@
+//! Times the proved import beside the Rust importer, on the same inputs in one process. The answers are compared before anything is timed.
+
+use std::env;
+use std::hint::black_box;
+use std::path::Path;
+use std::process::ExitCode;
+use std::time::{Duration, Instant};
+
+use oracle::files::Source;
+use oracle::{Case, answer, finished, inputs};
+
+mod sheets;
+
+const USAGE: &str = "
+bench corpus CASES [TURNS]          the cases of a file, each by itself and all together
+bench scaled [TURNS]                each family, from 1,024 fields to 65,536
+bench worst [TURNS [PART]]          the worst that the limits allow, or those of them that have PART in their name
+bench run ours|rust FAMILY FIELDS TURNS     one of them alone, for a profiler; FAMILY may be one of the worst, FIELDS is then not read
+bench run ours|rust corpus CASES TURNS      the cases of a file";
+
+/// The least times of some turns.
+#[derive(Clone, Copy)]
+struct Times {
+    ours: Duration,
+    /// The Rust's parsing of the input, which checks the grammar.
+    parse: Duration,
+    /// The Rust's import_unit over the parsed input.
+    import: Duration,
+    /// A copy of the inputs.
+    copy: Duration,
+}
+
+impl Times {
+    const NONE: Self = Self { ours: Duration::ZERO, parse: Duration::ZERO, import: Duration::ZERO, copy: Duration::ZERO };
+
+    fn least(self, other: Self) -> Self {
+        Self {
+            ours: self.ours.min(other.ours),
+            parse: self.parse.min(other.parse),
+            import: self.import.min(other.import),
+            copy: self.copy.min(other.copy),
+        }
+    }
+
+    fn plus(self, other: Self) -> Self {
+        Self {
+            ours: self.ours + other.ours,
+            parse: self.parse + other.parse,
+            import: self.import + other.import,
+            copy: self.copy + other.copy,
+        }
+    }
+
+    fn together(self) -> Duration {
+        self.parse + self.import
+    }
+}
+
+/// The buffers of a call, as long as its outputs need.
+struct Buffers {
+    work: Vec<u8>,
+    outputs: [Vec<u8>; 3],
+    copied: Vec<u8>,
+    refused: bool,
+}
+
+fn main() -> ExitCode {
+    let arguments: Vec<String> = env::args().skip(1).collect();
+    match run(&arguments) {
+        Ok(()) => ExitCode::SUCCESS,
+        Err(message) => {
+            eprintln!("bench: {message}");
+            ExitCode::FAILURE
+        }
+    }
+}
+
+fn run(arguments: &[String]) -> Result<(), String> {
+    let words: Vec<&str> = arguments.iter().map(String::as_str).collect();
+    match words[..] {
+        ["corpus", cases, ref turns @ ..] => corpus(&read(cases)?, self::turns(turns, 9)?),
+        ["scaled", ref turns @ ..] => scaled(self::turns(turns, 9)?),
+        ["worst", turns, part] => worst(self::turns(&[turns], 3)?, part),
+        ["worst", ref turns @ ..] => worst(self::turns(turns, 3)?, ""),
+        ["run", side, "corpus", cases, ref turns @ ..] => alone(side, &read(cases)?, self::turns(turns, 1)?),
+        ["run", side, family, fields, ref turns @ ..] => {
+            let fields = fields.parse().map_err(|_| format!("{fields} is no number"))?;
+            let known = sheets::FAMILIES.iter().find(|known| known.0 == family).map(|known| known.1(fields));
+            let known = known.or_else(|| sheets::WORST.iter().find(|known| known.0 == family).map(|known| known.1()));
+            alone(side, &[known.ok_or_else(|| format!("{family} is no family"))?], self::turns(turns, 1)?)
+        }
+        _ => Err(format!("these are the commands:{USAGE}")),
+    }
+}
+
+fn turns(words: &[&str], otherwise: u32) -> Result<u32, String> {
+    match words {
+        [] => Ok(otherwise),
+        [word] => word.parse().ok().filter(|&turns| turns > 0).ok_or_else(|| format!("{word} is no number of turns")),
+        _ => Err(format!("these are the commands:{USAGE}")),
+    }
+}
+
+/// The cases of a file, with work and buffers as long as each needs.
+fn read(path: &str) -> Result<Vec<Case>, String> {
+    let mut source = Source::open(Path::new(path))?;
+    let mut cases = Vec::new();
+    while let Some(mut case) = source.case()? {
+        case.work = oracle::work_needed(sheets::fields(&case.main) + sheets::fields(&case.supplementary), case.program.len());
+        (case.records, case.files, case.warnings) = (u32::MAX, u32::MAX, u32::MAX);
+        cases.push(case);
+    }
+    Ok(cases)
+}
+
+/// Buffers for a case, whose answers are the same on both sides.
+fn buffers(case: &Case) -> Result<Buffers, String> {
+    let expected = answer(case);
+    let outputs = [&expected.records, &expected.files, &expected.warnings].map(|bytes| vec![0; bytes.len()]);
+    let copied = vec![0; case.main.len() + case.supplementary.len() + case.program.len()];
+    let mut buffers = Buffers { work: vec![0; case.work as usize], outputs, copied, refused: expected.refusal != 0 };
+    let (refusal, statistics) = match ours(case, &mut buffers) {
+        Ok(done) => (0, [done.functions, done.line_rows, done.inline_nodes, done.rejected_ranges]),
+        Err(refusal) => (refusal.number(), [0; 4]),
+    };
+    let same = refusal == expected.refusal && statistics == expected.statistics;
+    if !same || buffers.outputs != [expected.records, expected.files, expected.warnings] {
+        return Err(format!("the answers differ: refusal {refusal}, the Rust's {}", expected.refusal));
+    }
+    Ok(buffers)
+}
+
+fn ours(case: &Case, buffers: &mut Buffers) -> Result<pezgok::Finished, pezgok::Refusal> {
+    let [records, files, warnings] = &mut buffers.outputs;
+    pezgok::import(
+        pezgok::Inputs { main: &case.main, supplementary: &case.supplementary, program: &case.program },
+        pezgok::Options { ordinal: case.ordinal, inlines: case.inlines, call_sites: case.call_sites, first_file: case.first_file },
+        pezgok::Buffers { work: &mut buffers.work, records, files, warnings },
+    )
+}
+
+fn clear(buffers: &mut Buffers) {
+    buffers.work.fill(0);
+    buffers.outputs.iter_mut().for_each(|output| output.fill(0));
+}
+
+fn timed<T>(action: impl FnOnce() -> T) -> (Duration, T) {
+    let start = Instant::now();
+    let value = black_box(action());
+    (start.elapsed(), value)
+}
+
+/// One turn of both sides; the buffers are cleared before each. What the Rust gives back is dropped outside its time.
+fn turn(case: &Case, buffers: &mut Buffers) -> Times {
+    clear(buffers);
+    let (ours, _) = timed(|| ours(black_box(case), buffers));
+    clear(buffers);
+    let (parse, parsed) = timed(|| inputs(black_box(case)));
+    let (import, _) = match &parsed {
+        Ok((dwarf, ordinal)) => timed(|| Some(finished(black_box(case), dwarf, *ordinal))),
+        Err(_) => (Duration::ZERO, None),
+    };
+    let (copy, ()) = timed(|| {
+        let (main, rest) = buffers.copied.split_at_mut(case.main.len());
+        let (supplementary, program) = rest.split_at_mut(case.supplementary.len());
+        main.copy_from_slice(&case.main);
+        supplementary.copy_from_slice(&case.supplementary);
+        program.copy_from_slice(&case.program);
+    });
+    Times { ours, parse, import, copy }
+}
+
+fn measured(case: &Case, buffers: &mut Buffers, turns: u32) -> Times {
+    let first = turn(case, buffers);
+    (1..turns).fold(first, |least, _| least.least(turn(case, buffers)))
+}
+
+/// One side alone, and nothing printed. Refused cases are passed over.
+fn alone(side: &str, cases: &[Case], turns: u32) -> Result<(), String> {
+    for case in cases {
+        let mut buffers = buffers(case)?;
+        if buffers.refused {
+            continue;
+        }
+        for _ in 0..turns {
+            match side {
+                "ours" => _ = black_box(ours(black_box(case), &mut buffers)),
+                "rust" => {
+                    if let Ok((dwarf, ordinal)) = inputs(black_box(case)) {
+                        let _ = black_box(finished(black_box(case), &dwarf, ordinal));
+                    }
+                }
+                _ => return Err(format!("{side} is no side")),
+            }
+        }
+    }
+    Ok(())
+}
+
+// ---- tables
+
+fn micros(time: Duration) -> String {
+    format!("{:.1}", time.as_secs_f64() * 1e6)
+}
+
+fn ratio(one: Duration, other: Duration) -> String {
+    format!("{:.2}", one.as_secs_f64() / other.as_secs_f64())
+}
+
+const COLUMNS: &str = "ours | the Rust's import_unit | its parsing | both | ours to import_unit | ours to both | copy of the inputs";
+
+fn columns(times: Times) -> String {
+    let Times { ours, parse, import, copy } = times;
+    let both = times.together();
+    [micros(ours), micros(import), micros(parse), micros(both), ratio(ours, import), ratio(ours, both), micros(copy)].join(" | ")
+}
+
+fn head(first: &str, last: &str) {
+    println!("| {first} | {COLUMNS}{last} |");
+    println!("|{}", "---|".repeat(first.split('|').count() + COLUMNS.split('|').count() + last.split('|').count() - 1));
+}
+
+/// Finished cases only: a refused one ends early on both sides.
+fn corpus(cases: &[Case], turns: u32) -> Result<(), String> {
+    let (mut sum, mut count, mut slower, mut slower_than_both) = (Times::NONE, 0, 0, 0);
+    let mut worst = (0.0, 0);
+    for (place, case) in cases.iter().enumerate() {
+        let mut buffers = buffers(case)?;
+        if buffers.refused {
+            continue;
+        }
+        let times = measured(case, &mut buffers, turns);
+        sum = sum.plus(times);
+        count += 1;
+        slower += u32::from(times.ours > times.import);
+        slower_than_both += u32::from(times.ours > times.together());
+        let quotient = times.ours.as_secs_f64() / times.together().as_secs_f64();
+        if quotient > worst.0 {
+            worst = (quotient, place);
+        }
+    }
+    head("units", "");
+    println!("| {count} | {} |", columns(sum));
+    println!();
+    println!(
+        "{slower} units take longer than the Rust's import_unit, {slower_than_both} longer than both; the most is {:.2} times both (unit {})",
+        worst.0, worst.1
+    );
+    Ok(())
+}
+
+fn scaled(turns: u32) -> Result<(), String> {
+    for (name, family) in sheets::FAMILIES {
+        println!("\n{name}\n");
+        head("fields", " | growth, ours | growth, the Rust's");
+        let mut before: Option<Times> = None;
+        for doubling in 0..7 {
+            let fields = 1024 << doubling;
+            let case = family(fields);
+            let times = measured(&case, &mut buffers(&case)?, turns);
+            let growth = |of: fn(Times) -> Duration| before.map_or_else(|| "-".to_owned(), |before| ratio(of(times), of(before)));
+            let number = sheets::fields(&case.main) + sheets::fields(&case.supplementary);
+            println!("| {number} | {} | {} | {} |", columns(times), growth(|times| times.ours), growth(Times::together));
+            before = Some(times);
+        }
+    }
+    Ok(())
+}
+
+fn worst(turns: u32, part: &str) -> Result<(), String> {
+    head("input | fields", "");
+    for (name, input) in sheets::WORST.into_iter().filter(|(name, _)| name.contains(part)) {
+        let case = input();
+        let times = measured(&case, &mut buffers(&case)?, turns);
+        println!("| {name} | {} | {} |", sheets::fields(&case.main) + sheets::fields(&case.supplementary), columns(times));
+    }
+    Ok(())
+}
