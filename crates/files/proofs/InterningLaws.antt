@@ -49,9 +49,9 @@ unfolding filesFrom
 files-of-unit s p U = unit-files s p (stepAt s p) 0x10 (p + 3) 18 (p + 21) refl (U .is)
 
 -- the place behind the unit's field
-pub place-small : {main supplementary w : List ℕ} {t : StoredFiles} → FilesIn main supplementary w t → (source : DebugSource) (p : ℕ) → UnitPlaced (sourceIn main supplementary source) p → p + 21 < 2 ^ 32
-place-small {main} {supplementary} F source p U =
-    let l : length (sourceIn main supplementary source) < 2 ^ 32 = source-small source F refl in
+pub place-small : {main supplementary w s : List ℕ} {t : StoredFiles} → FilesIn main supplementary w t → (source : DebugSource) → s ≡ sourceIn main supplementary source → (p : ℕ) → UnitPlaced s p → p + 21 < 2 ^ 32
+place-small {s = s} F source e p U =
+    let l : length s < 2 ^ 32 = source-small source F e in
     omega (arith, unit-within U)
 
 abbrev spanned : ℕ → ℕ → Span

@@ -1,4 +1,5 @@
 // A unit's files join the table (the Rust's intern_file and intern_header_files).
+ghost use mathlib.Core.Path.{_≡_};
 ghost use Prim.Native.Nat.{_+_, _≤_};
 ghost use lib.ListN.{length};
 ghost use Rattle.tlv.specs.Places.{unitHere};
@@ -15,7 +16,7 @@ use crate::pieces::Span;
 use crate::pieces::file_pieces;
 use crate::store::AddedFile;
 use crate::store::StoredFiles;
-use crate::store::add_file;
+use crate::store::add_from;
 use tlv::model::DebugSource;
 
 // The table with a file in it and the file's number; that the file has no path; or why it was refused.
@@ -77,6 +78,49 @@ pub fn next_file(
     }
 }
 
+// Interns a file of a unit's header of s, the sheet of the source.
+fn intern_from(
+    main: &[u8],
+    supplementary: &[u8],
+    s: &[u8],
+    source: DebugSource,
+    unit: FileUnit,
+    file: Span,
+    work: &mut [u8],
+    files: &mut [u8],
+    t: StoredFiles,
+) -> InternedFile
+    requires { ⌜ FilesIn (now main) (now supplementary) (now work) t ⌝ }
+    requires { ⌜ now s ≡ sourceIn (now main) (now supplementary) source ⌝ }
+    requires { ⌜ FileUnitIn (now s) (now work) unit ⌝ }
+    requires { ⌜ FileSpanIn (now s) file ⌝ }
+    requires { ⌜ OfUnit (now s) (unit .place) file ⌝ }
+    requires { ⌜ Listed (now main) (now supplementary) (unitHere (now s) (unit .place)) (headerHere (now s) (unit .place)) ⌝ }
+    ensures { λ r. ⌜ Interns (now (main .entry)) (now (supplementary .entry)) (now (work .entry)) (now (work .exit)) (now (files .entry)) (now (files .exit)) t (now (s .entry)) unit file r ⌝ }
+{
+    match file_pieces(s, work, unit, file) {
+        Named::Failed => {
+            return InternedFile::Refused(6);
+        }
+        Named::Unnamed => {
+            return InternedFile::Unnamed;
+        }
+        Named::Pieces(p) => {
+            match add_from(main, supplementary, s, source, p, work, files, t) {
+                AddedFile::Full => {
+                    return InternedFile::Refused(15);
+                }
+                AddedFile::Number { table, number } => {
+                    return InternedFile::Number {
+                        table: table,
+                        number: number,
+                    };
+                }
+            }
+        }
+    }
+}
+
 // Interns a file of a unit's header.
 pub fn intern_file(
     main: &[u8],
@@ -95,25 +139,32 @@ pub fn intern_file(
     requires { ⌜ Listed (now main) (now supplementary) (unitHere (sourceIn (now main) (now supplementary) source) (unit .place)) (headerHere (sourceIn (now main) (now supplementary) source) (unit .place)) ⌝ }
     ensures { λ r. ⌜ Interns (now (main .entry)) (now (supplementary .entry)) (now (work .entry)) (now (work .exit)) (now (files .entry)) (now (files .exit)) t (sourceIn (now (main .entry)) (now (supplementary .entry)) source) unit file r ⌝ }
 {
-    match pieces_in(main, supplementary, source, work, unit, file) {
-        Named::Failed => {
-            return InternedFile::Refused(6);
+    match source {
+        DebugSource::Main => {
+            return intern_from(
+                main,
+                supplementary,
+                main,
+                source,
+                unit,
+                file,
+                work,
+                files,
+                t,
+            );
         }
-        Named::Unnamed => {
-            return InternedFile::Unnamed;
-        }
-        Named::Pieces(p) => {
-            match add_file(main, supplementary, source, p, work, files, t) {
-                AddedFile::Full => {
-                    return InternedFile::Refused(15);
-                }
-                AddedFile::Number { table, number } => {
-                    return InternedFile::Number {
-                        table: table,
-                        number: number,
-                    };
-                }
-            }
+        DebugSource::Supplementary => {
+            return intern_from(
+                main,
+                supplementary,
+                supplementary,
+                source,
+                unit,
+                file,
+                work,
+                files,
+                t,
+            );
         }
     }
 }
@@ -122,6 +173,7 @@ pub fn intern_file(
 fn intern_at(
     main: &[u8],
     supplementary: &[u8],
+    s: &[u8],
     source: DebugSource,
     unit: FileUnit,
     file: Span,
@@ -131,14 +183,15 @@ fn intern_at(
     at: usize,
 ) -> InternedFile
     requires { ⌜ FilesIn (now main) (now supplementary) (now work) t ⌝ }
-    requires { ⌜ FileUnitIn (sourceIn (now main) (now supplementary) source) (now work) unit ⌝ }
-    requires { ⌜ FileSpanIn (sourceIn (now main) (now supplementary) source) file ⌝ }
-    requires { ⌜ OfUnit (sourceIn (now main) (now supplementary) source) (unit .place) file ⌝ }
-    requires { ⌜ Listed (now main) (now supplementary) (unitHere (sourceIn (now main) (now supplementary) source) (unit .place)) (headerHere (sourceIn (now main) (now supplementary) source) (unit .place)) ⌝ }
+    requires { ⌜ now s ≡ sourceIn (now main) (now supplementary) source ⌝ }
+    requires { ⌜ FileUnitIn (now s) (now work) unit ⌝ }
+    requires { ⌜ FileSpanIn (now s) file ⌝ }
+    requires { ⌜ OfUnit (now s) (unit .place) file ⌝ }
+    requires { ⌜ Listed (now main) (now supplementary) (unitHere (now s) (unit .place)) (headerHere (now s) (unit .place)) ⌝ }
     requires { ⌜ (t .base + extent t ≤ at) × (at + 5 ≤ length (now work)) ⌝ }
-    ensures { λ r. ⌜ InternsAt (now (main .entry)) (now (supplementary .entry)) (now (work .entry)) (now (work .exit)) (now (files .entry)) (now (files .exit)) t (sourceIn (now (main .entry)) (now (supplementary .entry)) source) unit file at r ⌝ }
+    ensures { λ r. ⌜ InternsAt (now (main .entry)) (now (supplementary .entry)) (now (work .entry)) (now (work .exit)) (now (files .entry)) (now (files .exit)) t (now (s .entry)) unit file at r ⌝ }
 {
-    match intern_file(main, supplementary, source, unit, file, work, files, t) {
+    match intern_from(main, supplementary, s, source, unit, file, work, files, t) {
         InternedFile::Refused(n) => {
             return InternedFile::Refused(n);
         }
@@ -160,6 +213,7 @@ fn intern_at(
 fn intern_files(
     main: &[u8],
     supplementary: &[u8],
+    s: &[u8],
     source: DebugSource,
     unit: FileUnit,
     work: &mut [u8],
@@ -169,18 +223,19 @@ fn intern_files(
     n: usize,
 ) -> InternedFiles
     requires { ⌜ FilesIn (now main) (now supplementary) (now work) t ⌝ }
-    requires { ⌜ FileUnitIn (sourceIn (now main) (now supplementary) source) (now work) unit ⌝ }
-    requires { ⌜ UnitPlaced (sourceIn (now main) (now supplementary) source) (unit .place) ⌝ }
-    requires { ⌜ Listed (now main) (now supplementary) (unitHere (sourceIn (now main) (now supplementary) source) (unit .place)) (headerHere (sourceIn (now main) (now supplementary) source) (unit .place)) ⌝ }
-    requires { ⌜ MapRoom (sourceIn (now main) (now supplementary) source) (now work) t unit base ⌝ }
+    requires { ⌜ now s ≡ sourceIn (now main) (now supplementary) source ⌝ }
+    requires { ⌜ FileUnitIn (now s) (now work) unit ⌝ }
+    requires { ⌜ UnitPlaced (now s) (unit .place) ⌝ }
+    requires { ⌜ Listed (now main) (now supplementary) (unitHere (now s) (unit .place)) (headerHere (now s) (unit .place)) ⌝ }
+    requires { ⌜ MapRoom (now s) (now work) t unit base ⌝ }
     requires { ⌜ n ≤ 1 ⌝ }
-    ensures { λ r. ⌜ InternsFiles (now (main .entry)) (now (supplementary .entry)) (now (work .entry)) (now (work .exit)) (now (files .entry)) (now (files .exit)) t (sourceIn (now (main .entry)) (now (supplementary .entry)) source) unit base n r ⌝ }
+    ensures { λ r. ⌜ InternsFiles (now (main .entry)) (now (supplementary .entry)) (now (work .entry)) (now (work .exit)) (now (files .entry)) (now (files .exit)) t (now (s .entry)) unit base n r ⌝ }
 {
     let mut table = t;
     let mut count = n;
     let mut p = unit.place + 21;
     loop {
-        match next_file(main, supplementary, source, p) {
+        match tlv::access::next_before_rows(s, p, 0x15) {
             tlv::access::Own::Missing => {
                 return InternedFiles::Indices {
                     table: table,
@@ -197,6 +252,7 @@ fn intern_files(
                 match intern_at(
                     main,
                     supplementary,
+                    s,
                     source,
                     unit,
                     file,
@@ -226,6 +282,55 @@ fn intern_files(
     }
 }
 
+// Interns the files of a unit's header of s, the sheet of the source, in order, and writes the unit's map at base.
+fn intern_header_from(
+    main: &[u8],
+    supplementary: &[u8],
+    s: &[u8],
+    source: DebugSource,
+    unit: FileUnit,
+    work: &mut [u8],
+    files: &mut [u8],
+    t: StoredFiles,
+    base: usize,
+) -> InternedFiles
+    requires { ⌜ FilesIn (now main) (now supplementary) (now work) t ⌝ }
+    requires { ⌜ now s ≡ sourceIn (now main) (now supplementary) source ⌝ }
+    requires { ⌜ FileUnitIn (now s) (now work) unit ⌝ }
+    requires { ⌜ UnitPlaced (now s) (unit .place) ⌝ }
+    requires { ⌜ Listed (now main) (now supplementary) (unitHere (now s) (unit .place)) (headerHere (now s) (unit .place)) ⌝ }
+    requires { ⌜ MapRoom (now s) (now work) t unit base ⌝ }
+    ensures { λ r. ⌜ InternsHeader (now (main .entry)) (now (supplementary .entry)) (now (work .entry)) (now (work .exit)) (now (files .entry)) (now (files .exit)) t (now (s .entry)) unit base r ⌝ }
+{
+    if unit.version <= 4 {
+        put_index(work, base, FoundIndex::Missing);
+        return intern_files(
+            main,
+            supplementary,
+            s,
+            source,
+            unit,
+            work,
+            files,
+            t,
+            base,
+            1,
+        );
+    }
+    intern_files(
+        main,
+        supplementary,
+        s,
+        source,
+        unit,
+        work,
+        files,
+        t,
+        base,
+        0,
+    )
+}
+
 // Interns the files of a unit's header in order, and writes the unit's map at base.
 pub fn intern_header_files(
     main: &[u8],
@@ -244,9 +349,32 @@ pub fn intern_header_files(
     requires { ⌜ MapRoom (sourceIn (now main) (now supplementary) source) (now work) t unit base ⌝ }
     ensures { λ r. ⌜ InternsHeader (now (main .entry)) (now (supplementary .entry)) (now (work .entry)) (now (work .exit)) (now (files .entry)) (now (files .exit)) t (sourceIn (now (main .entry)) (now (supplementary .entry)) source) unit base r ⌝ }
 {
-    if unit.version <= 4 {
-        put_index(work, base, FoundIndex::Missing);
-        return intern_files(main, supplementary, source, unit, work, files, t, base, 1);
+    match source {
+        DebugSource::Main => {
+            return intern_header_from(
+                main,
+                supplementary,
+                main,
+                source,
+                unit,
+                work,
+                files,
+                t,
+                base,
+            );
+        }
+        DebugSource::Supplementary => {
+            return intern_header_from(
+                main,
+                supplementary,
+                supplementary,
+                source,
+                unit,
+                work,
+                files,
+                t,
+                base,
+            );
+        }
     }
-    intern_files(main, supplementary, source, unit, work, files, t, base, 0)
 }

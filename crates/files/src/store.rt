@@ -306,8 +306,8 @@ pub fn lay_file(s: &[u8], p: FilePieces, work: &mut [u8], at: usize) -> LaidHash
     LaidHash { n: n, hash: hash }
 }
 
-// Adds the file of pieces of s, the sheet of the source.
-fn add_from(
+// Adds the file of pieces of s, the sheet of the source, if the table has it not, and gives its number.
+pub fn add_from(
     main: &[u8],
     supplementary: &[u8],
     s: &[u8],
@@ -354,38 +354,6 @@ fn add_from(
             l.hash,
             l.n,
         ),
-    }
-}
-
-// Adds the file of pieces of a sheet, if the table has it not, and gives its number.
-pub fn add_file(
-    main: &[u8],
-    supplementary: &[u8],
-    source: DebugSource,
-    p: FilePieces,
-    work: &mut [u8],
-    files: &mut [u8],
-    t: StoredFiles,
-) -> AddedFile
-    requires { ⌜ FilesIn (now main) (now supplementary) (now work) t ⌝ }
-    requires { ⌜ PiecesIn (sourceIn (now main) (now supplementary) source) p ⌝ }
-    requires { ⌜ Possible (now main) (now supplementary) (fileIn (sourceIn (now main) (now supplementary) source) p) ⌝ }
-    ensures { λ r. ⌜ Adds (now (main .entry)) (now (supplementary .entry)) (now (work .entry)) (now (work .exit)) (now (files .entry)) (now (files .exit)) t (fileIn (sourceIn (now (main .entry)) (now (supplementary .entry)) source) p) r ⌝ }
-{
-    match source {
-        DebugSource::Main => add_from(main, supplementary, main, source, p, work, files, t),
-        DebugSource::Supplementary => {
-            add_from(
-                main,
-                supplementary,
-                supplementary,
-                source,
-                p,
-                work,
-                files,
-                t,
-            )
-        }
     }
 }
 

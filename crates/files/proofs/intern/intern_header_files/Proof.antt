@@ -1,22 +1,16 @@
--- `intern::intern_header_files` meets its contract. Assumes nothing.
+-- `intern::intern_header_files` meets its contract, for a unit of either sheet. Assumes nothing.
 use borrow.Author.Needs.{needs}
-use native.Mathlib.Omega.{arith}
-use Rattle.files.proofs.HeaderLaws.{files-after, unit-after, room-after, header-before, header-from}
 use Rattle.files.proofs.intern.intern_header_files.Statement.{statement}
 use Rattle.files.proofs.intern.intern_header_files.Tie as tie
 
-put-index-requires : tie.Need-put-index-requires
-put-index-requires c κs = search needs
+enum-told : tie.Need-enum-told
+enum-told c = search needs
 
-intern-files-requires : tie.Need-intern-files-requires
-intern-files-requires c κs =
-    let put = c .before .before .before .before in
-    let S = put .before .before .before .before .before .before .before .before in
-    let P = put .put-index .ensures in
-    let same = put .put-index .kept .0 in
-    let more = S .pre .1 .1 in
-    let room = more .1 .1 in
-    (files-after room P same (S .pre .0), (unit-after room P same (S .pre .1 .0), (more .0, (more .1 .0, (room-after room P same, omega arith)))))
+intern-header-from-requires : tie.Need-intern-header-from-requires
+intern-header-from-requires c κs =
+    let p = c .before .before .before .before .before .before .before .before .pre in
+    let source = c .before .before .enum-told .given .1 in
+    (p .0, (rw source, (rw source at (p .1 .0), (rw source at (p .1 .1 .0), (rw source at (p .1 .1 .1 .0), rw source at (p .1 .1 .1 .1))))))
 
 same-length : tie.Need-same-length
 same-length c = search needs
@@ -25,20 +19,16 @@ same-length-2 : tie.Need-same-length-2
 same-length-2 c = search needs
 
 returns : tie.Need-returns
-returns c =
-    let put = c .before .before .before .before .before .before .before .before .before in
-    let S = put .before .before .before .before .before .before .before .before in
-    let P = put .put-index .ensures in
-    let same = put .put-index .kept .0 in
-    let more = S .pre .1 .1 in
-    let room = more .1 .1 in
-    header-before room P same (S .pre .0) (S .pre .1 .0) (put .before .before .if1 .taken) (c .before .before .before .before .intern-files .ensures)
+returns c = rw (c .before .before .before .before .before .before .before .enum-told .given .1) (c .before .before .before .before .intern-header-from .ensures)
 
-intern-files-requires-2 : tie.Need-intern-files-requires-2
-intern-files-requires-2 c κs =
-    let S = c .before .before .before .before .before .before .before .before in
-    let more = S .pre .1 .1 in
-    (S .pre .0, (S .pre .1 .0, (more .0, (more .1 .0, (more .1 .1, omega arith)))))
+enum-told-2 : tie.Need-enum-told-2
+enum-told-2 c = search needs
+
+intern-header-from-requires-2 : tie.Need-intern-header-from-requires-2
+intern-header-from-requires-2 c κs =
+    let p = c .before .before .before .before .before .before .before .before .pre in
+    let source = c .before .before .enum-told2 .given .1 in
+    (p .0, (rw source, (rw source at (p .1 .0), (rw source at (p .1 .1 .0), (rw source at (p .1 .1 .1 .0), rw source at (p .1 .1 .1 .1))))))
 
 same-length-3 : tie.Need-same-length-3
 same-length-3 c = search needs
@@ -47,20 +37,19 @@ same-length-4 : tie.Need-same-length-4
 same-length-4 c = search needs
 
 returns-2 : tie.Need-returns-2
-returns-2 c =
-    let S = c .before .before .before .before .before .before .before .before .before .before .before .before .before in
-    header-from (S .pre .1 .0) (c .before .before .before .before .before .before .before .if1 .left) (c .before .before .before .before .intern-files2 .ensures)
+returns-2 c = rw (c .before .before .before .before .before .before .before .enum-told2 .given .1) (c .before .before .before .before .intern-header-from2 .ensures)
 
 pub intern-header-files-spec : {M : Type 1} → statement M
 intern-header-files-spec =
     tie.close
     (tie.spec
-    put-index-requires
-    intern-files-requires
+    enum-told
+    intern-header-from-requires
     same-length
     same-length-2
     returns
-    intern-files-requires-2
+    enum-told-2
+    intern-header-from-requires-2
     same-length-3
     same-length-4
     returns-2)

@@ -1,5 +1,6 @@
 -- `lookup::look_up_nth` meets its contract. Assumes nothing.
 use native.Mathlib.Omega.{arith}
+use mathlib.Core.Path.{refl}
 use borrow.Author.Needs.{needs}
 use Rattle.files.proofs.UnitLaws.{unit-next}
 use Rattle.files.proofs.InternLaws.{pieces-within}
@@ -11,7 +12,7 @@ use Rattle.files.proofs.lookup.look_up_nth.Tie as tie
 add-nth-file : tie.Need-add-nth-file
 add-nth-file c =
     let S = c .before .before .before .before in
-    omega (arith, place-small (S .pre .0) (S .args .source) (S .args .unit .place) (S .pre .1 .1))
+    omega (arith, place-small (S .pre .0) (S .args .source) refl (S .args .unit .place) (S .pre .1 .1))
 
 nth-file-requires : tie.Need-nth-file-requires
 nth-file-requires c κs = search unit-next
