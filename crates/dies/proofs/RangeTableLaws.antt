@@ -1,7 +1,7 @@
 -- Ranges in the work slice, and the loops over them: whether one lies inside some, one more in place. Assumes nothing.
 use mathlib.Core.Path.{_≡_, refl, sym, ap, _∙_}
 use mathlib.Core.Logic.{inl, inr}
-use mathlib.Core.List.{List, [], _∷_, _++_, append-assoc}
+use mathlib.Core.List.{List, [], _∷_, _++_, append-assoc, append-nil}
 use mathlib.Core.Bool.{Bool, true, false, _&&_, _||_}
 use Prim.Native.Nat.{ℕ, _+_, _-_, _*_, _≤_, _<_, min, max}
 use native.Mathlib.Nat.{add-zero}
@@ -20,8 +20,8 @@ use Rattle.tlv.proofs.TableLaws.{kept-refl, kept-wide, kept-trans, leAt-kept}
 use Rattle.tlv.proofs.RecordLaws.{records-length, records-nil, records-suc, records-add, records-rest-none, records-rest-cons, records-kept, records-but, records-push}
 use Rattle.imports.specs.Ranges.{Apart}
 use Rattle.imports.specs.Tree.{liesIn, fit}
-use Rattle.dies.specs.RangeTable.{rangesAt, PutRange, hull, addOne, Inserted, Added, AddedFit}
-use Rattle.dies.proofs.InsertLaws.{add-stay, add-pass, add-join, add-apart, add-is, add-last, merge-merged}
+use Rattle.dies.specs.RangeTable.{rangesAt, PutRange, hull, addOne, Inserted, Added, PutFit}
+use Rattle.dies.proofs.InsertLaws.{add-stay, add-pass, add-join, add-apart, add-is, add-last}
 
 -- ---- a range at a place
 
@@ -219,28 +219,27 @@ module _ (w : List ℕ) (p n : ℕ) (x l : AddressRange) (a : Apart (rangesAt w 
     rest = kept-wide p (n * 16 + 16) (P .rest) (omega arith) (omega arith);
   })
 
--- ---- one that fits
+-- ---- one that fits, behind the others
 
-module _ (w : List ℕ) (q m p n : ℕ) (x : AddressRange) (a : Apart (rangesAt w p n)) where
-  left-out : fit (rangesAt w q m) (x ∷ []) ≡ [] → AddedFit w w q m p n x n
-  left-out e = record { ranges = rw e (merge-merged (rangesAt w p n) a); apart = a; few = omega arith; rest = kept-refl w p (n * 16 + 16) }
+module _ (w : List ℕ) (q m p n : ℕ) (x : AddressRange) where
+  left-out : fit (rangesAt w q m) (x ∷ []) ≡ [] → PutFit w w q m p n x n
+  left-out e = record { ranges = rw (e, append-nil); few = omega arith; rest = kept-refl w p (n * 16 + 16) }
 
-  pub fit-empty : x .end ≤ x .start → AddedFit w w q m p n x n
+  pub fit-empty : x .end ≤ x .start → PutFit w w q m p n x n
   unfolding fit
   fit-empty h = left-out (rw (le-ltb (x .start) (x .end) h))
 
   module _ (h : x .start < x .end) {b : Bool} (eb : b ≡ liesIn (rangesAt w q m) x) where
-    pub fit-out : b ≡ false → AddedFit w w q m p n x n
+    pub fit-out : b ≡ false → PutFit w w q m p n x n
     unfolding fit
     fit-out no′ = left-out (rw (lt-ltb (x .start) (x .end) h, ← eb, no′))
 
-    pub fit-in : {w′ : List ℕ} {r : ℕ} → b ≡ true → Added w w′ p n x r → AddedFit w w′ q m p n x r
+    pub fit-in : {w′ : List ℕ} → b ≡ true → PutRange w w′ (p + n * 16) x → PutFit w w′ q m p n x (n + 1)
     unfolding fit
-    fit-in yes′ A = record {
-      ranges = rw (lt-ltb (x .start) (x .end) h, ← eb, yes′) (A .ranges);
-      apart = A .apart;
-      few = A .few;
-      rest = A .rest;
+    fit-in yes′ P = record {
+      ranges = rw (lt-ltb (x .start) (x .end) h, ← eb, yes′) (ranges-push p n P);
+      few = omega arith;
+      rest = kept-wide p (n * 16 + 16) (P .rest) (omega arith) (omega arith);
     }
 
 -- ---- laid into an output buffer
