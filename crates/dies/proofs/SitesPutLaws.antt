@@ -22,7 +22,7 @@ use Rattle.tlv.proofs.IndexModel.{either}
 use Rattle.references.specs.Search.{attribute}
 use Rattle.references.specs.Tables.{EntryKnown, bytesGiven}
 use Rattle.references.specs.Names.{dwarfOf, referenceName, Resolved}
-use Rattle.references.specs.Keys.{possibleKeys}
+use Rattle.references.specs.Keys.{keysExtent}
 use Rattle.dies.specs.declared.dies.Details.{Details}
 use Rattle.dies.specs.declared.dies.Walk.{Walk}
 use Rattle.dies.specs.Details.{DetailsIn}
@@ -41,7 +41,7 @@ pub record Siting (main supplementary : List ℕ) (d : Details) (n at : ℕ) (w�
   pub within : i ≤ n
   pub details : DetailsIn main supplementary w d
   pub left : Left at (sitesBytes (sitesAt (originName main supplementary (d .unit)) w₀ (d .sites) n)) t₀ place (sitesBytes (drop i (sitesAt (originName main supplementary (d .unit)) w₀ (d .sites) n))) t
-  pub kept : Kept w₀ w (d .tables .keys) (9 * length (possibleKeys main supplementary))
+  pub kept : Kept w₀ w (d .tables .keys) (keysExtent main supplementary (d .tables))
   pub size : length w ≡ length w₀
 
 pub siting-start : {main supplementary w : List ℕ} {d : Details} (n at : ℕ) (t : List ℕ) → DetailsIn main supplementary w d → at ≤ top → length t < top → Siting main supplementary d n at w t w t at 0
@@ -49,7 +49,7 @@ siting-start {main} {supplementary} {w} {d} n at t D h k = record {
   within = omega arith;
   details = D;
   left = left-start at _ t h k;
-  kept = kept-refl w (d .tables .keys) (9 * length (possibleKeys main supplementary));
+  kept = kept-refl w (d .tables .keys) (keysExtent main supplementary (d .tables));
   size = refl;
 }
 

@@ -11,7 +11,7 @@ use Rattle.tlv.specs.Table.{Kept, Apart}
 use Rattle.tlv.proofs.TableLaws.{kept-wide, leAt-kept}
 use Rattle.tlv.proofs.RecordLaws.{records-kept}
 use Rattle.files.specs.Indices.{indexOf, indicesOf}
-use Rattle.references.specs.Keys.{possibleKeys}
+use Rattle.references.specs.Keys.{keysExtent}
 use Rattle.references.proofs.KeyLaws.{keys-in-none}
 use Rattle.references.proofs.FollowLaws.{index-kept}
 use Rattle.dies.specs.declared.dies.Details.{Details}
@@ -63,11 +63,11 @@ module _ {main supplementary w : List ℕ} {d : Details} (D : DetailsIn main sup
     }
 
   -- a stretch of it
-  pub kept-inside : {w₁ w₂ : List ℕ} {p m : ℕ} → Kept w₁ w₂ p m → d .ranges ≤ p → p + m ≤ d .tables .keys + 9 * length (possibleKeys main supplementary) → Kept w₁ w₂ (d .ranges) (walked main supplementary d)
+  pub kept-inside : {w₁ w₂ : List ℕ} {p m : ℕ} → Kept w₁ w₂ p m → d .ranges ≤ p → p + m ≤ d .tables .keys + keysExtent main supplementary (d .tables) → Kept w₁ w₂ (d .ranges) (walked main supplementary d)
   kept-inside K h k = kept-wide (d .ranges) (walked main supplementary d) K h (omega (arith, D .ranges, D .stack, D .sites))
 
   -- the followed targets of a search
-  pub kept-keys : {w₁ w₂ : List ℕ} → Kept w₁ w₂ (d .tables .keys) (9 * length (possibleKeys main supplementary)) → Kept w₁ w₂ (d .ranges) (walked main supplementary d)
+  pub kept-keys : {w₁ w₂ : List ℕ} → Kept w₁ w₂ (d .tables .keys) (keysExtent main supplementary (d .tables)) → Kept w₁ w₂ (d .ranges) (walked main supplementary d)
   kept-keys K = kept-inside K (omega (arith, D .ranges, D .stack, D .sites)) (omega arith)
 
 -- ---- a write beside the state

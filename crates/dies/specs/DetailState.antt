@@ -23,7 +23,7 @@ use Rattle.lines.specs.Files.{FileIndices, fileIndex}
 use Rattle.references.specs.Search.{attribute, absoluteEntryOffset}
 use Rattle.references.specs.Tables.{EntryKnown}
 use Rattle.references.specs.Names.{dwarfOf, referenceName}
-use Rattle.references.specs.Keys.{possibleKeys}
+use Rattle.references.specs.Keys.{keysExtent}
 use Rattle.dies.specs.declared.dies.Details.{Details}
 use Rattle.dies.specs.declared.dies.Extracted.{Extracted}
 use Rattle.dies.specs.declared.dies.Walk.{Walk}
@@ -144,7 +144,7 @@ noded s depth k r = record { frames = grown (s .frames) depth k; opened = s .ope
 
 -- the part of the work slice that the walk writes to
 abbrev pub walked : List ℕ → List ℕ → Details → ℕ
-walked main supplementary d = d .tables .keys + 9 * length (possibleKeys main supplementary) - d .ranges
+walked main supplementary d = d .tables .keys + keysExtent main supplementary (d .tables) - d .ranges
 
 -- what the definition does by F is done in memory: nodes and warnings are laid, and the rest stands in w′, with room for a ranges and b entries; or it is refused
 pub record Advances (F : Descendants → Outcome Descendants) (main supplementary name : List ℕ) (d : Details) (a b : ℕ) (w t u : List ℕ) (s : Walk) (w′ t′ u′ : List ℕ) (s′ : Walk) : Type 0 where

@@ -14,7 +14,7 @@ use Rattle.tlv.specs.Places.{unitFields, unitHere, entryIndex}
 use Rattle.tlv.specs.Output.{eachOf, nodeBytes, sitePayload, warningsBytes}
 use Rattle.files.specs.Indices.{indicesIn}
 use Rattle.references.specs.Names.{dwarfOf, SearchIn}
-use Rattle.references.specs.Keys.{possibleKeys}
+use Rattle.references.specs.Keys.{keysExtent}
 use Rattle.imports.specs.Tree.{DetailContext, Descendants, extractSubprogramDetails}
 use Rattle.imports.specs.Import.{descendantsOf, rooted}
 use Rattle.dies.specs.declared.dies.Details.{Details}
@@ -81,4 +81,4 @@ ExtractedBy main supplementary w d name p depth at warned records records′ war
 
 pub record Extracts (main supplementary w w′ : List ℕ) (d : Details) (name : List ℕ) (p depth at warned : ℕ) (records records′ warnings warnings′ : List ℕ) (r : Extracted) : Type 0 where
   pub is : ExtractedBy main supplementary w d name p depth at warned records records′ warnings warnings′ r
-  pub rest : Kept w w′ (d .ranges) (d .tables .keys + 9 * length (possibleKeys main supplementary) - d .ranges)
+  pub rest : Kept w w′ (d .ranges) (d .tables .keys + keysExtent main supplementary (d .tables) - d .ranges)

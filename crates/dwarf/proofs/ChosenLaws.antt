@@ -26,7 +26,6 @@ use Rattle.rows.specs.declared.«unit_lines».StoredLines.{StoredLines}
 use Rattle.rows.proofs.StoredLaws.{lines-kept, ranges-kept}
 use Rattle.collect.specs.declared.collect.CollectedLines.{CollectedLines}
 use Rattle.collect.specs.Collects.{UnitIn, linesIn, linesExtent, LinesRoom, CollectedIn, CollectsLines}
-use Rattle.references.specs.Keys.{possibleKeys}
 use Rattle.references.specs.Names.{dwarfOf}
 use Rattle.dies.specs.DetailState.{Accepted}
 use Rattle.dies.proofs.NodeStepLaws.{each-append, warnings-append}
@@ -38,7 +37,7 @@ use Rattle.dwarf.specs.declared.model.ConversionStats.{ConversionStats}
 use Rattle.dwarf.specs.declared.layout.Layout.{Layout}
 use Rattle.dwarf.specs.declared.import.Ran.{Ran}
 use Rattle.dwarf.specs.Stats.{statsOf}
-use Rattle.dwarf.specs.Layout.{LaidOut}
+use Rattle.dwarf.specs.Layout.{keysRoom, LaidOut}
 use Rattle.dwarf.specs.Contexts.{contextOf, ContextIn}
 use Rattle.dwarf.specs.Steps.{Imports}
 use Rattle.dwarf.specs.Runs.{LinesLaid, MakesContext, RunsDetails, Writes, WorkEnough, startState}
@@ -100,7 +99,7 @@ collected-from program place {main} E = λ i. collectLines (unitHere main place)
 
 module _ {main supplementary program w : List ℕ} {l : Layout} {place : ℕ} (A : Accepted main) (B : Accepted supplementary) (U : UnitIn main place)
     (W : WorkEnough main supplementary program w) (L : LaidOut main supplementary program l) where
-  all-room : l .keys + 9 * length (possibleKeys main supplementary) ≤ length w
+  all-room : l .keys + keysRoom main supplementary ≤ length w
   all-room = let a = L .within (A .number) (B .number) (A .is) (B .is) in let b = W .long (A .number) (B .number) (A .is) (B .is) in omega arith
 
   lines-end : l .lines + linesExtent main place program ≤ length w

@@ -3,7 +3,7 @@ use mathlib.Core.Path.{_≡_, refl, sym, ap, _∙_}
 use mathlib.Core.Bool.{true, false}
 use mathlib.Core.Logic.{inl}
 use mathlib.Core.List.{List, [], _∷_}
-use Prim.Native.Nat.{ℕ, _+_, _*_, _≤_, _<_}
+use Prim.Native.Nat.{ℕ, _+_, _≤_, _<_}
 use native.Mathlib.Omega.{arith}
 use lib.ListN.{length}
 use borrow.Author.Tests.{eq-eqb, ne-eqb}
@@ -23,7 +23,7 @@ use Rattle.files.specs.declared.store.StoredFiles.{StoredFiles}
 use Rattle.files.specs.Store.{extent, tableOf, FilesIn}
 use Rattle.files.proofs.GrownLaws.{table-kept, files-kept}
 use Rattle.references.specs.Search.{resolveName}
-use Rattle.references.specs.Keys.{possibleKeys}
+use Rattle.references.specs.Keys.{keysExtent}
 use Rattle.references.specs.Tables.{EntryKnown}
 use Rattle.references.specs.Names.{dwarfOf, Resolved, foundName}
 use Rattle.references.proofs.NameBounds.{DwarfAccepted, name-string}
@@ -103,7 +103,7 @@ module _ {main supplementary w : List ℕ} {q : ImportContext} {p : ℕ} {table 
         omega (arith, s .1)
 
 module _ {main supplementary w w₁ : List ℕ} {q : ImportContext} {table : StoredFiles} (C : ContextIn main supplementary w q table)
-    (R : Kept w w₁ (q .places .tables .keys) (9 * length (possibleKeys main supplementary))) where
+    (R : Kept w w₁ (q .places .tables .keys) (keysExtent main supplementary (q .places .tables))) where
   -- it is in the walk's part
   walk-written : KeptBut w w₁ (touched main supplementary q table)
   walk-written =

@@ -81,7 +81,7 @@ module _ (m s : Counts) (x : ℕ) where
 
   -- 64 bytes for each field cover what its tables take, with the followed targets
   keys-within : (k n n′ length : ℕ) → totalOf m ≤ n → totalOf s ≤ n′ → k ≤ m .attributes + 2 * s .attributes → x * 3 ≤ length
-      → keysAt + 9 * k ≤ workOfField * (n + n′) + workOfProgramByte * length + workBesides
+      → keysAt + ((m .entries + s .entries + 1) * 4 + 13 * k) ≤ workOfField * (n + n′) + workOfProgramByte * length + workBesides
   keys-within k n n′ length a b c d = omega arith
 
 -- ---- what a unit needs is no more than what its input can bring
@@ -149,6 +149,9 @@ laid-out {main} {supplementary} {program} {m} {s} A B M S =
       sites = times-as (stackAt m s x) 14 (m .entries) _ (M .entries);
       keys = times-as (sitesAt m s x) 12 (m .entries) _ (M .entries);
       within = λ n n′ e e′.
-          keys-within m s x (length (possibleKeys main supplementary)) n n′ (length program) (total-few n M e) (total-few n′ S e′)
-          (omega (arith, keys-few main supplementary, M .attributes, S .attributes)) (third (length program));
+          let a = M .entries in
+          let b = S .entries in
+          let c = keys-within m s x (length (possibleKeys main supplementary)) n n′ (length program) (total-few n M e) (total-few n′ S e′)
+          (omega (arith, keys-few main supplementary, M .attributes, S .attributes)) (third (length program)) in
+          omega arith;
     }

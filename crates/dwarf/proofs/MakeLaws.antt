@@ -154,7 +154,7 @@ module _ {main supplementary w w₁ w₂ w₃ : List ℕ} {l : Layout} {unit : �
         main-index = index-kept (M .index) (index-rest (l .«supplementary_units») (l .ranges - l .«supplementary_units») S (omega arith) (laid .supplementary-entries) (let d = laid .ranges in omega arith))
             main-units-end main-entries-end (size₃ ∙ sym size₂);
         supplementary-index = S .index;
-        keys = keys-in-none (omega (arith, L .room));
+        keys = keys-in-none (omega (arith, L .room, M .entry-count, S .entry-count));
         main-units = omega (arith, main-units-end);
         main-entries = omega (arith, main-entries-end);
         supplementary-units = omega (arith, supplementary-units-end);

@@ -2,14 +2,13 @@
 use mathlib.Core.Path.{_≡_}
 use mathlib.Core.List.{List, [], _∷_}
 use Prim.Native.Nat.{ℕ, _+_, _-_, _*_, _≤_}
-use lib.ListN.{length}
 use Rattle.tlv.specs.Places.{unitHere}
 use Rattle.files.specs.declared.store.StoredFiles.{StoredFiles}
 use Rattle.files.specs.Store.{extent, FilesIn}
 use Rattle.rows.specs.Selects.{RowsIn}
 use Rattle.collect.specs.Collects.{UnitIn, linesIn}
 use Rattle.references.specs.Names.{dwarfOf, SearchIn}
-use Rattle.references.specs.Keys.{possibleKeys}
+use Rattle.references.specs.Keys.{keysExtent}
 use Rattle.imports.specs.Import as import
 use Rattle.dies.specs.Details.{rangeCount, entryCount}
 use Rattle.dies.specs.RangeTable.{rangesAt}
@@ -60,7 +59,7 @@ pub record ContextIn (main supplementary w : List ℕ) (q : ImportContext) (t : 
 
 -- how far the walk's part reaches, followed targets included
 abbrev pub walkExtent : List ℕ → List ℕ → ImportContext → ℕ
-walkExtent main supplementary q = q .places .tables .keys + 9 * length (possibleKeys main supplementary) - q .ranges
+walkExtent main supplementary q = q .places .tables .keys + keysExtent main supplementary (q .places .tables) - q .ranges
 
 -- what an import of ranges writes to: the file table, the rows of a function, the room for a unit that is reached, the walk's part
 abbrev pub touched : List ℕ → List ℕ → ImportContext → StoredFiles → List (ℕ × ℕ)

@@ -43,6 +43,10 @@ UnitOf s q = Any (λ p. p ≡ q) (unitPlaces 0 (fields s))
 abbrev pub mapExtent : List ℕ → ℕ → ℕ
 mapExtent s q = 8 * length (unitHere s q .directories) + 5 * (1 + length (unitHere s q .files))
 
+-- what the targets that a search can follow need, with a chain's head for each entry and one more
+abbrev pub keysRoom : List ℕ → List ℕ → ℕ
+keysRoom main supplementary = (entryCount main + entryCount supplementary + 1) * 4 + 13 * length (possibleKeys main supplementary)
+
 -- the tables stand one behind the other, each with room for what the inputs can bring
 pub record LaidOut (main supplementary program : List ℕ) (l : Layout) : Type 0 where
   pub few : length (possibleFiles main supplementary) < l .room
@@ -61,4 +65,4 @@ pub record LaidOut (main supplementary program : List ℕ) (l : Layout) : Type 0
   pub sites : l .stack + 14 * entryCount main ≤ l .sites
   pub keys : l .sites + 12 * entryCount main ≤ l .keys
   pub within : (m n : ℕ) → checkInput main ≡ done m → checkInput supplementary ≡ done n
-      → l .keys + 9 * length (possibleKeys main supplementary) ≤ workOfField * (m + n) + workOfProgramByte * length program + workBesides
+      → l .keys + keysRoom main supplementary ≤ workOfField * (m + n) + workOfProgramByte * length program + workBesides

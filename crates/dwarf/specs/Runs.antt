@@ -20,7 +20,6 @@ use Rattle.rows.specs.declared.«unit_lines».StoredLines.{StoredLines}
 use Rattle.rows.specs.Selects.{RowsIn}
 use Rattle.references.specs.declared.tables.Index.{Index}
 use Rattle.references.specs.Tables.{IndexIn}
-use Rattle.references.specs.Keys.{possibleKeys}
 use Rattle.dies.specs.Details.{entryCount}
 use Rattle.imports.specs.Import.{State, importUnitDetails}
 use Rattle.imports.specs.Answer.{noStats}
@@ -29,7 +28,7 @@ use Rattle.dwarf.specs.declared.layout.Layout.{Layout}
 use Rattle.dwarf.specs.declared.import.Ran.{Ran}
 use Rattle.dwarf.specs.declared.import.BothChecked.{BothChecked}
 use Rattle.dwarf.specs.Stats.{statsOf}
-use Rattle.dwarf.specs.Layout.{LaidOut}
+use Rattle.dwarf.specs.Layout.{keysRoom, LaidOut}
 use Rattle.dwarf.specs.Contexts.{contextOf, ContextIn}
 
 -- ---- the tables
@@ -47,7 +46,7 @@ pub record IndexesInput (s w w′ : List ℕ) (units entries : ℕ) (r : Index) 
 pub record LinesLaid (main supplementary w : List ℕ) (l : Layout) (lines : StoredLines) (indices : StoredIndices) : Type 0 where
   pub program : List ℕ
   pub laid : LaidOut main supplementary program l
-  pub room : l .keys + 9 * length (possibleKeys main supplementary) ≤ length w
+  pub room : l .keys + keysRoom main supplementary ≤ length w
   pub rows : RowsIn w lines
   pub from : l .lines ≤ indices .base
   pub map : indices .base + indices .count * 5 ≤ lines .lines

@@ -15,7 +15,7 @@ use Rattle.references.specs.declared.names.OffsetAt.{OffsetAt}
 use Rattle.references.specs.declared.declarations.Aim.{Aim}
 use Rattle.references.specs.Search.{DieKey, sameKey, isVisited, visit, visitEntry, nothing, byOffset, followedNothing, unitsIn, unitContaining, followIn, followAbsolute}
 use Rattle.references.specs.Tables.{Leads}
-use Rattle.references.specs.Keys.{keysAt, keyIn}
+use Rattle.references.specs.Keys.{keysAt, keyIn, keysFrom}
 use Rattle.references.specs.Names.{dwarfOf, searchSource, placeAt, trailAt, Aims}
 use Rattle.references.specs.DeclaredSteps.{followOffset, Aimed}
 
@@ -28,9 +28,9 @@ unfolding unitsIn
 units-are main supplementary DebugSource.Main = refl
 units-are main supplementary DebugSource.Supplementary = refl
 
-module _ (main supplementary w : List ℕ) (x : Tables) (n : ℕ) (at : OffsetAt) (v : Bool) (seen : v ≡ exists (sameKey (keyIn (at .source) (at .target))) (keysAt w (x .keys) n)) where
-  follows : (k : ℕ) → followOffset main supplementary at (trailAt w (x .keys) n k)
-      ≡ cond v (followedNothing (trailAt w (x .keys) n k)) (followIn (searchSource (at .input)) (record { source = searchSource (at .source); offset = at .target }) (trailAt w (x .keys) n k) (unitContaining (units (sourceIn main supplementary (at .input))) (at .target)))
+module _ (main supplementary w : List ℕ) (x : Tables) (n : ℕ) (at : OffsetAt) (v : Bool) (seen : v ≡ exists (sameKey (keyIn (at .source) (at .target))) (keysAt w (keysFrom x) n)) where
+  follows : (k : ℕ) → followOffset main supplementary at (trailAt w (keysFrom x) n k)
+      ≡ cond v (followedNothing (trailAt w (keysFrom x) n k)) (followIn (searchSource (at .input)) (record { source = searchSource (at .source); offset = at .target }) (trailAt w (keysFrom x) n k) (unitContaining (units (sourceIn main supplementary (at .input))) (at .target)))
   unfolding followOffset followAbsolute isVisited
   follows k = rw (seen, ← key-is (at .source) (at .target), units-are main supplementary (at .input))
 
@@ -47,7 +47,7 @@ module _ (main supplementary w : List ℕ) (x : Tables) (n : ℕ) (at : OffsetAt
         let l = rw (is, to) at (L .is) in
         record {
           is = record {
-            is = λ k. follows k ∙ rw (not-so, l) (ap (λ (y : DieKey). done (record { trail = visit (trailAt w (x .keys) n k) y; target = nothing })) (key-is (at .source) (at .target)));
+            is = λ k. follows k ∙ rw (not-so, l) (ap (λ (y : DieKey). done (record { trail = visit (trailAt w (keysFrom x) n k) y; target = nothing })) (key-is (at .source) (at .target)));
             new = sym seen ∙ not-so;
           };
         }
@@ -61,7 +61,7 @@ module _ (main supplementary w : List ℕ) (x : Tables) (n : ℕ) (at : OffsetAt
         record {
           is = record {
             is = λ k. follows k ∙ rw (not-so, l .0, l .1)
-                (ap (λ (y : DieKey). done (record { trail = visitEntry (trailAt w (x .keys) n k) y; target = byOffset (placeAt main supplementary next) })) (key-is (at .source) (at .target)));
+                (ap (λ (y : DieKey). done (record { trail = visitEntry (trailAt w (keysFrom x) n k) y; target = byOffset (placeAt main supplementary next) })) (key-is (at .source) (at .target)));
             new = sym seen ∙ not-so;
             stands = record { known = l .2; sourced = A .sourced };
             depth = refl;

@@ -1,9 +1,9 @@
 -- What stays of the declaration search's regions of the work slice: where the lower ones are written, where a target is written down, and after a search. Assumes nothing.
-use mathlib.Core.Path.{_≡_, refl, _∙_}
+use mathlib.Core.Path.{_≡_, _∙_}
 use mathlib.Core.Bool.{false}
 use mathlib.Core.Logic.{inl, inr}
 use mathlib.Core.List.{List, [], _∷_}
-use Prim.Native.Nat.{ℕ, zero, suc, _+_, _*_, _≤_, _<_}
+use Prim.Native.Nat.{ℕ, _+_, _*_, _≤_, _<_}
 use native.Mathlib.Omega.{arith}
 use lib.ListN.{length}
 use Rattle.tlv.specs.declared.model.DebugSource.{DebugSource}
@@ -19,25 +19,20 @@ use Rattle.tlv.proofs.RecordLaws.{records-but}
 use Rattle.files.specs.Pieces.{sourceIn}
 use Rattle.files.specs.Store.{extent, tableOf, FilesIn}
 use Rattle.files.specs.Indices.{indexOf, indicesOf, indicesIn}
-use Rattle.files.proofs.GrownLaws.{clear-part, table-kept, files-kept}
+use Rattle.files.proofs.GrownLaws.{table-kept, files-kept}
 use Rattle.references.specs.declared.tables.Index.{Index}
 use Rattle.references.specs.declared.declarations.Places.{Places}
 use Rattle.references.specs.declared.declarations.DeclaringState.{DeclaringState}
 use Rattle.references.specs.Search.{DieKey, sameKey}
 use Rattle.references.specs.Tables.{IndexIn}
-use Rattle.references.specs.Keys.{keysAt, Pushed, PossibleKey}
+use Rattle.references.specs.Keys.{keysAt, chainCount, Pushed, PossibleKey, keysFrom, TrailIn}
 use Rattle.references.specs.Names.{SearchIn}
 use Rattle.references.specs.Declarations.{DeclaringIn, lower, searched}
-use Rattle.references.proofs.FollowLaws.{keys-inside, push-room, push-kept, push-search}
+use Rattle.references.proofs.ChainLaws.{keys-clear, chained-clear}
+use Rattle.references.proofs.KeyLaws.{keys-inside}
+use Rattle.references.proofs.FollowLaws.{push-room, push-kept, push-search}
 
 -- ---- tables and targets that lie clear of what is written
-
-keys-clear : {w w′ : List ℕ} {rs : List (ℕ × ℕ)} (base n : ℕ) → KeptBut w w′ rs → Clear base (n * 9) rs → keysAt w′ base n ≡ keysAt w base n
-unfolding keysAt
-keys-clear base zero K c = refl
-keys-clear {w} {w′} {rs} base (suc n) K c =
-    let one = K .same (base + n * 9) 9 (clear-part base (suc n * 9) (base + n * 9) 9 rs c (omega arith) (omega arith)) in
-    rw (one, keys-clear base n K (clear-part base (suc n * 9) base (n * 9) rs c (omega arith) (omega arith)))
 
 index-clear : {s w w′ : List ℕ} {x : Index} {rs : List (ℕ × ℕ)} → IndexIn s w x → KeptBut w w′ rs → Clear (x .units) (x .«unit_count» * 24) rs → Clear (x .entries) (x .«entry_count» * 16) rs
     → length w′ ≡ length w → IndexIn s w′ x
@@ -77,8 +72,8 @@ module _ {main supplementary w : List ℕ} {d : Places} {st : DeclaringState} (D
     above : (p n : ℕ) → d .spans + d .room ≤ p → Clear p n (lower d (st .table))
     above p n h = let t = table-below in (inr (omega arith), (inr (omega arith), tt))
 
-    pub lower-keys : keysAt w′ (d .tables .keys) (st .count) ≡ keysAt w (d .tables .keys) (st .count)
-    lower-keys = keys-clear (d .tables .keys) (st .count) K (above (d .tables .keys) (st .count * 9) keys-above)
+    pub lower-keys : keysAt w′ (keysFrom (d .tables)) (st .count) ≡ keysAt w (keysFrom (d .tables)) (st .count)
+    lower-keys = keys-clear (keysFrom (d .tables)) (st .count) K (above (keysFrom (d .tables)) (st .count * 13) (let a = keys-above in omega arith))
 
     lower-search : SearchIn main supplementary w′ (d .tables) (st .count)
     lower-search =
@@ -86,7 +81,7 @@ module _ {main supplementary w : List ℕ} {d : Places} {st : DeclaringState} (D
         record {
           main-index = index-clear (S .main-index) K (above _ _ (D .main-units)) (above _ _ (D .main-entries)) size;
           supplementary-index = index-clear (S .supplementary-index) K (above _ _ (D .supplementary-units)) (above _ _ (D .supplementary-entries)) size;
-          keys = record { distinct = rw lower-keys (S .keys .distinct); possible = rw lower-keys (S .keys .possible); room = rw size (S .keys .room) };
+          keys = record { distinct = rw lower-keys (S .keys .distinct); possible = rw lower-keys (S .keys .possible); chained = λ y. chained-clear (S .keys .chained y) K (above (d .tables .keys) _ keys-above); room = rw size (S .keys .room) };
           main-units = S .main-units;
           main-entries = S .main-entries;
           supplementary-units = S .supplementary-units;
@@ -122,18 +117,18 @@ module _ {main supplementary w : List ℕ} {d : Places} {st : DeclaringState} (D
       records-but indexOf 5 (d .indices .base) (d .indices .count) K (inr (omega arith), (inl (omega arith), (inl (omega arith), tt)))
 
   -- ---- a target is written down
-  pub visited-inside : d .tables .keys + st .count * 9 ≤ length w
-  visited-inside = keys-inside (st .count) (D .search-tables .keys)
+  pub visited-inside : TrailIn w (d .tables) (st .count) 0
+  visited-inside = keys-inside (D .search-tables .keys)
 
-  module _ {k : DieKey} (possible : PossibleKey main supplementary k) (new : exists (sameKey k) (keysAt w (d .tables .keys) (st .count)) ≡ false) where
-    pub pushed-room : d .tables .keys + st .count * 9 + 9 ≤ length w
+  module _ {k : DieKey} (possible : PossibleKey main supplementary k) (new : exists (sameKey k) (keysAt w (keysFrom (d .tables)) (st .count)) ≡ false) where
+    pub pushed-room : TrailIn w (d .tables) (st .count) 1
     pushed-room = push-room (D .search-tables) possible new
 
-    module _ {w′ : List ℕ} (P : Pushed w w′ (d .tables .keys) (st .count) k) where
+    module _ {w′ : List ℕ} (P : Pushed w w′ (d .tables) (st .count) k) where
       pub pushed-rest : KeptBut w w′ (searched main supplementary d (st .table))
       pushed-rest = but-of (push-kept (D .search-tables) possible new P) (there (there (here (omega arith) (omega arith))))
 
-      table-clear : Clear (st .table .base) (extent (st .table)) ((d .tables .keys + st .count * 9, 9) ∷ [])
+      table-clear : Clear (st .table .base) (extent (st .table)) ((d .tables .keys, chainCount (d .tables) * 4 + (st .count + 1) * 13) ∷ [])
       table-clear = let t = table-below in let a = keys-above in (inl (omega arith), tt)
 
       pub pushed-table : tableOf main supplementary w′ (st .table) ≡ tableOf main supplementary w (st .table)

@@ -1,12 +1,11 @@
 -- How a search goes on from a reference: what stays when a target is written down, where a search stands, and the ways that a reference leads. Assumes nothing.
 use mathlib.Core.Path.{_≡_, refl, _∙_}
 use mathlib.Core.Bool.{false}
-use mathlib.Core.Logic.{inl, ⊎-elim}
+use mathlib.Core.Logic.{inl}
 use mathlib.Core.List.{List}
-use Prim.Native.Nat.{ℕ, zero, suc, _+_, _*_, _≤_}
-use native.Mathlib.Nat.{zero-add}
+use Prim.Native.Nat.{ℕ, _+_, _*_, _≤_}
 use native.Mathlib.Omega.{arith}
-use lib.ListN.{length, length-take}
+use lib.ListN.{length}
 use Rattle.tlv.specs.declared.model.DebugSource.{DebugSource}
 use Rattle.tlv.specs.Lists.{Any, exists}
 use Rattle.tlv.specs.Bytes.{leAt}
@@ -14,12 +13,11 @@ use Rattle.tlv.specs.Fields.{fields}
 use Rattle.tlv.specs.Model.{units}
 use Rattle.tlv.specs.Places.{unitHere, entryHere, unitPlaces}
 use Rattle.tlv.specs.Checked.{Placed}
-use Rattle.tlv.specs.Table.{chunk, Kept}
+use Rattle.tlv.specs.Table.{Kept}
 use Rattle.tlv.specs.Index.{indexedOf}
 use Rattle.tlv.specs.Units.{unitOf24}
 use Rattle.tlv.proofs.ListLaws.{any-one}
-use Rattle.tlv.proofs.TableLaws.{le-or-lt, kept-wide}
-use Rattle.tlv.proofs.ChunkLaws.{chunk-part}
+use Rattle.tlv.proofs.TableLaws.{kept-wide}
 use Rattle.tlv.proofs.RecordLaws.{records-kept}
 use Rattle.tlv.proofs.CursorLaws.{field-within}
 use Rattle.tlv.proofs.PlaceFacts.{placed-start}
@@ -32,54 +30,10 @@ use Rattle.references.specs.declared.attributes.Reference.{Reference}
 use Rattle.references.specs.declared.names.EntryAt.{EntryAt}
 use Rattle.references.specs.Search.{DieKey, sameKey, attribute}
 use Rattle.references.specs.Tables.{IndexIn, EntryKnown, referenceOf}
-use Rattle.references.specs.Keys.{keyOf, keysAt, keyIn, Pushed, possibleKeys, PossibleKey, KeysIn}
+use Rattle.references.specs.Keys.{keysAt, keyIn, Pushed, PossibleKey, KeysIn, keysFrom, keysExtent, TrailIn}
 use Rattle.references.specs.Names.{Sourced, Stands, indexIn, SearchIn}
 use Rattle.references.proofs.TargetLaws.{known-unit}
-use Rattle.references.proofs.KeyLaws.{room-left, keys-in-pushed, possible-main-unit, possible-supplementary-unit}
-
--- ---- the targets are no more than there is room for
-
--- the keys of a work slice that is cut behind them
-cut-keys : (w : List ℕ) (base n z : ℕ) → n * 9 ≤ z → keysAt (chunk w 0 (base + z)) base n ≡ keysAt w base n
-unfolding keysAt
-cut-keys w base zero z h = refl
-cut-keys w base (suc n) z h = rw (chunk-part w 0 (base + z) (base + n * 9) 9 (omega arith), zero-add, cut-keys w base n z (omega arith))
-
-cut-short : (w : List ℕ) (m : ℕ) → length (chunk w 0 m) ≤ m
-unfolding chunk
-cut-short w m = rw length-take (omega arith)
-
-cut-long : (w : List ℕ) (m k : ℕ) → k ≤ m → k ≤ length w → k ≤ length (chunk w 0 m)
-unfolding chunk
-cut-long w m k h g = rw length-take (omega arith)
-
-module _ {main supplementary w : List ℕ} {base n : ℕ} (K : KeysIn main supplementary w base n) (k : DieKey) (possible : PossibleKey main supplementary k)
-    (new : exists (sameKey k) (keysAt w base n) ≡ false) where
-  -- a new key has room in a work slice that is cut behind the others and the room for all
-  cut-room : (z : ℕ) → n * 9 ≤ z → 9 * length (possibleKeys main supplementary) ≤ z → n * 9 + 9 ≤ z
-  cut-room z h g =
-      let same = cut-keys w base n z h in
-      let cut : KeysIn main supplementary (chunk w 0 (base + z)) base n = record {
-        distinct = rw same (K .distinct);
-        possible = rw same (K .possible);
-        room = cut-long w (base + z) (base + 9 * length (possibleKeys main supplementary)) (omega arith) (K .room);
-      } in
-      omega (arith, room-left cut k possible (rw same new), cut-short w (base + z))
-
-  pub keys-below : n * 9 + 9 ≤ 9 * length (possibleKeys main supplementary)
-  keys-below =
-      ⊎-elim (λ few. cut-room (9 * length (possibleKeys main supplementary)) (omega arith) (omega arith))
-      (λ many. let l = cut-room (n * 9) (omega arith) (omega arith) in absurd (let z : ⊥ = omega arith in z))
-      (le-or-lt n (length (possibleKeys main supplementary)))
-
--- the keys lie in the work slice
-pub keys-inside : {main supplementary w : List ℕ} {base : ℕ} (n : ℕ) → KeysIn main supplementary w base n → base + n * 9 ≤ length w
-unfolding keysAt
-keys-inside zero K = let room = K .room in omega arith
-keys-inside {main} {supplementary} {w} {base} (suc n) K =
-    let before : KeysIn main supplementary w base n = record { distinct = K .distinct .1; possible = K .possible .1; room = K .room } in
-    let l = room-left before (keyOf (chunk w (base + n * 9) 9)) (K .possible .0) (K .distinct .0) in
-    omega arith
+use Rattle.references.proofs.KeyLaws.{keys-below, room-left, keys-in-pushed, possible-main-unit, possible-supplementary-unit}
 
 -- ---- a target is written down
 
@@ -96,7 +50,7 @@ index-kept {x = x} I K below-units below-entries size = record {
 
 module _ {main supplementary w : List ℕ} {x : Tables} {n : ℕ} (S : SearchIn main supplementary w x n) where
   -- writes above the tables that leave the keys as they are said to be
-  search-kept : {w′ : List ℕ} {n′ m : ℕ} → Kept w w′ (x .keys) m → length w′ ≡ length w → KeysIn main supplementary w′ (x .keys) n′ → SearchIn main supplementary w′ x n′
+  search-kept : {w′ : List ℕ} {n′ m : ℕ} → Kept w w′ (x .keys) m → length w′ ≡ length w → KeysIn main supplementary w′ x n′ → SearchIn main supplementary w′ x n′
   search-kept K size keys = record {
     main-index = index-kept (S .main-index) K (S .main-units) (S .main-entries) size;
     supplementary-index = index-kept (S .supplementary-index) K (S .supplementary-units) (S .supplementary-entries) size;
@@ -107,13 +61,13 @@ module _ {main supplementary w : List ℕ} {x : Tables} {n : ℕ} (S : SearchIn 
     supplementary-entries = S .supplementary-entries;
   }
 
-  module _ {k : DieKey} (possible : PossibleKey main supplementary k) (new : exists (sameKey k) (keysAt w (x .keys) n) ≡ false) where
-    pub push-room : x .keys + n * 9 + 9 ≤ length w
+  module _ {k : DieKey} (possible : PossibleKey main supplementary k) (new : exists (sameKey k) (keysAt w (keysFrom x) n) ≡ false) where
+    pub push-room : TrailIn w x n 1
     push-room = room-left (S .keys) k possible new
 
-    module _ {w′ : List ℕ} (P : Pushed w w′ (x .keys) n k) where
-      pub push-kept : Kept w w′ (x .keys) (9 * length (possibleKeys main supplementary))
-      push-kept = let few = keys-below (S .keys) k possible new in kept-wide (x .keys) (9 * length (possibleKeys main supplementary)) (P .rest) (omega arith) (omega arith)
+    module _ {w′ : List ℕ} (P : Pushed w w′ x n k) where
+      pub push-kept : Kept w w′ (x .keys) (keysExtent main supplementary x)
+      push-kept = kept-wide (x .keys) (keysExtent main supplementary x) (P .rest) (omega arith) (omega (arith, keys-below (S .keys) k possible new))
 
       pub push-search : length w′ ≡ length w → SearchIn main supplementary w′ x (n + 1)
       push-search size = search-kept push-kept size (keys-in-pushed (S .keys) k possible new P size)

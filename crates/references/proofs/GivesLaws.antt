@@ -3,7 +3,7 @@ use mathlib.Core.Path.{_≡_, refl, sym, ap, _∙_}
 use mathlib.Core.Bool.{Bool, true, false, cond, not, true≢false}
 use mathlib.Core.List.{List, [], _∷_}
 use mathlib.Core.Option.{Option}
-use Prim.Native.Nat.{ℕ, _+_, _*_, _≤_}
+use Prim.Native.Nat.{ℕ, _+_}
 use native.Mathlib.Omega.{arith}
 use lib.Dec.{eqb}
 use lib.ListN.{length}
@@ -22,7 +22,7 @@ use Rattle.references.specs.declared.names.EntryAt.{EntryAt}
 use Rattle.references.specs.declared.names.OffsetAt.{OffsetAt}
 use Rattle.references.specs.Search.{Trail, DieKey, sameKey, isVisited, visit, visitEntry, unitContaining, unitsIn, followIn, followAbsolute, Named, resolveNameInner}
 use Rattle.references.specs.Tables.{Leads, bytesGiven}
-use Rattle.references.specs.Keys.{keysAt, keyIn, Pushed, possibleKeys, PossibleKey}
+use Rattle.references.specs.Keys.{keysAt, keyIn, Pushed, PossibleKey, keysFrom, keysExtent, TrailIn}
 use Rattle.references.specs.Names.{dwarfOf, searchSource, placeAt, Stands, Aims, trailAt, SearchIn, isAnswer, namedGiven, Gives, resolveAbsoluteName}
 use Rattle.references.proofs.FollowLaws.{push-room, push-kept, push-search}
 use Rattle.references.proofs.WayLaws.{key-source}
@@ -32,40 +32,40 @@ use Rattle.references.proofs.WayLaws.{key-source}
 module _ {main supplementary : List ℕ} {x : Tables} where
   -- at once
   pub gives-here : {w : List ℕ} {n st : ℕ} {r : List ℕ} (f : Trail → Outcome Named) → SearchIn main supplementary w x n
-      → ((k : ℕ) → f (trailAt w (x .keys) n k) ≡ namedGiven st (trailAt w (x .keys) n k) r) → Gives f main supplementary x w n w n st r
-  gives-here {w} f S e = record { reads = λ k. k; is = e; ready = S; rest = kept-refl w (x .keys) (9 * length (possibleKeys main supplementary)) }
+      → ((k : ℕ) → f (trailAt w (keysFrom x) n k) ≡ namedGiven st (trailAt w (keysFrom x) n k) r) → Gives f main supplementary x w n w n st r
+  gives-here {w} f S e = record { reads = λ k. k; is = e; ready = S; rest = kept-refl w (x .keys) (keysExtent main supplementary x) }
 
   -- nothing
   pub gives-nothing : {w : List ℕ} {n st : ℕ} (f : Trail → Outcome Named) → SearchIn main supplementary w x n → st ≡ 0
-      → ((k : ℕ) → f (trailAt w (x .keys) n k) ≡ done (record { trail = trailAt w (x .keys) n k; name = [] })) → Gives f main supplementary x w n w n st []
+      → ((k : ℕ) → f (trailAt w (keysFrom x) n k) ≡ done (record { trail = trailAt w (keysFrom x) n k; name = [] })) → Gives f main supplementary x w n w n st []
   unfolding namedGiven
   gives-nothing {st = st} f S z e = gives-here f S (λ k. e k ∙ rw (eq-eqb st 0 z))
 
   -- a refusal
   pub gives-refused : {w : List ℕ} {n st : ℕ} {r : List ℕ} (f : Trail → Outcome Named) → SearchIn main supplementary w x n → (st ≡ 0 → ⊥)
-      → ((k : ℕ) → f (trailAt w (x .keys) n k) ≡ refused st) → Gives f main supplementary x w n w n st r
+      → ((k : ℕ) → f (trailAt w (keysFrom x) n k) ≡ refused st) → Gives f main supplementary x w n w n st r
   unfolding namedGiven
   gives-refused {st = st} f S h e = gives-here f S (λ k. e k ∙ rw (ne-eqb st 0 h))
 
   -- as another search does from where this one has come to
   pub gives-after : {w w₁ w₂ : List ℕ} {n n₁ n₂ st : ℕ} {r : List ℕ} (f g : Trail → Outcome Named) (reads : ℕ → ℕ)
-      → Kept w w₁ (x .keys) (9 * length (possibleKeys main supplementary)) → ((k : ℕ) → f (trailAt w (x .keys) n k) ≡ g (trailAt w₁ (x .keys) n₁ (reads k)))
+      → Kept w w₁ (x .keys) (keysExtent main supplementary x) → ((k : ℕ) → f (trailAt w (keysFrom x) n k) ≡ g (trailAt w₁ (keysFrom x) n₁ (reads k)))
       → Gives g main supplementary x w₁ n₁ w₂ n₂ st r → Gives f main supplementary x w n w₂ n₂ st r
   gives-after f g reads K e G = record { reads = λ k. G .reads (reads k); is = λ k. e k ∙ G .is (reads k); ready = G .ready; rest = kept-trans K (G .rest) }
 
   -- a target is written down first
   module _ {w w₁ : List ℕ} {n : ℕ} {key : DieKey} (S : SearchIn main supplementary w x n) (possible : PossibleKey main supplementary key)
-      (new : exists (sameKey key) (keysAt w (x .keys) n) ≡ false) (P : Pushed w w₁ (x .keys) n key) where
-    trail-pushed : (k : ℕ) → record { visited = key ∷ keysAt w (x .keys) n; reads = k } ≡ trailAt w₁ (x .keys) (n + 1) k
+      (new : exists (sameKey key) (keysAt w (keysFrom x) n) ≡ false) (P : Pushed w w₁ x n key) where
+    trail-pushed : (k : ℕ) → record { visited = key ∷ keysAt w (keysFrom x) n; reads = k } ≡ trailAt w₁ (keysFrom x) (n + 1) k
     trail-pushed k = ap (λ (ks : List DieKey). record { visited = ks; reads = k }) (sym (P .keys))
 
     pub gives-pushed : {w₂ : List ℕ} {n₂ st : ℕ} {r : List ℕ} (f g : Trail → Outcome Named)
-        → ((k : ℕ) → f (trailAt w (x .keys) n k) ≡ g (visitEntry (trailAt w (x .keys) n k) key))
+        → ((k : ℕ) → f (trailAt w (keysFrom x) n k) ≡ g (visitEntry (trailAt w (keysFrom x) n k) key))
         → Gives g main supplementary x w₁ (n + 1) w₂ n₂ st r → Gives f main supplementary x w n w₂ n₂ st r
     gives-pushed f g e G = gives-after f g (λ k. k + 1) (push-kept S possible new P) (λ k. e k ∙ ap g (trail-pushed (k + 1))) G
 
     pub gives-outside : {st : ℕ} (f : Trail → Outcome Named) → length w₁ ≡ length w → st ≡ 0
-        → ((k : ℕ) → f (trailAt w (x .keys) n k) ≡ done (record { trail = visit (trailAt w (x .keys) n k) key; name = [] }))
+        → ((k : ℕ) → f (trailAt w (keysFrom x) n k) ≡ done (record { trail = visit (trailAt w (keysFrom x) n k) key; name = [] }))
         → Gives f main supplementary x w n w₁ (n + 1) st []
     gives-outside f size z e =
         let g : Trail → Outcome Named = λ t. done (record { trail = t; name = [] }) in
@@ -91,17 +91,17 @@ entryThere at p q = record { input = at .input; source = at .source; unit = q; p
 
 -- an offset that was not followed yet
 module _ {main supplementary w : List ℕ} {x : Tables} {n : ℕ} {at : OffsetAt} {v : Bool} (S : SearchIn main supplementary w x n) (A : Aims main supplementary at)
-    (seen : v ≡ exists (sameKey (keyIn (at .source) (at .target))) (keysAt w (x .keys) n)) (new : v ≡ false) where
-  pub offset-room : x .keys + n * 9 + 9 ≤ length w
+    (seen : v ≡ exists (sameKey (keyIn (at .source) (at .target))) (keysAt w (keysFrom x) n)) (new : v ≡ false) where
+  pub offset-room : TrailIn w x n 1
   offset-room = push-room S (A .possible) (sym seen ∙ new)
 
-  pub offset-search : {w₁ : List ℕ} → Pushed w w₁ (x .keys) n (keyIn (at .source) (at .target)) → length w₁ ≡ length w → SearchIn main supplementary w₁ x (n + 1)
+  pub offset-search : {w₁ : List ℕ} → Pushed w w₁ x n (keyIn (at .source) (at .target)) → length w₁ ≡ length w → SearchIn main supplementary w₁ x (n + 1)
   offset-search P size = push-search S (A .possible) (sym seen ∙ new) P size
 
 module _ {main supplementary w : List ℕ} {x : Tables} {n : ℕ} {at : OffsetAt} (depth : ℕ) (S : SearchIn main supplementary w x n) (A : Aims main supplementary at) {v : Bool}
-    (seen : v ≡ exists (sameKey (keyIn (at .source) (at .target))) (keysAt w (x .keys) n)) where
-  visited : exists (sameKey (keyAt at)) (keysAt w (x .keys) n) ≡ v
-  visited = ap (λ (k : DieKey). exists (sameKey k) (keysAt w (x .keys) n)) (key-source (at .source) (at .target)) ∙ sym seen
+    (seen : v ≡ exists (sameKey (keyIn (at .source) (at .target))) (keysAt w (keysFrom x) n)) where
+  visited : exists (sameKey (keyAt at)) (keysAt w (keysFrom x) n) ≡ v
+  visited = ap (λ (k : DieKey). exists (sameKey k) (keysAt w (keysFrom x) n)) (key-source (at .source) (at .target)) ∙ sym seen
 
   pub absolute-seen : {st : ℕ} → st ≡ 0 → v ≡ true → Gives (absolute depth main supplementary at) main supplementary x w n w n st []
   unfolding resolveAbsoluteName followAbsolute isVisited _>>=_
@@ -109,7 +109,7 @@ module _ {main supplementary w : List ℕ} {x : Tables} {n : ℕ} {at : OffsetAt
 
   module _ {s : List ℕ} (new : v ≡ false) (is : s ≡ sourceIn main supplementary (at .input)) {r : Target} (L : Leads s (at .target) r) where
     follows : {o : Option CompilationUnit} → unitContaining (units (sourceIn main supplementary (at .input))) (at .target) ≡ o
-        → (t : Trail) → t .visited ≡ keysAt w (x .keys) n
+        → (t : Trail) → t .visited ≡ keysAt w (keysFrom x) n
         → followAbsolute (dwarfOf main supplementary) (searchSource (at .input)) (searchSource (at .source)) t (at .target) ≡ followIn (searchSource (at .input)) (keyAt at) t o
     unfolding followAbsolute isVisited
     follows found t same = rw (same, visited, new, units-in main supplementary (at .input), found)
@@ -118,12 +118,12 @@ module _ {main supplementary w : List ℕ} {x : Tables} {n : ℕ} {at : OffsetAt
     unfolding resolveAbsoluteName _>>=_
     absolute-no-entry q to =
         let leads = rw (is, to) at L in
-        gives-refused (absolute depth main supplementary at) S (λ z. omega arith) (λ k. rw (follows (leads .is .0) (trailAt w (x .keys) n k) refl, leads .is .1))
+        gives-refused (absolute depth main supplementary at) S (λ z. omega arith) (λ k. rw (follows (leads .is .0) (trailAt w (keysFrom x) n k) refl, leads .is .1))
 
     pub absolute-stands : (p q : ℕ) → r ≡ Target.At p q → Stands main supplementary (entryThere at p q)
     absolute-stands p q to = let leads = rw (is, to) at L in record { known = leads .is .2; sourced = A .sourced }
 
-    module _ {w₁ : List ℕ} (P : Pushed w w₁ (x .keys) n (keyIn (at .source) (at .target))) where
+    module _ {w₁ : List ℕ} (P : Pushed w w₁ x n (keyIn (at .source) (at .target))) where
       pub absolute-outside : {st : ℕ} → r ≡ Target.Outside → length w₁ ≡ length w → st ≡ 0
           → Gives (absolute depth main supplementary at) main supplementary x w n w₁ (n + 1) st []
       unfolding resolveAbsoluteName _>>=_
@@ -131,8 +131,8 @@ module _ {main supplementary w : List ℕ} {x : Tables} {n : ℕ} {at : OffsetAt
           let leads = rw (is, to) at L in
           gives-outside S (A .possible) (sym seen ∙ new) P (absolute depth main supplementary at) size z
           (λ k.
-          rw (follows (leads .is) (trailAt w (x .keys) n k) refl)
-          (ap (λ (key : DieKey). done (record { trail = visit (trailAt w (x .keys) n k) key; name = [] })) (key-source (at .source) (at .target))))
+          rw (follows (leads .is) (trailAt w (keysFrom x) n k) refl)
+          (ap (λ (key : DieKey). done (record { trail = visit (trailAt w (keysFrom x) n k) key; name = [] })) (key-source (at .source) (at .target))))
 
       pub absolute-at : (p q : ℕ) → r ≡ Target.At p q → {w₂ name : List ℕ} {n₂ st : ℕ}
           → Gives (resolveNameInner depth (dwarfOf main supplementary) (placeAt main supplementary (entryThere at p q))) main supplementary x w₁ (n + 1) w₂ n₂ st name
@@ -143,8 +143,8 @@ module _ {main supplementary w : List ℕ} {x : Tables} {n : ℕ} {at : OffsetAt
           let inner : Trail → Outcome Named = resolveNameInner depth (dwarfOf main supplementary) (placeAt main supplementary (entryThere at p q)) in
           gives-pushed S (A .possible) (sym seen ∙ new) P (absolute depth main supplementary at) inner
           (λ k.
-          rw (follows (leads .is .0) (trailAt w (x .keys) n k) refl, leads .is .1)
-          (ap (λ (key : DieKey). inner (visitEntry (trailAt w (x .keys) n k) key)) (key-source (at .source) (at .target))))
+          rw (follows (leads .is .0) (trailAt w (keysFrom x) n k) refl, leads .is .1)
+          (ap (λ (key : DieKey). inner (visitEntry (trailAt w (keysFrom x) n k) key)) (key-source (at .source) (at .target))))
           G
 
 -- ---- an answer ends a search

@@ -1,10 +1,10 @@
 -- The targets that a search has followed: a new one, what stays, that there is room for each that can come, and which can. Assumes nothing.
 use mathlib.Core.Path.{_≡_, refl, sym, ap, _∙_}
-use mathlib.Core.Bool.{true, false, cond, _&&_, true≢false}
-use mathlib.Core.Logic.{inl, inr, ⊎-elim}
+use mathlib.Core.Bool.{Bool, true, false, cond, _&&_, true≢false}
+use mathlib.Core.Logic.{inl, inr}
 use mathlib.Core.List.{List, [], _∷_, _++_, map}
 use mathlib.Core.Option.{Option, none, some}
-use Prim.Native.Nat.{ℕ, zero, suc, _+_, _*_, _≤_}
+use Prim.Native.Nat.{ℕ, suc, _+_, _*_, _≤_}
 use native.Mathlib.Numerals.{add-one}
 use native.Mathlib.Omega.{arith}
 use lib.Dec.{eqb}
@@ -18,47 +18,54 @@ use Rattle.tlv.specs.Fields.{fields}
 use Rattle.tlv.specs.Grammar.{checkInput}
 use Rattle.tlv.specs.Model.{CompilationUnit, Entry, Attribute, units}
 use Rattle.tlv.specs.Places.{entryHere, unitHere, unitPlaces}
-use Rattle.tlv.specs.Table.{chunk, Apart, Kept, Wrote}
+use Rattle.tlv.specs.Table.{chunk, Kept, Wrote}
 use Rattle.tlv.proofs.TestLaws.{by-test}
 use Rattle.tlv.proofs.ListLaws.{all-map}
-use Rattle.tlv.proofs.TableLaws.{kept-trans, kept-wide, leAt-kept}
+use Rattle.tlv.proofs.TableLaws.{kept-trans, kept-wide, leAt-kept, but-one}
 use Rattle.tlv.proofs.UnitPlaceLaws.{units-places}
 use Rattle.tlv.proofs.IndexModel.{either}
 use Rattle.references.specs.declared.attributes.Reference.{Reference}
+use Rattle.references.specs.declared.tables.Tables.{Tables}
 use Rattle.references.specs.Search.{DebugSource as Source, DieKey, mainSource, supplementarySource, sameSource, sameKey, attribute}
 use Rattle.references.specs.Tables.{EntryKnown, referenceOf}
-use Rattle.references.specs.Keys.{keyOf, keysAt, keyIn, sourceByte, Pushed, mainKeys, supplementaryKeys, entryKeys, unitKeys, possibleKeys, PossibleKey, Distinct, KeysIn}
+use Rattle.references.specs.Keys.{keyOf, keysAt, keyIn, sourceByte, chainCount, keysFrom, keysExtent, many, Chained, TrailIn, Chains, Pushed, mainKeys, supplementaryKeys, entryKeys, unitKeys, possibleKeys, PossibleKey, Distinct, KeysIn}
 use Rattle.references.proofs.VisitedLaws.{key-is}
+use Rattle.references.proofs.ChainLaws.{keys-length, keys-clear, chained-clear, many-chained}
 use Rattle.references.proofs.TargetLaws.{first-any, known-unit, known-entry}
 
 -- ---- what stays, and a new key
-
-pub keys-length : (w : List ℕ) (base n : ℕ) → length (keysAt w base n) ≡ n
-unfolding keysAt
-keys-length w base zero = refl
-keys-length w base (suc n) = ap suc (keys-length w base n)
-
-pub keys-kept : {w w′ : List ℕ} {p m : ℕ} (base n : ℕ) → Kept w w′ p m → Apart base (n * 9) p m → keysAt w′ base n ≡ keysAt w base n
-unfolding keysAt
-keys-kept base zero K apart = refl
-keys-kept {w} {w′} {p} {m} base (suc n) K apart =
-    let one : Apart (base + n * 9) 9 p m = ⊎-elim (λ l. inl (omega arith)) (λ l. inr (omega arith)) apart in
-    let rest : Apart base (n * 9) p m = ⊎-elim (λ l. inl (omega arith)) (λ l. inr (omega arith)) apart in
-    rw (K .same (base + n * 9) 9 one, keys-kept base n K rest)
 
 source-is : (source : DebugSource) (o : ℕ) → record { source = cond (eqb (sourceByte source) 0) mainSource supplementarySource; offset = o } ≡ keyIn source o
 source-is DebugSource.Main o = refl
 source-is DebugSource.Supplementary o = refl
 
-pub pushed-key : {w w₁ w₂ : List ℕ} (base n b : ℕ) {o : ℕ} (source : DebugSource) → b ≡ sourceByte source → Wrote w w₁ (base + n * 9) 1 b → Wrote w₁ w₂ (base + n * 9 + 1) 8 o
-    → Pushed w w₂ base n (keyIn source o)
-unfolding keysAt
-pushed-key {w} {w₁} {w₂} base n b {o} source is A B =
-    let p : ℕ = base + n * 9 in
-    let all : Kept w w₂ p 9 = kept-trans (kept-wide p 9 (A .rest) (omega arith) (omega arith)) (kept-wide p 9 (B .rest) (omega arith) (omega arith)) in
-    let first : leAt 1 w₂ p ≡ sourceByte source = leAt-kept 1 p (B .rest) (inl (omega arith)) ∙ A .value ∙ is in
-    let key : keyOf (chunk w₂ p 9) ≡ keyIn source o = key-is w₂ p (sourceByte source) o first (B .value) ∙ source-is source o in
-    record { keys = rw (add-one n, key, keys-kept base n all (inl (omega arith))); rest = all }
+module _ {w w₁ w₂ : List ℕ} (x : Tables) (n : ℕ) (source : DebugSource) {base b o : ℕ} (eb : base ≡ keysFrom x) (is : b ≡ sourceByte source)
+    (A : Wrote w w₁ (base + n * 13) 1 b) (B : Wrote w₁ w₂ (base + n * 13 + 1) 8 o) where
+  written : Kept w w₂ (keysFrom x + n * 13) 9
+  written = rw eb at (kept-trans (kept-wide (base + n * 13) 9 (A .rest) (omega arith) (omega arith)) (kept-wide (base + n * 13) 9 (B .rest) (omega arith) (omega arith)))
+
+  written-key : keysAt w₂ (keysFrom x) (n + 1) ≡ keyIn source o ∷ keysAt w (keysFrom x) n
+  unfolding keysAt
+  written-key =
+      let first : leAt 1 w₂ (base + n * 13) ≡ sourceByte source = leAt-kept 1 (base + n * 13) (B .rest) (inl (omega arith)) ∙ A .value ∙ is in
+      let key : keyOf (chunk w₂ (base + n * 13) 9) ≡ keyIn source o = key-is w₂ (base + n * 13) (sourceByte source) o first (B .value) ∙ source-is source o in
+      rw (add-one n, rw eb at key, keys-clear (keysFrom x) n (but-one written) (inl (omega arith), tt))
+
+  written-rest : Kept w w₂ (x .keys) (chainCount x * 4 + (n + 1) * 13)
+  written-rest = kept-wide (x .keys) (chainCount x * 4 + (n + 1) * 13) written (omega arith) (omega arith)
+
+  -- the older ones are still in chains
+  pub written-chains : {v : Bool} → TrailIn w x n 1 → v ≡ many n → v ≡ true → Chained w₂ x n
+  written-chains T e y = chained-clear (many-chained T e y) (but-one written) (inl (omega arith), tt)
+
+  -- few: there are no chains
+  pub pushed-few : {v : Bool} {n′ : ℕ} → n′ ≡ n + 1 → v ≡ many n′ → v ≡ false → Pushed w w₂ x n (keyIn source o)
+  pushed-few en e not-many = record { keys = written-key; chained = λ y. absurd (true≢false (sym y ∙ sym (rw en at e) ∙ not-many)); rest = written-rest }
+
+  pub pushed-chained : {w₃ : List ℕ} {n′ : ℕ} → n′ ≡ n + 1 → Chains w₂ w₃ x n′ → Pushed w w₃ x n (keyIn source o)
+  pushed-chained {w₃} en C′ =
+      let C : Chains w₂ w₃ x (n + 1) = rw en at C′ in
+      record { keys = C .keys (n + 1) ∙ written-key; chained = λ _. C .chained; rest = kept-trans written-rest (C .rest) }
 
 -- ---- room: keys that are different and possible are no more than the possible ones
 
@@ -103,35 +110,36 @@ distinct-few (k ∷ ks) ps d h =
     let one = without-length k ps (h .0) in
     omega arith
 
-module _ {main supplementary w : List ℕ} {base n : ℕ} (K : KeysIn main supplementary w base n) (k : DieKey) (possible : PossibleKey main supplementary k)
-    (new : exists (sameKey k) (keysAt w base n) ≡ false) where
-  -- a possible key that is new has room
-  pub room-left : base + n * 9 + 9 ≤ length w
-  room-left =
-      let few = distinct-few (k ∷ keysAt w base n) (possibleKeys main supplementary) (new, K .distinct)
-      (possible .listed, all-map (keysAt w base n) (λ x p. p .listed) (K .possible)) in
-      let many = keys-length w base n in
-      let room = K .room in
-      omega arith
+module _ {main supplementary w : List ℕ} {x : Tables} {n : ℕ} (K : KeysIn main supplementary w x n) where
+  listed : All (λ k. Any (λ y. k ≡ y) (possibleKeys main supplementary)) (keysAt w (keysFrom x) n)
+  listed = all-map (keysAt w (keysFrom x) n) (λ k p. p .listed) (K .possible)
 
-  pub keys-in-pushed : {w′ : List ℕ} → Pushed w w′ base n k → length w′ ≡ length w → KeysIn main supplementary w′ base (n + 1)
-  keys-in-pushed P size = record {
-    distinct = rw (P .keys) (new, K .distinct);
-    possible = rw (P .keys) (possible, K .possible);
-    room = rw size (K .room);
-  }
+  -- the keys lie in the work slice
+  pub keys-inside : TrailIn w x n 0
+  keys-inside =
+      let few = distinct-few (keysAt w (keysFrom x) n) (possibleKeys main supplementary) (K .distinct) listed in
+      record { room = omega (arith, K .room, keys-length w (keysFrom x) n); chained = K .chained }
+
+  module _ (k : DieKey) (possible : PossibleKey main supplementary k) (new : exists (sameKey k) (keysAt w (keysFrom x) n) ≡ false) where
+    -- a possible key that is new has room
+    pub keys-below : n + 1 ≤ length (possibleKeys main supplementary)
+    keys-below = omega (arith, distinct-few (k ∷ keysAt w (keysFrom x) n) (possibleKeys main supplementary) (new, K .distinct) (possible .listed, listed), keys-length w (keysFrom x) n)
+
+    pub room-left : TrailIn w x n 1
+    room-left = record { room = omega (arith, K .room, keys-below); chained = K .chained }
+
+    pub keys-in-pushed : {w′ : List ℕ} → Pushed w w′ x n k → length w′ ≡ length w → KeysIn main supplementary w′ x (n + 1)
+    keys-in-pushed P size = record {
+      distinct = rw (P .keys) (new, K .distinct);
+      possible = rw (P .keys) (possible, K .possible);
+      chained = P .chained;
+      room = rw size (K .room);
+    }
 
 -- no keys yet
-pub keys-in-none : {main supplementary w : List ℕ} {base : ℕ} → base + 9 * length (possibleKeys main supplementary) ≤ length w → KeysIn main supplementary w base 0
-unfolding keysAt
-keys-in-none room = record { distinct = tt; possible = tt; room = room }
-
--- a write elsewhere
-pub keys-in-kept : {main supplementary w w′ : List ℕ} {base n p m : ℕ} → KeysIn main supplementary w base n → Kept w w′ p m → Apart base (n * 9) p m → length w′ ≡ length w
-    → KeysIn main supplementary w′ base n
-keys-in-kept {main} {supplementary} {w} {w′} {base} {n} K kept apart size =
-    let same = keys-kept base n kept apart in
-    record { distinct = rw same (K .distinct); possible = rw same (K .possible); room = rw size (K .room) }
+pub keys-in-none : {main supplementary w : List ℕ} {x : Tables} → x .keys + keysExtent main supplementary x ≤ length w → KeysIn main supplementary w x 0
+unfolding keysAt many
+keys-in-none room = record { distinct = tt; possible = tt; chained = λ y. absurd (true≢false (sym y)); room = room }
 
 -- ---- the keys that an attribute can be remembered under are possible
 

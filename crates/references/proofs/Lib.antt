@@ -5,6 +5,7 @@ pub mod ReferenceLaws
 pub mod NumberLaws
 pub mod TargetLaws
 pub mod VisitedLaws
+pub mod ChainLaws
 pub mod KeyLaws
 pub mod FewKeys
 pub mod FollowLaws

@@ -3,7 +3,7 @@ use mathlib.Core.Path.{_≡_, refl, sym, ap, _∙_}
 use mathlib.Core.Bool.{Bool, true, false, cond}
 use mathlib.Core.List.{List, [], _∷_}
 use mathlib.Core.Option.{Option, none, some}
-use Prim.Native.Nat.{ℕ, zero, suc, _+_, _-_, _*_, _≤_, _<_}
+use Prim.Native.Nat.{ℕ, zero, suc, _+_, _-_, _≤_, _<_}
 use native.Mathlib.Omega.{arith}
 use lib.ListN.{length}
 use borrow.Author.Tests.{eq-eqb, ne-eqb}
@@ -21,7 +21,7 @@ use Rattle.references.specs.declared.names.Way.{Way}
 use Rattle.references.specs.declared.names.FoundName.{FoundName}
 use Rattle.references.specs.Search.{Dwarf, Trail, Followed, emptyTrail, attribute, follow, placeIn, originAttributes, nameAttributes, ownName, Named, nameAtTarget, referencedName, resolveNameInner, resolveNamed, resolveName, resolveReferenceName}
 use Rattle.references.specs.Tables.{EntryKnown, OwnNamed, bytesGiven}
-use Rattle.references.specs.Keys.{keysAt, keyIn, Pushed, possibleKeys}
+use Rattle.references.specs.Keys.{keysAt, keyIn, Pushed, keysFrom, keysExtent, TrailIn}
 use Rattle.references.specs.Names.{dwarfOf, searchSource, placeAt, startAt, Stands, trailAt, SearchIn, followFrom, Ways, isAnswer, namedGiven, Gives, resolveAbsoluteName, foundName, referenceName, Resolved}
 use Rattle.references.proofs.FollowLaws.{push-room, push-search}
 use Rattle.references.proofs.GivesLaws.{gives-here, gives-nothing, gives-refused, gives-after, gives-pushed, bind-assoc, no-answer, own-ends, name-ends, name-goes, name-bytes}
@@ -49,7 +49,7 @@ module _ {main supplementary w : List ℕ} {x : Tables} {n : ℕ} {r : Way} (at 
   from-refused k st to = let N = way-is W to .is in gives-refused (referredName k main supplementary at name) S (N .0) (λ j. rw (N .1 j))
 
   module _ (next : EntryAt) (target : ℕ) (to : r ≡ Way.Entry next target) where
-    pub entry-room : x .keys + n * 9 + 9 ≤ length w
+    pub entry-room : TrailIn w x n 1
     entry-room = let N = way-is W to .is in push-room S (N .possible) (N .new)
 
     pub entry-stands : Stands main supplementary next
@@ -58,7 +58,7 @@ module _ {main supplementary w : List ℕ} {x : Tables} {n : ℕ} {r : Way} (at 
     pub entry-deeper : next .depth ≡ at .depth + 1
     entry-deeper = way-is W to .is .deeper
 
-    module _ {w₁ : List ℕ} (P : Pushed w w₁ (x .keys) n (keyIn (next .source) target)) where
+    module _ {w₁ : List ℕ} (P : Pushed w w₁ x n (keyIn (next .source) target)) where
       pub entry-search : length w₁ ≡ length w → SearchIn main supplementary w₁ x (n + 1)
       entry-search size = let N = way-is W to .is in push-search S (N .possible) (N .new) P size
 
@@ -79,7 +79,7 @@ module _ {main supplementary w : List ℕ} {x : Tables} {n : ℕ} {r : Way} (at 
       let N = way-is W to .is in
       gives-after (referredName (64 - (at .depth + 1)) main supplementary at name)
       (resolveAbsoluteName (64 - (at .depth + 1)) (dwarfOf main supplementary) (searchSource (next .input)) (searchSource (next .source)) (next .target)) (λ j. j)
-      (kept-refl w (x .keys) (9 * length (possibleKeys main supplementary))) (λ j. rw (N .is j)) (rw (N .deeper) at G)
+      (kept-refl w (x .keys) (keysExtent main supplementary x)) (λ j. rw (N .is j)) (rw (N .deeper) at G)
 
 -- ---- the own name
 
@@ -103,10 +103,10 @@ pub record Going (main supplementary : List ℕ) (x : Tables) (at : EntryAt) (w�
   pub shallow : at .depth < 64
   pub stands : Stands main supplementary at
   pub ready : SearchIn main supplementary w x n
-  pub rest : Kept w₀ w (x .keys) (9 * length (possibleKeys main supplementary))
+  pub rest : Kept w₀ w (x .keys) (keysExtent main supplementary x)
   pub size : length w ≡ length w₀
   pub reads : ℕ → ℕ
-  pub goes : (k : ℕ) → inner main supplementary at (trailAt w₀ (x .keys) n₀ k) ≡ referenced main supplementary at (origins name left) (trailAt w (x .keys) n (reads k))
+  pub goes : (k : ℕ) → inner main supplementary at (trailAt w₀ (keysFrom x) n₀ k) ≡ referenced main supplementary at (origins name left) (trailAt w (keysFrom x) n (reads k))
 
 module _ {main supplementary w : List ℕ} {x : Tables} {n : ℕ} {at : EntryAt} (S : SearchIn main supplementary w x n) (A : Stands main supplementary at) where
   pub inner-deep : {st : ℕ} → 64 ≤ at .depth → st ≡ 0 → Gives (inner main supplementary at) main supplementary x w n w n st []
@@ -125,7 +125,7 @@ module _ {main supplementary w : List ℕ} {x : Tables} {n : ℕ} {at : EntryAt}
     pub inner-named : v ≡ true → Gives (inner main supplementary at) main supplementary x w n w n st own
     inner-named y =
         gives-here (inner main supplementary at) S
-        (λ k. let t = trailAt w (x .keys) n k in inner-own t ∙ own-ends st own t (referenced main supplementary at originAttributes t) (sym e ∙ y))
+        (λ k. let t = trailAt w (keysFrom x) n k in inner-own t ∙ own-ends st own t (referenced main supplementary at originAttributes t) (sym e ∙ y))
 
     pub inner-goes : v ≡ false → Going main supplementary x at w n w n st 0x31 2
     unfolding bytesGiven origins _>>=_
@@ -136,10 +136,10 @@ module _ {main supplementary w : List ℕ} {x : Tables} {n : ℕ} {at : EntryAt}
           shallow = shallow;
           stands = A;
           ready = S;
-          rest = kept-refl w (x .keys) (9 * length (possibleKeys main supplementary));
+          rest = kept-refl w (x .keys) (keysExtent main supplementary x);
           size = refl;
           reads = λ k. k;
-          goes = λ k. inner-own (trailAt w (x .keys) n k) ∙ rw (h .0, h .1);
+          goes = λ k. inner-own (trailAt w (keysFrom x) n k) ∙ rw (h .0, h .1);
         }
 
 -- ---- a turn
@@ -156,18 +156,18 @@ referenced-step main supplementary at name names t = sym (bind-assoc (follow (dw
 
 module _ {main supplementary w₀ w w₁ bytes : List ℕ} {x : Tables} {at : EntryAt} {n₀ n n₁ st₀ st name left : ℕ} {v : Bool} (G : Going main supplementary x at w₀ n₀ w n st₀ name left) (more : 0 < left)
     (T : Gives (referredName (64 - (at .depth + 1)) main supplementary at name) main supplementary x w n w₁ n₁ st bytes) (e : v ≡ isAnswer st bytes) where
-  turn : (k : ℕ) → inner main supplementary at (trailAt w₀ (x .keys) n₀ k)
-      ≡ (namedGiven st (trailAt w₁ (x .keys) n₁ (T .reads (G .reads k))) bytes >>= λ m. cond (isEmpty (m .name)) (referenced main supplementary at (origins 0x47 (left - 1)) (m .trail)) (done m))
+  turn : (k : ℕ) → inner main supplementary at (trailAt w₀ (keysFrom x) n₀ k)
+      ≡ (namedGiven st (trailAt w₁ (keysFrom x) n₁ (T .reads (G .reads k))) bytes >>= λ m. cond (isEmpty (m .name)) (referenced main supplementary at (origins 0x47 (left - 1)) (m .trail)) (done m))
   turn k =
       G .goes k
-      ∙ ap (λ (names : List ℕ). referenced main supplementary at names (trailAt w (x .keys) n (G .reads k))) (origins-step name left more)
-      ∙ referenced-step main supplementary at name (origins 0x47 (left - 1)) (trailAt w (x .keys) n (G .reads k))
+      ∙ ap (λ (names : List ℕ). referenced main supplementary at names (trailAt w (keysFrom x) n (G .reads k))) (origins-step name left more)
+      ∙ referenced-step main supplementary at name (origins 0x47 (left - 1)) (trailAt w (keysFrom x) n (G .reads k))
       ∙ ap (λ (o : Outcome Named). o >>= λ m. cond (isEmpty (m .name)) (referenced main supplementary at (origins 0x47 (left - 1)) (m .trail)) (done m)) (T .is (G .reads k))
 
   pub turn-ends : v ≡ true → Gives (inner main supplementary at) main supplementary x w₀ n₀ w₁ n₁ st bytes
   turn-ends y = record {
     reads = λ k. T .reads (G .reads k);
-    is = λ k. turn k ∙ name-ends st bytes (trailAt w₁ (x .keys) n₁ (T .reads (G .reads k))) (referenced main supplementary at (origins 0x47 (left - 1))) (sym e ∙ y);
+    is = λ k. turn k ∙ name-ends st bytes (trailAt w₁ (keysFrom x) n₁ (T .reads (G .reads k))) (referenced main supplementary at (origins 0x47 (left - 1))) (sym e ∙ y);
     ready = T .ready;
     rest = kept-trans (G .rest) (T .rest);
   }
@@ -181,7 +181,7 @@ module _ {main supplementary w₀ w w₁ bytes : List ℕ} {x : Tables} {at : En
     rest = kept-trans (G .rest) (T .rest);
     size = same ∙ G .size;
     reads = λ k. T .reads (G .reads k);
-    goes = λ k. turn k ∙ name-goes st bytes (trailAt w₁ (x .keys) n₁ (T .reads (G .reads k))) (referenced main supplementary at (origins 0x47 (left - 1))) (sym e ∙ y);
+    goes = λ k. turn k ∙ name-goes st bytes (trailAt w₁ (keysFrom x) n₁ (T .reads (G .reads k))) (referenced main supplementary at (origins 0x47 (left - 1))) (sym e ∙ y);
   }
 
 refused-answer : (st : ℕ) (bytes : List ℕ) → (st ≡ 0 → ⊥) → true ≡ isAnswer st bytes
@@ -229,7 +229,7 @@ module _ {main supplementary : List ℕ} (q p : ℕ) {at : EntryAt} (is : at ≡
   unfolding resolveName resolveNamed keysAt
   resolved-name {w} {w′} {bytes} {x} {n′} {st} G =
       let H = rw is at G in
-      let t = trailAt w′ (x .keys) n′ (H .reads 1) in
+      let t = trailAt w′ (keysFrom x) n′ (H .reads 1) in
       record {
         is = sym (ap (λ (o : Outcome Named). o >>= λ m. done (m .name)) (H .is 1) ∙ name-bytes st bytes t);
         rest = H .rest;
@@ -240,7 +240,7 @@ module _ {main supplementary : List ℕ} (q p : ℕ) {at : EntryAt} (is : at ≡
   unfolding referredName followFrom keysAt
   resolved-reference {w} {w′} {bytes} {x} {n′} {st} name G =
       let H = rw is at G in
-      let t = trailAt w′ (x .keys) n′ (H .reads 1) in
+      let t = trailAt w′ (keysFrom x) n′ (H .reads 1) in
       record {
         is = sym (reference-name (dwarfOf main supplementary) (unitHere main q) (entryHere main p) (attribute (entryHere main p) name) ∙ ap (λ (o : Outcome Named). o >>= λ m. done (m .name)) (H .is 1) ∙ name-bytes st bytes t);
         rest = H .rest;

@@ -28,7 +28,7 @@ use Rattle.references.specs.declared.declarations.Declared.{Declared}
 use Rattle.references.specs.declared.declarations.Joined.{Joined}
 use Rattle.references.specs.declared.declarations.Aim.{Aim}
 use Rattle.references.specs.Search.{DieKey, sameKey, Followed, Target, nothing, sameUnit, byOffset, Declaring, DeclarationSearch, withTrail, declarationAtTarget, resolveDeclaration}
-use Rattle.references.specs.Keys.{keysAt, keyIn, Pushed, PossibleKey}
+use Rattle.references.specs.Keys.{keysAt, keyIn, Pushed, PossibleKey, keysFrom}
 use Rattle.references.specs.Names.{dwarfOf, searchSource, placeAt, trailAt, followFrom, EntryNext, OffsetNext, Ways, Aims}
 use Rattle.references.specs.Declarations.{indicesAt, declaringAt, DeclaringIn, DeclaredState, searched, Declares, Reaching, resolveReference, resolveAbsolute}
 use Rattle.references.specs.DeclaredSteps.{JoinedTo, Joins, followOffset, AimOutside, AimEntry, Aimed}
@@ -42,7 +42,7 @@ more st = record { count = st .count + 1; table = st .table; warned = st .warned
 -- ---- a target is written down
 
 module _ {main supplementary w w₁ : List ℕ} {d : Places} {st : DeclaringState} (D : DeclaringIn main supplementary w d st) {k : DieKey} (possible : PossibleKey main supplementary k)
-    (new : exists (sameKey k) (keysAt w (d .tables .keys) (st .count)) ≡ false) (P : Pushed w w₁ (d .tables .keys) (st .count) k) (size : length w₁ ≡ length w) where
+    (new : exists (sameKey k) (keysAt w (keysFrom (d .tables)) (st .count)) ≡ false) (P : Pushed w w₁ (d .tables) (st .count) k) (size : length w₁ ≡ length w) where
   pushed-state : (files warnings : List ℕ) → length files < top → length warnings < top → DeclaredState main supplementary w w₁ files files warnings warnings d st (more st) []
   unfolding warningsBytes filesBytes eachOf tableOf
   pushed-state files warnings few short = record {
@@ -60,7 +60,7 @@ module _ {main supplementary w w₁ : List ℕ} {d : Places} {st : DeclaringStat
   }
 
   pushed-at : (ws : List Warning) (n : ℕ)
-      → record { trail = record { visited = k ∷ keysAt w (d .tables .keys) (st .count); reads = n }; table = tableOf main supplementary w (st .table); warnings = ws; found = none }
+      → record { trail = record { visited = k ∷ keysAt w (keysFrom (d .tables)) (st .count); reads = n }; table = tableOf main supplementary w (st .table); warnings = ws; found = none }
       ≡ declaringAt main supplementary w₁ d (more st) (ws ++ []) n
   pushed-at ws n = rw (append-nil ws, P .keys, pushed-table D possible new P)
 
@@ -92,7 +92,7 @@ module _ {main supplementary w : List ℕ} {d : Places} {st : DeclaringState} (D
     next-unit : placeAt main supplementary next .unit ≡ placeAt main supplementary at .unit
     next-unit = same-unit main supplementary at name _ _ (placeAt main supplementary next) (N .is 0)
 
-    module _ {w₁ : List ℕ} (P : Pushed w w₁ (d .tables .keys) (st .count) (keyIn (next .source) target)) where
+    module _ {w₁ : List ℕ} (P : Pushed w w₁ (d .tables) (st .count) (keyIn (next .source) target)) where
       pub entry-reaching : Reaching main supplementary w₁ (more st) next reached
       entry-reaching = reaching-as R (pushed-table D (N .possible) (N .new) P) next-unit
 
@@ -128,7 +128,7 @@ module _ {main supplementary w : List ℕ} {d : Places} {st : DeclaringState} (D
   unfolding resolveReference resolveAbsolute
   reference-offset is {next} r N G =
       declares-as r (λ k ws. rw (N .is k) (far-as (resolveDeclaration (64 - (at .depth + 1)) (dwarfOf main supplementary)) is (declaringAt main supplementary w d st ws k) _
-      (absolute-far (dwarfOf main supplementary) (searchSource (next .input)) (searchSource (next .source)) (trailAt w (d .tables .keys) (st .count) k) (next .target)))) (rw (N .deeper) at G)
+      (absolute-far (dwarfOf main supplementary) (searchSource (next .input)) (searchSource (next .source)) (trailAt w (keysFrom (d .tables)) (st .count) k) (next .target)))) (rw (N .deeper) at G)
 
 -- ---- an offset of a section
 
@@ -149,7 +149,7 @@ module _ {main supplementary w : List ℕ} {d : Places} {st : DeclaringState} (D
   pub aim-in : (next : EntryAt) (y : Aim) → y ≡ Aim.Entry next → Aimed main supplementary w (d .tables) (st .count) at y → AimEntry main supplementary w (d .tables) (st .count) at next
   aim-in next y to A = rw to at (A .is)
 
-  module _ (a : Aims main supplementary at) {w₁ : List ℕ} (P : Pushed w w₁ (d .tables .keys) (st .count) (keyIn (at .source) (at .target))) (size : length w₁ ≡ length w) where
+  module _ (a : Aims main supplementary at) {w₁ : List ℕ} (P : Pushed w w₁ (d .tables) (st .count) (keyIn (at .source) (at .target))) (size : length w₁ ≡ length w) where
     pub absolute-outside : {files warnings : List ℕ} → length files < top → length warnings < top → AimOutside main supplementary w (d .tables) (st .count) at
         → Declares (resolveAbsolute (64 - at .depth) main supplementary at) main supplementary w w₁ files files warnings warnings d st (Declared.Missing (more st))
     unfolding resolveAbsolute followOffset _>>=_
@@ -204,6 +204,6 @@ module _ {main supplementary w : List ℕ} {d : Places} {st : DeclaringState} (D
             → Declares (resolveAbsolute (64 - at .depth) main supplementary at) main supplementary w w₃ files files₃ warnings warnings₃ d st r
         unfolding resolveAbsolute followOffset _>>=_ indicesAt
         absolute-entry {warnings} few short r G =
-            let keys : keysAt w₂ (d .tables .keys) (st .count + 1) ≡ keyIn (at .source) (at .target) ∷ keysAt w (d .tables .keys) (st .count) = lower-keys ready₁ (J .rest) size₂ ∙ P .keys in
+            let keys : keysAt w₂ (keysFrom (d .tables)) (st .count + 1) ≡ keyIn (at .source) (at .target) ∷ keysAt w (keysFrom (d .tables)) (st .count) = lower-keys ready₁ (J .rest) size₂ ∙ P .keys in
             declares-after (joined-state warnings few short) rest₂ r (λ k. k + 1)
             (λ k ws. rw (A .is k, ← pushed-table D (a .possible) (A .new) P, joined .is, append-nil ws, keys)) (rw (A .depth) at G)

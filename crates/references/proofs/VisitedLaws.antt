@@ -28,11 +28,11 @@ and-no : (b : Bool) → false ≡ (b && false)
 and-no true = refl
 and-no false = refl
 
-offset-in : (source : DebugSource) (o : ℕ) → keyIn source o .offset ≡ o
+pub offset-in : (source : DebugSource) (o : ℕ) → keyIn source o .offset ≡ o
 offset-in DebugSource.Main o = refl
 offset-in DebugSource.Supplementary o = refl
 
-offsets-differ : (a b : DieKey) → (a .offset ≡ b .offset → ⊥) → false ≡ sameKey a b
+pub offsets-differ : (a b : DieKey) → (a .offset ≡ b .offset → ⊥) → false ≡ sameKey a b
 offsets-differ a b h = rw (ne-eqb (a .offset) (b .offset) h) (and-no (sameSource (a .source) (b .source)))
 
 module _ (w : List ℕ) (p : ℕ) (source : DebugSource) (offset v : ℕ) (ev : v ≡ leAt 8 w (p + 1)) where
@@ -57,7 +57,7 @@ module _ (w : List ℕ) (p : ℕ) (source : DebugSource) (offset v : ℕ) (ev : 
 
 -- ---- whether a key is among those at base: the loop counts down
 
-keys-step : (w : List ℕ) (base i : ℕ) → 0 < i → keysAt w base i ≡ keyOf (chunk w (base + (i - 1) * 9) 9) ∷ keysAt w base (i - 1)
+pub keys-step : (w : List ℕ) (base i : ℕ) → 0 < i → keysAt w base i ≡ keyOf (chunk w (base + (i - 1) * 13) 9) ∷ keysAt w base (i - 1)
 unfolding keysAt
 keys-step w base zero h = absurd (omega arith)
 keys-step w base (suc j) h = let z : suc j - 1 ≡ j = omega arith in rw z
@@ -75,7 +75,7 @@ module _ {w : List ℕ} {base n : ℕ} {source : DebugSource} {offset i : ℕ} (
   unfolding keysAt exists
   looking-done h = let z : i ≡ 0 = omega arith in sym (L .same ∙ rw z)
 
-  module _ (more : 0 < i) (r : Bool) (e : r ≡ sameKey (keyIn source offset) (keyOf (chunk w (base + (i - 1) * 9) 9))) where
+  module _ (more : 0 < i) (r : Bool) (e : r ≡ sameKey (keyIn source offset) (keyOf (chunk w (base + (i - 1) * 13) 9))) where
     turn : exists (sameKey (keyIn source offset)) (keysAt w base n) ≡ cond r true (exists (sameKey (keyIn source offset)) (keysAt w base (i - 1)))
     unfolding exists
     turn = L .same ∙ rw (keys-step w base i more, e)

@@ -30,7 +30,7 @@ use Rattle.references.specs.declared.names.EntryAt.{EntryAt}
 use Rattle.references.specs.declared.names.Way.{Way}
 use Rattle.references.specs.Search.{Dwarf, Place, Trail, DieKey, sameKey, mainSource, isVisited, visitEntry, attribute, absoluteEntryOffset, entryAt, Followed, sameUnit, followedNothing, followUnit, followAbsolute, followSupplementary, follow}
 use Rattle.references.specs.Tables.{EntryKnown, referenceOf, LeadsIn}
-use Rattle.references.specs.Keys.{keysAt, keyIn, PossibleKey}
+use Rattle.references.specs.Keys.{keysAt, keyIn, PossibleKey, keysFrom}
 use Rattle.references.specs.Names.{dwarfOf, searchSource, placeAt, Sourced, Stands, SearchIn, followUnitFrom, followFrom, Ways}
 use Rattle.references.proofs.tables.Target.{the-type}
 use Rattle.references.proofs.KeyLaws.{possible-main-section, possible-main-supplementary, possible-supplementary-section}
@@ -83,7 +83,7 @@ module _ {main supplementary w s : List ℕ} {x : Tables} {n own : ℕ} {at : En
   unfolding followUnitFrom followUnit absoluteEntryOffset _>>=_
   way-overflow h = record { is = (λ z. omega arith, λ k. rw (own-offset, le-ltb (own + o) (2 ^ 64) h)) }
 
-  module _ (small : own + o < 2 ^ 64) (v : Bool) (seen : v ≡ exists (sameKey (keyIn (at .source) (own + o))) (keysAt w (x .keys) n)) where
+  module _ (small : own + o < 2 ^ 64) (v : Bool) (seen : v ≡ exists (sameKey (keyIn (at .source) (own + o))) (keysAt w (keysFrom x) n)) where
     absolute-is : absoluteEntryOffset (unitHere (sourceIn main supplementary (at .input)) (at .unit)) o ≡ done (own + o)
     unfolding absoluteEntryOffset
     absolute-is = rw (own-offset, lt-ltb (own + o) (2 ^ 64) small)

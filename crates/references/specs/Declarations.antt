@@ -26,7 +26,7 @@ use Rattle.references.specs.declared.declarations.Declared.{Declared}
 use Rattle.references.specs.declared.names.EntryAt.{EntryAt}
 use Rattle.references.specs.declared.names.OffsetAt.{OffsetAt}
 use Rattle.references.specs.Search.{Declaring, withFound, withTrail, followAbsolute, declarationAtTarget, resolveDeclaration}
-use Rattle.references.specs.Keys.{possibleKeys}
+use Rattle.references.specs.Keys.{keysFrom, keysExtent}
 use Rattle.references.specs.Names.{trailAt, SearchIn, dwarfOf, searchSource, followFrom}
 
 -- the numbers of the files of a unit that was reached by section offset, all of which are in the table
@@ -48,7 +48,7 @@ indicesAt main supplementary w d st input q reached =
 -- the search's state in w, with the warnings so far; how many entries it read decides nothing here
 abbrev pub declaringAt : List ℕ → List ℕ → List ℕ → Places → DeclaringState → List Warning → ℕ → Declaring
 declaringAt main supplementary w d st ws reads = record {
-  trail = trailAt w (d .tables .keys) (st .count) reads;
+  trail = trailAt w (keysFrom (d .tables)) (st .count) reads;
   table = tableOf main supplementary w (st .table);
   warnings = ws;
   found = none;
@@ -92,7 +92,7 @@ abbrev pub lower : Places → StoredFiles → List (ℕ × ℕ)
 lower d t = (t .base, extent t) ∷ (d .spans, d .room) ∷ []
 
 abbrev pub searched : List ℕ → List ℕ → Places → StoredFiles → List (ℕ × ℕ)
-searched main supplementary d t = (t .base, extent t) ∷ (d .spans, d .room) ∷ (d .tables .keys, 9 * length (possibleKeys main supplementary)) ∷ []
+searched main supplementary d t = (t .base, extent t) ∷ (d .spans, d .room) ∷ (d .tables .keys, keysExtent main supplementary (d .tables)) ∷ []
 
 -- a search f from the state st has answered r
 pub record Declares (f : Declaring → Outcome Declaring) (main supplementary w w′ files files′ warnings warnings′ : List ℕ) (d : Places) (st : DeclaringState) (r : Declared) : Type 0 where

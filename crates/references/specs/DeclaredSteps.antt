@@ -30,7 +30,7 @@ use Rattle.references.specs.declared.declarations.OwnLine.{OwnLine}
 use Rattle.references.specs.declared.declarations.Joined.{Joined}
 use Rattle.references.specs.declared.declarations.Aim.{Aim}
 use Rattle.references.specs.Search.{Trail, sameKey, visit, visitEntry, Followed, byOffset, nothing, followAbsolute, followedNothing, absoluteEntryOffset, Declaring, declarationOf, ownDeclaration, unitFiles}
-use Rattle.references.specs.Keys.{keysAt, keyIn}
+use Rattle.references.specs.Keys.{keysAt, keyIn, keysFrom}
 use Rattle.references.specs.Names.{dwarfOf, searchSource, placeAt, trailAt, Stands}
 use Rattle.references.specs.Declarations.{reachedFiles, ReachedUnit, lower, Declares}
 
@@ -110,21 +110,21 @@ followOffset main supplementary at t = followAbsolute (dwarfOf main supplementar
 
 -- it was not followed yet, and is outside all units
 pub record AimOutside (main supplementary w : List ℕ) (x : Tables) (n : ℕ) (at : OffsetAt) : Type 0 where
-  pub is : (k : ℕ) → followOffset main supplementary at (trailAt w (x .keys) n k)
-      ≡ done (record { trail = visit (trailAt w (x .keys) n k) (keyIn (at .source) (at .target)); target = nothing })
-  pub new : exists (sameKey (keyIn (at .source) (at .target))) (keysAt w (x .keys) n) ≡ false
+  pub is : (k : ℕ) → followOffset main supplementary at (trailAt w (keysFrom x) n k)
+      ≡ done (record { trail = visit (trailAt w (keysFrom x) n k) (keyIn (at .source) (at .target)); target = nothing })
+  pub new : exists (sameKey (keyIn (at .source) (at .target))) (keysAt w (keysFrom x) n) ≡ false
 
 -- or leads to an entry
 pub record AimEntry (main supplementary w : List ℕ) (x : Tables) (n : ℕ) (at : OffsetAt) (next : EntryAt) : Type 0 where
-  pub is : (k : ℕ) → followOffset main supplementary at (trailAt w (x .keys) n k)
-      ≡ done (record { trail = visitEntry (trailAt w (x .keys) n k) (keyIn (at .source) (at .target)); target = byOffset (placeAt main supplementary next) })
-  pub new : exists (sameKey (keyIn (at .source) (at .target))) (keysAt w (x .keys) n) ≡ false
+  pub is : (k : ℕ) → followOffset main supplementary at (trailAt w (keysFrom x) n k)
+      ≡ done (record { trail = visitEntry (trailAt w (keysFrom x) n k) (keyIn (at .source) (at .target)); target = byOffset (placeAt main supplementary next) })
+  pub new : exists (sameKey (keyIn (at .source) (at .target))) (keysAt w (keysFrom x) n) ≡ false
   pub stands : Stands main supplementary next
   pub depth : next .depth ≡ at .depth
 
 abbrev pub AimIs : List ℕ → List ℕ → List ℕ → Tables → ℕ → OffsetAt → Aim → Type 0
-AimIs main supplementary w x n at Aim.Seen = (k : ℕ) → followOffset main supplementary at (trailAt w (x .keys) n k) ≡ followedNothing (trailAt w (x .keys) n k)
-AimIs main supplementary w x n at (Aim.Refused m) = (k : ℕ) → followOffset main supplementary at (trailAt w (x .keys) n k) ≡ refused m
+AimIs main supplementary w x n at Aim.Seen = (k : ℕ) → followOffset main supplementary at (trailAt w (keysFrom x) n k) ≡ followedNothing (trailAt w (keysFrom x) n k)
+AimIs main supplementary w x n at (Aim.Refused m) = (k : ℕ) → followOffset main supplementary at (trailAt w (keysFrom x) n k) ≡ refused m
 AimIs main supplementary w x n at Aim.Outside = AimOutside main supplementary w x n at
 AimIs main supplementary w x n at (Aim.Entry next) = AimEntry main supplementary w x n at next
 

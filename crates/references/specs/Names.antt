@@ -21,7 +21,7 @@ use Rattle.references.specs.declared.names.Way.{Way}
 use Rattle.references.specs.declared.names.FoundName.{FoundName}
 use Rattle.references.specs.Search.{Dwarf, mainSource, supplementarySource, Place, Trail, sameKey, visitEntry, Followed, sameUnit, followedNothing, attribute, followUnit, followAbsolute, follow, Named, nameAtTarget, resolveNameInner, resolveReferenceName}
 use Rattle.references.specs.Tables.{IndexIn, EntryKnown, bytesGiven}
-use Rattle.references.specs.Keys.{keysAt, keyIn, possibleKeys, PossibleKey, KeysIn}
+use Rattle.references.specs.Keys.{keysAt, keyIn, PossibleKey, KeysIn, keysFrom, keysExtent}
 
 -- the units of both sheets
 abbrev pub dwarfOf : List ℕ → List ℕ → Dwarf
@@ -72,7 +72,7 @@ trailAt w base n reads = record { visited = keysAt w base n; reads = reads }
 pub record SearchIn (main supplementary w : List ℕ) (x : Tables) (n : ℕ) : Type 0 where
   pub main-index : IndexIn main w (x .main)
   pub supplementary-index : IndexIn supplementary w (x .supplementary)
-  pub keys : KeysIn main supplementary w (x .keys) n
+  pub keys : KeysIn main supplementary w x n
   pub main-units : x .main .units + 24 * x .main .«unit_count» ≤ x .keys
   pub main-entries : x .main .entries + 16 * x .main .«entry_count» ≤ x .keys
   pub supplementary-units : x .supplementary .units + 24 * x .supplementary .«unit_count» ≤ x .keys
@@ -91,23 +91,23 @@ followFrom main supplementary at name t =
 
 -- at an entry of the same unit, which was not followed yet, with an offset of the section
 pub record EntryNext (f : Trail → Outcome Followed) (main supplementary w : List ℕ) (x : Tables) (n depth : ℕ) (next : EntryAt) (target : ℕ) : Type 0 where
-  pub is : (k : ℕ) → f (trailAt w (x .keys) n k)
-      ≡ done (record { trail = visitEntry (trailAt w (x .keys) n k) (keyIn (next .source) target); target = sameUnit (placeAt main supplementary next) })
+  pub is : (k : ℕ) → f (trailAt w (keysFrom x) n k)
+      ≡ done (record { trail = visitEntry (trailAt w (keysFrom x) n k) (keyIn (next .source) target); target = sameUnit (placeAt main supplementary next) })
   pub stands : Stands main supplementary next
   pub deeper : next .depth ≡ depth + 1
   pub possible : PossibleKey main supplementary (keyIn (next .source) target)
-  pub new : exists (sameKey (keyIn (next .source) target)) (keysAt w (x .keys) n) ≡ false
+  pub new : exists (sameKey (keyIn (next .source) target)) (keysAt w (keysFrom x) n) ≡ false
 
 -- at an offset of a section
 pub record OffsetNext (f : Trail → Outcome Followed) (main supplementary w : List ℕ) (x : Tables) (n depth : ℕ) (next : OffsetAt) : Type 0 where
-  pub is : (k : ℕ) → f (trailAt w (x .keys) n k)
-      ≡ followAbsolute (dwarfOf main supplementary) (searchSource (next .input)) (searchSource (next .source)) (trailAt w (x .keys) n k) (next .target)
+  pub is : (k : ℕ) → f (trailAt w (keysFrom x) n k)
+      ≡ followAbsolute (dwarfOf main supplementary) (searchSource (next .input)) (searchSource (next .source)) (trailAt w (keysFrom x) n k) (next .target)
   pub aims : Aims main supplementary next
   pub deeper : next .depth ≡ depth + 1
 
 abbrev pub WayIs : (Trail → Outcome Followed) → List ℕ → List ℕ → List ℕ → Tables → ℕ → ℕ → Way → Type 0
-WayIs f main supplementary w x n depth Way.Nothing = (k : ℕ) → f (trailAt w (x .keys) n k) ≡ followedNothing (trailAt w (x .keys) n k)
-WayIs f main supplementary w x n depth (Way.Refused st) = (st ≡ 0 → ⊥) × ((k : ℕ) → f (trailAt w (x .keys) n k) ≡ refused st)
+WayIs f main supplementary w x n depth Way.Nothing = (k : ℕ) → f (trailAt w (keysFrom x) n k) ≡ followedNothing (trailAt w (keysFrom x) n k)
+WayIs f main supplementary w x n depth (Way.Refused st) = (st ≡ 0 → ⊥) × ((k : ℕ) → f (trailAt w (keysFrom x) n k) ≡ refused st)
 WayIs f main supplementary w x n depth (Way.Entry next target) = EntryNext f main supplementary w x n depth next target
 WayIs f main supplementary w x n depth (Way.Offset next) = OffsetNext f main supplementary w x n depth next
 
@@ -132,9 +132,9 @@ namedGiven st t r = cond (eqb st 0) (done (record { trail = t; name = r })) (ref
 -- a search f from the n targets of w on has answered with r or the status, and left n′ targets in w′. How many entries it read decides nothing here
 pub record Gives (f : Trail → Outcome Named) (main supplementary : List ℕ) (x : Tables) (w : List ℕ) (n : ℕ) (w′ : List ℕ) (n′ st : ℕ) (r : List ℕ) : Type 0 where
   pub reads : ℕ → ℕ
-  pub is : (k : ℕ) → f (trailAt w (x .keys) n k) ≡ namedGiven st (trailAt w′ (x .keys) n′ (reads k)) r
+  pub is : (k : ℕ) → f (trailAt w (keysFrom x) n k) ≡ namedGiven st (trailAt w′ (keysFrom x) n′ (reads k)) r
   pub ready : SearchIn main supplementary w′ x n′
-  pub rest : Kept w w′ (x .keys) (9 * length (possibleKeys main supplementary))
+  pub rest : Kept w w′ (x .keys) (keysExtent main supplementary x)
 
 -- resolve_absolute_name: the name at an offset of the section; k is the limit less the depth
 unfoldable pub resolveAbsoluteName : ℕ → Dwarf → Rattle.references.specs.Search.DebugSource → Rattle.references.specs.Search.DebugSource → ℕ → Trail → Outcome Named
@@ -149,4 +149,4 @@ referenceName d u e (some a) = resolveReferenceName d u e a
 -- a name was searched; what stood in the part of w for followed targets is gone
 pub record Resolved (main supplementary : List ℕ) (x : Tables) (w w′ : List ℕ) (o : Outcome (List ℕ)) (st : ℕ) (r : List ℕ) : Type 0 where
   pub is : bytesGiven st r ≡ o
-  pub rest : Kept w w′ (x .keys) (9 * length (possibleKeys main supplementary))
+  pub rest : Kept w w′ (x .keys) (keysExtent main supplementary x)

@@ -261,7 +261,7 @@ fn aim_of<'a>(
 {
     let input = at.input;
     let source = at.source;
-    if is_visited(work, x.keys, n, source, at.target) {
+    if is_visited(work, x, n, source, at.target) {
         return Aim::Seen;
     }
     let s = input_of(main, supplementary, input);
@@ -399,7 +399,7 @@ fn resolve_reference<'a>(
         Way::Entry(next, target) => {
             let source = next.source;
             let table = st.table;
-            push_key(work, tables.keys, count, source, target);
+            push_key(work, tables, count, source, target);
             let followed = DeclaringState {
                 count: count + 1,
                 table: table,
@@ -454,7 +454,7 @@ pub fn resolve_absolute<'a>(
         Aim::Seen => Declared::Missing(st),
         Aim::Refused(code) => Declared::Refused(code),
         Aim::Outside => {
-            push_key(work, tables.keys, count, source, at.target);
+            push_key(work, tables, count, source, at.target);
             Declared::Missing(DeclaringState {
                 count: count + 1,
                 table: table,
@@ -462,7 +462,7 @@ pub fn resolve_absolute<'a>(
             })
         }
         Aim::Entry(next) => {
-            push_key(work, tables.keys, count, source, at.target);
+            push_key(work, tables, count, source, at.target);
             let followed = DeclaringState {
                 count: count + 1,
                 table: table,

@@ -117,7 +117,7 @@ fn unit_way<'a>(
         return Way::Refused(12);
     }
     let target = own + offset;
-    if is_visited(work, x.keys, n, source, target) {
+    if is_visited(work, x, n, source, target) {
         return Way::Nothing;
     }
     let y = index_of(x, input);
@@ -217,7 +217,7 @@ pub fn resolve_name_inner<'a>(
             }
             Way::Entry(next, target) => {
                 let source = next.source;
-                push_key(work, x.keys, seen, source, target);
+                push_key(work, x, seen, source, target);
                 *count = seen + 1;
                 let r = resolve_name_inner(main, supplementary, work, count, status, x, next);
                 if is_answer(*status, r) {
@@ -253,7 +253,7 @@ pub fn resolve_absolute_name<'a>(
     let input = at.input;
     let source = at.source;
     let seen = *count;
-    if is_visited(work, x.keys, seen, source, at.target) {
+    if is_visited(work, x, seen, source, at.target) {
         return &main[..0];
     }
     let s = input_of(main, supplementary, input);
@@ -264,12 +264,12 @@ pub fn resolve_absolute_name<'a>(
             &main[..0]
         }
         Target::Outside => {
-            push_key(work, x.keys, seen, source, at.target);
+            push_key(work, x, seen, source, at.target);
             *count = seen + 1;
             &main[..0]
         }
         Target::At { place, unit } => {
-            push_key(work, x.keys, seen, source, at.target);
+            push_key(work, x, seen, source, at.target);
             *count = seen + 1;
             let next = EntryAt {
                 input: input,
@@ -342,7 +342,7 @@ pub fn resolve_reference_name<'a>(
         }
         Way::Entry(next, target) => {
             let source = next.source;
-            push_key(work, x.keys, 0, source, target);
+            push_key(work, x, 0, source, target);
             count = 1;
             resolve_name_inner(main, supplementary, work, &mut count, status, x, next)
         }

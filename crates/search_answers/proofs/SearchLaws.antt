@@ -3,7 +3,7 @@ use mathlib.Core.Path.{_≡_, _∙_}
 use mathlib.Core.Logic.{inl}
 use mathlib.Core.Bool.{Bool, true}
 use mathlib.Core.List.{List}
-use Prim.Native.Nat.{ℕ, _+_, _*_, _≤_, _<_, _^_}
+use Prim.Native.Nat.{ℕ, _+_, _*_, _≤_}
 use native.Mathlib.Omega.{arith}
 use lib.ListN.{length}
 use Rattle.tlv.specs.Outcome.{Outcome, done}
@@ -54,6 +54,7 @@ sheet-indexed {s} {w} {w₁} {w₂} {base} {n} {a} {b} e h A B =
       };
       units-below = omega arith;
       entries-below = omega arith;
+      few = entries-few;
       rest = kept-trans (kept-wide base (n * 40) (A .rest) (omega arith) (omega arith)) (kept-wide base (n * 40) (B .rest) (omega arith) (omega arith));
       size = B .size ∙ A .size;
     }
@@ -77,7 +78,7 @@ pub tables-built : {s t w w₁ w₂ : List ℕ} {j k n m : ℕ} {a b : Index} �
 tables-built {s} {t} {n = n} {m = m} e d R A B = record {
   main-index = index-kept (A .index) (B .rest) (omega (arith, A .units-below)) (omega (arith, A .entries-below)) (B .size);
   supplementary-index = B .index;
-  keys = keys-in-none (omega (arith, R .within, A .size, B .size, keys-few s t, tags-few s n e, tags-few t m d));
+  keys = keys-in-none (omega (arith, R .within, A .size, B .size, A .few, B .few, keys-few s t, tags-few s n e, tags-few t m d));
   main-units = omega (arith, A .units-below);
   main-entries = omega (arith, A .entries-below);
   supplementary-units = B .units-below;

@@ -14,7 +14,7 @@ pub record Room (main supplementary n m work : ℕ) : Type 0 where
   pub supplementary-small : supplementary < 2 ^ 32
   pub main-few : n ≤ 65536
   pub supplementary-few : m ≤ 65536
-  pub within : n * 49 + m * 58 ≤ work
+  pub within : n * 57 + m * 70 + 4 ≤ work
 
 abbrev pub RoomBy : ℕ → ℕ → ℕ → ℕ → ℕ → Bool → Type 0
 RoomBy main supplementary n m work true = Room main supplementary n m work
@@ -28,5 +28,6 @@ pub record IndexedSheet (s w w′ : List ℕ) (base n : ℕ) (r : Index) : Type 
   pub index : IndexIn s w′ r
   pub units-below : r .units + 24 * r .«unit_count» ≤ base + n * 40
   pub entries-below : r .entries + 16 * r .«entry_count» ≤ base + n * 40
+  pub few : r .«entry_count» ≤ n
   pub rest : Kept w w′ base (n * 40)
   pub size : length w′ ≡ length w

@@ -89,7 +89,7 @@ fn has_room(main: usize, supplementary: usize, n: usize, m: usize, work: usize) 
     if 65536 < m {
         return false;
     }
-    if work < n * 49 + m * 58 {
+    if work < n * 57 + m * 70 + 4 {
         return false;
     }
     true

@@ -1,12 +1,13 @@
 -- `declarations::aim_of` meets its contract. Assumes nothing.
 use borrow.Author.Needs.{needs}
-use Rattle.references.proofs.FollowLaws.{keys-inside, index-here}
+use Rattle.references.proofs.KeyLaws.{keys-inside}
+use Rattle.references.proofs.FollowLaws.{index-here}
 use Rattle.references.proofs.AimLaws.{aim-seen, aim-refused, aim-outside, aim-entry}
 use Rattle.references.proofs.declarations.aim_of.Statement.{statement}
 use Rattle.references.proofs.declarations.aim_of.Tie as tie
 
 is-visited-requires : tie.Need-is-visited-requires
-is-visited-requires c κs = keys-inside _ (c .before .before .before .pre .0 .keys)
+is-visited-requires c κs = keys-inside (c .before .before .before .pre .0 .keys)
 
 returns : tie.Need-returns
 returns c =

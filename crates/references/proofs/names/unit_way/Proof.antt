@@ -1,6 +1,7 @@
 -- `names::unit_way` meets its contract. Assumes nothing.
 use native.Mathlib.Omega.{arith}
-use Rattle.references.proofs.FollowLaws.{keys-inside, index-here, unit-inside}
+use Rattle.references.proofs.KeyLaws.{keys-inside}
+use Rattle.references.proofs.FollowLaws.{index-here, unit-inside}
 use Rattle.references.proofs.WayLaws.{way-listed, way-sum, way-overflow, way-seen, way-no-entry, way-entry}
 use borrow.Author.Needs.{needs}
 use Rattle.references.proofs.names.unit_way.Statement.{statement}
@@ -25,7 +26,7 @@ add-target : tie.Need-add-target
 add-target c = search needs
 
 is-visited-requires : tie.Need-is-visited-requires
-is-visited-requires c κs = keys-inside _ (c .before .before .before .before .before .before .pre .0 .keys)
+is-visited-requires c κs = keys-inside (c .before .before .before .before .before .before .pre .0 .keys)
 
 returns-2 : tie.Need-returns-2
 returns-2 c = way-seen _ (c .before .before .before .before .before .before .before .before .pre .0) (c .before .before .before .before .before .before .before .before .pre .1 .0) (c .before .before .before .before .input-of .ensures .0) (c .before .before .before .read-u64 .ensures) (omega arith) _ (c .before .is-visited .ensures) (c .if2 .taken)

@@ -2,7 +2,8 @@
 use Prim.Native.Nat.{ℕ}
 use borrow.Author.Needs.{needs}
 use native.Mathlib.Omega.{arith}
-use Rattle.references.proofs.FollowLaws.{keys-inside, index-here}
+use Rattle.references.proofs.KeyLaws.{keys-inside}
+use Rattle.references.proofs.FollowLaws.{index-here}
 use Rattle.references.proofs.GivesLaws.{offset-room, offset-search, absolute-seen, absolute-no-entry, absolute-stands, absolute-outside, absolute-at}
 use Rattle.references.proofs.names.resolve_absolute_name.Reads as resolve-absolute-name
 use Rattle.references.proofs.names.+resolve_absolute_name+resolve_name_inner.Lts-resolve_absolute_name as resolve-absolute-name-lts
@@ -10,7 +11,7 @@ use Rattle.references.proofs.names.+resolve_absolute_name+resolve_name_
 
 pub is-visited-requires : (t : ℕ) → resolve-absolute-name-lts.Need-is-visited-requires (absolute-calls t) (resolve-absolute-name-at t) resolve-absolute-name.Post
 is-visited-requires t c κs =
-    keys-inside _ (c .before .before .before .before .before .pre .1 .0 .keys)
+    keys-inside (c .before .before .before .before .before .pre .1 .0 .keys)
 
 pub slice-aggregate-result : (t : ℕ) → resolve-absolute-name-lts.Need-slice-aggregate-result (absolute-calls t) (resolve-absolute-name-at t) resolve-absolute-name.Post
 slice-aggregate-result t c = search needs
