@@ -16,7 +16,7 @@ use crate::pieces::Span;
 use crate::pieces::file_pieces;
 use crate::store::AddedFile;
 use crate::store::StoredFiles;
-use crate::store::add_from;
+use crate::store::add_file;
 use tlv::model::DebugSource;
 
 // The table with a file in it and the file's number; that the file has no path; or why it was refused.
@@ -106,7 +106,7 @@ fn intern_from(
             return InternedFile::Unnamed;
         }
         Named::Pieces(p) => {
-            match add_from(main, supplementary, s, source, p, work, files, t) {
+            match add_file(main, supplementary, s, source, p, work, files, t) {
                 AddedFile::Full => {
                     return InternedFile::Refused(15);
                 }

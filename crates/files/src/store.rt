@@ -307,7 +307,7 @@ pub fn lay_file(s: &[u8], p: FilePieces, work: &mut [u8], at: usize) -> LaidHash
 }
 
 // Adds the file of pieces of s, the sheet of the source, if the table has it not, and gives its number.
-pub fn add_from(
+pub fn add_file(
     main: &[u8],
     supplementary: &[u8],
     s: &[u8],

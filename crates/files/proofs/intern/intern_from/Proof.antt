@@ -31,8 +31,8 @@ returns-2 c =
 enum-known-p : tie.Need-enum-known-p
 enum-known-p c = search needs
 
-add-from-requires : tie.Need-add-from-requires
-add-from-requires c κs =
+add-file-requires : tie.Need-add-file-requires
+add-file-requires c κs =
     let p = c .before .before .before in
     let named = p .before .before in
     let S = named .before .before .before .before .before .before .before in
@@ -75,7 +75,7 @@ intern-from-spec =
     same-length-2
     returns-2
     enum-known-p
-    add-from-requires
+    add-file-requires
     enum-told-3
     same-length-3
     same-length-4

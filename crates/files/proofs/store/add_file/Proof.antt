@@ -1,11 +1,11 @@
--- `store::add_from` meets its contract. The file is laid to be looked up, and is found or new. Assumes nothing.
+-- `store::add_file` meets its contract. The file is laid to be looked up, and is found or new. Assumes nothing.
 use native.Mathlib.Omega.{arith}
 use borrow.Author.Needs.{needs}
 use mathlib.Core.Path.{sym, ap, _∙_}
 use Rattle.files.specs.Hash.{hashOf}
 use Rattle.files.proofs.AddedLaws.{laid-files, laid-file, laid-is, found-number, found-adds, missing-place, adds-laid}
-use Rattle.files.proofs.store.add_from.Statement.{statement}
-use Rattle.files.proofs.store.add_from.Tie as tie
+use Rattle.files.proofs.store.add_file.Statement.{statement}
+use Rattle.files.proofs.store.add_file.Tie as tie
 
 mul-at : tie.Need-mul-at
 mul-at c = search needs
@@ -82,8 +82,8 @@ returns-2 c =
     let L = c .before .before .before .before .before .before .before .before .before .before .before .before .before .before .lay-file .ensures in
     adds-laid (p .0) L (c .before .before .before .before .append-file .ensures)
 
-pub add-from-spec : {M : Type 1} → statement M
-add-from-spec =
+pub add-file-spec : {M : Type 1} → statement M
+add-file-spec =
     tie.close
     (tie.spec
     mul-at
