@@ -1,8 +1,6 @@
 // The field cursor: what stands at a place of a byte string.
 ghost use mathlib.Core.Path.{_≡_};
-ghost use lib.ListN.{length};
 ghost use Rattle.tlv.specs.Cursor.{stepAt};
-ghost use Rattle.tlv.specs.Fields.{fields, wholeFields, payloads};
 use crate::bytes::read_u16;
 
 pub enum Step {
@@ -37,34 +35,5 @@ pub fn field_at(s: &[u8], p: usize) -> Step
         }
     } else {
         Step::Cut
-    }
-}
-
-// How many fields of a tag there are.
-pub fn count_fields(s: &[u8], tag: u8) -> usize
-    ensures { λ r. ⌜ r ≡ length (payloads tag (wholeFields (fields (now (s .entry))))) ⌝ }
-{
-    let mut p: usize = 0;
-    let mut n: usize = 0;
-    loop {
-        match field_at(s, p) {
-            Step::End => {
-                return n;
-            }
-            Step::Cut => {
-                return n;
-            }
-            Step::Field {
-                tag: t,
-                start: _,
-                len: _,
-                next,
-            } => {
-                if t == tag {
-                    n += 1;
-                }
-                p = next;
-            }
-        }
     }
 }
