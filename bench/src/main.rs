@@ -6,6 +6,7 @@ use std::path::Path;
 use std::process::ExitCode;
 use std::time::{Duration, Instant};
 
+use oracle::compose::field_count;
 use oracle::files::Source;
 use oracle::{Case, answer, finished, inputs};
 
@@ -106,7 +107,7 @@ fn read(path: &str) -> Result<Vec<Case>, String> {
     let mut source = Source::open(Path::new(path))?;
     let mut cases = Vec::new();
     while let Some(mut case) = source.case()? {
-        case.work = oracle::work_needed(sheets::fields(&case.main) + sheets::fields(&case.supplementary), case.program.len());
+        case.work = oracle::work_needed(field_count(&case.main) + field_count(&case.supplementary), case.program.len());
         (case.records, case.files, case.warnings) = (u32::MAX, u32::MAX, u32::MAX);
         cases.push(case);
     }
@@ -253,16 +254,17 @@ fn scaled(turns: u32) -> Result<(), String> {
     for (name, family) in sheets::FAMILIES {
         println!("\n{name}\n");
         head("fields", " | growth, ours | growth, the Rust's");
-        let mut before: Option<Times> = None;
+        let (mut before, mut sum): (Option<Times>, _) = (None, Times::NONE);
         for doubling in 0..7 {
             let fields = 1024 << doubling;
             let case = family(fields);
             let times = measured(&case, &mut buffers(&case)?, turns);
             let growth = |of: fn(Times) -> Duration| before.map_or_else(|| "-".to_owned(), |before| ratio(of(times), of(before)));
-            let number = sheets::fields(&case.main) + sheets::fields(&case.supplementary);
+            let number = field_count(&case.main) + field_count(&case.supplementary);
             println!("| {number} | {} | {} | {} |", columns(times), growth(|times| times.ours), growth(Times::together));
-            before = Some(times);
+            (before, sum) = (Some(times), sum.plus(times));
         }
+        println!("| all | {} | - | - |", columns(sum));
     }
     Ok(())
 }
@@ -272,7 +274,7 @@ fn worst(turns: u32, part: &str) -> Result<(), String> {
     for (name, input) in sheets::WORST.into_iter().filter(|(name, _)| name.contains(part)) {
         let case = input();
         let times = measured(&case, &mut buffers(&case)?, turns);
-        println!("| {name} | {} | {} |", sheets::fields(&case.main) + sheets::fields(&case.supplementary), columns(times));
+        println!("| {name} | {} | {} |", field_count(&case.main) + field_count(&case.supplementary), columns(times));
     }
     Ok(())
 }

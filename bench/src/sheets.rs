@@ -43,19 +43,9 @@ pub const WORST: [(&str, fn() -> Case); 26] = [
 
 fn case(main: Fields, supplementary: Fields, program: Vec<u8>) -> Case {
     let mut case = Case::new(main.0, supplementary.0, program);
-    case.work = oracle::work_needed(fields(&case.main) + fields(&case.supplementary), case.program.len());
+    case.work = oracle::work_needed(field_count(&case.main) + field_count(&case.supplementary), case.program.len());
     (case.records, case.files, case.warnings) = (u32::MAX, u32::MAX, u32::MAX);
     case
-}
-
-/// How many fields an input has.
-pub fn fields(input: &[u8]) -> usize {
-    let (mut at, mut number) = (0, 0);
-    while at < input.len() {
-        at += 3 + usize::from(u16::from_le_bytes([input[at + 1], input[at + 2]]));
-        number += 1;
-    }
-    number
 }
 
 /// A unit with one wide text and, as every family has it, a length that holds all entries.

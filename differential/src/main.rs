@@ -5,8 +5,9 @@ use std::path::{Path, PathBuf};
 use std::process::ExitCode;
 use std::{env, fs};
 
+use oracle::compose::field_count;
 use oracle::files::Source;
-use oracle::{Answer, Case, answer, generate, limits};
+use oracle::{Answer, Case, answer, generate, limits, work_needed};
 
 mod wrong;
 
@@ -144,23 +145,13 @@ fn forms(case: &Case, place: u64) -> Vec<Case> {
         form.warnings = around(full.warnings.len(), turn + place / 9);
         forms.push(form);
     }
-    let needed = 64 * (fields(&case.main) + fields(&case.supplementary)) + 4 * case.program.len() as u64 + 16_384;
+    let needed = work_needed(field_count(&case.main) + field_count(&case.supplementary), case.program.len());
     for work in [needed - 1, needed, needed + 1] {
         let mut form = case.clone();
         form.work = work;
         forms.push(form);
     }
     forms
-}
-
-/// How many fields an accepted input has.
-fn fields(input: &[u8]) -> u64 {
-    let (mut at, mut number) = (0, 0);
-    while at < input.len() {
-        at += 3 + usize::from(u16::from_le_bytes([input[at + 1], input[at + 2]]));
-        number += 1;
-    }
-    number
 }
 
 /// A call of the proved import and all that it left behind.

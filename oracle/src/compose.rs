@@ -39,6 +39,16 @@ pub const PLAIN: u8 = 0;
 pub const END: u8 = 1;
 pub const FAILED_ROW: u8 = 2;
 
+/// How many fields an accepted input has.
+pub fn field_count(input: &[u8]) -> usize {
+    let (mut at, mut number) = (0, 0);
+    while at < input.len() {
+        at += 3 + usize::from(u16::from_le_bytes([input[at + 1], input[at + 2]]));
+        number += 1;
+    }
+    number
+}
+
 #[derive(Default)]
 pub struct Fields(pub Vec<u8>);
 

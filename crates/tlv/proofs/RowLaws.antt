@@ -41,6 +41,5 @@ module _ (s : List ℕ) (p : ℕ) (here : Placed s p) (inside : p < length s) (r
   row-step : stepAt s p ≡ Step.Field 0x16 (p + 3) 25 (p + 28)
   row-step = rw (behind, size, row) at step
 
-
   pub row-here : NextOwn s p 0x16 (Own.Field (p + 3) 25 (p + 28))
   row-here = own-found s p 0x16 p (stepAt s p) (looking-start s p 0x16) refl 0x16 (p + 3) 25 (p + 28) row-step (λ e. omega (arith, e)) (λ e. omega (arith, e)) refl
