@@ -8,7 +8,7 @@ use std::time::{Duration, Instant};
 
 use oracle::compose::field_count;
 use oracle::files::Source;
-use oracle::{Case, answer, finished, inputs};
+use oracle::{Case, answer, finished, inputs, written};
 
 mod sheets;
 
@@ -27,18 +27,22 @@ struct Times {
     parse: Duration,
     /// The Rust's import_unit over the parsed input.
     import: Duration,
+    /// The oracle's writing of what it leaves behind, as our import writes it.
+    write: Duration,
     /// A copy of the inputs.
     copy: Duration,
 }
 
 impl Times {
-    const NONE: Self = Self { ours: Duration::ZERO, parse: Duration::ZERO, import: Duration::ZERO, copy: Duration::ZERO };
+    const NONE: Self =
+        Self { ours: Duration::ZERO, parse: Duration::ZERO, import: Duration::ZERO, write: Duration::ZERO, copy: Duration::ZERO };
 
     fn least(self, other: Self) -> Self {
         Self {
             ours: self.ours.min(other.ours),
             parse: self.parse.min(other.parse),
             import: self.import.min(other.import),
+            write: self.write.min(other.write),
             copy: self.copy.min(other.copy),
         }
     }
@@ -48,6 +52,7 @@ impl Times {
             ours: self.ours + other.ours,
             parse: self.parse + other.parse,
             import: self.import + other.import,
+            write: self.write + other.write,
             copy: self.copy + other.copy,
         }
     }
@@ -157,10 +162,14 @@ fn turn(case: &Case, buffers: &mut Buffers) -> Times {
     let (ours, _) = timed(|| ours(black_box(case), buffers));
     clear(buffers);
     let (parse, parsed) = timed(|| inputs(black_box(case)));
-    let (import, _) = match &parsed {
-        Ok((dwarf, ordinal)) => timed(|| Some(finished(black_box(case), dwarf, *ordinal))),
-        Err(_) => (Duration::ZERO, None),
-    };
+    let (mut import, mut write) = (Duration::ZERO, Duration::ZERO);
+    if let Ok((dwarf, ordinal)) = &parsed {
+        let imported;
+        (import, imported) = timed(|| finished(black_box(case), dwarf, *ordinal));
+        if let Ok(imported) = imported {
+            write = timed(|| written(&imported, case.first_file)).0;
+        }
+    }
     let (copy, ()) = timed(|| {
         let (main, rest) = buffers.copied.split_at_mut(case.main.len());
         let (supplementary, program) = rest.split_at_mut(case.supplementary.len());
@@ -168,7 +177,7 @@ fn turn(case: &Case, buffers: &mut Buffers) -> Times {
         supplementary.copy_from_slice(&case.supplementary);
         program.copy_from_slice(&case.program);
     });
-    Times { ours, parse, import, copy }
+    Times { ours, parse, import, write, copy }
 }
 
 fn measured(case: &Case, buffers: &mut Buffers, turns: u32) -> Times {
@@ -208,12 +217,14 @@ fn ratio(one: Duration, other: Duration) -> String {
     format!("{:.2}", one.as_secs_f64() / other.as_secs_f64())
 }
 
-const COLUMNS: &str = "ours | the Rust's import_unit | its parsing | both | ours to import_unit | ours to both | copy of the inputs";
+const COLUMNS: &str = "ours | import_unit | parsing | both | writing | ours to import_unit | ours to both | ours to all | copy";
 
 fn columns(times: Times) -> String {
-    let Times { ours, parse, import, copy } = times;
+    let Times { ours, parse, import, write, copy } = times;
     let both = times.together();
-    [micros(ours), micros(import), micros(parse), micros(both), ratio(ours, import), ratio(ours, both), micros(copy)].join(" | ")
+    let figures = [ours, import, parse, both, write].map(micros).join(" | ");
+    let ratios = [import, both, both + write].map(|other| ratio(ours, other)).join(" | ");
+    format!("{figures} | {ratios} | {}", micros(copy))
 }
 
 fn head(first: &str, last: &str) {

@@ -66,3 +66,4 @@ mod trace;
 
 pub use answer::{Answer, answer, finished, inputs, work_needed};
 pub use case::Case;
+pub use output::written;
