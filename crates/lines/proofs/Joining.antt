@@ -12,7 +12,7 @@ use Rattle.tlv.specs.Output.{FileEntry}
 use Rattle.tlv.proofs.TestLaws.{by-test, same-true}
 use Rattle.lines.specs.Standard.{slash, isFull, relativeTo}
 use Rattle.lines.specs.Paths.{startsWith, endsWith, isAbsolute, appendPath, basenameOf, directoryName}
-use Rattle.lines.specs.Conforms.{pathIn, pathOf, Unix, Open}
+use Rattle.lines.specs.Conforms.{pathIn, pathOf, Unix, Open, Holds}
 use Rattle.lines.proofs.LastSlash.{Split, nowhere, first, later, split}
 
 -- ---- absolute paths
@@ -33,11 +33,6 @@ unfolding isAbsolute
 unix-absolute p x = rw (x .drive, x .share, starts-full p) (or-false (isFull p || false) ∙ or-false (isFull p))
 
 -- ---- a directory that something can stand below
-
--- it is not the root
-pub open-root : {d : List ℕ} → Open d → d ≡ slash ∷ [] → ⊥
-unfolding endsWith
-open-root {d} o e = true≢false (sym (ap (endsWith slash) e) ∙ o .unclosed)
 
 -- the end of two lists is that of the second
 pub ends-append : (x : List ℕ) (b : ℕ) (s : List ℕ) → endsWith slash (x ++ (b ∷ s)) ≡ endsWith slash (b ∷ s)
@@ -61,28 +56,42 @@ unfolding appendPath startsWith
 append-below [] b s o e = absurd (o .filled refl)
 append-below (a ∷ d) b s o e = rw (o .unclosed, e)
 
-open-append : (d : List ℕ) (b : ℕ) (s : List ℕ) → Open d → Open (b ∷ s) → Open (d ++ (slash ∷ b ∷ s))
+-- a directory that holds something is not the root
+pub holds-root : {d p : List ℕ} → Holds d p → d ≡ slash ∷ [] → ⊥
 unfolding endsWith
-open-append d b s o n = record {
-  filled = λ e. omega (arith, ap length e, length-append d (slash ∷ b ∷ s));
-  unclosed = ends-append d slash (b ∷ s) ∙ n .unclosed;
+holds-root {d} o e = o .closed (ap (endsWith slash) e) .1 e
+
+-- and one that holds more than a bare name is open
+pub holds-open : {d p : List ℕ} → Holds d p → directoryName p ≢ [] → Open d
+holds-open {d} o n = record { filled = o .filled; unclosed = go (endsWith slash d) refl }
+  where
+    go : (t : Bool) → endsWith slash d ≡ t → t ≡ false
+    go true e = absurd (n (o .closed e .0))
+    go false e = refl
+
+-- below another it holds what it held
+holds-append : (c : List ℕ) (b : ℕ) (s p : List ℕ) → Holds (b ∷ s) p → Holds (c ++ (slash ∷ b ∷ s)) p
+unfolding endsWith
+holds-append c b s p o = record {
+  filled = λ e. omega (arith, ap length e, length-append c (slash ∷ b ∷ s));
+  closed = λ e. (o .closed (sym (ends-append c slash (b ∷ s)) ∙ e) .0, λ q. omega (arith, ap length q, length-append c (slash ∷ b ∷ s)));
 }
 
 -- ---- a directory of the table below the compilation directory
 
-pub relative-is : (c d : List ℕ) → Open c → Open d → appendPath (cond (not (isFull d)) c []) d ≡ relativeTo c d
+pub relative-is : (c d : List ℕ) → Open c → d ≢ [] → appendPath (cond (not (isFull d)) c []) d ≡ relativeTo c d
 unfolding relativeTo
-relative-is c [] o n = absurd (n .filled refl)
+relative-is c [] o n = absurd (n refl)
 relative-is c (b ∷ s) o n = go (eqb b slash) refl
   where
     go : (t : Bool) → isFull (b ∷ s) ≡ t → appendPath (cond (not t) c []) (b ∷ s) ≡ cond t (b ∷ s) (c ++ (slash ∷ b ∷ s))
     go true e = append-first (b ∷ s)
     go false e = append-below c b s o e
 
-pub relative-open : (c d : List ℕ) → Open c → Open d → Open (relativeTo c d)
+pub relative-holds : (c d p : List ℕ) → Holds d p → Holds (relativeTo c d) p
 unfolding relativeTo
-relative-open c [] o n = absurd (n .filled refl)
-relative-open c (b ∷ s) o n = by-test Open (eqb b slash) (λ e. n) (λ e. open-append c b s o n)
+relative-holds c [] p n = absurd (n .filled refl)
+relative-holds c (b ∷ s) p n = by-test (λ d. Holds d p) (eqb b slash) (λ e. n) (λ e. holds-append c b s p n)
 
 -- ---- the path that a file of the table stands for
 
@@ -123,16 +132,17 @@ path-full p f single = go (split p)
     go (later a l d b) = either a l d (b ∙ ap (λ (x : List ℕ). x ++ (slash ∷ basenameOf p)) (sym d)) (same (directoryName p) (slash ∷ [])) refl
 
 -- the parts of another path, below a directory, stand for the path relative to it
-pub path-below : (d p : List ℕ) → Open d → isFull p ≡ false → relativeTo d p ≡ pathOf (record { directory = appendPath d (directoryName p); basename = basenameOf p })
+pub path-below : (d p : List ℕ) → Holds d p → isFull p ≡ false
+    → relativeTo d p ≡ pathOf (record { directory = appendPath d (directoryName p); basename = basenameOf p })
 unfolding relativeTo
 path-below d p o f = rw f (go (split p))
   where
     e : FileEntry
     e = record { directory = appendPath d (directoryName p); basename = basenameOf p }
 
-    filled-other : (x : List ℕ) → e .directory ≡ x → e .directory ≢ slash ∷ [] → Open x → pathOf e ≡ e .directory ++ (slash ∷ e .basename)
-    filled-other [] q n o′ = absurd (o′ .filled refl)
-    filled-other (b ∷ l) q n o′ = path-other e b l q n
+    filled-other : (x : List ℕ) → e .directory ≡ x → e .directory ≢ slash ∷ [] → x ≢ [] → pathOf e ≡ e .directory ++ (slash ∷ e .basename)
+    filled-other [] q n z = absurd (z refl)
+    filled-other (b ∷ l) q n z = path-other e b l q n
 
     append-other : (x y : List ℕ) → e .directory ≡ x ++ (slash ∷ y) → e .directory ≢ slash ∷ [] → pathOf e ≡ e .directory ++ (slash ∷ e .basename)
     append-other [] y q n = path-other e slash y q n
@@ -141,10 +151,11 @@ path-below d p o f = rw f (go (split p))
     go : Split p → d ++ (slash ∷ p) ≡ pathOf e
     go (nowhere g n b) =
         let q : appendPath d (directoryName p) ≡ d = ap (appendPath d) n ∙ append-none d in
-        sym (filled-other d q (λ r. open-root o (sym q ∙ r)) o ∙ (λ i. q i ++ (slash ∷ b i)))
+        sym (filled-other d q (λ r. holds-root o (sym q ∙ r)) (o .filled) ∙ (λ i. q i ++ (slash ∷ b i)))
     go (first n b) = absurd (true≢false (sym (ap isFull b) ∙ f))
     go (later a l n b) =
-        let q : appendPath d (directoryName p) ≡ d ++ (slash ∷ a ∷ l) = ap (appendPath d) n ∙ append-below d a l o (sym (ap isFull b) ∙ f) in
+        let o′ = holds-open o (λ e. let z : a ∷ l ≡ [] = sym n ∙ e in omega (arith, ap length z)) in
+        let q : appendPath d (directoryName p) ≡ d ++ (slash ∷ a ∷ l) = ap (appendPath d) n ∙ append-below d a l o′ (sym (ap isFull b) ∙ f) in
         let z : d ++ (slash ∷ a ∷ l) ≡ slash ∷ [] → ⊥ = λ r. omega (arith, ap length r, length-append d (slash ∷ a ∷ l)) in
         ap (λ (x : List ℕ). d ++ (slash ∷ x)) b
         ∙ sym (append-other d (a ∷ l) q (λ r. z (sym q ∙ r)) ∙ ap (λ (x : List ℕ). x ++ (slash ∷ basenameOf p)) q ∙ append-assoc d (slash ∷ a ∷ l) (slash ∷ basenameOf p))

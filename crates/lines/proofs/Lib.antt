@@ -1,7 +1,9 @@
 pub mod Leb128
 pub mod Operands
 pub mod Beside
+pub mod Agrees
 pub mod Instructions
+pub mod Limits
 pub mod Programs
 pub mod LastSlash
 pub mod Joining
@@ -16,6 +18,7 @@ pub mod RunBounds
 pub mod LineBounds
 pub mod RowLaws
 pub mod Differences
+pub mod PrintedPath
 pub mod PathCodeLaws
 pub mod JoinLaws
 pub mod UlebLaws

@@ -1,4 +1,4 @@
--- Skipping an instruction, and scanning a program, beside the Standard's. Assumes nothing.
+-- Skipping an instruction, and scanning a program, beside the Standard's and within the limits. Assumes nothing.
 use mathlib.Core.Path.{refl}
 use mathlib.Core.Bool.{Bool, true, false, cond}
 use mathlib.Core.List.{List, [], _∷_}
@@ -14,6 +14,7 @@ use Rattle.lines.specs.Program.{placeOf, skip, sequencesWithin, scanLine
 use Rattle.lines.specs.Conforms.{DeclaresStandard, Beside, Programs}
 use Rattle.lines.proofs.Beside.{beside-limit, beside-if, beside-then, beside-map}
 use Rattle.lines.proofs.Instructions.{beside-skip}
+use Rattle.lines.proofs.Limits.{agrees-skip, agrees-sequences, ends-below}
 
 -- a sequence that ends: the sequences after it, and its own place before them
 beside-end : (t : Bool) (from : ℕ) (x : Outcome (List ℕ)) (y : Option (List ℕ)) → Beside x y
@@ -35,4 +36,7 @@ unfolding scanLineSequenceOffsets sequences
 programs h d = record {
   instructions = λ whole o s. beside-skip h d whole o s;
   programs = λ base program. beside-sequences h d base (length program) (length program) base program;
+  passed = λ whole o s. agrees-skip h d whole o s;
+  scanned = λ base program. agrees-sequences h d base (length program) (length program) base program;
+  ends = λ base program l. ends-below h d base (length program) l (length program) program;
 }

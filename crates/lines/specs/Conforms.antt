@@ -1,5 +1,5 @@
 -- What holds between the definitions of this crate and the Standard's (Standard.antt). docs/DIFFERENCES.md lists what these statements leave out. Assumes nothing.
-use Prim.Native.Nat.{ℕ, zero, suc, _-_, _%_, _^_, _≤_, _<_}
+use Prim.Native.Nat.{ℕ, zero, suc, _+_, _-_, _%_, _^_, _≤_, _<_}
 use mathlib.Core.Path.{_≡_}
 use mathlib.Core.Logic.{_↔_, _⊎_, _≢_}
 use mathlib.Core.Bool.{true, false, cond}
@@ -9,10 +9,11 @@ use lib.ListN.{length, getD}
 use lib.Dec.{leb}
 use Rattle.tlv.specs.Outcome.{Outcome, refused, done}
 use Rattle.tlv.specs.Lists.{at, same}
-use Rattle.tlv.specs.Model.{CompilationUnit, LineHeader, HeaderFile}
+use Rattle.tlv.specs.Model.{CompilationUnit, LineHeader, Directory, HeaderFile}
 use Rattle.tlv.specs.Output.{FileEntry}
-use Rattle.lines.specs.Standard.{Operand, leb128, OperandKind, standardOperands, Opcodes, declared, instruction, sequences, slash, isFull, filePath}
-use Rattle.lines.specs.Program.{uleb, bare, skip, scanLineSequenceOffsets}
+use Rattle.lines.specs.Standard.{Operand, leb128, OperandKind, unsigned, signed, half, standardOperands, Opcodes, declared, operandsOf, afterOperand}
+use Rattle.lines.specs.Standard.{Passed, instruction, sequences, slash, isFull, filePath}
+use Rattle.lines.specs.Program.{uleb, bare, placeOf, skip, scanLineSequenceOffsets}
 use Rattle.lines.specs.Paths.{fileEntry, isDrive, isShare, endsWith, basenameOf, directoryName}
 
 -- ---- operands: read_line_uleb is the Standard's LEB128 within ten bytes and 64 bits
@@ -54,15 +55,67 @@ CountIs n (some ks) = n ≡ length ks
 abbrev pub DeclaresStandard : Opcodes → Type 0
 DeclaresStandard h = (o : ℕ) → o < h .base → bare o ≡ false → o ≢ 9 → CountIs (declared h o) (standardOperands o)
 
+-- the unsigned number that s begins with, where it ends, takes ten bytes and has 64 bits at most
+abbrev pub Short : List ℕ → Type 0
+Short s = (o : Operand) → leb128 s ≡ some o → (taken s o ≤ 10) × (o .value < 2 ^ 64)
+
+-- an operand within the limits of ten bytes and 64 bits. "Signed operands are skipped as unsigned too", so they have the limits of an unsigned one; two bytes
+-- have none
+abbrev pub Narrow : OperandKind → List ℕ → Type 0
+Narrow unsigned s = Short s
+Narrow signed s = Short s
+Narrow half s = Unit {0}
+
+-- each of the operands that s begins with
+abbrev pub NarrowOperands : List OperandKind → List ℕ → Type 0
+NarrowOperands [] s = Unit {0}
+NarrowOperands (k ∷ ks) s = Narrow k s × ((rest : List ℕ) → afterOperand k s ≡ some rest → NarrowOperands ks rest)
+
+-- the instruction of opcode o, which s follows: the length of an extended one, the operands of a standard one; a special one has none
+pub record NarrowInstruction (h : Opcodes) (o : ℕ) (s : List ℕ) : Type 0 where
+  pub extended : o ≡ 0 → Narrow unsigned s
+  pub standard : o ≢ 0 → o < h .base → NarrowOperands (operandsOf h o) s
+
+-- P of each instruction of a program, by its opcode and what follows that, as the Standard walks the program; they are at most k
+abbrev pub EachWithin : ℕ → Opcodes → (ℕ → List ℕ → Type 0) → List ℕ → Type 0
+EachWithin zero h P s = Unit {0}
+EachWithin (suc k) h P [] = Unit {0}
+EachWithin (suc k) h P (o ∷ s) = P o s × ((t : Passed) → instruction h o s ≡ some t → EachWithin k h P (t .rest))
+
+abbrev pub Each : Opcodes → (ℕ → List ℕ → Type 0) → List ℕ → Type 0
+Each h P program = EachWithin (length program) h P program
+
+abbrev pub NarrowProgram : Opcodes → List ℕ → Type 0
+NarrowProgram h program = Each h (NarrowInstruction h) program
+
+-- where the instruction ends a sequence, that end's place is below 2^64; the program has `whole` bytes and begins at `base`
+abbrev pub EndBelow : Opcodes → ℕ → ℕ → ℕ → List ℕ → Type 0
+EndBelow h base whole o s = (t : Passed) → instruction h o s ≡ some t → t .ends ≡ true → base + placeOf whole (t .rest) < 2 ^ 64
+
+-- each sequence of the program ends below 2^64
+abbrev pub EndsBelow : Opcodes → ℕ → List ℕ → Type 0
+EndsBelow h base program = Each h (EndBelow h base (length program)) program
+
 -- an answer beside the Standard's: done is the same, 7 to 9 are no whole program (or instruction) of the Standard;
--- 10 and 11 (an operand past 64 bits or ten bytes) and 12 (past 2^64 - 1) are limits that the Standard does not have
+-- 10 and 11 (an operand past 64 bits or ten bytes) and 12 (past 2^64 - 1) are limits that the Standard does not have. Where these lie is said by `Agrees`
 abbrev pub Beside : {A : Type 0} → Outcome A → Option A → Type 0
 Beside (done a) o = o ≡ some a
 Beside (refused n) o = ((7 ≤ n) × (n ≤ 9) × (o ≡ none)) ⊎ ((10 ≤ n) × (n ≤ 12))
 
+-- an answer is the Standard's exactly within the limits; what the Standard has beyond them is refused with a number from 10 to `last`
+pub record Agrees {A : Type 0} (last : ℕ) (x : Outcome A) (o : Option A) (Limits : Type 0) : Type 0 where
+  pub same : (a : A) → (x ≡ done a) ↔ ((o ≡ some a) × Limits)
+  pub beyond : (a : A) (n : ℕ) → o ≡ some a → x ≡ refused n → (10 ≤ n) × (n ≤ last)
+
+-- an instruction is passed where the Standard passes it and it is narrow; 12 is one that ends past the program, which the Standard has not.
+-- A program is scanned where the Standard has its sequences, each instruction is narrow and each sequence ends below 2^64, as they do where the program does
 pub record ProgramConforms (h : Opcodes) : Type 0 where
   pub instructions : (whole o : ℕ) (s : List ℕ) → Beside (skip h whole o s) (instruction h o s)
   pub programs : (base : ℕ) (program : List ℕ) → Beside (scanLineSequenceOffsets h base program) (sequences h base program)
+  pub passed : (whole o : ℕ) (s : List ℕ) → Agrees 11 (skip h whole o s) (instruction h o s) (NarrowInstruction h o s)
+  pub scanned : (base : ℕ) (program : List ℕ)
+      → Agrees 12 (scanLineSequenceOffsets h base program) (sequences h base program) (NarrowProgram h program × EndsBelow h base program)
+  pub ends : (base : ℕ) (program : List ℕ) → base + length program < 2 ^ 64 → EndsBelow h base program
 
 abbrev pub Programs : Type 0
 Programs = (h : Opcodes) → DeclaresStandard h → ProgramConforms h
@@ -88,33 +141,66 @@ pub record Open (p : List ℕ) : Type 0 where
   pub filled : p ≢ []
   pub unclosed : endsWith slash p ≡ false
 
--- an open directory that is no Windows path
-pub record Neat (p : List ℕ) : Type 0 where
-  pub unix : Unix p
-  pub shape : Open p
+-- a directory that path p stands below as in the Standard, with one slash more: an open one, or one that is closed, but not the root, where p is a bare name
+pub record Holds (d p : List ℕ) : Type 0 where
+  pub filled : d ≢ []
+  pub closed : endsWith slash d ≡ true → (directoryName p ≡ []) × (d ≢ slash ∷ [])
 
 -- a file's path was read and names a file
 pub record NamesFile (f : HeaderFile) : Type 0 where
   pub read : f .failed ≡ false
   pub named : basenameOf (f .path) ≢ []
 
--- the compilation directory is open, and from version 5 on it is the table's directory 0; a directory of another number is there, was read and is neat
+-- a relative path that is no Windows path
+pub record Relative (p : List ℕ) : Type 0 where
+  pub relative : isFull p ≡ false
+  pub unix : Unix p
+
+-- where directory n stands in the table, which numbers from 1 before version 5
+abbrev pub tablePlace : ℕ → ℕ → ℕ
+tablePlace version n = cond (leb 5 version) n (n - 1)
+
+abbrev pub readAs : List ℕ → Option Directory
+readAs path = some (record { failed = false; path = path })
+
+-- the unit has the compilation directory, which from version 5 on is the table's directory 0 too; number 0 is that one; a directory of another number was read,
+-- is no Windows path and stands below it
 pub record PlainDirectory (u : CompilationUnit) (h : LineHeader) (f : HeaderFile) (compilation : List ℕ) : Type 0 where
   pub compilationIs : u .directory ≡ some compilation
-  pub shape : Open compilation
-  pub first : 5 ≤ h .version → at (u .directories) 0 ≡ some (record { failed = false; path = compilation })
+  pub first : 5 ≤ h .version → at (u .directories) 0 ≡ readAs compilation
+  pub zeroth : f .directory ≡ 0 → Holds compilation (f .path)
   pub numbered : f .directory ≢ 0
-      → (d : List ℕ) × Neat d × (at (u .directories) (cond (leb 5 (h .version)) (f .directory) (f .directory - 1)) ≡ some (record { failed = false; path = d }))
+      → Open compilation × ((d : List ℕ) × Unix d × Holds d (f .path) × (at (u .directories) (tablePlace (h .version) (f .directory)) ≡ readAs d))
+
+-- from version 5 on, directory 0: the table's, which was read, whatever the unit's compilation directory is, if it has one
+pub record FirstDirectory (u : CompilationUnit) (h : LineHeader) (f : HeaderFile) : Type 0 where
+  pub version : 5 ≤ h .version
+  pub number : f .directory ≡ 0
+  pub path : List ℕ
+  pub shape : Holds path (f .path)
+  pub read : at (u .directories) 0 ≡ readAs path
+
+-- a directory of another number that is a full path and was read, whatever the compilation directory; from version 5 on the Standard asks for some directory 0
+pub record FullDirectory (u : CompilationUnit) (h : LineHeader) (f : HeaderFile) : Type 0 where
+  pub number : f .directory ≢ 0
+  pub path : List ℕ
+  pub full : isFull path ≡ true
+  pub shape : Holds path (f .path)
+  pub read : at (u .directories) (tablePlace (h .version) (f .directory)) ≡ readAs path
+  pub first : 5 ≤ h .version → (d : Directory) × (at (u .directories) 0 ≡ some d)
 
 abbrev pub Joins : CompilationUnit → LineHeader → HeaderFile → List ℕ → Type 0
 Joins u h f compilation =
     (e : FileEntry) × (fileEntry u h f ≡ done (some e))
     × (filePath (h .version) compilation (map (λ d. d .path) (u .directories)) (f .directory) (f .path) ≡ some (pathOf e))
 
--- the named cases are left out: a path that failed or names no file, a full path of two slashes and a name, and a relative path that is a Windows path or whose directory is not plain
+-- the named cases are left out: a path that failed or names no file, a full path of two slashes and a name, and a relative path that is a Windows path or whose
+-- directory is none of the three above
 pub record PathConforms (u : CompilationUnit) (h : LineHeader) (f : HeaderFile) (compilation : List ℕ) : Type 0 where
   pub full : NamesFile f → isFull (f .path) ≡ true → (directoryName (f .path) ≡ slash ∷ [] → f .path ≡ slash ∷ basenameOf (f .path)) → Joins u h f compilation
-  pub relative : NamesFile f → isFull (f .path) ≡ false → Unix (f .path) → PlainDirectory u h f compilation → Joins u h f compilation
+  pub relative : NamesFile f → Relative (f .path) → PlainDirectory u h f compilation → Joins u h f compilation
+  pub inFirst : NamesFile f → Relative (f .path) → FirstDirectory u h f → Joins u h f compilation
+  pub inFull : NamesFile f → Relative (f .path) → FullDirectory u h f → Joins u h f compilation
 
 abbrev pub Paths : Type 0
 Paths = (u : CompilationUnit) (h : LineHeader) (f : HeaderFile) (compilation : List ℕ) → PathConforms u h f compilation

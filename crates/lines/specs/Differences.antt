@@ -100,6 +100,8 @@ pub record PathDifferences : Type 0 where
   pub closed :
       (filePath 4 wSlash [] 0 within ≡ some (wSlash ++ (0x2f ∷ within)))
       × (fileEntry (unitOf (some wSlash) []) (header 4) (file 0 within) ≡ entry (wSlash ++ (0x73 ∷ [])) bc)
+  -- nor does the root, with a bare name: //b.c and /, which stands for /b.c
+  pub root : (filePath 4 (0x2f ∷ []) [] 0 bc ≡ some doubled) × (fileEntry (unitOf (some (0x2f ∷ [])) []) (header 4) (file 0 bc) ≡ entry (0x2f ∷ []) bc)
   -- so for a directory of the table, s/ with t/b.c below it: /w/s//t/b.c and /w/s/t
   pub closedEntry :
       (filePath 4 w (folder ∷ []) 1 below ≡ some (w ++ (0x2f ∷ folder ++ (0x2f ∷ below))))
@@ -112,10 +114,12 @@ pub record PathDifferences : Type 0 where
   pub windowsEntry :
       (filePath 4 w (onDrive ∷ []) 1 bc ≡ some (w ++ (0x2f ∷ onDrive ++ (0x2f ∷ bc))))
       × (fileEntry (unitOf (some w) (given onDrive ∷ [])) (header 4) (file 1 bc) ≡ entry onDrive bc)
-  -- an unknown compilation directory: the path stays relative, where an empty one would make it /b.c
+  -- a unit that has no compilation directory: the path stays relative. The Standard's definition has to be given one; with an empty one it is /b.c
   pub unknown : (filePath 4 [] [] 0 bc ≡ some (0x2f ∷ bc)) × (fileEntry (unitOf none []) (header 4) (file 0 bc) ≡ entry [] bc)
-  -- a directory that is not in the table is passed over
+  -- a directory that is not in the table is passed over: the compilation directory alone is left
   pub missing : (filePath 4 w [] 7 bc ≡ none) × (fileEntry (unitOf (some w) []) (header 4) (file 7 bc) ≡ entry w bc)
+  -- from version 5 on that directory is not put before directory 0, so nothing is left where the table has none
+  pub missingFirst : (filePath 5 w [] 0 bc ≡ none) × (fileEntry (unitOf (some w) []) (header 5) (file 0 bc) ≡ entry [] bc)
   -- from version 5 on, the unit's compilation directory /w and not the table's directory 0, s/, is put before another directory: s//s/b.c with a second s
   pub other :
       (filePath 5 w (folder ∷ (0x73 ∷ []) ∷ []) 1 bc ≡ some (folder ++ (0x2f ∷ 0x73 ∷ 0x2f ∷ bc)))

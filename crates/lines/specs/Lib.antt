@@ -7,5 +7,6 @@ pub mod Rows
 pub mod RowsAgree
 pub mod Conforms
 pub mod Differences
+pub mod PrintedPath
 pub mod Join
 pub mod Scan
