@@ -7,16 +7,16 @@ use Prim.Native.Nat.{ℕ, zero, suc, _+_, _-_, _^_, _≤_, _<_}
 use native.Mathlib.Omega.{arith}
 use borrow.Author.Tests.{lt-ltb, le-ltb, le-leb, lt-leb, eq-eqb, ne-eqb}
 use lib.Dec.{leb, ltb, eqb}
-use lib.ListN.{length, getD, drop, replicate, length-drop, drop-of-length-le}
+use lib.ListN.{length, getD, drop, length-drop, drop-of-length-le}
 use lib.Seq.{drop-drop}
 use Rattle.tlv.specs.Outcome.{Outcome, refused, done, _>>=_}
 use Rattle.lines.specs.declared.lines.Operand.{Operand}
 use Rattle.lines.specs.declared.lines.Skipped.{Skipped}
-use Rattle.lines.specs.Standard.{OperandKind, unsigned, half, Passed}
-use Rattle.lines.specs.Program.{bare, operandKinds, skipOperand, skipOperands, takeLineBytes, extendedBody, extended, skip}
+use Rattle.lines.specs.Standard.{OperandKind, half, Passed}
+use Rattle.lines.specs.Program.{bare, countedKinds, operandKinds, skipOperand, skipOperands, takeLineBytes, extendedBody, extended, skip}
 use Rattle.lines.specs.Scan.{over, kindsBy, Reads, Passes}
 use Rattle.lines.proofs.UlebLaws.{drop-at}
-use Rattle.lines.proofs.SkipLaws.{passes-earlier, passes-as, passed, unsignedOnes, one-passed, one-refused, one-ended}
+use Rattle.lines.proofs.SkipLaws.{passes-earlier, passes-as, passed, one-passed, one-refused, one-ended}
 
 -- ---- n bytes
 
@@ -122,7 +122,7 @@ counted ls o s = over (skipOperands (kindsBy ls o) s)
 abbrev standard : List ℕ → ℕ → List ℕ → Outcome Passed
 standard ls o s =
     cond (eqb o 9) (cond (leb 2 (length s)) (passed (drop 2 s)) (refused 7))
-    (cond (bare o) (passed s) (unsignedOnes (getD ls (o - 1) 0) s))
+    (cond (bare o) (passed s) (over (skipOperands (countedKinds o (getD ls (o - 1) 0)) s)))
 
 kinds-by : (a b c : Bool) (ks : List OperandKind) (s : List ℕ) → leb 2 (length s) ≡ c
     → over (skipOperands (cond a (half ∷ []) (cond b [] ks)) s) ≡ cond a (cond c (passed (drop 2 s)) (refused 7)) (cond b (passed s) (over (skipOperands ks s)))
@@ -134,7 +134,7 @@ kinds-by false false c ks s e = refl
 
 standard-is : (ls : List ℕ) (o : ℕ) (s : List ℕ) → counted ls o s ≡ standard ls o s
 unfolding operandKinds
-standard-is ls o s = kinds-by (eqb o 9) (bare o) (leb 2 (length s)) (replicate (getD ls (o - 1) 0) unsigned) s refl
+standard-is ls o s = kinds-by (eqb o 9) (bare o) (leb 2 (length s)) (countedKinds o (getD ls (o - 1) 0)) s refl
 
 module _ (s ls : List ℕ) (o at : ℕ) where
   by-standard : {r : Skipped} → Passes s at r (standard ls o (drop at s)) → Passes s at r (counted ls o (drop at s))
@@ -145,7 +145,9 @@ module _ (s ls : List ℕ) (o at : ℕ) where
       let l : List ℕ = drop at s in
       let two : Outcome Passed = cond (leb 2 (length l)) (passed (drop 2 l)) (refused 7) in
       by-standard (record {
-        is = sym (ap (λ (x : ℕ). standard ls x l) e ∙ (λ i. cond (f i) two (cond (g i) (passed l) (unsignedOnes (getD ls (k - 1) 0) l))));
+        is =
+            let counted : Outcome Passed = over (skipOperands (countedKinds k (getD ls (k - 1) 0)) l) in
+            sym (ap (λ (x : ℕ). standard ls x l) e ∙ (λ i. cond (f i) two (cond (g i) (passed l) counted)));
         within = (omega arith, h);
       })
 
@@ -156,7 +158,7 @@ module _ (s ls : List ℕ) (o at : ℕ) where
       by-standard (passes-as (rw (eq-eqb o 9 e, length-drop at s, drop-drop 2 at s) (sym t)) P)
 
   standard-other : {n : ℕ} {r : Skipped} → (o ≡ 9 → ⊥) → (o ≡ 1 → ⊥) → (o ≡ 6 → ⊥) → (o ≡ 7 → ⊥) → (o ≡ 8 → ⊥) → (o ≡ 10 → ⊥) → (o ≡ 11 → ⊥)
-      → n ≡ getD ls (o - 1) 0 → Passes s at r (unsignedOnes n (drop at s)) → Passes s at r (counted ls o (drop at s))
+      → n ≡ getD ls (o - 1) 0 → Passes s at r (over (skipOperands (countedKinds o n) (drop at s))) → Passes s at r (counted ls o (drop at s))
   standard-other n9 n1 n6 n7 n8 n10 n11 e P =
       by-standard (passes-as (rw (ne-eqb o 9 n9, ne-eqb o 1 n1, ne-eqb o 6 n6, ne-eqb o 7 n7, ne-eqb o 8 n8, ne-eqb o 10 n10, ne-eqb o 11 n11, e)) P)
 
@@ -176,7 +178,7 @@ standard-range s ls o at n g h l =
     standard-bare s ls o at (6 + (o - 6)) e (ne-eqb (6 + (o - 6)) 9 (λ z. n (e ∙ z))) (bare-from (o - 6) (omega arith) (λ z. n (omega arith))) l
 
 pub standard-rest : (s ls : List ℕ) (o at : ℕ) {n : ℕ} {r : Skipped} → (o ≡ 9 → ⊥) → (o ≡ 1 → ⊥) → (o < 6) ⊎ (12 ≤ o)
-    → n ≡ getD ls (o - 1) 0 → Passes s at r (unsignedOnes n (drop at s)) → Passes s at r (counted ls o (drop at s))
+    → n ≡ getD ls (o - 1) 0 → Passes s at r (over (skipOperands (countedKinds o n) (drop at s))) → Passes s at r (counted ls o (drop at s))
 standard-rest s ls o at n9 n1 d =
     let off : (k : ℕ) → 6 ≤ k → k < 12 → o ≡ k → ⊥ = λ k g h e. ⊎-elim (λ l. omega arith) (λ l. omega arith) d in
     standard-other s ls o at n9 n1 (off 6 (omega arith) (omega arith)) (off 7 (omega arith) (omega arith)) (off 8 (omega arith) (omega arith))

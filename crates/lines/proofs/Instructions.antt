@@ -1,7 +1,6 @@
 -- Passing over operands and over one instruction, beside the Standard's. Assumes nothing.
 use mathlib.Core.Path.{_≡_, refl, ap}
 use mathlib.Core.Bool.{Bool, true, false, cond}
-use mathlib.Core.Logic.{_≢_}
 use mathlib.Core.List.{List, [], _∷_}
 use mathlib.Core.Option.{none, some}
 use Prim.Native.Nat.{ℕ, _+_, _-_, _^_, _<_}
@@ -10,13 +9,13 @@ use borrow.Author.Tests.{ltb-true, eqb-true, eqb-false, ne-eqb}
 use lib.Dec.{leb, ltb, eqb}
 use lib.ListN.{length, drop, replicate}
 use Rattle.tlv.specs.Outcome.{Outcome, refused, done, _>>=_}
-use Rattle.tlv.specs.Lists.{mapOption}
-use Rattle.tlv.proofs.ListLaws.{mapped-twice}
-use Rattle.lines.specs.Standard.{andThen, Operand, leb128, SignedOperand, sleb128, OperandKind, unsigned, signed, half, standardOperands, Opcodes, declared, operandsOf}
+use Rattle.lines.specs.Standard.{andThen, Operand, leb128, SignedOperand, sleb128, OperandKind, unsigned, signed, half, standardOperands, Opcodes}
+use Rattle.lines.specs.Standard.{declared, operandsOf}
 use Rattle.lines.specs.Standard.{afterOperand, afterOperands, Passed, extendedBody as standardBody, extendedOf, instruction}
-use Rattle.lines.specs.Program.{uleb, bare, operandKinds, skipOperand, skipOperands, placeOf, takeLineBytes, extendedBody, extended, skip}
-use Rattle.lines.specs.Conforms.{CountIs, DeclaresStandard, Beside}
+use Rattle.lines.specs.Program.{uleb, sleb, countedKinds, operandKinds, skipOperand, skipOperands, placeOf, takeLineBytes, extendedBody, extended, skip}
+use Rattle.lines.specs.Conforms.{DeclaresCount, DeclaresStandard, Beside}
 use Rattle.lines.proofs.Operands.{Answer, ended, wide, long, answer}
+use Rattle.lines.proofs.SignedOperands.{Answer as SignedAnswer, ended as signed-ended, wide as signed-wide, long as signed-long, answer as signed-answer}
 use Rattle.lines.proofs.Beside.{beside-none, beside-limit, beside-if, beside-then, beside-map}
 
 -- ---- operands
@@ -30,21 +29,19 @@ beside-uleb s = go (uleb s) (answer s)
     go (refused n) (wide e c l g) = beside-limit n (leb128 s) (omega arith) (omega arith)
     go (refused n) (long e c g) = beside-limit n (leb128 s) (omega arith) (omega arith)
 
--- signed LEB128 takes the bytes that unsigned LEB128 takes
-pub signed-rest : (s : List ℕ) → mapOption (λ (o : SignedOperand). o .rest) (sleb128 s) ≡ mapOption (λ (o : Operand). o .rest) (leb128 s)
-unfolding sleb128 leb128 mapOption
-signed-rest [] = refl
-signed-rest (b ∷ s) = go (signed-rest s) (ltb b 128) refl
+pub beside-sleb : (s : List ℕ) → Beside (sleb s) (sleb128 s)
+beside-sleb s = go (sleb s) (signed-answer s)
   where
-    go : mapOption (λ (o : SignedOperand). o .rest) (sleb128 s) ≡ mapOption (λ (o : Operand). o .rest) (leb128 s) → (t : Bool) → ltb b 128 ≡ t
-        → mapOption (λ (o : SignedOperand). o .rest) (sleb128 (b ∷ s)) ≡ mapOption (λ (o : Operand). o .rest) (leb128 (b ∷ s))
-    go ih true e = rw e
-    go ih false e = rw e (simp mapped-twice ih)
+    go : (r : Outcome SignedOperand) → SignedAnswer 9 s r → Beside r (sleb128 s)
+    go (done o) a = a .is
+    go (refused n) (signed-ended e f l) = rw f (beside-none n (omega arith) (omega arith))
+    go (refused n) (signed-wide e c l g) = beside-limit n (sleb128 s) (omega arith) (omega arith)
+    go (refused n) (signed-long e c g) = beside-limit n (sleb128 s) (omega arith) (omega arith)
 
 pub beside-operand : (k : OperandKind) (s : List ℕ) → Beside (skipOperand k s) (afterOperand k s)
 unfolding skipOperand afterOperand
 beside-operand unsigned s = beside-map (uleb s) (leb128 s) (λ o. o .rest) (beside-uleb s)
-beside-operand signed s = rw signed-rest (beside-map (uleb s) (leb128 s) (λ o. o .rest) (beside-uleb s))
+beside-operand signed s = beside-map (sleb s) (sleb128 s) (λ o. o .rest) (beside-sleb s)
 beside-operand half s = beside-if (leb 2 (length s)) (done (drop 2 s)) (refused 7) (some (drop 2 s)) none (λ e. refl) (λ e. beside-none 7 (omega arith) (omega arith))
 
 pub beside-operands : (ks : List OperandKind) (s : List ℕ) → Beside (skipOperands ks s) (afterOperands ks s)
@@ -65,7 +62,7 @@ module _ (P : ℕ → Type 0) (o : ℕ) where
 
 module _ (h : Opcodes) (s : List ℕ) where
   abbrev Skips : ℕ → Type 0
-  Skips o = (bare o ≡ false → o ≢ 9 → CountIs (declared h o) (standardOperands o)) → skipOperands (operandKinds h o) s ≡ skipOperands (operandsOf h o) s
+  Skips o = DeclaresCount h o → skipOperands (operandKinds h o) s ≡ skipOperands (operandsOf h o) s
 
   -- where the Standard's number of operands is declared, or does not matter, they are skipped as the Standard's kinds are
   pub same-operands : (o : ℕ) → Skips o
@@ -73,7 +70,7 @@ module _ (h : Opcodes) (s : List ℕ) where
   same-operands o =
       unless Skips o 1 (λ d. refl) λ n1.
       unless Skips o 2 (λ d. counted 2 (d refl (λ e. omega arith))) λ n2.
-      unless Skips o 3 (λ d. counted 3 (d refl (λ e. omega arith))) λ n3.
+      unless Skips o 3 (λ d. single (d refl (λ e. omega arith))) λ n3.
       unless Skips o 4 (λ d. counted 4 (d refl (λ e. omega arith))) λ n4.
       unless Skips o 5 (λ d. counted 5 (d refl (λ e. omega arith))) λ n5.
       unless Skips o 6 (λ d. refl) λ n6.
@@ -86,6 +83,9 @@ module _ (h : Opcodes) (s : List ℕ) where
       rw (ne-eqb o 1 n1, ne-eqb o 2 n2, ne-eqb o 3 n3, ne-eqb o 4 n4, ne-eqb o 5 n5, ne-eqb o 6 n6)
       (rw (ne-eqb o 7 n7, ne-eqb o 8 n8, ne-eqb o 9 n9, ne-eqb o 10 n10, ne-eqb o 11 n11, ne-eqb o 12 n12))
     where
+      single : declared h 3 ≡ 1 → skipOperands (countedKinds 3 (declared h 3)) s ≡ skipOperands (signed ∷ []) s
+      single d = ap (λ (n : ℕ). skipOperands (countedKinds 3 n) s) d
+
       counted : (i : ℕ) → declared h i ≡ 1 → skipOperands (replicate (declared h i) unsigned) s ≡ skipOperands (unsigned ∷ []) s
       counted i d = ap (λ (n : ℕ). skipOperands (replicate n unsigned) s) d
 

@@ -1,5 +1,6 @@
 pub mod Leb128
 pub mod Operands
+pub mod SignedOperands
 pub mod Beside
 pub mod Agrees
 pub mod Instructions
@@ -19,6 +20,7 @@ pub mod LineBounds
 pub mod RowLaws
 pub mod Differences
 pub mod PrintedPath
+pub mod SignedCases
 pub mod PathCodeLaws
 pub mod JoinLaws
 pub mod UlebLaws

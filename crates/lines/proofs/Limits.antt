@@ -1,5 +1,5 @@
 -- Where passing over operands, an instruction and a whole program is the Standard's: exactly within the limits. Assumes nothing.
-use mathlib.Core.Path.{_≡_, refl}
+use mathlib.Core.Path.{_≡_, refl, ap, _∙_}
 use mathlib.Core.Bool.{Bool, true, false, cond}
 use mathlib.Core.List.{List, [], _∷_}
 use mathlib.Core.Option.{Option, none, some}
@@ -10,13 +10,18 @@ use lib.Dec.{leb, ltb, eqb}
 use lib.ListN.{length, drop}
 use Rattle.tlv.specs.Outcome.{Outcome, refused, done, _>>=_}
 use Rattle.tlv.specs.Lists.{mapOption}
-use Rattle.lines.specs.Standard.{andThen, Operand, leb128, OperandKind, unsigned, signed, half, Opcodes, operandsOf, afterOperand, afterOperands}
-use Rattle.lines.specs.Standard.{Passed, extendedBody as standardBody, extendedOf, instruction, sequencesWithin as standardWithin}
-use Rattle.lines.specs.Program.{uleb, operandKinds, skipOperand, skipOperands, placeOf, takeLineBytes, extendedBody, extended, skip, sequencesWithin}
-use Rattle.lines.specs.Conforms.{DeclaresStandard, Short, Narrow, NarrowOperands, NarrowInstruction, EachWithin, EndBelow, Agrees}
+use Rattle.lines.specs.Standard.{andThen, Operand, leb128, SignedOperand, sleb128, OperandKind, unsigned, signed, half, standardOperands, Opcodes}
+use Rattle.lines.specs.Standard.{operandsOf, afterOperand, afterOperands, Passed, extendedBody as standardBody, extendedOf, instruction}
+use Rattle.lines.specs.Standard.{sequencesWithin as standardWithin}
+use Rattle.lines.specs.Program.{uleb, sleb, operandKinds, skipOperand, skipOperands, placeOf, takeLineBytes, extendedBody, extended, skip}
+use Rattle.lines.specs.Program.{sequencesWithin}
+use Rattle.lines.specs.Conforms.{DeclaresCount, DeclaresStandard, AdvanceLine, Short, ShortSigned, Narrow, NarrowOperands, NarrowInstruction}
+use Rattle.lines.specs.Conforms.{EachWithin, EndBelow, Agrees}
 use Rattle.lines.proofs.Leb128.{taken-more, value-more}
 use Rattle.lines.proofs.Operands.{Answer, ended, wide, long, answer}
-use Rattle.lines.proofs.Instructions.{signed-rest, same-operands}
+use Rattle.lines.proofs.SignedOperands.{Answer as SignedAnswer, ended as signed-ended, wide as signed-wide, long as signed-long}
+use Rattle.lines.proofs.SignedOperands.{answer as signed-answer, signed-operands}
+use Rattle.lines.proofs.Instructions.{same-operands}
 use Rattle.lines.proofs.Agrees.{agrees-done, agrees-refused, agrees-none, agrees-when, agrees-if, agrees-wider, agrees-then, agrees-map}
 
 -- ---- operands
@@ -30,10 +35,23 @@ agrees-uleb s = go (uleb s) (answer s)
     go (refused n) (wide e c l g) = agrees-refused 11 n (λ o f. (omega arith, omega arith, λ k. omega (arith, value-more 9 s o c l g f, k o f .1)))
     go (refused n) (long e c g) = agrees-refused 11 n (λ o f. (omega arith, omega arith, λ k. omega (arith, taken-more 10 s o c f, k o f .0)))
 
+agrees-sleb : (s : List ℕ) → Agrees 11 (sleb s) (sleb128 s) (ShortSigned s)
+agrees-sleb s = go (sleb s) refl (signed-answer s)
+  where
+    go : (r : Outcome SignedOperand) → sleb s ≡ r → SignedAnswer 9 s r → Agrees 11 r (sleb128 s) (ShortSigned s)
+    go (done o) q a =
+        let (e, l, m) = signed-operands s .read o .0 q in
+        agrees-done 11 o e (λ p f. let z : p ≡ o = cc in rw z (l, m))
+    go (refused n) q (signed-ended e f l) = rw f (agrees-none 11 n)
+    go (refused n) q (signed-wide e c l g) =
+        agrees-refused 11 n (λ o f. (omega arith, omega arith, λ k. signed-operands s .past-bits (q ∙ ap refused e) o f (k o f .1)))
+    go (refused n) q (signed-long e c g) =
+        agrees-refused 11 n (λ o f. (omega arith, omega arith, λ k. omega (arith, signed-operands s .past-bytes (q ∙ ap refused e) o f, k o f .0)))
+
 agrees-operand : (k : OperandKind) (s : List ℕ) → Agrees 11 (skipOperand k s) (afterOperand k s) (Narrow k s)
 unfolding skipOperand afterOperand
 agrees-operand unsigned s = agrees-map 11 (uleb s) (leb128 s) (λ o. o .rest) (agrees-uleb s)
-agrees-operand signed s = rw signed-rest (agrees-map 11 (uleb s) (leb128 s) (λ o. o .rest) (agrees-uleb s))
+agrees-operand signed s = agrees-map 11 (sleb s) (sleb128 s) (λ o. o .rest) (agrees-sleb s)
 agrees-operand half s = go (leb 2 (length s))
   where
     go : (t : Bool) → Agrees 11 (cond t (done (drop 2 s)) (refused 7)) (cond t (some (drop 2 s)) none) (Unit {0})
@@ -72,9 +90,9 @@ agrees-extended whole s =
 
 -- ---- any instruction
 
-module _ (h : Opcodes) (d : DeclaresStandard h) (whole o : ℕ) (s : List ℕ) where
+module _ (h : Opcodes) (whole o : ℕ) (s : List ℕ) (d : o < h .base → DeclaresCount h o) where
   agrees-standard : o < h .base → Agrees 11 (skipOperands (operandKinds h o) s) (afterOperands (operandsOf h o) s) (NarrowOperands (operandsOf h o) s)
-  agrees-standard l = rw (same-operands h s o (d o l)) (agrees-operands (operandsOf h o) s)
+  agrees-standard l = rw (same-operands h s o (d l)) (agrees-operands (operandsOf h o) s)
 
   pub agrees-skip : Agrees 11 (skip h whole o s) (instruction h o s) (NarrowInstruction h o s)
   unfolding skip instruction
@@ -85,6 +103,13 @@ module _ (h : Opcodes) (d : DeclaresStandard h) (whole o : ℕ) (s : List ℕ) w
       (λ l. agrees-done 11 (passed false s) {N = Unit {0}} refl tt)))
       (λ k. record { extended = λ z. k .0 (eq-eqb o 0 z); standard = λ z l. k .1 (ne-eqb o 0 z) .0 (lt-ltb o (h .base) l) })
       (λ k. (λ z. k .extended (eqb-true o 0 z), λ z. (λ l. k .standard (eqb-false o 0 z) (ltb-true o (h .base) l), λ l. tt)))
+
+-- the single operand of opcode 3
+pub advance-line : AdvanceLine
+unfolding standardOperands operandsOf
+advance-line h l d whole s =
+    agrees-when 11 (agrees-skip h whole 3 s (λ b c e. d)) (λ k. k .standard (λ e. omega arith) l .0)
+    (λ k. record { extended = λ e. absurd (omega arith); standard = λ e b. (k, λ rest f. tt) })
 
 -- ---- a program
 
@@ -111,7 +136,7 @@ module _ (h : Opcodes) (d : DeclaresStandard h) (base whole : ℕ) where
   agrees-sequences zero from s = agrees-done 12 [] refl (tt, tt)
   agrees-sequences (suc k) from [] = agrees-done 12 [] refl (tt, tt)
   agrees-sequences (suc k) from (o ∷ s) =
-      agrees-when 12 (agrees-then 12 (skip h whole o s) (instruction h o s) _ _ (agrees-wider (omega arith) (agrees-skip h d whole o s)) (λ t.
+      agrees-when 12 (agrees-then 12 (skip h whole o s) (instruction h o s) _ _ (agrees-wider (omega arith) (agrees-skip h whole o s (d o))) (λ t.
       let here = base + placeOf whole (t .rest) in
       agrees-if 12 (t .ends) (λ e. agrees-end here from _ _ (agrees-sequences k here (t .rest))) (λ e. agrees-sequences k from (t .rest))))
       (λ q. ((q .0, λ t e. kept (t .ends) (q .1 t e) .0), (λ t e f. q .1 t e .0 f .0, λ t e. kept (t .ends) (q .1 t e) .1)))

@@ -36,7 +36,7 @@ unfolding scanLineSequenceOffsets sequences
 programs h d = record {
   instructions = λ whole o s. beside-skip h d whole o s;
   programs = λ base program. beside-sequences h d base (length program) (length program) base program;
-  passed = λ whole o s. agrees-skip h d whole o s;
+  passed = λ whole o s. agrees-skip h whole o s (d o);
   scanned = λ base program. agrees-sequences h d base (length program) (length program) base program;
   ends = λ base program l. ends-below h d base (length program) l (length program) program;
 }

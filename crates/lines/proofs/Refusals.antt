@@ -7,10 +7,13 @@ use Rattle.tlv.specs.Output.{FileEntry}
 use Rattle.tlv.specs.declared.model.FileIndex.{FileIndex}
 use Rattle.tlv.proofs.RefusalLaws.{RefusesIn, never, refuses-wider, refusing}
 use Rattle.lines.specs.Standard.{OperandKind, unsigned, signed, half, Opcodes}
-use Rattle.lines.specs.Program.{ulebWithin, uleb, skipOperand, skipOperands, takeLineBytes, extendedBody, extended, skip, sequencesWithin, scanLineSequenceOffsets, lineSequenceOffsets}
+use Rattle.lines.specs.Program.{ulebWithin, uleb, slebWithin, sleb, skipOperand, skipOperands, takeLineBytes, extendedBody, extended, skip}
+use Rattle.lines.specs.Program.{sequencesWithin, scanLineSequenceOffsets, lineSequenceOffsets}
 use Rattle.lines.specs.Paths.{readDirectory, namedDirectory, fileEntry}
-use Rattle.lines.specs.Files.{FileTable, placeOf, appendFile, addFileAt, addFile, internEntry, internFile, internFiles, internHeaderFiles, headerFile, get}
-use Rattle.lines.specs.Lines.{RawLine, runRows, Converted, convertLookedUp, convertKnown, convertRow, convertRows, collectHeader, collectFrom, collectLines}
+use Rattle.lines.specs.Files.{FileTable, placeOf, appendFile, addFileAt, addFile, internEntry, internFile, internFiles, internHeaderFiles, headerFile}
+use Rattle.lines.specs.Files.{get}
+use Rattle.lines.specs.Lines.{RawLine, runRows, Converted, convertLookedUp, convertKnown, convertRow, convertRows, collectHeader, collectFrom}
+use Rattle.lines.specs.Lines.{collectLines}
 
 -- ---- the line program: 7 to 12
 
@@ -25,10 +28,21 @@ pub refuses-uleb : (s : List ℕ) → RefusesIn 7 12 (uleb s)
 unfolding uleb
 refuses-uleb s = refuses-uleb-within 9 s
 
+refuses-sleb-within : (k : ℕ) (s : List ℕ) → RefusesIn 7 12 (slebWithin k s)
+unfolding slebWithin
+refuses-sleb-within zero [] = search refusing
+refuses-sleb-within zero (b ∷ s) = search refusing
+refuses-sleb-within (suc k) [] = search refusing
+refuses-sleb-within (suc k) (b ∷ s) = let later = refuses-sleb-within k s in search refusing
+
+refuses-sleb : (s : List ℕ) → RefusesIn 7 12 (sleb s)
+unfolding sleb
+refuses-sleb s = refuses-sleb-within 9 s
+
 refuses-operand : (k : OperandKind) (s : List ℕ) → RefusesIn 7 12 (skipOperand k s)
 unfolding skipOperand
 refuses-operand unsigned s = search (refusing, refuses-uleb)
-refuses-operand signed s = search (refusing, refuses-uleb)
+refuses-operand signed s = search (refusing, refuses-sleb)
 refuses-operand half s = search refusing
 
 refuses-operands : (ks : List OperandKind) (s : List ℕ) → RefusesIn 7 12 (skipOperands ks s)

@@ -50,7 +50,7 @@ shifted-more v m b (done u) =
     = omega (arith, mul-add m b (128 * u .value), mul-comm m b, mul-assoc m 128 (u .value)) in
     ap (λ (x : ℕ). done (record { value = x; rest = u .rest })) e
 
-pub cut-any : (k : ℕ) → ulebWithin k [] ≡ refused 7
+cut-any : (k : ℕ) → ulebWithin k [] ≡ refused 7
 unfolding ulebWithin
 cut-any zero = refl
 cut-any (suc k) = refl

@@ -11,9 +11,9 @@ use Rattle.tlv.specs.Outcome.{Outcome, refused, done}
 use Rattle.tlv.specs.Lists.{at, same}
 use Rattle.tlv.specs.Model.{CompilationUnit, LineHeader, Directory, HeaderFile}
 use Rattle.tlv.specs.Output.{FileEntry}
-use Rattle.lines.specs.Standard.{Operand, leb128, OperandKind, unsigned, signed, half, standardOperands, Opcodes, declared, operandsOf, afterOperand}
-use Rattle.lines.specs.Standard.{Passed, instruction, sequences, slash, isFull, filePath}
-use Rattle.lines.specs.Program.{uleb, bare, placeOf, skip, scanLineSequenceOffsets}
+use Rattle.lines.specs.Standard.{Operand, leb128, SignedOperand, sleb128, OperandKind, unsigned, signed, half, standardOperands, Opcodes, declared}
+use Rattle.lines.specs.Standard.{operandsOf, afterOperand, Passed, instruction, sequences, slash, isFull, filePath}
+use Rattle.lines.specs.Program.{uleb, isSign, sleb, bare, placeOf, skip, scanLineSequenceOffsets}
 use Rattle.lines.specs.Paths.{fileEntry, isDrive, isShare, endsWith, basenameOf, directoryName}
 
 -- ---- operands: read_line_uleb is the Standard's LEB128 within ten bytes and 64 bits
@@ -45,25 +45,59 @@ pub record OperandConforms (s : List ℕ) : Type 0 where
 abbrev pub Operands : Type 0
 Operands = (s : List ℕ) → OperandConforms s
 
+-- ---- signed operands, as opcode 3 has one: the Standard's signed LEB128 within ten bytes and 64 bits
+
+abbrev pub takenSigned : List ℕ → SignedOperand → ℕ
+takenSigned s o = length s - length (o .rest)
+
+-- a number of 64 bits with a sign: - 2^63 at least, and below 2^63
+pub record Signed64 (o : SignedOperand) : Type 0 where
+  pub above : o .down ≤ o .up + 2 ^ 63
+  pub below : o .up < o .down + 2 ^ 63
+
+pub record SignedConforms (s : List ℕ) : Type 0 where
+  -- read: exactly what the Standard reads, where it takes ten bytes at most and has 64 bits at most
+  pub read : (o : SignedOperand) → (sleb s ≡ done o) ↔ ((sleb128 s ≡ some o) × (takenSigned s o ≤ 10) × Signed64 o)
+  -- 7: the bytes end within the first ten, before the Standard's number does
+  pub cut : (sleb s ≡ refused 7) ↔ ((sleb128 s ≡ none) × (length s < 10))
+  -- 10: nine bytes go on, and the tenth is no sign; a number that ends there or later has more than 64 bits
+  pub overflowing : (sleb s ≡ refused 10) ↔ (Continues 9 s × (9 < length s) × (isSign (getD s 9 0 % 128) ≡ false))
+  pub past-bits : sleb s ≡ refused 10 → (o : SignedOperand) → sleb128 s ≡ some o → ¬ Signed64 o
+  -- 11: ten bytes go on; a number that ends later takes more than ten
+  pub overlong : (sleb s ≡ refused 11) ↔ (Continues 10 s × (isSign (getD s 9 0 % 128) ≡ true))
+  pub past-bytes : sleb s ≡ refused 11 → (o : SignedOperand) → sleb128 s ≡ some o → 10 < takenSigned s o
+  -- there is no other refusal
+  pub only : (n : ℕ) → sleb s ≡ refused n → (n ≡ 7) ⊎ (n ≡ 10) ⊎ (n ≡ 11)
+
+abbrev pub SignedOperands : Type 0
+SignedOperands = (s : List ℕ) → SignedConforms s
+
 -- ---- instructions: skipping is the Standard's wherever the header declares the Standard's operand counts
 
 abbrev pub CountIs : ℕ → Option (List OperandKind) → Type 0
 CountIs n none = Unit {0}
 CountIs n (some ks) = n ≡ length ks
 
--- each opcode below the base that the Standard knows, and whose operands are not fixed, is declared with the Standard's number of operands
+-- an opcode that the Standard knows, and whose operands are not fixed, is declared with the Standard's number of operands
+abbrev pub DeclaresCount : Opcodes → ℕ → Type 0
+DeclaresCount h o = bare o ≡ false → o ≢ 9 → CountIs (declared h o) (standardOperands o)
+
+-- so is each below the base
 abbrev pub DeclaresStandard : Opcodes → Type 0
-DeclaresStandard h = (o : ℕ) → o < h .base → bare o ≡ false → o ≢ 9 → CountIs (declared h o) (standardOperands o)
+DeclaresStandard h = (o : ℕ) → o < h .base → DeclaresCount h o
 
 -- the unsigned number that s begins with, where it ends, takes ten bytes and has 64 bits at most
 abbrev pub Short : List ℕ → Type 0
 Short s = (o : Operand) → leb128 s ≡ some o → (taken s o ≤ 10) × (o .value < 2 ^ 64)
 
--- an operand within the limits of ten bytes and 64 bits. "Signed operands are skipped as unsigned too", so they have the limits of an unsigned one; two bytes
--- have none
+-- and the signed one
+abbrev pub ShortSigned : List ℕ → Type 0
+ShortSigned s = (o : SignedOperand) → sleb128 s ≡ some o → (takenSigned s o ≤ 10) × Signed64 o
+
+-- an operand within the limits of ten bytes and 64 bits, with a sign or without; two bytes have none
 abbrev pub Narrow : OperandKind → List ℕ → Type 0
 Narrow unsigned s = Short s
-Narrow signed s = Short s
+Narrow signed s = ShortSigned s
 Narrow half s = Unit {0}
 
 -- each of the operands that s begins with
@@ -119,6 +153,10 @@ pub record ProgramConforms (h : Opcodes) : Type 0 where
 
 abbrev pub Programs : Type 0
 Programs = (h : Opcodes) → DeclaresStandard h → ProgramConforms h
+
+-- E2: opcode 3 with a single declared operand is the Standard's within the limits of a signed one, whatever the header declares for other opcodes
+abbrev pub AdvanceLine : Type 0
+AdvanceLine = (h : Opcodes) → 3 < h .base → declared h 3 ≡ 1 → (whole : ℕ) (s : List ℕ) → Agrees 11 (skip h whole 3 s) (instruction h 3 s) (Narrow signed s)
 
 -- ---- paths: joining is the Standard's outside named cases
 

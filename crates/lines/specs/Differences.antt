@@ -23,10 +23,14 @@ pub record ProgramDifferences : Type 0 where
   pub padded : (leb128 (replicate 10 0x80 ++ (0x00 ∷ [])) ≡ some (record { value = 0; rest = [] })) × (uleb (replicate 10 0x80 ++ (0x00 ∷ [])) ≡ refused 11)
   -- an operand of 65 bits
   pub wide : (leb128 (replicate 9 0x80 ++ (0x02 ∷ [])) ≡ some (record { value = 2 ^ 64; rest = [] })) × (uleb (replicate 9 0x80 ++ (0x02 ∷ [])) ≡ refused 10)
-  -- advance_line by -1 in ten bytes: a signed operand, skipped as unsigned
-  pub negative :
-      (instruction (opcodes 1) 3 (replicate 9 0xff ++ (0x7f ∷ [])) ≡ some (record { ends = false; rest = [] }))
-      × (skip (opcodes 1) 11 3 (replicate 9 0xff ++ (0x7f ∷ [])) ≡ refused 10)
+  -- advance_line by 2^63, a number of 65 bits with its sign
+  pub wideSigned :
+      (instruction (opcodes 1) 3 (replicate 9 0x80 ++ (0x01 ∷ [])) ≡ some (record { ends = false; rest = [] }))
+      × (skip (opcodes 1) 11 3 (replicate 9 0x80 ++ (0x01 ∷ [])) ≡ refused 10)
+  -- advance_line by -1, padded to eleven bytes
+  pub paddedSigned :
+      (instruction (opcodes 1) 3 (replicate 10 0xff ++ (0x7f ∷ [])) ≡ some (record { ends = false; rest = [] }))
+      × (skip (opcodes 1) 12 3 (replicate 10 0xff ++ (0x7f ∷ [])) ≡ refused 11)
   -- advance_pc, which a header declares with no operand
   pub declared :
       (instruction (opcodes 0) 2 (0x05 ∷ []) ≡ some (record { ends = false; rest = [] }))

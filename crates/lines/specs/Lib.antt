@@ -8,5 +8,6 @@ pub mod RowsAgree
 pub mod Conforms
 pub mod Differences
 pub mod PrintedPath
+pub mod SignedCases
 pub mod Join
 pub mod Scan

@@ -1,12 +1,13 @@
--- Operands and instructions of a line program as document 01 ("Rules that bite", skipping; 7 to 12) and the Rust's scan_line_sequence_offsets have them. Assumes nothing.
+-- Operands and instructions of a line program as document 01 ("Rules that bite", skipping; 7 to 12), document 02 (E2, the operand of opcode 3) and the Rust's
+-- scan_line_sequence_offsets have them. Assumes nothing.
 use Prim.Native.Nat.{ℕ, zero, suc, _+_, _*_, _-_, _%_, _^_}
-use mathlib.Core.Bool.{Bool, false, cond, _||_}
+use mathlib.Core.Bool.{Bool, false, cond, _&&_, _||_}
 use mathlib.Core.List.{List, [], _∷_}
 use lib.ListN.{length, drop, replicate}
 use lib.Dec.{leb, ltb, eqb}
 use Rattle.tlv.specs.Outcome.{Outcome, refused, done, _>>=_}
 use Rattle.tlv.specs.Model.{LineHeader}
-use Rattle.lines.specs.Standard.{Operand, OperandKind, unsigned, signed, half, Opcodes, declared, Passed}
+use Rattle.lines.specs.Standard.{Operand, SignedOperand, OperandKind, unsigned, signed, half, Opcodes, declared, Passed}
 
 -- read_line_uleb: a number of 64 bits has ten bytes at most, of which k + 1 are left
 unfoldable pub ulebWithin : ℕ → List ℕ → Outcome Operand
@@ -20,20 +21,43 @@ ulebWithin (suc k) (b ∷ s) =
 unfoldable pub uleb : List ℕ → Outcome Operand
 uleb s = ulebWithin 9 s
 
+-- E2: "a tenth byte may have low seven bits 0 or 7f hex": they are bit 63 of the number and its sign above that, all alike
+abbrev pub isSign : ℕ → Bool
+isSign bits = eqb bits 0 || eqb bits 0x7f
+
+-- 7.6, the last byte of a signed number: where its bit 6 is set, the number is less by 2 to the power of its bits
+abbrev pub signedByte : ℕ → List ℕ → SignedOperand
+signedByte b s = record { up = b; down = cond (leb 64 b) 128 0; rest = s }
+
+-- a signed number of 64 bits has ten bytes at most, of which k + 1 are left. E2: ".. else 10; with its top bit set and those bits allowed, 11"
+unfoldable pub slebWithin : ℕ → List ℕ → Outcome SignedOperand
+slebWithin zero [] = refused 7
+slebWithin zero (b ∷ s) = cond (isSign (b % 128)) (cond (ltb b 128) (done (signedByte b s)) (refused 11)) (refused 10)
+slebWithin (suc k) [] = refused 7
+slebWithin (suc k) (b ∷ s) =
+    cond (ltb b 128) (done (signedByte b s))
+    (slebWithin k s >>= λ o. done (record { up = b % 128 + 128 * o .up; down = 128 * o .down; rest = o .rest }))
+
+unfoldable pub sleb : List ℕ → Outcome SignedOperand
+sleb s = slebWithin 9 s
+
 -- ---- the operand rules
 
 -- "opcodes 1, 6, 7, 8, 10, 11 take nothing"
 abbrev pub bare : ℕ → Bool
 bare o = eqb o 1 || eqb o 6 || eqb o 7 || eqb o 8 || eqb o 10 || eqb o 11
 
+-- E2: "opcode 3's single declared operand is skipped as signed .. If the header declares another operand count for opcode 3, the old rule stays"
+abbrev pub countedKinds : ℕ → ℕ → List OperandKind
+countedKinds o n = cond (eqb o 3 && eqb n 1) (signed ∷ []) (replicate n unsigned)
+
 -- ".. and 9 takes two bytes, whatever the header's lengths say; other opcodes below the base skip that many unsigned operands"
 unfoldable pub operandKinds : Opcodes → ℕ → List OperandKind
-operandKinds h o = cond (eqb o 9) (half ∷ []) (cond (bare o) [] (replicate (declared h o) unsigned))
+operandKinds h o = cond (eqb o 9) (half ∷ []) (cond (bare o) [] (countedKinds o (declared h o)))
 
--- "Signed operands are skipped as unsigned too."
 unfoldable pub skipOperand : OperandKind → List ℕ → Outcome (List ℕ)
 skipOperand unsigned s = uleb s >>= λ o. done (o .rest)
-skipOperand signed s = uleb s >>= λ o. done (o .rest)
+skipOperand signed s = sleb s >>= λ o. done (o .rest)
 skipOperand half s = cond (leb 2 (length s)) (done (drop 2 s)) (refused 7)
 
 unfoldable pub skipOperands : List OperandKind → List ℕ → Outcome (List ℕ)

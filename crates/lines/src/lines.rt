@@ -2,8 +2,9 @@
 ghost use mathlib.Core.Path.{_≡_};
 ghost use Prim.Native.Nat.{_+_, _*_, _-_, _/_, _≤_, _<_};
 ghost use lib.ListN.{length, getD, drop, replicate};
-ghost use Rattle.lines.specs.Standard.{unsigned};
-ghost use Rattle.lines.specs.Program.{skipOperand, skipOperands, takeLineBytes, extendedBody, extended, skip, scanLineSequenceOffsets, initialLength, versionBytes, programOffset, lineSequenceOffsets};
+ghost use Rattle.lines.specs.Standard.{unsigned, signed};
+ghost use Rattle.lines.specs.Program.{isSign, countedKinds, skipOperand, skipOperands, takeLineBytes, extendedBody, extended, skip};
+ghost use Rattle.lines.specs.Program.{scanLineSequenceOffsets, initialLength, versionBytes, programOffset, lineSequenceOffsets};
 ghost use Rattle.lines.specs.Scan.{Reads, Passes, Scanned, OffsetIs, over, kindsBy, headerAt, headerWith};
 
 // What a line header says of its place and its opcodes; the opcode lengths are a slice of their own.
@@ -107,6 +108,44 @@ fn skip_operand(program: &[u8], at: usize) -> Skipped
     }
 }
 
+// Whether the low seven bits of a tenth byte are all alike: bit 63 of a signed number, and its sign.
+fn is_sign(bits: u8) -> bool
+    ensures { λ r. ⌜ r ≡ isSign bits ⌝ }
+{
+    if bits == 0 {
+        return true;
+    }
+    bits == 0x7f
+}
+
+// Passes over the signed operand at a place.
+fn skip_signed_operand(program: &[u8], at: usize) -> Skipped
+    ensures { λ r. ⌜ Passes (now (program .entry)) at r (over (skipOperand signed (drop at (now (program .entry))))) ⌝ }
+{
+    let mut left: u64 = 9;
+    let mut p = at;
+    loop {
+        if program.len() <= p {
+            return Skipped::Fault(7);
+        }
+        let byte = program[p];
+        p += 1;
+        if left == 0 {
+            if !is_sign(byte % 128) {
+                return Skipped::Fault(10);
+            }
+            if byte < 128 {
+                return Skipped::To(p);
+            }
+            return Skipped::Fault(11);
+        }
+        if byte < 128 {
+            return Skipped::To(p);
+        }
+        left -= 1;
+    }
+}
+
 // Passes over n unsigned operands.
 fn skip_operands(program: &[u8], n: u8, at: usize) -> Skipped
     requires { ⌜ at ≤ length (now program) ⌝ }
@@ -129,6 +168,20 @@ fn skip_operands(program: &[u8], n: u8, at: usize) -> Skipped
         }
     }
     Skipped::To(p)
+}
+
+// Passes over the n operands that a header counts for an opcode: opcode 3's single one is signed, all others are unsigned.
+fn skip_counted(program: &[u8], opcode: u8, n: u8, at: usize) -> Skipped
+    requires { ⌜ at ≤ length (now program) ⌝ }
+    ensures { λ r. ⌜ Passes (now (program .entry)) at r (over (skipOperands (countedKinds opcode n) (drop at (now (program .entry))))) ⌝ }
+{
+    if opcode != 3 {
+        return skip_operands(program, n, at);
+    }
+    if n != 1 {
+        return skip_operands(program, n, at);
+    }
+    skip_signed_operand(program, at)
 }
 
 // Passes over n bytes from a place on; an end past the last number is told from one past the program.
@@ -204,7 +257,7 @@ fn skip_standard(program: &[u8], lengths: &[u8], opcode: u8, at: usize) -> Skipp
         1 | 6 | 7 | 8 | 10 | 11 => Skipped::To(at),
         _ => {
             let n = operand_count(lengths, opcode);
-            skip_operands(program, n, at)
+            skip_counted(program, opcode, n, at)
         }
     }
 }

@@ -13,8 +13,8 @@ take-line-bytes-requires c κs = search needs
 operand-count-requires : tie.Need-operand-count-requires
 operand-count-requires c κs = search needs
 
-skip-operands-requires : tie.Need-skip-operands-requires
-skip-operands-requires c κs = search needs
+skip-counted-requires : tie.Need-skip-counted-requires
+skip-counted-requires c κs = search needs
 
 returns : tie.Need-returns
 returns c = standard-two _ _ _ _ (c .before .match .keys1) (omega arith) (omega arith) (c .take-line-bytes .ensures)
@@ -22,7 +22,7 @@ returns c = standard-two _ _ _ _ (c .before .match .keys1) (omega arith) (omega 
 returns-2 : tie.Need-returns-2
 returns-2 c = let m = c .before .before .before .match .rest in
     standard-rest _ _ _ _ (m .0 .1) (m .1) (⊎-elim (λ l. inl (l .taken)) (λ l. inr (l .1 .left)) (c .before .before .if1 .came))
-    (c .before .operand-count .ensures) (c .skip-operands .ensures)
+    (c .before .operand-count .ensures) (c .skip-counted .ensures)
 
 returns-3 : tie.Need-returns-3
 returns-3 c = standard-bare _ _ _ _ 1 (c .match .keys2) refl refl (omega arith)
@@ -36,7 +36,7 @@ skip-standard-spec =
     (tie.spec
     take-line-bytes-requires
     operand-count-requires
-    skip-operands-requires
+    skip-counted-requires
     returns
     returns-2
     returns-3
