@@ -1,4 +1,5 @@
-//! Times the proved import beside the Rust importer, on the same inputs in one process. The answers are compared before anything is timed.
+//! Times the proved import beside the Rust importer as it stands, on the same inputs in one process. The answers are compared before anything is
+//! timed, with the oracle's.
 
 use std::env;
 use std::hint::black_box;
@@ -8,7 +9,8 @@ use std::time::{Duration, Instant};
 
 use oracle::compose::field_count;
 use oracle::files::Source;
-use oracle::{Case, answer, finished, inputs, written};
+use oracle::plain::{finished, inputs, written};
+use oracle::{Case, judged};
 
 mod sheets;
 
@@ -121,7 +123,7 @@ fn read(path: &str) -> Result<Vec<Case>, String> {
 
 /// Buffers for a case, whose answers are the same on both sides.
 fn buffers(case: &Case) -> Result<Buffers, String> {
-    let expected = answer(case);
+    let expected = judged(case)?;
     let outputs = [&expected.records, &expected.files, &expected.warnings].map(|bytes| vec![0; bytes.len()]);
     let copied = vec![0; case.main.len() + case.supplementary.len() + case.program.len()];
     let mut buffers = Buffers { work: vec![0; case.work as usize], outputs, copied, refused: expected.refusal != 0 };

@@ -1,5 +1,5 @@
 //! The proved import against the Rust importer, call by call: refusal, lengths, statistics, bytes written, bytes past each length, bytes past each
-//! buffer, zeros after a refusal, work all zero.
+//! buffer, zeros after a refusal, work all zero. The Rust's text has the change requests' amendments; as it stands, it judges where none applies.
 
 use std::path::{Path, PathBuf};
 use std::process::ExitCode;
@@ -7,7 +7,7 @@ use std::{env, fs};
 
 use oracle::compose::field_count;
 use oracle::files::Source;
-use oracle::{Answer, Case, answer, generate, limits, work_needed};
+use oracle::{Answer, Case, answer, generate, judged, limits, work_needed};
 
 mod wrong;
 
@@ -84,7 +84,7 @@ fn compare(cases: impl Iterator<Item = Result<Case, String>>, options: &Options)
     for (place, case) in cases.enumerate() {
         let case = case?;
         for (form, call) in forms(&case, place as u64).into_iter().enumerate() {
-            let expected = answer(&call);
+            let expected = judged(&call).map_err(|message| format!("case {place}, form {form}: {message}"))?;
             let got = ours(&call, options.wrong);
             counts.calls += 1;
             count(&mut counts, &expected);

@@ -1,6 +1,6 @@
 //! The answer of an import (document 01, "The answer of an import").
 
-use crate::case::Case;
+use crate::case::{Answer, Case};
 use crate::convert::dwarf::{Imported, import};
 use crate::error::refusal;
 use crate::grammar::parse;
@@ -9,17 +9,6 @@ use crate::stand_in::gimli::{Dwarf, Slice};
 
 const INPUT_LIMIT: usize = 16_777_216;
 const PROGRAM_LIMIT: usize = 4_194_304;
-
-/// Refusal 0 is a finished import; a refused one has no bytes and only zeros.
-#[derive(Clone, Debug, Default, Eq, PartialEq)]
-pub struct Answer {
-    pub refusal: u8,
-    pub records: Vec<u8>,
-    pub files: Vec<u8>,
-    pub warnings: Vec<u8>,
-    /// Functions, line rows, inline nodes, rejected ranges.
-    pub statistics: [u64; 4],
-}
 
 pub fn answer(case: &Case) -> Answer {
     inputs(case)

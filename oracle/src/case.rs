@@ -1,4 +1,4 @@
-//! A call of the import.
+//! A call of the import, and its answer.
 
 /// The inputs, and how long the buffers are; their old content alters no answer.
 #[derive(Clone, Debug, Eq, PartialEq)]
@@ -33,4 +33,15 @@ impl Case {
             warnings: 32_768,
         }
     }
+}
+
+/// Refusal 0 is a finished import; a refused one has no bytes and only zeros.
+#[derive(Clone, Debug, Default, Eq, PartialEq)]
+pub struct Answer {
+    pub refusal: u8,
+    pub records: Vec<u8>,
+    pub files: Vec<u8>,
+    pub warnings: Vec<u8>,
+    /// Functions, line rows, inline nodes, rejected ranges.
+    pub statistics: [u64; 4],
 }

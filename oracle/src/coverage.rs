@@ -3,17 +3,20 @@
 
 use std::path::Path;
 
-use crate::answer::{answer, finished, inputs};
+use crate::answer::{finished, inputs};
 use crate::case::Case;
 use crate::compose::*;
 use crate::convert::dwarf::{Imported, Sequenced, table};
 use crate::files::Source;
 use crate::grammar::field;
+use crate::judge::judged;
 use crate::model::{AddressRange, Function, InlineNode, LineEntry};
 use crate::stand_in::gimli::{
     AttributeValue, DebugInfoOffset, Dwarf, EntryData, Format, LineProgramHeader, RowKind, Slice, UnitData, UnitOffset,
 };
 use crate::trace::{Event, traced};
+
+mod requests;
 
 macro_rules! rules {
     ($($rule:ident: $text:literal,)+) => {
@@ -27,7 +30,17 @@ rules! {
     FixedOpcode: "skipping: opcode 1, 6, 7, 8, 10 or 11 takes nothing, its length not being 0",
     FixedAdvance: "skipping: opcode 9 takes two bytes, its length not being 1",
     Declared: "skipping: another opcode skips the operands that its length says",
-    Signed: "skipping: a negative operand skipped as unsigned",
+    Negative: "skipping: opcode 3's operand is negative",
+    AdvanceOfNone: "E2: opcode 3 with no operand declared takes nothing",
+    AdvanceOfTwo: "E2: opcode 3 with two operands or more, a tenth byte of 01 passed by the old rule",
+    AdvanceOfTwoRefused: "E2: opcode 3 with two operands or more, a tenth byte of 7f refused with 10 by the old rule",
+    PaddedWith00: "E2: a tenth byte of 00 passed",
+    PaddedWith7f: "E2: a tenth byte of 7f passed",
+    PaddedWith01: "E2: a tenth byte of 01 refused with 10",
+    PaddedWith40: "E2: a tenth byte of 40 refused with 10",
+    PaddedWith81: "E2: a tenth byte of 81 refused with 10",
+    PaddedWith80: "E2: a tenth byte of 80 refused with 11",
+    PaddedWithFf: "E2: a tenth byte of ff refused with 11",
     Sorted: "rows: sorted by address",
     Stable: "rows: of one address in their order, not by line",
     ExactNeighbours: "rows: exact neighbours drop",
@@ -113,7 +126,7 @@ impl Reached {
 }
 
 fn examine(case: &Case, counts: &mut Counts, reached: &mut Reached) -> Result<(), String> {
-    let answer = answer(case);
+    let answer = judged(case)?;
     counts.refusals[usize::from(answer.refusal)] += 1;
     let (mut kinds, mut rest) = ([0; 12], &answer.warnings[..]);
     while let Some((_, payload, after)) = field(rest) {
@@ -126,6 +139,9 @@ fn examine(case: &Case, counts: &mut Counts, reached: &mut Reached) -> Result<()
     };
     let (result, events) = traced(|| finished(case, &dwarf, ordinal));
     let unit = &dwarf.units[ordinal];
+    if let Some(header) = &unit.lines {
+        requests::advance_line(header, answer.refusal, reached);
+    }
     searches(&dwarf, &events, reached);
     let (Ok(imported), Some(rows)) = (result, table(&dwarf, ordinal)) else {
         return Ok(());
@@ -166,7 +182,7 @@ fn skipping(header: &LineProgramHeader<Slice<'_>>, reached: &mut Reached) {
                 for _ in 0..declared {
                     let last = operand(&mut rest).1;
                     reached.hit(Rule::Declared, true);
-                    reached.hit(Rule::Signed, opcode == 3 && last & 0x40 != 0);
+                    reached.hit(Rule::Negative, opcode == 3 && last & 0x40 != 0);
                 }
             }
         }

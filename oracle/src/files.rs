@@ -4,8 +4,7 @@ use std::fs::{self, File};
 use std::io::{self, BufReader, BufWriter, Read, Write};
 use std::path::{Path, PathBuf};
 
-use crate::answer::Answer;
-use crate::case::Case;
+use crate::case::{Answer, Case};
 
 /// Reads values one after the other from a file.
 pub struct Source {

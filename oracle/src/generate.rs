@@ -326,6 +326,9 @@ fn lines(random: &mut Random, odd: u64) -> Lines {
     if random.chance(20) {
         lengths.iter_mut().for_each(|length| *length = random.pick(&[0, 1, 1, 2]));
     }
+    if random.chance(10) {
+        lengths[2] = random.pick(&[0, 2]);
+    }
     lengths.truncate(random.pick(&[12, 12, 12, 12, 9, 3, 0]));
     let fields = &mut lines.fields;
     fields.header(offset, length, version, word, random.pick(&[13, 13, 13, 13, 10, 4, 1, 0, 14, 255]), &lengths);
@@ -408,24 +411,31 @@ fn instruction(random: &mut Random) -> Vec<u8> {
         5 => vec![12, 3],
         6 => [[0, 9, 2].as_slice(), &random.next().to_le_bytes()].concat(),
         7 => vec![random.between(13, 255) as u8],
+        8 if random.chance(50) => padded_advance(random, &[0, 0x7f]),
         8 => [&[2], [0x80; 9].as_slice(), &[1]].concat(),
         _ => vec![0, 2, 4, random.below(256) as u8],
     }
 }
 
+/// Opcode 3 with an operand of nine bytes that go on and a tenth.
+pub fn padded_advance(random: &mut Random, tenth: &[u8]) -> Vec<u8> {
+    [&[3], [random.pick(&[0x80, 0xff]); 9].as_slice(), &[random.pick(tenth)]].concat()
+}
+
 /// An instruction that refuses the program, if it is met where it is.
 pub fn bad_instruction(random: &mut Random) -> Vec<u8> {
     let nine = [0x80; 9].as_slice();
-    match random.below(14) {
+    match random.below(18) {
         0 => vec![0],
         1 => vec![0, 0],
-        2..4 => vec![0, 1],
-        4 => vec![0, 2, 0x80],
-        5..7 => [&[random.pick(&[0, 2])], nine, &[2, 1]].concat(),
-        7..10 => [&[random.pick(&[0, 2])], nine, &[random.pick(&[0x80, 0x81]), 1]].concat(),
-        10 => [&[2], nine].concat(),
-        11 => [&[0], [0xff; 9].as_slice(), &[1, 1]].concat(),
-        12 => vec![9, 1],
+        2..5 => vec![0, 1],
+        5 => vec![0, 2, 0x80],
+        6..8 => [&[random.pick(&[0, 2])], nine, &[2, 1]].concat(),
+        8..11 => [&[random.pick(&[0, 2])], nine, &[random.pick(&[0x80, 0x81]), 1]].concat(),
+        11 => [&[2], nine].concat(),
+        12 => [&[0], [0xff; 9].as_slice(), &[1, 1]].concat(),
+        13 => vec![9, 1],
+        14..17 => [padded_advance(random, &[0x01, 0x02, 0x40, 0x7e, 0x80, 0x81, 0xff]), vec![1, 1]].concat(),
         _ => vec![2],
     }
 }

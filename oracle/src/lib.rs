@@ -1,6 +1,11 @@
-//! The oracle: imports of one unit of DWARF answered by the Rust importer's own text, which the build
-//! takes in unchanged. Around it stand the input's grammar, the refusals, the buffers and the listing
-//! of document 01, the paper that asks for them.
+//! The oracle: imports of one unit of DWARF answered by the Rust importer's own text, which the build takes in. Around it stand
+//! the input's grammar, the refusals, the buffers and the listing of document 01, the paper that asks for them.
+//!
+//! Two packages are built from these sources. In `plain` the text is as it stands. In `oracle` it carries the amendments of the
+//! change requests, and `plain` judges its answers wherever no request applies.
+
+// The coverage table, which `plain` has not, asks for some things alone.
+#![cfg_attr(feature = "plain", allow(dead_code))]
 
 macro_rules! text {
     ($path:literal) => {
@@ -44,26 +49,61 @@ use model::AddressRange;
 use stand_in::writer::{Endian, GsymVersion};
 use stand_in::{validation, writer};
 
-// ---- around it
+// ---- around it, in both packages
 
 mod answer;
-mod case;
-pub mod compose;
-pub mod coverage;
-pub mod document;
-pub mod files;
-pub mod generate;
+pub mod call_answers;
 mod grammar;
-pub mod limits;
-pub mod line_cases;
-pub mod listing;
 mod output;
-mod random;
-pub mod search_cases;
-#[cfg(test)]
-mod tests;
 mod trace;
 
-pub use answer::{Answer, answer, finished, inputs, work_needed};
-pub use case::Case;
+pub use answer::{answer, finished, inputs, work_needed};
+pub use case::{Answer, Case};
 pub use output::written;
+
+// What is asked and what is answered have one type in both packages: `plain` makes it.
+#[cfg(feature = "plain")]
+pub mod calls;
+#[cfg(feature = "plain")]
+pub mod case;
+
+#[cfg(not(feature = "plain"))]
+pub use plain::{self, calls, case};
+
+// ---- the oracle's own
+
+#[cfg(not(feature = "plain"))]
+pub mod compose;
+#[cfg(not(feature = "plain"))]
+pub mod coverage;
+#[cfg(not(feature = "plain"))]
+pub mod document;
+#[cfg(not(feature = "plain"))]
+pub mod files;
+#[cfg(not(feature = "plain"))]
+pub mod generate;
+#[cfg(not(feature = "plain"))]
+pub mod judge;
+#[cfg(not(feature = "plain"))]
+pub mod limits;
+#[cfg(not(feature = "plain"))]
+pub mod line_cases;
+#[cfg(not(feature = "plain"))]
+pub mod listing;
+#[cfg(not(feature = "plain"))]
+mod random;
+#[cfg(not(any(feature = "plain", faulty_requests)))]
+mod requests;
+#[cfg(not(feature = "plain"))]
+pub mod search_cases;
+#[cfg(all(test, not(feature = "plain")))]
+mod tests;
+
+// The build's copy, with the fault that is planted in it.
+#[cfg(faulty_requests)]
+mod requests {
+    text!("requests.rs");
+}
+
+#[cfg(not(feature = "plain"))]
+pub use judge::judged;

@@ -2,7 +2,7 @@
 
 use crate::case::Case;
 use crate::compose::*;
-use crate::generate::{bad_instruction, before_header_end};
+use crate::generate::{bad_instruction, before_header_end, padded_advance};
 use crate::random::Random;
 
 /// Cases over 64 KiB, the same for every seed: too large ones, and as many fields as there may be.
@@ -29,7 +29,7 @@ pub fn large() -> Vec<Case> {
 }
 
 pub fn case(random: &mut Random) -> Case {
-    match random.below(24) {
+    match random.below(26) {
         0 => nested(random),
         1..6 => chain(random),
         6..9 => ring(random),
@@ -42,6 +42,7 @@ pub fn case(random: &mut Random) -> Case {
         18..20 => offsets(random),
         20 => sources(random),
         21 => order(random),
+        22..24 => advance_line(random),
         _ => file_numbers(random),
     }
 }
@@ -245,9 +246,13 @@ fn instructions(random: &mut Random) -> Case {
     let mut main = Fields::default();
     let (version, word) = (random.pick(&[4, 5]), random.pick(&[4, 8]));
     let before = before_header_end(version, word);
-    let base = random.pick(&[13, 13, 10, 9, 3, 0]);
+    let base = random.pick(&[13, 13, 10, 9, 4, 3, 0]);
     let mut program = Vec::new();
     for _ in 0..random.below(3) {
+        if random.chance(20) {
+            program.extend(padded_advance(random, &[0, 1, 0x7f]));
+            continue;
+        }
         let opcode = if random.chance(30) { base } else { random.between(1, 13) as u8 };
         program.extend([opcode, random.pick(&[1, 9, 0x80]), random.pick(&[1, 2])]);
     }
@@ -267,6 +272,40 @@ fn instructions(random: &mut Random) -> Case {
     main.row(0x1010, 0, 0, if random.chance(5) { FAILED_ROW } else { END });
     main.entry(0, 0, COMPILE_UNIT).entry(1, 1, SUBPROGRAM).string(NAME, b"dim");
     main.attribute(STATEMENT_SEQUENCE, UNSIGNED, offset.wrapping_add(before).wrapping_add(32)).range(0x1000, 0x1010, 0);
+    Case::new(main.0, Vec::new(), program)
+}
+
+/// Opcode 3 with operands of about ten bytes, under each count that a header may declare for it; where the second sequence begins
+/// depends on where they end.
+fn advance_line(random: &mut Random) -> Case {
+    let mut lengths = OPCODE_LENGTHS;
+    lengths[2] = random.pick(&[1, 1, 1, 1, 0, 2, 2]);
+    let tenth = match lengths[2] {
+        2 => [0, 1, 1, 0x7f].as_slice(),
+        _ if random.chance(50) => &[0, 0x7f],
+        _ => &[1, 2, 0x40, 0x7e, 0x80, 0x81, 0xff],
+    };
+    let mut program = Vec::new();
+    for _ in 0..random.between(1, 2) {
+        let mut advance = padded_advance(random, tenth);
+        if random.chance(20) {
+            advance.truncate(random.between(1, 10) as usize);
+            advance.push(random.pick(&[0, 0x7f, 0x80, 0xff]));
+        }
+        program.extend(advance);
+        program.extend(vec![random.pick(&[0, 1, 0x7f]); usize::from(lengths[2].saturating_sub(1))]);
+    }
+    program.extend([0, 1, 1]);
+    let second = 44 + program.len() as u64;
+    program.extend([3, 0x7f, 0, 1, 1]);
+    if random.chance(10) {
+        program.truncate(random.between(1, 12) as usize);
+    }
+    let mut main = Fields::default();
+    main.unit(0, 100, 5, 4).text(0x1000, 0x2000).header(0, 32, 5, 4, random.pick(&[13, 13, 13, 13, 4, 3]), &lengths).file(0, 0, b"a.c");
+    main.row(0x1000, 0, 10, PLAIN).row(0x1010, 0, 0, END).row(0x1000, 0, 20, PLAIN).row(0x1010, 0, 0, END);
+    main.entry(0, 0, COMPILE_UNIT).entry(1, 1, SUBPROGRAM).string(NAME, b"dim").attribute(STATEMENT_SEQUENCE, SECTION_OFFSET, second);
+    main.range(0x1000, 0x1010, 0);
     Case::new(main.0, Vec::new(), program)
 }
 

@@ -1,37 +1,12 @@
-//! Cases of the layer of line programs and paths, each a call of one of the Rust's own functions, and the line of
-//! text that it answers. crates/line_answers answers the same cases.
+//! Cases of the layer of line programs and paths, each a call of one of the Rust's own functions. crates/line_answers answers the
+//! same cases.
 
-use crate::answer::inputs;
-use crate::case::Case;
+use crate::calls::lines::{Call, Query};
 use crate::compose::OPCODE_LENGTHS;
-use crate::convert::dwarf::{Collected, lines};
-use crate::error::{Result, refusal};
-use crate::generate::rows_case;
-use crate::output::{written_files, written_warnings};
+use crate::generate::{padded_advance, rows_case};
 use crate::random::Random;
 
 const LAST: u64 = u64::MAX;
-
-/// A call. Its number in a file is its place here, from 1 on.
-pub enum Call {
-    /// read_line_uleb at a place.
-    Operand { place: u64, program: Vec<u8> },
-    /// scan_line_sequence_offsets.
-    Program { base: u8, lengths: Vec<u8>, offset: u64, program: Vec<u8> },
-    /// split_path and is_absolute_path.
-    Path(Vec<u8>),
-    /// append_path, with one component after the other, on an empty path.
-    Join(Vec<u8>, Vec<u8>),
-    /// collect_lines at the first unit of a main input, and UnitLines::for_range for each query.
-    Rows { case: Case, queries: Vec<Query> },
-}
-
-/// A function's range, and the sequence that it asks for.
-pub struct Query {
-    start: u64,
-    end: u64,
-    sequence: Option<u64>,
-}
 
 /// Document 01's own cases and then those of a seed, without end.
 pub fn calls(seed: u64) -> impl Iterator<Item = Call> {
@@ -41,87 +16,6 @@ pub fn calls(seed: u64) -> impl Iterator<Item = Call> {
 /// Calls for the rows of a unit, without end.
 pub fn rows_calls(seed: u64) -> impl Iterator<Item = Call> {
     (0..).map(move |number| rows_call(&mut Random::new(seed, number)))
-}
-
-impl Call {
-    /// The kind, the length of what follows, and the call's values.
-    pub fn bytes(&self) -> Vec<u8> {
-        let (kind, body) = match self {
-            Self::Operand { place, program } => (1, [&place.to_le_bytes(), program.as_slice()].concat()),
-            Self::Program { base, lengths, offset, program } => {
-                (2, [&[*base, lengths.len() as u8], offset.to_le_bytes().as_slice(), lengths, program].concat())
-            }
-            Self::Path(path) => (3, path.clone()),
-            Self::Join(first, second) => (4, [(first.len() as u16).to_le_bytes().as_slice(), first, second].concat()),
-            Self::Rows { case, queries } => {
-                let [main, program] = [&case.main, &case.program].map(|bytes| (bytes.len() as u32).to_le_bytes());
-                let queries: Vec<u8> = queries.iter().flat_map(Query::bytes).collect();
-                (5, [&main, program.as_slice(), &case.main, &case.program, &queries].concat())
-            }
-        };
-        [&[kind], (body.len() as u32).to_le_bytes().as_slice(), &body].concat()
-    }
-
-    /// What the Rust answers.
-    pub fn answer(&self) -> String {
-        self.finished().unwrap_or_else(|refusal| format!("refused {refusal}"))
-    }
-
-    fn finished(&self) -> std::result::Result<String, u8> {
-        match self {
-            Self::Rows { case, queries } => {
-                let (dwarf, ordinal) = inputs(case)?;
-                let collected = Collected::new(&dwarf, ordinal).map_err(|error| refusal(&error))?;
-                Ok(queries.iter().fold(listed(&collected), |text, query| format!("{text}\n{}", query.answer(&collected))))
-            }
-            _ => self.called().map_err(|error| refusal(&error)),
-        }
-    }
-
-    fn called(&self) -> Result<String> {
-        Ok(match self {
-            Self::Operand { place, program } => {
-                let (value, next) = lines::operand(program, *place as usize)?;
-                format!("operand {value} {next}")
-            }
-            Self::Program { base, lengths, offset, program } => {
-                let sequences = lines::sequences(program, lengths, *base, *offset)?;
-                sequences.iter().fold("sequences".to_owned(), |text, sequence| format!("{text} {sequence:x}"))
-            }
-            Self::Path(path) => {
-                let (directory, basename, absolute) = lines::parts(path);
-                format!("path {}|{}|{}", printed(directory), printed(basename), u8::from(absolute))
-            }
-            Self::Join(first, second) => format!("joined {}", printed(&lines::joined(first, second))),
-            Self::Rows { .. } => unreachable!("finished answers it"),
-        })
-    }
-}
-
-impl Query {
-    fn bytes(&self) -> Vec<u8> {
-        let asked = [u8::from(self.sequence.is_some())];
-        [&self.start.to_le_bytes(), &self.end.to_le_bytes(), asked.as_slice(), &self.sequence.unwrap_or(0).to_le_bytes()].concat()
-    }
-
-    fn answer(&self, collected: &Collected) -> String {
-        let (rows, invalid) = collected.rows(self.start, self.end, self.sequence);
-        rows.iter()
-            .fold(format!("rows {}", u8::from(invalid)), |text, row| format!("{text} {:x}:{}:{}", row.address, row.file.get(), row.line))
-    }
-}
-
-/// How many lines and sequences a unit has, the files that were added, and the warnings.
-fn listed(collected: &Collected) -> String {
-    let [lines, sequences] = collected.counts();
-    let (files, warnings) = (written_files(&collected.builder), written_warnings(&collected.warnings));
-    format!("lines {lines} sequences {sequences}|{}|{}", printed(&files), printed(&warnings))
-}
-
-/// Bytes from 21 to 7e hex stand for themselves, but for \ and |. Any other is a \ and two hex digits.
-pub(crate) fn printed(bytes: &[u8]) -> String {
-    let plain = |byte: u8| byte.is_ascii_graphic() && byte != b'\\' && byte != b'|';
-    bytes.iter().map(|&byte| if plain(byte) { char::from(byte).to_string() } else { format!("\\{byte:02x}") }).collect()
 }
 
 /// The cases of document 01's "Operands, paths and a printed import" that are of this layer, with its answers.
@@ -286,6 +180,9 @@ fn instruction(random: &mut Random, lengths: &[u8]) -> Vec<u8> {
     let opcode = random.between(1, 14) as u8;
     let declared = if random.chance(80) { lengths } else { &OPCODE_LENGTHS };
     let count = declared.get(usize::from(opcode) - 1).map_or(0, |&count| count.min(5));
+    if opcode == 3 && count > 0 && random.chance(40) {
+        return [padded_advance(random, &[0, 0, 0x7f, 0x7f, 1]), vec![5; usize::from(count) - 1]].concat();
+    }
     let mut bytes = vec![opcode];
     for _ in 0..count {
         let bits = random.pick(&[3, 7, 8, 20, 64]);
@@ -305,12 +202,13 @@ fn bad_instruction(random: &mut Random, before: u64) -> Vec<u8> {
     // Behind the zero, ten bytes and the opcode: the last length whose end is still a number, and those beside it.
     let edge = LAST - (before + 12) + random.below(3);
     let length = random.pick(&[2, 3, 100, 1 << 32, 1 << 63, huge, edge, edge]);
-    match random.below(9) {
+    match random.below(11) {
         0 => vec![0, 0],
         1 => vec![0],
         2 => [&[0], number(random, length).as_slice()].concat(),
         3 => [&[0], number(random, length).as_slice(), &[random.pick(&[1, 2])]].concat(),
         4..8 => [&[random.pick(&[0, 0, 2, 3, 5])], operand(random).as_slice()].concat(),
+        8..10 => padded_advance(random, &[1, 2, 0x40, 0x7e, 0x80, 0x81, 0xff]),
         _ => vec![9, 1],
     }
 }
@@ -381,18 +279,19 @@ mod tests {
     use std::collections::BTreeSet;
 
     use super::*;
+    use crate::call_answers::lines;
 
     #[test]
     fn document_01_answers() {
         for (call, expected) in document() {
-            assert_eq!(call.answer(), expected, "{:x?}", call.bytes());
+            assert_eq!(lines(&call), expected, "{:x?}", call.bytes());
         }
     }
 
     /// Every answer that a kind can give, by its words without the values.
     #[test]
     fn every_answer_is_reached() {
-        let reached: BTreeSet<(u8, String)> = calls(1).take(2000).map(|call| (call.bytes()[0], shape(&call.answer()))).collect();
+        let reached: BTreeSet<(u8, String)> = calls(1).take(2000).map(|call| (call.bytes()[0], shape(&lines(&call)))).collect();
         for (kind, shapes) in [
             (1, ["operand", "refused 7", "refused 10", "refused 11"].as_slice()),
             (
@@ -431,9 +330,20 @@ mod tests {
         }
     }
 
+    /// Answers that the plain Rust does not give, for operands of opcode 3 that E2 is about.
+    #[test]
+    fn every_answer_of_e2_is_reached() {
+        let calls: Vec<Call> = calls(1).take(2000).collect();
+        let otherwise = calls.iter().filter(|call| lines(call) != plain::call_answers::lines(call));
+        let reached: BTreeSet<String> = otherwise.filter(|call| call.bytes()[0] == 2).map(|call| shape(&lines(call))).collect();
+        for answer in ["sequences", "sequences 1", "sequences 2", "refused 10", "refused 11"] {
+            assert!(reached.contains(answer), "no call answers {answer} where the plain Rust answers otherwise");
+        }
+    }
+
     #[test]
     fn every_answer_for_rows_is_reached() {
-        let answers: Vec<String> = rows_calls(1).take(300).map(|call| call.answer()).collect();
+        let answers: Vec<String> = rows_calls(1).take(300).map(|call| lines(&call)).collect();
         for number in [2, 6, 7, 8, 9, 11, 12] {
             assert!(answers.contains(&format!("refused {number}")), "no call for rows is refused with {number}");
         }

@@ -2,7 +2,7 @@
 
 use std::io::Write;
 
-use crate::answer::Answer;
+use crate::case::Answer;
 use crate::grammar::field;
 
 /// What the listing program reads at most.

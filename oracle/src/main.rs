@@ -7,7 +7,7 @@ use std::{env, fs};
 
 use oracle::files::{Source, Target};
 use oracle::listing::{INPUT_LIMIT, PROGRAM_LIMIT, listing};
-use oracle::{Case, answer, coverage, document, generate, limits, line_cases, search_cases};
+use oracle::{Case, answer, coverage, document, generate, judge, judged, limits, line_cases, search_cases};
 
 const USAGE: &str = "
 oracle one DIR                              the listing of unit.main, unit.sup and unit.line in DIR
@@ -20,6 +20,7 @@ oracle generate --below SIZE SEED COUNT CASES    the same, of those with fewer i
 oracle large CASES                          writes the cases over 64 KiB, the same for every seed
 oracle document CASES                       writes document 01's own cases
 oracle coverage CASES                       counts what the cases reach; fails if something is missing
+oracle judge CASES                          counts the cases that the plain Rust judges; fails if it answers otherwise, or if they are few
 oracle lines SEED COUNT ROWS STDIN STDOUT   writes calls of operands, sequences and paths, then calls for rows, and their answers as text
 oracle searches SEED COUNT STDIN STDOUT     writes calls of the name searches, and their answers as text";
 
@@ -51,6 +52,7 @@ fn run(arguments: &[&str]) -> Result<bool, String> {
         ["large", cases] => write(cases, limits::large().into_iter()),
         ["document", cases] => write(cases, document::cases().into_iter().map(|(_, case, _)| case)),
         ["coverage", cases] => coverage::coverage(Path::new(cases)),
+        ["judge", cases] => judge::shares(Path::new(cases)),
         ["lines", seed, count, rows, stdin, stdout] => {
             lines(number(seed)?, [number(count)?, number(rows)?], Path::new(stdin), Path::new(stdout))
         }
@@ -64,7 +66,7 @@ fn number(text: &str) -> Result<u64, String> {
 }
 
 fn print(case: &Case) -> Result<bool, String> {
-    io::stdout().write_all(&listing(&answer(case), case.first_file)).map_err(|error| error.to_string())?;
+    io::stdout().write_all(&listing(&judged(case)?, case.first_file)).map_err(|error| error.to_string())?;
     Ok(true)
 }
 
@@ -83,8 +85,10 @@ fn one(folder: &Path) -> Result<bool, String> {
 
 fn answer_all(cases: &Path, answers: &Path) -> Result<bool, String> {
     let (mut source, mut target) = (Source::open(cases)?, Target::create(answers)?);
+    let mut count = 0;
     while let Some(case) = source.case()? {
-        target.answer(&answer(&case))?;
+        target.answer(&judged(&case).map_err(|message| format!("case {count}: {message}"))?)?;
+        count += 1;
     }
     target.finish()
 }
@@ -94,10 +98,12 @@ fn compare(cases: &Path, answers: &Path) -> Result<bool, String> {
     let mut count = 0;
     while let Some(case) = source.case()? {
         let expected = recorded.answer()?.ok_or(format!("{} has {count} answers, {} more cases", answers.display(), cases.display()))?;
-        if answer(&case) != expected {
+        let answer = answer(&case);
+        if answer != expected {
             println!("case {count} differs");
             return Ok(false);
         }
+        judge::judge(&case, &answer).map_err(|message| format!("case {count}: {message}"))?;
         count += 1;
     }
     if recorded.answer()?.is_some() {
@@ -145,9 +151,11 @@ fn lines(seed: u64, counts: [u64; 2], stdin: &Path, stdout: &Path) -> Result<boo
     let all = count.checked_add(rows).and_then(|all| u32::try_from(all).ok()).ok_or(format!("{count} and {rows} calls are too many"))?;
     let (mut cases, mut answers) = (Target::create(stdin)?, Target::create(stdout)?);
     cases.write(&[&all.to_le_bytes()])?;
-    for call in line_cases::calls(seed).take(count as usize).chain(line_cases::rows_calls(seed).take(rows as usize)) {
+    let calls = line_cases::calls(seed).take(count as usize).chain(line_cases::rows_calls(seed).take(rows as usize));
+    for (number, call) in calls.enumerate() {
+        let answer = judge::judged_lines(&call).map_err(|message| format!("call {number}: {message}"))?;
         cases.write(&[&call.bytes()])?;
-        answers.write(&[call.answer().as_bytes(), b"\n"])?;
+        answers.write(&[answer.as_bytes(), b"\n"])?;
     }
     Ok(cases.finish()? && answers.finish()?)
 }
@@ -157,9 +165,10 @@ fn searches(seed: u64, count: u64, stdin: &Path, stdout: &Path) -> Result<bool, 
     let all = u32::try_from(count).map_err(|_| format!("{count} calls are too many"))?;
     let (mut cases, mut answers) = (Target::create(stdin)?, Target::create(stdout)?);
     cases.write(&[&all.to_le_bytes()])?;
-    for call in search_cases::calls(seed).take(count as usize) {
+    for (number, call) in search_cases::calls(seed).take(count as usize).enumerate() {
+        let answer = judge::judged_searches(&call).map_err(|message| format!("call {number}: {message}"))?;
         cases.write(&[&call.bytes()])?;
-        answers.write(&[call.answer().as_bytes(), b"\n"])?;
+        answers.write(&[answer.as_bytes(), b"\n"])?;
     }
     Ok(cases.finish()? && answers.finish()?)
 }

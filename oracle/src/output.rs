@@ -1,7 +1,7 @@
 //! The bytes of the three buffers ("trays" in document 01).
 
 use crate::GsymBuilder;
-use crate::answer::Answer;
+use crate::case::Answer;
 use crate::convert::ConversionWarning;
 use crate::convert::dwarf::Imported;
 use crate::model::{AddressRange, FileEntry, FileIndex, InlineNode};

@@ -1,71 +1,17 @@
-//! Cases of the name searches, each a pair of inputs and the entries whose names are searched, and the lines of text
-//! that the Rust's own functions answer. crates/search_answers answers the same cases.
+//! Cases of the name searches, each a pair of inputs and the entries whose names are searched. crates/search_answers answers the
+//! same cases.
 
-use crate::answer::inputs;
-use crate::case::Case;
+use crate::calls::searches::{Call, Query};
 use crate::compose::*;
-use crate::convert::dwarf::references::searched;
-use crate::error::refusal;
-use crate::line_cases::printed;
 use crate::random::Random;
 
 use Value::{Number, Text};
 
 const LAST: u64 = u64::MAX;
 
-/// Two inputs, and what is asked of them.
-pub struct Call {
-    main: Vec<u8>,
-    supplementary: Vec<u8>,
-    queries: Vec<Query>,
-}
-
-/// The entry at an offset of the section: its name, or the one that its call origin refers to.
-#[derive(Clone, Copy)]
-pub struct Query {
-    reference: bool,
-    offset: u64,
-}
-
 /// Those by hand and then those of a seed, without end.
 pub fn calls(seed: u64) -> impl Iterator<Item = Call> {
     by_hand().into_iter().map(|(call, _)| call).chain((0..).map(move |number| call(&mut Random::new(seed, number))))
-}
-
-impl Call {
-    /// The length of what follows, the lengths of both inputs, the inputs, the queries.
-    pub fn bytes(&self) -> Vec<u8> {
-        let [main, supplementary] = [&self.main, &self.supplementary].map(|bytes| (bytes.len() as u32).to_le_bytes());
-        let queries: Vec<u8> = self.queries.iter().flat_map(Query::bytes).collect();
-        let body = [&main, supplementary.as_slice(), &self.main, &self.supplementary, &queries].concat();
-        [(body.len() as u32).to_le_bytes().as_slice(), &body].concat()
-    }
-
-    /// What the Rust answers: a line for each query, or one if an input is refused.
-    pub fn answer(&self) -> String {
-        let mut case = Case::new(self.main.clone(), self.supplementary.clone(), Vec::new());
-        case.work = LAST;
-        let (dwarf, _) = match inputs(&case) {
-            Ok(inputs) => inputs,
-            Err(refusal) => return format!("refused {refusal}"),
-        };
-        let queries: Vec<(bool, usize)> = self.queries.iter().map(|query| (query.reference, query.offset as usize)).collect();
-        let lines: Vec<String> = searched(&dwarf, &queries)
-            .into_iter()
-            .map(|found| match found {
-                None => "no entry".to_owned(),
-                Some(Ok(name)) => format!("name {}", printed(&name.unwrap_or_default())),
-                Some(Err(error)) => format!("refused {}", refusal(&error)),
-            })
-            .collect();
-        lines.join("\n")
-    }
-}
-
-impl Query {
-    fn bytes(&self) -> Vec<u8> {
-        [[1 + u8::from(self.reference)].as_slice(), &self.offset.to_le_bytes()].concat()
-    }
 }
 
 // ---- by hand
@@ -499,18 +445,19 @@ fn reference(random: &mut Random, odd: u64, own: (u64, u64, &[u64]), both: [&Uni
 #[cfg(test)]
 mod tests {
     use super::*;
+    use crate::call_answers::searches;
 
     #[test]
     fn those_by_hand() {
         for (number, (call, lines)) in by_hand().into_iter().enumerate() {
-            assert_eq!(call.answer(), lines.join("\n"), "call {number}");
+            assert_eq!(searches(&call), lines.join("\n"), "call {number}");
         }
     }
 
     #[test]
     fn every_answer_by_seed_is_reached() {
         let hand = by_hand().len();
-        let answers: Vec<String> = calls(1).skip(hand).take(300).map(|call| call.answer()).collect();
+        let answers: Vec<String> = calls(1).skip(hand).take(300).map(|call| searches(&call)).collect();
         let lines: Vec<&str> = answers.iter().flat_map(|answer| answer.split('\n')).collect();
         for line in ["refused 6", "refused 12", "refused 13", "no entry", "name ", "name a"] {
             assert!(lines.contains(&line), "no query is answered {line:?}");

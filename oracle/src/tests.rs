@@ -1,9 +1,10 @@
 //! The grammar's clauses, the order of refusals, and the buffers, each by a small case.
 
+use crate::calls::lines::Call;
 use crate::case::Case;
 use crate::compose::*;
 use crate::output::field;
-use crate::{answer, document};
+use crate::{answer, call_answers, document};
 
 /// The refusal of a main input; work and buffers are long enough.
 fn refusal(main: &[u8]) -> u8 {
@@ -128,4 +129,31 @@ fn units_work_and_buffers() {
     assert_eq!([refused(&|case| case.files = 14), refused(&|case| case.files = 13), refused(&|case| case.warnings = 0)], [0, 17, 0]);
     assert_eq!(refused(&|case| case.supplementary = vec![0x10]), 2);
     assert_eq!([refused(&|case| case.first_file = 0), refused(&|case| case.first_file = u32::MAX)], [0; 2]);
+}
+
+/// Every tenth byte of opcode 3's operand: E2's rule where one operand is declared and the base is above 3, else the plain Rust's.
+#[test]
+fn tenth_bytes_of_opcode_3() {
+    for (fill, tenth) in [0x80, 0xff].into_iter().flat_map(|fill| (0..=255).map(move |tenth| (fill, tenth))) {
+        for (base, declared) in [0, 3, 4, 13].into_iter().flat_map(|base| (0..=3).map(move |declared| (base, declared))) {
+            let program = [[3].as_slice(), &[fill; 9], &[tenth, 5, 6, 7, 0, 1, 1]].concat();
+            let mut lengths = OPCODE_LENGTHS;
+            lengths[2] = declared;
+            let call = Call::Program { base, lengths: lengths.to_vec(), offset: 44, program };
+            let expected = if base > 3 && declared == 1 { of_tenth_byte(fill, tenth) } else { plain::call_answers::lines(&call) };
+            assert_eq!(call_answers::lines(&call), expected, "{fill:x} {tenth:x}, base {base}, {declared} declared");
+        }
+    }
+}
+
+/// What E2 and the Standard's 7.6 have of ten bytes, the first nine alike: the number's sign is the last byte's bit 40 hex.
+fn of_tenth_byte(fill: u8, tenth: u8) -> String {
+    let nine: i128 = (0..9).map(|place| i128::from(fill & 0x7f) << (7 * place)).sum();
+    let tenth_is = |low: u8| nine + ((i128::from(low) - if low & 0x40 != 0 { 0x80 } else { 0 }) << 63);
+    let fits = i64::try_from(tenth_is(tenth & 0x7f)).is_ok();
+    match (fits, tenth & 0x80 != 0) {
+        (false, _) => "refused 10".to_owned(),
+        (true, true) => "refused 11".to_owned(),
+        (true, false) => "sequences 2c".to_owned(),
+    }
 }

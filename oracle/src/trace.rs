@@ -20,9 +20,9 @@ thread_local! {
     static EVENTS: RefCell<Option<Vec<Event>>> = const { RefCell::new(None) };
 }
 
-/// With the feature `untraced` nothing is kept: the Rust is timed without it.
+/// In the package plain, which the benchmark times, nothing is kept.
 pub fn trace(event: impl FnOnce() -> Event) {
-    if cfg!(feature = "untraced") {
+    if cfg!(feature = "plain") {
         return;
     }
     EVENTS.with_borrow_mut(|events| {

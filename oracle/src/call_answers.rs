@@ -1,0 +1,83 @@
+//! What the Rust's own functions answer to calls of the lines layer and of the name searches, as lines of text.
+
+use crate::answer::inputs;
+use crate::calls::lines::{Call, Query};
+use crate::calls::searches;
+use crate::case::Case;
+use crate::convert::dwarf::references::searched;
+use crate::convert::dwarf::{Collected, lines};
+use crate::error::{Result, refusal};
+use crate::output::{written_files, written_warnings};
+
+/// A line for a call of the lines layer, and one more for each query.
+pub fn lines(call: &Call) -> String {
+    finished(call).unwrap_or_else(|refusal| format!("refused {refusal}"))
+}
+
+fn finished(call: &Call) -> std::result::Result<String, u8> {
+    match call {
+        Call::Rows { case, queries } => {
+            let (dwarf, ordinal) = inputs(case)?;
+            let collected = Collected::new(&dwarf, ordinal).map_err(|error| refusal(&error))?;
+            Ok(queries.iter().fold(listed(&collected), |text, query| format!("{text}\n{}", rows(query, &collected))))
+        }
+        _ => called(call).map_err(|error| refusal(&error)),
+    }
+}
+
+fn called(call: &Call) -> Result<String> {
+    Ok(match call {
+        Call::Operand { place, program } => {
+            let (value, next) = lines::operand(program, *place as usize)?;
+            format!("operand {value} {next}")
+        }
+        Call::Program { base, lengths, offset, program } => {
+            let sequences = lines::sequences(program, lengths, *base, *offset)?;
+            sequences.iter().fold("sequences".to_owned(), |text, sequence| format!("{text} {sequence:x}"))
+        }
+        Call::Path(path) => {
+            let (directory, basename, absolute) = lines::parts(path);
+            format!("path {}|{}|{}", printed(directory), printed(basename), u8::from(absolute))
+        }
+        Call::Join(first, second) => format!("joined {}", printed(&lines::joined(first, second))),
+        Call::Rows { .. } => unreachable!("finished answers it"),
+    })
+}
+
+fn rows(query: &Query, collected: &Collected) -> String {
+    let (rows, invalid) = collected.rows(query.start, query.end, query.sequence);
+    rows.iter().fold(format!("rows {}", u8::from(invalid)), |text, row| format!("{text} {:x}:{}:{}", row.address, row.file.get(), row.line))
+}
+
+/// How many lines and sequences a unit has, the files that were added, and the warnings.
+fn listed(collected: &Collected) -> String {
+    let [lines, sequences] = collected.counts();
+    let (files, warnings) = (written_files(&collected.builder), written_warnings(&collected.warnings));
+    format!("lines {lines} sequences {sequences}|{}|{}", printed(&files), printed(&warnings))
+}
+
+/// A line for each query of the name searches, or one if an input is refused.
+pub fn searches(call: &searches::Call) -> String {
+    let mut case = Case::new(call.main.clone(), call.supplementary.clone(), Vec::new());
+    case.work = u64::MAX;
+    let (dwarf, _) = match inputs(&case) {
+        Ok(inputs) => inputs,
+        Err(refusal) => return format!("refused {refusal}"),
+    };
+    let queries: Vec<(bool, usize)> = call.queries.iter().map(|query| (query.reference, query.offset as usize)).collect();
+    let lines: Vec<String> = searched(&dwarf, &queries)
+        .into_iter()
+        .map(|found| match found {
+            None => "no entry".to_owned(),
+            Some(Ok(name)) => format!("name {}", printed(&name.unwrap_or_default())),
+            Some(Err(error)) => format!("refused {}", refusal(&error)),
+        })
+        .collect();
+    lines.join("\n")
+}
+
+/// Bytes from 21 to 7e hex stand for themselves, but for \ and |. Any other is a \ and two hex digits.
+fn printed(bytes: &[u8]) -> String {
+    let plain = |byte: u8| byte.is_ascii_graphic() && byte != b'\\' && byte != b'|';
+    bytes.iter().map(|&byte| if plain(byte) { char::from(byte).to_string() } else { format!("\\{byte:02x}") }).collect()
+}

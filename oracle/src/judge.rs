@@ -1,0 +1,93 @@
+//! Who judges the oracle's answers. They come from the Rust's text with the amendments of the change requests. The Rust's text as it
+//! stands, the package `plain`, answers every call too, and wherever no request sets the call apart both must answer alike.
+
+use std::path::Path;
+
+use crate::calls::{lines, searches};
+use crate::case::{Answer, Case};
+use crate::files::Source;
+use crate::requests::{REQUESTS, is_padded, set_apart};
+use crate::{answer, call_answers};
+
+/// The oracle's answer, of which the plain Rust has been asked; else what is wrong.
+pub fn judged(case: &Case) -> Result<Answer, String> {
+    let answer = answer(case);
+    judge(case, &answer)?;
+    Ok(answer)
+}
+
+/// Whether the plain Rust gives the oracle's answer too. It must, unless a request sets the case apart.
+pub fn judge(case: &Case, answer: &Answer) -> Result<bool, String> {
+    let plain = plain::answer(case);
+    let shared = same(answer, &plain);
+    if !shared && !set_apart(case).contains(&true) {
+        return Err(format!(
+            "the plain Rust answers otherwise, and no request sets the case apart: refusal {} and statistics {:?}, the plain Rust's {} and {:?}",
+            answer.refusal, answer.statistics, plain.refusal, plain.statistics
+        ));
+    }
+    Ok(shared)
+}
+
+/// Whether two answers are the same in all that the plain Rust knows of. No request has put anything else into an answer: every byte
+/// counts. One that does takes it out here before the two are compared.
+fn same(answer: &Answer, plain: &Answer) -> bool {
+    answer == plain
+}
+
+/// The answer to a call of the lines layer, judged in the same way.
+pub fn judged_lines(call: &lines::Call) -> Result<String, String> {
+    let apart = match call {
+        lines::Call::Rows { case, .. } => set_apart(case).contains(&true),
+        lines::Call::Program { base, lengths, program, .. } => is_padded(program, lengths, *base),
+        lines::Call::Operand { .. } | lines::Call::Path(_) | lines::Call::Join(..) => false,
+    };
+    judged_text(call_answers::lines(call), plain::call_answers::lines(call), apart)
+}
+
+/// The answer to a call of the name searches, which no request is about.
+pub fn judged_searches(call: &searches::Call) -> Result<String, String> {
+    judged_text(call_answers::searches(call), plain::call_answers::searches(call), false)
+}
+
+fn judged_text(text: String, plain: String, apart: bool) -> Result<String, String> {
+    if text == plain || apart {
+        Ok(text)
+    } else {
+        Err(format!("the plain Rust answers otherwise, and no request sets the call apart: {text:?}, the plain Rust's {plain:?}"))
+    }
+}
+
+/// Prints how many cases of a file the plain Rust judges, and how many each request sets apart. False if the plain Rust answers
+/// otherwise where it has to judge, or judges fewer than three in four.
+pub fn shares(path: &Path) -> Result<bool, String> {
+    let mut source = Source::open(path)?;
+    let (mut cases, mut judged) = (0_u64, 0_u64);
+    // Of each request, how many it sets apart, and how many of those the plain Rust answers otherwise.
+    let mut apart = [(0_u64, 0_u64); REQUESTS.len()];
+    while let Some(case) = source.case()? {
+        let shared = match judge(&case, &answer(&case)) {
+            Ok(shared) => shared,
+            Err(message) => {
+                println!("case {cases}: {message}");
+                return Ok(false);
+            }
+        };
+        let by = set_apart(&case);
+        for (counts, _) in apart.iter_mut().zip(by).filter(|(_, by)| *by) {
+            *counts = (counts.0 + 1, counts.1 + u64::from(!shared));
+        }
+        judged += u64::from(!by.contains(&true));
+        cases += 1;
+    }
+    let share = |count: u64| format!("{:.1} %", 100.0 * count as f64 / cases.max(1) as f64);
+    println!("{cases} cases, {judged} of them ({}) judged by the plain Rust, which answers the same", share(judged));
+    for ((request, _), (count, otherwise)) in REQUESTS.iter().zip(apart) {
+        println!("{count} ({}) set apart by {request}; {otherwise} of them the plain Rust answers otherwise", share(count));
+    }
+    let most = 4 * judged >= 3 * cases;
+    if !most {
+        println!("fewer than three in four are judged by the plain Rust");
+    }
+    Ok(most)
+}

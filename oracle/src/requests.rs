@@ -1,0 +1,120 @@
+//! What the change requests ask, written from their own words and from the Standard, for the amendments of the Rust's text to call;
+//! and which cases they set apart from the Rust's text as it stands.
+
+use crate::answer::inputs;
+use crate::case::Case;
+use crate::error::{Error, Result};
+use crate::stand_in::gimli::{Dwarf, Slice};
+
+/// Whether a request is about what an import of the unit of this number reads.
+type Concerns = fn(&Dwarf<Slice<'_>>, usize) -> bool;
+
+/// The requests that alter answers.
+pub const REQUESTS: [(&str, Concerns); 1] = [("E2", pads_advance)];
+
+/// For each request whether it sets a case apart. An input that the grammar refuses is none's.
+pub fn set_apart(case: &Case) -> [bool; REQUESTS.len()] {
+    inputs(case).map_or([false; REQUESTS.len()], |(dwarf, ordinal)| REQUESTS.map(|(_, concerns)| concerns(&dwarf, ordinal)))
+}
+
+// ---- E2: signed operands in line programs
+
+/// Passes over opcode 3's single operand: a signed LEB128 number (the Standard, 7.6) of 64 bits and at most ten bytes.
+pub fn skip_signed(program: &[u8], cursor: &mut usize) -> Result<()> {
+    let fault = |detail| Err(Error::malformed("DWARF line program", detail));
+    let rest = &program[*cursor..];
+    let goes_on = rest.iter().take_while(|byte| **byte & 0x80 != 0).take(10).count();
+    if goes_on == rest.len() && goes_on < 10 {
+        return fault("truncated instruction");
+    }
+    if goes_on >= 9 && !matches!(rest[9] & 0x7f, 0 | 0x7f) {
+        return fault("overflowing ULEB128 operand");
+    }
+    if goes_on == 10 {
+        return fault("overlong ULEB128 operand");
+    }
+    let operand = &rest[..=goes_on];
+    assert!(i64::try_from(signed(operand)).is_ok(), "an operand of more than 64 bits is passed over: {operand:x?}");
+    *cursor += operand.len();
+    Ok(())
+}
+
+/// The number that the bytes of a signed operand are, as the Standard's 7.6 decodes it.
+fn signed(operand: &[u8]) -> i128 {
+    let (mut value, mut shift) = (0, 0);
+    for byte in operand {
+        value |= i128::from(byte & 0x7f) << shift;
+        shift += 7;
+    }
+    if operand[operand.len() - 1] & 0x40 != 0 { value - (1 << shift) } else { value }
+}
+
+/// Opcode 3 below the base: how many operands the header declares for it, and what follows it in the program.
+pub struct Advance<'p> {
+    pub declared: u8,
+    pub rest: &'p [u8],
+}
+
+impl Advance<'_> {
+    /// The tenth byte of its first operand, if nine go on before it.
+    pub fn tenth(&self) -> Option<u8> {
+        let (nine, after) = self.rest.split_at_checked(9)?;
+        if nine.iter().all(|byte| byte & 0x80 != 0) { after.first().copied() } else { None }
+    }
+
+    /// Whether the request's own rule is about it, and the Rust's is not the judge.
+    fn is_padded(&self) -> bool {
+        self.declared == 1 && self.tenth().is_some()
+    }
+}
+
+/// Every opcode 3 that a walk meets, up to the program's first fault, or to the first operand that the request is about.
+pub fn advances<'p>(program: &'p [u8], lengths: &[u8], base: u8) -> Vec<Advance<'p>> {
+    let (mut met, mut rest) = (Vec::new(), program);
+    while let Some(after) = step(rest, lengths, base, &mut met) {
+        rest = after;
+    }
+    met
+}
+
+/// Whether the request is about a program: a walk over it meets such an operand.
+pub fn is_padded(program: &[u8], lengths: &[u8], base: u8) -> bool {
+    advances(program, lengths, base).last().is_some_and(Advance::is_padded)
+}
+
+fn pads_advance(dwarf: &Dwarf<Slice<'_>>, ordinal: usize) -> bool {
+    let header = dwarf.units[ordinal].lines.as_ref();
+    header.is_some_and(|header| is_padded(header.program.0, header.opcode_lengths.0, header.opcode_base))
+}
+
+/// What follows the first instruction (document 01, "Rules that bite"), if there is one and it is sound.
+fn step<'p>(program: &'p [u8], lengths: &[u8], base: u8, met: &mut Vec<Advance<'p>>) -> Option<&'p [u8]> {
+    let (&opcode, rest) = program.split_first()?;
+    match opcode {
+        0 => {
+            let (length, rest) = unsigned(rest)?;
+            rest.get(usize::try_from(length).ok().filter(|&length| length > 0)?..)
+        }
+        1 | 6 | 7 | 8 | 10 | 11 => Some(rest),
+        _ if opcode >= base => Some(rest),
+        9 => rest.get(2..),
+        _ => {
+            let declared = lengths.get(usize::from(opcode) - 1).copied().unwrap_or(0);
+            if opcode == 3 {
+                met.push(Advance { declared, rest });
+                if met.last().is_some_and(Advance::is_padded) {
+                    return None;
+                }
+            }
+            (0..declared).try_fold(rest, |rest, _| Some(unsigned(rest)?.1))
+        }
+    }
+}
+
+/// An unsigned LEB128 number of 64 bits in at most ten bytes, and what follows it.
+fn unsigned(bytes: &[u8]) -> Option<(u64, &[u8])> {
+    let last = bytes.iter().take(10).position(|byte| byte & 0x80 == 0)?;
+    let (operand, rest) = bytes.split_at(last + 1);
+    let value = operand.iter().rev().fold(0_u128, |value, byte| value << 7 | u128::from(byte & 0x7f));
+    Some((u64::try_from(value).ok()?, rest))
+}
