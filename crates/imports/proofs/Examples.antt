@@ -8,10 +8,9 @@ use lib.ListN.{length}
 use Rattle.tlv.specs.declared.model.AddressRange.{AddressRange}
 use Rattle.tlv.specs.Outcome.{Outcome, refused, done}
 use Rattle.tlv.specs.Model.{CompilationUnit, Entry}
-use Rattle.lines.specs.Lines.{noLines}
 use Rattle.references.specs.Search.{Dwarf}
 use Rattle.imports.specs.Tree.{DetailContext, Descendants, extractSubprogramDetails}
-use Rattle.imports.specs.Import.{ImportContext, State, importUnitDetails}
+use Rattle.imports.specs.Import.{State, importUnit}
 use Rattle.imports.specs.Answer.{noStats}
 use Rattle.imports.specs.Agree.{TreeNode, treeNode}
 
@@ -43,8 +42,8 @@ nameless depth ranges = record {
 }
 
 -- a unit with text from 0 to 100
-abbrev unit : CompilationUnit
-unit = record {
+abbrev unitOf : List Entry → CompilationUnit
+unitOf entries = record {
   offset = 0;
   length = 1;
   version = 5;
@@ -56,14 +55,14 @@ unit = record {
   fileZero = none;
   files = [];
   rows = [];
-  entries = [];
+  entries = entries;
 }
 
 abbrev noUnits : Dwarf
 noUnits = record { main = []; supplementary = [] }
 
 abbrev context : AddressRange → DetailContext
-context f = record { dwarf = noUnits; unit = unit; functionRange = f; fileIndices = []; includeInlines = true; includeCallSites = false }
+context f = record { dwarf = noUnits; unit = unitOf []; functionRange = f; fileIndices = []; includeInlines = true; includeCallSites = false }
 
 shapes : Outcome Descendants → Outcome (List TreeNode)
 shapes (refused n) = refused n
@@ -98,22 +97,26 @@ example-257 : shapes (extractSubprogramDetails (context (from-to 0 9)) (nest 1 2
 unfolding shapes nest Rattle.tlv.specs.Outcome._>>=_ Rattle.tlv.specs.Lists.filter Rattle.tlv.specs.Lists.takeWhile Rattle.tlv.specs.Lists.dropWhile Rattle.tlv.specs.Lists.first Rattle.tlv.specs.Lists.orElse Rattle.tlv.specs.Lists.last Rattle.tlv.specs.Lists.exists Rattle.tlv.specs.Lists.at Rattle.tlv.specs.Lists.mapOption Rattle.tlv.specs.Lists.same Rattle.tlv.specs.Model.dieRanges Rattle.lines.specs.Rows.contains Rattle.lines.specs.Rows.compactLineRows Rattle.lines.specs.Rows.ownRows Rattle.lines.specs.Rows.earlierRow Rattle.lines.specs.Rows.selectedSequence Rattle.lines.specs.Rows.rowsFor Rattle.lines.specs.Rows.forRange Rattle.references.specs.Search.unitsIn Rattle.references.specs.Search.isVisited Rattle.references.specs.Search.attribute Rattle.references.specs.Search.unsignedAttribute Rattle.references.specs.Search.fileIndexAttribute Rattle.references.specs.Search.absoluteEntryOffset Rattle.references.specs.Search.entryAt Rattle.references.specs.Search.unitContaining Rattle.references.specs.Search.followAbsolute Rattle.references.specs.Search.followUnit Rattle.references.specs.Search.follow Rattle.references.specs.Search.ownName Rattle.references.specs.Search.referencedName Rattle.references.specs.Search.resolveNameInner Rattle.references.specs.Search.resolveNamed Rattle.references.specs.Search.resolveName Rattle.references.specs.Search.resolveReferenceName Rattle.imports.specs.Ranges.insert Rattle.imports.specs.Ranges.sort Rattle.imports.specs.Ranges.join Rattle.imports.specs.Ranges.joinAll Rattle.imports.specs.Ranges.coalesceRanges Rattle.imports.specs.Tree.fit Rattle.imports.specs.Tree.rangesOf Rattle.imports.specs.Tree.finishInlines Rattle.imports.specs.Tree.finish Rattle.imports.specs.Tree.makeCallSite Rattle.imports.specs.Tree.callFileOf Rattle.imports.specs.Tree.callLineOf Rattle.imports.specs.Tree.pushInline Rattle.imports.specs.Tree.makeInlineNode Rattle.imports.specs.Tree.collectEntry Rattle.imports.specs.Tree.collectEntries Rattle.imports.specs.Tree.collectDescendants Rattle.imports.specs.Tree.extractSubprogramDetails Rattle.imports.specs.Import.statementSequenceOffset Rattle.imports.specs.Import.isLiveRange Rattle.imports.specs.Import.isTombstone Rattle.imports.specs.Import.rejected Rattle.imports.specs.Import.addFunction Rattle.imports.specs.Import.importRange Rattle.imports.specs.Import.importRanges Rattle.imports.specs.Import.importSubprogram Rattle.imports.specs.Import.descendantsOf Rattle.imports.specs.Import.importUnitDetails Rattle.imports.specs.Import.importUnit
 example-257 = refl
 
--- two subprograms of one range: each record has its own inlined entry
-lists : Outcome State → Outcome (List (List TreeNode))
-lists (refused n) = refused n
-lists (done s) = done (map (λ f. map treeNode (f .inline)) (s .records))
-
-abbrev import : ImportContext
-import = record { dwarf = noUnits; unit = unit; lines = noLines; includeInlines = true; includeCallSites = false }
+-- a unit of three subprograms, the second below the first, the third of the first's range: each record has its own range and its own inlined entries,
+-- and those below a nested subprogram are the outer one's too
+records : Outcome State → Outcome (List (AddressRange × List TreeNode))
+records (refused n) = refused n
+records (done s) = done (map (λ f. (f .range, map treeNode (f .inline))) (s .records))
 
 abbrev before : State
 before = record { table = record { first = 1; entries = [] }; records = []; warnings = []; stats = noStats }
 
-example-two :
-    lists (importUnitDetails import
-    (named 1 0x2e 65 (from-to 10 20 ∷ []) ∷ inlined 2 97 (from-to 11 12 ∷ []) ∷ named 1 0x2e 66 (from-to 10 20 ∷ []) ∷ inlined 2 98 (from-to 13 14 ∷ []) ∷ []) before)
+abbrev node : ℕ → ℕ → AddressRange → TreeNode
+node depth letter r = record { depth = depth; name = letter ∷ []; ranges = r ∷ [] }
+
+example-three :
+    records (importUnit noUnits
+    (unitOf (named 1 0x2e 65 (from-to 10 20 ∷ []) ∷ inlined 2 97 (from-to 11 12 ∷ []) ∷ named 2 0x2e 66 (from-to 13 16 ∷ []) ∷ inlined 3 98 (from-to 13 14 ∷ [])
+    ∷ named 1 0x2e 67 (from-to 10 20 ∷ []) ∷ inlined 2 99 (from-to 15 16 ∷ []) ∷ []))
+    [] true false before)
     ≡ done
-    ((record { depth = 0; name = 65 ∷ []; ranges = from-to 10 20 ∷ [] } ∷ record { depth = 1; name = 97 ∷ []; ranges = from-to 11 12 ∷ [] } ∷ [])
-    ∷ (record { depth = 0; name = 66 ∷ []; ranges = from-to 10 20 ∷ [] } ∷ record { depth = 1; name = 98 ∷ []; ranges = from-to 13 14 ∷ [] } ∷ []) ∷ [])
-unfolding lists Rattle.lines.specs.Lines.dropNeighbours Rattle.references.specs.Search.resolveDeclarationLine Rattle.references.specs.Search.resolveDeclaration Rattle.references.specs.Search.ownDeclaration Rattle.references.specs.Search.referencedDeclaration Rattle.tlv.specs.Outcome._>>=_ Rattle.tlv.specs.Lists.filter Rattle.tlv.specs.Lists.takeWhile Rattle.tlv.specs.Lists.dropWhile Rattle.tlv.specs.Lists.first Rattle.tlv.specs.Lists.orElse Rattle.tlv.specs.Lists.last Rattle.tlv.specs.Lists.exists Rattle.tlv.specs.Lists.at Rattle.tlv.specs.Lists.mapOption Rattle.tlv.specs.Lists.same Rattle.tlv.specs.Model.dieRanges Rattle.lines.specs.Rows.contains Rattle.lines.specs.Rows.compactLineRows Rattle.lines.specs.Rows.ownRows Rattle.lines.specs.Rows.earlierRow Rattle.lines.specs.Rows.selectedSequence Rattle.lines.specs.Rows.rowsFor Rattle.lines.specs.Rows.forRange Rattle.references.specs.Search.unitsIn Rattle.references.specs.Search.isVisited Rattle.references.specs.Search.attribute Rattle.references.specs.Search.unsignedAttribute Rattle.references.specs.Search.fileIndexAttribute Rattle.references.specs.Search.absoluteEntryOffset Rattle.references.specs.Search.entryAt Rattle.references.specs.Search.unitContaining Rattle.references.specs.Search.followAbsolute Rattle.references.specs.Search.followUnit Rattle.references.specs.Search.follow Rattle.references.specs.Search.ownName Rattle.references.specs.Search.referencedName Rattle.references.specs.Search.resolveNameInner Rattle.references.specs.Search.resolveNamed Rattle.references.specs.Search.resolveName Rattle.references.specs.Search.resolveReferenceName Rattle.imports.specs.Ranges.insert Rattle.imports.specs.Ranges.sort Rattle.imports.specs.Ranges.join Rattle.imports.specs.Ranges.joinAll Rattle.imports.specs.Ranges.coalesceRanges Rattle.imports.specs.Tree.fit Rattle.imports.specs.Tree.rangesOf Rattle.imports.specs.Tree.finishInlines Rattle.imports.specs.Tree.finish Rattle.imports.specs.Tree.makeCallSite Rattle.imports.specs.Tree.callFileOf Rattle.imports.specs.Tree.callLineOf Rattle.imports.specs.Tree.pushInline Rattle.imports.specs.Tree.makeInlineNode Rattle.imports.specs.Tree.collectEntry Rattle.imports.specs.Tree.collectEntries Rattle.imports.specs.Tree.collectDescendants Rattle.imports.specs.Tree.extractSubprogramDetails Rattle.imports.specs.Import.statementSequenceOffset Rattle.imports.specs.Import.isLiveRange Rattle.imports.specs.Import.isTombstone Rattle.imports.specs.Import.rejected Rattle.imports.specs.Import.addFunction Rattle.imports.specs.Import.importRange Rattle.imports.specs.Import.importRanges Rattle.imports.specs.Import.importSubprogram Rattle.imports.specs.Import.descendantsOf Rattle.imports.specs.Import.importUnitDetails Rattle.imports.specs.Import.importUnit
-example-two = refl
+    ((from-to 10 20, node 0 65 (from-to 10 20) ∷ node 1 97 (from-to 11 12) ∷ node 1 98 (from-to 13 14) ∷ [])
+    ∷ (from-to 13 16, node 0 66 (from-to 13 16) ∷ node 1 98 (from-to 13 14) ∷ [])
+    ∷ (from-to 10 20, node 0 67 (from-to 10 20) ∷ node 1 99 (from-to 15 16) ∷ []) ∷ [])
+unfolding records Rattle.lines.specs.Lines.collectLines Rattle.lines.specs.Lines.dropNeighbours Rattle.references.specs.Search.resolveDeclarationLine Rattle.references.specs.Search.resolveDeclaration Rattle.references.specs.Search.ownDeclaration Rattle.references.specs.Search.referencedDeclaration Rattle.tlv.specs.Outcome._>>=_ Rattle.tlv.specs.Lists.filter Rattle.tlv.specs.Lists.takeWhile Rattle.tlv.specs.Lists.dropWhile Rattle.tlv.specs.Lists.first Rattle.tlv.specs.Lists.orElse Rattle.tlv.specs.Lists.last Rattle.tlv.specs.Lists.exists Rattle.tlv.specs.Lists.at Rattle.tlv.specs.Lists.mapOption Rattle.tlv.specs.Lists.same Rattle.tlv.specs.Model.dieRanges Rattle.lines.specs.Rows.contains Rattle.lines.specs.Rows.compactLineRows Rattle.lines.specs.Rows.ownRows Rattle.lines.specs.Rows.earlierRow Rattle.lines.specs.Rows.selectedSequence Rattle.lines.specs.Rows.rowsFor Rattle.lines.specs.Rows.forRange Rattle.references.specs.Search.unitsIn Rattle.references.specs.Search.isVisited Rattle.references.specs.Search.attribute Rattle.references.specs.Search.unsignedAttribute Rattle.references.specs.Search.fileIndexAttribute Rattle.references.specs.Search.absoluteEntryOffset Rattle.references.specs.Search.entryAt Rattle.references.specs.Search.unitContaining Rattle.references.specs.Search.followAbsolute Rattle.references.specs.Search.followUnit Rattle.references.specs.Search.follow Rattle.references.specs.Search.ownName Rattle.references.specs.Search.referencedName Rattle.references.specs.Search.resolveNameInner Rattle.references.specs.Search.resolveNamed Rattle.references.specs.Search.resolveName Rattle.references.specs.Search.resolveReferenceName Rattle.imports.specs.Ranges.insert Rattle.imports.specs.Ranges.sort Rattle.imports.specs.Ranges.join Rattle.imports.specs.Ranges.joinAll Rattle.imports.specs.Ranges.coalesceRanges Rattle.imports.specs.Tree.fit Rattle.imports.specs.Tree.rangesOf Rattle.imports.specs.Tree.finishInlines Rattle.imports.specs.Tree.finish Rattle.imports.specs.Tree.makeCallSite Rattle.imports.specs.Tree.callFileOf Rattle.imports.specs.Tree.callLineOf Rattle.imports.specs.Tree.pushInline Rattle.imports.specs.Tree.makeInlineNode Rattle.imports.specs.Tree.collectEntry Rattle.imports.specs.Tree.collectEntries Rattle.imports.specs.Tree.collectDescendants Rattle.imports.specs.Tree.extractSubprogramDetails Rattle.imports.specs.Import.statementSequenceOffset Rattle.imports.specs.Import.isLiveRange Rattle.imports.specs.Import.isTombstone Rattle.imports.specs.Import.rejected Rattle.imports.specs.Import.addFunction Rattle.imports.specs.Import.importRange Rattle.imports.specs.Import.importRanges Rattle.imports.specs.Import.importSubprogram Rattle.imports.specs.Import.descendantsOf Rattle.imports.specs.Import.importUnitDetails Rattle.imports.specs.Import.importUnit
+example-three = refl
