@@ -7,7 +7,7 @@ use Prim.Native.Nat.{ℕ, zero, suc, _+_, _-_, _*_, _≤_, _<_}
 use native.Mathlib.Nat.{not-suc-le-zero, le-of-suc-le-suc}
 use native.Mathlib.Omega.{arith}
 use borrow.Author.Tests.{lt-ltb, le-ltb, eq-eqb, ne-eqb}
-use lib.Dec.{eqb, ltb, leb}
+use lib.Dec.{eqb, leb}
 use lib.ListN.{length, take, drop, getD, length-take, length-drop}
 use lib.Seq.{take-take}
 use Rattle.tlv.specs.Outcome.{Outcome, refused, done, _>>=_}
@@ -22,14 +22,16 @@ use Rattle.tlv.proofs.WidthLaws.{drop-part}
 use Rattle.tlv.proofs.ShapeLaws.{number-at, number-first}
 use Rattle.tlv.proofs.ChunkLaws.{chunk-length}
 use Rattle.tlv.proofs.RecordLaws.{records-length, records-at}
-use Rattle.lines.specs.Standard.{slash}
-use Rattle.lines.specs.Paths.{baseStart, basenameOf, directoryName, isAbsolute, appendPath, readDirectory, namedDirectory, needsCompilation, joinedDirectory, fileEntry}
+use Rattle.lines.specs.Paths.{baseStart, basenameOf, rootLength, directoryName, isAbsolute, appendPath, readDirectory, namedDirectory, needsCompilation}
+use Rattle.lines.specs.Paths.{joinedDirectory, fileEntry}
 use Rattle.files.specs.declared.pieces.Span.{Span}
 use Rattle.files.specs.declared.pieces.FileUnit.{FileUnit}
 use Rattle.files.specs.declared.pieces.Named.{Named}
+use Rattle.lines.proofs.PathBounds.{base-start-within}
 use Rattle.files.specs.declared.pieces.NamedDirectory.{NamedDirectory}
 use Rattle.files.specs.declared.pieces.PathParts.{PathParts}
-use Rattle.files.specs.Pieces.{spanIn, fileIn, SpanIn, spanOf, spannedOf, headerHere, DirectoryIn, FileUnitIn, PartsIn, Reads, Before, relativeEntry, Relative, Pieced}
+use Rattle.files.specs.Pieces.{spanIn, fileIn, SpanIn, spanOf, spannedOf, headerHere, DirectoryIn, FileUnitIn, PartsIn, Reads, Before, relativeEntry}
+use Rattle.files.specs.Pieces.{Relative, Pieced}
 use Rattle.files.proofs.DirectoryLaws.{cut-span, span-is, spanned-length}
 
 -- the span of no bytes
@@ -49,14 +51,6 @@ below-span s version n a r e = e ∙ ap (needsCompilation version n) (cut-span s
 
 -- ---- the parts of a path
 
-base-start-within : (l : List ℕ) → baseStart l ≤ length l
-unfolding baseStart
-base-start-within [] = omega arith
-base-start-within (b ∷ l) =
-    let h = base-start-within l in
-    by-test (λ n. n ≤ suc (length l)) (ltb 0 (baseStart l)) {x = baseStart l + 1} {y = cond (eqb b slash) 1 0} (λ _. omega arith)
-    (λ _. by-test (λ n. n ≤ suc (length l)) (eqb b slash) {x = 1} {y = 0} (λ _. omega arith) (λ _. omega arith))
-
 take-own : (k : ℕ) (l : List ℕ) → take (length (take k l)) l ≡ take k l
 take-own zero l = refl
 take-own (suc k) [] = refl
@@ -66,7 +60,7 @@ take-own (suc k) (x ∷ l) = ap (λ (r : List ℕ). x ∷ r) (take-own k l)
 directory-front : (l : List ℕ) → take (length (directoryName l)) l ≡ directoryName l
 unfolding directoryName
 directory-front l =
-    by-test (λ d. take (length d) l ≡ d) (leb (baseStart l) 1) {x = take (baseStart l) l} {y = take (baseStart l - 1) l}
+    by-test (λ d. take (length d) l ≡ d) (leb (baseStart l) (rootLength l)) {x = take (baseStart l) l} {y = take (baseStart l - 1) l}
     (λ _. take-own (baseStart l) l) (λ _. take-own (baseStart l - 1) l)
 
 directory-length : (l : List ℕ) → length (directoryName l) ≤ length l

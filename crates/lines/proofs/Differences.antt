@@ -13,8 +13,9 @@ unfolding Outcome._>>=_ Lists.filter Lists.takeWhile Lists.dropWhile Lists.first
     Standard.instruction Standard.sequencesWithin Standard.sequences Standard.relativeTo Standard.directoryPath Standard.filePath Program.ulebWithin
     Program.uleb Program.slebWithin Program.sleb Program.operandKinds Program.skipOperand Program.skipOperands Program.takeLineBytes Program.extendedBody
     Program.extended Program.skip Program.sequencesWithin Program.scanLineSequenceOffsets Program.initialLength Program.versionBytes Program.programOffset
-    Program.lineSequenceOffsets Paths.isSeparator Paths.baseStart Paths.basenameOf Paths.directoryName Paths.startsWith Paths.endsWith Paths.isDrive
-    Paths.isShare Paths.isAbsolute Paths.appendPath Paths.namedDirectory Paths.needsCompilation Paths.joinedDirectory Paths.fileEntry
+    Program.lineSequenceOffsets Paths.isSeparator Paths.startsWithLetter Paths.startsDoubled Paths.isWindows Paths.afterLast Paths.rootLength
+    Paths.baseStart Paths.basenameOf Paths.directoryName Paths.startsWith Paths.endsWith Paths.isDrive Paths.isShare Paths.isAbsolute Paths.appendPath
+    Paths.namedDirectory Paths.needsCompilation Paths.joinedDirectory Paths.fileEntry
 differences = record {
   program = record {
     padded = (refl, refl);
@@ -26,6 +27,7 @@ differences = record {
   };
   path = record {
     windows = (refl, refl);
+    doubledBackslash = (refl, refl);
     slashes = (refl, refl);
     closed = (refl, refl);
     root = (refl, refl);

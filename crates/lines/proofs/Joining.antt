@@ -1,19 +1,39 @@
 -- Joining paths: which are absolute, what stands below a directory, and the path that a directory and a basename stand for. Assumes nothing.
 use mathlib.Core.Logic.{_≢_}
 use mathlib.Core.Path.{_≡_, refl, sym, ap, _∙_}
-use mathlib.Core.Bool.{Bool, true, false, cond, _||_, not, true≢false, or-false}
+use mathlib.Core.Bool.{Bool, true, false, cond, _||_, not, true≢false, or-false, and-false}
 use mathlib.Core.List.{List, [], _∷_, _++_, append-assoc}
 use Prim.Native.Nat.{ℕ}
 use native.Mathlib.Omega.{arith}
+use borrow.Author.Tests.{eqb-true}
 use lib.Dec.{eqb}
 use lib.ListN.{length, length-append}
 use Rattle.tlv.specs.Lists.{same}
 use Rattle.tlv.specs.Output.{FileEntry}
 use Rattle.tlv.proofs.TestLaws.{by-test, same-true}
 use Rattle.lines.specs.Standard.{slash, isFull, relativeTo}
-use Rattle.lines.specs.Paths.{startsWith, endsWith, isAbsolute, appendPath, basenameOf, directoryName}
-use Rattle.lines.specs.Conforms.{pathIn, pathOf, Unix, Open, Holds}
+use Rattle.lines.specs.Paths.{startsWith, endsWith, isDrive, startsWithLetter, startsDoubled, isWindows, isAbsolute, appendPath, basenameOf}
+use Rattle.lines.specs.Paths.{directoryName}
+use Rattle.lines.specs.Conforms.{pathIn, pathOf, Unix, Relative, Open, Holds}
 use Rattle.lines.proofs.LastSlash.{Split, nowhere, first, later, split}
+
+-- ---- paths that Windows did not write
+
+-- a full path is none
+pub full-windows : (p : List ℕ) → isFull p ≡ true → isWindows p ≡ false
+unfolding isWindows isDrive startsWithLetter startsDoubled
+full-windows [] e = absurd (true≢false (sym e))
+full-windows (b ∷ []) e = refl
+full-windows (b ∷ c ∷ s) e = rw (eqb-true b slash e) (go s)
+  where
+    go : (s : List ℕ) → isWindows (slash ∷ c ∷ s) ≡ false
+    go [] = refl
+    go (d ∷ s) = ap (λ (t : Bool). t || false) (and-false (isDrive (slash ∷ c ∷ d ∷ s)))
+
+-- nor is a relative one of the theorem on paths
+pub relative-windows : (p : List ℕ) → Relative p → isWindows p ≡ false
+unfolding isWindows
+relative-windows p r = rw (r .unix .drive, r .undoubled)
 
 -- ---- absolute paths
 
@@ -117,7 +137,7 @@ module _ (e : FileEntry) where
 -- the parts of a full path stand for it
 pub path-full : (p : List ℕ) → isFull p ≡ true → (directoryName p ≡ slash ∷ [] → p ≡ slash ∷ basenameOf p)
     → p ≡ pathOf (record { directory = directoryName p; basename = basenameOf p })
-path-full p f single = go (split p)
+path-full p f single = go (split p (full-windows p f))
   where
     e : FileEntry
     e = record { directory = directoryName p; basename = basenameOf p }
@@ -132,10 +152,10 @@ path-full p f single = go (split p)
     go (later a l d b) = either a l d (b ∙ ap (λ (x : List ℕ). x ++ (slash ∷ basenameOf p)) (sym d)) (same (directoryName p) (slash ∷ [])) refl
 
 -- the parts of another path, below a directory, stand for the path relative to it
-pub path-below : (d p : List ℕ) → Holds d p → isFull p ≡ false
+pub path-below : (d p : List ℕ) → Holds d p → isFull p ≡ false → isWindows p ≡ false
     → relativeTo d p ≡ pathOf (record { directory = appendPath d (directoryName p); basename = basenameOf p })
 unfolding relativeTo
-path-below d p o f = rw f (go (split p))
+path-below d p o f w = rw f (go (split p w))
   where
     e : FileEntry
     e = record { directory = appendPath d (directoryName p); basename = basenameOf p }

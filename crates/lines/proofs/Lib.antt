@@ -7,6 +7,7 @@ pub mod Instructions
 pub mod Limits
 pub mod Programs
 pub mod LastSlash
+pub mod WindowsSplit
 pub mod Joining
 pub mod Directories
 pub mod Paths
@@ -21,6 +22,7 @@ pub mod RowLaws
 pub mod Differences
 pub mod PrintedPath
 pub mod SignedCases
+pub mod WindowsCases
 pub mod PathCodeLaws
 pub mod JoinLaws
 pub mod UlebLaws

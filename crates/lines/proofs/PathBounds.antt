@@ -17,19 +17,24 @@ use Rattle.tlv.proofs.OutcomeLaws.{Gives, gives, gives-none, gives-cond, gives-
 use Rattle.tlv.proofs.PayloadLaws.{file-length}
 use Rattle.tlv.proofs.AcceptedFields.{no-string}
 use Rattle.lines.specs.Standard.{slash}
-use Rattle.lines.specs.Paths.{baseStart, basenameOf, directoryName, startsWith, endsWith, isAbsolute, appendPath, orEmpty, readDirectory, namedDirectory, needsCompilation, joinedDirectory, fileEntry}
+use Rattle.lines.specs.Paths.{isWindows, splitsAt, afterLast, baseStart, basenameOf, rootLength, directoryName, startsWith, endsWith, isAbsolute}
+use Rattle.lines.specs.Paths.{appendPath, orEmpty, readDirectory, namedDirectory, needsCompilation, joinedDirectory, fileEntry}
 
 -- ---- lengths
 
-base-start-within : (s : List ℕ) → baseStart s ≤ length s
-unfolding baseStart
-base-start-within [] = omega arith
-base-start-within (b ∷ s) = go (ltb 0 (baseStart s)) (eqb b slash) (base-start-within s)
+after-last-within : (splits : ℕ → Bool) (s : List ℕ) → afterLast splits s ≤ length s
+unfolding afterLast
+after-last-within splits [] = omega arith
+after-last-within splits (b ∷ s) = go (ltb 0 (afterLast splits s)) (splits b) (after-last-within splits s)
   where
-    go : (c d : Bool) → baseStart s ≤ length s → cond c (baseStart s + 1) (cond d 1 0) ≤ suc (length s)
+    go : (c d : Bool) → afterLast splits s ≤ length s → cond c (afterLast splits s + 1) (cond d 1 0) ≤ suc (length s)
     go true d h = omega arith
     go false true h = omega arith
     go false false h = omega arith
+
+pub base-start-within : (s : List ℕ) → baseStart s ≤ length s
+unfolding baseStart
+base-start-within s = after-last-within (splitsAt (isWindows s)) s
 
 -- a path's directory and basename are parts of it that do not meet
 pub directory-basename-length : (p : List ℕ) → length (directoryName p) + length (basenameOf p) ≤ length p
@@ -37,7 +42,8 @@ unfolding directoryName basenameOf
 directory-basename-length p =
     let l = base-start-within p in
     let k = length-drop (baseStart p) p in
-    by-test (λ d. length d + length (drop (baseStart p) p) ≤ length p) (leb (baseStart p) 1) {x = take (baseStart p) p} {y = take (baseStart p - 1) p}
+    by-test (λ d. length d + length (drop (baseStart p) p) ≤ length p) (leb (baseStart p) (rootLength p))
+    {x = take (baseStart p) p} {y = take (baseStart p - 1) p}
     (λ e. omega (arith, length-take (baseStart p) p)) (λ e. omega (arith, length-take (baseStart p - 1) p))
 
 -- a slash at most is put between

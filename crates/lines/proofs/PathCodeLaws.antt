@@ -6,28 +6,30 @@ use Prim.Native.Nat.{ℕ, suc, _+_, _-_, _≤_, _<_}
 use native.Mathlib.Omega.{arith}
 use native.Mathlib.Numerals.{add-one}
 use borrow.Author.Tests.{lt-ltb, le-ltb, le-leb, lt-leb, eq-eqb, ne-eqb, not-true, not-false}
-use lib.Dec.{ltb, eqb}
+use lib.Dec.{leb, ltb, eqb}
 use lib.ListN.{length, getD, take, drop, length-take, length-drop, drop-of-length-le}
 use lib.Seq.{take-suc, take-length, take-all, drop-cons}
 use Rattle.tlv.specs.Lists.{exists}
 use Rattle.lines.specs.Standard.{slash}
-use Rattle.lines.specs.Paths.{isSeparator, baseStart, basenameOf, directoryName, startsWith, isDrive, isShare, isAbsolute, needsCompilation}
+use Rattle.lines.specs.Paths.{isSeparator, startsWith, isDrive, isShare, isAbsolute, isLetter, startsWithLetter, hasDriveLetter, startsDoubled}
+use Rattle.lines.specs.Paths.{isWindows, splitsAt, afterLast, baseStart, basenameOf, rootLength, directoryName, needsCompilation}
 
 -- what is left from a place on is its byte and what is left after it
 pub drop-byte : (s : List ℕ) (p b : ℕ) → p < length s → b ≡ getD s p 0 → drop p s ≡ b ∷ drop (p + 1) s
 drop-byte s p b h e = drop-cons s p 0 h ∙ (λ i. sym e i ∷ drop (sym (add-one p) i) s)
 
--- ---- the last slash
+-- ---- the last byte that splits
 
-base-slash : (l : List ℕ) → baseStart (l ++ (slash ∷ [])) ≡ length l + 1
-unfolding baseStart
-base-slash [] = refl
-base-slash (b ∷ l) = rw (base-slash l, lt-ltb 0 (length l + 1) (omega arith)) (omega arith)
+module _ (splits : ℕ → Bool) where
+  last-here : (l : List ℕ) (b : ℕ) → splits b ≡ true → afterLast splits (l ++ (b ∷ [])) ≡ length l + 1
+  unfolding afterLast
+  last-here [] b e = rw e
+  last-here (x ∷ l) b e = rw (last-here l b e, lt-ltb 0 (length l + 1) (omega arith)) (omega arith)
 
-base-other : (l : List ℕ) (b : ℕ) → (b ≡ slash → ⊥) → baseStart (l ++ (b ∷ [])) ≡ baseStart l
-unfolding baseStart
-base-other [] b n = rw (ne-eqb b slash n)
-base-other (x ∷ l) b n = rw (base-other l b n)
+  last-other : (l : List ℕ) (b : ℕ) → splits b ≡ false → afterLast splits (l ++ (b ∷ [])) ≡ afterLast splits l
+  unfolding afterLast
+  last-other [] b e = rw e
+  last-other (x ∷ l) b e = rw (last-other l b e)
 
 take-last : (s : List ℕ) (i : ℕ) → 0 < i → i ≤ length s → take i s ≡ take (i - 1) s ++ (getD s (i - 1) 0 ∷ [])
 take-last s i h g =
@@ -35,32 +37,33 @@ take-last s i h g =
     ap (λ (x : ℕ). take x s) z ∙ take-suc s (i - 1) 0 (omega arith)
 
 module _ (s : List ℕ) where
-  pub base-start : baseStart s ≡ baseStart (take (length s) s)
-  base-start = ap baseStart (sym (take-length s))
+  pub base-start : (w : Bool) → w ≡ isWindows s → baseStart s ≡ afterLast (splitsAt w) (take (length s) s)
+  unfolding baseStart
+  base-start w e = λ i. afterLast (splitsAt (sym e i)) (sym (take-length s) i)
 
-  module _ (i v : ℕ) (e : v ≡ baseStart (take i s)) where
+  module _ (splits : ℕ → Bool) (i v : ℕ) (e : v ≡ afterLast splits (take i s)) where
     pub base-none : i ≤ 0 → 0 ≡ v
-    unfolding baseStart
-    base-none h = let z : i ≡ 0 = omega arith in sym (e ∙ ap (λ (x : ℕ). baseStart (take x s)) z)
+    unfolding afterLast
+    base-none h = let z : i ≡ 0 = omega arith in sym (e ∙ ap (λ (x : ℕ). afterLast splits (take x s)) z)
 
-    module _ (h : 0 < i) (g : i ≤ length s) where
-      pub base-found : getD s (i - 1) 0 ≡ slash → i ≡ v
+    module _ (h : 0 < i) (g : i ≤ length s) (r : Bool) (q : r ≡ splits (getD s (i - 1) 0)) where
+      pub base-found : r ≡ true → i ≡ v
       base-found k =
           let l : length (take (i - 1) s) + 1 ≡ i = simp length-take (omega arith) in
-          sym (e ∙ ap baseStart (take-last s i h g ∙ ap (λ (x : ℕ). take (i - 1) s ++ (x ∷ [])) k) ∙ base-slash (take (i - 1) s) ∙ l)
+          sym (e ∙ ap (afterLast splits) (take-last s i h g) ∙ last-here splits (take (i - 1) s) (getD s (i - 1) 0) (sym q ∙ k) ∙ l)
 
-      pub base-pass : (getD s (i - 1) 0 ≡ slash → ⊥) → v ≡ baseStart (take (i - 1) s)
-      base-pass k = e ∙ ap baseStart (take-last s i h g) ∙ base-other (take (i - 1) s) (getD s (i - 1) 0) k
+      pub base-pass : r ≡ false → v ≡ afterLast splits (take (i - 1) s)
+      base-pass k = e ∙ ap (afterLast splits) (take-last s i h g) ∙ last-other splits (take (i - 1) s) (getD s (i - 1) 0) (sym q ∙ k)
 
 -- what the code returns is the directory, and the basename
 
-pub directory-short : (s : List ℕ) (n : ℕ) → n ≡ baseStart s → n ≤ 1 → take n s ≡ directoryName s
+pub directory-short : (s : List ℕ) (n m : ℕ) → n ≡ baseStart s → m ≡ rootLength s → n ≤ m → take n s ≡ directoryName s
 unfolding directoryName
-directory-short s n e h = rw (← e, le-leb n 1 h)
+directory-short s n m e f h = rw (← e, ← f, le-leb n m h)
 
-pub directory-long : (s : List ℕ) (n : ℕ) → n ≡ baseStart s → 1 < n → take (n - 1) s ≡ directoryName s
+pub directory-long : (s : List ℕ) (n m : ℕ) → n ≡ baseStart s → m ≡ rootLength s → m < n → take (n - 1) s ≡ directoryName s
 unfolding directoryName
-directory-long s n e h = rw (← e, lt-leb n 1 h)
+directory-long s n m e f h = rw (← e, ← f, lt-leb n m h)
 
 pub basename-is : (s : List ℕ) (n : ℕ) → n ≡ baseStart s → take (length s - n) (drop n s) ≡ basenameOf s
 unfolding basenameOf
@@ -91,6 +94,86 @@ module _ (s : List ℕ) (i : ℕ) where
 
     pub any-more : (v : Bool) → v ≡ exists isSeparator (drop i s) → r ≡ false → v ≡ exists isSeparator (drop (i + 1) s)
     any-more v q t = q ∙ any-at ∙ ap (λ (x : Bool). cond x true (exists isSeparator (drop (i + 1) s))) t
+
+-- ---- paths that Windows wrote
+
+pub letter-low : (b : ℕ) → b < 0x41 → false ≡ isLetter b
+letter-low b h = rw (lt-leb 0x41 b h, lt-leb 0x61 b (omega arith))
+
+pub letter-capital : (b : ℕ) → 0x41 ≤ b → b ≤ 0x5a → true ≡ isLetter b
+letter-capital b h g = rw (le-leb 0x41 b h, le-leb b 0x5a g)
+
+pub letter-between : (b : ℕ) → 0x5a < b → b < 0x61 → false ≡ isLetter b
+letter-between b h g = rw (le-leb 0x41 b (omega arith), lt-leb b 0x5a h, lt-leb 0x61 b g)
+
+pub letter-small : (b : ℕ) → 0x5a < b → 0x61 ≤ b → leb b 0x7a ≡ isLetter b
+letter-small b h g = rw (le-leb 0x41 b (omega arith), lt-leb b 0x5a h, le-leb 0x61 b g)
+
+module _ (s : List ℕ) (d : Bool) (e : d ≡ isDrive s) where
+  pub drive-letter-none : not d ≡ true → false ≡ hasDriveLetter s
+  drive-letter-none h = rw (← e, not-true d h)
+
+  pub drive-letter-empty : length s ≡ 0 → false ≡ hasDriveLetter s
+  unfolding startsWithLetter
+  drive-letter-empty h = go s h
+    where
+      go : (s : List ℕ) → length s ≡ 0 → false ≡ hasDriveLetter s
+      go [] h = sym (and-false (isDrive []))
+      go (x ∷ s) h = absurd (omega arith)
+
+  pub drive-letter-first : not d ≡ false → (length s ≡ 0 → ⊥) → (r : Bool) → r ≡ isLetter (getD s 0 0) → r ≡ hasDriveLetter s
+  unfolding startsWithLetter
+  drive-letter-first h n r q = q ∙ rw (← e, not-false d h) (first s n)
+    where
+      first : (s : List ℕ) → (length s ≡ 0 → ⊥) → isLetter (getD s 0 0) ≡ startsWithLetter s
+      first [] n = absurd (n refl)
+      first (x ∷ s) n = refl
+
+pub doubled-short : (s : List ℕ) → length s < 2 → false ≡ startsDoubled s
+unfolding startsDoubled
+doubled-short [] h = refl
+doubled-short (a ∷ []) h = refl
+doubled-short (a ∷ b ∷ s) h = absurd (omega arith)
+
+doubled-at : (s : List ℕ) → 2 ≤ length s → startsDoubled s ≡ (eqb (getD s 0 0) 0x5c && eqb (getD s 1 0) 0x5c)
+unfolding startsDoubled
+doubled-at [] h = absurd (omega arith)
+doubled-at (a ∷ []) h = absurd (omega arith)
+doubled-at (a ∷ b ∷ s) h = refl
+
+pub doubled-other : (s : List ℕ) → 2 ≤ length s → (getD s 0 0 ≡ 0x5c → ⊥) → false ≡ startsDoubled s
+doubled-other s h n = sym (rw (ne-eqb (getD s 0 0) 0x5c n) at (doubled-at s h))
+
+pub doubled-second : (s : List ℕ) → 2 ≤ length s → getD s 0 0 ≡ 0x5c → eqb (getD s 1 0) 0x5c ≡ startsDoubled s
+doubled-second s h e = sym (rw (eq-eqb (getD s 0 0) 0x5c e) at (doubled-at s h))
+
+module _ (s : List ℕ) (d : Bool) (e : d ≡ hasDriveLetter s) where
+  pub windows-drive : d ≡ true → true ≡ isWindows s
+  unfolding isWindows
+  windows-drive h = rw (← e, h)
+
+  pub windows-doubled : d ≡ false → (r : Bool) → r ≡ startsDoubled s → r ≡ isWindows s
+  unfolding isWindows
+  windows-doubled h r q = rw (← e, h) q
+
+  pub root-drive : d ≡ true → 3 ≡ rootLength s
+  unfolding rootLength
+  root-drive h = rw (← e, h)
+
+  module _ (h : d ≡ false) (r : Bool) (q : r ≡ startsDoubled s) where
+    pub root-doubled : r ≡ true → 2 ≡ rootLength s
+    unfolding rootLength
+    root-doubled k = rw (← e, h, ← q, k)
+
+    pub root-other : r ≡ false → 1 ≡ rootLength s
+    unfolding rootLength
+    root-other k = rw (← e, h, ← q, k)
+
+pub splits-windows : (w : Bool) (b : ℕ) → w ≡ true → (r : Bool) → r ≡ isSeparator b → r ≡ splitsAt w b
+splits-windows w b h r e = rw h e
+
+pub splits-slash : (w : Bool) (b : ℕ) → w ≡ false → eqb b slash ≡ splitsAt w b
+splits-slash w b h = rw h
 
 -- ---- absolute paths
 

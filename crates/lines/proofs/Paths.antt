@@ -11,7 +11,7 @@ use Rattle.tlv.proofs.TestLaws.{filled-empty}
 use Rattle.lines.specs.Standard.{slash, isFull, filePath}
 use Rattle.lines.specs.Paths.{appendPath, basenameOf, directoryName, joinedDirectory, fileEntry}
 use Rattle.lines.specs.Conforms.{NamesFile, Relative, Joins, Paths}
-use Rattle.lines.proofs.Joining.{full-absolute, unix-absolute, path-full, path-below}
+use Rattle.lines.proofs.Joining.{relative-windows, full-absolute, unix-absolute, path-full, path-below}
 use Rattle.lines.proofs.Directories.{Directed, plain-directed, first-directed, full-directed}
 
 module _ (u : CompilationUnit) (h : LineHeader) (f : HeaderFile) (c : List ℕ) where
@@ -30,7 +30,7 @@ module _ (u : CompilationUnit) (h : LineHeader) (f : HeaderFile) (c : List ℕ) 
   joins-below p r g = (
     record { directory = appendPath (g .whole) (directoryName (f .path)); basename = basenameOf (f .path) },
     rw (p .read, filled-empty (basenameOf (f .path)) (p .named), unix-absolute (f .path) (r .unix), r .relative, g .read, g .joined),
-    rw (r .relative, g .is) (ap some (path-below (g .whole) (f .path) (g .below) (r .relative))),
+    rw (r .relative, g .is) (ap some (path-below (g .whole) (f .path) (g .below) (r .relative) (relative-windows (f .path) r))),
   )
 
 pub paths : Paths

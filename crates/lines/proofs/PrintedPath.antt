@@ -15,12 +15,12 @@ use Rattle.lines.specs.PrintedPath.{src, cue, printedUnit, PrintedPath}
 use Rattle.lines.proofs.Paths.{paths}
 
 names : NamesFile (file 0 cue)
-unfolding Paths.baseStart Paths.basenameOf
+unfolding Paths.isDrive Paths.startsWithLetter Paths.startsDoubled Paths.isWindows Paths.afterLast Paths.baseStart Paths.basenameOf
 names = record { read = refl; named = λ e. omega (arith, ap length e) }
 
 relative : Relative cue
-unfolding Paths.isDrive Paths.isShare Paths.isSeparator
-relative = record { relative = refl; unix = record { drive = refl; share = refl } }
+unfolding Paths.isDrive Paths.isShare Paths.isSeparator Paths.startsDoubled
+relative = record { relative = refl; unix = record { drive = refl; share = refl }; undoubled = refl }
 
 directory : FirstDirectory printedUnit (header 5) (file 0 cue)
 unfolding Paths.endsWith Lists.at
@@ -34,7 +34,8 @@ directory = record {
 
 listed : Paths.fileEntry printedUnit (header 5) (file 0 cue) ≡ entry src cue
 unfolding Paths.fileEntry Paths.namedDirectory Paths.joinedDirectory Paths.needsCompilation Paths.appendPath Paths.isAbsolute
-    Paths.startsWith Paths.endsWith Paths.isDrive Paths.isShare Paths.isSeparator Paths.baseStart Paths.basenameOf Paths.directoryName Lists.at Outcome._>>=_
+    Paths.startsWith Paths.endsWith Paths.isDrive Paths.isShare Paths.isSeparator Paths.startsWithLetter Paths.startsDoubled Paths.isWindows Paths.afterLast
+    Paths.baseStart Paths.rootLength Paths.basenameOf Paths.directoryName Lists.at Outcome._>>=_
 listed = refl
 
 path : (compilation : List ℕ) → filePath 5 compilation (src ∷ []) 0 cue ≡ some (src ++ (slash ∷ cue))

@@ -8,13 +8,13 @@ use mathlib.Core.Option.{Option, none, some}
 use lib.ListN.{length, getD}
 use lib.Dec.{leb}
 use Rattle.tlv.specs.Outcome.{Outcome, refused, done}
-use Rattle.tlv.specs.Lists.{at, same}
+use Rattle.tlv.specs.Lists.{exists, at, same}
 use Rattle.tlv.specs.Model.{CompilationUnit, LineHeader, Directory, HeaderFile}
 use Rattle.tlv.specs.Output.{FileEntry}
 use Rattle.lines.specs.Standard.{Operand, leb128, SignedOperand, sleb128, OperandKind, unsigned, signed, half, standardOperands, Opcodes, declared}
 use Rattle.lines.specs.Standard.{operandsOf, afterOperand, Passed, instruction, sequences, slash, isFull, filePath}
 use Rattle.lines.specs.Program.{uleb, isSign, sleb, bare, placeOf, skip, scanLineSequenceOffsets}
-use Rattle.lines.specs.Paths.{fileEntry, isDrive, isShare, endsWith, basenameOf, directoryName}
+use Rattle.lines.specs.Paths.{fileEntry, isSeparator, isDrive, isShare, endsWith, startsDoubled, isWindows, basenameOf, rootLength, directoryName}
 
 -- ---- operands: read_line_uleb is the Standard's LEB128 within ten bytes and 64 bits
 
@@ -158,6 +158,24 @@ Programs = (h : Opcodes) → DeclaresStandard h → ProgramConforms h
 abbrev pub AdvanceLine : Type 0
 AdvanceLine = (h : Opcodes) → 3 < h .base → declared h 3 ≡ 1 → (whole : ℕ) (s : List ℕ) → Agrees 11 (skip h whole 3 s) (instruction h 3 s) (Narrow signed s)
 
+-- ---- E3: the two parts of a path that Windows wrote
+
+-- the path is directory and basename, where the separator before the basename ends the root and stays, or these with the dropped separator between them
+abbrev pub WindowsParts : List ℕ → List ℕ → List ℕ → Type 0
+WindowsParts p directory basename =
+    ((p ≡ directory ++ basename) × (length directory ≡ rootLength p))
+    ⊎ ((c : ℕ) × (isSeparator c ≡ true) × (p ≡ directory ++ (c ∷ basename)) × (rootLength p ≤ length directory))
+
+-- "split it at its last separator": none stands in the basename. No other two parts are so
+pub record WindowsSplit (p : List ℕ) : Type 0 where
+  pub plain : exists isSeparator (basenameOf p) ≡ false
+  pub parts : WindowsParts p (directoryName p) (basenameOf p)
+  pub only : (directory basename : List ℕ) → exists isSeparator basename ≡ false → WindowsParts p directory basename
+      → (directory ≡ directoryName p) × (basename ≡ basenameOf p)
+
+abbrev pub WindowsSplits : Type 0
+WindowsSplits = (p : List ℕ) → isWindows p ≡ true → WindowsSplit p
+
 -- ---- paths: joining is the Standard's outside named cases
 
 -- a directory and a basename as one path
@@ -189,10 +207,11 @@ pub record NamesFile (f : HeaderFile) : Type 0 where
   pub read : f .failed ≡ false
   pub named : basenameOf (f .path) ≢ []
 
--- a relative path that is no Windows path
+-- a relative path that is no Windows path, and that E3 does not split as one: two backslashes make it none of its own
 pub record Relative (p : List ℕ) : Type 0 where
   pub relative : isFull p ≡ false
   pub unix : Unix p
+  pub undoubled : startsDoubled p ≡ false
 
 -- where directory n stands in the table, which numbers from 1 before version 5
 abbrev pub tablePlace : ℕ → ℕ → ℕ
@@ -232,8 +251,8 @@ Joins u h f compilation =
     (e : FileEntry) × (fileEntry u h f ≡ done (some e))
     × (filePath (h .version) compilation (map (λ d. d .path) (u .directories)) (f .directory) (f .path) ≡ some (pathOf e))
 
--- the named cases are left out: a path that failed or names no file, a full path of two slashes and a name, and a relative path that is a Windows path or whose
--- directory is none of the three above
+-- the named cases are left out: a path that failed or names no file, a full path of two slashes and a name, and a relative path that is a Windows path or
+-- begins with two backslashes, or whose directory is none of the three above
 pub record PathConforms (u : CompilationUnit) (h : LineHeader) (f : HeaderFile) (compilation : List ℕ) : Type 0 where
   pub full : NamesFile f → isFull (f .path) ≡ true → (directoryName (f .path) ≡ slash ∷ [] → f .path ≡ slash ∷ basenameOf (f .path)) → Joins u h f compilation
   pub relative : NamesFile f → Relative (f .path) → PlainDirectory u h f compilation → Joins u h f compilation

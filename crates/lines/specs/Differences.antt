@@ -77,6 +77,9 @@ bc = 0x62 ∷ 0x2e ∷ 0x63 ∷ []  -- b.c
 abbrev pub onDrive : List ℕ
 onDrive = 0x43 ∷ 0x3a ∷ 0x5c ∷ bc  -- C:\b.c
 
+abbrev pub drive : List ℕ
+drive = 0x43 ∷ 0x3a ∷ 0x5c ∷ []  -- C:\
+
 abbrev pub doubled : List ℕ
 doubled = 0x2f ∷ 0x2f ∷ bc  -- //b.c
 
@@ -96,8 +99,12 @@ abbrev pub given : List ℕ → Directory
 given path = record { failed = false; path = path }
 
 pub record PathDifferences : Type 0 where
-  -- a Windows path is taken as absolute, and has no slash to split at: /w/C:\b.c
-  pub windows : (filePath 4 w [] 0 onDrive ≡ some (w ++ (0x2f ∷ onDrive))) × (fileEntry (unitOf (some w) []) (header 4) (file 0 onDrive) ≡ entry [] onDrive)
+  -- a Windows path is taken as absolute, and split at its last separator, which closes the drive: /w/C:\b.c
+  pub windows : (filePath 4 w [] 0 onDrive ≡ some (w ++ (0x2f ∷ onDrive))) × (fileEntry (unitOf (some w) []) (header 4) (file 0 onDrive) ≡ entry drive bc)
+  -- two backslashes and a name are no share, so they stand below the compilation directory, and split: /w/\\b.c and /w/\\ and b.c
+  pub doubledBackslash :
+      (filePath 4 w [] 0 (0x5c ∷ 0x5c ∷ bc) ≡ some (w ++ (0x2f ∷ 0x5c ∷ 0x5c ∷ bc)))
+      × (fileEntry (unitOf (some w) []) (header 4) (file 0 (0x5c ∷ 0x5c ∷ bc)) ≡ entry (w ++ (0x2f ∷ 0x5c ∷ 0x5c ∷ [])) bc)
   -- two slashes and a name: one slash is lost
   pub slashes : (filePath 4 w [] 0 doubled ≡ some doubled) × (fileEntry (unitOf (some w) []) (header 4) (file 0 doubled) ≡ entry (0x2f ∷ []) bc)
   -- a directory that ends in a slash gets no second one: /w//s/b.c and /w/s

@@ -9,5 +9,6 @@ pub mod Conforms
 pub mod Differences
 pub mod PrintedPath
 pub mod SignedCases
+pub mod WindowsCases
 pub mod Join
 pub mod Scan

@@ -1,4 +1,4 @@
--- Paths of files (the Rust's split_path, is_absolute_path, append_path, and the path that intern_file makes). Assumes nothing.
+-- Paths of files: the Rust's split_path, with E3 for paths that Windows wrote, is_absolute_path, append_path, and the path that intern_file makes. Assumes nothing.
 use Prim.Native.Nat.{ℕ, _+_, _-_}
 use mathlib.Core.Bool.{Bool, false, cond, _&&_, _||_, not}
 use mathlib.Core.List.{List, [], _∷_, _++_}
@@ -16,20 +16,6 @@ backslash = 0x5c
 
 unfoldable pub isSeparator : ℕ → Bool
 isSeparator b = eqb b slash || eqb b backslash
-
--- ---- split_path
-
--- how many bytes stand before the byte after the last slash; 0 without a slash
-unfoldable pub baseStart : List ℕ → ℕ
-baseStart [] = 0
-baseStart (b ∷ s) = cond (ltb 0 (baseStart s)) (baseStart s + 1) (cond (eqb b slash) 1 0)
-
-unfoldable pub basenameOf : List ℕ → List ℕ
-basenameOf path = drop (baseStart path) path
-
--- what stands before the last slash; where that is the first byte, the slash
-unfoldable pub directoryName : List ℕ → List ℕ
-directoryName path = cond (leb (baseStart path) 1) (take (baseStart path) path) (take (baseStart path - 1) path)
 
 -- ---- is_absolute_path
 
@@ -58,6 +44,53 @@ isShare (a ∷ b ∷ c ∷ s) = isSeparator a && eqb a b && not (isSeparator c) 
 
 unfoldable pub isAbsolute : List ℕ → Bool
 isAbsolute p = startsWith slash p || isDrive p || isShare p
+
+-- ---- split_path
+
+-- E3: "begins with a drive letter (A to Z, either case), colon and separator (slash or backslash)"
+abbrev pub isLetter : ℕ → Bool
+isLetter b = (leb 0x41 b && leb b 0x5a) || (leb 0x61 b && leb b 0x7a)
+
+unfoldable pub startsWithLetter : List ℕ → Bool
+startsWithLetter [] = false
+startsWithLetter (b ∷ s) = isLetter b
+
+abbrev pub hasDriveLetter : List ℕ → Bool
+hasDriveLetter p = isDrive p && startsWithLetter p
+
+-- E3: "or with two backslashes"
+unfoldable pub startsDoubled : List ℕ → Bool
+startsDoubled [] = false
+startsDoubled (a ∷ []) = false
+startsDoubled (a ∷ b ∷ s) = eqb a backslash && eqb b backslash
+
+-- a path that Windows wrote
+unfoldable pub isWindows : List ℕ → Bool
+isWindows p = hasDriveLetter p || startsDoubled p
+
+-- which bytes split a path: E3, "split it at its last separator"; any other at a slash
+abbrev pub splitsAt : Bool → ℕ → Bool
+splitsAt windows b = cond windows (isSeparator b) (eqb b slash)
+
+-- how many bytes stand before the byte after the last one that splits; 0 without one
+unfoldable pub afterLast : (ℕ → Bool) → List ℕ → ℕ
+afterLast splits [] = 0
+afterLast splits (b ∷ s) = cond (ltb 0 (afterLast splits s)) (afterLast splits s + 1) (cond (splits b) 1 0)
+
+unfoldable pub baseStart : List ℕ → ℕ
+baseStart path = afterLast (splitsAt (isWindows path)) path
+
+unfoldable pub basenameOf : List ℕ → List ℕ
+basenameOf path = drop (baseStart path) path
+
+-- how many bytes at the front keep their last separator: E3, "where it closes the drive (C:\ keeps it) or is one of the leading two backslashes";
+-- in any other path the slash that is the first byte
+unfoldable pub rootLength : List ℕ → ℕ
+rootLength p = cond (hasDriveLetter p) 3 (cond (startsDoubled p) 2 1)
+
+-- what stands before the basename; "the separator before the basename is dropped" behind the root
+unfoldable pub directoryName : List ℕ → List ℕ
+directoryName path = cond (leb (baseStart path) (rootLength path)) (take (baseStart path) path) (take (baseStart path - 1) path)
 
 -- ---- append_path: one path below another, with a slash between where neither has one
 

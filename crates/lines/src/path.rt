@@ -7,16 +7,18 @@ ghost use Rattle.tlv.specs.Buffer.{overlay};
 ghost use Rattle.tlv.specs.Table.{chunk};
 ghost use Rattle.tlv.specs.Lists.{exists};
 ghost use Rattle.lines.specs.Standard.{slash};
-ghost use Rattle.lines.specs.Paths.{isSeparator, baseStart, basenameOf, directoryName, startsWith, isDrive, isShare, isAbsolute, appendPath, needsCompilation};
+ghost use Rattle.lines.specs.Paths.{isSeparator, startsWith, isDrive, isShare, isLetter, hasDriveLetter, startsDoubled, isWindows, splitsAt, baseStart};
+ghost use Rattle.lines.specs.Paths.{basenameOf, rootLength, directoryName, isAbsolute, appendPath, needsCompilation};
 ghost use Rattle.lines.specs.Join.{Laid};
 
-// The place after the last slash; 0 without one.
+// The place after the last byte that splits a path; 0 without one.
 fn base_start(path: &[u8]) -> usize
     ensures { λ r. ⌜ (r ≡ baseStart (now (path .entry))) × (r ≤ length (now (path .entry))) ⌝ }
 {
+    let windows = is_windows(path);
     let mut i = path.len();
     while 0 < i {
-        if path[i - 1] == 0x2f {
+        if splits_at(windows, path[i - 1]) {
             return i;
         }
         i -= 1;
@@ -24,19 +26,20 @@ fn base_start(path: &[u8]) -> usize
     0
 }
 
-// What stands before the last slash of a path; the slash itself where that is the first byte.
+// What stands before the basename of a path; the separator between them stays with the root.
 pub fn directory_of(path: &[u8]) -> &[u8]
     ensures { λ r. ⌜ now r ≡ directoryName (now (path .entry)) ⌝ }
 {
     let n = base_start(path);
-    if n <= 1 {
+    let root = root_length(path);
+    if n <= root {
         return &path[..n];
     }
     let m = n - 1;
     &path[..m]
 }
 
-// What stands after the last slash of a path.
+// What stands after the last byte that splits a path.
 pub fn basename_of(path: &[u8]) -> &[u8]
     ensures { λ r. ⌜ now r ≡ basenameOf (now (path .entry)) ⌝ }
 {
@@ -116,6 +119,79 @@ pub fn is_absolute_path(path: &[u8]) -> bool
         return true;
     }
     is_share(path)
+}
+
+fn is_letter(b: u8) -> bool
+    ensures { λ r. ⌜ r ≡ isLetter b ⌝ }
+{
+    if b < 0x41 {
+        return false;
+    }
+    if b <= 0x5a {
+        return true;
+    }
+    if b < 0x61 {
+        return false;
+    }
+    b <= 0x7a
+}
+
+// Whether a path begins with a drive letter, a colon and a separator.
+fn has_drive_letter(path: &[u8]) -> bool
+    ensures { λ r. ⌜ r ≡ hasDriveLetter (now (path .entry)) ⌝ }
+{
+    if !has_drive(path) {
+        return false;
+    }
+    if path.len() == 0 {
+        return false;
+    }
+    is_letter(path[0])
+}
+
+// Whether a path begins with two backslashes.
+fn starts_doubled(path: &[u8]) -> bool
+    ensures { λ r. ⌜ r ≡ startsDoubled (now (path .entry)) ⌝ }
+{
+    if path.len() < 2 {
+        return false;
+    }
+    if path[0] != 0x5c {
+        return false;
+    }
+    path[1] == 0x5c
+}
+
+fn is_windows(path: &[u8]) -> bool
+    ensures { λ r. ⌜ r ≡ isWindows (now (path .entry)) ⌝ }
+{
+    if has_drive_letter(path) {
+        return true;
+    }
+    starts_doubled(path)
+}
+
+// Whether a byte splits a path.
+fn splits_at(windows: bool, b: u8) -> bool
+    ensures { λ r. ⌜ r ≡ splitsAt windows b ⌝ }
+{
+    if windows {
+        return is_separator(b);
+    }
+    b == 0x2f
+}
+
+// How many bytes at the front of a path keep their last separator.
+fn root_length(path: &[u8]) -> usize
+    ensures { λ r. ⌜ r ≡ rootLength (now (path .entry)) ⌝ }
+{
+    if has_drive_letter(path) {
+        return 3;
+    }
+    if starts_doubled(path) {
+        return 2;
+    }
+    1
 }
 
 // Copies a path to a place of the work slice.

@@ -1,30 +1,37 @@
--- `path::base_start` meets its contract. The loop goes backward: the last slash of the path is that of the part that is left. Assumes nothing.
+-- `path::base_start` meets its contract. The loop goes backward: the last byte that splits the path is that of the part that is left. Assumes nothing.
 use Prim.Native.Nat.{_≤_}
 use mathlib.Core.Path.{_≡_}
 use native.Mathlib.Omega.{arith}
 use lib.ListN.{length, take}
-use Rattle.lines.specs.Paths.{baseStart}
+use borrow.Author.Needs.{needs}
+use Rattle.lines.specs.Paths.{splitsAt, afterLast, baseStart}
 use Rattle.lines.proofs.PathCodeLaws.{base-start, base-none, base-found, base-pass}
 use Rattle.lines.proofs.path.base_start.Statement.{statement}
 use Rattle.lines.proofs.path.base_start.Tie as tie
 
 abbrev Inv-loop : tie.InvT-loop
-Inv-loop path i₀ i = (i ≤ length path) × (baseStart path ≡ baseStart (take i path))
+Inv-loop path windows i₀ i = (i ≤ length path) × (baseStart path ≡ afterLast (splitsAt windows) (take i path))
 
 abbrev μ-loop : tie.MeasureT-loop
-μ-loop path i₀ i = i
+μ-loop path windows i₀ i = i
+
+is-windows-requires : tie.Need-is-windows-requires Inv-loop μ-loop
+is-windows-requires c κs = search needs
 
 loop-holds : tie.Need-loop-holds Inv-loop μ-loop
 loop-holds c = (omega arith, search base-start)
 
-sub-if1 : tie.Need-sub-if1 Inv-loop μ-loop
-sub-if1 c = omega arith
+sub-splits-at : tie.Need-sub-splits-at Inv-loop μ-loop
+sub-splits-at c = omega arith
 
-shared-slice-read-if1 : tie.Need-shared-slice-read-if1 Inv-loop μ-loop
-shared-slice-read-if1 c = omega arith
+shared-slice-read-splits-at : tie.Need-shared-slice-read-splits-at Inv-loop μ-loop
+shared-slice-read-splits-at c = omega arith
+
+splits-at-requires : tie.Need-splits-at-requires Inv-loop μ-loop
+splits-at-requires c κs = search needs
 
 returns : tie.Need-returns Inv-loop μ-loop
-returns c = (base-found _ _ _ (c .before .before .before .loop .inv .1) (omega arith) (omega arith) (c .if1 .taken), omega arith)
+returns c = (search base-found, omega arith)
 
 sub-i : tie.Need-sub-i Inv-loop μ-loop
 sub-i c = omega arith
@@ -33,10 +40,10 @@ loop-less : tie.Need-loop-less Inv-loop μ-loop
 loop-less c = omega arith
 
 loop-again : tie.Need-loop-again Inv-loop μ-loop
-loop-again c = let l = c .before .before .before .loop in let s = c .before .before .before .before .args .path .now in (omega arith, base-pass s (l .i) _ (l .inv .1) (omega arith) (omega arith) (c .if1 .left))
+loop-again c = (omega arith, search base-pass)
 
 returns-2 : tie.Need-returns-2 Inv-loop μ-loop
-returns-2 c = let l = c .before .loop in let s = c .before .before .args .path .now in (base-none s (l .i) _ (l .inv .1) (omega arith), omega arith)
+returns-2 c = (search base-none, omega arith)
 
 pub base-start-spec : {M : Type 1} → statement M
 base-start-spec =
@@ -44,9 +51,11 @@ base-start-spec =
     (tie.spec
     Inv-loop
     μ-loop
+    is-windows-requires
     loop-holds
-    sub-if1
-    shared-slice-read-if1
+    sub-splits-at
+    shared-slice-read-splits-at
+    splits-at-requires
     returns
     sub-i
     loop-less
