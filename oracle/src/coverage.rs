@@ -11,6 +11,7 @@ use crate::files::Source;
 use crate::grammar::field;
 use crate::judge::judged;
 use crate::model::{AddressRange, Function, InlineNode, LineEntry};
+use crate::output::files;
 use crate::stand_in::gimli::{
     AttributeValue, DebugInfoOffset, Dwarf, EntryData, Format, LineProgramHeader, RowKind, Slice, UnitData, UnitOffset,
 };
@@ -41,6 +42,13 @@ rules! {
     PaddedWith81: "E2: a tenth byte of 81 refused with 10",
     PaddedWith80: "E2: a tenth byte of 80 refused with 11",
     PaddedWithFf: "E2: a tenth byte of ff refused with 11",
+    DriveKept: "E3: the separator that closes the drive kept",
+    BackslashesKept: "E3: the leading two backslashes kept",
+    SeparatorDropped: "E3: the separator before the basename dropped",
+    NoFile: "E3: a Windows path that ends in a separator is no file",
+    BelowCompilation: "E3: a Windows path below the compilation directory",
+    OneNumber: "E3: two Windows paths with one number",
+    NoLetter: "E3: a colon behind no letter, left as before",
     Sorted: "rows: sorted by address",
     Stable: "rows: of one address in their order, not by line",
     ExactNeighbours: "rows: exact neighbours drop",
@@ -149,6 +157,7 @@ fn examine(case: &Case, counts: &mut Counts, reached: &mut Reached) -> Result<()
     if let Some(header) = &unit.lines {
         skipping(header, reached);
         sorting(unit, header, &rows.0, reached);
+        requests::windows_paths(unit, header, files(&imported.builder), reached);
     }
     reached.hit(Rule::MissingFile, kinds[6] == 1);
     tombstones(unit, &events, reached);

@@ -1,5 +1,5 @@
 //! The cases of document 01's "Operands, paths and a printed import", each as an import, with the listing that
-//! it must print.
+//! it must print; that of a Windows path is request E3's.
 
 use crate::case::Case;
 use crate::compose::*;
@@ -25,7 +25,7 @@ pub fn cases() -> Vec<Shown> {
         ("00 01 01 01 00 01 01 has sequence 47", lines(&[0, 1, 1, 1, 0, 1, 1], 2, 47), read(20)),
         ("/a.c is \"/\", \"a.c\"", path(b"/a.c"), "file 1 / a.c\nstats 0 0 0 0\n".to_owned()),
         ("a/ is no file", path(b"a/"), "stats 0 0 0 0\n".to_owned()),
-        ("C:\\b.c has no directory", path(b"C:\\b.c"), "file 1  C:\\b.c\nstats 0 0 0 0\n".to_owned()),
+        ("C:\\b.c is \"C:\\\", \"b.c\", as E3 has it", path(b"C:\\b.c"), "file 1 C:\\ b.c\nstats 0 0 0 0\n".to_owned()),
         ("s/b.c is \"/w/s\", \"b.c\"", path(b"s/b.c"), "file 1 /w/s b.c\nstats 0 0 0 0\n".to_owned()),
     ];
     for (name, size, listing) in [
@@ -93,7 +93,7 @@ fn read(line: u32) -> String {
 }
 
 /// A file of directory 0 in version 4, the compilation directory being /w.
-fn path(path: &[u8]) -> Case {
+pub fn path(path: &[u8]) -> Case {
     let mut main = Fields::default();
     main.unit(0, 100, 5, 4).compilation_directory(b"/w").header(0, 32, 4, 4, 13, &OPCODE_LENGTHS).file(0, 0, path);
     call(main, &[])

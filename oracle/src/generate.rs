@@ -60,13 +60,14 @@ struct Entry {
 fn sound(random: &mut Random) -> Case {
     // How often odd things stand in it: tidy inputs reach deep, odd ones wide.
     let odd = random.pick(&[0, 1, 1, 4, 10]);
+    let windows = windows(random);
     let supplementary = if random.chance(45) { units(random, odd) } else { Vec::new() };
     let main = units(random, odd);
     let ordinal = if random.chance(odd) { random.below(4) } else { random.below(main.len() as u64) };
     let (mut inputs, mut program) = ([Fields::default(), Fields::default()], Vec::new());
     for (number, own) in [&main, &supplementary].into_iter().enumerate() {
         for (place, unit) in own.iter().enumerate() {
-            let lines = if random.chance(85) { lines(random, odd) } else { Lines::default() };
+            let lines = if random.chance(85) { lines(random, odd, windows) } else { Lines::default() };
             Writer { random, odd, own, supplementary: &supplementary, unit }.write(&mut inputs[number], &lines);
             if number == 0 && place as u64 == ordinal {
                 program = lines.program;
@@ -297,25 +298,62 @@ fn directory(random: &mut Random) -> &'static [u8] {
     random.pick(&[b"/src".as_slice(), b"/src", b"src", b"", b"/w/", b"lib/", b"C:\\w", b"c:/w", b"\\\\h\\s", b"//h/s", b"/"])
 }
 
-fn path(random: &mut Random) -> &'static [u8] {
+/// Whether files of a case have Windows paths, which set it apart from the plain Rust: one case of eight.
+pub fn windows(random: &mut Random) -> bool {
+    random.below(8) == 0
+}
+
+fn path(random: &mut Random, windows: bool) -> &'static [u8] {
     let usual = [b"a.c".as_slice(), b"b.c", b"cue.c", b"s/b.c", b"/a.c", b"../k.c"];
     let odd = [
         b"a/".as_slice(),
         b"",
-        b"C:\\b.c",
-        b"C:/q/b.c",
         b"/x/y/z.c",
         b"//h/s.c",
-        b"\\\\h\\s\\t.c",
         b"//q.c",
         b"x\\y.c",
         b"/",
-        b"\\\\\\a/b",
+        b"\\q.c",
+        b"\\/q.c",
+        b"C:b.c",
+        b"C:q\\b.c",
+        b"1:\\b.c",
+        b"1:/q/b.c",
     ];
-    if random.chance(75) { random.pick(&usual) } else { random.pick(&odd) }
+    if windows && random.chance(60) {
+        random.pick(&WINDOWS)
+    } else if random.chance(75) {
+        random.pick(&usual)
+    } else {
+        random.pick(&odd)
+    }
 }
 
-fn lines(random: &mut Random, odd: u64) -> Lines {
+/// A file dim.c of C:\rig and one q.c of two backslashes are each written in several ways.
+const WINDOWS: [&[u8]; 20] = [
+    b"C:\\b.c",
+    b"C:/q/b.c",
+    b"C:/q.c",
+    b"C:\\q.c",
+    b"C:\\rig\\dim.c",
+    b"C:\\rig\\dim.c",
+    b"C:\\rig/dim.c",
+    b"C:\\rig/dim.c",
+    b"c:/rig\\dim.c",
+    b"C:\\rig\\\\dim.c",
+    b"C:\\rig\\",
+    b"z:/",
+    b"\\\\h\\s\\t.c",
+    b"\\\\h/s.c",
+    b"\\\\\\a/b",
+    b"\\\\q.c",
+    b"\\\\q.c",
+    b"\\\\\\q.c",
+    b"\\\\/q.c",
+    b"\\\\",
+];
+
+fn lines(random: &mut Random, odd: u64, windows: bool) -> Lines {
     let mut lines = Lines::default();
     let (version, word) = (random.between(2, 5) as u8, random.pick(&[4, 8]));
     let (mut offset, length) = (random.pick(&[0, 0, 0, 100]), random.pick(&[32, 32, 60]));
@@ -338,12 +376,12 @@ fn lines(random: &mut Random, odd: u64) -> Lines {
     }
     let number = |random: &mut Random| random.pick(&[0, 0, 1, 1, 2, 3, LAST]);
     if random.chance(50) {
-        fields.file_zero(failed(random), number(random), path(random));
+        fields.file_zero(failed(random), number(random), path(random, windows));
     }
     lines.files = random.pick(&[0, 1, 1, 2, 3, 4]);
     lines.first_file = u64::from(version < 5);
     for _ in 0..lines.files {
-        fields.file(failed(random), number(random), path(random));
+        fields.file(failed(random), number(random), path(random, windows));
     }
     let ends = rows(random, odd, &mut lines);
     let ends = if random.chance(12) { random.below(4) } else { ends };
@@ -443,7 +481,8 @@ pub fn bad_instruction(random: &mut Random) -> Vec<u8> {
 /// A case for the rows of its first unit, with few other fields, and where the sequences of its program begin.
 pub fn rows_case(random: &mut Random) -> (Case, Vec<u64>) {
     let odd = random.pick(&[0, 1, 4, 10, 20]);
-    let lines = if random.chance(96) { lines(random, odd) } else { Lines::default() };
+    let windows = windows(random);
+    let lines = if random.chance(96) { lines(random, odd, windows) } else { Lines::default() };
     let mut main = Fields::default();
     main.unit(0, 40, random.between(2, 5) as u8, random.pick(&[4, 8]));
     if random.chance(70) {
@@ -456,7 +495,7 @@ pub fn rows_case(random: &mut Random) -> (Case, Vec<u64>) {
     // A second unit, whose files and rows are none of the first's.
     if random.chance(15) {
         main.unit(40, 40, 4, 4);
-        main.0.extend(&self::lines(random, odd).fields.0);
+        main.0.extend(&self::lines(random, odd, windows).fields.0);
     }
     let mut case = Case::new(main.0, Vec::new(), lines.program);
     if random.chance(4) {

@@ -6,7 +6,7 @@ use std::path::Path;
 use crate::calls::{lines, searches};
 use crate::case::{Answer, Case};
 use crate::files::Source;
-use crate::requests::{REQUESTS, is_padded, set_apart};
+use crate::requests::{REQUESTS, is_padded, set_apart, windows_root};
 use crate::{answer, call_answers};
 
 /// The oracle's answer, of which the plain Rust has been asked; else what is wrong.
@@ -40,7 +40,8 @@ pub fn judged_lines(call: &lines::Call) -> Result<String, String> {
     let apart = match call {
         lines::Call::Rows { case, .. } => set_apart(case).contains(&true),
         lines::Call::Program { base, lengths, program, .. } => is_padded(program, lengths, *base),
-        lines::Call::Operand { .. } | lines::Call::Path(_) | lines::Call::Join(..) => false,
+        lines::Call::Path(path) => windows_root(path).is_some(),
+        lines::Call::Operand { .. } | lines::Call::Join(..) => false,
     };
     judged_text(call_answers::lines(call), plain::call_answers::lines(call), apart)
 }

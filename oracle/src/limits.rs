@@ -2,7 +2,7 @@
 
 use crate::case::Case;
 use crate::compose::*;
-use crate::generate::{bad_instruction, before_header_end, padded_advance};
+use crate::generate::{bad_instruction, before_header_end, padded_advance, windows};
 use crate::random::Random;
 
 /// Cases over 64 KiB, the same for every seed: too large ones, and as many fields as there may be.
@@ -195,7 +195,11 @@ fn strings(random: &mut Random) -> Case {
     let mut main = Fields::default();
     let chosen = random.below(7);
     let length = random.pick(&[4096, 4096, 4097]);
-    let long = vec![b'a'; length];
+    let mut long = vec![b'a'; length];
+    if windows(random) {
+        long[..3].copy_from_slice(random.pick(&[b"C:\\", b"c:/", b"\\\\\\", b"\\\\a"]));
+        long[length - 1 - random.pick(&[0, 1, 9])] = b'\\';
+    }
     let text = |place: u64| if place == chosen { long.as_slice() } else { b"b" };
     let failed = u8::from(random.chance(15));
     main.unit(0, 100, 5, 4).compilation_directory(text(0)).text(0x1000, 0x2000).header(0, 32, 4, 4, 13, &OPCODE_LENGTHS);
@@ -398,7 +402,12 @@ fn file_numbers(random: &mut Random) -> Case {
     let mut main = Fields::default();
     let files = random.between(1, 3);
     let version = random.pick(&[4, 5]);
-    let names = [b"a.c".as_slice(), b"b.c", b"a.c", b"c.c"];
+    // Two names each are one file's.
+    let names = if windows(random) {
+        [b"C:\\d\\a.c".as_slice(), b"c:/b.c", b"C:\\d/a.c", b"C:\\d\\"]
+    } else {
+        [b"a.c".as_slice(), b"b.c", b"a.c", b"c.c"]
+    };
     main.unit(0, 100, 5, 4).text(0x1000, 0x2000).header(0, 32, version, 4, 13, &OPCODE_LENGTHS);
     main.file_zero(0, 0, random.pick(&names));
     (0..files).for_each(|_| _ = main.file(0, 0, random.pick(&names)));

@@ -18,7 +18,7 @@ pub fn rows_calls(seed: u64) -> impl Iterator<Item = Call> {
     (0..).map(move |number| rows_call(&mut Random::new(seed, number)))
 }
 
-/// The cases of document 01's "Operands, paths and a printed import" that are of this layer, with its answers.
+/// The cases of document 01's "Operands, paths and a printed import" that are of this layer, with its answers; for C:\b.c request E3's.
 fn document() -> Vec<(Call, &'static str)> {
     let operand = |bytes: &[&[u8]]| Call::Operand { place: 0, program: bytes.concat() };
     let program = |bytes: &[&[u8]]| Call::Program { base: 13, lengths: OPCODE_LENGTHS.to_vec(), offset: 44, program: bytes.concat() };
@@ -37,7 +37,7 @@ fn document() -> Vec<(Call, &'static str)> {
         (program(&[&[0, 1, 1, 1, 0, 1, 1]]), "sequences 2c 2f"),
         (Call::Path(b"/a.c".to_vec()), "path /|a.c|1"),
         (Call::Path(b"a/".to_vec()), "path a||0"),
-        (Call::Path(b"C:\\b.c".to_vec()), "path |C:\\5cb.c|1"),
+        (Call::Path(b"C:\\b.c".to_vec()), "path C:\\5c|b.c|1"),
         (Call::Path(b"s/b.c".to_vec()), "path s|b.c|0"),
         (Call::Join(b"/w".to_vec(), b"s".to_vec()), "joined /w/s"),
     ]
@@ -238,7 +238,7 @@ const PIECES: [&[u8]; 22] = [
     b"\xff",
 ];
 
-const WHOLE: [&[u8]; 26] = [
+const WHOLE: [&[u8]; 34] = [
     b"",
     b"/",
     b"//",
@@ -265,11 +265,28 @@ const WHOLE: [&[u8]; 26] = [
     b"\\\\",
     b"\\s\\b",
     b"\\\\s\\",
+    b"\\\\q.c",
+    b"\\\\\\q.c",
+    b"\\\\/q.c",
+    b"C:\\rig\\dim.c",
+    b"c:/rig\\dim.c",
+    b"C:\\rig\\\\dim.c",
+    b"C:\\rig\\",
+    b"1:\\b.c",
 ];
 
+/// Bytes that begin a Windows path, or might; and a few others.
+pub const DRIVES: [u8; 9] = *b"Cc1:\\/.x\0";
+
 fn path(random: &mut Random) -> Vec<u8> {
-    if random.chance(35) {
-        return random.pick(&WHOLE).to_vec();
+    match random.below(10) {
+        0..3 => return random.pick(&WHOLE).to_vec(),
+        3..5 => {
+            let start = random.pick(&[b"".as_slice(), b"C:\\", b"c:/", b"1:\\", b"C:", b"\\\\"]);
+            let rest = (0..random.between(0, 6)).map(|_| random.pick(&DRIVES)).collect::<Vec<u8>>();
+            return [start, &rest].concat();
+        }
+        _ => {}
     }
     (0..random.below(7)).flat_map(|_| random.pick(&PIECES)).copied().collect()
 }
@@ -338,6 +355,16 @@ mod tests {
         let reached: BTreeSet<String> = otherwise.filter(|call| call.bytes()[0] == 2).map(|call| shape(&lines(call))).collect();
         for answer in ["sequences", "sequences 1", "sequences 2", "refused 10", "refused 11"] {
             assert!(reached.contains(answer), "no call answers {answer} where the plain Rust answers otherwise");
+        }
+    }
+
+    /// Splits that the plain Rust does not make, with the directory's last byte.
+    #[test]
+    fn every_answer_of_e3_is_reached() {
+        let paths = calls(1).take(2000).filter(|call| call.bytes()[0] == 3 && lines(call) != plain::call_answers::lines(call));
+        let answers: Vec<String> = paths.map(|call| lines(&call)).collect();
+        for part in ["path C:\\5c|", "path c:/|", "path \\5c\\5c|", "path C:\\5crig|dim.c|1", "||1", "|q.c|0"] {
+            assert!(answers.iter().any(|answer| answer.contains(part)), "no path is split as {part} where the plain Rust splits otherwise");
         }
     }
 

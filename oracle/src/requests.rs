@@ -4,13 +4,13 @@
 use crate::answer::inputs;
 use crate::case::Case;
 use crate::error::{Error, Result};
-use crate::stand_in::gimli::{Dwarf, Slice};
+use crate::stand_in::gimli::{AttributeValue, Dwarf, Slice};
 
 /// Whether a request is about what an import of the unit of this number reads.
 type Concerns = fn(&Dwarf<Slice<'_>>, usize) -> bool;
 
 /// The requests that alter answers.
-pub const REQUESTS: [(&str, Concerns); 1] = [("E2", pads_advance)];
+pub const REQUESTS: [(&str, Concerns); 2] = [("E2", pads_advance), ("E3", has_windows_path)];
 
 /// For each request whether it sets a case apart. An input that the grammar refuses is none's.
 pub fn set_apart(case: &Case) -> [bool; REQUESTS.len()] {
@@ -117,4 +117,34 @@ fn unsigned(bytes: &[u8]) -> Option<(u64, &[u8])> {
     let (operand, rest) = bytes.split_at(last + 1);
     let value = operand.iter().rev().fold(0_u128, |value, byte| value << 7 | u128::from(byte & 0x7f));
     Some((u64::try_from(value).ok()?, rest))
+}
+
+// ---- E3: Windows-built plug-ins
+
+/// How long the root is of a path that the request splits: a drive letter, colon and separator, or two backslashes.
+pub fn windows_root(path: &[u8]) -> Option<usize> {
+    match path {
+        [letter, b':', separator, ..] if letter.is_ascii_alphabetic() && is_separator(*separator) => Some(3),
+        [b'\\', b'\\', ..] => Some(2),
+        _ => None,
+    }
+}
+
+fn is_separator(byte: u8) -> bool {
+    matches!(byte, b'/' | b'\\')
+}
+
+/// Directory and basename of such a path: it is split at its last separator, which is dropped unless it ends the root.
+pub fn split_windows(path: &[u8]) -> Option<(&[u8], &[u8])> {
+    let root = windows_root(path)?;
+    let (before, basename) = path.split_at(path.iter().rposition(|byte| is_separator(*byte))? + 1);
+    let directory = if before.len() > root { &before[..before.len() - 1] } else { before };
+    Some((directory, basename))
+}
+
+/// Whether a file of any unit has such a path. A failed one has no path.
+fn has_windows_path(dwarf: &Dwarf<Slice<'_>>, _: usize) -> bool {
+    let units = dwarf.units.iter().chain(dwarf.sup().into_iter().flat_map(|sup| &sup.units));
+    let mut files = units.filter_map(|unit| unit.lines.as_ref()).flat_map(|header| header.file_zero.iter().chain(&header.files));
+    files.any(|file| matches!(file.path, AttributeValue::String(path) if windows_root(path.0).is_some()))
 }

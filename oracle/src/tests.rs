@@ -3,7 +3,11 @@
 use crate::calls::lines::Call;
 use crate::case::Case;
 use crate::compose::*;
+use crate::convert::dwarf::lines::parts;
+use crate::line_cases::DRIVES;
+use crate::listing::listing;
 use crate::output::field;
+use crate::requests::split_windows;
 use crate::{answer, call_answers, document};
 
 /// The refusal of a main input; work and buffers are long enough.
@@ -155,5 +159,84 @@ fn of_tenth_byte(fill: u8, tenth: u8) -> String {
         (false, _) => "refused 10".to_owned(),
         (true, true) => "refused 11".to_owned(),
         (true, false) => "sequences 2c".to_owned(),
+    }
+}
+
+/// Every path of up to five of these bytes: split by E3's words where it begins as they say, else as the plain Rust does it.
+#[test]
+fn short_paths() {
+    let is_separator = |byte: &u8| matches!(byte, b'/' | b'\\');
+    let (mut paths, mut count) = (vec![Vec::new()], 0);
+    for length in 0..=5 {
+        for path in &paths {
+            let root = match &path[..] {
+                [b'C' | b'c' | b'x', b':', b'/' | b'\\', ..] => Some(3),
+                [b'\\', b'\\', ..] => Some(2),
+                _ => None,
+            };
+            let (directory, basename, _) = parts(path);
+            let [ours, plain] = [call_answers::lines, plain::call_answers::lines].map(|answer| answer(&Call::Path(path.clone())));
+            // Whether it is absolute is none of the request's.
+            assert_eq!(ours.chars().last(), plain.chars().last(), "{path:?}");
+            assert_eq!(split_windows(path).is_some(), root.is_some(), "{path:?}");
+            if let Some(root) = root {
+                assert_eq!(split_windows(path), Some((directory, basename)), "{path:?}");
+                assert!(!basename.iter().any(is_separator), "{path:?}");
+                let between = &path[directory.len()..path.len() - basename.len()];
+                match between {
+                    [] => assert_eq!(directory.len(), root, "{path:?}"),
+                    [separator] => assert!(is_separator(separator) && directory.len() >= root, "{path:?}"),
+                    _ => panic!("{path:?}"),
+                }
+                assert_eq!([directory, between, basename].concat(), *path);
+            } else {
+                assert_eq!(ours, plain, "{path:?}");
+            }
+        }
+        count += paths.len();
+        if length < 5 {
+            paths = paths.iter().flat_map(|path| DRIVES.map(|byte| [path.as_slice(), &[byte]].concat())).collect();
+        }
+    }
+    assert_eq!(count, 66_430);
+}
+
+/// Files of directory 0 in version 4, the compilation directory being /w: their directory and basename, by E3's words.
+#[test]
+fn windows_files() {
+    for (path, file) in [
+        ("C:\\x.c", Some("C:\\ x.c")),
+        ("C:/x.c", Some("C:/ x.c")),
+        ("c:\\a\\x.c", Some("c:\\a x.c")),
+        ("C:\\a/x.c", Some("C:\\a x.c")),
+        ("C:/a\\x.c", Some("C:/a x.c")),
+        ("C:\\a\\\\x.c", Some("C:\\a\\ x.c")),
+        ("C:\\\\x.c", Some("C:\\ x.c")),
+        ("C:\\", None),
+        ("C:/", None),
+        ("C:\\a\\", None),
+        ("\\\\", None),
+        ("\\\\h\\", None),
+        ("\\\\h\\s\\x.c", Some("\\\\h\\s x.c")),
+        ("\\\\h\\x.c", Some("\\\\h x.c")),
+        // No shares, so below the compilation directory.
+        ("\\\\x.c", Some("/w/\\\\ x.c")),
+        ("\\\\\\x.c", Some("/w/\\\\ x.c")),
+        ("\\\\/x.c", Some("/w/\\\\ x.c")),
+        // As before.
+        ("C:x.c", Some("/w C:x.c")),
+        ("1:\\x.c", Some(" 1:\\x.c")),
+        ("@:\\x.c", Some(" @:\\x.c")),
+        ("[:\\x.c", Some(" [:\\x.c")),
+        ("\\x.c", Some("/w \\x.c")),
+        ("a\\x.c", Some("/w a\\x.c")),
+        ("\\/x.c", Some("/w/\\ x.c")),
+        ("//h/x.c", Some("//h x.c")),
+        ("/C:\\x.c", Some("/ C:\\x.c")),
+    ] {
+        let case = document::path(path.as_bytes());
+        let printed = String::from_utf8(listing(&answer(&case), 1)).unwrap();
+        let file = file.map_or(String::new(), |file| format!("file 1 {file}\n"));
+        assert_eq!(printed, format!("{file}stats 0 0 0 0\n"), "{path}");
     }
 }

@@ -1,8 +1,9 @@
 //! What of the change requests the cases reach, judged by the requests' own words.
 
-use super::{Reached, Rule};
+use super::{Data, Reached, Rule, Value};
+use crate::model::FileEntry;
 use crate::requests::advances;
-use crate::stand_in::gimli::{LineProgramHeader, Slice};
+use crate::stand_in::gimli::{FileEntry as GimliFile, LineProgramHeader, Slice};
 
 /// E2: opcode 3 on the way through a program, up to the fault that refuses it or the first operand that the request is about.
 pub fn advance_line(header: &LineProgramHeader<Slice<'_>>, refusal: u8, reached: &mut Reached) {
@@ -21,5 +22,66 @@ pub fn advance_line(header: &LineProgramHeader<Slice<'_>>, refusal: u8, reached:
             _ => continue,
         };
         reached.hit(rule, true);
+    }
+}
+
+/// E3: a Windows path of a file: its root's length, the bytes up to its last separator, what follows them.
+struct Windows<'p> {
+    root: usize,
+    before: &'p [u8],
+    name: &'p [u8],
+    /// The number of the file's directory.
+    directory: u64,
+}
+
+impl<'p> Windows<'p> {
+    fn of(file: &GimliFile<Slice<'p>>) -> Option<Self> {
+        let Value::String(Slice(path)) = file.path else { return None };
+        let root = match path {
+            [b'A'..=b'Z' | b'a'..=b'z', b':', b'/' | b'\\', ..] => 3,
+            [b'\\', b'\\', ..] => 2,
+            _ => return None,
+        };
+        let last = path.iter().rposition(|byte| matches!(byte, b'/' | b'\\'))?;
+        let (before, name) = path.split_at(last + 1);
+        Some(Self { root, before, name, directory: file.directory })
+    }
+
+    fn ends_its_root(&self) -> bool {
+        self.before.len() == self.root
+    }
+
+    /// What of it is the file's directory.
+    fn kept(&self) -> &'p [u8] {
+        if self.ends_its_root() { self.before } else { &self.before[..self.before.len() - 1] }
+    }
+}
+
+/// The paths of an imported unit's files, and how they stand in the file table.
+pub fn windows_paths(unit: &Data<'_>, header: &LineProgramHeader<Slice<'_>>, table: &[FileEntry], reached: &mut Reached) {
+    let own: &[u8] = unit.directory.map_or(b"", |own| own.0);
+    let windows: Vec<Windows<'_>> = header.files.iter().filter_map(Windows::of).collect();
+    for (place, path) in windows.iter().enumerate() {
+        let (kept, ends) = (path.kept(), path.ends_its_root());
+        // How many files of the table have its basename and such a directory.
+        let stand =
+            |test: &dyn Fn(&[u8]) -> bool| table.iter().filter(|entry| entry.basename == path.name && test(&entry.directory)).count();
+        let (alone, behind) = (stand(&|directory| directory == kept), stand(&|directory| directory.ends_with(kept)));
+        reached.hit(Rule::NoFile, path.name.is_empty());
+        reached.hit(Rule::DriveKept, path.root == 3 && ends && alone == 1);
+        reached.hit(Rule::BackslashesKept, path.root == 2 && ends && behind > 0);
+        reached.hit(Rule::SeparatorDropped, !ends && behind > 0);
+        let below = [own, b"/", kept].concat();
+        reached.hit(Rule::BelowCompilation, path.root == 2 && !own.is_empty() && stand(&|directory| directory == below) == 1);
+        // A path with a drive is absolute: its directory's number does not count.
+        let beside = |other: &Windows<'_>| path.root == 3 || other.directory == path.directory;
+        let same = |other: &Windows<'_>| (other.kept(), other.name) == (kept, path.name) && beside(other);
+        let twice = windows[..place].iter().any(|other| other.before != path.before && same(other));
+        reached.hit(Rule::OneNumber, twice && behind == 1);
+    }
+    for file in &header.files {
+        let Value::String(Slice(path)) = file.path else { continue };
+        let drive = matches!(path, [letter, b':', b'\\', ..] if !letter.is_ascii_alphabetic()) && !path.contains(&b'/');
+        reached.hit(Rule::NoLetter, drive && table.iter().any(|entry| entry.basename == path && entry.directory.is_empty()));
     }
 }
