@@ -17,7 +17,18 @@ pub mod dwarf {
     mod dies {
         use crate::stand_in::gimli;
         text!("convert/dwarf/dies.rs");
+
+        /// A door to coalesce_ranges.
+        #[cfg(test)]
+        pub(crate) fn merged(ranges: &[AddressRange]) -> Vec<AddressRange> {
+            let mut ranges = ranges.to_vec();
+            coalesce_ranges(&mut ranges);
+            ranges
+        }
     }
+
+    #[cfg(test)]
+    pub(crate) use dies::merged;
 
     pub(crate) mod lines {
         use crate::stand_in::gimli;

@@ -90,6 +90,8 @@ pub mod limits;
 pub mod line_cases;
 #[cfg(not(feature = "plain"))]
 pub mod listing;
+#[cfg(all(test, not(feature = "plain")))]
+mod merging;
 #[cfg(not(feature = "plain"))]
 mod random;
 #[cfg(not(any(feature = "plain", faulty_requests)))]

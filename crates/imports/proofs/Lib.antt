@@ -1,4 +1,6 @@
 pub mod RangeLaws
+pub mod Remerging
+pub mod RemergeExamples
 pub mod StackMachine
 pub mod ListAgree
 pub mod KeepLaws

@@ -1,4 +1,5 @@
 pub mod Ranges
+pub mod Remerging
 pub mod Tree
 pub mod Import
 pub mod Answer
