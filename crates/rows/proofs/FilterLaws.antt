@@ -1,7 +1,7 @@
 -- What is kept of a list, and the first, the last and some element that pass a test: of lists put together, and where no element passes. Assumes nothing.
 use mathlib.Core.Path.{_≡_, refl, sym, ap, _∙_}
 use mathlib.Core.Bool.{Bool, true, false, cond}
-use mathlib.Core.List.{List, [], _∷_, _++_, append-nil}
+use mathlib.Core.List.{List, [], _∷_, _++_}
 use mathlib.Core.Option.{Option, none, some}
 use Prim.Native.Nat.{ℕ}
 use lib.ListN.{take, drop, take-append-drop}
@@ -18,35 +18,11 @@ or-else-none none = refl
 or-else-none (some a) = refl
 
 module _ {A : Type 0} where
-  -- tests that agree on every element keep the same
-  pub filter-same : (p q : A → Bool) (xs : List A) → All (λ x. p x ≡ q x) xs → filter p xs ≡ filter q xs
-  unfolding filter
-  filter-same p q [] h = refl
-  filter-same p q (x ∷ xs) h = rw (h .0, filter-same p q xs (h .1))
-
   module _ (p : A → Bool) where
-    pub filter-append : (xs ys : List A) → filter p (xs ++ ys) ≡ filter p xs ++ filter p ys
-    unfolding filter
-    filter-append [] ys = refl
-    filter-append (x ∷ xs) ys = rw (filter-append xs ys) (go (p x))
-      where
-        go : (b : Bool) → cond b (x ∷ (filter p xs ++ filter p ys)) (filter p xs ++ filter p ys) ≡ cond b (x ∷ filter p xs) (filter p xs) ++ filter p ys
-        go true = refl
-        go false = refl
-
     pub filter-none : (xs : List A) → All (λ x. p x ≡ false) xs → filter p xs ≡ []
     unfolding filter
     filter-none [] h = refl
     filter-none (x ∷ xs) h = rw (h .0) (filter-none xs (h .1))
-
-    -- no element at the front passes
-    pub filter-skip : (i : ℕ) (xs : List A) → All (λ x. p x ≡ false) (take i xs) → filter p xs ≡ filter p (drop i xs)
-    filter-skip i xs h = ap (filter p) (sym (take-append-drop i xs)) ∙ filter-append (take i xs) (drop i xs) ∙ rw (filter-none (take i xs) h)
-
-    -- no element from one on passes
-    pub filter-take : (i : ℕ) (xs : List A) → All (λ x. p x ≡ false) (drop i xs) → filter p xs ≡ filter p (take i xs)
-    filter-take i xs h =
-        ap (filter p) (sym (take-append-drop i xs)) ∙ filter-append (take i xs) (drop i xs) ∙ rw (filter-none (drop i xs) h) (append-nil (filter p (take i xs)))
 
     pub last-append : (xs ys : List A) → last p (xs ++ ys) ≡ orElse (last p ys) (last p xs)
     unfolding last

@@ -17,14 +17,16 @@ use Rattle.tlv.specs.Table.{chunk, tab, records, Kept}
 use Rattle.tlv.proofs.ChunkLaws.{leAt-front}
 use Rattle.tlv.proofs.TableLaws.{kept-refl, kept-trans, kept-wide}
 use Rattle.tlv.proofs.RecordLaws.{records-nil, records-rest-cons, records-add, records-kept}
-use Rattle.lines.specs.Rows.{compactLineRows, earlierRow, startsLate, sequenceExists, selectedSequence, rowsFor, forRange}
+use Rattle.lines.specs.Rows.{compactLineRows, ownRows, earlierRow, startsLate, sequenceExists, selectedSequence, rowsFor, forRange}
 use Rattle.rows.specs.declared.line.StatementSequence.{StatementSequence}
 use Rattle.rows.specs.declared.«unit_lines».StoredLines.{StoredLines}
 use Rattle.rows.specs.declared.«unit_lines».Earlier.{Earlier}
+use Rattle.rows.specs.declared.«unit_lines».OwnRows.{OwnRows}
 use Rattle.rows.specs.declared.«unit_lines».Rows.{Rows}
 use Rattle.rows.specs.Stored.{sequenceOf, entryOf, entriesOf, lineOf, linesOf, rangeOf, rangesOf, PutEntry}
 use Rattle.rows.specs.Sorts.{Compacted}
 use Rattle.rows.specs.Selects.{unitLinesOf, RowsIn, Owned, earlierOf, Fronted, ForRange}
+use Rattle.rows.proofs.FrontLaws.{same-rows}
 
 -- ---- rows that start late
 
@@ -98,16 +100,20 @@ unfolding entriesOf records tab
 empty-entries w p zero = sym (eq-eqb zero 0 refl)
 empty-entries w p (suc n) = sym (ne-eqb (suc n) 0 (λ e. omega arith))
 
-module _ {w w₁ w₂ w₃ : List ℕ} {l : StoredLines} {r : AddressRange} (requested asked : StatementSequence) {exists : Bool} {count left : ℕ} {f : Rows}
+module _ {w w₁ w₂ w₃ : List ℕ} {l : StoredLines} {r : AddressRange} (requested asked : StatementSequence) {exists : Bool} {own : OwnRows} {left : ℕ} {f : Rows}
     (R : RowsIn w l) (E : exists ≡ sequenceExists (unitLinesOf w l) (sequenceOf requested)) (S : sequenceOf asked ≡ cond exists (sequenceOf requested) none)
-    (O : Owned w w₁ l r asked (l .buffer + 16) count) (F : Fronted w₁ w₂ l r asked count f) (C : Compacted w₂ w₃ (f .rows) (f .count) left) where
+    (O : Owned w w₁ l r asked (l .buffer + 16) own) (F : Fronted w₁ w₂ l r asked (own .count) f) (C : Compacted w₂ w₃ (f .rows) (f .count) left) where
   selected : sequenceOf asked ≡ selectedSequence (unitLinesOf w l) (sequenceOf requested)
   unfolding selectedSequence
   selected = S ∙ ap (λ (b : Bool). cond b (sequenceOf requested) none) E
 
+  own-are : entriesOf w₁ (l .buffer + 16) (own .count) ≡ ownRows (unitLinesOf w l) r (sequenceOf asked)
+  unfolding unitLinesOf
+  own-are = O .rows ∙ same-rows (unitLinesOf w l) r (sequenceOf asked) (R .sorted)
+
   rows-are : entriesOf w₃ (f .rows) left ≡ rowsFor (unitLinesOf w l) r (sequenceOf asked)
   unfolding rowsFor
-  rows-are = C .rows ∙ ap compactLineRows (F .rows) ∙ rw (O .rows, unit-same (O .rest) R)
+  rows-are = C .rows ∙ ap compactLineRows (F .rows) ∙ rw (own-are, unit-same (O .rest) R)
 
   rows-for : entriesOf w₃ (f .rows) left ≡ forRange (unitLinesOf w l) r (sequenceOf requested) .rows
   unfolding forRange

@@ -47,20 +47,11 @@ module _ (a : ℕ) where
         let rest = not-above xs i (omega arith) g in
         by-less _ (x .entry .address) a (λ l. rw (lt-ltb (x .entry .address) a l) (omega arith)) (λ l. rw (le-ltb (x .entry .address) a l) (omega arith))
 
-  -- the leading rows are below a
-  pub all-below : (xs : List SequencedLine) → All (λ x. x .entry .address < a) (take (leading a xs) xs)
-  unfolding leading
-  all-below [] = tt
-  all-below (x ∷ xs) =
-      by-less _ (x .entry .address) a
-      (λ l. rw (lt-ltb (x .entry .address) a l) (l, all-below xs))
-      (λ l. rw (le-ltb (x .entry .address) a l) tt)
-
-  sorted-all : (k : ℕ) (xs : List SequencedLine) → Sorted k xs → a ≤ k → All (λ x. a ≤ x .entry .address) xs
+  pub sorted-all : (k : ℕ) (xs : List SequencedLine) → Sorted k xs → a ≤ k → All (λ x. a ≤ x .entry .address) xs
   sorted-all k [] s h = tt
   sorted-all k (x ∷ xs) s h = let first = s .0 in (omega arith, sorted-all (x .entry .address) xs (s .1) (omega arith))
 
-  -- those past them are not
+  -- the rows past the leading ones are not below a
   pub all-from : (k : ℕ) (xs : List SequencedLine) (i : ℕ) → Sorted k xs → leading a xs ≤ i → All (λ x. a ≤ x .entry .address) (drop i xs)
   unfolding leading
   all-from k [] i s h = rw drop-nil tt

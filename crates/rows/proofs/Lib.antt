@@ -6,6 +6,8 @@ pub mod DropLaws
 pub mod SameLaws
 pub mod LeadingLaws
 pub mod FilterLaws
+pub mod FrontLaws
+pub mod FrontExamples
 pub mod OwnRowLaws
 pub mod SequenceLaws
 pub mod EarlierLaws

@@ -1,147 +1,142 @@
--- A range's rows of one sequence: among sorted rows they are in one stretch, and the loop that copies them from there. Assumes nothing.
+-- The loop that copies a range's own rows from the front of the table on. Assumes nothing.
 use mathlib.Core.Path.{_≡_, refl, sym, ap, _∙_}
 use mathlib.Core.Bool.{Bool, true, false, _&&_}
 use mathlib.Core.Logic.{inl}
-use mathlib.Core.List.{List, [], _∷_, _++_, map, append-assoc, append-nil}
+use mathlib.Core.List.{List, [], _∷_, _++_, append-assoc, append-nil}
 use mathlib.Core.Option.{Option}
-use Prim.Native.Nat.{ℕ, _+_, _-_, _*_, _≤_, _<_}
+use Prim.Native.Nat.{ℕ, suc, _+_, _*_, _≤_, _<_}
 use native.Mathlib.Omega.{arith}
-use lib.ListN.{length, take, drop}
-use lib.Seq.{drop-drop}
+use lib.ListN.{length, drop}
 use lib.Dec.{leb}
-use borrow.Author.Tests.{lt-ltb, le-ltb, le-leb, lt-leb}
+use borrow.Author.Tests.{lt-leb, le-leb}
 use Rattle.tlv.specs.declared.model.AddressRange.{AddressRange}
-use Rattle.tlv.specs.declared.model.LineEntry.{LineEntry}
-use Rattle.tlv.specs.Lists.{All, filter}
 use Rattle.tlv.specs.Table.{chunk, Kept, CopiedBytes}
-use Rattle.tlv.proofs.ListLaws.{all-map, all-take, all-drop}
-use Rattle.tlv.proofs.WidthLaws.{drop-take}
 use Rattle.tlv.proofs.TableLaws.{kept-refl, kept-trans, kept-wide}
 use Rattle.tlv.proofs.RecordLaws.{records-nil, records-copy-push}
 use Rattle.lines.specs.Lines.{SequencedLine}
-use Rattle.lines.specs.Rows.{contains, belongs, ownRows}
+use Rattle.lines.specs.Rows.{belongs}
 use Rattle.rows.specs.declared.line.StatementSequence.{StatementSequence}
 use Rattle.rows.specs.declared.«unit_lines».StoredLines.{StoredLines}
 use Rattle.rows.specs.Stored.{sequenceOf, storedSequence, entryOf, entriesOf, lineAt, linesOf}
-use Rattle.rows.specs.Sorts.{Sorted, leading}
-use Rattle.rows.specs.Selects.{unitLinesOf, RowsIn, Owned}
-use Rattle.rows.proofs.LeadingLaws.{leading-most, all-below, all-from}
-use Rattle.rows.proofs.FilterLaws.{filter-same, filter-skip, filter-take}
-use Rattle.rows.proofs.StoredLaws.{sequence-kept, line-sequence, line-entry, lines-rest-cons, lines-rest-none, lines-take}
+use Rattle.rows.specs.Front.{FrontRows, frontRows}
+use Rattle.rows.specs.Selects.{RowsBelow, Owned}
+use Rattle.rows.proofs.LeadingLaws.{leading-most}
+use Rattle.rows.proofs.FrontLaws.{front-ends, front-takes, front-skips, front-below}
+use Rattle.rows.proofs.StoredLaws.{sequence-kept, line-kept, line-sequence, line-entry, lines-rest-cons, lines-rest-none}
 
-abbrev pub ofSequence : Option ℕ → SequencedLine → Bool
-ofSequence s = λ x. belongs s (x .statementSequence)
+-- ---- the test of a row
 
-abbrev pub inRange : AddressRange → Option ℕ → SequencedLine → Bool
-inRange r s = λ x. contains r (x .entry .address) && belongs s (x .statementSequence)
+pub takes-not : {address start : ℕ} (b : Bool) → address < start → false ≡ (leb start address && b)
+takes-not {address} {start} b h = rw (lt-leb start address h)
 
--- ---- the stretch: from the first row that is not below the start to before the first that is not below the end
-
-module _ (r : AddressRange) (s : Option ℕ) where
-  too-low : (x : SequencedLine) → x .entry .address < r .start → inRange r s x ≡ false
-  unfolding contains
-  too-low x h = rw (lt-leb (r .start) (x .entry .address) h)
-
-  too-high : (x : SequencedLine) → r .end ≤ x .entry .address → inRange r s x ≡ false
-  unfolding contains
-  too-high x h = rw (le-ltb (x .entry .address) (r .end) h) (neither (leb (r .start) (x .entry .address)))
-    where
-      neither : (b : Bool) → ((b && false) && belongs s (x .statementSequence)) ≡ false
-      neither true = refl
-      neither false = refl
-
-  within : (x : SequencedLine) → r .start ≤ x .entry .address → x .entry .address < r .end → inRange r s x ≡ ofSequence s x
-  unfolding contains
-  within x h g = rw (le-leb (r .start) (x .entry .address) h, lt-ltb (x .entry .address) (r .end) g)
-
-  all-within : (xs : List SequencedLine) → All (λ x. r .start ≤ x .entry .address) xs → All (λ x. x .entry .address < r .end) xs → All (λ x. inRange r s x ≡ ofSequence s x) xs
-  all-within [] h g = tt
-  all-within (x ∷ xs) h g = (within x (h .0) (g .0), all-within xs (h .1) (g .1))
-
-  module _ (k : ℕ) (xs : List SequencedLine) (t : Sorted k xs) where
-    -- what is kept of the sorted rows is what is kept of the stretch
-    pub stretch : filter (inRange r s) xs ≡ filter (ofSequence s) (drop (leading (r .start) xs) (take (leading (r .end) xs) xs))
-    stretch =
-        let i : ℕ = leading (r .start) xs in
-        let j : ℕ = leading (r .end) xs in
-        let high : All (λ x. r .end ≤ x .entry .address) (drop (j - i) (drop i xs)) = rw (drop-drop (j - i) i xs) (all-from (r .end) k xs (i + (j - i)) t (omega arith)) in
-        let from : All (λ x. r .start ≤ x .entry .address) (drop i (take j xs)) = rw (drop-take i j xs) (all-take (λ x. r .start ≤ x .entry .address) (j - i) (drop i xs) (all-from (r .start) k xs i t (omega arith))) in
-        filter-skip (inRange r s) i xs (all-map (take i xs) too-low (all-below (r .start) xs))
-        ∙ filter-take (inRange r s) (j - i) (drop i xs) (all-map (drop (j - i) (drop i xs)) too-high high)
-        ∙ ap (filter (inRange r s)) (sym (drop-take i j xs))
-        ∙ filter-same (inRange r s) (ofSequence s) (drop i (take j xs)) (all-within (drop i (take j xs)) from (all-drop (λ x. x .entry .address < r .end) i (take j xs) (all-below (r .end) xs)))
+pub takes-by : (asked : Option ℕ) (w : List ℕ) (p : ℕ) {address start : ℕ} {own : Option ℕ} {t : Bool}
+    → start ≤ address → own ≡ storedSequence w p → t ≡ belongs asked own → t ≡ (leb start address && belongs asked (storedSequence w p))
+takes-by asked w p {address} {start} h q e = rw (le-leb start address h) (e ∙ ap (belongs asked) q)
 
 -- ---- the loop
 
--- rows first to before i of the `past` rows were looked at, and `count` of them copied
-pub record Owning (w₀ w : List ℕ) (l : StoredLines) (asked : StatementSequence) (to first past i count : ℕ) : Type 0 where
-  pub end : past ≤ l .«line_count»
+-- what the loop gives from row i on, behind the `count` rows copied so far, is what it gives from the front
+pub record Owning (w₀ w : List ℕ) (l : StoredLines) (range : AddressRange) (asked : StatementSequence) (to i count : ℕ) : Type 0 where
   pub most : i ≤ l .«line_count»
   pub few : count ≤ i
-  pub rows : entriesOf w to count ++ map (λ x. x .entry) (filter (ofSequence (sequenceOf asked)) (drop i (linesOf w₀ (l .lines) past)))
-      ≡ map (λ x. x .entry) (filter (ofSequence (sequenceOf asked)) (drop first (linesOf w₀ (l .lines) past)))
+  pub rows : entriesOf w to count ++ frontRows range (sequenceOf asked) (drop i (linesOf w₀ (l .lines) (l .«line_count»))) .rows
+      ≡ frontRows range (sequenceOf asked) (linesOf w₀ (l .lines) (l .«line_count»)) .rows
+  pub past : i + frontRows range (sequenceOf asked) (drop i (linesOf w₀ (l .lines) (l .«line_count»))) .past
+      ≡ frontRows range (sequenceOf asked) (linesOf w₀ (l .lines) (l .«line_count»)) .past
   pub rest : Kept w₀ w to (l .«line_count» * 16)
   pub size : length w ≡ length w₀
 
-module _ {w₀ : List ℕ} {l : StoredLines} (r : AddressRange) {asked : StatementSequence} {to first past : ℕ}
-    (f : first ≡ leading (r .start) (linesOf w₀ (l .lines) (l .«line_count»))) (p : past ≡ leading (r .end) (linesOf w₀ (l .lines) (l .«line_count»))) where
-  pub own-start : Owning w₀ w₀ l asked to first past first 0
-  unfolding entriesOf
-  own-start = record {
-    end = omega (arith, leading-most w₀ (l .lines) (l .«line_count») (r .end));
-    most = omega (arith, leading-most w₀ (l .lines) (l .«line_count») (r .start));
-    few = omega arith;
-    rows = rw (records-nil entryOf 16 w₀ to);
-    rest = kept-refl w₀ to (l .«line_count» * 16);
-    size = refl;
-  }
+pub own-start : {w₀ : List ℕ} {l : StoredLines} {range : AddressRange} {asked : StatementSequence} {to below : ℕ}
+    → RowsBelow w₀ l range below → Owning w₀ w₀ l range asked to below 0
+unfolding entriesOf
+own-start {w₀} {l} {range} {asked} {to} {below} B =
+    let skip = front-below range (sequenceOf asked) (linesOf w₀ (l .lines) (l .«line_count»)) below (B .start) (B .end) in
+    record {
+      most = omega (arith, B .start, leading-most w₀ (l .lines) (l .«line_count») (range .start));
+      few = omega arith;
+      rows = rw (records-nil entryOf 16 w₀ to) (sym (ap (λ (f : FrontRows). f .rows) skip));
+      past = sym (ap (λ (f : FrontRows). f .past) skip);
+      rest = kept-refl w₀ to (l .«line_count» * 16);
+      size = refl;
+    }
 
-  pub own-done : {w : List ℕ} {i count : ℕ} → RowsIn w₀ l → Owning w₀ w l asked to first past i count → past ≤ i → Owned w₀ w l r asked to count
-  unfolding ownRows unitLinesOf filter
-  own-done {w} {i} {count} R O h =
-      let xs : List SequencedLine = linesOf w₀ (l .lines) (l .«line_count») in
-      let s : Option ℕ = sequenceOf asked in
-      let e : filter (inRange r s) xs ≡ filter (ofSequence s) (drop first (linesOf w₀ (l .lines) past)) =
-      rw (← (lines-take w₀ (l .lines) (l .«line_count») past (O .end)), f, p) (stretch r s 0 xs (R .sorted)) in
-      record {
-        rows = sym (append-nil (entriesOf w to count)) ∙ rw (lines-rest-none w₀ (l .lines) past i h) at (O .rows) ∙ ap (map (λ x. x .entry)) (sym e);
-        within = omega (arith, O .few, O .most);
-        rest = O .rest;
-      }
+module _ {w₀ w : List ℕ} {l : StoredLines} {range : AddressRange} {asked : StatementSequence} {to i count : ℕ}
+    (O : Owning w₀ w l range asked to i count) where
+  -- what the loop gives from row n on
+  abbrev from : ℕ → FrontRows
+  from n = frontRows range (sequenceOf asked) (drop n (linesOf w₀ (l .lines) (l .«line_count»)))
 
-module _ {w₀ w : List ℕ} {l : StoredLines} {asked : StatementSequence} (own : StatementSequence) {t : Bool} {to first past i count : ℕ}
-    (R : RowsIn w₀ l) (b : l .buffer ≤ to) (O : Owning w₀ w l asked to first past i count) (h : i < past)
-    (q : sequenceOf own ≡ storedSequence w (l .lines + i * 25 + 16)) (e : t ≡ belongs (sequenceOf asked) (sequenceOf own)) where
-  -- the test is that of row i
-  tested : t ≡ ofSequence (sequenceOf asked) (lineAt w₀ (l .lines + i * 25))
-  tested =
-      e ∙ ap (belongs (sequenceOf asked))
-      (q ∙ sequence-kept (l .lines + i * 25 + 16) (O .rest) (inl (omega (arith, R .lines, O .end))) ∙ sym (line-sequence w₀ (l .lines + i * 25)))
-
-  pub own-not : t ≡ false → Owning w₀ w l asked to first past (i + 1) count
-  unfolding filter
-  own-not f = record {
-    end = O .end;
-    most = omega (arith, O .end);
-    few = omega (arith, O .few);
-    rows = rw (lines-rest-cons w₀ (l .lines) past i h, ← tested, f) at (O .rows);
+  -- the loop gives nothing more
+  ends : from i ≡ record { rows = []; past = 0 } → Owned w₀ w l range asked to (record { count = count; past = i })
+  ends e = record {
+    rows = sym (append-nil (entriesOf w to count)) ∙ rw e at (O .rows);
+    past = let p = rw e at (O .past) in omega arith;
+    within = omega (arith, O .few, O .most);
     rest = O .rest;
-    size = O .size;
   }
 
-  pub own-take : {w′ : List ℕ} → t ≡ true → CopiedBytes w w′ (l .lines + i * 25) (to + count * 16) 16 → length w′ ≡ length w → Owning w₀ w′ l asked to first past (i + 1) (count + 1)
-  unfolding filter entriesOf
-  own-take {w′} f C n =
-      let x : LineEntry = lineAt w₀ (l .lines + i * 25) .entry in
-      let is : entryOf (chunk w (l .lines + i * 25) 16) ≡ x =
-      ap entryOf (O .rest .same (l .lines + i * 25) 16 (inl (omega (arith, R .lines, O .end)))) ∙ sym (line-entry w₀ (l .lines + i * 25)) in
-      record {
-        end = O .end;
-        most = omega (arith, O .end);
-        few = omega (arith, O .few);
-        rows =
-            rw (records-copy-push entryOf 16 to count C, is) (append-assoc (entriesOf w to count) (x ∷ []) (map (λ x. x .entry) (filter (ofSequence (sequenceOf asked)) (drop (i + 1) (linesOf w₀ (l .lines) past)))))
-            ∙ rw (lines-rest-cons w₀ (l .lines) past i h, ← tested, f) at (O .rows);
-        rest = kept-trans (O .rest) (kept-wide to (l .«line_count» * 16) (C .rest) (omega arith) (omega (arith, O .few, O .end)));
-        size = n ∙ O .size;
-      }
+  pub own-done : l .«line_count» ≤ i → Owned w₀ w l range asked to (record { count = count; past = i })
+  unfolding frontRows
+  own-done h = ends (rw (lines-rest-none w₀ (l .lines) (l .«line_count») i h))
+
+  module _ (b : l .lines + l .«line_count» * 25 ≤ to) (h : i < l .«line_count») {address : ℕ} (a : address ≡ lineAt w (l .lines + i * 25) .entry .address) where
+    abbrev x : SequencedLine
+    x = lineAt w₀ (l .lines + i * 25)
+
+    abbrev rest : List SequencedLine
+    rest = drop (i + 1) (linesOf w₀ (l .lines) (l .«line_count»))
+
+    cons : drop i (linesOf w₀ (l .lines) (l .«line_count»)) ≡ x ∷ rest
+    cons = lines-rest-cons w₀ (l .lines) (l .«line_count») i h
+
+    same : lineAt w (l .lines + i * 25) ≡ x
+    same = line-kept (l .lines + i * 25) (O .rest) (inl (omega arith))
+
+    address-is : address ≡ x .entry .address
+    address-is = a ∙ ap (λ (y : SequencedLine). y .entry .address) same
+
+    pub own-past : range .end ≤ address → Owned w₀ w l range asked to (record { count = count; past = i })
+    own-past g = ends (rw cons (front-ends range (sequenceOf asked) x rest (rw address-is at g)))
+
+    module _ {t : Bool} (near : address < range .end)
+        (e : t ≡ (leb (range .start) address && belongs (sequenceOf asked) (storedSequence w (l .lines + i * 25 + 16)))) where
+      near-is : x .entry .address < range .end
+      near-is = rw address-is at near
+
+      tested : t ≡ (leb (range .start) (x .entry .address) && belongs (sequenceOf asked) (x .statementSequence))
+      tested =
+          e ∙ (λ k. leb (range .start) (address-is k) && belongs (sequenceOf asked)
+          ((sequence-kept (l .lines + i * 25 + 16) (O .rest) (inl (omega arith)) ∙ sym (line-sequence w₀ (l .lines + i * 25))) k))
+
+      pub own-not : t ≡ false → Owning w₀ w l range asked to (i + 1) count
+      own-not f =
+          let turn : from i ≡ record { rows = from (i + 1) .rows; past = suc (from (i + 1) .past) } =
+          rw cons (front-skips range (sequenceOf asked) x rest near-is tested f) in
+          let p = rw turn at (O .past) in
+          record {
+            most = omega arith;
+            few = omega (arith, O .few);
+            rows = rw turn at (O .rows);
+            past = omega arith;
+            rest = O .rest;
+            size = O .size;
+          }
+
+      pub own-take : {w′ : List ℕ} → t ≡ true → CopiedBytes w w′ (l .lines + i * 25) (to + count * 16) 16 → length w′ ≡ length w
+          → Owning w₀ w′ l range asked to (i + 1) (count + 1)
+      unfolding entriesOf
+      own-take {w′} f C n =
+          let turn : from i ≡ record { rows = x .entry ∷ from (i + 1) .rows; past = suc (from (i + 1) .past) } =
+          rw cons (front-takes range (sequenceOf asked) x rest near-is tested f) in
+          let is : entryOf (chunk w (l .lines + i * 25) 16) ≡ x .entry =
+          ap entryOf (O .rest .same (l .lines + i * 25) 16 (inl (omega arith))) ∙ sym (line-entry w₀ (l .lines + i * 25)) in
+          let p = rw turn at (O .past) in
+          record {
+            most = omega arith;
+            few = omega (arith, O .few);
+            rows = rw (records-copy-push entryOf 16 to count C, is) (append-assoc (entriesOf w to count) (x .entry ∷ []) (from (i + 1) .rows))
+                ∙ rw turn at (O .rows);
+            past = omega arith;
+            rest = kept-trans (O .rest) (kept-wide to (l .«line_count» * 16) (C .rest) (omega arith) (omega (arith, O .few)));
+            size = n ∙ O .size;
+          }

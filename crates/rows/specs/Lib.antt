@@ -1,3 +1,4 @@
 pub mod Stored
 pub mod Sorts
+pub mod Front
 pub mod Selects

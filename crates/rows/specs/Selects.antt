@@ -1,24 +1,26 @@
 -- A unit's lines in the work slice, and what the functions that select a function's rows promise. Assumes nothing.
-use Prim.Native.Nat.{ℕ, _+_, _*_, _≤_}
+use Prim.Native.Nat.{ℕ, suc, _+_, _*_, _≤_, _<_}
 use mathlib.Core.Path.{_≡_}
 use mathlib.Core.Bool.{cond}
 use mathlib.Core.List.{List, [], _∷_, _++_}
 use mathlib.Core.Option.{Option, none, some}
-use lib.ListN.{length}
+use lib.ListN.{length, take}
 use Rattle.tlv.specs.declared.model.AddressRange.{AddressRange}
 use Rattle.tlv.specs.declared.model.LineEntry.{LineEntry}
 use Rattle.tlv.specs.Table.{Kept}
 use Rattle.tlv.specs.Lists.{mapOption}
 use Rattle.lines.specs.Lines.{LineSequenceRange, UnitLines}
-use Rattle.lines.specs.Rows.{ownRows, earlierRow, startsLate, forRange}
+use Rattle.lines.specs.Rows.{earlierRow, startsLate, forRange}
 use Rattle.rows.specs.declared.line.StatementSequence.{StatementSequence}
 use Rattle.rows.specs.declared.«unit_lines».StoredLines.{StoredLines}
 use Rattle.rows.specs.declared.«unit_lines».Covering.{Covering}
 use Rattle.rows.specs.declared.«unit_lines».Earlier.{Earlier}
+use Rattle.rows.specs.declared.«unit_lines».OwnRows.{OwnRows}
 use Rattle.rows.specs.declared.«unit_lines».Rows.{Rows}
 use Rattle.rows.specs.declared.«unit_lines».FunctionRows.{FunctionRows}
 use Rattle.rows.specs.Stored.{sequenceOf, linesOf, rangesOf, entriesOf}
-use Rattle.rows.specs.Sorts.{Sorted}
+use Rattle.rows.specs.Sorts.{Sorted, leading}
+use Rattle.rows.specs.Front.{frontRows}
 
 -- the unit's lines that stand in w; which files its numbers mean is kept elsewhere
 unfoldable pub unitLinesOf : List ℕ → StoredLines → UnitLines
@@ -35,11 +37,24 @@ pub record RowsIn (w : List ℕ) (l : StoredLines) : Type 0 where
   pub buffer : l .buffer + 16 + l .«line_count» * 16 ≤ length w
   pub sorted : Sorted 0 (linesOf w (l .lines) (l .«line_count»))
 
--- the range's rows of the sequence that is asked for stand at `to`, r of them
-pub record Owned (w w′ : List ℕ) (l : StoredLines) (range : AddressRange) (asked : StatementSequence) (to r : ℕ) : Type 0 where
-  pub rows : entriesOf w′ to r ≡ ownRows (unitLinesOf w l) range (sequenceOf asked)
-  pub within : r ≤ l .«line_count»
+-- the first `below` rows of the table lie below the range
+pub record RowsBelow (w : List ℕ) (l : StoredLines) (range : AddressRange) (below : ℕ) : Type 0 where
+  pub start : below ≤ leading (range .start) (linesOf w (l .lines) (l .«line_count»))
+  pub end : below ≤ leading (range .end) (linesOf w (l .lines) (l .«line_count»))
+
+-- the rows that the loop from the front of the table gives stand at `to`, and its place was handed back
+pub record Owned (w w′ : List ℕ) (l : StoredLines) (range : AddressRange) (asked : StatementSequence) (to : ℕ) (r : OwnRows) : Type 0 where
+  pub rows : entriesOf w′ to (r .count) ≡ frontRows range (sequenceOf asked) (linesOf w (l .lines) (l .«line_count»)) .rows
+  pub past : r .past ≡ frontRows range (sequenceOf asked) (linesOf w (l .lines) (l .«line_count»)) .past
+  pub within : r .count ≤ l .«line_count»
   pub rest : Kept w w′ to (l .«line_count» * 16)
+
+-- two answers of the loop: where the first ended at a row, and the other's table is alike through that row, they are the same (document 02, E5)
+abbrev pub OwnedAlike : Type 0
+OwnedAlike = (w w′ v v′ : List ℕ) (l m : StoredLines) (range : AddressRange) (asked : StatementSequence) (to at : ℕ) (r q : OwnRows)
+    → Owned w w′ l range asked to r → Owned v v′ m range asked at q → r .past < l .«line_count»
+    → take (suc (r .past)) (linesOf v (m .lines) (m .«line_count»)) ≡ take (suc (r .past)) (linesOf w (l .lines) (l .«line_count»))
+    → (q .past ≡ r .past) × (q .count ≡ r .count) × (entriesOf v′ at (q .count) ≡ entriesOf w′ to (r .count))
 
 -- an answer's sequence is that of the sequence q
 abbrev pub coveringOf : Covering → Option LineSequenceRange → Type 0

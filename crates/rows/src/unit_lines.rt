@@ -3,13 +3,14 @@ ghost use mathlib.Core.Path.{_≡_};
 ghost use mathlib.Core.Bool.{cond, _&&_};
 ghost use mathlib.Core.Option.{none};
 ghost use Prim.Native.Nat.{_+_, _*_, _≤_};
-ghost use lib.Dec.{ltb};
+ghost use lib.Dec.{leb, ltb};
 ghost use lib.ListN.{length};
 ghost use Rattle.tlv.specs.Lists.{first, last, orElse};
 ghost use Rattle.lines.specs.Rows.{contains, belongs, movedTo, earlierRow, startsLate, sequenceExists};
-ghost use Rattle.rows.specs.Stored.{sequenceOf, entriesOf, linesOf, rangeAt, rangesOf};
-ghost use Rattle.rows.specs.Selects.{unitLinesOf, RowsIn, coveringOf, earlierOf, Owned, Fronted, ForRange};
+ghost use Rattle.rows.specs.Stored.{sequenceOf, storedSequence, entriesOf, linesOf, rangeAt, rangesOf};
+ghost use Rattle.rows.specs.Selects.{unitLinesOf, RowsIn, RowsBelow, coveringOf, earlierOf, Owned, Fronted, ForRange};
 use crate::line::StatementSequence;
+use crate::line::address_at;
 use crate::line::belongs_to;
 use crate::line::entry_at;
 use crate::line::put_entry;
@@ -34,6 +35,12 @@ pub struct FunctionRows {
     pub invalid: bool,
 }
 
+// How many own rows a range has, and the place in the table of the first row at or past its end, or the table's length.
+pub struct OwnRows {
+    pub count: usize,
+    pub past: usize,
+}
+
 // Rows in the work slice.
 pub struct Rows {
     pub rows: usize,
@@ -52,25 +59,44 @@ pub enum Earlier {
     Missing,
 }
 
-// Copies the rows of a range, of the sequence that is asked for, to `to`, and returns how many they are.
+// Whether the row at p, which has an address, is at or past a start and belongs to the sequence that is asked for.
+fn takes_row(work: &[u8], p: usize, address: u64, start: u64, asked: StatementSequence) -> bool
+    requires { ⌜ p + 25 ≤ length (now work) ⌝ }
+    ensures { λ r. ⌜ r ≡ (leb start address && belongs (sequenceOf asked) (storedSequence (now (work .entry)) (p + 16))) ⌝ }
+{
+    if address < start {
+        return false;
+    }
+    belongs_to(asked, sequence_at(work, p + 16))
+}
+
+// Copies the rows of a range, of the sequence that is asked for, to `to`: a loop from the front of the table that ends at the first row at or past the
+// range's end. The first `below` rows are known to lie below the range, so the loop passes over them at once; 0 is always right.
 pub fn own_rows(
     work: &mut [u8],
     l: StoredLines,
     range: tlv::model::AddressRange,
     asked: StatementSequence,
     to: usize,
-) -> usize
-    requires { ⌜ RowsIn (now work) l ⌝ }
-    requires { ⌜ l .buffer ≤ to ⌝ }
+    below: usize,
+) -> OwnRows
+    requires { ⌜ l .lines + l .«line_count» * 25 ≤ to ⌝ }
     requires { ⌜ to + l .«line_count» * 16 ≤ length (now work) ⌝ }
+    requires { ⌜ RowsBelow (now work) l range below ⌝ }
     ensures { λ r. ⌜ Owned (now (work .entry)) (now (work .exit)) l range asked to r ⌝ }
 {
-    let mut i = lower_bound(work, l.lines, l.line_count, range.start);
-    let past = lower_bound(work, l.lines, l.line_count, range.end);
+    let mut i = below;
     let mut count = 0;
-    while i < past {
+    while i < l.line_count {
         let p = l.lines + i * 25;
-        if belongs_to(asked, sequence_at(work, p + 16)) {
+        let address = address_at(work, p);
+        if range.end <= address {
+            return OwnRows {
+                count: count,
+                past: i,
+            };
+        }
+        if takes_row(work, p, address, range.start, asked) {
             tlv::table::copy_record(work, p, to + count * 16, 16);
             count += 1;
             i += 1;
@@ -78,7 +104,21 @@ pub fn own_rows(
             i += 1;
         }
     }
-    count
+    OwnRows {
+        count: count,
+        past: i,
+    }
+}
+
+// How many rows at the front of a unit's sorted table lie below a range.
+fn rows_below(work: &[u8], l: StoredLines, range: tlv::model::AddressRange) -> usize
+    requires { ⌜ RowsIn (now work) l ⌝ }
+    ensures { λ r. ⌜ RowsBelow (now (work .entry)) l range r ⌝ }
+{
+    if range.end < range.start {
+        return 0;
+    }
+    lower_bound(work, l.lines, l.line_count, range.start)
 }
 
 // Whether a sequence that is asked for exists.
@@ -252,8 +292,9 @@ pub fn for_range(
 {
     let exists = sequence_exists(work, l, requested);
     let asked = selected_sequence(exists, requested);
-    let count = own_rows(work, l, range, asked, l.buffer + 16);
-    let fronted = put_earlier(work, l, range, asked, count);
+    let below = rows_below(work, l, range);
+    let own = own_rows(work, l, range, asked, l.buffer + 16, below);
+    let fronted = put_earlier(work, l, range, asked, own.count);
     let left = compact_line_rows(work, fronted.rows, fronted.count);
     let invalid = !exists && left != 0;
     FunctionRows {

@@ -10,6 +10,9 @@ sequence-exists-requires c κs = search needs
 selected-sequence-requires : tie.Need-selected-sequence-requires
 selected-sequence-requires c κs = search needs
 
+rows-below-requires : tie.Need-rows-below-requires
+rows-below-requires c κs = search needs
+
 add-own-rows : tie.Need-add-own-rows
 add-own-rows c = search needs
 
@@ -19,7 +22,7 @@ own-rows-requires c κs = search needs
 put-earlier-requires : tie.Need-put-earlier-requires
 put-earlier-requires c κs =
     let o = c .before .before .before in
-    (rows-in-kept (o .own-rows .ensures .rest) (o .before .before .before .before .before .before .before .pre) (o .own-rows .kept .0), o .own-rows .ensures .within)
+    (rows-in-kept (o .own-rows .ensures .rest) (o .before .before .before .before .before .before .before .before .before .pre) (o .own-rows .kept .0), o .own-rows .ensures .within)
 
 compact-line-rows-requires : tie.Need-compact-line-rows-requires
 compact-line-rows-requires c κs = search needs
@@ -30,7 +33,7 @@ same-length c = search needs
 returns : tie.Need-returns
 returns c =
     let o = c .before .before .before .before .before .before .before .before .before .before .before in
-    let s = o .before .before .before in
+    let s = o .before .before .before .before .before in
     for-missing (s .before .before .before .before .args .requested) (s .selected-sequence .result) (s .before .before .before .before .pre) (s .before .sequence-exists .ensures) (s .selected-sequence .ensures) (o .own-rows .ensures) (c .before .before .before .before .before .before .before .put-earlier .ensures) (c .before .before .before .compact-line-rows .ensures) (c .if1 .taken)
 
 same-length-2 : tie.Need-same-length-2
@@ -39,7 +42,7 @@ same-length-2 c = search needs
 returns-2 : tie.Need-returns-2
 returns-2 c =
     let o = c .before .before .before .before .before .before .before .before .before .before .before in
-    let s = o .before .before .before in
+    let s = o .before .before .before .before .before in
     for-found (s .before .before .before .before .args .requested) (s .selected-sequence .result) (s .before .before .before .before .pre) (s .before .sequence-exists .ensures) (s .selected-sequence .ensures) (o .own-rows .ensures) (c .before .before .before .before .before .before .before .put-earlier .ensures) (c .before .before .before .compact-line-rows .ensures) (c .if1 .left)
 
 pub for-range-spec : {M : Type 1} → statement M
@@ -48,6 +51,7 @@ for-range-spec =
     (tie.spec
     sequence-exists-requires
     selected-sequence-requires
+    rows-below-requires
     add-own-rows
     own-rows-requires
     put-earlier-requires

@@ -1,23 +1,17 @@
--- `unit_lines::own_rows` meets its contract. The rows copied so far, and those of the stretch that are left. Assumes nothing.
+-- `unit_lines::own_rows` meets its contract. Assumes nothing.
 use Prim.Native.Nat.{_-_}
 use mathlib.Core.Logic.{inr}
-use Rattle.rows.proofs.OwnRowLaws.{Owning, own-start, own-not, own-take, own-done}
 use native.Mathlib.Omega.{arith}
 use borrow.Author.Needs.{needs}
+use Rattle.rows.proofs.OwnRowLaws.{Owning, own-start, own-past, own-not, own-take, own-done}
 use Rattle.rows.proofs.unit_lines.own_rows.Statement.{statement}
 use Rattle.rows.proofs.unit_lines.own_rows.Tie as tie
 
 abbrev Inv-loop : tie.InvT-loop
-Inv-loop work₀ l asked to i₀ past count₀ work i count = Owning work₀ work l asked to i₀ past i count
+Inv-loop work₀ l range asked to below i₀ count₀ work i count = Owning work₀ work l range asked to i count
 
 abbrev μ-loop : tie.MeasureT-loop
-μ-loop work₀ l asked to i₀ past count₀ work i count = past - i
-
-lower-bound-requires : tie.Need-lower-bound-requires Inv-loop μ-loop
-lower-bound-requires c κs = search needs
-
-lower-bound-requires-2 : tie.Need-lower-bound-requires-2 Inv-loop μ-loop
-lower-bound-requires-2 c κs = search needs
+μ-loop work₀ l range asked to below i₀ count₀ work i count = l .«line_count» - i
 
 loop-holds : tie.Need-loop-holds Inv-loop μ-loop
 loop-holds c = search own-start
@@ -28,14 +22,20 @@ mul-p c = omega arith
 add-p : tie.Need-add-p Inv-loop μ-loop
 add-p c = omega arith
 
-add-sequence-at : tie.Need-add-sequence-at Inv-loop μ-loop
-add-sequence-at c = omega arith
+address-at-requires : tie.Need-address-at-requires Inv-loop μ-loop
+address-at-requires c κs = omega arith
 
-sequence-at-requires : tie.Need-sequence-at-requires Inv-loop μ-loop
-sequence-at-requires c κs = omega arith
+same-length : tie.Need-same-length Inv-loop μ-loop
+same-length c = search needs
 
-belongs-to-requires : tie.Need-belongs-to-requires Inv-loop μ-loop
-belongs-to-requires c κs = search needs
+returns : tie.Need-returns Inv-loop μ-loop
+returns c =
+    let a = c .before .before in
+    let l = a .before .before .before .before .before in
+    own-past (l .loop .inv) (l .before .before .pre .0) (a .before .before .before .if1 .taken) (a .address-at .ensures) (c .if2 .taken)
+
+takes-row-requires : tie.Need-takes-row-requires Inv-loop μ-loop
+takes-row-requires c κs = omega arith
 
 mul-copy-record : tie.Need-mul-copy-record Inv-loop μ-loop
 mul-copy-record c = omega arith
@@ -56,7 +56,13 @@ loop-less : tie.Need-loop-less Inv-loop μ-loop
 loop-less c = omega arith
 
 loop-again : tie.Need-loop-again Inv-loop μ-loop
-loop-again c = search own-take
+loop-again c =
+    let k = c .before .before in
+    let t = k .before .before .before in
+    let a = t .before .before .before .before in
+    let l = a .before .before .before .before .before in
+    own-take (l .loop .inv) (l .before .before .pre .0) (a .before .before .before .if1 .taken) (a .address-at .ensures)
+    (t .before .before .if2 .left) (t .takes-row .ensures) (k .before .before .if3 .taken) (k .copy-record .ensures) (k .copy-record .kept .0)
 
 add-i-2 : tie.Need-add-i-2 Inv-loop μ-loop
 add-i-2 c = omega arith
@@ -65,13 +71,18 @@ loop-less-2 : tie.Need-loop-less-2 Inv-loop μ-loop
 loop-less-2 c = omega arith
 
 loop-again-2 : tie.Need-loop-again-2 Inv-loop μ-loop
-loop-again-2 c = search own-not
+loop-again-2 c =
+    let t = c .before in
+    let a = t .before .before .before .before in
+    let l = a .before .before .before .before .before in
+    own-not (l .loop .inv) (l .before .before .pre .0) (a .before .before .before .if1 .taken) (a .address-at .ensures)
+    (t .before .before .if2 .left) (t .takes-row .ensures) (c .if3 .left)
 
-same-length : tie.Need-same-length Inv-loop μ-loop
-same-length c = search needs
+same-length-2 : tie.Need-same-length-2 Inv-loop μ-loop
+same-length-2 c = search needs
 
-returns : tie.Need-returns Inv-loop μ-loop
-returns c = search own-done
+returns-2 : tie.Need-returns-2 Inv-loop μ-loop
+returns-2 c = search own-done
 
 pub own-rows-spec : {M : Type 1} → statement M
 own-rows-spec =
@@ -79,14 +90,13 @@ own-rows-spec =
     (tie.spec
     Inv-loop
     μ-loop
-    lower-bound-requires
-    lower-bound-requires-2
     loop-holds
     mul-p
     add-p
-    add-sequence-at
-    sequence-at-requires
-    belongs-to-requires
+    address-at-requires
+    same-length
+    returns
+    takes-row-requires
     mul-copy-record
     add-copy-record
     copy-record-requires
@@ -97,5 +107,5 @@ own-rows-spec =
     add-i-2
     loop-less-2
     loop-again-2
-    same-length
-    returns)
+    same-length-2
+    returns-2)
