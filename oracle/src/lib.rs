@@ -81,6 +81,8 @@ pub mod document;
 #[cfg(not(feature = "plain"))]
 pub mod files;
 #[cfg(not(feature = "plain"))]
+pub mod front_cases;
+#[cfg(not(feature = "plain"))]
 pub mod generate;
 #[cfg(not(feature = "plain"))]
 pub mod judge;

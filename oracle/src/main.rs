@@ -7,7 +7,7 @@ use std::{env, fs};
 
 use oracle::files::{Source, Target};
 use oracle::listing::{INPUT_LIMIT, PROGRAM_LIMIT, listing};
-use oracle::{Case, answer, coverage, document, generate, judge, judged, limits, line_cases, search_cases};
+use oracle::{Case, answer, coverage, document, front_cases, generate, judge, judged, limits, line_cases, search_cases};
 
 const USAGE: &str = "
 oracle one DIR                              the listing of unit.main, unit.sup and unit.line in DIR
@@ -21,7 +21,8 @@ oracle large CASES                          writes the cases over 64 KiB, the sa
 oracle document CASES                       writes document 01's own cases
 oracle coverage CASES                       counts what the cases reach; fails if something is missing
 oracle judge CASES                          counts the cases that the plain Rust judges; fails if it answers otherwise, or if they are few
-oracle lines SEED COUNT ROWS STDIN STDOUT   writes calls of operands, sequences and paths, then calls for rows, and their answers as text
+oracle lines SEED COUNT ROWS FRONTS STDIN STDOUT    writes calls of operands, sequences and paths, then calls for the rows of units,
+                                            then calls for rows from the front of tables, and their answers as text
 oracle searches SEED COUNT STDIN STDOUT     writes calls of the name searches, and their answers as text";
 
 const INPUTS: [&str; 3] = ["unit.main", "unit.sup", "unit.line"];
@@ -53,8 +54,8 @@ fn run(arguments: &[&str]) -> Result<bool, String> {
         ["document", cases] => write(cases, document::cases().into_iter().map(|(_, case, _)| case)),
         ["coverage", cases] => coverage::coverage(Path::new(cases)),
         ["judge", cases] => judge::shares(Path::new(cases)),
-        ["lines", seed, count, rows, stdin, stdout] => {
-            lines(number(seed)?, [number(count)?, number(rows)?], Path::new(stdin), Path::new(stdout))
+        ["lines", seed, count, rows, fronts, stdin, stdout] => {
+            lines(number(seed)?, [number(count)?, number(rows)?, number(fronts)?], Path::new(stdin), Path::new(stdout))
         }
         ["searches", seed, count, stdin, stdout] => searches(number(seed)?, number(count)?, Path::new(stdin), Path::new(stdout)),
         _ => Err(format!("these are the commands:{USAGE}")),
@@ -145,16 +146,20 @@ fn write(path: &str, cases: impl Iterator<Item = Case>) -> Result<bool, String> 
     target.finish()
 }
 
-/// So many calls of operands, programs and paths, and so many for rows, behind their number, and the lines of each answer.
-fn lines(seed: u64, counts: [u64; 2], stdin: &Path, stdout: &Path) -> Result<bool, String> {
-    let [count, rows] = counts;
-    let all = count.checked_add(rows).and_then(|all| u32::try_from(all).ok()).ok_or(format!("{count} and {rows} calls are too many"))?;
+/// So many calls of operands, programs and paths, so many for the rows of units and so many for rows from the front of tables, behind their
+/// number, and the lines of each answer.
+fn lines(seed: u64, counts: [u64; 3], stdin: &Path, stdout: &Path) -> Result<bool, String> {
+    let all = counts.into_iter().try_fold(0u64, u64::checked_add).and_then(|all| u32::try_from(all).ok());
+    let all = all.ok_or(format!("{counts:?} calls are too many"))?;
+    let [count, rows, fronts] = counts.map(|count| count as usize);
     let (mut cases, mut answers) = (Target::create(stdin)?, Target::create(stdout)?);
     cases.write(&[&all.to_le_bytes()])?;
-    let calls = line_cases::calls(seed).take(count as usize).chain(line_cases::rows_calls(seed).take(rows as usize));
-    for (number, call) in calls.enumerate() {
-        let answer = judge::judged_lines(&call).map_err(|message| format!("call {number}: {message}"))?;
-        cases.write(&[&call.bytes()])?;
+    let calls = line_cases::calls(seed).take(count).chain(line_cases::rows_calls(seed).take(rows));
+    let judged = calls.map(|call| Ok((call.bytes(), judge::judged_lines(&call)?)));
+    let fronts = front_cases::calls(seed).take(fronts).map(|call| Ok((call.bytes(), call.answer())));
+    for (number, call) in judged.chain(fronts).enumerate() {
+        let (call, answer) = call.map_err(|message: String| format!("call {number}: {message}"))?;
+        cases.write(&[&call])?;
         answers.write(&[answer.as_bytes(), b"\n"])?;
     }
     Ok(cases.finish()? && answers.finish()?)

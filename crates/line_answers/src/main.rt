@@ -10,6 +10,8 @@ ghost use Rattle.line_answers.specs.Answers.{Room, HasRoom, CollectedRow
 use collect::collect::CollectedLines;
 use rows::unit_lines::StoredLines;
 
+mod front;
+
 // The number in the next 4 bytes.
 fn next_u32() -> u32 {
     let mut bytes = [0u8; 4];
@@ -385,6 +387,7 @@ fn answer(kind: u8, call: &[u8], work: &mut [u8]) -> bool {
         }
         4 => answer_join(call, work),
         5 => answer_rows(call, work),
+        6 => front::answer_front(call, work),
         _ => false,
     }
 }
