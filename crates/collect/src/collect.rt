@@ -70,7 +70,7 @@ fn read_header(main: &[u8], start: usize) -> Header
     }
 }
 
-// Writes where the sequences of the program begin whose header's payload is the `len` bytes from `start` on.
+// Writes where the sequences of the program begin. Its header is the field whose payload is the `len` bytes from `start` on.
 fn scan_program(
     main: &[u8],
     program: &[u8],

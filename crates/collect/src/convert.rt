@@ -1,4 +1,4 @@
-// Rows of the sheet become lines of the unit: the file of each is found or interned, and what can't be told is warned of.
+// Rows of the sheet become lines of the unit: the file of each is found or interned; a row that has none, or too large a line, gives a warning.
 ghost use mathlib.Core.Path.{_≡_};
 ghost use mathlib.Core.Option.{none};
 ghost use Prim.Native.Nat.{_+_, _*_, _≤_, _<_};
@@ -257,14 +257,10 @@ pub fn convert_row(
 {
     let indices = c.indices;
     let number = row.file;
-    match files::index::get_index(work, indices, number) {
-        FoundIndex::Number(index) => {
-            return ConvertedRow::Next(convert_line(c, row, index, work, warnings, st));
-        }
-        FoundIndex::Missing => {
-            return convert_unknown(main, supplementary, c, row, work, files, warnings, st);
-        }
-    }
+    let FoundIndex::Number(index) = files::index::get_index(work, indices, number) else {
+        return convert_unknown(main, supplementary, c, row, work, files, warnings, st);
+    };
+    ConvertedRow::Next(convert_line(c, row, index, work, warnings, st))
 }
 
 // The row whose payload starts at a place, of the sequence of a number.

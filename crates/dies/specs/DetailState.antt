@@ -78,7 +78,7 @@ pub record PutSite (w w′ : List ℕ) (p depth place offset : ℕ) : Type 0 whe
   pub place-is : leAt 4 w′ (p + 2) ≡ place
   pub rest : Kept w w′ p 14
 
--- of the n open call sites the innermost, as far as they are at `depth` or below, went behind the m closed ones. The place of each closed one is that of one of the n or the m
+-- of the n open call sites the innermost, as far as they are at `depth` or deeper, went behind the m closed ones. The place of each closed one is that of one of the n or the m
 pub record Closed (w w′ : List ℕ) (stack n sites m depth : ℕ) (r : Sites) : Type 0 where
   pub left : (f : ℕ → List ℕ) → siteFramesAt f w′ stack (r .opened) ≡ dropWhile (endsHere depth) (siteFramesAt f w stack n)
   pub moved : (f : ℕ → List ℕ) → sitesAt f w′ sites (r .closed) ≡ sitesAt f w sites m ++ map (λ x. x .callSite) (takeWhile (endsHere depth) (siteFramesAt f w stack n))
@@ -221,7 +221,7 @@ pub record AboutWarned (main : List ℕ) (unit p kind number at : ℕ) (u u′ :
   pub laid : r .status ≡ 0 → (k : WarningKind) → kind ≡ kindNumber k → Put at (warningsBytes (about k offset number ∷ [])) u u′ (r .at)
   pub no : (r .status ≡ 0 → ⊥) → absoluteEntryOffset (unitHere main unit) (entryHere main p .offset) ≡ refused (r .status)
 
--- the file of the call of the entry at p, of a unit that has the map `is`; what else a context holds is of no account
+-- the file of the call of the entry at p, of a unit that has the map `is`; what else a context holds does not matter
 pub record FileCalled (is : FileIndices) (main : List ℕ) (unit p at : ℕ) (u u′ : List ℕ) (r : CalledFile) : Type 0 where
   pub warnings : List Warning
   pub laid : r .status ≡ 0 → Put at (warningsBytes warnings) u u′ (r .at)

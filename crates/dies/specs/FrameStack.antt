@@ -42,7 +42,7 @@ pub record Empty (st : Open) : Type 0 where
 abbrev pub shrunk : Open → Left → Open
 shrunk st r = record { frames = st .frames; n = r .n; used = r .used }
 
--- the frames at depth d or below are gone
+-- the frames at depth d or deeper are gone
 pub record Popped (st st′ : Open) (d : ℕ) : Type 0 where
   pub ready : Ready st′
   pub frames : (w : List ℕ) (base : ℕ) → openIn w base st′ ≡ finishInlines d (openIn w base st)

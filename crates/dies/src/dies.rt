@@ -149,7 +149,7 @@ fn put_open_site(work: &mut [u8], at: usize, depth: u16, place: usize, offset: u
     tlv::table::set_u64(work, at + 6, offset);
 }
 
-// The innermost open call sites, as far as they are of entries at this depth or below, go behind the closed ones, which have no depth any more.
+// The innermost open call sites whose entries are at this depth or deeper go behind the closed ones, for which no depth is kept.
 fn finish_call_sites(
     work: &mut [u8],
     stack: usize,
@@ -181,7 +181,7 @@ fn finish_call_sites(
     }
 }
 
-// The nodes and the call sites of entries at this depth or below are closed.
+// Closes the nodes and the call sites of entries at this depth or deeper.
 fn close(
     main: &[u8],
     supplementary: &[u8],
@@ -204,7 +204,7 @@ fn close(
     s
 }
 
-// A call site: its return address is to lie in the function, and the name that its origin refers to is searched for its refusal alone.
+// A call site: its return address is to lie in the function. The name that its origin refers to is searched here only for a refusal.
 fn make_call_site<'a>(
     main: &'a [u8],
     supplementary: &'a [u8],

@@ -34,7 +34,7 @@ pub struct Left {
     pub used: usize,
 }
 
-// The nodes of entries at this depth or below are closed: the frames that are left stay where they are.
+// Closes the nodes of entries at this depth or deeper; the frames that are left stay where they are.
 pub fn popped(st: Open, depth: u16) -> Left
     requires { ⌜ Ready st ⌝ }
     ensures { λ r. ⌜ Popped st (shrunk st r) depth ⌝ }

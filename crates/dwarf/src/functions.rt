@@ -51,7 +51,7 @@ fn no_sequence(main: &[u8], unit: usize) -> u64
     18446744073709551615
 }
 
-// The sequence that a number asks for; `limit` asks for none.
+// The sequence that a number requests; the number `limit` requests none.
 fn sequence_unless(limit: u64, n: u64) -> StatementSequence
     ensures { λ r. ⌜ sequenceOf r ≡ cond (eqb n limit) none (some n) ⌝ }
 {

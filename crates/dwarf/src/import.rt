@@ -248,27 +248,25 @@ fn import_accepted<'a>(
     requires { ⌜ NotOversize (now main) (now supplementary) (now program) ⌝ }
     ensures { λ r. ⌜ Writes (importChosen (inputsOf (now (main .entry)) (now (supplementary .entry)) (now (program .entry)) ordinal inlines «call_sites» «first_file» (now (work .entry)) (now (records .entry)) (now (files .entry)) (now (warnings .entry))) number (at (units (now (main .entry))) ordinal)) (now (records .entry)) (now (files .entry)) (now (warnings .entry)) (now (records .exit)) (now (files .exit)) (now (warnings .exit)) r ⌝ }
 {
-    match tlv::access::unit_by_ordinal(main, ordinal) {
-        Place::Missing => refused(4),
-        Place::At(place) => {
-            if work.len() < 64 * number + 4 * program.len() + 16384 {
-                return refused(5);
-            }
-            import_chosen(
-                main,
-                supplementary,
-                program,
-                place,
-                inlines,
-                call_sites,
-                first_file,
-                work,
-                records,
-                files,
-                warnings,
-            )
-        }
+    let Place::At(place) = tlv::access::unit_by_ordinal(main, ordinal) else {
+        return refused(4);
+    };
+    if work.len() < 64 * number + 4 * program.len() + 16384 {
+        return refused(5);
     }
+    import_chosen(
+        main,
+        supplementary,
+        program,
+        place,
+        inlines,
+        call_sites,
+        first_file,
+        work,
+        records,
+        files,
+        warnings,
+    )
 }
 
 // Refusal 1 of two inputs and a program.

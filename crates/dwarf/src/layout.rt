@@ -24,7 +24,7 @@ pub struct Layout {
     pub keys: usize,
 }
 
-// How many fields of each tag that has a table an input has.
+// For each tag that needs a table, how many fields of it the input has.
 pub struct Counts {
     pub units: usize,
     pub text: usize,
@@ -67,7 +67,7 @@ fn count_tags(s: &[u8]) -> [usize; 32]
     }
 }
 
-// How many fields of each tag that has a table an input has.
+// For each tag that needs a table, how many fields of it the input has.
 fn counts_of(s: &[u8]) -> Counts
     ensures { λ r. ⌜ Sized (now (s .entry)) r ⌝ }
 {

@@ -140,7 +140,7 @@ adds-laid {main} {supplementary} {w} {w₁} {w₂} {files} {files′} {t} {e} {l
       room = G .room;
       first = G .first;
     }
-    go AddedFile.Full G = tt
+    go AddedFile.Full G = G
 
 -- the numbers are used up
 pub full-adds : {main supplementary w files : List ℕ} {t : StoredFiles} {e : FileEntry} → placeOf e (entriesOf main supplementary w t) ≡ none → 4294967295 < t .first + t .count
@@ -148,7 +148,7 @@ pub full-adds : {main supplementary w files : List ℕ} {t : StoredFiles} {e : F
 unfolding addFile appendFile tableOf
 full-adds {main} {supplementary} {w} {files} {t} {e} new h = record {
   is = rw (new, entries-length main supplementary w t, le-ltb (t .first + t .count) (2 ^ 32) (omega arith));
-  after = tt;
+  after = refl;
   rest = kept-refl w (t .base) (extent t);
 }
 

@@ -1,7 +1,7 @@
 -- A file of a unit's header joins the table: its pieces, the table with it, and its number in the unit's map. Assumes nothing.
 use Prim.Native.Nat.{ℕ, _+_, _≤_, _<_}
 use native.Mathlib.Omega.{arith}
-use mathlib.Core.Path.{_≡_, sym}
+use mathlib.Core.Path.{_≡_, refl, sym}
 use mathlib.Core.Logic.{inl}
 use mathlib.Core.List.{List, [], _∷_}
 use mathlib.Core.Option.{none, some}
@@ -78,7 +78,7 @@ module _ {s : List ℕ} {u : FileUnit} {file : Span} {n : Named} (P : Pieced s u
 
     pub interns-failed : {w files : List ℕ} {t : StoredFiles} → n ≡ Named.Failed → Interns main supplementary w w files files t s u file (InternedFile.Refused 6)
     unfolding internFile _>>=_
-    interns-failed {w} {files} {t} e = record { is = rw (← entry-is Named.Failed e); after = tt; rest = kept-refl w (t .base) (extent t) }
+    interns-failed {w} {files} {t} e = record { is = rw (← entry-is Named.Failed e); after = refl; rest = kept-refl w (t .base) (extent t) }
 
     pub interns-unnamed : {w files : List ℕ} {t : StoredFiles} → n ≡ Named.Unnamed → FilesIn main supplementary w t → length files < top
         → Interns main supplementary w w files files t s u file InternedFile.Unnamed
@@ -90,7 +90,7 @@ module _ {s : List ℕ} {u : FileUnit} {file : Span} {n : Named} (P : Pieced s u
       unfolding internFile _>>=_
       interns-full ea =
           let full : refused 15 ≡ addFile (tableOf main supplementary w t) (fileIn s p) = rw ea at (A .is) in
-          record { is = rw (← entry-is (Named.Pieces p) e, ← full); after = tt; rest = A .rest }
+          record { is = rw (← entry-is (Named.Pieces p) e, ← full); after = rw ea at (A .after); rest = A .rest }
 
       pub interns-number : {t′ : StoredFiles} {k : FileIndex} → a ≡ AddedFile.Number t′ k → Interns main supplementary w w′ files files′ t s u file (InternedFile.Number t′ k)
       unfolding internFile _>>=_
@@ -103,7 +103,7 @@ module _ {s : List ℕ} {u : FileUnit} {file : Span} {n : Named} (P : Pieced s u
 module _ {main supplementary w w₁ files files′ : List ℕ} {t : StoredFiles} {s : List ℕ} {u : FileUnit} {file : Span} {r : InternedFile}
     (I : Interns main supplementary w w₁ files files′ t s u file r) where
   pub at-refused : {k p : ℕ} → r ≡ InternedFile.Refused k → InternsAt main supplementary w w₁ files files′ t s u file p (InternedFile.Refused k)
-  at-refused e = record { is = rw e at (I .is); after = tt; number = tt; rest = but-of (I .rest) (here (omega arith) (omega arith)) }
+  at-refused e = record { is = rw e at (I .is); after = rw e at (I .after); number = tt; rest = but-of (I .rest) (here (omega arith) (omega arith)) }
 
   module _ {w₂ : List ℕ} {p : ℕ} (h : t .base + extent t ≤ p) (size : length w₂ ≡ length w₁) where
     both : Kept w₁ w₂ p 5 → KeptBut w w₂ ((t .base, extent t) ∷ (p, 5) ∷ [])

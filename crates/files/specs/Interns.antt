@@ -44,8 +44,9 @@ internedOf main supplementary w t (InternedFile.Refused n) = refused n
 internedOf main supplementary w t InternedFile.Unnamed = done (record { table = tableOf main supplementary w t; number = none })
 internedOf main supplementary w t (InternedFile.Number t′ n) = done (record { table = tableOf main supplementary w t′; number = some n })
 
+-- the table has grown; after a refusal the files tray is as it was
 abbrev pub InternedAfter : List ℕ → List ℕ → List ℕ → List ℕ → List ℕ → List ℕ → StoredFiles → InternedFile → Type 0
-InternedAfter main supplementary w w′ files files′ t (InternedFile.Refused n) = Unit
+InternedAfter main supplementary w w′ files files′ t (InternedFile.Refused n) = files′ ≡ files
 InternedAfter main supplementary w w′ files files′ t InternedFile.Unnamed = Grown main supplementary w w′ files files′ t t
 InternedAfter main supplementary w w′ files files′ t (InternedFile.Number t′ n) = Grown main supplementary w w′ files files′ t t′
 

@@ -162,9 +162,10 @@ abbrev pub addedOf : List ℕ → List ℕ → List ℕ → AddedFile → Outcom
 addedOf main supplementary w (AddedFile.Number t n) = done (record { table = tableOf main supplementary w t; number = n })
 addedOf main supplementary w AddedFile.Full = refused 15
 
+-- the table has grown; where the numbers are used up, nothing was written to the files tray
 abbrev pub AddedAfter : List ℕ → List ℕ → List ℕ → List ℕ → List ℕ → List ℕ → StoredFiles → AddedFile → Type 0
 AddedAfter main supplementary w w′ files files′ t (AddedFile.Number t′ n) = Grown main supplementary w w′ files files′ t t′
-AddedAfter main supplementary w w′ files files′ t AddedFile.Full = Unit
+AddedAfter main supplementary w w′ files files′ t AddedFile.Full = files′ ≡ files
 
 pub record Adds (main supplementary w w′ files files′ : List ℕ) (t : StoredFiles) (e : FileEntry) (r : AddedFile) : Type 0 where
   pub is : addedOf main supplementary w′ r ≡ addFile (tableOf main supplementary w t) e

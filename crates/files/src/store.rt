@@ -216,7 +216,7 @@ fn put_record(
     tlv::table::set_u32(work, at + 37, link);
 }
 
-// Writes the record of a file that the table has not, at its end, and makes it the first of its chain.
+// Writes the record of a file that is not in the table, at the table's end, and makes it the first of its chain.
 fn link_file(
     s: &[u8],
     work: &mut [u8],
@@ -246,7 +246,7 @@ fn link_file(
     tlv::table::set_u32(work, head, (t.count + 1) as u32);
 }
 
-// Adds a file that the table has not, whose directory is the n bytes at `at`.
+// Adds a file that is not in the table; its directory is the n bytes at `at`.
 fn append_file(
     main: &[u8],
     supplementary: &[u8],
@@ -306,7 +306,7 @@ pub fn lay_file(s: &[u8], p: FilePieces, work: &mut [u8], at: usize) -> LaidHash
     LaidHash { n: n, hash: hash }
 }
 
-// Adds the file of pieces of s, the sheet of the source, if the table has it not, and gives its number.
+// Adds the file of pieces of s, the sheet of the source, unless the table has it, and gives its number.
 pub fn add_file(
     main: &[u8],
     supplementary: &[u8],

@@ -111,12 +111,36 @@ node depth letter r = record { depth = depth; name = letter ∷ []; ranges = r �
 
 example-three :
     records (importUnit noUnits
-    (unitOf (named 1 0x2e 65 (from-to 10 20 ∷ []) ∷ inlined 2 97 (from-to 11 12 ∷ []) ∷ named 2 0x2e 66 (from-to 13 16 ∷ []) ∷ inlined 3 98 (from-to 13 14 ∷ [])
+    (unitOf (named 1 0x2e 65 (from-to 10 20 ∷ []) ∷ inlined 2 97 (from-to 11 12 ∷ [])
+    ∷ named 2 0x2e 66 (from-to 13 16 ∷ []) ∷ inlined 3 98 (from-to 13 14 ∷ [])
     ∷ named 1 0x2e 67 (from-to 10 20 ∷ []) ∷ inlined 2 99 (from-to 15 16 ∷ []) ∷ []))
     [] true false before)
     ≡ done
     ((from-to 10 20, node 0 65 (from-to 10 20) ∷ node 1 97 (from-to 11 12) ∷ node 1 98 (from-to 13 14) ∷ [])
     ∷ (from-to 13 16, node 0 66 (from-to 13 16) ∷ node 1 98 (from-to 13 14) ∷ [])
     ∷ (from-to 10 20, node 0 67 (from-to 10 20) ∷ node 1 99 (from-to 15 16) ∷ []) ∷ [])
-unfolding records Rattle.lines.specs.Lines.collectLines Rattle.lines.specs.Lines.dropNeighbours Rattle.references.specs.Search.resolveDeclarationLine Rattle.references.specs.Search.resolveDeclaration Rattle.references.specs.Search.ownDeclaration Rattle.references.specs.Search.referencedDeclaration Rattle.tlv.specs.Outcome._>>=_ Rattle.tlv.specs.Lists.filter Rattle.tlv.specs.Lists.takeWhile Rattle.tlv.specs.Lists.dropWhile Rattle.tlv.specs.Lists.first Rattle.tlv.specs.Lists.orElse Rattle.tlv.specs.Lists.last Rattle.tlv.specs.Lists.exists Rattle.tlv.specs.Lists.at Rattle.tlv.specs.Lists.mapOption Rattle.tlv.specs.Lists.same Rattle.tlv.specs.Model.dieRanges Rattle.lines.specs.Rows.contains Rattle.lines.specs.Rows.compactLineRows Rattle.lines.specs.Rows.ownRows Rattle.lines.specs.Rows.earlierRow Rattle.lines.specs.Rows.selectedSequence Rattle.lines.specs.Rows.rowsFor Rattle.lines.specs.Rows.forRange Rattle.references.specs.Search.unitsIn Rattle.references.specs.Search.isVisited Rattle.references.specs.Search.attribute Rattle.references.specs.Search.unsignedAttribute Rattle.references.specs.Search.fileIndexAttribute Rattle.references.specs.Search.absoluteEntryOffset Rattle.references.specs.Search.entryAt Rattle.references.specs.Search.unitContaining Rattle.references.specs.Search.followAbsolute Rattle.references.specs.Search.followUnit Rattle.references.specs.Search.follow Rattle.references.specs.Search.ownName Rattle.references.specs.Search.referencedName Rattle.references.specs.Search.resolveNameInner Rattle.references.specs.Search.resolveNamed Rattle.references.specs.Search.resolveName Rattle.references.specs.Search.resolveReferenceName Rattle.imports.specs.Ranges.insert Rattle.imports.specs.Ranges.sort Rattle.imports.specs.Ranges.join Rattle.imports.specs.Ranges.joinAll Rattle.imports.specs.Ranges.coalesceRanges Rattle.imports.specs.Tree.fit Rattle.imports.specs.Tree.rangesOf Rattle.imports.specs.Tree.finishInlines Rattle.imports.specs.Tree.finish Rattle.imports.specs.Tree.makeCallSite Rattle.imports.specs.Tree.callFileOf Rattle.imports.specs.Tree.callLineOf Rattle.imports.specs.Tree.pushInline Rattle.imports.specs.Tree.makeInlineNode Rattle.imports.specs.Tree.collectEntry Rattle.imports.specs.Tree.collectEntries Rattle.imports.specs.Tree.collectDescendants Rattle.imports.specs.Tree.extractSubprogramDetails Rattle.imports.specs.Import.statementSequenceOffset Rattle.imports.specs.Import.isLiveRange Rattle.imports.specs.Import.isTombstone Rattle.imports.specs.Import.rejected Rattle.imports.specs.Import.addFunction Rattle.imports.specs.Import.importRange Rattle.imports.specs.Import.importRanges Rattle.imports.specs.Import.importSubprogram Rattle.imports.specs.Import.descendantsOf Rattle.imports.specs.Import.importUnitDetails Rattle.imports.specs.Import.importUnit
+unfolding records Rattle.lines.specs.Lines.collectLines Rattle.lines.specs.Lines.dropNeighbours Rattle.references.specs.Search.resolveDeclarationLine
+    Rattle.references.specs.Search.resolveDeclaration Rattle.references.specs.Search.ownDeclaration
+    Rattle.references.specs.Search.referencedDeclaration Rattle.tlv.specs.Outcome._>>=_ Rattle.tlv.specs.Lists.filter Rattle.tlv.specs.Lists.takeWhile
+    Rattle.tlv.specs.Lists.dropWhile Rattle.tlv.specs.Lists.first Rattle.tlv.specs.Lists.orElse Rattle.tlv.specs.Lists.last
+    Rattle.tlv.specs.Lists.exists Rattle.tlv.specs.Lists.at Rattle.tlv.specs.Lists.mapOption Rattle.tlv.specs.Lists.same
+    Rattle.tlv.specs.Model.dieRanges Rattle.lines.specs.Rows.contains Rattle.lines.specs.Rows.compactLineRows Rattle.lines.specs.Rows.ownRows
+    Rattle.lines.specs.Rows.earlierRow Rattle.lines.specs.Rows.selectedSequence Rattle.lines.specs.Rows.rowsFor Rattle.lines.specs.Rows.forRange
+    Rattle.references.specs.Search.unitsIn Rattle.references.specs.Search.isVisited Rattle.references.specs.Search.attribute
+    Rattle.references.specs.Search.unsignedAttribute Rattle.references.specs.Search.fileIndexAttribute
+    Rattle.references.specs.Search.absoluteEntryOffset Rattle.references.specs.Search.entryAt Rattle.references.specs.Search.unitContaining
+    Rattle.references.specs.Search.followAbsolute Rattle.references.specs.Search.followUnit Rattle.references.specs.Search.follow
+    Rattle.references.specs.Search.ownName Rattle.references.specs.Search.referencedName Rattle.references.specs.Search.resolveNameInner
+    Rattle.references.specs.Search.resolveNamed Rattle.references.specs.Search.resolveName Rattle.references.specs.Search.resolveReferenceName
+    Rattle.imports.specs.Ranges.insert Rattle.imports.specs.Ranges.sort Rattle.imports.specs.Ranges.join
+    Rattle.imports.specs.Ranges.joinAll Rattle.imports.specs.Ranges.coalesceRanges Rattle.imports.specs.Tree.fit
+    Rattle.imports.specs.Tree.rangesOf Rattle.imports.specs.Tree.finishInlines Rattle.imports.specs.Tree.finish
+    Rattle.imports.specs.Tree.makeCallSite Rattle.imports.specs.Tree.callFileOf Rattle.imports.specs.Tree.callLineOf
+    Rattle.imports.specs.Tree.pushInline Rattle.imports.specs.Tree.makeInlineNode Rattle.imports.specs.Tree.collectEntry
+    Rattle.imports.specs.Tree.collectEntries Rattle.imports.specs.Tree.collectDescendants
+    Rattle.imports.specs.Tree.extractSubprogramDetails Rattle.imports.specs.Import.statementSequenceOffset
+    Rattle.imports.specs.Import.isLiveRange Rattle.imports.specs.Import.isTombstone Rattle.imports.specs.Import.rejected
+    Rattle.imports.specs.Import.addFunction Rattle.imports.specs.Import.importRange Rattle.imports.specs.Import.importRanges
+    Rattle.imports.specs.Import.importSubprogram Rattle.imports.specs.Import.descendantsOf
+    Rattle.imports.specs.Import.importUnitDetails Rattle.imports.specs.Import.importUnit
 example-three = refl

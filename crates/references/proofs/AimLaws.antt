@@ -1,4 +1,4 @@
--- Where an offset of a section leads a search: it was followed already, is outside all units, in one where not-so entry starts, or leads to an entry. Assumes nothing.
+-- Where an offset of a section leads a search: it was followed already, is outside all units, in one where no entry starts there, or leads to an entry. Assumes nothing.
 use mathlib.Core.Path.{_≡_, refl, sym, ap, _∙_}
 use mathlib.Core.Bool.{Bool, true, false, cond}
 use mathlib.Core.List.{List}

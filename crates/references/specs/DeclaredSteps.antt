@@ -44,7 +44,7 @@ declaredBy u s p is (OwnLine.At file line) x = declarationOf u (entryHere s p) (
 pub record OwnAt (s : List ℕ) (p : ℕ) (r : OwnLine) : Type 0 where
   pub is : (u : CompilationUnit) (is : FileIndices) (x : Declaring) → ownDeclaration u (entryHere s p) is x ≡ declaredBy u s p is r x
 
--- the offset in the section of an entry, or 12 where it passes
+-- the offset in the section of an entry, or 12 where it exceeds 64 bits
 abbrev pub absoluteGiven : Number → Outcome ℕ
 absoluteGiven Number.Missing = refused 12
 absoluteGiven (Number.Is n) = done n

@@ -161,7 +161,7 @@ fn number_of<'a>(
     files::index::get_index(work, indices, file)
 }
 
-// The offset in the section of the entry at a place; none where it passes.
+// The offset in the section of the entry at a place; none where it exceeds 64 bits.
 fn absolute_offset(s: &[u8], unit: usize, place: usize) -> Number
     requires { ⌜ UnitPlaced (now s) unit ⌝ }
     requires { ⌜ Placed (now s) 0 ⌝ }

@@ -62,7 +62,7 @@ pub fn input_of<'a>(main: &'a [u8], supplementary: &'a [u8], input: DebugSource)
     }
 }
 
-// Its tables.
+// The tables of the sheet of a source.
 pub fn index_of(x: Tables, input: DebugSource) -> Index
     ensures { λ r. ⌜ r ≡ indexIn x input ⌝ }
 {
@@ -316,7 +316,7 @@ pub fn resolve_name<'a>(
     resolve_name_inner(main, supplementary, work, &mut count, status, x, at)
 }
 
-// The name that the attribute of a name of such an entry refers to.
+// The name that the entry's attribute `name` refers to.
 pub fn resolve_reference_name<'a>(
     main: &'a [u8],
     supplementary: &'a [u8],

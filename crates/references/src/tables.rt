@@ -41,15 +41,15 @@ pub fn target_at(s: &[u8], work: &[u8], x: Index, target: u64) -> Target
     let unit_count = x.unit_count;
     let entries = x.entries;
     let entry_count = x.entry_count;
-    match unit_containing(work, units, unit_count, target) {
-        Place::Missing => Target::Outside,
-        Place::At(q) => match find_entry(work, entries, entry_count, target) {
-            Found::Missing => Target::NoEntry(q),
-            Found::At { place, unit } => Target::At {
-                place: place,
-                unit: unit,
-            },
-        },
+    let Place::At(q) = unit_containing(work, units, unit_count, target) else {
+        return Target::Outside;
+    };
+    let Found::At { place, unit } = find_entry(work, entries, entry_count, target) else {
+        return Target::NoEntry(q);
+    };
+    Target::At {
+        place: place,
+        unit: unit,
     }
 }
 
@@ -62,16 +62,14 @@ pub fn target_in(s: &[u8], work: &[u8], x: Index, unit: usize, offset: u64, targ
 {
     let entries = x.entries;
     let entry_count = x.entry_count;
-    match find_entry(work, entries, entry_count, target) {
-        Found::Missing => Target::NoEntry(unit),
-        Found::At { place, unit: found } => {
-            if found != unit {
-                return Target::NoEntry(unit);
-            }
-            Target::At {
-                place: place,
-                unit: unit,
-            }
-        }
+    let Found::At { place, unit: found } = find_entry(work, entries, entry_count, target) else {
+        return Target::NoEntry(unit);
+    };
+    if found != unit {
+        return Target::NoEntry(unit);
+    }
+    Target::At {
+        place: place,
+        unit: unit,
     }
 }

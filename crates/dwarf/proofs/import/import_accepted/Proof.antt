@@ -9,14 +9,20 @@ use Rattle.dwarf.proofs.import.import_accepted.Tie as tie
 unit-by-ordinal-requires : tie.Need-unit-by-ordinal-requires
 unit-by-ordinal-requires c κs = search needs
 
+enum-known-place : tie.Need-enum-known-place
+enum-known-place c = search needs
+
 enum-told : tie.Need-enum-told
 enum-told c = search needs
 
 refused-requires : tie.Need-refused-requires
 refused-requires c κs = search needs
 
-enum-known-place : tie.Need-enum-known-place
-enum-known-place c = search needs
+returns : tie.Need-returns
+returns c =
+    let s = c .before .before .before .before .before .before .before .before .before .before .before in
+    let i = inputsOf (s .args .main .now) (s .args .supplementary .now) (s .args .program .now) (s .args .ordinal) (s .args .inlines) (s .args .call-sites) (s .args .first-file) (s .args .work .now) (s .args .records .now) (s .args .files .now) (s .args .warnings .now) in
+    chosen-missing i (s .args .number) (c .before .before .before .unit-by-ordinal .ensures) (c .before .enum-told .given .1) (c .refused .ensures)
 
 mul-if1 : tie.Need-mul-if1
 mul-if1 c = omega (arith, both-few (c .before .before .before .before .before .before .before .before .before .before .before .pre .0))
@@ -33,20 +39,14 @@ add-if1-2 c = let b = c .before .before .before .before .before .before .before 
 refused-requires-2 : tie.Need-refused-requires-2
 refused-requires-2 c κs = search needs
 
-returns : tie.Need-returns
-returns c =
+returns-2 : tie.Need-returns-2
+returns-2 c =
     let s = c .before .before .before .before .before .before .before .before .before .before .before .before .before in
     let i = inputsOf (s .args .main .now) (s .args .supplementary .now) (s .args .program .now) (s .args .ordinal) (s .args .inlines) (s .args .call-sites) (s .args .first-file) (s .args .work .now) (s .args .records .now) (s .args .files .now) (s .args .warnings .now) in
     chosen-short i (s .args .number) (c .before .before .before .before .before .unit-by-ordinal .ensures) (c .before .before .before .place .given .1) (c .before .if1 .taken) (c .refused2 .ensures)
 
 import-chosen-requires : tie.Need-import-chosen-requires
 import-chosen-requires c κs = (accepted-both (c .before .before .before .before .before .before .before .before .before .before .before .before .before .before .before .before .pre .0), (c .before .before .before .before .before .before .before .before .before .before .before .before .before .before .before .before .pre .1, (chosen-in _ (c .before .before .before .before .before .before .before .before .before .before .before .before .before .before .before .before .args .ordinal) (c .before .before .before .before .before .before .before .before .unit-by-ordinal .ensures) (c .before .before .before .before .before .before .place .given .1), work-enough (c .before .before .before .before .before .before .before .before .before .before .before .before .before .before .before .before .pre .0) _ _ (c .before .before .before .before .if1 .left))))
-
-returns-2 : tie.Need-returns-2
-returns-2 c =
-    let s = c .before .before .before .before .before .before .before .before .before .before .before in
-    let i = inputsOf (s .args .main .now) (s .args .supplementary .now) (s .args .program .now) (s .args .ordinal) (s .args .inlines) (s .args .call-sites) (s .args .first-file) (s .args .work .now) (s .args .records .now) (s .args .files .now) (s .args .warnings .now) in
-    chosen-missing i (s .args .number) (c .before .before .before .unit-by-ordinal .ensures) (c .before .enum-told .given .1) (c .refused .ensures)
 
 same-length : tie.Need-same-length
 same-length c = search needs
@@ -71,17 +71,17 @@ import-accepted-spec =
     tie.close
     (tie.spec
     unit-by-ordinal-requires
+    enum-known-place
     enum-told
     refused-requires
-    enum-known-place
+    returns
     mul-if1
     mul-if1-2
     add-if1
     add-if1-2
     refused-requires-2
-    returns
-    import-chosen-requires
     returns-2
+    import-chosen-requires
     same-length
     same-length-2
     same-length-3

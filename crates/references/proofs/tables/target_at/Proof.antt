@@ -7,25 +7,25 @@ use Rattle.references.proofs.tables.target_at.Tie as tie
 unit-containing-requires : tie.Need-unit-containing-requires
 unit-containing-requires c κs = search needs
 
-enum-told : tie.Need-enum-told
-enum-told c = search needs
-
 enum-known-q : tie.Need-enum-known-q
 enum-known-q c = search needs
 
-find-entry-requires : tie.Need-find-entry-requires
-find-entry-requires c κs = (search needs, search index-table-rising)
-
-enum-told-2 : tie.Need-enum-told-2
-enum-told-2 c = search needs
-
-enum-known-place : tie.Need-enum-known-place
-enum-known-place c = search needs
+enum-told : tie.Need-enum-told
+enum-told c = search needs
 
 returns : tie.Need-returns
 returns c =
     let start = c .before .before .before .before .before in
     leads-outside (start .pre) (start .args .target) _ (c .before .before .unit-containing .ensures) (c .enum-told .given .1)
+
+find-entry-requires : tie.Need-find-entry-requires
+find-entry-requires c κs = (search needs, search index-table-rising)
+
+enum-known-place : tie.Need-enum-known-place
+enum-known-place c = search needs
+
+enum-told-2 : tie.Need-enum-told-2
+enum-told-2 c = search needs
 
 returns-2 : tie.Need-returns-2
 returns-2 c =
@@ -45,11 +45,11 @@ target-at-spec =
     tie.close
     (tie.spec
     unit-containing-requires
-    enum-told
     enum-known-q
-    find-entry-requires
-    enum-told-2
-    enum-known-place
+    enum-told
     returns
+    find-entry-requires
+    enum-known-place
+    enum-told-2
     returns-2
     returns-3)

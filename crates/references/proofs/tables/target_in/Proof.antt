@@ -7,24 +7,24 @@ use Rattle.references.proofs.tables.target_in.Tie as tie
 find-entry-requires : tie.Need-find-entry-requires
 find-entry-requires c κs = (search needs, search index-table-rising)
 
-enum-told : tie.Need-enum-told
-enum-told c = search needs
-
 enum-known-place : tie.Need-enum-known-place
 enum-known-place c = search needs
 
+enum-told : tie.Need-enum-told
+enum-told c = search needs
+
 returns : tie.Need-returns
 returns c =
+    let asked = c .before .before in
+    let start = asked .before .before .before in
+    leads-in-missing (start .pre .0) (start .args .target) _ (asked .find-entry .ensures) _ _ (start .pre .1 .0) (start .pre .1 .1) (c .enum-told .given .1)
+
+returns-2 : tie.Need-returns-2
+returns-2 c =
     let there = c .before .before in
     let asked = there .before .before in
     let start = asked .before .before .before in
     leads-in-other (start .pre .0) (start .args .target) _ (asked .find-entry .ensures) _ _ (start .pre .1 .0) (start .pre .1 .1) _ _ (there .place .given .1) (c .if1 .taken)
-
-returns-2 : tie.Need-returns-2
-returns-2 c =
-    let asked = c .before .before in
-    let start = asked .before .before .before in
-    leads-in-missing (start .pre .0) (start .args .target) _ (asked .find-entry .ensures) _ _ (start .pre .1 .0) (start .pre .1 .1) (c .enum-told .given .1)
 
 returns-3 : tie.Need-returns-3
 returns-3 c =
@@ -35,4 +35,4 @@ returns-3 c =
 
 pub target-in-spec : {M : Type 1} → statement M
 target-in-spec =
-    tie.close (tie.spec find-entry-requires enum-told enum-known-place returns returns-2 returns-3)
+    tie.close (tie.spec find-entry-requires enum-known-place enum-told returns returns-2 returns-3)
