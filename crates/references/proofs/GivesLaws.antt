@@ -3,7 +3,7 @@ use mathlib.Core.Path.{_≡_, refl, sym, ap, _∙_}
 use mathlib.Core.Bool.{Bool, true, false, cond, not, true≢false}
 use mathlib.Core.List.{List, [], _∷_}
 use mathlib.Core.Option.{Option}
-use Prim.Native.Nat.{ℕ, _+_}
+use Prim.Native.Nat.{ℕ, _+_, _≤_}
 use native.Mathlib.Omega.{arith}
 use lib.Dec.{eqb}
 use lib.ListN.{length}
@@ -20,10 +20,11 @@ use Rattle.references.specs.declared.tables.Tables.{Tables}
 use Rattle.references.specs.declared.tables.Target.{Target}
 use Rattle.references.specs.declared.names.EntryAt.{EntryAt}
 use Rattle.references.specs.declared.names.OffsetAt.{OffsetAt}
-use Rattle.references.specs.Search.{Trail, DieKey, sameKey, isVisited, visit, visitEntry, unitContaining, unitsIn, followIn, followAbsolute, Named, resolveNameInner}
+use Rattle.references.specs.Search.{Trail, DieKey, sameKey, isVisited, visit, visitEntry, unitContaining, unitsIn, followIn, followAbsolute, Named}
+use Rattle.references.specs.Reads.{Counted, after, _>>>_, countedName}
 use Rattle.references.specs.Tables.{Leads, bytesGiven}
 use Rattle.references.specs.Keys.{keysAt, keyIn, Pushed, PossibleKey, keysFrom, keysExtent, TrailIn}
-use Rattle.references.specs.Names.{dwarfOf, searchSource, placeAt, Stands, Aims, trailAt, SearchIn, isAnswer, namedGiven, Gives, resolveAbsoluteName}
+use Rattle.references.specs.Names.{dwarfOf, searchSource, placeAt, Stands, Aims, trailAt, SearchIn, isAnswer, namedGiven, countedGiven, Gives, resolveAbsoluteName}
 use Rattle.references.proofs.FollowLaws.{push-room, push-kept, push-search}
 use Rattle.references.proofs.WayLaws.{key-source}
 
@@ -31,27 +32,27 @@ use Rattle.references.proofs.WayLaws.{key-source}
 
 module _ {main supplementary : List ℕ} {x : Tables} where
   -- at once
-  pub gives-here : {w : List ℕ} {n st : ℕ} {r : List ℕ} (f : Trail → Outcome Named) → SearchIn main supplementary w x n
-      → ((k : ℕ) → f (trailAt w (keysFrom x) n k) ≡ namedGiven st (trailAt w (keysFrom x) n k) r) → Gives f main supplementary x w n w n st r
-  gives-here {w} f S e = record { reads = λ k. k; is = e; ready = S; rest = kept-refl w (x .keys) (keysExtent main supplementary x) }
+  pub gives-here : {w : List ℕ} {n a st : ℕ} {r : List ℕ} (f : Trail → Counted Named) → SearchIn main supplementary w x n → a ≤ n + 1
+      → f (trailAt w (keysFrom x) n a) ≡ countedGiven st (trailAt w (keysFrom x) n a) r → Gives f main supplementary x w n a w n a st r
+  gives-here {w} f S few e = record { is = e; few = few; ready = S; rest = kept-refl w (x .keys) (keysExtent main supplementary x) }
 
   -- nothing
-  pub gives-nothing : {w : List ℕ} {n st : ℕ} (f : Trail → Outcome Named) → SearchIn main supplementary w x n → st ≡ 0
-      → ((k : ℕ) → f (trailAt w (keysFrom x) n k) ≡ done (record { trail = trailAt w (keysFrom x) n k; name = [] })) → Gives f main supplementary x w n w n st []
+  pub gives-nothing : {w : List ℕ} {n a st : ℕ} (f : Trail → Counted Named) → SearchIn main supplementary w x n → a ≤ n + 1 → st ≡ 0
+      → f (trailAt w (keysFrom x) n a) ≡ after (trailAt w (keysFrom x) n a) (done (record { trail = trailAt w (keysFrom x) n a; name = [] })) → Gives f main supplementary x w n a w n a st []
   unfolding namedGiven
-  gives-nothing {st = st} f S z e = gives-here f S (λ k. e k ∙ rw (eq-eqb st 0 z))
+  gives-nothing {st = st} f S few z e = gives-here f S few (e ∙ rw (eq-eqb st 0 z))
 
   -- a refusal
-  pub gives-refused : {w : List ℕ} {n st : ℕ} {r : List ℕ} (f : Trail → Outcome Named) → SearchIn main supplementary w x n → (st ≡ 0 → ⊥)
-      → ((k : ℕ) → f (trailAt w (keysFrom x) n k) ≡ refused st) → Gives f main supplementary x w n w n st r
+  pub gives-refused : {w : List ℕ} {n a st : ℕ} {r : List ℕ} (f : Trail → Counted Named) → SearchIn main supplementary w x n → a ≤ n + 1 → (st ≡ 0 → ⊥)
+      → f (trailAt w (keysFrom x) n a) ≡ after (trailAt w (keysFrom x) n a) (refused st) → Gives f main supplementary x w n a w n a st r
   unfolding namedGiven
-  gives-refused {st = st} f S h e = gives-here f S (λ k. e k ∙ rw (ne-eqb st 0 h))
+  gives-refused {st = st} f S few h e = gives-here f S few (e ∙ rw (ne-eqb st 0 h))
 
   -- as another search does from where this one has come to
-  pub gives-after : {w w₁ w₂ : List ℕ} {n n₁ n₂ st : ℕ} {r : List ℕ} (f g : Trail → Outcome Named) (reads : ℕ → ℕ)
-      → Kept w w₁ (x .keys) (keysExtent main supplementary x) → ((k : ℕ) → f (trailAt w (keysFrom x) n k) ≡ g (trailAt w₁ (keysFrom x) n₁ (reads k)))
-      → Gives g main supplementary x w₁ n₁ w₂ n₂ st r → Gives f main supplementary x w n w₂ n₂ st r
-  gives-after f g reads K e G = record { reads = λ k. G .reads (reads k); is = λ k. e k ∙ G .is (reads k); ready = G .ready; rest = kept-trans K (G .rest) }
+  pub gives-after : {w w₁ w₂ : List ℕ} {n n₁ n₂ a a₁ b st : ℕ} {r : List ℕ} (f g : Trail → Counted Named)
+      → Kept w w₁ (x .keys) (keysExtent main supplementary x) → f (trailAt w (keysFrom x) n a) ≡ g (trailAt w₁ (keysFrom x) n₁ a₁)
+      → Gives g main supplementary x w₁ n₁ a₁ w₂ n₂ b st r → Gives f main supplementary x w n a w₂ n₂ b st r
+  gives-after f g K e G = record { is = e ∙ G .is; few = G .few; ready = G .ready; rest = kept-trans K (G .rest) }
 
   -- a target is written down first
   module _ {w w₁ : List ℕ} {n : ℕ} {key : DieKey} (S : SearchIn main supplementary w x n) (possible : PossibleKey main supplementary key)
@@ -59,17 +60,17 @@ module _ {main supplementary : List ℕ} {x : Tables} where
     trail-pushed : (k : ℕ) → record { visited = key ∷ keysAt w (keysFrom x) n; reads = k } ≡ trailAt w₁ (keysFrom x) (n + 1) k
     trail-pushed k = ap (λ (ks : List DieKey). record { visited = ks; reads = k }) (sym (P .keys))
 
-    pub gives-pushed : {w₂ : List ℕ} {n₂ st : ℕ} {r : List ℕ} (f g : Trail → Outcome Named)
-        → ((k : ℕ) → f (trailAt w (keysFrom x) n k) ≡ g (visitEntry (trailAt w (keysFrom x) n k) key))
-        → Gives g main supplementary x w₁ (n + 1) w₂ n₂ st r → Gives f main supplementary x w n w₂ n₂ st r
-    gives-pushed f g e G = gives-after f g (λ k. k + 1) (push-kept S possible new P) (λ k. e k ∙ ap g (trail-pushed (k + 1))) G
+    pub gives-pushed : {w₂ : List ℕ} {n₂ a b st : ℕ} {r : List ℕ} (f g : Trail → Counted Named)
+        → f (trailAt w (keysFrom x) n a) ≡ g (visitEntry (trailAt w (keysFrom x) n a) key)
+        → Gives g main supplementary x w₁ (n + 1) (a + 1) w₂ n₂ b st r → Gives f main supplementary x w n a w₂ n₂ b st r
+    gives-pushed {a = a} f g e G = gives-after f g (push-kept S possible new P) (e ∙ ap g (trail-pushed (a + 1))) G
 
-    pub gives-outside : {st : ℕ} (f : Trail → Outcome Named) → length w₁ ≡ length w → st ≡ 0
-        → ((k : ℕ) → f (trailAt w (keysFrom x) n k) ≡ done (record { trail = visit (trailAt w (keysFrom x) n k) key; name = [] }))
-        → Gives f main supplementary x w n w₁ (n + 1) st []
-    gives-outside f size z e =
-        let g : Trail → Outcome Named = λ t. done (record { trail = t; name = [] }) in
-        gives-after f g (λ k. k) (push-kept S possible new P) (λ k. e k ∙ ap g (trail-pushed k)) (gives-nothing g (push-search S possible new P size) z (λ k. refl))
+    pub gives-outside : {a st : ℕ} (f : Trail → Counted Named) → length w₁ ≡ length w → a ≤ n + 1 → st ≡ 0
+        → f (trailAt w (keysFrom x) n a) ≡ after (visit (trailAt w (keysFrom x) n a) key) (done (record { trail = visit (trailAt w (keysFrom x) n a) key; name = [] }))
+        → Gives f main supplementary x w n a w₁ (n + 1) a st []
+    gives-outside {a} f size few z e =
+        let g : Trail → Counted Named = λ t. after t (done (record { trail = t; name = [] })) in
+        gives-after f g (push-kept S possible new P) (e ∙ ap g (trail-pushed a)) (gives-nothing g (push-search S possible new P size) (omega arith) z refl)
 
 -- ---- an offset of a section
 
@@ -79,7 +80,7 @@ units-in main supplementary DebugSource.Main = refl
 units-in main supplementary DebugSource.Supplementary = refl
 
 -- the search for the name there
-abbrev absolute : ℕ → List ℕ → List ℕ → OffsetAt → Trail → Outcome Named
+abbrev absolute : ℕ → List ℕ → List ℕ → OffsetAt → Trail → Counted Named
 absolute depth main supplementary at = resolveAbsoluteName depth (dwarfOf main supplementary) (searchSource (at .input)) (searchSource (at .source)) (at .target)
 
 abbrev keyAt : OffsetAt → DieKey
@@ -103,9 +104,9 @@ module _ {main supplementary w : List ℕ} {x : Tables} {n : ℕ} {at : OffsetAt
   visited : exists (sameKey (keyAt at)) (keysAt w (keysFrom x) n) ≡ v
   visited = ap (λ (k : DieKey). exists (sameKey k) (keysAt w (keysFrom x) n)) (key-source (at .source) (at .target)) ∙ sym seen
 
-  pub absolute-seen : {st : ℕ} → st ≡ 0 → v ≡ true → Gives (absolute depth main supplementary at) main supplementary x w n w n st []
-  unfolding resolveAbsoluteName followAbsolute isVisited _>>=_
-  absolute-seen z y = gives-nothing (absolute depth main supplementary at) S z (λ k. rw (visited, y))
+  pub absolute-seen : {a st : ℕ} → a ≤ n + 1 → st ≡ 0 → v ≡ true → Gives (absolute depth main supplementary at) main supplementary x w n a w n a st []
+  unfolding resolveAbsoluteName followAbsolute isVisited
+  absolute-seen few z y = gives-nothing (absolute depth main supplementary at) S few z (rw (visited, y))
 
   module _ {s : List ℕ} (new : v ≡ false) (is : s ≡ sourceIn main supplementary (at .input)) {r : Target} (L : Leads s (at .target) r) where
     follows : {o : Option CompilationUnit} → unitContaining (units (sourceIn main supplementary (at .input))) (at .target) ≡ o
@@ -114,37 +115,35 @@ module _ {main supplementary w : List ℕ} {x : Tables} {n : ℕ} {at : OffsetAt
     unfolding followAbsolute isVisited
     follows found t same = rw (same, visited, new, units-in main supplementary (at .input), found)
 
-    pub absolute-no-entry : (q : ℕ) → r ≡ Target.NoEntry q → Gives (absolute depth main supplementary at) main supplementary x w n w n 13 []
+    pub absolute-no-entry : (q : ℕ) → r ≡ Target.NoEntry q → {a : ℕ} → a ≤ n + 1 → Gives (absolute depth main supplementary at) main supplementary x w n a w n a 13 []
     unfolding resolveAbsoluteName _>>=_
-    absolute-no-entry q to =
+    absolute-no-entry q to {a} few =
         let leads = rw (is, to) at L in
-        gives-refused (absolute depth main supplementary at) S (λ z. omega arith) (λ k. rw (follows (leads .is .0) (trailAt w (keysFrom x) n k) refl, leads .is .1))
+        gives-refused (absolute depth main supplementary at) S few (λ z. omega arith) (rw (follows (leads .is .0) (trailAt w (keysFrom x) n a) refl, leads .is .1))
 
     pub absolute-stands : (p q : ℕ) → r ≡ Target.At p q → Stands main supplementary (entryThere at p q)
     absolute-stands p q to = let leads = rw (is, to) at L in record { known = leads .is .2; sourced = A .sourced }
 
     module _ {w₁ : List ℕ} (P : Pushed w w₁ x n (keyIn (at .source) (at .target))) where
-      pub absolute-outside : {st : ℕ} → r ≡ Target.Outside → length w₁ ≡ length w → st ≡ 0
-          → Gives (absolute depth main supplementary at) main supplementary x w n w₁ (n + 1) st []
+      pub absolute-outside : {a st : ℕ} → r ≡ Target.Outside → length w₁ ≡ length w → a ≤ n + 1 → st ≡ 0
+          → Gives (absolute depth main supplementary at) main supplementary x w n a w₁ (n + 1) a st []
       unfolding resolveAbsoluteName _>>=_
-      absolute-outside to size z =
+      absolute-outside {a} to size few z =
           let leads = rw (is, to) at L in
-          gives-outside S (A .possible) (sym seen ∙ new) P (absolute depth main supplementary at) size z
-          (λ k.
-          rw (follows (leads .is) (trailAt w (keysFrom x) n k) refl)
-          (ap (λ (key : DieKey). done (record { trail = visit (trailAt w (keysFrom x) n k) key; name = [] })) (key-source (at .source) (at .target))))
+          gives-outside S (A .possible) (sym seen ∙ new) P (absolute depth main supplementary at) size few z
+          (rw (follows (leads .is) (trailAt w (keysFrom x) n a) refl)
+          (ap (λ (key : DieKey). after (visit (trailAt w (keysFrom x) n a) key) (done (record { trail = visit (trailAt w (keysFrom x) n a) key; name = [] }))) (key-source (at .source) (at .target))))
 
-      pub absolute-at : (p q : ℕ) → r ≡ Target.At p q → {w₂ name : List ℕ} {n₂ st : ℕ}
-          → Gives (resolveNameInner depth (dwarfOf main supplementary) (placeAt main supplementary (entryThere at p q))) main supplementary x w₁ (n + 1) w₂ n₂ st name
-          → Gives (absolute depth main supplementary at) main supplementary x w n w₂ n₂ st name
+      pub absolute-at : (p q : ℕ) → r ≡ Target.At p q → {w₂ name : List ℕ} {n₂ a b st : ℕ}
+          → Gives (countedName depth (dwarfOf main supplementary) (placeAt main supplementary (entryThere at p q))) main supplementary x w₁ (n + 1) (a + 1) w₂ n₂ b st name
+          → Gives (absolute depth main supplementary at) main supplementary x w n a w₂ n₂ b st name
       unfolding resolveAbsoluteName _>>=_
-      absolute-at p q to G =
+      absolute-at p q to {a = a} G =
           let leads = rw (is, to) at L in
-          let inner : Trail → Outcome Named = resolveNameInner depth (dwarfOf main supplementary) (placeAt main supplementary (entryThere at p q)) in
+          let inner : Trail → Counted Named = countedName depth (dwarfOf main supplementary) (placeAt main supplementary (entryThere at p q)) in
           gives-pushed S (A .possible) (sym seen ∙ new) P (absolute depth main supplementary at) inner
-          (λ k.
-          rw (follows (leads .is .0) (trailAt w (keysFrom x) n k) refl, leads .is .1)
-          (ap (λ (key : DieKey). inner (visitEntry (trailAt w (keysFrom x) n k) key)) (key-source (at .source) (at .target))))
+          (rw (follows (leads .is .0) (trailAt w (keysFrom x) n a) refl, leads .is .1)
+          (ap (λ (key : DieKey). inner (visitEntry (trailAt w (keysFrom x) n a) key)) (key-source (at .source) (at .target))))
           G
 
 -- ---- an answer ends a search
@@ -153,6 +152,10 @@ pub bind-assoc : {A B C : Type 0} (m : Outcome A) (f : A → Outcome B) (g : B �
 unfolding _>>=_
 bind-assoc (refused n) f g = refl
 bind-assoc (done a) f g = refl
+
+pub counted-assoc : {A B C : Type 0} (t : Trail) (o : Outcome A) (f : A → Counted B) (g : B → Counted C) → ((after t o >>> f) >>> g) ≡ (after t o >>> λ a. f a >>> g)
+counted-assoc t (refused n) f g = refl
+counted-assoc t (done a) f g = refl
 
 module _ (st : ℕ) (r : List ℕ) where
   -- no answer: no refusal, and no name
@@ -166,29 +169,29 @@ module _ (st : ℕ) (r : List ℕ) where
 
   module _ (t : Trail) where
     -- the own name
-    pub own-ends : (g : Outcome Named) → isAnswer st r ≡ true → (bytesGiven st r >>= λ own. cond (isEmpty own) g (done (record { trail = t; name = own }))) ≡ namedGiven st t r
-    unfolding isAnswer bytesGiven namedGiven _>>=_
+    pub own-ends : (g : Counted Named) → isAnswer st r ≡ true → (after t (bytesGiven st r) >>> λ own. cond (isEmpty own) g (after t (done (record { trail = t; name = own })))) ≡ countedGiven st t r
+    unfolding isAnswer bytesGiven namedGiven
     own-ends g e = go (eqb st 0) r e
       where
         go : (b : Bool) (r : List ℕ) → cond b (not (isEmpty r)) true ≡ true
-            → (cond b (done r) (refused st) >>= λ own. cond (isEmpty own) g (done (record { trail = t; name = own }))) ≡ cond b (done (record { trail = t; name = r })) (refused st)
+            → (after t (cond b (done r) (refused st)) >>> λ own. cond (isEmpty own) g (after t (done (record { trail = t; name = own })))) ≡ after t (cond b (done (record { trail = t; name = r })) (refused st))
         go true [] e = absurd (true≢false (sym e))
         go true (b ∷ r) e = refl
         go false r e = refl
 
     -- the name of a reference
-    pub name-ends : (g : Trail → Outcome Named) → isAnswer st r ≡ true → (namedGiven st t r >>= λ m. cond (isEmpty (m .name)) (g (m .trail)) (done m)) ≡ namedGiven st t r
-    unfolding isAnswer namedGiven _>>=_
+    pub name-ends : (g : Trail → Counted Named) → isAnswer st r ≡ true → (countedGiven st t r >>> λ m. cond (isEmpty (m .name)) (g (m .trail)) (after (m .trail) (done m))) ≡ countedGiven st t r
+    unfolding isAnswer namedGiven
     name-ends g e = go (eqb st 0) r e
       where
         go : (b : Bool) (r : List ℕ) → cond b (not (isEmpty r)) true ≡ true
-            → (cond b (done (record { trail = t; name = r })) (refused st) >>= λ m. cond (isEmpty (m .name)) (g (m .trail)) (done m)) ≡ cond b (done (record { trail = t; name = r })) (refused st)
+            → (after t (cond b (done (record { trail = t; name = r })) (refused st)) >>> λ m. cond (isEmpty (m .name)) (g (m .trail)) (after (m .trail) (done m))) ≡ after t (cond b (done (record { trail = t; name = r })) (refused st))
         go true [] e = absurd (true≢false (sym e))
         go true (b ∷ r) e = refl
         go false r e = refl
 
-    pub name-goes : (g : Trail → Outcome Named) → isAnswer st r ≡ false → (namedGiven st t r >>= λ m. cond (isEmpty (m .name)) (g (m .trail)) (done m)) ≡ g t
-    unfolding namedGiven _>>=_
+    pub name-goes : (g : Trail → Counted Named) → isAnswer st r ≡ false → (countedGiven st t r >>> λ m. cond (isEmpty (m .name)) (g (m .trail)) (after (m .trail) (done m))) ≡ g t
+    unfolding namedGiven
     name-goes g e = let h = no-answer e in rw (h .0, h .1)
 
     pub name-bytes : (namedGiven st t r >>= λ m. done (m .name)) ≡ bytesGiven st r

@@ -103,7 +103,7 @@ module _ (k : DieKey) where
       (λ y. absurd (true≢false (rw y at new)))
       (λ n. (without-keeps ps a x n (h .0), without-all ps a ks (rw n at new) (h .1)))
 
-distinct-few : (ks ps : List DieKey) → Distinct ks → All (λ x. Any (λ y. x ≡ y) ps) ks → length ks ≤ length ps
+pub distinct-few : (ks ps : List DieKey) → Distinct ks → All (λ x. Any (λ y. x ≡ y) ps) ks → length ks ≤ length ps
 distinct-few [] ps d h = omega arith
 distinct-few (k ∷ ks) ps d h =
     let less = distinct-few ks (without k ps (h .0)) (d .1) (without-all k ps (h .0) ks (d .0) (h .1)) in
@@ -144,26 +144,26 @@ keys-in-none room = record { distinct = tt; possible = tt; chained = λ y. absur
 -- ---- the keys that an attribute can be remembered under are possible
 
 module _ {A : Type 0} (P : A → Type 0) where
-  any-left : (xs ys : List A) → Any P xs → Any P (xs ++ ys)
+  pub any-left : (xs ys : List A) → Any P xs → Any P (xs ++ ys)
   any-left (x ∷ xs) ys (inl p) = inl p
   any-left (x ∷ xs) ys (inr p) = inr (any-left xs ys p)
 
-  any-right : (xs ys : List A) → Any P ys → Any P (xs ++ ys)
+  pub any-right : (xs ys : List A) → Any P ys → Any P (xs ++ ys)
   any-right [] ys p = p
   any-right (x ∷ xs) ys p = inr (any-right xs ys p)
 
-any-image : {A B : Type 0} (f : A → B) (a : A) (xs : List A) → Any (λ x. x ≡ a) xs → Any (λ y. y ≡ f a) (map f xs)
+pub any-image : {A B : Type 0} (f : A → B) (a : A) (xs : List A) → Any (λ x. x ≡ a) xs → Any (λ y. y ≡ f a) (map f xs)
 any-image f a (x ∷ xs) (inl e) = inl (ap f e)
 any-image f a (x ∷ xs) (inr e) = inr (any-image f a xs e)
 
 -- what a reader takes of an attribute is among what it takes of an entry, of a unit and of all units
 module _ (f : CompilationUnit → List Attribute → List DieKey) (P : DieKey → Type 0) where
-  entry-keys : (u : CompilationUnit) (e : Entry) (es : List Entry) → Any (λ x. x ≡ e) es → Any P (f u (e .attributes)) → Any P (entryKeys f u es)
+  pub entry-keys : (u : CompilationUnit) (e : Entry) (es : List Entry) → Any (λ x. x ≡ e) es → Any P (f u (e .attributes)) → Any P (entryKeys f u es)
   unfolding entryKeys
   entry-keys u e (d ∷ es) (inl same) p = any-left P (f u (d .attributes)) (entryKeys f u es) (rw same p)
   entry-keys u e (d ∷ es) (inr later) p = any-right P (f u (d .attributes)) (entryKeys f u es) (entry-keys u e es later p)
 
-  unit-keys : (u : CompilationUnit) (us : List CompilationUnit) → Any (λ x. x ≡ u) us → Any P (entryKeys f u (u .entries)) → Any P (unitKeys f us)
+  pub unit-keys : (u : CompilationUnit) (us : List CompilationUnit) → Any (λ x. x ≡ u) us → Any P (entryKeys f u (u .entries)) → Any P (unitKeys f us)
   unfolding unitKeys
   unit-keys u (v ∷ us) (inl same) p = any-left P (entryKeys f v (v .entries)) (unitKeys f us) (rw same p)
   unit-keys u (v ∷ us) (inr later) p = any-right P (entryKeys f v (v .entries)) (unitKeys f us) (unit-keys u us later p)
@@ -200,7 +200,7 @@ module _ (f : CompilationUnit → List Attribute → List DieKey)
     (there : (u : CompilationUnit) (P : DieKey → Type 0) (a : Attribute) (later : List Attribute) → Any P (f u later) → Any P (f u (a ∷ later)))
     (u : CompilationUnit) (k : ℕ) (key : ℕ → DieKey)
     (here : (a : Attribute) (later : List Attribute) → a .kind ≡ k → Any (λ x. key (a .value) ≡ x) (f u (a ∷ later))) where
-  taken : (bs : List Attribute) (a : Attribute) → Any (λ b. b ≡ a) bs → a .kind ≡ k → Any (λ x. key (a .value) ≡ x) (f u bs)
+  pub taken : (bs : List Attribute) (a : Attribute) → Any (λ b. b ≡ a) bs → a .kind ≡ k → Any (λ x. key (a .value) ≡ x) (f u bs)
   taken (b ∷ bs) a (inl same) is = rw same (here a bs is)
   taken (b ∷ bs) a (inr later) is = there u (λ x. key (a .value) ≡ x) b bs (taken bs a later is)
 
@@ -210,7 +210,7 @@ module _ (f : CompilationUnit → List Attribute → List DieKey)
       rw (r .value-is) at (taken (e .attributes) (r .one) (first-any (λ a. eqb (a .name) name) (r .one) (e .attributes) (r .is)) (r .kind-is))
 
 -- an entry of the main sheet
-later-main : (u : CompilationUnit) (P : DieKey → Type 0) (a : Attribute) (later : List Attribute) → Any P (mainKeys u later) → Any P (mainKeys u (a ∷ later))
+pub later-main : (u : CompilationUnit) (P : DieKey → Type 0) (a : Attribute) (later : List Attribute) → Any P (mainKeys u later) → Any P (mainKeys u (a ∷ later))
 unfolding mainKeys
 later-main u P a later p =
     by-test (Any P) (eqb (a .kind) 4) (λ _. inr p) (λ _. by-test (Any P) (eqb (a .kind) 5) (λ _. inr p) (λ _. by-test (Any P) (eqb (a .kind) 6) (λ _. inr p) (λ _. p)))
@@ -238,11 +238,11 @@ module _ {main supplementary : List ℕ} {n q p v : ℕ} (name : ℕ) (accepted 
   possible-main-supplementary is = from-main 6 (keyIn DebugSource.Supplementary) (λ a later is. rw is (inl refl)) (rw is at (refers (attribute (entryHere main p) name)))
 
 -- an entry of the supplementary sheet
-later-supplementary : (u : CompilationUnit) (P : DieKey → Type 0) (a : Attribute) (later : List Attribute) → Any P (supplementaryKeys u later) → Any P (supplementaryKeys u (a ∷ later))
+pub later-supplementary : (u : CompilationUnit) (P : DieKey → Type 0) (a : Attribute) (later : List Attribute) → Any P (supplementaryKeys u later) → Any P (supplementaryKeys u (a ∷ later))
 unfolding supplementaryKeys
 later-supplementary u P a later p = by-test (Any P) (eqb (a .kind) 4) (λ _. inr (inr p)) (λ _. by-test (Any P) (eqb (a .kind) 5) (λ _. inr p) (λ _. p))
 
-either-source : (source : DebugSource) (o : ℕ) (ks : List DieKey) → Any (λ x. keyIn source o ≡ x) (keyIn DebugSource.Main o ∷ keyIn DebugSource.Supplementary o ∷ ks)
+pub either-source : (source : DebugSource) (o : ℕ) (ks : List DieKey) → Any (λ x. keyIn source o ≡ x) (keyIn DebugSource.Main o ∷ keyIn DebugSource.Supplementary o ∷ ks)
 either-source DebugSource.Main o ks = inl refl
 either-source DebugSource.Supplementary o ks = inr (inl refl)
 

@@ -1,4 +1,5 @@
 pub mod Refusals
+pub mod ReadLaws
 pub mod NameBounds
 pub mod DeclarationBounds
 pub mod ReferenceLaws
@@ -8,6 +9,9 @@ pub mod VisitedLaws
 pub mod ChainLaws
 pub mod KeyLaws
 pub mod FewKeys
+pub mod ReadTargets
+pub mod ReadBounds
+pub mod ReadExamples
 pub mod FollowLaws
 pub mod WayLaws
 pub mod GivesLaws

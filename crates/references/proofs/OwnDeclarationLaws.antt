@@ -44,8 +44,10 @@ use Rattle.references.specs.declared.attributes.Number.{Number}
 use Rattle.references.specs.declared.declarations.OwnLine.{OwnLine}
 use Rattle.references.specs.Search.{Declaring, absoluteEntryOffset, warnDeclaration, declarationOf, ownDeclaration}
 use Rattle.files.specs.Reached.{reachedIndices, LookedUp}
-use Rattle.references.specs.Names.{placeAt, Stands}
-use Rattle.references.specs.Declarations.{reachedFiles, indicesAt, declaringAt, DeclaringIn, DeclaredState, lower, Declares}
+use Rattle.references.specs.Keys.{keysFrom}
+use Rattle.references.specs.Names.{placeAt, trailAt, Stands}
+use Rattle.references.specs.Declarations.{reachedFiles, indicesAt, declaringAt, DeclaringIn, DeclaredState, lower, DeclaresCounted}
+use Rattle.references.specs.Reads.{after as still}
 use Rattle.references.specs.DeclaredSteps.{declaredBy, OwnAt, absoluteGiven, Numbered, Warns, Owns, UnitKnown}
 use Rattle.references.proofs.TargetLaws.{known-unit}
 use Rattle.references.proofs.FollowLaws.{index-at}
@@ -165,14 +167,16 @@ module _ {s : List ℕ} {q p kind number : ℕ} {warnings : List ℕ} {st : Decl
   warns-written {n = n} is P = record { is = record { offset = n; is = sym e ∙ rw is; put = P; count = refl; table = refl } }
 
 module _ {main supplementary w : List ℕ} {d : Places} {st : DeclaringState} (D : DeclaringIn main supplementary w d st) {s : List ℕ} {q p kind number : ℕ} {warnings warnings′ : List ℕ} where
-  declares-warned : (k : WarningKind) (r : Declared) (files : List ℕ) → length files < top → kind ≡ kindNumber k → Warns s q p kind number warnings warnings′ st r
-      → Declares (warnDeclaration k (unitHere s q) (entryHere s p) number) main supplementary w w files files warnings warnings′ d st r
+  declares-warned : (k : WarningKind) (r : Declared) (files : List ℕ) → length files < top → kind ≡ kindNumber k → {a : ℕ} → a ≤ st .count + 1 → Warns s q p kind number warnings warnings′ st r
+      → DeclaresCounted (λ y. still (y .trail) (warnDeclaration k (unitHere s q) (entryHere s p) number y)) main supplementary w w files files warnings warnings′ d st a a r
   unfolding warnDeclaration _>>=_ warningsBytes eachOf
-  declares-warned k (Declared.Refused n) files few kd W = declares-refused (λ m ws. rw (W .is)) (but-refl _ _)
-  declares-warned k (Declared.Missing st′) files few kd W =
+  declares-warned k (Declared.Refused n) files few kd read W = declares-refused (λ m. m) (λ m. refl) (λ m ws. rw (W .is)) (but-refl _ _)
+  declares-warned k (Declared.Missing st′) files few kd read W =
       let X = W .is in
       record {
         reads = λ m. m;
+        adds = λ m. refl;
+        few = rw (X .count) read;
         new = about k (X .offset) number ∷ [];
         is = λ m ws. rw (X .is, X .count, X .table);
         after = record {
@@ -182,7 +186,7 @@ module _ {main supplementary w : List ℕ} {d : Places} {st : DeclaringState} (D
         };
         rest = but-refl _ _;
       }
-  declares-warned k (Declared.Found st′ file line) files few kd W = absurd (W .is)
+  declares-warned k (Declared.Found st′ file line) files few kd read W = absurd (W .is)
 
 -- ---- the search
 
@@ -191,8 +195,8 @@ module _ {main supplementary w : List ℕ} {d : Places} {st : DeclaringState} (D
   pub own-nothing : {warnings : List ℕ} → length warnings < top → o ≡ OwnLine.Missing
       → Owns (ownDeclaration (placeAt main supplementary at .unit) (placeAt main supplementary at .entry) ids) main supplementary w w warnings warnings d st (Declared.Missing st)
   own-nothing short none-is = record {
-    declares = λ files few. declares-missing D few short (λ k ws.
-        let e = rw is at (O .is (placeAt main supplementary at .unit) ids (declaringAt main supplementary w d st ws k)) in e ∙ rw none-is);
+    declares = λ files few a read. declares-missing D few short read (λ k ws.
+        let e = rw is at (O .is (placeAt main supplementary at .unit) ids (declaringAt main supplementary w d st ws k)) in ap (still (trailAt w (keysFrom (d .tables)) (st .count) k)) (e ∙ rw none-is));
   }
 
   module _ {w₁ : List ℕ} {file : FileNumber} {line : ℕ} {r : FoundIndex} (there-is : o ≡ OwnLine.At file line) (N : Numbered main supplementary w w₁ d st ids file r) (size : length w₁ ≡ length w) where
@@ -215,42 +219,42 @@ module _ {main supplementary w : List ℕ} {d : Places} {st : DeclaringState} (D
       ready = ready;
     }
 
-    after : (g : Declaring → Outcome Declaring) (x : Declared) (files warnings warnings₂ : List ℕ) → length files < top → length warnings < top
+    after : (g : Declaring → Outcome Declaring) (x : Declared) (files warnings warnings₂ : List ℕ) → length files < top → length warnings < top → {a : ℕ}
         → ((y : Declaring) → declarationOf (placeAt main supplementary at .unit) (placeAt main supplementary at .entry) (file .0) line (numberOf r) y ≡ g y)
-        → Declares g main supplementary w₁ w₁ files files warnings warnings₂ d st x
-        → Declares (ownDeclaration (placeAt main supplementary at .unit) (placeAt main supplementary at .entry) ids) main supplementary w w₁ files files warnings warnings₂ d st x
+        → DeclaresCounted (λ y. still (y .trail) (g y)) main supplementary w₁ w₁ files files warnings warnings₂ d st a a x
+        → DeclaresCounted (λ y. still (y .trail) (ownDeclaration (placeAt main supplementary at .unit) (placeAt main supplementary at .entry) ids y)) main supplementary w w₁ files files warnings warnings₂ d st a a x
     after g x files warnings warnings₂ few short to G =
-        declares-after (state files warnings few short) (lower-rest D (N .rest)) x (λ k. k)
+        declares-after (state files warnings few short) (lower-rest D (N .rest)) (λ k. k) (λ k. refl)
         (λ k ws.
         let e = rw is at (O .is (placeAt main supplementary at .unit) ids (declaringAt main supplementary w d st ws k)) in
         let same : declaringAt main supplementary w d st ws k ≡ declaringAt main supplementary w₁ d st (ws ++ []) k = rw (append-nil ws, lower-keys D (N .rest) size, N .same) in
         let told : declaredBy (placeAt main supplementary at .unit) (sourceIn main supplementary (at .input)) (at .place) ids o (declaringAt main supplementary w d st ws k) ≡ g (declaringAt main supplementary w d st ws k)
         = rw (there-is, ← N .is-number) (to _) in
-        e ∙ told ∙ ap g same)
-        G
+        ap (still (trailAt w (keysFrom (d .tables)) (st .count) k)) (e ∙ told) ∙ ap (λ (y : Declaring). still (y .trail) (g y)) same)
+        x G
 
     pub own-no-file : {warnings warnings₂ : List ℕ} {x : Declared} → length warnings < top → r ≡ FoundIndex.Missing → Warns s (at .unit) (at .place) 10 (file .0) warnings warnings₂ st x
         → Owns (ownDeclaration (placeAt main supplementary at .unit) (placeAt main supplementary at .entry) ids) main supplementary w w₁ warnings warnings₂ d st x
     unfolding kindNumber
     own-no-file {warnings} {warnings₂} {x} short missing W = record {
-      declares = λ files few.
+      declares = λ files few a read.
           after (warnDeclaration invalidDeclarationFile (placeAt main supplementary at .unit) (placeAt main supplementary at .entry) (file .0)) x files warnings warnings₂ few short (λ y. rw missing)
-          (declares-warned ready invalidDeclarationFile x files few refl (rw is at W));
+          (declares-warned ready invalidDeclarationFile x files few refl read (rw is at W));
     }
 
     pub own-long-line : {warnings warnings₂ : List ℕ} {x : Declared} {i : FileIndex} → length warnings < top → r ≡ FoundIndex.Number i → 2 ^ 32 ≤ line → Warns s (at .unit) (at .place) 11 line warnings warnings₂ st x
         → Owns (ownDeclaration (placeAt main supplementary at .unit) (placeAt main supplementary at .entry) ids) main supplementary w w₁ warnings warnings₂ d st x
     unfolding kindNumber
     own-long-line {warnings} {warnings₂} {x} short number long W = record {
-      declares = λ files few.
+      declares = λ files few a read.
           after (warnDeclaration invalidDeclarationLine (placeAt main supplementary at .unit) (placeAt main supplementary at .entry) line) x files warnings warnings₂ few short (λ y. rw (number, le-ltb line (2 ^ 32) long))
-          (declares-warned ready invalidDeclarationLine x files few refl (rw is at W));
+          (declares-warned ready invalidDeclarationLine x files few refl read (rw is at W));
     }
 
     pub own-found : {warnings : List ℕ} {i : FileIndex} → length warnings < top → r ≡ FoundIndex.Number i → line < 2 ^ 32
         → Owns (ownDeclaration (placeAt main supplementary at .unit) (placeAt main supplementary at .entry) ids) main supplementary w w₁ warnings warnings d st (Declared.Found st i line)
     own-found {warnings} {i} short number small = record {
-      declares = λ files few.
+      declares = λ files few a read.
           after (declarationOf (placeAt main supplementary at .unit) (placeAt main supplementary at .entry) (file .0) line (some i)) (Declared.Found st i line) files warnings warnings few short (λ y. rw number)
           (declares-found ready few short (λ k ws. rw (lt-ltb line (2 ^ 32) small)));
     }

@@ -3,9 +3,10 @@ use mathlib.Core.Path.{_≡_, refl, sym, ap, _∙_}
 use mathlib.Core.Bool.{Bool, true, false}
 use mathlib.Core.List.{List, [], _∷_, _++_, append-nil}
 use mathlib.Core.Option.{none}
-use Prim.Native.Nat.{ℕ, _+_, _-_, _<_}
+use Prim.Native.Nat.{ℕ, _+_, _-_, _≤_, _<_}
+use native.Mathlib.Omega.{arith}
 use lib.ListN.{length}
-use Rattle.tlv.specs.Outcome.{Outcome, refused, done, _>>=_}
+use Rattle.tlv.specs.Outcome.{Outcome, refused, done}
 use Rattle.tlv.specs.Lists.{exists}
 use Rattle.tlv.specs.Buffer.{top}
 use Rattle.tlv.specs.Table.{KeptBut}
@@ -27,10 +28,11 @@ use Rattle.references.specs.declared.declarations.DeclaringState.{Declar
 use Rattle.references.specs.declared.declarations.Declared.{Declared}
 use Rattle.references.specs.declared.declarations.Joined.{Joined}
 use Rattle.references.specs.declared.declarations.Aim.{Aim}
-use Rattle.references.specs.Search.{DieKey, sameKey, Followed, Target, nothing, sameUnit, byOffset, Declaring, DeclarationSearch, withTrail, declarationAtTarget, resolveDeclaration}
+use Rattle.references.specs.Search.{DieKey, sameKey, Followed, Target, nothing, sameUnit, byOffset, Declaring, withTrail}
+use Rattle.references.specs.Reads.{after, _>>>_, CountedDeclarations, countedDeclarationAt, countedDeclaration}
 use Rattle.references.specs.Keys.{keysAt, keyIn, Pushed, PossibleKey, keysFrom}
 use Rattle.references.specs.Names.{dwarfOf, searchSource, placeAt, trailAt, followFrom, EntryNext, OffsetNext, Ways, Aims}
-use Rattle.references.specs.Declarations.{indicesAt, declaringAt, DeclaringIn, DeclaredState, searched, Declares, Reaching, resolveReference, resolveAbsolute}
+use Rattle.references.specs.Declarations.{indicesAt, declaringAt, DeclaringIn, DeclaredState, searched, DeclaresCounted, Reaching, resolveReference, resolveAbsolute}
 use Rattle.references.specs.DeclaredSteps.{JoinedTo, Joins, followOffset, AimOutside, AimEntry, Aimed}
 use Rattle.references.proofs.DeclareFrames.{lower-keys, lower-ready, lower-rest, pushed-rest, pushed-table, pushed-map, pushed-ready}
 use Rattle.references.proofs.DeclareLaws.{declares-missing, declares-refused, declares-as, declares-after}
@@ -67,17 +69,17 @@ module _ {main supplementary w w₁ : List ℕ} {d : Places} {st : DeclaringStat
 -- ---- a reference
 
 module _ {main supplementary w : List ℕ} {d : Places} {st : DeclaringState} (D : DeclaringIn main supplementary w d st) (at : EntryAt) (reached : Bool) (name : ℕ) where
-  pub reference-nothing : {files warnings : List ℕ} (is : FileIndices) → length files < top → length warnings < top → (y : Way) → y ≡ Way.Nothing
+  pub reference-nothing : {files warnings : List ℕ} {a : ℕ} (is : FileIndices) → length files < top → length warnings < top → a ≤ st .count + 1 → (y : Way) → y ≡ Way.Nothing
       → Ways (followFrom main supplementary at name) main supplementary w (d .tables) (st .count) (at .depth) y
-      → Declares (resolveReference (64 - (at .depth + 1)) main supplementary at is name) main supplementary w w files files warnings warnings d st (Declared.Missing st)
-  unfolding resolveReference _>>=_
-  reference-nothing is few short y to W = let e = rw to at (W .is) in declares-missing D few short (λ k ws. rw (e k))
+      → DeclaresCounted (resolveReference (64 - (at .depth + 1)) main supplementary at is name) main supplementary w w files files warnings warnings d st a a (Declared.Missing st)
+  unfolding resolveReference
+  reference-nothing is few short read y to W = let e = rw to at (W .is) in declares-missing D few short read (λ k ws. rw (e k))
 
-  pub reference-refused : {files warnings : List ℕ} (is : FileIndices) (n : ℕ) (y : Way) → y ≡ Way.Refused n
+  pub reference-refused : {files warnings : List ℕ} {a : ℕ} (is : FileIndices) (n : ℕ) (y : Way) → y ≡ Way.Refused n
       → Ways (followFrom main supplementary at name) main supplementary w (d .tables) (st .count) (at .depth) y
-      → Declares (resolveReference (64 - (at .depth + 1)) main supplementary at is name) main supplementary w w files files warnings warnings d st (Declared.Refused n)
-  unfolding resolveReference _>>=_
-  reference-refused is n y to W = let e = rw to at (W .is) in declares-refused (λ k ws. rw (e .1 k)) (but-refl _ _)
+      → DeclaresCounted (resolveReference (64 - (at .depth + 1)) main supplementary at is name) main supplementary w w files files warnings warnings d st a a (Declared.Refused n)
+  unfolding resolveReference
+  reference-refused is n y to W = let e = rw to at (W .is) in declares-refused (λ k. k) (λ k. refl) (λ k ws. rw (e .1 k)) (but-refl _ _)
 
   pub entry-next : (next : EntryAt) (target : ℕ) (y : Way) → y ≡ Way.Entry next target → Ways (followFrom main supplementary at name) main supplementary w (d .tables) (st .count) (at .depth) y
       → EntryNext (followFrom main supplementary at name) main supplementary w (d .tables) (st .count) (at .depth) next target
@@ -96,52 +98,51 @@ module _ {main supplementary w : List ℕ} {d : Places} {st : DeclaringState} (D
       pub entry-reaching : Reaching main supplementary w₁ (more st) next reached
       entry-reaching = reaching-as R (pushed-table D (N .possible) (N .new) P) next-unit
 
-      pub reference-entry : {files warnings w₂ files₂ warnings₂ : List ℕ} → length w₁ ≡ length w → length files < top → length warnings < top → (r : Declared)
-          → Declares (resolveDeclaration (64 - next .depth) (dwarfOf main supplementary) (placeAt main supplementary next) (indicesAt main supplementary w₁ d (more st) (next .input) (next .unit) reached))
-          main supplementary w₁ w₂ files files₂ warnings warnings₂ d (more st) r
-          → Declares (resolveReference (64 - (at .depth + 1)) main supplementary at (indicesAt main supplementary w d st (at .input) (at .unit) reached) name)
-          main supplementary w w₂ files files₂ warnings warnings₂ d st r
-      unfolding resolveReference _>>=_
+      pub reference-entry : {files warnings w₂ files₂ warnings₂ : List ℕ} {a b : ℕ} → length w₁ ≡ length w → length files < top → length warnings < top → (r : Declared)
+          → DeclaresCounted (countedDeclaration (64 - next .depth) (dwarfOf main supplementary) (placeAt main supplementary next) (indicesAt main supplementary w₁ d (more st) (next .input) (next .unit) reached))
+          main supplementary w₁ w₂ files files₂ warnings warnings₂ d (more st) (a + 1) b r
+          → DeclaresCounted (resolveReference (64 - (at .depth + 1)) main supplementary at (indicesAt main supplementary w d st (at .input) (at .unit) reached) name)
+          main supplementary w w₂ files files₂ warnings warnings₂ d st a b r
+      unfolding resolveReference
       reference-entry {files} {warnings} size few short r G =
           let ids = indices-as main supplementary w w₁ d st (more st) at next reached (pushed-map D (N .possible) (N .new) P) (pushed-table D (N .possible) (N .new) P) next-unit in
-          declares-after (pushed-state D (N .possible) (N .new) P size files warnings few short) (pushed-rest D (N .possible) (N .new) P) r (λ k. k + 1)
-          (λ k ws. rw (N .is k) (ap (resolveDeclaration (64 - (at .depth + 1)) (dwarfOf main supplementary) (placeAt main supplementary next) (indicesAt main supplementary w d st (at .input) (at .unit) reached))
+          declares-after (pushed-state D (N .possible) (N .new) P size files warnings few short) (pushed-rest D (N .possible) (N .new) P) (λ k. k + 1) (λ k. omega arith)
+          (λ k ws. rw (N .is k) (ap (countedDeclaration (64 - (at .depth + 1)) (dwarfOf main supplementary) (placeAt main supplementary next) (indicesAt main supplementary w d st (at .input) (at .unit) reached))
           (pushed-at D (N .possible) (N .new) P size ws (k + 1))))
-          (rw (ids, N .deeper) at G)
+          r (rw (ids, N .deeper) at G)
 
   -- an offset of a section leads to no entry by its unit alone
-  far-as : (s : DeclarationSearch) (is : FileIndices) (x : Declaring) (o : Outcome Followed) → Gives (λ f. Far (f .target)) o
-      → (o >>= λ f. declarationAtTarget s is (withTrail x (f .trail)) (f .target)) ≡ (o >>= λ f. declarationAtTarget s [] (withTrail x (f .trail)) (f .target))
-  unfolding _>>=_
+  far-as : (s : CountedDeclarations) (is : FileIndices) (x : Declaring) (o : Outcome Followed) → Gives (λ f. Far (f .target)) o
+      → (after (x .trail) o >>> λ f. countedDeclarationAt s is (withTrail x (f .trail)) (f .target)) ≡ (after (x .trail) o >>> λ f. countedDeclarationAt s [] (withTrail x (f .trail)) (f .target))
   far-as s is x (refused n) g = refl
   far-as s is x (done f) (gives h) = go (f .target) h
     where
-      go : (y : Target) → Far y → declarationAtTarget s is (withTrail x (f .trail)) y ≡ declarationAtTarget s [] (withTrail x (f .trail)) y
+      go : (y : Target) → Far y → countedDeclarationAt s is (withTrail x (f .trail)) y ≡ countedDeclarationAt s [] (withTrail x (f .trail)) y
       go nothing h = refl
       go (sameUnit p) h = absurd h
       go (byOffset p) h = refl
 
-  pub reference-offset : {w₂ files files₂ warnings warnings₂ : List ℕ} (is : FileIndices) {next : OffsetAt} (r : Declared)
+  pub reference-offset : {w₂ files files₂ warnings warnings₂ : List ℕ} {a b : ℕ} (is : FileIndices) {next : OffsetAt} (r : Declared)
       → OffsetNext (followFrom main supplementary at name) main supplementary w (d .tables) (st .count) (at .depth) next
-      → Declares (resolveAbsolute (64 - next .depth) main supplementary next) main supplementary w w₂ files files₂ warnings warnings₂ d st r
-      → Declares (resolveReference (64 - (at .depth + 1)) main supplementary at is name) main supplementary w w₂ files files₂ warnings warnings₂ d st r
+      → DeclaresCounted (resolveAbsolute (64 - next .depth) main supplementary next) main supplementary w w₂ files files₂ warnings warnings₂ d st a b r
+      → DeclaresCounted (resolveReference (64 - (at .depth + 1)) main supplementary at is name) main supplementary w w₂ files files₂ warnings warnings₂ d st a b r
   unfolding resolveReference resolveAbsolute
   reference-offset is {next} r N G =
-      declares-as r (λ k ws. rw (N .is k) (far-as (resolveDeclaration (64 - (at .depth + 1)) (dwarfOf main supplementary)) is (declaringAt main supplementary w d st ws k) _
+      declares-as r (λ k ws. rw (N .is k) (far-as (countedDeclaration (64 - (at .depth + 1)) (dwarfOf main supplementary)) is (declaringAt main supplementary w d st ws k) _
       (absolute-far (dwarfOf main supplementary) (searchSource (next .input)) (searchSource (next .source)) (trailAt w (keysFrom (d .tables)) (st .count) k) (next .target)))) (rw (N .deeper) at G)
 
 -- ---- an offset of a section
 
 module _ {main supplementary w : List ℕ} {d : Places} {st : DeclaringState} (D : DeclaringIn main supplementary w d st) (at : OffsetAt) where
-  pub absolute-seen : {files warnings : List ℕ} → length files < top → length warnings < top → (y : Aim) → y ≡ Aim.Seen → Aimed main supplementary w (d .tables) (st .count) at y
-      → Declares (resolveAbsolute (64 - at .depth) main supplementary at) main supplementary w w files files warnings warnings d st (Declared.Missing st)
-  unfolding resolveAbsolute followOffset _>>=_
-  absolute-seen few short y to A = let e = rw to at (A .is) in declares-missing D few short (λ k ws. rw (e k))
+  pub absolute-seen : {files warnings : List ℕ} {c : ℕ} → length files < top → length warnings < top → c ≤ st .count + 1 → (y : Aim) → y ≡ Aim.Seen → Aimed main supplementary w (d .tables) (st .count) at y
+      → DeclaresCounted (resolveAbsolute (64 - at .depth) main supplementary at) main supplementary w w files files warnings warnings d st c c (Declared.Missing st)
+  unfolding resolveAbsolute followOffset
+  absolute-seen few short read y to A = let e = rw to at (A .is) in declares-missing D few short read (λ k ws. rw (e k))
 
-  pub absolute-refused : {files warnings : List ℕ} (n : ℕ) (y : Aim) → y ≡ Aim.Refused n → Aimed main supplementary w (d .tables) (st .count) at y
-      → Declares (resolveAbsolute (64 - at .depth) main supplementary at) main supplementary w w files files warnings warnings d st (Declared.Refused n)
-  unfolding resolveAbsolute followOffset _>>=_
-  absolute-refused n y to A = let e = rw to at (A .is) in declares-refused (λ k ws. rw (e k)) (but-refl _ _)
+  pub absolute-refused : {files warnings : List ℕ} {c : ℕ} (n : ℕ) (y : Aim) → y ≡ Aim.Refused n → Aimed main supplementary w (d .tables) (st .count) at y
+      → DeclaresCounted (resolveAbsolute (64 - at .depth) main supplementary at) main supplementary w w files files warnings warnings d st c c (Declared.Refused n)
+  unfolding resolveAbsolute followOffset
+  absolute-refused n y to A = let e = rw to at (A .is) in declares-refused (λ k. k) (λ k. refl) (λ k ws. rw (e k)) (but-refl _ _)
 
   pub aim-out : (y : Aim) → y ≡ Aim.Outside → Aimed main supplementary w (d .tables) (st .count) at y → AimOutside main supplementary w (d .tables) (st .count) at
   aim-out y to A = rw to at (A .is)
@@ -150,15 +151,17 @@ module _ {main supplementary w : List ℕ} {d : Places} {st : DeclaringState} (D
   aim-in next y to A = rw to at (A .is)
 
   module _ (a : Aims main supplementary at) {w₁ : List ℕ} (P : Pushed w w₁ (d .tables) (st .count) (keyIn (at .source) (at .target))) (size : length w₁ ≡ length w) where
-    pub absolute-outside : {files warnings : List ℕ} → length files < top → length warnings < top → AimOutside main supplementary w (d .tables) (st .count) at
-        → Declares (resolveAbsolute (64 - at .depth) main supplementary at) main supplementary w w₁ files files warnings warnings d st (Declared.Missing (more st))
-    unfolding resolveAbsolute followOffset _>>=_
-    absolute-outside {files} {warnings} few short A =
+    pub absolute-outside : {files warnings : List ℕ} {c : ℕ} → length files < top → length warnings < top → c ≤ st .count + 1 → AimOutside main supplementary w (d .tables) (st .count) at
+        → DeclaresCounted (resolveAbsolute (64 - at .depth) main supplementary at) main supplementary w w₁ files files warnings warnings d st c c (Declared.Missing (more st))
+    unfolding resolveAbsolute followOffset
+    absolute-outside {files} {warnings} few short read A =
         let S = pushed-state D (a .possible) (A .new) P size files warnings few short in
         record {
           reads = λ k. k;
+          adds = λ k. refl;
+          few = omega arith;
           new = [];
-          is = λ k ws. rw (A .is k) (ap done (pushed-at D (a .possible) (A .new) P size ws k));
+          is = λ k ws. rw (A .is k) (ap (λ (y : Declaring). record { reads = k; outcome = done y }) (pushed-at D (a .possible) (A .new) P size ws k));
           after = S;
           rest = pushed-rest D (a .possible) (A .new) P;
         }
@@ -171,12 +174,12 @@ module _ {main supplementary w : List ℕ} {d : Places} {st : DeclaringState} (D
       rest₂ : KeptBut w w₂ (searched main supplementary d (st .table))
       rest₂ = but-trans (pushed-rest D (a .possible) (A .new) P) (lower-rest ready₁ (J .rest))
 
-      pub absolute-join-refused : {warnings : List ℕ} (n : ℕ) → j ≡ Joined.Refused n
-          → Declares (resolveAbsolute (64 - at .depth) main supplementary at) main supplementary w w₂ files files₂ warnings warnings d st (Declared.Refused n)
-      unfolding resolveAbsolute followOffset _>>=_
+      pub absolute-join-refused : {warnings : List ℕ} {c : ℕ} (n : ℕ) → j ≡ Joined.Refused n
+          → DeclaresCounted (resolveAbsolute (64 - at .depth) main supplementary at) main supplementary w w₂ files files₂ warnings warnings d st c (c + 1) (Declared.Refused n)
+      unfolding resolveAbsolute followOffset
       absolute-join-refused n to =
           let e = rw to at (J .is) in
-          declares-refused (λ k ws. rw (A .is k, ← pushed-table D (a .possible) (A .new) P, e)) rest₂
+          declares-refused (λ k. k + 1) (λ k. omega arith) (λ k ws. rw (A .is k, ← pushed-table D (a .possible) (A .new) P, e)) rest₂
 
       module _ (t : StoredFiles) (to : j ≡ Joined.Table t) (size₂ : length w₂ ≡ length w₁) where
         joined : JoinedTo main supplementary w₁ w₂ files files₂ (st .table) t (unitHere (sourceIn main supplementary (next .input)) (next .unit))
@@ -197,13 +200,13 @@ module _ {main supplementary w : List ℕ} {d : Places} {st : DeclaringState} (D
           ready = joined-ready;
         }
 
-        pub absolute-entry : {warnings w₃ files₃ warnings₃ : List ℕ} → length files < top → length warnings < top → (r : Declared)
-            → Declares (resolveDeclaration (64 - next .depth) (dwarfOf main supplementary) (placeAt main supplementary next)
+        pub absolute-entry : {warnings w₃ files₃ warnings₃ : List ℕ} {c b : ℕ} → length files < top → length warnings < top → (r : Declared)
+            → DeclaresCounted (countedDeclaration (64 - next .depth) (dwarfOf main supplementary) (placeAt main supplementary next)
             (indicesAt main supplementary w₂ d (record { count = st .count + 1; table = t; warned = st .warned }) (next .input) (next .unit) true))
-            main supplementary w₂ w₃ files₂ files₃ warnings warnings₃ d (record { count = st .count + 1; table = t; warned = st .warned }) r
-            → Declares (resolveAbsolute (64 - at .depth) main supplementary at) main supplementary w w₃ files files₃ warnings warnings₃ d st r
-        unfolding resolveAbsolute followOffset _>>=_ indicesAt
+            main supplementary w₂ w₃ files₂ files₃ warnings warnings₃ d (record { count = st .count + 1; table = t; warned = st .warned }) (c + 1) b r
+            → DeclaresCounted (resolveAbsolute (64 - at .depth) main supplementary at) main supplementary w w₃ files files₃ warnings warnings₃ d st c b r
+        unfolding resolveAbsolute followOffset indicesAt
         absolute-entry {warnings} few short r G =
             let keys : keysAt w₂ (keysFrom (d .tables)) (st .count + 1) ≡ keyIn (at .source) (at .target) ∷ keysAt w (keysFrom (d .tables)) (st .count) = lower-keys ready₁ (J .rest) size₂ ∙ P .keys in
-            declares-after (joined-state warnings few short) rest₂ r (λ k. k + 1)
-            (λ k ws. rw (A .is k, ← pushed-table D (a .possible) (A .new) P, joined .is, append-nil ws, keys)) (rw (A .depth) at G)
+            declares-after (joined-state warnings few short) rest₂ (λ k. k + 1) (λ k. omega arith)
+            (λ k ws. rw (A .is k, ← pushed-table D (a .possible) (A .new) P, joined .is, append-nil ws, keys)) r (rw (A .depth) at G)

@@ -1,5 +1,5 @@
 -- The members of the declaration search's cycle: the ways through an entry, a reference and an offset of a section. Assumes nothing.
-use mathlib.Core.Path.{_≡_, refl, sym}
+use mathlib.Core.Path.{_≡_, refl, sym, ap, _∙_}
 use mathlib.Core.Bool.{Bool, true, false, cond}
 use mathlib.Core.List.{List, [], _∷_}
 use mathlib.Core.Option.{Option, none, some}
@@ -23,14 +23,18 @@ use Rattle.references.specs.declared.names.EntryAt.{EntryAt}
 use Rattle.references.specs.declared.declarations.Places.{Places}
 use Rattle.references.specs.declared.declarations.DeclaringState.{DeclaringState}
 use Rattle.references.specs.declared.declarations.Declared.{Declared}
-use Rattle.references.specs.Search.{DebugSource as Source, Dwarf, mainSource, supplementarySource, Place, Trail, DieKey, isVisited, Target, nothing, sameUnit, byOffset, absoluteEntryOffset, entryAt, followIn, followAbsolute, followUnit, followSupplementary, follow, unitContaining, unitsIn, attribute, originAttributes, Declaring, ownDeclaration, referencedDeclaration, resolveDeclaration, resolveDeclarationLine}
+use Rattle.references.specs.Search.{DebugSource as Source, Dwarf, mainSource, supplementarySource, Place, Trail, DieKey, isVisited, Target, nothing, sameUnit, byOffset, absoluteEntryOffset, entryAt, followIn, followAbsolute, followUnit, followSupplementary, follow, unitContaining, unitsIn, attribute, originAttributes, Declaring, ownDeclaration, resolveDeclaration, resolveDeclarationLine}
+use Rattle.references.specs.Reads.{Counted, after, countedReferencedDeclaration, countedDeclaration, declarationReads}
+use Rattle.references.specs.Tables.{EntryKnown}
 use Rattle.references.specs.Keys.{keysAt}
 use Rattle.lines.specs.Files.{FileIndices}
 use Rattle.references.specs.Names.{dwarfOf, placeAt, startAt, followFrom}
-use Rattle.references.specs.Declarations.{reachedFiles, ReachedUnit, indicesAt, declaringAt, DeclaringIn, Declares, searched, Reaching, resolveReference}
+use Rattle.references.specs.Declarations.{reachedFiles, ReachedUnit, indicesAt, declaringAt, DeclaringIn, DeclaredAs, Declares, CountedAs, DeclaresCounted, LineRead, searched, Reaching, resolveReference}
 use Rattle.references.proofs.declarations.Declared.{the-type}
 use Rattle.files.proofs.ReachedLaws.{reached-grown}
-use Rattle.references.proofs.GivesLaws.{bind-assoc}
+use Rattle.references.proofs.ReadLaws.{counts-declaration}
+use Rattle.references.proofs.ReadBounds.{bounded-at}
+use Rattle.references.proofs.GivesLaws.{counted-assoc}
 use Rattle.references.proofs.DeclareFrames.{searched-map}
 use Rattle.references.proofs.DeclareLaws.{declares-missing, declares-as, andThen, then-missing, then-stop, then-last}
 
@@ -129,86 +133,88 @@ module _ {main supplementary w w′ files files′ : List ℕ} {d : Places} {st 
 
 module _ {main supplementary w : List ℕ} {d : Places} {st : DeclaringState} (D : DeclaringIn main supplementary w d st) {at : EntryAt} {reached : Bool}
     (R : Reaching main supplementary w st at reached) where
-  pub resolve-deep : {files warnings : List ℕ} → length files < top → length warnings < top → 64 ≤ at .depth
-      → Declares (resolveDeclaration (64 - at .depth) (dwarfOf main supplementary) (placeAt main supplementary at) (indicesAt main supplementary w d st (at .input) (at .unit) reached))
-      main supplementary w w files files warnings warnings d st (Declared.Missing st)
-  unfolding resolveDeclaration
-  resolve-deep few short deep = let z : 64 - at .depth ≡ 0 = omega arith in rw z (declares-missing D few short (λ k ws. refl))
+  pub resolve-deep : {files warnings : List ℕ} {a : ℕ} → length files < top → length warnings < top → a ≤ st .count + 1 → 64 ≤ at .depth
+      → DeclaresCounted (countedDeclaration (64 - at .depth) (dwarfOf main supplementary) (placeAt main supplementary at) (indicesAt main supplementary w d st (at .input) (at .unit) reached))
+      main supplementary w w files files warnings warnings d st a a (Declared.Missing st)
+  unfolding countedDeclaration
+  resolve-deep few short read deep = let z : 64 - at .depth ≡ 0 = omega arith in rw z (declares-missing D few short read (λ k ws. refl))
 
   module _ (shallow : at .depth < 64) where
-    step : (x : Declaring) → resolveDeclaration (64 - at .depth) (dwarfOf main supplementary) (placeAt main supplementary at) (indicesAt main supplementary w d st (at .input) (at .unit) reached) x
-        ≡ andThen (ownDeclaration (placeAt main supplementary at .unit) (placeAt main supplementary at .entry) (indicesAt main supplementary w d st (at .input) (at .unit) reached))
-        (referencedDeclaration (resolveDeclaration (64 - (at .depth + 1)) (dwarfOf main supplementary)) (dwarfOf main supplementary) (placeAt main supplementary at)
+    step : (x : Declaring) → (countedDeclaration (64 - at .depth) (dwarfOf main supplementary) (placeAt main supplementary at) (indicesAt main supplementary w d st (at .input) (at .unit) reached)) x
+        ≡ andThen (λ y. after (y .trail) (ownDeclaration (placeAt main supplementary at .unit) (placeAt main supplementary at .entry) (indicesAt main supplementary w d st (at .input) (at .unit) reached) y))
+        (countedReferencedDeclaration (countedDeclaration (64 - (at .depth + 1)) (dwarfOf main supplementary)) (dwarfOf main supplementary) (placeAt main supplementary at)
         (indicesAt main supplementary w d st (at .input) (at .unit) reached) originAttributes) x
-    unfolding resolveDeclaration
+    unfolding countedDeclaration
     step x = let z : 64 - at .depth ≡ suc (64 - (at .depth + 1)) = omega arith in rw z
 
     turn : (n : ℕ) (ns : List ℕ) (x : Declaring)
-        → referencedDeclaration (resolveDeclaration (64 - (at .depth + 1)) (dwarfOf main supplementary)) (dwarfOf main supplementary) (placeAt main supplementary at)
-        (indicesAt main supplementary w d st (at .input) (at .unit) reached) (n ∷ ns) x
+        → (countedReferencedDeclaration (countedDeclaration (64 - (at .depth + 1)) (dwarfOf main supplementary)) (dwarfOf main supplementary) (placeAt main supplementary at)
+        (indicesAt main supplementary w d st (at .input) (at .unit) reached) (n ∷ ns)) x
         ≡ andThen (resolveReference (64 - (at .depth + 1)) main supplementary at (indicesAt main supplementary w d st (at .input) (at .unit) reached) n)
-        (referencedDeclaration (resolveDeclaration (64 - (at .depth + 1)) (dwarfOf main supplementary)) (dwarfOf main supplementary) (placeAt main supplementary at)
+        (countedReferencedDeclaration (countedDeclaration (64 - (at .depth + 1)) (dwarfOf main supplementary)) (dwarfOf main supplementary) (placeAt main supplementary at)
         (indicesAt main supplementary w d st (at .input) (at .unit) reached) ns) x
-    unfolding referencedDeclaration resolveReference followFrom
-    turn n ns x = sym (bind-assoc _ _ _)
+    unfolding countedReferencedDeclaration resolveReference followFrom
+    turn n ns x = sym (counted-assoc (x .trail) (follow (dwarfOf main supplementary) (placeAt main supplementary at) (x .trail) (attribute (placeAt main supplementary at .entry) n)) _ _)
 
-    none-left : (x : Declaring) → referencedDeclaration (resolveDeclaration (64 - (at .depth + 1)) (dwarfOf main supplementary)) (dwarfOf main supplementary) (placeAt main supplementary at)
-        (indicesAt main supplementary w d st (at .input) (at .unit) reached) [] x ≡ done x
-    unfolding referencedDeclaration
+    none-left : (x : Declaring) → (countedReferencedDeclaration (countedDeclaration (64 - (at .depth + 1)) (dwarfOf main supplementary)) (dwarfOf main supplementary) (placeAt main supplementary at)
+        (indicesAt main supplementary w d st (at .input) (at .unit) reached) []) x ≡ after (x .trail) (done x)
+    unfolding countedReferencedDeclaration
     none-left x = refl
 
-    module _ {files warnings w₁ files₁ warnings₁ : List ℕ} where
+    module _ {files warnings w₁ files₁ warnings₁ : List ℕ} {a : ℕ} where
       pub resolve-own : (r : Declared) → OneOf (0 ∷ 2 ∷ []) (tagOf the-type r)
-          → Declares (ownDeclaration (placeAt main supplementary at .unit) (placeAt main supplementary at .entry) (indicesAt main supplementary w d st (at .input) (at .unit) reached))
-          main supplementary w w₁ files files₁ warnings warnings₁ d st r
-          → Declares (resolveDeclaration (64 - at .depth) (dwarfOf main supplementary) (placeAt main supplementary at) (indicesAt main supplementary w d st (at .input) (at .unit) reached))
-          main supplementary w w₁ files files₁ warnings warnings₁ d st r
+          → DeclaresCounted (λ y. after (y .trail) (ownDeclaration (placeAt main supplementary at .unit) (placeAt main supplementary at .entry) (indicesAt main supplementary w d st (at .input) (at .unit) reached) y))
+          main supplementary w w₁ files files₁ warnings warnings₁ d st a a r
+          → DeclaresCounted (countedDeclaration (64 - at .depth) (dwarfOf main supplementary) (placeAt main supplementary at) (indicesAt main supplementary w d st (at .input) (at .unit) reached))
+          main supplementary w w₁ files files₁ warnings warnings₁ d st a a r
       resolve-own r stop F = declares-as r (λ k ws. step _) (then-stop _ r stop F)
 
-      module _ {st₁ : DeclaringState} (F : Declares (ownDeclaration (placeAt main supplementary at .unit) (placeAt main supplementary at .entry) (indicesAt main supplementary w d st (at .input) (at .unit) reached))
-          main supplementary w w₁ files files₁ warnings warnings₁ d st (Declared.Missing st₁)) where
+      module _ {st₁ : DeclaringState} (F : DeclaresCounted (λ y. after (y .trail) (ownDeclaration (placeAt main supplementary at .unit) (placeAt main supplementary at .entry) (indicesAt main supplementary w d st (at .input) (at .unit) reached) y))
+          main supplementary w w₁ files files₁ warnings warnings₁ d st a a (Declared.Missing st₁)) where
         pub first-reaching : Reaching main supplementary w₁ st₁ at reached
         first-reaching = reaching-grown D st₁ R (F .after .grown)
 
-        module _ {w₂ files₂ warnings₂ : List ℕ} where
-          first-as : {r : Declared} → Declares (resolveReference (64 - (at .depth + 1)) main supplementary at (indicesAt main supplementary w₁ d st₁ (at .input) (at .unit) reached) 0x31)
-              main supplementary w₁ w₂ files₁ files₂ warnings₁ warnings₂ d st₁ r
-              → Declares (resolveReference (64 - (at .depth + 1)) main supplementary at (indicesAt main supplementary w d st (at .input) (at .unit) reached) 0x31)
-              main supplementary w₁ w₂ files₁ files₂ warnings₁ warnings₂ d st₁ r
+        module _ {w₂ files₂ warnings₂ : List ℕ} {b : ℕ} where
+          first-as : {r : Declared} → DeclaresCounted (resolveReference (64 - (at .depth + 1)) main supplementary at (indicesAt main supplementary w₁ d st₁ (at .input) (at .unit) reached) 0x31)
+              main supplementary w₁ w₂ files₁ files₂ warnings₁ warnings₂ d st₁ a b r
+              → DeclaresCounted (resolveReference (64 - (at .depth + 1)) main supplementary at (indicesAt main supplementary w d st (at .input) (at .unit) reached) 0x31)
+              main supplementary w₁ w₂ files₁ files₂ warnings₁ warnings₂ d st₁ a b r
           first-as G = rw (indices-grown D st₁ R (F .after .grown) (F .rest)) at G
 
           pub resolve-first : (r : Declared) → OneOf (0 ∷ 2 ∷ []) (tagOf the-type r)
-              → Declares (resolveReference (64 - (at .depth + 1)) main supplementary at (indicesAt main supplementary w₁ d st₁ (at .input) (at .unit) reached) 0x31)
-              main supplementary w₁ w₂ files₁ files₂ warnings₁ warnings₂ d st₁ r
-              → Declares (resolveDeclaration (64 - at .depth) (dwarfOf main supplementary) (placeAt main supplementary at) (indicesAt main supplementary w d st (at .input) (at .unit) reached))
-              main supplementary w w₂ files files₂ warnings warnings₂ d st r
+              → DeclaresCounted (resolveReference (64 - (at .depth + 1)) main supplementary at (indicesAt main supplementary w₁ d st₁ (at .input) (at .unit) reached) 0x31)
+              main supplementary w₁ w₂ files₁ files₂ warnings₁ warnings₂ d st₁ a b r
+              → DeclaresCounted (countedDeclaration (64 - at .depth) (dwarfOf main supplementary) (placeAt main supplementary at) (indicesAt main supplementary w d st (at .input) (at .unit) reached))
+              main supplementary w w₂ files files₂ warnings warnings₂ d st a b r
           resolve-first r stop G =
               declares-as r (λ k ws. step _) (then-missing r F (declares-as r (λ k ws. turn 0x31 (0x47 ∷ []) _) (then-stop _ r stop (first-as G))))
 
-          module _ {st₂ : DeclaringState} (G : Declares (resolveReference (64 - (at .depth + 1)) main supplementary at (indicesAt main supplementary w₁ d st₁ (at .input) (at .unit) reached) 0x31)
-              main supplementary w₁ w₂ files₁ files₂ warnings₁ warnings₂ d st₁ (Declared.Missing st₂)) where
+          module _ {st₂ : DeclaringState} (G : DeclaresCounted (resolveReference (64 - (at .depth + 1)) main supplementary at (indicesAt main supplementary w₁ d st₁ (at .input) (at .unit) reached) 0x31)
+              main supplementary w₁ w₂ files₁ files₂ warnings₁ warnings₂ d st₁ a b (Declared.Missing st₂)) where
             pub second-reaching : Reaching main supplementary w₂ st₂ at reached
             second-reaching = reaching-grown (F .after .ready) st₂ first-reaching (G .after .grown)
 
-            pub resolve-second : {w₃ files₃ warnings₃ : List ℕ} (r : Declared)
-                → Declares (resolveReference (64 - (at .depth + 1)) main supplementary at (indicesAt main supplementary w₂ d st₂ (at .input) (at .unit) reached) 0x47)
-                main supplementary w₂ w₃ files₂ files₃ warnings₂ warnings₃ d st₂ r
-                → Declares (resolveDeclaration (64 - at .depth) (dwarfOf main supplementary) (placeAt main supplementary at) (indicesAt main supplementary w d st (at .input) (at .unit) reached))
-                main supplementary w w₃ files files₃ warnings warnings₃ d st r
+            pub resolve-second : {w₃ files₃ warnings₃ : List ℕ} {e : ℕ} (r : Declared)
+                → DeclaresCounted (resolveReference (64 - (at .depth + 1)) main supplementary at (indicesAt main supplementary w₂ d st₂ (at .input) (at .unit) reached) 0x47)
+                main supplementary w₂ w₃ files₂ files₃ warnings₂ warnings₃ d st₂ b e r
+                → DeclaresCounted (countedDeclaration (64 - at .depth) (dwarfOf main supplementary) (placeAt main supplementary at) (indicesAt main supplementary w d st (at .input) (at .unit) reached))
+                main supplementary w w₃ files files₃ warnings warnings₃ d st a e r
             resolve-second r H =
                 let I = rw (indices-grown (F .after .ready) st₂ first-reaching (G .after .grown) (G .rest), indices-grown D st₁ R (F .after .grown) (F .rest)) at H in
                 declares-as r (λ k ws. step _) (then-missing r F (declares-as r (λ k ws. turn 0x31 (0x47 ∷ []) _)
                 (then-missing r (first-as G) (declares-as r (λ k ws. turn 0x47 [] _) (then-last r none-left I)))))
 
 -- a search that found nothing, and what it leaves
-pub missing-is : {f : Declaring → Outcome Declaring} {main supplementary w w′ files files′ warnings warnings′ : List ℕ} {d : Places} {st st₁ : DeclaringState} {r : Declared}
-    → Declares f main supplementary w w′ files files′ warnings warnings′ d st r → r ≡ Declared.Missing st₁
-    → Declares f main supplementary w w′ files files′ warnings warnings′ d st (Declared.Missing st₁)
-missing-is F e = rw e at F
+module _ {f : Declaring → Counted Declaring} {main supplementary w w′ files files′ warnings warnings′ : List ℕ} {d : Places} {st st₁ : DeclaringState} {a b : ℕ} where
+  pub missing-is : {r : Declared} → DeclaresCounted f main supplementary w w′ files files′ warnings warnings′ d st a b r → r ≡ Declared.Missing st₁
+      → DeclaresCounted f main supplementary w w′ files files′ warnings warnings′ d st a b (Declared.Missing st₁)
+  missing-is F e = rw e at F
 
-pub missing-ready : {f : Declaring → Outcome Declaring} {main supplementary w w′ files files′ warnings warnings′ : List ℕ} {d : Places} {st st₁ : DeclaringState}
-    → Declares f main supplementary w w′ files files′ warnings warnings′ d st (Declared.Missing st₁) → DeclaringIn main supplementary w′ d st₁
-missing-ready F = F .after .ready
+  pub missing-ready : DeclaresCounted f main supplementary w w′ files files′ warnings warnings′ d st a b (Declared.Missing st₁) → DeclaringIn main supplementary w′ d st₁
+  missing-ready F = F .after .ready
+
+  pub missing-few : DeclaresCounted f main supplementary w w′ files files′ warnings warnings′ d st a b (Declared.Missing st₁) → b ≤ st₁ .count + 1
+  missing-few F = F .few
 
 -- the search of an entry of the unit that is imported, as the definition says it: from no followed targets on
 pub declaration-line : (main supplementary w : List ℕ) (d : Places) (st : DeclaringState) (q p : ℕ) (is : FileIndices) (ws : List Warning) → st .count ≡ 0
@@ -216,3 +222,38 @@ pub declaration-line : (main supplementary w : List ℕ) (d : Places) (st : Decl
     ≡ resolveDeclaration 64 (dwarfOf main supplementary) (placeAt main supplementary (startAt q p)) is (declaringAt main supplementary w d st ws 1)
 unfolding resolveDeclarationLine keysAt
 declaration-line main supplementary w d st q p is ws none-followed = rw none-followed
+
+-- ---- without the count, and the count
+
+module _ (main supplementary w′ : List ℕ) (d : Places) (ws new : List Warning) (n : ℕ) where
+  outcome-as : (c : Counted Declaring) (o : Outcome Declaring) (r : Declared) → c .outcome ≡ o → CountedAs main supplementary w′ d ws n new c r → DeclaredAs main supplementary w′ d ws n new o r
+  outcome-as c o (Declared.Refused m) e h = sym e ∙ ap (λ (x : Counted Declaring). x .outcome) h
+  outcome-as c o (Declared.Missing st′) e h = sym e ∙ ap (λ (x : Counted Declaring). x .outcome) h
+  outcome-as c o (Declared.Found st′ file line) e h = sym e ∙ ap (λ (x : Counted Declaring). x .outcome) h
+
+  reads-as : (c : Counted Declaring) (r : Declared) → CountedAs main supplementary w′ d ws n new c r → c .reads ≡ n
+  reads-as c (Declared.Refused m) h = ap (λ (x : Counted Declaring). x .reads) h
+  reads-as c (Declared.Missing st′) h = ap (λ (x : Counted Declaring). x .reads) h
+  reads-as c (Declared.Found st′ file line) h = ap (λ (x : Counted Declaring). x .reads) h
+
+module _ {main supplementary w w′ files files′ warnings warnings′ : List ℕ} {d : Places} {st : DeclaringState} {b : ℕ} (q p : ℕ) (r : Declared)
+    (G : DeclaresCounted (countedDeclaration 64 (dwarfOf main supplementary) (placeAt main supplementary (startAt q p)) (indicesIn w (d .indices))) main supplementary w w′ files files′ warnings warnings′ d st 1 b r) where
+  pub line-plain : Declares (resolveDeclaration 64 (dwarfOf main supplementary) (placeAt main supplementary (startAt q p)) (indicesIn w (d .indices))) main supplementary w w′ files files′ warnings warnings′ d st r
+  line-plain = record {
+    reads = G .reads;
+    new = G .new;
+    is = λ k ws. outcome-as main supplementary w′ d ws (G .new) (G .reads k) _ _ r
+        (counts-declaration (dwarfOf main supplementary) 64 (placeAt main supplementary (startAt q p)) (indicesIn w (d .indices)) (declaringAt main supplementary w d st ws k) .same) (G .is k ws);
+    after = G .after;
+    rest = G .rest;
+  }
+
+  pub line-read : DeclaringIn main supplementary w d st → st .count ≡ 0 → EntryKnown main q p → LineRead main supplementary w d st q p b
+  unfolding declarationReads keysAt
+  line-read D none-followed known =
+      let is : (ws : List Warning) → b ≡ declarationReads (dwarfOf main supplementary) (unitHere main q) (entryHere main p) (indicesIn w (d .indices)) (tableOf main supplementary w (st .table)) ws
+      = λ ws. let n = G .adds 1 in let same : b ≡ G .reads 1 = omega arith in same ∙ rw none-followed at (sym (reads-as main supplementary w′ d ws (G .new) (G .reads 1) _ r (G .is 1 ws))) in
+      record {
+        is = is;
+        within = rw (is []) (bounded-at supplementary (D .search-tables .main-index .number) (D .search-tables .main-index .accepted) known .declaration (indicesIn w (d .indices)) (tableOf main supplementary w (st .table)) []);
+      }

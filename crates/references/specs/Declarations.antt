@@ -6,13 +6,13 @@ use mathlib.Core.List.{List, [], _∷_, _++_}
 use mathlib.Core.Option.{Option, none, some}
 use lib.ListN.{length}
 use Rattle.tlv.specs.declared.model.DebugSource.{DebugSource}
-use Rattle.tlv.specs.Outcome.{Outcome, refused, done, _>>=_}
+use Rattle.tlv.specs.Outcome.{Outcome, refused, done}
 use Rattle.tlv.specs.Lists.{Any}
 use Rattle.tlv.specs.Fields.{fields}
 use Rattle.tlv.specs.Buffer.{top, Put}
 use Rattle.tlv.specs.Table.{KeptBut}
 use Rattle.tlv.specs.Model.{CompilationUnit, LineHeader}
-use Rattle.tlv.specs.Places.{unitHere, unitPlaces}
+use Rattle.tlv.specs.Places.{unitHere, entryHere, unitPlaces}
 use Rattle.tlv.specs.Output.{Warning, warningsBytes}
 use Rattle.lines.specs.Files.{FileTable, FileIndices}
 use Rattle.files.specs.Pieces.{sourceIn}
@@ -25,7 +25,8 @@ use Rattle.references.specs.declared.declarations.DeclaringState.{Declar
 use Rattle.references.specs.declared.declarations.Declared.{Declared}
 use Rattle.references.specs.declared.names.EntryAt.{EntryAt}
 use Rattle.references.specs.declared.names.OffsetAt.{OffsetAt}
-use Rattle.references.specs.Search.{Declaring, withFound, withTrail, followAbsolute, declarationAtTarget, resolveDeclaration}
+use Rattle.references.specs.Search.{Declaring, withFound, withTrail, followAbsolute}
+use Rattle.references.specs.Reads.{Counted, after, _>>>_, countedDeclarationAt, countedDeclaration, declarationReads, ReadsWithin}
 use Rattle.references.specs.Keys.{keysFrom, keysExtent}
 use Rattle.references.specs.Names.{trailAt, SearchIn, dwarfOf, searchSource, followFrom}
 
@@ -45,7 +46,7 @@ indicesAt main supplementary w d st input q reached =
     (reachedFiles (unitHere (sourceIn main supplementary input) q) (unitHere (sourceIn main supplementary input) q .header) (tableOf main supplementary w (st .table)))
     (indicesIn w (d .indices))
 
--- the search's state in w, with the warnings so far; how many entries it read decides nothing here
+-- the search's state in w, with the warnings so far and the number of entries that it has read
 abbrev pub declaringAt : List ℕ → List ℕ → List ℕ → Places → DeclaringState → List Warning → ℕ → Declaring
 declaringAt main supplementary w d st ws reads = record {
   trail = trailAt w (keysFrom (d .tables)) (st .count) reads;
@@ -102,6 +103,35 @@ pub record Declares (f : Declaring → Outcome Declaring) (main supplementary w 
   pub after : DeclaredAfter main supplementary w w′ files files′ warnings warnings′ d st new r
   pub rest : KeptBut w w′ (searched main supplementary d (st .table))
 
+-- ---- with the count of the entries that were read
+
+abbrev pub CountedAs : List ℕ → List ℕ → List ℕ → Places → List Warning → ℕ → List Warning → Counted Declaring → Declared → Type 0
+CountedAs main supplementary w′ d ws n new c (Declared.Refused k) = c ≡ record { reads = n; outcome = refused k }
+CountedAs main supplementary w′ d ws n new c (Declared.Missing st′) = c ≡ record { reads = n; outcome = done (declaringAt main supplementary w′ d st′ (ws ++ new) n) }
+CountedAs main supplementary w′ d ws n new c (Declared.Found st′ file line) =
+    c ≡ record { reads = n; outcome = done (withFound (declaringAt main supplementary w′ d st′ (ws ++ new) n) (some (record { address = 0; file = file; line = line }))) }
+
+-- where the search goes on, it has read no more entries than it followed targets, and its start
+abbrev pub FewRead : ℕ → Declared → Type 0
+FewRead b (Declared.Refused n) = Unit
+FewRead b (Declared.Missing st′) = b ≤ st′ .count + 1
+FewRead b (Declared.Found st′ file line) = Unit
+
+-- a search f from the state st, a entries read, has answered r, b entries read
+pub record DeclaresCounted (f : Declaring → Counted Declaring) (main supplementary w w′ files files′ warnings warnings′ : List ℕ) (d : Places) (st : DeclaringState) (a b : ℕ) (r : Declared) : Type 0 where
+  pub reads : ℕ → ℕ
+  pub adds : (k : ℕ) → reads k + a ≡ k + b
+  pub few : FewRead b r
+  pub new : List Warning
+  pub is : (k : ℕ) (ws : List Warning) → CountedAs main supplementary w′ d ws (reads k) new (f (declaringAt main supplementary w d st ws k)) r
+  pub after : DeclaredAfter main supplementary w w′ files files′ warnings warnings′ d st new r
+  pub rest : KeptBut w w′ (searched main supplementary d (st .table))
+
+-- the count of the search from the entry at place p of the unit at place q; which warnings there were before decides nothing
+pub record LineRead (main supplementary w : List ℕ) (d : Places) (st : DeclaringState) (q p n : ℕ) : Type 0 where
+  pub is : (ws : List Warning) → n ≡ declarationReads (dwarfOf main supplementary) (unitHere main q) (entryHere main p) (indicesIn w (d .indices)) (tableOf main supplementary w (st .table)) ws
+  pub within : ReadsWithin (dwarfOf main supplementary) n
+
 -- the files of a unit that was reached by section offset are in the table
 pub record Reaching (main supplementary w : List ℕ) (st : DeclaringState) (at : EntryAt) (reached : Bool) : Type 0 where
   pub unit : reached ≡ true
@@ -110,13 +140,13 @@ pub record Reaching (main supplementary w : List ℕ) (st : DeclaringState) (at 
 -- ---- the members of the cycle
 
 -- resolve_reference: the declaration that the attribute of a name leads to; k is the limit less the depth of what it leads to
-unfoldable pub resolveReference : ℕ → List ℕ → List ℕ → EntryAt → FileIndices → ℕ → Declaring → Outcome Declaring
+unfoldable pub resolveReference : ℕ → List ℕ → List ℕ → EntryAt → FileIndices → ℕ → Declaring → Counted Declaring
 resolveReference k main supplementary at is name s =
-    followFrom main supplementary at name (s .trail) >>= λ f.
-    declarationAtTarget (resolveDeclaration k (dwarfOf main supplementary)) is (withTrail s (f .trail)) (f .target)
+    after (s .trail) (followFrom main supplementary at name (s .trail)) >>> λ f.
+    countedDeclarationAt (countedDeclaration k (dwarfOf main supplementary)) is (withTrail s (f .trail)) (f .target)
 
 -- resolve_absolute: the declaration at an offset of the section; k is the limit less the depth
-unfoldable pub resolveAbsolute : ℕ → List ℕ → List ℕ → OffsetAt → Declaring → Outcome Declaring
+unfoldable pub resolveAbsolute : ℕ → List ℕ → List ℕ → OffsetAt → Declaring → Counted Declaring
 resolveAbsolute k main supplementary at s =
-    followAbsolute (dwarfOf main supplementary) (searchSource (at .input)) (searchSource (at .source)) (s .trail) (at .target) >>= λ f.
-    declarationAtTarget (resolveDeclaration k (dwarfOf main supplementary)) [] (withTrail s (f .trail)) (f .target)
+    after (s .trail) (followAbsolute (dwarfOf main supplementary) (searchSource (at .input)) (searchSource (at .source)) (s .trail) (at .target)) >>> λ f.
+    countedDeclarationAt (countedDeclaration k (dwarfOf main supplementary)) [] (withTrail s (f .trail)) (f .target)

@@ -1,5 +1,5 @@
 -- What the steps of the declaration search promise: an entry's own declaration, a unit's files that join the table, an offset that is followed. Assumes nothing.
-use Prim.Native.Nat.{ℕ, _<_}
+use Prim.Native.Nat.{ℕ, _+_, _≤_, _<_}
 use mathlib.Core.Path.{_≡_}
 use mathlib.Core.Bool.{false}
 use mathlib.Core.List.{List, [], _∷_, _++_}
@@ -32,7 +32,8 @@ use Rattle.references.specs.declared.declarations.Aim.{Aim}
 use Rattle.references.specs.Search.{Trail, sameKey, visit, visitEntry, Followed, byOffset, nothing, followAbsolute, followedNothing, absoluteEntryOffset, Declaring, declarationOf, ownDeclaration, unitFiles}
 use Rattle.references.specs.Keys.{keysAt, keyIn, keysFrom}
 use Rattle.references.specs.Names.{dwarfOf, searchSource, placeAt, trailAt, Stands}
-use Rattle.references.specs.Declarations.{reachedFiles, ReachedUnit, lower, Declares}
+use Rattle.references.specs.Declarations.{reachedFiles, ReachedUnit, lower, DeclaresCounted}
+use Rattle.references.specs.Reads.{after}
 
 -- ---- the file number and the line of an entry
 
@@ -78,7 +79,8 @@ pub record Warns (s : List ℕ) (q p kind number : ℕ) (warnings warnings′ : 
 -- ---- an entry's own declaration: it adds no files
 
 pub record Owns (f : Declaring → Outcome Declaring) (main supplementary w w′ warnings warnings′ : List ℕ) (d : Places) (st : DeclaringState) (r : Declared) : Type 0 where
-  pub declares : (files : List ℕ) → length files < top → Declares f main supplementary w w′ files files warnings warnings′ d st r
+  pub declares : (files : List ℕ) → length files < top → (a : ℕ) → a ≤ st .count + 1
+      → DeclaresCounted (λ s. after (s .trail) (f s)) main supplementary w w′ files files warnings warnings′ d st a a r
 
 -- ---- a unit
 

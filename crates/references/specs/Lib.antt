@@ -1,4 +1,5 @@
 pub mod Search
+pub mod Reads
 pub mod Tables
 pub mod Keys
 pub mod Names

@@ -7,7 +7,7 @@ use mathlib.Core.Option.{Option, none, some}
 use lib.Dec.{eqb}
 use lib.ListN.{length}
 use Rattle.tlv.specs.declared.model.DebugSource.{DebugSource}
-use Rattle.tlv.specs.Outcome.{Outcome, refused, done, _>>=_}
+use Rattle.tlv.specs.Outcome.{Outcome, refused, done}
 use Rattle.tlv.specs.Lists.{exists, isEmpty}
 use Rattle.tlv.specs.Table.{Kept}
 use Rattle.tlv.specs.Model.{CompilationUnit, Entry, Attribute, units}
@@ -19,7 +19,8 @@ use Rattle.references.specs.declared.names.EntryAt.{EntryAt}
 use Rattle.references.specs.declared.names.OffsetAt.{OffsetAt}
 use Rattle.references.specs.declared.names.Way.{Way}
 use Rattle.references.specs.declared.names.FoundName.{FoundName}
-use Rattle.references.specs.Search.{Dwarf, mainSource, supplementarySource, Place, Trail, sameKey, visitEntry, Followed, sameUnit, followedNothing, attribute, followUnit, followAbsolute, follow, Named, nameAtTarget, resolveNameInner, resolveReferenceName}
+use Rattle.references.specs.Search.{Dwarf, mainSource, supplementarySource, Place, Trail, sameKey, visitEntry, Followed, sameUnit, followedNothing, attribute, followUnit, followAbsolute, follow, Named, resolveReferenceName}
+use Rattle.references.specs.Reads.{Counted, after, _>>>_, countedNameAt, countedName}
 use Rattle.references.specs.Tables.{IndexIn, EntryKnown, bytesGiven}
 use Rattle.references.specs.Keys.{keysAt, keyIn, PossibleKey, KeysIn, keysFrom, keysExtent}
 
@@ -129,17 +130,21 @@ foundName (b ∷ bs) = FoundName.Found (length (b ∷ bs))
 unfoldable pub namedGiven : ℕ → Trail → List ℕ → Outcome Named
 namedGiven st t r = cond (eqb st 0) (done (record { trail = t; name = r })) (refused st)
 
--- a search f from the n targets of w on has answered with r or the status, and left n′ targets in w′. How many entries it read decides nothing here
-pub record Gives (f : Trail → Outcome Named) (main supplementary : List ℕ) (x : Tables) (w : List ℕ) (n : ℕ) (w′ : List ℕ) (n′ st : ℕ) (r : List ℕ) : Type 0 where
-  pub reads : ℕ → ℕ
-  pub is : (k : ℕ) → f (trailAt w (keysFrom x) n k) ≡ namedGiven st (trailAt w′ (keysFrom x) n′ (reads k)) r
+-- the answer with its count
+abbrev pub countedGiven : ℕ → Trail → List ℕ → Counted Named
+countedGiven st t r = after t (namedGiven st t r)
+
+-- a search f from the n targets of w on, a entries read, has answered with r or the status, and left n′ targets in w′, b entries read
+pub record Gives (f : Trail → Counted Named) (main supplementary : List ℕ) (x : Tables) (w : List ℕ) (n a : ℕ) (w′ : List ℕ) (n′ b st : ℕ) (r : List ℕ) : Type 0 where
+  pub is : f (trailAt w (keysFrom x) n a) ≡ countedGiven st (trailAt w′ (keysFrom x) n′ b) r
+  pub few : b ≤ n′ + 1
   pub ready : SearchIn main supplementary w′ x n′
   pub rest : Kept w w′ (x .keys) (keysExtent main supplementary x)
 
 -- resolve_absolute_name: the name at an offset of the section; k is the limit less the depth
-unfoldable pub resolveAbsoluteName : ℕ → Dwarf → Rattle.references.specs.Search.DebugSource → Rattle.references.specs.Search.DebugSource → ℕ → Trail → Outcome Named
+unfoldable pub resolveAbsoluteName : ℕ → Dwarf → Rattle.references.specs.Search.DebugSource → Rattle.references.specs.Search.DebugSource → ℕ → Trail → Counted Named
 resolveAbsoluteName k d input source target t =
-    followAbsolute d input source t target >>= λ f. nameAtTarget (resolveNameInner k d) (f .trail) (f .target)
+    after t (followAbsolute d input source t target) >>> λ f. countedNameAt (countedName k d) (f .trail) (f .target)
 
 -- the name that an attribute refers to, where there is one
 abbrev pub referenceName : Dwarf → CompilationUnit → Entry → Option Attribute → Outcome (List ℕ)

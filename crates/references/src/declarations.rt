@@ -1,7 +1,7 @@
 // Declarations by reference: the entry search calls the absolute-reference search and back, and 64 minus the depth falls. The files of a unit that is
 // reached by a section offset join the table.
 ghost use mathlib.Core.Path.{_≡_};
-ghost use Prim.Native.Nat.{_+_, _-_, _<_};
+ghost use Prim.Native.Nat.{_+_, _-_, _≤_, _<_};
 ghost use Rattle.tlv.specs.Lists.{isNone};
 ghost use Rattle.tlv.specs.Checked.{Placed};
 ghost use Rattle.tlv.specs.Places.{unitHere, entryHere};
@@ -11,7 +11,8 @@ ghost use Rattle.files.specs.Indices.{indicesIn};
 ghost use Rattle.references.specs.Search.{absoluteEntryOffset, ownDeclaration, resolveDeclaration};
 ghost use Rattle.references.specs.Tables.{EntryKnown};
 ghost use Rattle.references.specs.Names.{dwarfOf, placeAt, startAt, Stands, Aims, SearchIn};
-ghost use Rattle.references.specs.Declarations.{reachedFiles, indicesAt, DeclaringIn, Declares, Reaching, resolveReference, resolveAbsolute};
+ghost use Rattle.references.specs.Declarations.{reachedFiles, indicesAt, DeclaringIn, Declares, DeclaresCounted, LineRead, Reaching, resolveReference, resolveAbsolute};
+ghost use Rattle.references.specs.Reads.{countedDeclaration};
 ghost use Rattle.references.specs.DeclaredSteps.{OwnAt, absoluteGiven, Numbered, Warns, Owns, UnitKnown, Joins, Aimed};
 use crate::attributes::Number;
 use crate::attributes::file_index_attribute;
@@ -326,15 +327,17 @@ pub fn resolve<'a>(
     work: &mut [u8],
     files: &mut [u8],
     warnings: &mut [u8],
+    reads: &mut usize,
     d: Places,
     at: EntryAt,
     reached: bool,
     st: DeclaringState,
 ) -> Declared
     requires { ⌜ DeclaringIn (now main) (now supplementary) (now work) d st ⌝ }
+    requires { ⌜ now reads ≤ st .count + 1 ⌝ }
     requires { ⌜ Stands (now main) (now supplementary) at ⌝ }
     requires { ⌜ Reaching (now main) (now supplementary) (now work) st at reached ⌝ }
-    ensures { λ r. ⌜ Declares (resolveDeclaration (64 - at .depth) (dwarfOf (now (main .entry)) (now (supplementary .entry))) (placeAt (now (main .entry)) (now (supplementary .entry)) at) (indicesAt (now (main .entry)) (now (supplementary .entry)) (now (work .entry)) d st (at .input) (at .unit) reached)) (now (main .entry)) (now (supplementary .entry)) (now (work .entry)) (now (work .exit)) (now (files .entry)) (now (files .exit)) (now (warnings .entry)) (now (warnings .exit)) d st r ⌝ }
+    ensures { λ r. ⌜ DeclaresCounted (countedDeclaration (64 - at .depth) (dwarfOf (now (main .entry)) (now (supplementary .entry))) (placeAt (now (main .entry)) (now (supplementary .entry)) at) (indicesAt (now (main .entry)) (now (supplementary .entry)) (now (work .entry)) d st (at .input) (at .unit) reached)) (now (main .entry)) (now (supplementary .entry)) (now (work .entry)) (now (work .exit)) (now (files .entry)) (now (files .exit)) (now (warnings .entry)) (now (warnings .exit)) d st (now (reads .entry)) (now (reads .exit)) r ⌝ }
 {
     if at.depth >= 64 {
         return Declared::Missing(st);
@@ -349,6 +352,7 @@ pub fn resolve<'a>(
         work,
         files,
         warnings,
+        reads,
         d,
         at,
         reached,
@@ -364,6 +368,7 @@ pub fn resolve<'a>(
         work,
         files,
         warnings,
+        reads,
         d,
         at,
         reached,
@@ -379,6 +384,7 @@ fn resolve_reference<'a>(
     work: &mut [u8],
     files: &mut [u8],
     warnings: &mut [u8],
+    reads: &mut usize,
     d: Places,
     at: EntryAt,
     reached: bool,
@@ -386,10 +392,11 @@ fn resolve_reference<'a>(
     st: DeclaringState,
 ) -> Declared
     requires { ⌜ DeclaringIn (now main) (now supplementary) (now work) d st ⌝ }
+    requires { ⌜ now reads ≤ st .count + 1 ⌝ }
     requires { ⌜ Stands (now main) (now supplementary) at ⌝ }
     requires { ⌜ Reaching (now main) (now supplementary) (now work) st at reached ⌝ }
     requires { ⌜ at .depth < 64 ⌝ }
-    ensures { λ r. ⌜ Declares (resolveReference (64 - (at .depth + 1)) (now (main .entry)) (now (supplementary .entry)) at (indicesAt (now (main .entry)) (now (supplementary .entry)) (now (work .entry)) d st (at .input) (at .unit) reached) name) (now (main .entry)) (now (supplementary .entry)) (now (work .entry)) (now (work .exit)) (now (files .entry)) (now (files .exit)) (now (warnings .entry)) (now (warnings .exit)) d st r ⌝ }
+    ensures { λ r. ⌜ DeclaresCounted (resolveReference (64 - (at .depth + 1)) (now (main .entry)) (now (supplementary .entry)) at (indicesAt (now (main .entry)) (now (supplementary .entry)) (now (work .entry)) d st (at .input) (at .unit) reached) name) (now (main .entry)) (now (supplementary .entry)) (now (work .entry)) (now (work .exit)) (now (files .entry)) (now (files .exit)) (now (warnings .entry)) (now (warnings .exit)) d st (now (reads .entry)) (now (reads .exit)) r ⌝ }
 {
     let tables = d.tables;
     let count = st.count;
@@ -400,6 +407,8 @@ fn resolve_reference<'a>(
             let source = next.source;
             let table = st.table;
             push_key(work, tables, count, source, target);
+            let read = *reads;
+            *reads = read + 1;
             let followed = DeclaringState {
                 count: count + 1,
                 table: table,
@@ -411,6 +420,7 @@ fn resolve_reference<'a>(
                 work,
                 files,
                 warnings,
+                reads,
                 d,
                 next,
                 reached,
@@ -423,6 +433,7 @@ fn resolve_reference<'a>(
             work,
             files,
             warnings,
+            reads,
             d,
             next,
             st,
@@ -437,13 +448,15 @@ pub fn resolve_absolute<'a>(
     work: &mut [u8],
     files: &mut [u8],
     warnings: &mut [u8],
+    reads: &mut usize,
     d: Places,
     at: OffsetAt,
     st: DeclaringState,
 ) -> Declared
     requires { ⌜ DeclaringIn (now main) (now supplementary) (now work) d st ⌝ }
+    requires { ⌜ now reads ≤ st .count + 1 ⌝ }
     requires { ⌜ Aims (now main) (now supplementary) at ⌝ }
-    ensures { λ r. ⌜ Declares (resolveAbsolute (64 - at .depth) (now (main .entry)) (now (supplementary .entry)) at) (now (main .entry)) (now (supplementary .entry)) (now (work .entry)) (now (work .exit)) (now (files .entry)) (now (files .exit)) (now (warnings .entry)) (now (warnings .exit)) d st r ⌝ }
+    ensures { λ r. ⌜ DeclaresCounted (resolveAbsolute (64 - at .depth) (now (main .entry)) (now (supplementary .entry)) at) (now (main .entry)) (now (supplementary .entry)) (now (work .entry)) (now (work .exit)) (now (files .entry)) (now (files .exit)) (now (warnings .entry)) (now (warnings .exit)) d st (now (reads .entry)) (now (reads .exit)) r ⌝ }
 {
     let tables = d.tables;
     let count = st.count;
@@ -463,6 +476,8 @@ pub fn resolve_absolute<'a>(
         }
         Aim::Entry(next) => {
             push_key(work, tables, count, source, at.target);
+            let read = *reads;
+            *reads = read + 1;
             let followed = DeclaringState {
                 count: count + 1,
                 table: table,
@@ -486,6 +501,7 @@ pub fn resolve_absolute<'a>(
                     work,
                     files,
                     warnings,
+                    reads,
                     d,
                     next,
                     true,
@@ -500,7 +516,48 @@ pub fn resolve_absolute<'a>(
     }
 }
 
-// The declaration of the entry at a place of the unit that is imported, from no followed targets on.
+// The declaration of the entry at a place of the unit that is imported, from no followed targets on, and how many entries were read for it.
+pub fn resolve_declaration_line_counted<'a>(
+    main: &'a [u8],
+    supplementary: &'a [u8],
+    work: &mut [u8],
+    files: &mut [u8],
+    warnings: &mut [u8],
+    reads: &mut usize,
+    d: Places,
+    unit: usize,
+    place: usize,
+    st: DeclaringState,
+) -> Declared
+    requires { ⌜ DeclaringIn (now main) (now supplementary) (now work) d st ⌝ }
+    requires { ⌜ st .count ≡ 0 ⌝ }
+    requires { ⌜ EntryKnown (now main) unit place ⌝ }
+    ensures { λ r. ⌜ Declares (resolveDeclaration 64 (dwarfOf (now (main .entry)) (now (supplementary .entry))) (placeAt (now (main .entry)) (now (supplementary .entry)) (startAt unit place)) (indicesIn (now (work .entry)) (d .indices))) (now (main .entry)) (now (supplementary .entry)) (now (work .entry)) (now (work .exit)) (now (files .entry)) (now (files .exit)) (now (warnings .entry)) (now (warnings .exit)) d st r ⌝ }
+    ensures { λ r. ⌜ LineRead (now (main .entry)) (now (supplementary .entry)) (now (work .entry)) d st unit place (now (reads .exit)) ⌝ }
+{
+    let at = EntryAt {
+        input: DebugSource::Main,
+        source: DebugSource::Main,
+        unit: unit,
+        place: place,
+        depth: 0,
+    };
+    *reads = 1;
+    resolve(
+        main,
+        supplementary,
+        work,
+        files,
+        warnings,
+        reads,
+        d,
+        at,
+        false,
+        st,
+    )
+}
+
+// The declaration of such an entry.
 pub fn resolve_declaration_line<'a>(
     main: &'a [u8],
     supplementary: &'a [u8],
@@ -517,12 +574,17 @@ pub fn resolve_declaration_line<'a>(
     requires { ⌜ EntryKnown (now main) unit place ⌝ }
     ensures { λ r. ⌜ Declares (resolveDeclaration 64 (dwarfOf (now (main .entry)) (now (supplementary .entry))) (placeAt (now (main .entry)) (now (supplementary .entry)) (startAt unit place)) (indicesIn (now (work .entry)) (d .indices))) (now (main .entry)) (now (supplementary .entry)) (now (work .entry)) (now (work .exit)) (now (files .entry)) (now (files .exit)) (now (warnings .entry)) (now (warnings .exit)) d st r ⌝ }
 {
-    let at = EntryAt {
-        input: DebugSource::Main,
-        source: DebugSource::Main,
-        unit: unit,
-        place: place,
-        depth: 0,
-    };
-    resolve(main, supplementary, work, files, warnings, d, at, false, st)
+    let mut reads: usize = 0;
+    resolve_declaration_line_counted(
+        main,
+        supplementary,
+        work,
+        files,
+        warnings,
+        &mut reads,
+        d,
+        unit,
+        place,
+        st,
+    )
 }

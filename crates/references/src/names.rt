@@ -1,10 +1,11 @@
 // Names by reference: the entry search calls the absolute-reference search and back, and 64 minus the depth falls.
 ghost use mathlib.Core.Path.{_≡_};
-ghost use Prim.Native.Nat.{_+_, _-_, _<_};
+ghost use Prim.Native.Nat.{_+_, _-_, _≤_, _<_};
 ghost use lib.ListN.{length};
 ghost use Rattle.tlv.specs.Places.{entryHere, unitHere};
 ghost use Rattle.files.specs.Pieces.{sourceIn};
-ghost use Rattle.references.specs.Search.{attribute, resolveNameInner, resolveName};
+ghost use Rattle.references.specs.Search.{attribute, resolveName};
+ghost use Rattle.references.specs.Reads.{countedName, nameReads, referenceNameReads, ReadsWithin};
 ghost use Rattle.references.specs.Tables.{EntryKnown};
 ghost use Rattle.references.specs.Keys.{keyIn, PossibleKey};
 ghost use Rattle.references.specs.Names.{dwarfOf, searchSource, indexIn, placeAt, Stands, Aims, SearchIn, followUnitFrom, followFrom, Ways, isAnswer, foundName, Gives, resolveAbsoluteName, startAt, referenceName, Resolved};
@@ -184,14 +185,16 @@ pub fn resolve_name_inner<'a>(
     supplementary: &'a [u8],
     work: &mut [u8],
     count: &mut usize,
+    reads: &mut usize,
     status: &mut u8,
     x: Tables,
     at: EntryAt,
 ) -> &'a [u8]
     requires { ⌜ SearchIn (now main) (now supplementary) (now work) x (now count) ⌝ }
+    requires { ⌜ now reads ≤ now count + 1 ⌝ }
     requires { ⌜ now status ≡ 0 ⌝ }
     requires { ⌜ Stands (now main) (now supplementary) at ⌝ }
-    ensures { λ r. ⌜ Gives (resolveNameInner (64 - at .depth) (dwarfOf (now (main .entry)) (now (supplementary .entry))) (placeAt (now (main .entry)) (now (supplementary .entry)) at)) (now (main .entry)) (now (supplementary .entry)) x (now (work .entry)) (now (count .entry)) (now (work .exit)) (now (count .exit)) (now (status .exit)) (now r) ⌝ }
+    ensures { λ r. ⌜ Gives (countedName (64 - at .depth) (dwarfOf (now (main .entry)) (now (supplementary .entry))) (placeAt (now (main .entry)) (now (supplementary .entry)) at)) (now (main .entry)) (now (supplementary .entry)) x (now (work .entry)) (now (count .entry)) (now (reads .entry)) (now (work .exit)) (now (count .exit)) (now (reads .exit)) (now (status .exit)) (now r) ⌝ }
 {
     if at.depth >= 64 {
         return &main[..0];
@@ -219,13 +222,33 @@ pub fn resolve_name_inner<'a>(
                 let source = next.source;
                 push_key(work, x, seen, source, target);
                 *count = seen + 1;
-                let r = resolve_name_inner(main, supplementary, work, count, status, x, next);
+                let read = *reads;
+                *reads = read + 1;
+                let r = resolve_name_inner(
+                    main,
+                    supplementary,
+                    work,
+                    count,
+                    reads,
+                    status,
+                    x,
+                    next,
+                );
                 if is_answer(*status, r) {
                     return r;
                 }
             }
             Way::Offset(next) => {
-                let r = resolve_absolute_name(main, supplementary, work, count, status, x, next);
+                let r = resolve_absolute_name(
+                    main,
+                    supplementary,
+                    work,
+                    count,
+                    reads,
+                    status,
+                    x,
+                    next,
+                );
                 if is_answer(*status, r) {
                     return r;
                 }
@@ -241,14 +264,16 @@ pub fn resolve_absolute_name<'a>(
     supplementary: &'a [u8],
     work: &mut [u8],
     count: &mut usize,
+    reads: &mut usize,
     status: &mut u8,
     x: Tables,
     at: OffsetAt,
 ) -> &'a [u8]
     requires { ⌜ SearchIn (now main) (now supplementary) (now work) x (now count) ⌝ }
+    requires { ⌜ now reads ≤ now count + 1 ⌝ }
     requires { ⌜ now status ≡ 0 ⌝ }
     requires { ⌜ Aims (now main) (now supplementary) at ⌝ }
-    ensures { λ r. ⌜ Gives (resolveAbsoluteName (64 - at .depth) (dwarfOf (now (main .entry)) (now (supplementary .entry))) (searchSource (at .input)) (searchSource (at .source)) (at .target)) (now (main .entry)) (now (supplementary .entry)) x (now (work .entry)) (now (count .entry)) (now (work .exit)) (now (count .exit)) (now (status .exit)) (now r) ⌝ }
+    ensures { λ r. ⌜ Gives (resolveAbsoluteName (64 - at .depth) (dwarfOf (now (main .entry)) (now (supplementary .entry))) (searchSource (at .input)) (searchSource (at .source)) (at .target)) (now (main .entry)) (now (supplementary .entry)) x (now (work .entry)) (now (count .entry)) (now (reads .entry)) (now (work .exit)) (now (count .exit)) (now (reads .exit)) (now (status .exit)) (now r) ⌝ }
 {
     let input = at.input;
     let source = at.source;
@@ -271,6 +296,8 @@ pub fn resolve_absolute_name<'a>(
         Target::At { place, unit } => {
             push_key(work, x, seen, source, at.target);
             *count = seen + 1;
+            let read = *reads;
+            *reads = read + 1;
             let next = EntryAt {
                 input: input,
                 source: source,
@@ -278,7 +305,7 @@ pub fn resolve_absolute_name<'a>(
                 place: place,
                 depth: at.depth,
             };
-            resolve_name_inner(main, supplementary, work, count, status, x, next)
+            resolve_name_inner(main, supplementary, work, count, reads, status, x, next)
         }
     }
 }
@@ -296,7 +323,31 @@ fn start_at(unit: usize, place: usize) -> EntryAt
     }
 }
 
-// The name of the entry at a place of the unit at a place of the main sheet.
+// The name of the entry at a place of the unit at a place of the main sheet, and how many entries were read for it.
+pub fn resolve_name_counted<'a>(
+    main: &'a [u8],
+    supplementary: &'a [u8],
+    work: &mut [u8],
+    reads: &mut usize,
+    status: &mut u8,
+    x: Tables,
+    unit: usize,
+    place: usize,
+) -> &'a [u8]
+    requires { ⌜ SearchIn (now main) (now supplementary) (now work) x 0 ⌝ }
+    requires { ⌜ now status ≡ 0 ⌝ }
+    requires { ⌜ EntryKnown (now main) unit place ⌝ }
+    ensures { λ r. ⌜ Resolved (now (main .entry)) (now (supplementary .entry)) x (now (work .entry)) (now (work .exit)) (resolveName (dwarfOf (now (main .entry)) (now (supplementary .entry))) (unitHere (now (main .entry)) unit) (entryHere (now (main .entry)) place)) (now (status .exit)) (now r) ⌝ }
+    ensures { λ r. ⌜ now (reads .exit) ≡ nameReads (dwarfOf (now (main .entry)) (now (supplementary .entry))) (unitHere (now (main .entry)) unit) (entryHere (now (main .entry)) place) ⌝ }
+    ensures { λ r. ⌜ ReadsWithin (dwarfOf (now (main .entry)) (now (supplementary .entry))) (now (reads .exit)) ⌝ }
+{
+    let mut count: usize = 0;
+    *reads = 1;
+    let at = start_at(unit, place);
+    resolve_name_inner(main, supplementary, work, &mut count, reads, status, x, at)
+}
+
+// The name of such an entry.
 pub fn resolve_name<'a>(
     main: &'a [u8],
     supplementary: &'a [u8],
@@ -311,9 +362,76 @@ pub fn resolve_name<'a>(
     requires { ⌜ EntryKnown (now main) unit place ⌝ }
     ensures { λ r. ⌜ Resolved (now (main .entry)) (now (supplementary .entry)) x (now (work .entry)) (now (work .exit)) (resolveName (dwarfOf (now (main .entry)) (now (supplementary .entry))) (unitHere (now (main .entry)) unit) (entryHere (now (main .entry)) place)) (now (status .exit)) (now r) ⌝ }
 {
+    let mut reads: usize = 0;
+    resolve_name_counted(
+        main,
+        supplementary,
+        work,
+        &mut reads,
+        status,
+        x,
+        unit,
+        place,
+    )
+}
+
+// The name that the attribute of a name of such an entry refers to, and how many entries were read for it.
+pub fn resolve_reference_name_counted<'a>(
+    main: &'a [u8],
+    supplementary: &'a [u8],
+    work: &mut [u8],
+    reads: &mut usize,
+    status: &mut u8,
+    x: Tables,
+    unit: usize,
+    place: usize,
+    name: u16,
+) -> &'a [u8]
+    requires { ⌜ SearchIn (now main) (now supplementary) (now work) x 0 ⌝ }
+    requires { ⌜ now status ≡ 0 ⌝ }
+    requires { ⌜ EntryKnown (now main) unit place ⌝ }
+    ensures { λ r. ⌜ Resolved (now (main .entry)) (now (supplementary .entry)) x (now (work .entry)) (now (work .exit)) (referenceName (dwarfOf (now (main .entry)) (now (supplementary .entry))) (unitHere (now (main .entry)) unit) (entryHere (now (main .entry)) place) (attribute (entryHere (now (main .entry)) place) name)) (now (status .exit)) (now r) ⌝ }
+    ensures { λ r. ⌜ now (reads .exit) ≡ referenceNameReads (dwarfOf (now (main .entry)) (now (supplementary .entry))) (unitHere (now (main .entry)) unit) (entryHere (now (main .entry)) place) name ⌝ }
+    ensures { λ r. ⌜ ReadsWithin (dwarfOf (now (main .entry)) (now (supplementary .entry))) (now (reads .exit)) ⌝ }
+{
     let mut count: usize = 0;
+    *reads = 1;
     let at = start_at(unit, place);
-    resolve_name_inner(main, supplementary, work, &mut count, status, x, at)
+    match way_of(main, supplementary, work, x, 0, at, name) {
+        Way::Nothing => &main[..0],
+        Way::Refused(code) => {
+            *status = code;
+            &main[..0]
+        }
+        Way::Entry(next, target) => {
+            let source = next.source;
+            push_key(work, x, 0, source, target);
+            count = 1;
+            *reads = 2;
+            resolve_name_inner(
+                main,
+                supplementary,
+                work,
+                &mut count,
+                reads,
+                status,
+                x,
+                next,
+            )
+        }
+        Way::Offset(next) => {
+            resolve_absolute_name(
+                main,
+                supplementary,
+                work,
+                &mut count,
+                reads,
+                status,
+                x,
+                next,
+            )
+        }
+    }
 }
 
 // The name that the entry's attribute `name` refers to.
@@ -332,22 +450,16 @@ pub fn resolve_reference_name<'a>(
     requires { ⌜ EntryKnown (now main) unit place ⌝ }
     ensures { λ r. ⌜ Resolved (now (main .entry)) (now (supplementary .entry)) x (now (work .entry)) (now (work .exit)) (referenceName (dwarfOf (now (main .entry)) (now (supplementary .entry))) (unitHere (now (main .entry)) unit) (entryHere (now (main .entry)) place) (attribute (entryHere (now (main .entry)) place) name)) (now (status .exit)) (now r) ⌝ }
 {
-    let mut count: usize = 0;
-    let at = start_at(unit, place);
-    match way_of(main, supplementary, work, x, 0, at, name) {
-        Way::Nothing => &main[..0],
-        Way::Refused(code) => {
-            *status = code;
-            &main[..0]
-        }
-        Way::Entry(next, target) => {
-            let source = next.source;
-            push_key(work, x, 0, source, target);
-            count = 1;
-            resolve_name_inner(main, supplementary, work, &mut count, status, x, next)
-        }
-        Way::Offset(next) => {
-            resolve_absolute_name(main, supplementary, work, &mut count, status, x, next)
-        }
-    }
+    let mut reads: usize = 0;
+    resolve_reference_name_counted(
+        main,
+        supplementary,
+        work,
+        &mut reads,
+        status,
+        x,
+        unit,
+        place,
+        name,
+    )
 }

@@ -18,8 +18,8 @@ use Rattle.references.proofs.declarations.+resolve+resolve_absolute+res
 use Rattle.references.proofs.declarations.+resolve+resolve_absolute+resolve_reference.Tie.{close}
 use Rattle.references.proofs.declarations.+resolve+resolve_absolute+resolve_reference.Proof.Falls.{μ-resolve, μ-resolve-absolute, μ-resolve-reference, resolve-at, resolve-below, resolve-absolute-at, resolve-absolute-below, resolve-reference-at, resolve-reference-below}
 use Rattle.references.proofs.declarations.+resolve+resolve_absolute+resolve_reference.Proof.Resolve.{resolve-returns, resolve-own-declaration-requires, resolve-enum-known-own, resolve-same-length, resolve-same-length-2, resolve-returns-2, resolve-resolve-reference-requires, resolve-enum-known-origin, resolve-same-length-3, resolve-same-length-4, resolve-same-length-5, resolve-returns-3, resolve-resolve-reference-requires-2, resolve-same-length-6, resolve-same-length-7, resolve-same-length-8, resolve-returns-4}
-use Rattle.references.proofs.declarations.+resolve+resolve_absolute+resolve_reference.Proof.Absolute.{resolve-absolute-aim-of-requires, resolve-absolute-enum-told, resolve-absolute-enum-known-aim, resolve-absolute-enum-told-2, resolve-absolute-push-key-requires, resolve-absolute-add-t26, resolve-absolute-enum-known-aim-2, resolve-absolute-push-key-requires-2, resolve-absolute-add-t31, resolve-absolute-join-files-requires, resolve-absolute-enum-known-code, resolve-absolute-enum-known-grown, resolve-absolute-add-t44, resolve-absolute-resolve-requires, resolve-absolute-same-length, resolve-absolute-returns, resolve-absolute-same-length-2, resolve-absolute-returns-2, resolve-absolute-same-length-3, resolve-absolute-returns-3, resolve-absolute-same-length-4, resolve-absolute-same-length-5, resolve-absolute-returns-4, resolve-absolute-same-length-6, resolve-absolute-same-length-7, resolve-absolute-same-length-8, resolve-absolute-returns-5}
-use Rattle.references.proofs.declarations.+resolve+resolve_absolute+resolve_reference.Proof.Reference.{resolve-reference-way-of-requires, resolve-reference-enum-told, resolve-reference-enum-known-code, resolve-reference-enum-known-next, resolve-reference-push-key-requires, resolve-reference-add-t27, resolve-reference-resolve-requires, resolve-reference-enum-known-next-2, resolve-reference-resolve-absolute-requires, resolve-reference-same-length, resolve-reference-returns, resolve-reference-same-length-2, resolve-reference-returns-2, resolve-reference-same-length-3, resolve-reference-same-length-4, resolve-reference-same-length-5, resolve-reference-returns-3, resolve-reference-same-length-6, resolve-reference-same-length-7, resolve-reference-same-length-8, resolve-reference-returns-4}
+use Rattle.references.proofs.declarations.+resolve+resolve_absolute+resolve_reference.Proof.Absolute.{resolve-absolute-aim-of-requires, resolve-absolute-enum-told, resolve-absolute-enum-known-aim, resolve-absolute-enum-told-2, resolve-absolute-push-key-requires, resolve-absolute-add-t28, resolve-absolute-enum-known-aim-2, resolve-absolute-push-key-requires-2, resolve-absolute-add-reads, resolve-absolute-add-t33, resolve-absolute-join-files-requires, resolve-absolute-enum-known-code, resolve-absolute-enum-known-grown, resolve-absolute-add-t47, resolve-absolute-resolve-requires, resolve-absolute-same-length, resolve-absolute-returns, resolve-absolute-same-length-2, resolve-absolute-returns-2, resolve-absolute-same-length-3, resolve-absolute-returns-3, resolve-absolute-same-length-4, resolve-absolute-same-length-5, resolve-absolute-returns-4, resolve-absolute-same-length-6, resolve-absolute-same-length-7, resolve-absolute-same-length-8, resolve-absolute-returns-5}
+use Rattle.references.proofs.declarations.+resolve+resolve_absolute+resolve_reference.Proof.Reference.{resolve-reference-way-of-requires, resolve-reference-enum-told, resolve-reference-enum-known-code, resolve-reference-enum-known-next, resolve-reference-push-key-requires, resolve-reference-add-reads, resolve-reference-add-t29, resolve-reference-resolve-requires, resolve-reference-enum-known-next-2, resolve-reference-resolve-absolute-requires, resolve-reference-same-length, resolve-reference-returns, resolve-reference-same-length-2, resolve-reference-returns-2, resolve-reference-same-length-3, resolve-reference-same-length-4, resolve-reference-same-length-5, resolve-reference-returns-3, resolve-reference-same-length-6, resolve-reference-same-length-7, resolve-reference-same-length-8, resolve-reference-returns-4}
 
 pub +resolve+resolve-absolute+resolve-reference-spec : {M : Type 1} → statement M
 +resolve+resolve-absolute+resolve-reference-spec =
@@ -48,14 +48,15 @@ pub +resolve+resolve-absolute+resolve-reference-spec : {M : Type 1} → statemen
     (resolve-absolute-enum-known-aim t)
     (resolve-absolute-enum-told-2 t)
     (resolve-absolute-push-key-requires t)
-    (resolve-absolute-add-t26 t)
+    (resolve-absolute-add-t28 t)
     (resolve-absolute-enum-known-aim-2 t)
     (resolve-absolute-push-key-requires-2 t)
-    (resolve-absolute-add-t31 t)
+    (resolve-absolute-add-reads t)
+    (resolve-absolute-add-t33 t)
     (resolve-absolute-join-files-requires t)
     (resolve-absolute-enum-known-code t)
     (resolve-absolute-enum-known-grown t)
-    (resolve-absolute-add-t44 t)
+    (resolve-absolute-add-t47 t)
     (resolve-absolute-resolve-requires t)
     (resolve-absolute-same-length t)
     (resolve-absolute-returns t)
@@ -76,7 +77,8 @@ pub +resolve+resolve-absolute+resolve-reference-spec : {M : Type 1} → statemen
     (resolve-reference-enum-known-code t)
     (resolve-reference-enum-known-next t)
     (resolve-reference-push-key-requires t)
-    (resolve-reference-add-t27 t)
+    (resolve-reference-add-reads t)
+    (resolve-reference-add-t29 t)
     (resolve-reference-resolve-requires t)
     (resolve-reference-enum-known-next-2 t)
     (resolve-reference-resolve-absolute-requires t)

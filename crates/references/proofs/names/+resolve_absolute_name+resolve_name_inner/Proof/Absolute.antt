@@ -21,7 +21,7 @@ same-length t c = search needs
 
 pub returns : (t : ℕ) → resolve-absolute-name-lts.Need-returns (absolute-calls t) (resolve-absolute-name-at t) resolve-absolute-name.Post
 returns t c =
-    absolute-seen _ (c .before .before .before .before .before .before .before .before .pre .1 .0) (c .before .before .before .before .before .before .before .before .pre .1 .1 .1) (c .before .before .is-visited .ensures) (c .before .before .before .before .before .before .before .before .pre .1 .1 .0) (c .before .if1 .taken)
+    absolute-seen _ (c .before .before .before .before .before .before .before .before .pre .1 .0) (c .before .before .before .before .before .before .before .before .pre .1 .1 .1 .1) (c .before .before .is-visited .ensures) (c .before .before .before .before .before .before .before .before .pre .1 .1 .0) (c .before .before .before .before .before .before .before .before .pre .1 .1 .1 .0) (c .before .if1 .taken)
 
 pub input-of-requires : (t : ℕ) → resolve-absolute-name-lts.Need-input-of-requires (absolute-calls t) (resolve-absolute-name-at t) resolve-absolute-name.Post
 input-of-requires t c κs = search needs
@@ -44,11 +44,11 @@ enum-told-2 t c = search needs
 
 pub push-key-requires : (t : ℕ) → resolve-absolute-name-lts.Need-push-key-requires (absolute-calls t) (resolve-absolute-name-at t) resolve-absolute-name.Post
 push-key-requires t c κs =
-    offset-room (c .before .before .before .before .before .before .before .before .before .before .before .before .before .before .pre .1 .0) (c .before .before .before .before .before .before .before .before .before .before .before .before .before .before .pre .1 .1 .1) (c .before .before .before .before .before .before .before .before .is-visited .ensures) (c .before .before .before .before .before .before .before .if1 .left)
+    offset-room (c .before .before .before .before .before .before .before .before .before .before .before .before .before .before .pre .1 .0) (c .before .before .before .before .before .before .before .before .before .before .before .before .before .before .pre .1 .1 .1 .1) (c .before .before .before .before .before .before .before .before .is-visited .ensures) (c .before .before .before .before .before .before .before .if1 .left)
 
 pub add-count : (t : ℕ) → resolve-absolute-name-lts.Need-add-count (absolute-calls t) (resolve-absolute-name-at t) resolve-absolute-name.Post
 add-count t c =
-    let room = offset-room (c .before .before .before .before .before .before .before .before .before .before .before .before .before .before .before .before .before .pre .1 .0) (c .before .before .before .before .before .before .before .before .before .before .before .before .before .before .before .before .before .pre .1 .1 .1) (c .before .before .before .before .before .before .before .before .before .before .before .is-visited .ensures) (c .before .before .before .before .before .before .before .before .before .before .if1 .left) in
+    let room = offset-room (c .before .before .before .before .before .before .before .before .before .before .before .before .before .before .before .before .before .pre .1 .0) (c .before .before .before .before .before .before .before .before .before .before .before .before .before .before .before .before .before .pre .1 .1 .1 .1) (c .before .before .before .before .before .before .before .before .before .before .before .is-visited .ensures) (c .before .before .before .before .before .before .before .before .before .before .if1 .left) in
     let fits = c .before .before .before .before .before .before .before .before .before .before .before .before .before .before .before .before .before .good .1 .1 .0 .0 in
     omega arith
 
@@ -60,25 +60,35 @@ enum-known-place t c = search needs
 
 pub push-key-requires-2 : (t : ℕ) → resolve-absolute-name-lts.Need-push-key-requires-2 (absolute-calls t) (resolve-absolute-name-at t) resolve-absolute-name.Post
 push-key-requires-2 t c κs =
-    offset-room (c .before .before .before .before .before .before .before .before .before .before .before .before .before .before .before .pre .1 .0) (c .before .before .before .before .before .before .before .before .before .before .before .before .before .before .before .pre .1 .1 .1) (c .before .before .before .before .before .before .before .before .before .is-visited .ensures) (c .before .before .before .before .before .before .before .before .if1 .left)
+    offset-room (c .before .before .before .before .before .before .before .before .before .before .before .before .before .before .before .pre .1 .0) (c .before .before .before .before .before .before .before .before .before .before .before .before .before .before .before .pre .1 .1 .1 .1) (c .before .before .before .before .before .before .before .before .before .is-visited .ensures) (c .before .before .before .before .before .before .before .before .if1 .left)
 
 pub add-count-2 : (t : ℕ) → resolve-absolute-name-lts.Need-add-count-2 (absolute-calls t) (resolve-absolute-name-at t) resolve-absolute-name.Post
 add-count-2 t c =
-    let room = offset-room (c .before .before .before .before .before .before .before .before .before .before .before .before .before .before .before .before .before .before .pre .1 .0) (c .before .before .before .before .before .before .before .before .before .before .before .before .before .before .before .before .before .before .pre .1 .1 .1) (c .before .before .before .before .before .before .before .before .before .before .before .before .is-visited .ensures) (c .before .before .before .before .before .before .before .before .before .before .before .if1 .left) in
+    let room = offset-room (c .before .before .before .before .before .before .before .before .before .before .before .before .before .before .before .before .before .before .pre .1 .0) (c .before .before .before .before .before .before .before .before .before .before .before .before .before .before .before .before .before .before .pre .1 .1 .1 .1) (c .before .before .before .before .before .before .before .before .before .before .before .before .is-visited .ensures) (c .before .before .before .before .before .before .before .before .before .before .before .if1 .left) in
     let fits = c .before .before .before .before .before .before .before .before .before .before .before .before .before .before .before .before .before .before .good .1 .1 .0 .0 in
+    omega arith
+
+pub add-reads : (t : ℕ) → resolve-absolute-name-lts.Need-add-reads (absolute-calls t) (resolve-absolute-name-at t) resolve-absolute-name.Post
+add-reads t c =
+    let room = offset-room (c .before .before .before .before .before .before .before .before .before .before .before .before .before .before .before .before .before .before .before .pre .1 .0) (c .before .before .before .before .before .before .before .before .before .before .before .before .before .before .before .before .before .before .before .pre .1 .1 .1 .1) (c .before .before .before .before .before .before .before .before .before .before .before .before .before .is-visited .ensures) (c .before .before .before .before .before .before .before .before .before .before .before .before .if1 .left) in
+    let fits = c .before .before .before .before .before .before .before .before .before .before .before .before .before .before .before .before .before .before .before .good .1 .1 .0 .0 in
+    let few = c .before .before .before .before .before .before .before .before .before .before .before .before .before .before .before .before .before .before .before .pre .1 .1 .0 in
     omega arith
 
 pub resolve-name-inner-requires : (t : ℕ) → resolve-absolute-name-lts.Need-resolve-name-inner-requires (absolute-calls t) (resolve-absolute-name-at t) resolve-absolute-name.Post
 resolve-name-inner-requires t c κs =
-    let ready = c .before .before .before .before .before .before .before .before .before .before .before .before .before .before .before .before .before .before .before .before .before .pre .1 .0 in
-    let aims = c .before .before .before .before .before .before .before .before .before .before .before .before .before .before .before .before .before .before .before .before .before .pre .1 .1 .1 in
-    let at = c .before .before .before .before .before .before .before .before .before .before .before .before .before .before .before .before .before .before .before .before .before .pre .0 in (
+    let ready = c .before .before .before .before .before .before .before .before .before .before .before .before .before .before .before .before .before .before .before .before .before .before .before .pre .1 .0 in
+    let aims = c .before .before .before .before .before .before .before .before .before .before .before .before .before .before .before .before .before .before .before .before .before .before .before .pre .1 .1 .1 .1 in
+    let at = c .before .before .before .before .before .before .before .before .before .before .before .before .before .before .before .before .before .before .before .before .before .before .before .pre .0 in (
       omega arith,
       (
-        offset-search ready aims (c .before .before .before .before .before .before .before .before .before .before .before .before .before .before .before .is-visited .ensures) (c .before .before .before .before .before .before .before .before .before .before .before .before .before .before .if1 .left) (c .before .before .before .before .before .push-key2 .ensures) (search needs),
+        offset-search ready aims (c .before .before .before .before .before .before .before .before .before .before .before .before .before .before .before .before .before .is-visited .ensures) (c .before .before .before .before .before .before .before .before .before .before .before .before .before .before .before .before .if1 .left) (c .before .before .before .before .before .before .before .push-key2 .ensures) (search needs),
         (
-          c .before .before .before .before .before .before .before .before .before .before .before .before .before .before .before .before .before .before .before .before .before .pre .1 .1 .0,
-          absolute-stands (c .before .before .before .before .before .before .before .before .before .before .before .before .before .before .before .before .before .before .before .before .before .args .at .depth) ready aims (c .before .before .before .before .before .before .before .before .before .before .before .before .before .before .before .is-visited .ensures) (c .before .before .before .before .before .before .before .before .before .before .before .before .before .before .if1 .left) (c .before .before .before .before .before .before .before .before .before .before .before .before .before .input-of .ensures .0) (c .before .before .before .before .before .before .before .before .before .before .target-at .ensures) _ _ (c .before .before .before .before .before .before .before .before .place .given .1),
+          (let few = c .before .before .before .before .before .before .before .before .before .before .before .before .before .before .before .before .before .before .before .before .before .before .before .pre .1 .1 .0 in omega arith),
+          (
+            c .before .before .before .before .before .before .before .before .before .before .before .before .before .before .before .before .before .before .before .before .before .before .before .pre .1 .1 .1 .0,
+            absolute-stands (c .before .before .before .before .before .before .before .before .before .before .before .before .before .before .before .before .before .before .before .before .before .before .before .args .at .depth) ready aims (c .before .before .before .before .before .before .before .before .before .before .before .before .before .before .before .before .before .is-visited .ensures) (c .before .before .before .before .before .before .before .before .before .before .before .before .before .before .before .before .if1 .left) (c .before .before .before .before .before .before .before .before .before .before .before .before .before .before .before .input-of .ensures .0) (c .before .before .before .before .before .before .before .before .before .before .before .before .target-at .ensures) _ _ (c .before .before .before .before .before .before .before .before .before .before .place .given .1),
+          ),
         ),
       ),
     )
@@ -88,18 +98,18 @@ same-length-2 t c = search needs
 
 pub returns-2 : (t : ℕ) → resolve-absolute-name-lts.Need-returns-2 (absolute-calls t) (resolve-absolute-name-at t) resolve-absolute-name.Post
 returns-2 t c =
-    absolute-no-entry _ (c .before .before .before .before .before .before .before .before .before .before .before .before .before .before .pre .1 .0) (c .before .before .before .before .before .before .before .before .before .before .before .before .before .before .pre .1 .1 .1) (c .before .before .before .before .before .before .before .before .is-visited .ensures) (c .before .before .before .before .before .before .before .if1 .left) (c .before .before .before .before .before .before .input-of .ensures .0) (c .before .before .before .target-at .ensures) _ (c .before .enum-told .given .1)
+    absolute-no-entry _ (c .before .before .before .before .before .before .before .before .before .before .before .before .before .before .pre .1 .0) (c .before .before .before .before .before .before .before .before .before .before .before .before .before .before .pre .1 .1 .1 .1) (c .before .before .before .before .before .before .before .before .is-visited .ensures) (c .before .before .before .before .before .before .before .if1 .left) (c .before .before .before .before .before .before .input-of .ensures .0) (c .before .before .before .target-at .ensures) _ (c .before .enum-told .given .1) (c .before .before .before .before .before .before .before .before .before .before .before .before .before .before .pre .1 .1 .0)
 
 pub same-length-3 : (t : ℕ) → resolve-absolute-name-lts.Need-same-length-3 (absolute-calls t) (resolve-absolute-name-at t) resolve-absolute-name.Post
 same-length-3 t c = search needs
 
 pub returns-3 : (t : ℕ) → resolve-absolute-name-lts.Need-returns-3 (absolute-calls t) (resolve-absolute-name-at t) resolve-absolute-name.Post
 returns-3 t c =
-    absolute-outside _ (c .before .before .before .before .before .before .before .before .before .before .before .before .before .before .before .before .before .before .pre .1 .0) (c .before .before .before .before .before .before .before .before .before .before .before .before .before .before .before .before .before .before .pre .1 .1 .1) (c .before .before .before .before .before .before .before .before .before .before .before .before .is-visited .ensures) (c .before .before .before .before .before .before .before .before .before .before .before .if1 .left) (c .before .before .before .before .before .before .before .before .before .before .input-of .ensures .0) (c .before .before .before .before .before .before .before .target-at .ensures) (c .before .before .before .push-key .ensures) (c .before .before .before .before .before .enum-told2 .given .1) (search needs) (c .before .before .before .before .before .before .before .before .before .before .before .before .before .before .before .before .before .before .pre .1 .1 .0)
+    absolute-outside _ (c .before .before .before .before .before .before .before .before .before .before .before .before .before .before .before .before .before .before .pre .1 .0) (c .before .before .before .before .before .before .before .before .before .before .before .before .before .before .before .before .before .before .pre .1 .1 .1 .1) (c .before .before .before .before .before .before .before .before .before .before .before .before .is-visited .ensures) (c .before .before .before .before .before .before .before .before .before .before .before .if1 .left) (c .before .before .before .before .before .before .before .before .before .before .input-of .ensures .0) (c .before .before .before .before .before .before .before .target-at .ensures) (c .before .before .before .push-key .ensures) (c .before .before .before .before .before .enum-told2 .given .1) (search needs) (c .before .before .before .before .before .before .before .before .before .before .before .before .before .before .before .before .before .before .pre .1 .1 .0) (c .before .before .before .before .before .before .before .before .before .before .before .before .before .before .before .before .before .before .pre .1 .1 .1 .0)
 
 pub same-length-4 : (t : ℕ) → resolve-absolute-name-lts.Need-same-length-4 (absolute-calls t) (resolve-absolute-name-at t) resolve-absolute-name.Post
 same-length-4 t c = search needs
 
 pub returns-4 : (t : ℕ) → resolve-absolute-name-lts.Need-returns-4 (absolute-calls t) (resolve-absolute-name-at t) resolve-absolute-name.Post
 returns-4 t c =
-    absolute-at _ (c .before .before .before .before .before .before .before .before .before .before .before .before .before .before .before .before .before .before .before .before .before .before .before .before .pre .1 .0) (c .before .before .before .before .before .before .before .before .before .before .before .before .before .before .before .before .before .before .before .before .before .before .before .before .pre .1 .1 .1) (c .before .before .before .before .before .before .before .before .before .before .before .before .before .before .before .before .before .before .is-visited .ensures) (c .before .before .before .before .before .before .before .before .before .before .before .before .before .before .before .before .before .if1 .left) (c .before .before .before .before .before .before .before .before .before .before .before .before .before .before .before .before .input-of .ensures .0) (c .before .before .before .before .before .before .before .before .before .before .before .before .before .target-at .ensures) (c .before .before .before .before .before .before .before .before .push-key2 .ensures) _ _ (c .before .before .before .before .before .before .before .before .before .before .before .place .given .1) (c .before .before .resolve-name-inner .ensures)
+    absolute-at _ (c .before .before .before .before .before .before .before .before .before .before .before .before .before .before .before .before .before .before .before .before .before .before .before .before .before .before .pre .1 .0) (c .before .before .before .before .before .before .before .before .before .before .before .before .before .before .before .before .before .before .before .before .before .before .before .before .before .before .pre .1 .1 .1 .1) (c .before .before .before .before .before .before .before .before .before .before .before .before .before .before .before .before .before .before .before .before .is-visited .ensures) (c .before .before .before .before .before .before .before .before .before .before .before .before .before .before .before .before .before .before .before .if1 .left) (c .before .before .before .before .before .before .before .before .before .before .before .before .before .before .before .before .before .before .input-of .ensures .0) (c .before .before .before .before .before .before .before .before .before .before .before .before .before .before .before .target-at .ensures) (c .before .before .before .before .before .before .before .before .before .before .push-key2 .ensures) _ _ (c .before .before .before .before .before .before .before .before .before .before .before .before .before .place .given .1) (c .before .before .resolve-name-inner .ensures)

@@ -18,23 +18,23 @@ use Rattle.references.proofs.keys.push_key.Reads as push-key-reads
 use Rattle.references.proofs.tables.target_at.Reads as target-at-reads
 use Rattle.references.proofs.names.way_of.Reads as way-of-reads
 
-abbrev pub μ-resolve-absolute-name : Measures 4 resolve-absolute-name-kinds.ps ℕ
-μ-resolve-absolute-name κs a = 2 * (64 - a .1 .1 .1 .1 .1 .1 .0 .depth) + 1
+abbrev pub μ-resolve-absolute-name : Measures 5 resolve-absolute-name-kinds.ps ℕ
+μ-resolve-absolute-name κs a = 2 * (64 - a .1 .1 .1 .1 .1 .1 .1 .0 .depth) + 1
 
-abbrev pub μ-resolve-name-inner : Measures 4 resolve-name-inner-kinds.ps ℕ
-μ-resolve-name-inner κs a = 2 * (64 - a .1 .1 .1 .1 .1 .1 .0 .depth)
+abbrev pub μ-resolve-name-inner : Measures 5 resolve-name-inner-kinds.ps ℕ
+μ-resolve-name-inner κs a = 2 * (64 - a .1 .1 .1 .1 .1 .1 .1 .0 .depth)
 
-abbrev pub resolve-absolute-name-at : ℕ → In 4 resolve-absolute-name-kinds.ps
-resolve-absolute-name-at t = and 4 resolve-absolute-name-kinds.ps (is 4 resolve-absolute-name-kinds.ps μ-resolve-absolute-name t) resolve-absolute-name.Pre
+abbrev pub resolve-absolute-name-at : ℕ → In 5 resolve-absolute-name-kinds.ps
+resolve-absolute-name-at t = and 5 resolve-absolute-name-kinds.ps (is 5 resolve-absolute-name-kinds.ps μ-resolve-absolute-name t) resolve-absolute-name.Pre
 
-abbrev pub resolve-absolute-name-below : ℕ → In 4 resolve-absolute-name-kinds.ps
-resolve-absolute-name-below t = and 4 resolve-absolute-name-kinds.ps (falls 4 resolve-absolute-name-kinds.ps _<_ μ-resolve-absolute-name t) resolve-absolute-name.Pre
+abbrev pub resolve-absolute-name-below : ℕ → In 5 resolve-absolute-name-kinds.ps
+resolve-absolute-name-below t = and 5 resolve-absolute-name-kinds.ps (falls 5 resolve-absolute-name-kinds.ps _<_ μ-resolve-absolute-name t) resolve-absolute-name.Pre
 
-abbrev pub resolve-name-inner-at : ℕ → In 4 resolve-name-inner-kinds.ps
-resolve-name-inner-at t = and 4 resolve-name-inner-kinds.ps (is 4 resolve-name-inner-kinds.ps μ-resolve-name-inner t) resolve-name-inner.Pre
+abbrev pub resolve-name-inner-at : ℕ → In 5 resolve-name-inner-kinds.ps
+resolve-name-inner-at t = and 5 resolve-name-inner-kinds.ps (is 5 resolve-name-inner-kinds.ps μ-resolve-name-inner t) resolve-name-inner.Pre
 
-abbrev pub resolve-name-inner-below : ℕ → In 4 resolve-name-inner-kinds.ps
-resolve-name-inner-below t = and 4 resolve-name-inner-kinds.ps (falls 4 resolve-name-inner-kinds.ps _<_ μ-resolve-name-inner t) resolve-name-inner.Pre
+abbrev pub resolve-name-inner-below : ℕ → In 5 resolve-name-inner-kinds.ps
+resolve-name-inner-below t = and 5 resolve-name-inner-kinds.ps (falls 5 resolve-name-inner-kinds.ps _<_ μ-resolve-name-inner t) resolve-name-inner.Pre
 
 -- what its calls ask and say
 abbrev pub absolute-calls : ℕ → resolve-absolute-name-lts.Claims
@@ -45,8 +45,8 @@ abbrev pub inner-calls : ℕ → resolve-name-inner-lts.Claims
 inner-calls t = (input-of-reads.Asked, input-of-reads.Learnt, own-name-reads.Asked, own-name-reads.Learnt, is-answer-reads.Asked, is-answer-reads.Learnt, way-of-reads.Asked, way-of-reads.Learnt, push-key-reads.Asked, push-key-reads.Learnt, resolve-name-inner-below t, resolve-name-inner.Post, resolve-absolute-name-below t, resolve-absolute-name.Post)
 
 abbrev pub Inv-loop : resolve-name-inner-lts.InvT-loop
-Inv-loop main supplementary work₀ count₀ status₀ x at name₀ left₀ work count status name left =
-    Going main supplementary x at work₀ count₀ work count status name left
+Inv-loop main supplementary work₀ count₀ reads₀ status₀ x at name₀ left₀ work count reads status name left =
+    Going main supplementary x at work₀ count₀ reads₀ work count reads status name left
 
 abbrev pub μ-loop : resolve-name-inner-lts.MeasureT-loop
-μ-loop main supplementary work₀ count₀ status₀ x at name₀ left₀ work count status name left = left
+μ-loop main supplementary work₀ count₀ reads₀ status₀ x at name₀ left₀ work count reads status name left = left
