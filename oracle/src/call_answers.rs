@@ -1,13 +1,14 @@
-//! What the Rust's own functions answer to calls of the lines layer and of the name searches, as lines of text.
+//! What the Rust's own functions answer to calls of the lines layer and of the searches, as lines of text.
 
 use crate::answer::inputs;
 use crate::calls::lines::{Call, Query};
-use crate::calls::searches;
+use crate::calls::searches::{self, Answer};
 use crate::case::Case;
-use crate::convert::dwarf::references::searched;
+use crate::convert::dwarf::references::{Found, Searched, searched};
 use crate::convert::dwarf::{Collected, lines};
 use crate::error::{Result, refusal};
 use crate::output::{written_files, written_warnings};
+use crate::stand_in::gimli::{AttributeValue, Dwarf, Slice};
 
 /// A line for a call of the lines layer, and one more for each query.
 pub fn lines(call: &Call) -> String {
@@ -56,24 +57,40 @@ fn listed(collected: &Collected) -> String {
     format!("lines {lines} sequences {sequences}|{}|{}", printed(&files), printed(&warnings))
 }
 
-/// A line for each query of the name searches, or one if an input is refused.
-pub fn searches(call: &searches::Call) -> String {
+/// An answer for each query of the searches, or one if an input is refused.
+pub fn searches(call: &searches::Call) -> Vec<Answer> {
     let mut case = Case::new(call.main.clone(), call.supplementary.clone(), Vec::new());
     case.work = u64::MAX;
     let (dwarf, _) = match inputs(&case) {
         Ok(inputs) => inputs,
-        Err(refusal) => return format!("refused {refusal}"),
+        Err(refusal) => return vec![Answer { text: format!("refused {refusal}"), reads: None }],
     };
-    let queries: Vec<(bool, usize)> = call.queries.iter().map(|query| (query.reference, query.offset as usize)).collect();
-    let lines: Vec<String> = searched(&dwarf, &queries)
-        .into_iter()
-        .map(|found| match found {
-            None => "no entry".to_owned(),
-            Some(Ok(name)) => format!("name {}", printed(&name.unwrap_or_default())),
-            Some(Err(error)) => format!("refused {}", refusal(&error)),
-        })
-        .collect();
-    lines.join("\n")
+    let queries: Vec<_> = call.queries.iter().map(|query| (query.asked, query.offset as usize)).collect();
+    let none = || Answer { text: "no entry".to_owned(), reads: None };
+    searched(&dwarf, &queries).into_iter().map(|searched| searched.map_or_else(none, |searched| search(&dwarf, &searched))).collect()
+}
+
+/// What a search finds, and how many entries it reads, which is held to both bounds.
+fn search(dwarf: &Dwarf<Slice<'_>>, Searched { found, reads }: &Searched) -> Answer {
+    let all = references_in(dwarf) + dwarf.sup().map_or(0, references_in);
+    assert!(dwarf.sup().is_some() || *reads <= 3 + all, "{reads} entries read, {all} references, no supplementary input");
+    assert!(*reads <= 1 + 2 * all, "{reads} entries read, {all} references");
+    let text = match found {
+        Ok(Found::Name(name)) => format!("name {}", printed(name.as_deref().unwrap_or_default())),
+        Ok(Found::Declaration(Some(line))) => format!("line {} {}", line.file.get(), line.line),
+        Ok(Found::Declaration(None)) => "no line".to_owned(),
+        Err(error) => format!("refused {}", refusal(error)),
+    };
+    Answer { text, reads: Some(*reads) }
+}
+
+/// How many reference attributes an input has, of any name, repeated ones included.
+fn references_in(dwarf: &Dwarf<Slice<'_>>) -> usize {
+    let is_reference = |value: &AttributeValue<Slice<'_>>| {
+        matches!(value, AttributeValue::UnitRef(_) | AttributeValue::DebugInfoRef(_) | AttributeValue::DebugInfoRefSup(_))
+    };
+    let entries = dwarf.units.iter().flat_map(|unit| &unit.entries);
+    entries.flat_map(|entry| &entry.attributes).filter(|(_, value)| is_reference(value)).count()
 }
 
 /// Bytes from 21 to 7e hex stand for themselves, but for \ and |. Any other is a \ and two hex digits.

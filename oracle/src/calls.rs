@@ -1,4 +1,4 @@
-//! Calls of the lines layer and of the name searches, as they stand in a file.
+//! Calls of the lines layer and of the searches, as they stand in a file.
 
 /// Calls of the lines layer.
 pub mod lines {
@@ -53,7 +53,7 @@ pub mod lines {
     }
 }
 
-/// Calls of the name searches.
+/// Calls of the searches of names and declarations.
 pub mod searches {
     /// Two inputs, and what is asked of them.
     pub struct Call {
@@ -62,11 +62,32 @@ pub mod searches {
         pub queries: Vec<Query>,
     }
 
-    /// The entry at an offset of the section: its name, or the one that its call origin refers to.
+    /// A search from the entry at an offset of the section.
     #[derive(Clone, Copy)]
     pub struct Query {
-        pub reference: bool,
+        pub asked: Asked,
         pub offset: u64,
+    }
+
+    /// What is searched from an entry: its name, the name that its call origin refers to, its declaration.
+    #[derive(Clone, Copy, PartialEq)]
+    pub enum Asked {
+        Name,
+        ReferenceName,
+        Declaration,
+    }
+
+    /// What a query is answered, and how many entries the search reads, if there is one. In the package plain, which traces nothing,
+    /// the start alone is counted.
+    pub struct Answer {
+        pub text: String,
+        pub reads: Option<usize>,
+    }
+
+    impl Answer {
+        pub fn line(&self) -> String {
+            self.reads.map_or_else(|| self.text.clone(), |reads| format!("{} {reads}", self.text))
+        }
     }
 
     impl Call {
@@ -81,7 +102,7 @@ pub mod searches {
 
     impl Query {
         fn bytes(&self) -> Vec<u8> {
-            [[1 + u8::from(self.reference)].as_slice(), &self.offset.to_le_bytes()].concat()
+            [[1 + self.asked as u8].as_slice(), &self.offset.to_le_bytes()].concat()
         }
     }
 }

@@ -26,6 +26,7 @@ pub const STATEMENT_SEQUENCE: u16 = 0x3e0c;
 
 /// Kinds of attributes.
 pub const UNSIGNED: u8 = 1;
+pub const FILE_NUMBER: u8 = 2;
 pub const STRING: u8 = 3;
 pub const UNIT_REF: u8 = 4;
 pub const SECTION_REF: u8 = 5;

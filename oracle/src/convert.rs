@@ -68,26 +68,45 @@ pub mod dwarf {
 
         // A door to the searches, for their cases.
 
-        /// What a search finds, if there is an entry to start from.
-        pub(crate) type Found = Option<Result<Option<Vec<u8>>>>;
+        use crate::calls::searches::Asked;
+        use crate::trace::{Event, traced};
 
-        /// For each query the name of the entry at an offset of the main section, or the one that its call origin refers to.
-        pub(crate) fn searched(dwarf: &gimli::Dwarf<gimli::Slice<'_>>, queries: &[(bool, usize)]) -> Vec<Found> {
-            let resolver = DwarfResolver::new(dwarf);
-            queries.iter().map(|&(reference, target)| search(&resolver, reference, target)).collect()
+        /// What a search finds.
+        pub(crate) enum Found {
+            Name(Option<Vec<u8>>),
+            Declaration(Option<LineEntry>),
         }
 
-        fn search(resolver: &DwarfResolver<'_, gimli::Slice<'_>>, reference: bool, target: usize) -> Found {
+        /// What a search gives, and how many entries it read: its start, and each that the decoder was asked for behind a reference.
+        pub(crate) struct Searched {
+            pub(crate) found: Result<Found>,
+            pub(crate) reads: usize,
+        }
+
+        /// The searches from the entries at offsets of the main section; none where no entry starts.
+        pub(crate) fn searched(dwarf: &gimli::Dwarf<gimli::Slice<'_>>, queries: &[(Asked, usize)]) -> Vec<Option<Searched>> {
+            let resolver = DwarfResolver::new(dwarf);
+            queries.iter().map(|&(asked, target)| search(&resolver, asked, target)).collect()
+        }
+
+        fn search(resolver: &DwarfResolver<'_, gimli::Slice<'_>>, asked: Asked, target: usize) -> Option<Searched> {
             let (unit, offset) = resolver.unit_containing_offset(target).ok()??;
             let entry = resolver.entry(&unit, offset).ok()?;
-            if !reference {
-                return Some(resolve_name(resolver, &unit, &entry, 0));
-            }
-            Some(
-                entry
+            let (found, events) = traced(|| match asked {
+                Asked::Name => resolve_name(resolver, &unit, &entry, 0).map(Found::Name),
+                Asked::ReferenceName => entry
                     .attr_value(gimli::constants::DW_AT_call_origin)
-                    .map_or(Ok(None), |origin| resolve_reference_name(resolver, &unit, &origin, 0, &mut VisitedDies::default())),
-            )
+                    .map_or(Ok(None), |origin| resolve_reference_name(resolver, &unit, &origin, 0, &mut VisitedDies::default()))
+                    .map(Found::Name),
+                // No files of the entry's own unit are known, as where it has no line header.
+                Asked::Declaration => {
+                    let (mut builder, mut warnings) = (GsymBuilder::new(), Vec::new());
+                    resolve_declaration_line(resolver, &unit, &entry, &FileIndices::default(), &mut builder, &mut warnings)
+                        .map(Found::Declaration)
+                }
+            });
+            let reads = 1 + events.iter().filter(|event| matches!(event, Event::Follow { .. })).count();
+            Some(Searched { found, reads })
         }
     }
 

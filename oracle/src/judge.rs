@@ -46,9 +46,14 @@ pub fn judged_lines(call: &lines::Call) -> Result<String, String> {
     judged_text(call_answers::lines(call), plain::call_answers::lines(call), apart)
 }
 
-/// The answer to a call of the name searches, which no request is about.
+/// The answers to a call of the searches, which no request is about, a line each. The counts of reads are the oracle's alone: its text of
+/// the searches is the plain Rust's, which is not traced.
 pub fn judged_searches(call: &searches::Call) -> Result<String, String> {
-    judged_text(call_answers::searches(call), plain::call_answers::searches(call), false)
+    let joined =
+        |answers: &[searches::Answer], line: fn(&searches::Answer) -> String| answers.iter().map(line).collect::<Vec<_>>().join("\n");
+    let (answers, plain) = (call_answers::searches(call), plain::call_answers::searches(call));
+    judged_text(joined(&answers, |answer| answer.text.clone()), joined(&plain, |answer| answer.text.clone()), false)?;
+    Ok(joined(&answers, searches::Answer::line))
 }
 
 fn judged_text(text: String, plain: String, apart: bool) -> Result<String, String> {

@@ -100,6 +100,8 @@ mod random;
 mod requests;
 #[cfg(not(feature = "plain"))]
 pub mod search_cases;
+#[cfg(not(feature = "plain"))]
+mod search_webs;
 #[cfg(all(test, not(feature = "plain")))]
 mod tests;
 

@@ -23,7 +23,7 @@ oracle coverage CASES                       counts what the cases reach; fails i
 oracle judge CASES                          counts the cases that the plain Rust judges; fails if it answers otherwise, or if they are few
 oracle lines SEED COUNT ROWS FRONTS STDIN STDOUT    writes calls of operands, sequences and paths, then calls for the rows of units,
                                             then calls for rows from the front of tables, and their answers as text
-oracle searches SEED COUNT STDIN STDOUT     writes calls of the name searches, and their answers as text";
+oracle searches SEED COUNT STDIN STDOUT     writes calls of the searches, and their answers as text";
 
 const INPUTS: [&str; 3] = ["unit.main", "unit.sup", "unit.line"];
 
@@ -165,7 +165,7 @@ fn lines(seed: u64, counts: [u64; 3], stdin: &Path, stdout: &Path) -> Result<boo
     Ok(cases.finish()? && answers.finish()?)
 }
 
-/// So many calls of the name searches behind their number, and the lines of each answer.
+/// So many calls of the searches behind their number, and the lines of each answer.
 fn searches(seed: u64, count: u64, stdin: &Path, stdout: &Path) -> Result<bool, String> {
     let all = u32::try_from(count).map_err(|_| format!("{count} calls are too many"))?;
     let (mut cases, mut answers) = (Target::create(stdin)?, Target::create(stdout)?);

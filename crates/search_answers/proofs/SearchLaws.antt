@@ -1,6 +1,6 @@
--- The tables of two sheets have room and stand in the work slice, and a search leaves them there. Assumes nothing.
-use mathlib.Core.Path.{_≡_, _∙_}
-use mathlib.Core.Logic.{inl}
+-- What the searches of two sheets need has room and stands in the work slice, and a search leaves it there. Assumes nothing.
+use mathlib.Core.Path.{_≡_, refl, _∙_}
+use mathlib.Core.Logic.{inl, inr}
 use mathlib.Core.Bool.{Bool, true}
 use mathlib.Core.List.{List}
 use Prim.Native.Nat.{ℕ, _+_, _*_, _≤_}
@@ -10,22 +10,28 @@ use Rattle.tlv.specs.Outcome.{Outcome, done}
 use Rattle.tlv.specs.Fields.{fields, wholeFields, payloads}
 use Rattle.tlv.specs.Grammar.{checkInput}
 use Rattle.tlv.specs.Places.{unitPlaces}
-use Rattle.tlv.specs.Table.{Kept}
+use Rattle.tlv.specs.Lists.{Any}
+use Rattle.tlv.specs.Table.{Kept, KeptBut, Clear}
 use Rattle.tlv.specs.Index.{indexedOf, Indexed}
 use Rattle.tlv.specs.Units.{unitOf24, IndexedUnits}
 use Rattle.tlv.proofs.IndexLaws.{index-length}
 use Rattle.tlv.proofs.UnitsOrder.{unit-places-length}
-use Rattle.tlv.proofs.TableLaws.{kept-trans, kept-wide}
-use Rattle.tlv.proofs.RecordLaws.{records-kept}
-use Rattle.files.proofs.FewLaws.{tags-few}
+use Rattle.tlv.proofs.TableLaws.{kept-trans, kept-wide, but-of, but-one, here}
+use Rattle.tlv.proofs.RecordLaws.{records-kept, records-but}
+use Rattle.files.specs.Store.{FilesIn, Empty}
+use Rattle.files.specs.declared.store.StoredFiles.{StoredFiles}
+use Rattle.files.proofs.FewLaws.{tags-few, possible-few, directories-few, files-few-in}
 use Rattle.references.specs.declared.tables.Index.{Index}
-use Rattle.references.specs.declared.tables.Tables.{Tables}
 use Rattle.references.specs.declared.tables.Target.{Target}
+use Rattle.references.specs.declared.declarations.Places.{Places}
+use Rattle.references.specs.declared.declarations.Declared.{Declared}
+use Rattle.references.specs.Search.{Declaring}
 use Rattle.references.specs.Tables.{IndexIn, EntryKnown, Leads}
-use Rattle.references.specs.Names.{SearchIn, Resolved}
+use Rattle.references.specs.Names.{Resolved}
+use Rattle.references.specs.Declarations.{DeclaringIn, Declares, searched}
 use Rattle.references.proofs.KeyLaws.{keys-in-none}
 use Rattle.references.proofs.FewKeys.{keys-few}
-use Rattle.search_answers.specs.Searches.{Room, HasRoom, IndexedSheet}
+use Rattle.search_answers.specs.Searches.{Room, HasRoom, IndexedSheet, mapExtent, SearchesIn}
 
 pub room-yes : {main supplementary n m work : ℕ} {r : Bool} → HasRoom main supplementary n m work r → r ≡ true → Room main supplementary n m work
 room-yes {main} {supplementary} {n} {m} {work} {r} H e = let Y : HasRoom main supplementary n m work true = rw e at H in Y .is
@@ -52,6 +58,8 @@ sheet-indexed {s} {w} {w₁} {w₂} {base} {n} {a} {b} e h A B =
         units-within = omega (arith, A .size, B .size);
         entries-within = omega (arith, A .size, B .size);
       };
+      units-above = omega arith;
+      entries-above = omega arith;
       units-below = omega arith;
       entries-below = omega arith;
       few = entries-few;
@@ -61,46 +69,147 @@ sheet-indexed {s} {w} {w₁} {w₂} {base} {n} {a} {b} e h A B =
 
 -- ---- the tables of both
 
--- a write above the tables of a sheet
-index-kept : {s w w′ : List ℕ} {x : Index} {p m : ℕ} → IndexIn s w x → Kept w w′ p m → x .units + 24 * x .«unit_count» ≤ p → x .entries + 16 * x .«entry_count» ≤ p → length w′ ≡ length w → IndexIn s w′ x
-index-kept {x = x} I K below-units below-entries size = record {
+-- writes that lie clear of the tables of a sheet
+index-but : {s w w′ : List ℕ} {x : Index} {rs : List (ℕ × ℕ)} → IndexIn s w x → KeptBut w w′ rs → Clear (x .units) (x .«unit_count» * 24) rs → Clear (x .entries) (x .«entry_count» * 16) rs
+    → length w′ ≡ length w → IndexIn s w′ x
+index-but {x = x} I K units-clear entries-clear size = record {
   number = I .number;
   accepted = I .accepted;
-  units = records-kept unitOf24 24 (x .units) (x .«unit_count») K (inl (omega arith)) ∙ I .units;
-  entries = records-kept indexedOf 16 (x .entries) (x .«entry_count») K (inl (omega arith)) ∙ I .entries;
+  units = records-but unitOf24 24 (x .units) (x .«unit_count») K units-clear ∙ I .units;
+  entries = records-but indexedOf 16 (x .entries) (x .«entry_count») K entries-clear ∙ I .entries;
   units-within = omega (arith, I .units-within);
   entries-within = omega (arith, I .entries-within);
 }
 
+-- a write above them
+index-kept : {s w w′ : List ℕ} {x : Index} {p m : ℕ} → IndexIn s w x → Kept w w′ p m → x .units + 24 * x .«unit_count» ≤ p → x .entries + 16 * x .«entry_count» ≤ p → length w′ ≡ length w → IndexIn s w′ x
+index-kept I K below-units below-entries size = index-but I (but-one K) (inl (omega arith), tt) (inl (omega arith), tt) size
+
+-- a unit's directories and files are no more than the fields of its sheet
+map-fits : (s : List ℕ) (n k : ℕ) → checkInput s ≡ done n → n ≤ k → (q : ℕ) → Any (λ p. p ≡ q) (unitPlaces 0 (fields s)) → mapExtent s q ≤ k * 8 + 5
+map-fits s n k e few q any = omega (arith, directories-few s q any, files-few-in s q any, tags-few s n e)
+
 -- one sheet's behind the other's, and the followed targets behind them
-pub tables-built : {s t w w₁ w₂ : List ℕ} {j k n m : ℕ} {a b : Index} → checkInput s ≡ done n → checkInput t ≡ done m → Room j k n m (length w) → IndexedSheet s w w₁ 0 n a → IndexedSheet t w₁ w₂ (n * 40) m b
-    → SearchIn s t w₂ (record { main = a; supplementary = b; keys = n * 40 + m * 40 }) 0
+pub tables-built : {s t w w₁ w₂ : List ℕ} {n m : ℕ} {a b : Index} → checkInput s ≡ done n → checkInput t ≡ done m → Room (length s) (length t) n m (length w)
+    → IndexedSheet s w w₁ ((n + m) * 45 + 12335 + ((n + m) * 8 + 5)) n a → IndexedSheet t w₁ w₂ ((n + m) * 45 + 12335 + ((n + m) * 8 + 5) + n * 40) m b
+    → SearchesIn s t w₂
+    (record {
+      tables = record { main = a; supplementary = b; keys = (n + m) * 45 + 12335 + ((n + m) * 8 + 5) + n * 40 + m * 40 };
+      indices = record { base = (n + m) * 45 + 12335; count = 0 };
+      spans = (n + m) * 45 + 12335;
+      room = (n + m) * 8 + 5;
+    })
+    (n + m + 1)
 tables-built {s} {t} {n = n} {m = m} e d R A B = record {
-  main-index = index-kept (A .index) (B .rest) (omega (arith, A .units-below)) (omega (arith, A .entries-below)) (B .size);
-  supplementary-index = B .index;
-  keys = keys-in-none (omega (arith, R .within, A .size, B .size, A .few, B .few, keys-few s t, tags-few s n e, tags-few t m d));
-  main-units = omega (arith, A .units-below);
-  main-entries = omega (arith, A .entries-below);
-  supplementary-units = B .units-below;
-  supplementary-entries = B .entries-below;
+  search-tables = record {
+    main-index = index-kept (A .index) (B .rest) (omega (arith, A .units-below)) (omega (arith, A .entries-below)) (B .size);
+    supplementary-index = B .index;
+    keys = keys-in-none (omega (arith, R .within, A .size, B .size, A .few, B .few, keys-few s t, tags-few s n e, tags-few t m d));
+    main-units = omega (arith, A .units-below);
+    main-entries = omega (arith, A .entries-below);
+    supplementary-units = B .units-below;
+    supplementary-entries = B .entries-below;
+  };
+  few = omega (arith, possible-few s t, tags-few s n e, tags-few t m d);
+  small = omega (arith, R .main-few, R .supplementary-few);
+  main-small = R .main-small;
+  supplementary-small = R .supplementary-small;
+  table = omega arith;
+  indices = omega arith;
+  main-units = A .units-above;
+  main-entries = A .entries-above;
+  supplementary-units = omega (arith, B .units-above);
+  supplementary-entries = omega (arith, B .entries-above);
+  room-main = map-fits s n (n + m) e (omega arith);
+  room-supplementary = map-fits t m (n + m) d (omega arith);
 }
 
 -- ---- a search
 
--- the next search can start
-pub search-still : {s t w w′ : List ℕ} {x : Tables} {o : Outcome (List ℕ)} {st : ℕ} {r : List ℕ} → SearchIn s t w x 0 → Resolved s t x w w′ o st r → length w′ ≡ length w → SearchIn s t w′ x 0
-search-still {x = x} S R size = record {
-  main-index = index-kept (S .main-index) (R .rest) (S .main-units) (S .main-entries) size;
-  supplementary-index = index-kept (S .supplementary-index) (R .rest) (S .supplementary-units) (S .supplementary-entries) size;
-  keys = keys-in-none (omega (arith, S .keys .room));
-  main-units = S .main-units;
-  main-entries = S .main-entries;
-  supplementary-units = S .supplementary-units;
-  supplementary-entries = S .supplementary-entries;
-}
+module _ {s t w : List ℕ} {d : Places} {files : ℕ} (S : SearchesIn s t w d files) where
+  -- the tables stand as they were, and so the next search can start
+  ready : {w′ : List ℕ} → IndexIn s w′ (d .tables .main) → IndexIn t w′ (d .tables .supplementary) → length w′ ≡ length w → SearchesIn s t w′ d files
+  ready I J size = record {
+    search-tables = record {
+      main-index = I;
+      supplementary-index = J;
+      keys = keys-in-none (omega (arith, S .search-tables .keys .room));
+      main-units = S .search-tables .main-units;
+      main-entries = S .search-tables .main-entries;
+      supplementary-units = S .search-tables .supplementary-units;
+      supplementary-entries = S .search-tables .supplementary-entries;
+    };
+    few = S .few;
+    small = S .small;
+    main-small = S .main-small;
+    supplementary-small = S .supplementary-small;
+    table = S .table;
+    indices = S .indices;
+    main-units = S .main-units;
+    main-entries = S .main-entries;
+    supplementary-units = S .supplementary-units;
+    supplementary-entries = S .supplementary-entries;
+    room-main = S .room-main;
+    room-supplementary = S .room-supplementary;
+  }
 
-pub search-index : {s t w : List ℕ} {x : Tables} {n : ℕ} → SearchIn s t w x n → IndexIn s w (x .main)
-search-index S = S .main-index
+  -- after a name search
+  pub search-still : {w′ : List ℕ} {o : Outcome (List ℕ)} {st : ℕ} {r : List ℕ} → Resolved s t (d .tables) w w′ o st r → length w′ ≡ length w → SearchesIn s t w′ d files
+  search-still R size =
+      let T = S .search-tables in
+      ready (index-kept (T .main-index) (R .rest) (T .main-units) (T .main-entries) size)
+      (index-kept (T .supplementary-index) (R .rest) (T .supplementary-units) (T .supplementary-entries) size) size
+
+  -- the file table has room below the others
+  pub files-room : 0 + (files * 45 + 12290) ≤ length w
+  files-room = omega (arith, S .table, S .indices, S .main-units, S .search-tables .main-index .units-within)
+
+  -- after writes of a declaration search, whose table of files is the one at 0
+  module _ (table : StoredFiles) (base : table .base ≡ 0) (room : table .room ≡ files) where
+    clear : (p n : ℕ) → d .spans + d .room ≤ p → p + n ≤ d .tables .keys → Clear p n (searched s t d table)
+    clear p n over under = (inr (omega (arith, S .table, S .indices)), (inr (omega arith), (inl (omega arith), tt)))
+
+    pub searched-still : {w′ : List ℕ} → KeptBut w w′ (searched s t d table) → length w′ ≡ length w → SearchesIn s t w′ d files
+    searched-still K size =
+        let T = S .search-tables in
+        ready
+        (index-but (T .main-index) K (clear _ _ (S .main-units) (omega (arith, T .main-units))) (clear _ _ (S .main-entries) (omega (arith, T .main-entries))) size)
+        (index-but (T .supplementary-index) K (clear _ _ (S .supplementary-units) (omega (arith, T .supplementary-units)))
+        (clear _ _ (S .supplementary-entries) (omega (arith, T .supplementary-entries))) size)
+        size
+
+    -- such a search can start
+    declaring : FilesIn s t w table → DeclaringIn s t w d (record { count = 0; table = table; warned = 0 })
+    declaring F = record {
+      search-tables = S .search-tables;
+      files = F;
+      warned = omega arith;
+      table = omega (arith, S .table);
+      indices = S .indices;
+      main-units = S .main-units;
+      main-entries = S .main-entries;
+      supplementary-units = S .supplementary-units;
+      supplementary-entries = S .supplementary-entries;
+      room-main = S .room-main;
+      room-supplementary = S .room-supplementary;
+    }
+
+-- a declaration search from an empty table of files
+module _ {s t w w₁ : List ℕ} {d : Places} {files : ℕ} {table : StoredFiles} (S : SearchesIn s t w d files) (E : Empty s t w w₁ 0 files 1 0 table) (size : length w₁ ≡ length w) where
+  emptied : SearchesIn s t w₁ d files
+  emptied = searched-still S table (E .base-is) (E .room-is) (but-of (E .rest) (here (omega (arith, E .base-is)) (omega (arith, E .base-is)))) size
+
+  pub declaring-in : DeclaringIn s t w₁ d (record { count = 0; table = table; warned = 0 })
+  declaring-in = declaring emptied table (E .base-is) (E .room-is) (E .holds)
+
+  pub declared-still : {w₂ f f′ u u′ : List ℕ} {g : Declaring → Outcome Declaring} {r : Declared}
+      → Declares g s t w₁ w₂ f f′ u u′ d (record { count = 0; table = table; warned = 0 }) r → length w₂ ≡ length w₁ → SearchesIn s t w₂ d files
+  declared-still D same = searched-still emptied table (E .base-is) (E .room-is) (D .rest) same
+
+-- ---- the start of a search
+
+pub search-index : {s t w : List ℕ} {d : Places} {files : ℕ} → SearchesIn s t w d files → IndexIn s w (d .tables .main)
+search-index S = S .search-tables .main-index
 
 pub leads-known : {s : List ℕ} {o p q : ℕ} {r : Target} → Leads s o r → r ≡ Target.At p q → EntryKnown s q p
 leads-known {s} {o} {p} {q} {r} L e = let M : Leads s o (Target.At p q) = rw e at L in M .is .2

@@ -1,20 +1,26 @@
--- What the program's functions tell each other of two sheets: that there is room for their tables and for what a search follows, and that a sheet's tables were written. Assumes nothing.
+-- What the program's functions tell each other of two sheets: that there is room for what their searches need, and that it stands ready. Assumes nothing.
 use Prim.Native.Nat.{ℕ, _+_, _*_, _≤_, _<_, _^_}
 use mathlib.Core.Path.{_≡_}
 use mathlib.Core.Bool.{Bool, true, false}
 use mathlib.Core.List.{List}
 use lib.ListN.{length}
+use Rattle.tlv.specs.Lists.{Any}
+use Rattle.tlv.specs.Fields.{fields}
+use Rattle.tlv.specs.Places.{unitHere, unitPlaces}
 use Rattle.tlv.specs.Table.{Kept}
+use Rattle.files.specs.Possible.{possibleFiles}
 use Rattle.references.specs.declared.tables.Index.{Index}
+use Rattle.references.specs.declared.declarations.Places.{Places}
 use Rattle.references.specs.Tables.{IndexIn}
+use Rattle.references.specs.Names.{SearchIn}
 
--- sheets of so many bytes, of n and m fields: their tables and the followed targets have room
+-- sheets of so many bytes, of n and m fields: their files, their tables and the followed targets have room
 pub record Room (main supplementary n m work : ℕ) : Type 0 where
   pub main-small : main < 2 ^ 32
   pub supplementary-small : supplementary < 2 ^ 32
   pub main-few : n ≤ 65536
   pub supplementary-few : m ≤ 65536
-  pub within : n * 57 + m * 70 + 4 ≤ work
+  pub within : n * 110 + m * 123 + 12344 ≤ work
 
 abbrev pub RoomBy : ℕ → ℕ → ℕ → ℕ → ℕ → Bool → Type 0
 RoomBy main supplementary n m work true = Room main supplementary n m work
@@ -26,8 +32,30 @@ pub record HasRoom (main supplementary n m work : ℕ) (r : Bool) : Type 0 where
 -- the tables of a sheet of n fields were written, in the n * 40 bytes from base on
 pub record IndexedSheet (s w w′ : List ℕ) (base n : ℕ) (r : Index) : Type 0 where
   pub index : IndexIn s w′ r
+  pub units-above : base ≤ r .units
+  pub entries-above : base ≤ r .entries
   pub units-below : r .units + 24 * r .«unit_count» ≤ base + n * 40
   pub entries-below : r .entries + 16 * r .«entry_count» ≤ base + n * 40
   pub few : r .«entry_count» ≤ n
   pub rest : Kept w w′ base (n * 40)
   pub size : length w′ ≡ length w
+
+-- what a unit's directories and map take
+abbrev pub mapExtent : List ℕ → ℕ → ℕ
+mapExtent s q = 8 * length (unitHere s q .directories) + 5 * (1 + length (unitHere s q .files))
+
+-- both sheets' tables stand in w; below them is room for a table of so many files and for the directories and the map of any unit
+pub record SearchesIn (main supplementary w : List ℕ) (d : Places) (files : ℕ) : Type 0 where
+  pub search-tables : SearchIn main supplementary w (d .tables) 0
+  pub few : length (possibleFiles main supplementary) < files
+  pub small : files < 2 ^ 32
+  pub main-small : length main < 2 ^ 32
+  pub supplementary-small : length supplementary < 2 ^ 32
+  pub table : files * 45 + 12290 ≤ d .indices .base
+  pub indices : d .indices .base + d .indices .count * 5 ≤ d .spans
+  pub main-units : d .spans + d .room ≤ d .tables .main .units
+  pub main-entries : d .spans + d .room ≤ d .tables .main .entries
+  pub supplementary-units : d .spans + d .room ≤ d .tables .supplementary .units
+  pub supplementary-entries : d .spans + d .room ≤ d .tables .supplementary .entries
+  pub room-main : (q : ℕ) → Any (λ p. p ≡ q) (unitPlaces 0 (fields main)) → mapExtent main q ≤ d .room
+  pub room-supplementary : (q : ℕ) → Any (λ p. p ≡ q) (unitPlaces 0 (fields supplementary)) → mapExtent supplementary q ≤ d .room

@@ -1,12 +1,15 @@
-// Reads calls of the name searches from standard input and writes what they answer (oracle/README.md says how both stand).
+// Reads calls of the searches from standard input and writes what they answer, with how many entries each read (oracle/README.md says how both stand).
 ghost use mathlib.Core.Path.{_≡_};
 ghost use Prim.Native.Nat.{_+_, _*_, _^_, _≤_, _<_};
 ghost use lib.ListN.{length};
 ghost use Rattle.tlv.specs.Outcome.{done};
 ghost use Rattle.tlv.specs.Grammar.{checkInput};
 ghost use Rattle.references.specs.Tables.{EntryKnown};
-ghost use Rattle.references.specs.Names.{SearchIn};
-ghost use Rattle.search_answers.specs.Searches.{Room, HasRoom, IndexedSheet};
+ghost use Rattle.search_answers.specs.Searches.{Room, HasRoom, IndexedSheet, SearchesIn};
+use files::index::StoredIndices;
+use references::declarations::Declared;
+use references::declarations::DeclaringState;
+use references::declarations::Places;
 use references::tables::Index;
 use references::tables::Tables;
 use references::tables::Target;
@@ -63,17 +66,47 @@ fn write_bytes(name: &[u8]) {
     }
 }
 
-// What a search has found, or its refusal.
-fn write_found(status: u8, name: &[u8]) {
+// How many entries were read.
+fn write_reads(reads: usize) {
+    io::write_all(1, b" ");
+    io::print_decimal(1, reads as u64);
+}
+
+// What a name search has found, or its refusal.
+fn write_found(status: u8, name: &[u8], reads: usize) {
     if status != 0 {
         write_refused(status);
     } else {
         io::write_all(1, b"name ");
         write_bytes(name);
     }
+    write_reads(reads);
 }
 
-// Whether a work slice has room for the tables of two sheets of so many bytes and fields, and for the targets that a search follows.
+// What a declaration search has found, or its refusal.
+fn write_declared(declared: Declared, reads: usize) {
+    match declared {
+        Declared::Refused(refusal) => {
+            write_refused(refusal);
+        }
+        Declared::Missing(_) => {
+            io::write_all(1, b"no line");
+        }
+        Declared::Found {
+            state: _,
+            file,
+            line,
+        } => {
+            io::write_all(1, b"line ");
+            io::print_decimal(1, file.0 as u64);
+            io::write_all(1, b" ");
+            io::print_decimal(1, line as u64);
+        }
+    }
+    write_reads(reads);
+}
+
+// Whether a work slice has room for the tables of two sheets of so many bytes and fields, for their files below and the targets that a search follows above.
 fn has_room(main: usize, supplementary: usize, n: usize, m: usize, work: usize) -> bool
     ensures { λ r. ⌜ HasRoom main supplementary n m work r ⌝ }
 {
@@ -89,7 +122,7 @@ fn has_room(main: usize, supplementary: usize, n: usize, m: usize, work: usize) 
     if 65536 < m {
         return false;
     }
-    if work < n * 57 + m * 70 + 4 {
+    if work < n * 110 + m * 123 + 12344 {
         return false;
     }
     true
@@ -113,21 +146,33 @@ fn index_sheet(s: &[u8], n: usize, work: &mut [u8], base: usize) -> Index
     }
 }
 
-// Writes the tables of both sheets, which have n and m fields; the followed targets come above them.
-fn build_tables(main: &[u8], supplementary: &[u8], n: usize, m: usize, work: &mut [u8]) -> Tables
+// Writes the tables of both sheets, which have n and m fields. Below them is room for a file table of n + m + 1 files and for a unit's directories and map, above
+// them for the followed targets. No files of the unit where a search starts are known.
+fn build_tables(main: &[u8], supplementary: &[u8], n: usize, m: usize, work: &mut [u8]) -> Places
     requires { ⌜ checkInput (now main) ≡ done n ⌝ }
     requires { ⌜ checkInput (now supplementary) ≡ done m ⌝ }
     requires { ⌜ Room (length (now main)) (length (now supplementary)) n m (length (now work)) ⌝ }
-    ensures { λ r. ⌜ SearchIn (now (main .entry)) (now (supplementary .entry)) (now (work .exit)) r 0 ⌝ }
+    ensures { λ r. ⌜ SearchesIn (now (main .entry)) (now (supplementary .entry)) (now (work .exit)) r (n + m + 1) ⌝ }
 {
-    let base = n * 40;
-    let keys = base + m * 40;
-    let first = index_sheet(main, n, work, 0);
-    let second = index_sheet(supplementary, m, work, base);
-    Tables {
-        main: first,
-        supplementary: second,
-        keys: keys,
+    let spans = (n + m) * 45 + 12335;
+    let room = (n + m) * 8 + 5;
+    let base = spans + room;
+    let next = base + n * 40;
+    let keys = next + m * 40;
+    let first = index_sheet(main, n, work, base);
+    let second = index_sheet(supplementary, m, work, next);
+    Places {
+        tables: Tables {
+            main: first,
+            supplementary: second,
+            keys: keys,
+        },
+        indices: StoredIndices {
+            base: spans,
+            count: 0,
+        },
+        spans: spans,
+        room: room,
     }
 }
 
@@ -136,25 +181,29 @@ fn answer_name<'a>(
     main: &'a [u8],
     supplementary: &'a [u8],
     work: &mut [u8],
-    x: Tables,
+    d: Places,
+    files: usize,
     unit: usize,
     place: usize,
 )
-    requires { ⌜ SearchIn (now main) (now supplementary) (now work) x 0 ⌝ }
+    requires { ⌜ SearchesIn (now main) (now supplementary) (now work) d files ⌝ }
     requires { ⌜ EntryKnown (now main) unit place ⌝ }
-    ensures { λ _. ⌜ SearchIn (now (main .entry)) (now (supplementary .entry)) (now (work .exit)) x 0 ⌝ }
+    ensures { λ _. ⌜ SearchesIn (now (main .entry)) (now (supplementary .entry)) (now (work .exit)) d files ⌝ }
 {
+    let tables = d.tables;
     let mut status: u8 = 0;
-    let name = references::names::resolve_name(
+    let mut reads: usize = 0;
+    let name = references::names::resolve_name_counted(
         main,
         supplementary,
         work,
+        &mut reads,
         &mut status,
-        x,
+        tables,
         unit,
         place,
     );
-    write_found(status, name);
+    write_found(status, name, reads);
 }
 
 // The name that its call origin refers to.
@@ -162,26 +211,68 @@ fn answer_reference<'a>(
     main: &'a [u8],
     supplementary: &'a [u8],
     work: &mut [u8],
-    x: Tables,
+    d: Places,
+    files: usize,
     unit: usize,
     place: usize,
 )
-    requires { ⌜ SearchIn (now main) (now supplementary) (now work) x 0 ⌝ }
+    requires { ⌜ SearchesIn (now main) (now supplementary) (now work) d files ⌝ }
     requires { ⌜ EntryKnown (now main) unit place ⌝ }
-    ensures { λ _. ⌜ SearchIn (now (main .entry)) (now (supplementary .entry)) (now (work .exit)) x 0 ⌝ }
+    ensures { λ _. ⌜ SearchesIn (now (main .entry)) (now (supplementary .entry)) (now (work .exit)) d files ⌝ }
 {
+    let tables = d.tables;
     let mut status: u8 = 0;
-    let name = references::names::resolve_reference_name(
+    let mut reads: usize = 0;
+    let name = references::names::resolve_reference_name_counted(
         main,
         supplementary,
         work,
+        &mut reads,
         &mut status,
-        x,
+        tables,
         unit,
         place,
         0x7f,
     );
-    write_found(status, name);
+    write_found(status, name, reads);
+}
+
+// Its declaration, from an empty table of files on. What would be written to the trays is not asked for: a byte each stands for them.
+fn answer_declaration<'a>(
+    main: &'a [u8],
+    supplementary: &'a [u8],
+    work: &mut [u8],
+    d: Places,
+    files: usize,
+    unit: usize,
+    place: usize,
+)
+    requires { ⌜ SearchesIn (now main) (now supplementary) (now work) d files ⌝ }
+    requires { ⌜ EntryKnown (now main) unit place ⌝ }
+    ensures { λ _. ⌜ SearchesIn (now (main .entry)) (now (supplementary .entry)) (now (work .exit)) d files ⌝ }
+{
+    let mut files_tray = [0u8; 1];
+    let mut warnings = [0u8; 1];
+    let mut reads: usize = 0;
+    let table = files::store::new_files(main, supplementary, work, 0, files, 1, 0);
+    let from = DeclaringState {
+        count: 0,
+        table: table,
+        warned: 0,
+    };
+    let declared = references::declarations::resolve_declaration_line_counted(
+        main,
+        supplementary,
+        work,
+        &mut files_tray,
+        &mut warnings,
+        &mut reads,
+        d,
+        unit,
+        place,
+        from,
+    );
+    write_declared(declared, reads);
 }
 
 // A query: its kind (1 byte), the offset of an entry in the section (8).
@@ -191,15 +282,17 @@ fn answer_query<'a>(
     queries: &[u8],
     p: usize,
     work: &mut [u8],
-    x: Tables,
+    d: Places,
+    files: usize,
 )
     requires { ⌜ p + 9 ≤ length (now queries) ⌝ }
-    requires { ⌜ SearchIn (now main) (now supplementary) (now work) x 0 ⌝ }
-    ensures { λ _. ⌜ SearchIn (now (main .entry)) (now (supplementary .entry)) (now (work .exit)) x 0 ⌝ }
+    requires { ⌜ SearchesIn (now main) (now supplementary) (now work) d files ⌝ }
+    ensures { λ _. ⌜ SearchesIn (now (main .entry)) (now (supplementary .entry)) (now (work .exit)) d files ⌝ }
 {
     let kind = tlv::bytes::read_u8(queries, p);
     let offset = tlv::bytes::read_u64(queries, p + 1);
-    match references::tables::target_at(main, work, x.main, offset) {
+    let tables = d.tables;
+    match references::tables::target_at(main, work, tables.main, offset) {
         Target::Outside => {
             io::write_all(1, b"no entry");
         }
@@ -208,9 +301,13 @@ fn answer_query<'a>(
         }
         Target::At { place, unit } => {
             if kind == 1 {
-                answer_name(main, supplementary, work, x, unit, place);
+                answer_name(main, supplementary, work, d, files, unit, place);
             } else {
-                answer_reference(main, supplementary, work, x, unit, place);
+                if kind == 2 {
+                    answer_reference(main, supplementary, work, d, files, unit, place);
+                } else {
+                    answer_declaration(main, supplementary, work, d, files, unit, place);
+                }
             }
         }
     }
@@ -221,13 +318,14 @@ fn answer_queries<'a>(
     supplementary: &'a [u8],
     queries: &[u8],
     work: &mut [u8],
-    x: Tables,
+    d: Places,
+    files: usize,
 )
-    requires { ⌜ SearchIn (now main) (now supplementary) (now work) x 0 ⌝ }
+    requires { ⌜ SearchesIn (now main) (now supplementary) (now work) d files ⌝ }
 {
     let mut p = 0;
     while 9 <= queries.len() - p {
-        answer_query(main, supplementary, queries, p, work, x);
+        answer_query(main, supplementary, queries, p, work, d, files);
         end_line();
         p += 9;
     }
@@ -246,8 +344,8 @@ fn answer_accepted<'a>(
     requires { ⌜ checkInput (now supplementary) ≡ done m ⌝ }
 {
     if has_room(main.len(), supplementary.len(), n, m, work.len()) {
-        let x = build_tables(main, supplementary, n, m, work);
-        answer_queries(main, supplementary, queries, work, x);
+        let d = build_tables(main, supplementary, n, m, work);
+        answer_queries(main, supplementary, queries, work, d, n + m + 1);
         return true;
     }
     false

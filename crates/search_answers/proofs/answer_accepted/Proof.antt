@@ -10,6 +10,12 @@ has-room-requires c κs = search needs
 build-tables-requires : tie.Need-build-tables-requires
 build-tables-requires c κs = (search needs, (search needs, search room-yes))
 
+add-answer-queries : tie.Need-add-answer-queries
+add-answer-queries c = search needs
+
+add-answer-queries-2 : tie.Need-add-answer-queries-2
+add-answer-queries-2 c = search needs
+
 answer-queries-requires : tie.Need-answer-queries-requires
 answer-queries-requires c κs = search needs
 
@@ -28,6 +34,8 @@ answer-accepted-spec =
     (tie.spec
     has-room-requires
     build-tables-requires
+    add-answer-queries
+    add-answer-queries-2
     answer-queries-requires
     same-length
     returns

@@ -4,8 +4,8 @@ use borrow.Author.Needs.{needs}
 use Rattle.search_answers.proofs.answer_name.Statement.{statement}
 use Rattle.search_answers.proofs.answer_name.Tie as tie
 
-resolve-name-requires : tie.Need-resolve-name-requires
-resolve-name-requires c κs = search needs
+resolve-name-counted-requires : tie.Need-resolve-name-counted-requires
+resolve-name-counted-requires c κs = search needs
 
 write-found-requires : tie.Need-write-found-requires
 write-found-requires c κs = search needs
@@ -18,4 +18,4 @@ returns c = search search-still
 
 pub answer-name-spec : {M : Type 1} → statement M
 answer-name-spec =
-    tie.close (tie.spec resolve-name-requires write-found-requires same-length returns)
+    tie.close (tie.spec resolve-name-counted-requires write-found-requires same-length returns)

@@ -2,16 +2,16 @@
 use mathlib.Core.Path.{_≡_}
 use Prim.Native.Nat.{_≤_, _-_}
 use lib.ListN.{length}
-use Rattle.references.specs.Names.{SearchIn}
+use Rattle.search_answers.specs.Searches.{SearchesIn}
 use borrow.Author.Needs.{needs}
 use Rattle.search_answers.proofs.answer_queries.Statement.{statement}
 use Rattle.search_answers.proofs.answer_queries.Tie as tie
 
 abbrev Inv-loop : tie.InvT-loop
-Inv-loop main supplementary queries work₀ x p₀ work p = (p ≤ length queries) × SearchIn main supplementary work x 0 × (length work ≡ length work₀)
+Inv-loop main supplementary queries work₀ d files p₀ work p = (p ≤ length queries) × SearchesIn main supplementary work d files × (length work ≡ length work₀)
 
 abbrev μ-loop : tie.MeasureT-loop
-μ-loop main supplementary queries work₀ x p₀ work p = length queries - p
+μ-loop main supplementary queries work₀ d files p₀ work p = length queries - p
 
 loop-holds : tie.Need-loop-holds Inv-loop μ-loop
 loop-holds c = search needs

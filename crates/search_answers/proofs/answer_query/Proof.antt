@@ -43,6 +43,9 @@ answer-name-requires c κs = (search needs, search leads-known)
 answer-reference-requires : tie.Need-answer-reference-requires
 answer-reference-requires c κs = (search needs, search leads-known)
 
+answer-declaration-requires : tie.Need-answer-declaration-requires
+answer-declaration-requires c κs = (search needs, search leads-known)
+
 same-length : tie.Need-same-length
 same-length c = search needs
 
@@ -67,6 +70,12 @@ same-length-4 c = search needs
 returns-4 : tie.Need-returns-4
 returns-4 c = search needs
 
+same-length-5 : tie.Need-same-length-5
+same-length-5 c = search needs
+
+returns-5 : tie.Need-returns-5
+returns-5 c = search needs
+
 pub answer-query-spec : {M : Type 1} → statement M
 answer-query-spec =
     tie.close
@@ -84,6 +93,7 @@ answer-query-spec =
     enum-known-place
     answer-name-requires
     answer-reference-requires
+    answer-declaration-requires
     same-length
     returns
     same-length-2
@@ -91,4 +101,6 @@ answer-query-spec =
     same-length-3
     returns-3
     same-length-4
-    returns-4)
+    returns-4
+    same-length-5
+    returns-5)

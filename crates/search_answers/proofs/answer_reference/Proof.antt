@@ -4,8 +4,8 @@ use borrow.Author.Needs.{needs}
 use Rattle.search_answers.proofs.answer_reference.Statement.{statement}
 use Rattle.search_answers.proofs.answer_reference.Tie as tie
 
-resolve-reference-name-requires : tie.Need-resolve-reference-name-requires
-resolve-reference-name-requires c κs = search needs
+resolve-reference-name-counted-requires : tie.Need-resolve-reference-name-counted-requires
+resolve-reference-name-counted-requires c κs = search needs
 
 write-found-requires : tie.Need-write-found-requires
 write-found-requires c κs = search needs
@@ -18,4 +18,4 @@ returns c = search search-still
 
 pub answer-reference-spec : {M : Type 1} → statement M
 answer-reference-spec =
-    tie.close (tie.spec resolve-reference-name-requires write-found-requires same-length returns)
+    tie.close (tie.spec resolve-reference-name-counted-requires write-found-requires same-length returns)

@@ -1,11 +1,35 @@
--- `build_tables` writes the tables of one sheet behind those of the other. Assumes nothing.
+-- `build_tables` writes the tables of one sheet behind those of the other, above the room for files. Assumes nothing.
 use Rattle.search_answers.proofs.SearchLaws.{tables-built}
 use borrow.Author.Needs.{needs}
 use Rattle.search_answers.proofs.build_tables.Statement.{statement}
 use Rattle.search_answers.proofs.build_tables.Tie as tie
 
-mul-base : tie.Need-mul-base
-mul-base c = search needs
+add-spans : tie.Need-add-spans
+add-spans c = search needs
+
+mul-spans : tie.Need-mul-spans
+mul-spans c = search needs
+
+add-spans-2 : tie.Need-add-spans-2
+add-spans-2 c = search needs
+
+add-room : tie.Need-add-room
+add-room c = search needs
+
+mul-room : tie.Need-mul-room
+mul-room c = search needs
+
+add-room-2 : tie.Need-add-room-2
+add-room-2 c = search needs
+
+add-base : tie.Need-add-base
+add-base c = search needs
+
+mul-next : tie.Need-mul-next
+mul-next c = search needs
+
+add-next : tie.Need-add-next
+add-next c = search needs
 
 mul-keys : tie.Need-mul-keys
 mul-keys c = search needs
@@ -29,7 +53,15 @@ pub build-tables-spec : {M : Type 1} → statement M
 build-tables-spec =
     tie.close
     (tie.spec
-    mul-base
+    add-spans
+    mul-spans
+    add-spans-2
+    add-room
+    mul-room
+    add-room-2
+    add-base
+    mul-next
+    add-next
     mul-keys
     add-keys
     index-sheet-requires
