@@ -8,8 +8,15 @@ pub const LIMIT: u64 = 65_536;
 const START: u64 = 0x1000;
 
 /// What is timed at each doubling of the fields.
-pub const FAMILIES: [(&str, fn(u64) -> Case); 4] =
-    [("rows", rows), ("entries with references", references), ("inlined entries", inlined), ("files", files)];
+pub const FAMILIES: [(&str, fn(u64) -> Case); 7] = [
+    ("rows", rows),
+    ("entries with references", references),
+    ("inlined entries", inlined),
+    ("files", files),
+    ("functions over many rows, ascending", |count| functions(count, |place, _| place)),
+    ("functions over many rows, descending", |count| functions(count, |place, all| all - 1 - place)),
+    ("functions over many rows, in no order", |count| functions(count, |place, all| place * 7_919 % all)),
+];
 
 /// What is timed at the limits.
 pub const WORST: [(&str, fn() -> Case); 26] = [
@@ -84,6 +91,21 @@ fn rows(count: u64) -> Case {
         let start = START + 256 * function;
         subprogram(&mut main, 1 + 8 * function, format!("function{function}").as_bytes(), start, start + 256);
     }
+    case(main, Fields::default(), program)
+}
+
+/// Functions of five rows each, all rows of one sequence. The entries stand in the order of the rows, or in another.
+fn functions(count: u64, order: fn(u64, u64) -> u64) -> Case {
+    let mut main = unit();
+    header(&mut main).file(0, 0, b"cue.c");
+    let functions = (count - 7) / 8;
+    (0..5 * functions).for_each(|row| _ = main.row(START + 8 * row, 0, 10 + row % 40, PLAIN));
+    main.row(START + 40 * functions, 0, 0, END).entry(0, 0, COMPILE_UNIT);
+    for place in 0..functions {
+        let start = START + 40 * order(place, functions);
+        subprogram(&mut main, 1 + 8 * place, format!("function{place}").as_bytes(), start, start + 40);
+    }
+    let program = [vec![0x4b; 5 * functions as usize], vec![0, 1, 1]].concat();
     case(main, Fields::default(), program)
 }
 

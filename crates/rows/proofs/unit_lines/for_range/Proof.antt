@@ -1,4 +1,5 @@
--- `unit_lines::for_range` meets its contract. Assumes nothing.
+-- `unit_lines::for_range` meets its contract. With 0 in place of `below` too: `none-below`. Assumes nothing.
+use Rattle.rows.proofs.FrontLaws.{none-below}
 use Rattle.rows.proofs.ForRangeLaws.{rows-in-kept, for-missing, for-found}
 use borrow.Author.Needs.{needs}
 use Rattle.rows.proofs.unit_lines.for_range.Statement.{statement}
@@ -17,7 +18,7 @@ add-own-rows : tie.Need-add-own-rows
 add-own-rows c = search needs
 
 own-rows-requires : tie.Need-own-rows-requires
-own-rows-requires c κs = search needs
+own-rows-requires c κs = search (needs, none-below)
 
 put-earlier-requires : tie.Need-put-earlier-requires
 put-earlier-requires c κs =
