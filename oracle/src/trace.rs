@@ -1,4 +1,4 @@
-//! What the Rust asked of the inputs in one import, for the coverage table.
+//! What the Rust asked of the inputs in one import or search, for the coverage table and for the number of entries that a search reads.
 
 use std::cell::RefCell;
 
