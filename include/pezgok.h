@@ -10,7 +10,7 @@
 extern "C" {
 #endif
 
-/* Where values has what, after an import that was finished. */
+/* Where values has what, after a call that was finished. */
 enum {
     PEZGOK_RECORDS_LENGTH,
     PEZGOK_FILES_LENGTH,
@@ -39,6 +39,17 @@ uint8_t pezgok_import(
     uint8_t *records, size_t records_len,
     uint8_t *files, size_t files_len,
     uint8_t *warnings, size_t warnings_len,
+    uint64_t values[PEZGOK_VALUES]);
+
+/* How long the three output buffers of such an import must be, and its statistics: values then has what pezgok_import gives on buffers of those
+ * lengths or more, and no shorter ones would do. Returns 0, or the import's own refusal, 1 to 15; then all values are 0. The same is owed of slices
+ * and pointers, work has the same length, and after every call it holds only 0. It takes about as long as the import. */
+uint8_t pezgok_measure(
+    const uint8_t *main, size_t main_len,
+    const uint8_t *supplementary, size_t supplementary_len,
+    const uint8_t *program, size_t program_len,
+    uint64_t ordinal, bool inlines, bool call_sites, uint32_t first_file,
+    uint8_t *work, size_t work_len,
     uint64_t values[PEZGOK_VALUES]);
 
 /* Writes the word for a refusal's number to name, as far as it fits, and returns its whole length; 0 if it is no refusal's. No byte 0 is added. */

@@ -1,4 +1,4 @@
-/* Imports unit 0 of unit.main, unit.sup and unit.line of a folder, and says what came of it. */
+/* Imports unit 0 of unit.main, unit.sup and unit.line of a folder into buffers as long as it needs, and says what came of it. */
 #include <stdio.h>
 #include <stdlib.h>
 
@@ -25,33 +25,52 @@ static size_t read_file(const char *folder, const char *name, uint8_t *bytes) {
     return length;
 }
 
+/* A buffer, of one byte at least: a pointer is not null. */
+static uint8_t *buffer(uint64_t length) {
+    uint8_t *bytes = length < SIZE_MAX ? malloc(length ? length : 1) : NULL;
+    if (!bytes) {
+        fprintf(stderr, "import: there is no memory for %llu bytes\n", (unsigned long long)length);
+        exit(2);
+    }
+    return bytes;
+}
+
+static int refused(uint8_t refusal) {
+    uint8_t name[32];
+    size_t length = pezgok_refusal_name(refusal, name, sizeof name);
+    printf("refused %d: %.*s\n", refusal, (int)length, (char *)name);
+    return 1;
+}
+
 int main(int count, char **words) {
     if (count != 2) {
         fprintf(stderr, "import FOLDER: a folder with unit.main, and unit.sup and unit.line if there are any\n");
         return 2;
     }
-    static uint8_t input[LARGEST], supplementary[LARGEST], program[LARGEST], records[LARGEST], files[LARGEST], warnings[LARGEST];
+    static uint8_t input[LARGEST], supplementary[LARGEST], program[LARGEST];
     size_t input_len = read_file(words[1], "unit.main", input);
     size_t supplementary_len = read_file(words[1], "unit.sup", supplementary);
     size_t program_len = read_file(words[1], "unit.line", program);
     /* A field has three bytes at least. */
     size_t work_len = PEZGOK_WORK((input_len + supplementary_len) / 3, program_len);
-    uint8_t *work = malloc(work_len);
-    if (!work)
-        return 2;
+    uint8_t *work = buffer(work_len);
     uint64_t values[PEZGOK_VALUES];
-    uint8_t refusal = pezgok_import(input, input_len, supplementary, supplementary_len, program, program_len, 0, true, true, 1, work, work_len,
-                                    records, LARGEST, files, LARGEST, warnings, LARGEST, values);
-    free(work);
-    if (refusal) {
-        uint8_t name[32];
-        size_t length = pezgok_refusal_name(refusal, name, sizeof name);
-        printf("refused %d: %.*s\n", refusal, (int)length, (char *)name);
-        return 1;
-    }
+    uint8_t refusal = pezgok_measure(input, input_len, supplementary, supplementary_len, program, program_len, 0, true, true, 1, work, work_len, values);
+    if (refusal)
+        return refused(refusal);
+    size_t records_len = values[PEZGOK_RECORDS_LENGTH], files_len = values[PEZGOK_FILES_LENGTH], warnings_len = values[PEZGOK_WARNINGS_LENGTH];
+    uint8_t *records = buffer(records_len), *files = buffer(files_len), *warnings = buffer(warnings_len);
+    refusal = pezgok_import(input, input_len, supplementary, supplementary_len, program, program_len, 0, true, true, 1, work, work_len,
+                            records, records_len, files, files_len, warnings, warnings_len, values);
+    if (refusal)
+        return refused(refusal);
     printf("%llu functions, %llu line rows, %llu inline nodes, %llu rejected ranges; %llu bytes of records, %llu of files, %llu of warnings\n",
            (unsigned long long)values[PEZGOK_FUNCTIONS], (unsigned long long)values[PEZGOK_LINE_ROWS], (unsigned long long)values[PEZGOK_INLINE_NODES],
            (unsigned long long)values[PEZGOK_REJECTED_RANGES], (unsigned long long)values[PEZGOK_RECORDS_LENGTH],
            (unsigned long long)values[PEZGOK_FILES_LENGTH], (unsigned long long)values[PEZGOK_WARNINGS_LENGTH]);
+    free(warnings);
+    free(files);
+    free(records);
+    free(work);
     return 0;
 }

@@ -18,6 +18,7 @@ const USAGE: &str = "
 bench corpus CASES [TURNS]          the cases of a file, each by itself and all together
 bench scaled [TURNS]                each family, from 1,024 fields to 65,536
 bench worst [TURNS [PART]]          the worst that the limits allow, or those of them that have PART in their name
+bench pass CASES [TURNS]            the pass that writes no buffer beside the import: the cases of a file, each family at 65,536 fields, the worst
 bench run ours|rust FAMILY FIELDS TURNS     one of them alone, for a profiler; FAMILY may be one of the worst, FIELDS is then not read
 bench run ours|rust corpus CASES TURNS      the cases of a file";
 
@@ -90,6 +91,7 @@ fn run(arguments: &[String]) -> Result<(), String> {
         ["scaled", ref turns @ ..] => scaled(self::turns(turns, 9)?),
         ["worst", turns, part] => worst(self::turns(&[turns], 3)?, part),
         ["worst", ref turns @ ..] => worst(self::turns(turns, 3)?, ""),
+        ["pass", cases, ref turns @ ..] => pass(&read(cases)?, self::turns(turns, 9)?),
         ["run", side, "corpus", cases, ref turns @ ..] => alone(side, &read(cases)?, self::turns(turns, 1)?),
         ["run", side, family, fields, ref turns @ ..] => {
             let fields = fields.parse().map_err(|_| format!("{fields} is no number"))?;
@@ -132,8 +134,13 @@ fn buffers(case: &Case) -> Result<Buffers, String> {
         Err(refusal) => (refusal.number(), [0; 4]),
     };
     let same = refusal == expected.refusal && statistics == expected.statistics;
-    if !same || buffers.outputs != [expected.records, expected.files, expected.warnings] {
-        return Err(format!("the answers differ: refusal {refusal}, the Rust's {}", expected.refusal));
+    let said = match said(case, &mut buffers) {
+        Ok(done) => (0, [done.records, done.files, done.warnings], [done.functions, done.line_rows, done.inline_nodes, done.rejected_ranges]),
+        Err(refusal) => (refusal.number(), [0; 3], [0; 4]),
+    };
+    let same_said = said == (expected.refusal, buffers.outputs.each_ref().map(Vec::len), expected.statistics);
+    if !same || !same_said || buffers.outputs != [expected.records, expected.files, expected.warnings] {
+        return Err(format!("the answers differ: refusal {refusal}, the pass's {}, the Rust's {}", said.0, expected.refusal));
     }
     Ok(buffers)
 }
@@ -144,6 +151,15 @@ fn ours(case: &Case, buffers: &mut Buffers) -> Result<pezgok::Finished, pezgok::
         pezgok::Inputs { main: &case.main, supplementary: &case.supplementary, program: &case.program },
         pezgok::Options { ordinal: case.ordinal, inlines: case.inlines, call_sites: case.call_sites, first_file: case.first_file },
         pezgok::Buffers { work: &mut buffers.work, records, files, warnings },
+    )
+}
+
+/// What the pass that writes no buffer says of such an import.
+fn said(case: &Case, buffers: &mut Buffers) -> Result<pezgok::Finished, pezgok::Refusal> {
+    pezgok::measure(
+        pezgok::Inputs { main: &case.main, supplementary: &case.supplementary, program: &case.program },
+        pezgok::Options { ordinal: case.ordinal, inlines: case.inlines, call_sites: case.call_sites, first_file: case.first_file },
+        &mut buffers.work,
     )
 }
 
@@ -288,6 +304,38 @@ fn worst(turns: u32, part: &str) -> Result<(), String> {
         let case = input();
         let times = measured(&case, &mut buffers(&case)?, turns);
         println!("| {name} | {} | {} |", field_count(&case.main) + field_count(&case.supplementary), columns(times));
+    }
+    Ok(())
+}
+
+/// The pass beside the import, turn by turn. Refused cases are passed over.
+fn pass(cases: &[Case], turns: u32) -> Result<(), String> {
+    println!("| input | import | pass | pass to import |\n|---|---|---|---|");
+    let line = |name: &str, cases: &[Case]| -> Result<(), String> {
+        let mut sum = [Duration::ZERO; 2];
+        for case in cases {
+            let mut buffers = buffers(case)?;
+            if buffers.refused {
+                continue;
+            }
+            let mut least = [Duration::MAX; 2];
+            for _ in 0..turns {
+                clear(&mut buffers);
+                least[0] = least[0].min(timed(|| ours(black_box(case), &mut buffers)).0);
+                clear(&mut buffers);
+                least[1] = least[1].min(timed(|| said(black_box(case), &mut buffers)).0);
+            }
+            sum = [sum[0] + least[0], sum[1] + least[1]];
+        }
+        println!("| {name} | {} | {} | {} |", micros(sum[0]), micros(sum[1]), ratio(sum[1], sum[0]));
+        Ok(())
+    };
+    line("the units", cases)?;
+    for (name, family) in sheets::FAMILIES {
+        line(name, &[family(65_536)])?;
+    }
+    for (name, input) in sheets::WORST {
+        line(name, &[input()])?;
     }
     Ok(())
 }

@@ -1,5 +1,6 @@
 //! The proved import against the Rust importer, call by call: refusal, lengths, statistics, bytes written, bytes past each length, bytes past each
-//! buffer, zeros after a refusal, work all zero. The Rust's text has the change requests' amendments; as it stands, it judges where none applies.
+//! buffer, zeros after a refusal, work all zero. Before each call the pass that writes no buffer is asked, and what it says is held to the same answer.
+//! The Rust's text has the change requests' amendments; as it stands, it judges where none applies.
 
 use std::path::{Path, PathBuf};
 use std::process::ExitCode;
@@ -9,6 +10,7 @@ use oracle::compose::field_count;
 use oracle::files::Source;
 use oracle::{Answer, Case, answer, generate, judged, limits, work_needed};
 
+mod pass;
 mod wrong;
 
 const USAGE: &str = "
@@ -16,7 +18,7 @@ differential generated SEED COUNT [OPTIONS]     generated cases, each as it is, 
 differential cases CASES [OPTIONS]              the cases of a file, in the same way
 differential replay CASES ANSWERS [OPTIONS]     the cases of a file as they are, held to recorded answers
 differential large [OPTIONS]                    the cases over 64 KiB
-OPTIONS: --out DIR where a difference is written; --wrong NAME calls a wrong import instead: it has to be reported";
+OPTIONS: --out DIR where a difference is written; --wrong NAME calls a wrong import or a wrong pass instead: it has to be reported";
 
 /// What stands in the buffers before a call, and behind them all the time.
 const FILLED: u8 = 0xa5;
@@ -26,6 +28,7 @@ const BEHIND: usize = 16;
 #[derive(Default)]
 struct Counts {
     calls: u64,
+    believed: u64,
     refusals: [u64; 19],
     warnings: [u64; 12],
 }
@@ -85,13 +88,28 @@ fn compare(cases: impl Iterator<Item = Result<Case, String>>, options: &Options)
         let case = case?;
         for (form, call) in forms(&case, place as u64).into_iter().enumerate() {
             let expected = judged(&call).map_err(|message| format!("case {place}, form {form}: {message}"))?;
-            let got = ours(&call, options.wrong);
-            counts.calls += 1;
-            count(&mut counts, &expected);
-            if let Some(what) = difference(&call, &expected, &got) {
-                println!("case {place}, form {form}, differs: {what}");
-                write_difference(&options.out, &call, &expected, &got)?;
+            let whole = pass::whole(&call, &expected);
+            let said = pass::asked(&call, options.wrong);
+            if let Some(what) = pass::difference(&whole, &said) {
+                println!("case {place}, form {form}, differs in what the pass says: {what}");
+                write_inputs(&options.out, &call)?;
                 return Ok(false);
+            }
+            let mut calls = vec![(call, expected)];
+            // The forms behind these differ from the first in work and buffers alone.
+            if form < SWITCHED {
+                calls.append(&mut pass::believed(&calls[0].0, &whole, &said));
+            }
+            counts.believed += calls.len() as u64 - 1;
+            for (call, expected) in calls {
+                let got = ours(&call, options.wrong);
+                counts.calls += 1;
+                count(&mut counts, &expected);
+                if let Some(what) = difference(&call, &expected, &got) {
+                    println!("case {place}, form {form}, differs: {what}");
+                    write_difference(&options.out, &call, &expected, &got)?;
+                    return Ok(false);
+                }
             }
         }
     }
@@ -105,6 +123,11 @@ fn replay(cases: &Path, answers: &Path, options: &Options) -> Result<bool, Strin
     let mut counts = Counts::default();
     while let Some(case) = cases.case()? {
         let expected = answers.answer()?.ok_or("there are fewer answers than cases")?;
+        if let Some(what) = pass::recorded_difference(&case, &expected, &pass::asked(&case, options.wrong)) {
+            println!("case {} differs from its recorded answer in what the pass says: {what}", counts.calls);
+            write_inputs(&options.out, &case)?;
+            return Ok(false);
+        }
         let got = ours(&case, options.wrong);
         if let Some(what) = difference(&case, &expected, &got) {
             println!("case {} differs from its recorded answer: {what}", counts.calls);
@@ -118,6 +141,9 @@ fn replay(cases: &Path, answers: &Path, options: &Options) -> Result<bool, Strin
     Ok(true)
 }
 
+/// How many of the forms of a case differ in its switches alone.
+const SWITCHED: usize = 5;
+
 /// A case as it is; with each setting of the switches; and with work and buffers a byte short, exact and long of what it needs.
 fn forms(case: &Case, place: u64) -> Vec<Case> {
     let mut forms = vec![case.clone()];
@@ -127,8 +153,7 @@ fn forms(case: &Case, place: u64) -> Vec<Case> {
         (form.inlines, form.call_sites) = (switches & 1 == 1, switches & 2 == 2);
         forms.push(form);
     }
-    let mut ample = case.clone();
-    (ample.records, ample.files, ample.warnings) = (u32::MAX, u32::MAX, u32::MAX);
+    let ample = pass::ample(case);
     let full = answer(&ample);
     if full.refusal != 0 || large {
         return forms;
@@ -181,7 +206,7 @@ fn ours(case: &Case, wrong: Option<wrong::Wrong>) -> Got {
         }
         Err(refusal) => got.refusal = refusal.number(),
     }
-    if let Some(wrong) = wrong {
+    if let Some(wrong::Wrong::Import(wrong)) = wrong {
         wrong(&mut got);
     }
     got
@@ -237,7 +262,7 @@ fn count(counts: &mut Counts, expected: &Answer) {
 }
 
 fn print(counts: &Counts) {
-    println!("{} calls, 0 differences", counts.calls);
+    println!("{} calls, 0 differences; {} of them with buffers as long as the pass says, or a byte shorter", counts.calls, counts.believed);
     println!("finished {}", counts.refusals[0]);
     for (number, count) in counts.refusals.iter().enumerate().skip(1) {
         println!("refused {number}: {count}");
@@ -247,19 +272,26 @@ fn print(counts: &Counts) {
     }
 }
 
-fn write_difference(folder: &Path, case: &Case, expected: &Answer, got: &Got) -> Result<(), String> {
-    let put = |name: &str, bytes: &[u8]| fs::write(folder.join(name), bytes).map_err(|error| format!("{name}: {error}"));
+fn put(folder: &Path, name: &str, bytes: &[u8]) -> Result<(), String> {
+    fs::write(folder.join(name), bytes).map_err(|error| format!("{name}: {error}"))
+}
+
+fn write_inputs(folder: &Path, case: &Case) -> Result<(), String> {
     fs::create_dir_all(folder).map_err(|error| format!("{}: {error}", folder.display()))?;
-    put("unit.main", &case.main)?;
-    put("unit.sup", &case.supplementary)?;
-    put("unit.line", &case.program)?;
+    put(folder, "unit.main", &case.main)?;
+    put(folder, "unit.sup", &case.supplementary)?;
+    put(folder, "unit.line", &case.program)
+}
+
+fn write_difference(folder: &Path, case: &Case, expected: &Answer, got: &Got) -> Result<(), String> {
+    write_inputs(folder, case)?;
     for (name, bytes, buffer) in [
         ("records", &expected.records, &got.buffers[0]),
         ("files", &expected.files, &got.buffers[1]),
         ("warnings", &expected.warnings, &got.buffers[2]),
     ] {
-        put(&format!("{name}.expected"), bytes)?;
-        put(&format!("{name}.got"), &buffer[..buffer.len() - BEHIND])?;
+        put(folder, &format!("{name}.expected"), bytes)?;
+        put(folder, &format!("{name}.got"), &buffer[..buffer.len() - BEHIND])?;
     }
     let asked = format!(
         "ordinal {}, inlines {}, call sites {}, first file {}, work {}, records {}, files {}, warnings {}\nexpected: refusal {}, statistics {:?}\ngot: refusal {}, lengths {:?}, statistics {:?}\n",
@@ -277,5 +309,5 @@ fn write_difference(folder: &Path, case: &Case, expected: &Answer, got: &Got) ->
         got.lengths,
         got.statistics
     );
-    put("answers", asked.as_bytes())
+    put(folder, "answers", asked.as_bytes())
 }

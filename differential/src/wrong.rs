@@ -1,17 +1,23 @@
-//! Wrong imports that the comparison has to report: each alters what the proved import left behind.
+//! Wrong imports and a wrong pass that the comparison has to report: each alters what the proved one left behind.
 
 use crate::Got;
+use crate::pass::Said;
 
-pub type Wrong = fn(&mut Got);
+#[derive(Clone, Copy)]
+pub enum Wrong {
+    Import(fn(&mut Got)),
+    Pass(fn(&mut Said)),
+}
 
 pub fn named(name: &str) -> Result<Wrong, String> {
     Ok(match name {
-        "refuses-all" => refuses_all,
-        "stock-record" => stock_record,
-        "writes-nothing" => writes_nothing,
-        "copies-the-first" => copies_the_first,
-        "invents-statistics" => invents_statistics,
-        _ => return Err(format!("{name} is no wrong import")),
+        "refuses-all" => Wrong::Import(refuses_all),
+        "stock-record" => Wrong::Import(stock_record),
+        "writes-nothing" => Wrong::Import(writes_nothing),
+        "copies-the-first" => Wrong::Import(copies_the_first),
+        "invents-statistics" => Wrong::Import(invents_statistics),
+        "forgets-a-byte" => Wrong::Pass(forgets_a_byte),
+        _ => return Err(format!("{name} is no wrong import and no wrong pass")),
     })
 }
 
@@ -61,4 +67,9 @@ fn invents_statistics(got: &mut Got) {
     if got.refusal == 0 {
         got.statistics[1] += 1;
     }
+}
+
+/// A records buffer that is a byte too short.
+fn forgets_a_byte(said: &mut Said) {
+    said.lengths[0] = said.lengths[0].saturating_sub(1);
 }

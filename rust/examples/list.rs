@@ -4,10 +4,7 @@ use std::io::{self, BufWriter, IsTerminal, Write};
 use std::path::Path;
 use std::{env, fs, process};
 
-use pezgok::{Buffers, Finished, Inputs, Options, Refusal, import, work_length};
-
-/// A buffer is made larger where an import says that it is short, up to this.
-const LARGEST: usize = 1 << 30;
+use pezgok::{Buffers, Finished, Inputs, Options, Refusal, import, measure, work_length};
 
 fn main() {
     let Some(folder) = env::args_os().nth(1) else {
@@ -50,19 +47,29 @@ fn list(folder: &Path, unit: &str, ordinal: u64, name: &str, out: &mut impl Writ
     let read = |ending: &str| fs::read(folder.join(format!("{unit}.{ending}"))).unwrap_or_default();
     let (main, supplementary, program) = (fs::read(folder.join(format!("{unit}.main")))?, read("sup"), read("line"));
     writeln!(out, "unit {unit} {name}")?;
-    let mut size = 1 << 20;
-    loop {
-        let (mut records, mut files, mut warnings) = (vec![0; size], vec![0; size], vec![0; size]);
-        // A field has three bytes at least.
-        let mut work = vec![0; work_length((main.len() + supplementary.len()) / 3, program.len())];
-        let inputs = Inputs { main: &main, supplementary: &supplementary, program: &program };
-        let buffers = Buffers { work: &mut work, records: &mut records, files: &mut files, warnings: &mut warnings };
-        match import(inputs, Options { ordinal, ..Options::default() }, buffers) {
-            Err(refusal) if refusal.number() >= 16 && size < LARGEST => size *= 2,
-            Err(refusal) => return refused(refusal, out),
-            Ok(done) => return finished(done, &records, &files, &warnings, out),
-        }
+    // A field has three bytes at least.
+    let mut work = vec![0; work_length((main.len() + supplementary.len()) / 3, program.len())];
+    let inputs = Inputs { main: &main, supplementary: &supplementary, program: &program };
+    let options = Options { ordinal, ..Options::default() };
+    let needed = match measure(inputs, options, &mut work) {
+        Ok(needed) => needed,
+        Err(refusal) => return refused(refusal, out),
+    };
+    let [mut records, mut files, mut warnings] = [needed.records, needed.files, needed.warnings].map(buffer);
+    let buffers = Buffers { work: &mut work, records: &mut records, files: &mut files, warnings: &mut warnings };
+    match import(inputs, options, buffers) {
+        Ok(done) => finished(done, &records, &files, &warnings, out),
+        Err(refusal) => refused(refusal, out),
     }
+}
+
+fn buffer(length: usize) -> Vec<u8> {
+    let mut bytes = Vec::new();
+    if bytes.try_reserve_exact(length).is_err() {
+        fail(&format!("there is no memory for {length} bytes"));
+    }
+    bytes.resize(length, 0);
+    bytes
 }
 
 fn refused(refusal: Refusal, out: &mut impl Write) -> io::Result<()> {

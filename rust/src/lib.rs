@@ -1,4 +1,5 @@
 //! Safe calls of the proved import: one unit of a main input, with a supplementary one and a line program, to records, files and warnings.
+//! [`measure`] says how long the buffers must be, [`import`] fills them.
 
 use std::fmt;
 
@@ -23,6 +24,21 @@ mod sys {
             files_len: usize,
             warnings: *mut u8,
             warnings_len: usize,
+            values: *mut [u64; 7],
+        ) -> u8;
+        pub fn pezgok_measure(
+            main: *const u8,
+            main_len: usize,
+            supplementary: *const u8,
+            supplementary_len: usize,
+            program: *const u8,
+            program_len: usize,
+            ordinal: u64,
+            inlines: bool,
+            call_sites: bool,
+            first_file: u32,
+            work: *mut u8,
+            work_len: usize,
             values: *mut [u64; 7],
         ) -> u8;
         pub fn pezgok_refusal_name(refusal: u8, name: *mut u8, name_len: usize) -> usize;
@@ -63,7 +79,7 @@ pub struct Buffers<'a> {
     pub warnings: &'a mut [u8],
 }
 
-/// The lengths of what was written, and the statistics.
+/// The lengths of what an import writes, and its statistics.
 #[derive(Clone, Copy, Debug, Default, Eq, PartialEq)]
 pub struct Finished {
     pub records: usize,
@@ -75,7 +91,7 @@ pub struct Finished {
     pub rejected_ranges: u64,
 }
 
-/// Why an import was refused: a number from 1 to 18. The three output buffers then hold only 0.
+/// Why an import was refused: a number from 1 to 18. Its three output buffers then hold only 0.
 #[derive(Clone, Copy, Debug, Eq, PartialEq)]
 pub struct Refusal(u8);
 
@@ -128,6 +144,35 @@ pub fn import(inputs: Inputs<'_>, options: Options, buffers: Buffers<'_>) -> Res
             &mut values,
         )
     };
+    told(refusal, values)
+}
+
+/// How long the buffers of such an import must be, and its statistics: what [`import`] gives on buffers of those lengths or more. It is refused
+/// as the import is, with a number from 1 to 15. Work has the same length and holds only 0 after every call.
+pub fn measure(inputs: Inputs<'_>, options: Options, work: &mut [u8]) -> Result<Finished, Refusal> {
+    let mut values = [0; 7];
+    // SAFETY: every pointer and length are those of a slice; the borrows keep the written one apart from all others.
+    let refusal = unsafe {
+        sys::pezgok_measure(
+            inputs.main.as_ptr(),
+            inputs.main.len(),
+            inputs.supplementary.as_ptr(),
+            inputs.supplementary.len(),
+            inputs.program.as_ptr(),
+            inputs.program.len(),
+            options.ordinal,
+            options.inlines,
+            options.call_sites,
+            options.first_file,
+            work.as_mut_ptr(),
+            work.len(),
+            &mut values,
+        )
+    };
+    told(refusal, values)
+}
+
+fn told(refusal: u8, values: [u64; 7]) -> Result<Finished, Refusal> {
     if refusal != 0 {
         return Err(Refusal(refusal));
     }

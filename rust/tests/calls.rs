@@ -3,7 +3,7 @@
 use std::fs;
 use std::path::PathBuf;
 
-use pezgok::{Buffers, Finished, Inputs, Options, Refusal, import, work_length};
+use pezgok::{Buffers, Finished, Inputs, Options, Refusal, import, measure, work_length};
 
 fn unit(name: &str) -> Vec<u8> {
     let folder = PathBuf::from(env!("CARGO_MANIFEST_DIR")).join("../crates/listing/data");
@@ -54,4 +54,26 @@ fn refusals_have_numbers_and_names() {
     }
     let refusal = Lent::new(57_344, 4096).call(&[0x10, 0, 0], &[]).expect_err("it is refused");
     assert_eq!(refusal.to_string(), "misshapen");
+}
+
+#[test]
+fn the_lengths_that_are_measured_are_enough_and_no_less_is() {
+    let (main, program) = (unit("unit.main"), unit("unit.line"));
+    let inputs = Inputs { main: &main, supplementary: &[], program: &program };
+    let mut work = vec![0xa5; work_length(main.len() / 3, program.len())];
+    let needed = measure(inputs, Options::default(), &mut work).expect("it is measured");
+    assert_eq!((needed.records, needed.files, needed.warnings), (131, 14, 0));
+    assert!(work.iter().all(|&byte| byte == 0));
+    let call = |records: usize, files: usize, work: &mut Vec<u8>| {
+        work.fill(0xa5);
+        let (mut records, mut files) = (vec![0xa5; records], vec![0xa5; files]);
+        import(inputs, Options::default(), Buffers { work, records: &mut records, files: &mut files, warnings: &mut [] })
+    };
+    assert_eq!(call(needed.records, needed.files, &mut work), Ok(needed));
+    assert_eq!(call(needed.records - 1, needed.files, &mut work).map_err(Refusal::number), Err(16));
+    assert_eq!(call(needed.records, needed.files - 1, &mut work).map_err(Refusal::number), Err(17));
+    work.fill(0xa5);
+    let refusal = measure(Inputs { main: &[0x10, 0, 0], ..inputs }, Options::default(), &mut work).expect_err("it is refused");
+    assert_eq!((refusal.number(), refusal.to_string().as_str()), (2, "misshapen"));
+    assert!(work.iter().all(|&byte| byte == 0));
 }

@@ -19,3 +19,4 @@ pub mod ChosenLaws
 pub mod TextLaws
 pub mod RunLaws
 pub mod AnswerLaws
+pub mod MeasureLaws

@@ -1,4 +1,4 @@
--- What import_unit promises: the answer, the three output buffers and the work slice after every call, and demand 3 of a finished one. Assumes nothing.
+-- What import_unit and measure_unit promise: the answer, the lent slices after every call, and demand 3 of a finished import. Assumes nothing.
 use mathlib.Core.Path.{_≡_}
 use mathlib.Core.Bool.{Bool}
 use mathlib.Core.List.{List}
@@ -12,6 +12,7 @@ use Rattle.tlv.specs.Reader.{readRecords, readFiles, readWarnings}
 use Rattle.imports.specs.Import.{State}
 use Rattle.imports.specs.Answer.{Inputs, Answer, noStats, importOf, dwarfOf, after}
 use Rattle.imports.specs.Demand.{subjects, RecordAgrees, Pointwise}
+use Rattle.imports.specs.Sizes.{measure}
 use Rattle.dwarf.specs.declared.model.Refusal.{Refusal}
 use Rattle.dwarf.specs.declared.model.Imported.{Imported}
 use Rattle.dwarf.specs.Stats.{statsOf}
@@ -74,3 +75,7 @@ pub record Finished (i : Inputs) (a : Answer) (t f u : List ℕ) : Type 0 where
 pub record ImportsUnit (i : Inputs) (w t f u : List ℕ) (r : Imported) : Type 0 where
   pub is : record { answer = answerGiven r; records = t; files = f; warnings = u; work = w } ≡ after i
   pub demand : answerGiven r .refusal ≡ 0 → Finished i (answerGiven r) t f u
+
+-- the pass that writes no output buffer: its answer and the work slice w after it are those of the definition
+pub record MeasuresUnit (i : Inputs) (w : List ℕ) (r : Imported) : Type 0 where
+  pub is : record { answer = answerGiven r; work = w } ≡ measure i

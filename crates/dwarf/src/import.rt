@@ -1,7 +1,8 @@
 // The import of one unit of a main input, with a supplementary one and a line program (the Rust's import_unit).
 ghost use mathlib.Core.Path.{_≡_};
+ghost use mathlib.Core.List.{[]};
 ghost use Prim.Native.Nat.{_+_, _*_, _≤_};
-ghost use lib.ListN.{length};
+ghost use lib.ListN.{length, replicate};
 ghost use Rattle.tlv.specs.Lists.{at};
 ghost use Rattle.tlv.specs.Buffer.{top};
 ghost use Rattle.tlv.specs.Fields.{fields, payloads, wholeFields};
@@ -15,7 +16,7 @@ ghost use Rattle.imports.specs.Import.{importUnit};
 ghost use Rattle.imports.specs.Answer.{importChosen, importOf};
 ghost use Rattle.dwarf.specs.Contexts.{ContextIn};
 ghost use Rattle.dwarf.specs.Runs.{IndexesInput, LinesLaid, MakesContext, RunsDetails, Writes, oversizeOf, BothAccepted, NotOversize, ChecksBoth, WorkEnough, startState, fitStatus};
-ghost use Rattle.dwarf.specs.Answers.{inputsOf, ImportsUnit};
+ghost use Rattle.dwarf.specs.Answers.{inputsOf, ImportsUnit, MeasuresUnit};
 use crate::layout::Layout;
 use crate::model::ConversionStats;
 use crate::model::ImportContext;
@@ -341,6 +342,39 @@ fn run_import<'a>(
     }
 }
 
+// The same, after which work holds only 0.
+fn run_cleared<'a>(
+    main: &'a [u8],
+    supplementary: &'a [u8],
+    program: &[u8],
+    ordinal: u64,
+    inlines: bool,
+    call_sites: bool,
+    first_file: u32,
+    work: &mut [u8],
+    records: &mut [u8],
+    files: &mut [u8],
+    warnings: &mut [u8],
+) -> Ran
+    ensures { λ r. ⌜ (Writes (importOf (inputsOf (now (main .entry)) (now (supplementary .entry)) (now (program .entry)) ordinal inlines «call_sites» «first_file» (now (work .entry)) (now (records .entry)) (now (files .entry)) (now (warnings .entry)))) (now (records .entry)) (now (files .entry)) (now (warnings .entry)) (now (records .exit)) (now (files .exit)) (now (warnings .exit)) r) × (now (work .exit) ≡ replicate (length (now (work .entry))) 0) ⌝ }
+{
+    let r = run_import(
+        main,
+        supplementary,
+        program,
+        ordinal,
+        inlines,
+        call_sites,
+        first_file,
+        work,
+        records,
+        files,
+        warnings,
+    );
+    tlv::table::clear(work);
+    r
+}
+
 // Refusals 16 to 18, where there is no other: the lowest of an output buffer that is shorter than what was to be written to it.
 fn fitting(r: Ran, records: usize, files: usize, warnings: usize) -> u8
     ensures { λ n. ⌜ n ≡ fitStatus r records files warnings ⌝ }
@@ -377,7 +411,7 @@ pub fn import_unit<'a>(
 ) -> Imported
     ensures { λ r. ⌜ ImportsUnit (inputsOf (now (main .entry)) (now (supplementary .entry)) (now (program .entry)) ordinal inlines «call_sites» «first_file» (now (work .entry)) (now (records .entry)) (now (files .entry)) (now (warnings .entry))) (now (work .exit)) (now (records .exit)) (now (files .exit)) (now (warnings .exit)) r ⌝ }
 {
-    let r = run_import(
+    let r = run_cleared(
         main,
         supplementary,
         program,
@@ -390,7 +424,6 @@ pub fn import_unit<'a>(
         files,
         warnings,
     );
-    tlv::table::clear(work);
     let status = fitting(r, records.len(), files.len(), warnings.len());
     if status != 0 {
         tlv::table::clear(records);
@@ -403,6 +436,48 @@ pub fn import_unit<'a>(
         records: r.records,
         files: r.files,
         warnings: r.warnings,
+        stats: stats,
+    }
+}
+
+// How long the output buffers of an import must be, and its statistics. The import is run on three buffers of one byte, which nobody sees: what is
+// written is cut off at their ends, and counted on. After every call work holds only 0.
+pub fn measure_unit<'a>(
+    main: &'a [u8],
+    supplementary: &'a [u8],
+    program: &[u8],
+    ordinal: u64,
+    inlines: bool,
+    call_sites: bool,
+    first_file: u32,
+    work: &mut [u8],
+) -> Imported
+    ensures { λ r. ⌜ MeasuresUnit (inputsOf (now (main .entry)) (now (supplementary .entry)) (now (program .entry)) ordinal inlines «call_sites» «first_file» (now (work .entry)) [] [] []) (now (work .exit)) r ⌝ }
+{
+    let mut records = [0u8; 1];
+    let mut files = [0u8; 1];
+    let mut warnings = [0u8; 1];
+    let run = run_cleared(
+        main,
+        supplementary,
+        program,
+        ordinal,
+        inlines,
+        call_sites,
+        first_file,
+        work,
+        &mut records,
+        &mut files,
+        &mut warnings,
+    );
+    if run.status != 0 {
+        return Imported::Refused(crate::model::refusal_of(run.status));
+    }
+    let stats = run.stats;
+    Imported::Finished {
+        records: run.records,
+        files: run.files,
+        warnings: run.warnings,
         stats: stats,
     }
 }

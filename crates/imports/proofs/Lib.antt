@@ -31,3 +31,4 @@ pub mod NodeBounds
 pub mod TreeBounds
 pub mod ImportBounds
 pub mod Examples
+pub mod Sizing

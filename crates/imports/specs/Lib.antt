@@ -7,3 +7,4 @@ pub mod Agree
 pub mod Demand
 pub mod Cases
 pub mod Printed
+pub mod Sizes

@@ -10,27 +10,29 @@ use Rattle.imports.specs.Answer.{Inputs, Answer, noStats}
 use Rattle.dwarf.specs.declared.model.ConversionStats.{ConversionStats}
 use Rattle.dwarf.specs.declared.model.Refusal.{Refusal}
 use Rattle.dwarf.specs.declared.model.Imported.{Imported}
-use Rattle.dwarf.specs.Answers.{refusalNumber, answerGiven, Finished, ImportsUnit}
-use Rattle.pezgok.specs.Exported.{answerIn, Exports, refusalWord}
+use Rattle.dwarf.specs.Answers.{refusalNumber, answerGiven, Finished, ImportsUnit, MeasuresUnit}
+use Rattle.pezgok.specs.Exported.{answerIn, Exports, ExportsMeasure, refusalWord}
 
 -- ---- the answer as numbers
 
-module _ {i : Inputs} {w t f u : List ℕ} {x : Imported} (I : ImportsUnit i w t f u x) where
+module _ {x : Imported} where
+  pub told-refused : {q : Refusal} {n : ℕ} → x ≡ Imported.Refused q → n ≡ refusalNumber q → answerGiven x ≡ answerIn n (0 ∷ 0 ∷ 0 ∷ 0 ∷ 0 ∷ 0 ∷ 0 ∷ [])
+  told-refused e en = ap answerGiven e ∙ ap (λ (k : ℕ). record { refusal = k; records = 0; files = 0; warnings = 0; stats = noStats }) (sym en)
+
+  pub told-finished : {a b c : ℕ} {s : ConversionStats} → x ≡ Imported.Finished a b c s
+      → answerGiven x ≡ answerIn 0 (a ∷ b ∷ c ∷ s .functions ∷ s .«line_rows» ∷ s .«inline_nodes» ∷ s .«rejected_ranges» ∷ [])
+  told-finished e = ap answerGiven e
+
   -- the numbers stand for the answer
-  exports : {vs : List ℕ} {n : ℕ} → answerGiven x ≡ answerIn n vs → Exports i w t f u vs n
-  exports e = record {
-    is = ap (λ (a : Answer). record { answer = a; records = t; files = f; warnings = u; work = w }) (sym e) ∙ I .is;
-    demand = λ z. subst (λ (a : Answer). Finished i a t f u) e (I .demand (ap (λ (a : Answer). a .refusal) e ∙ z));
-  }
+  module _ {i : Inputs} {w vs : List ℕ} {n : ℕ} (e : answerGiven x ≡ answerIn n vs) where
+    pub exports : {t f u : List ℕ} → ImportsUnit i w t f u x → Exports i w t f u vs n
+    exports {t} {f} {u} I = record {
+      is = ap (λ (a : Answer). record { answer = a; records = t; files = f; warnings = u; work = w }) (sym e) ∙ I .is;
+      demand = λ z. subst (λ (a : Answer). Finished i a t f u) e (I .demand (ap (λ (a : Answer). a .refusal) e ∙ z));
+    }
 
-  pub exports-refused : {q : Refusal} {n : ℕ} → x ≡ Imported.Refused q → n ≡ refusalNumber q
-      → Exports i w t f u (0 ∷ 0 ∷ 0 ∷ 0 ∷ 0 ∷ 0 ∷ 0 ∷ []) n
-  exports-refused e en =
-      exports (ap answerGiven e ∙ ap (λ (k : ℕ). record { refusal = k; records = 0; files = 0; warnings = 0; stats = noStats }) (sym en))
-
-  pub exports-finished : {a b c : ℕ} {s : ConversionStats} → x ≡ Imported.Finished a b c s
-      → Exports i w t f u (a ∷ b ∷ c ∷ s .functions ∷ s .«line_rows» ∷ s .«inline_nodes» ∷ s .«rejected_ranges» ∷ []) 0
-  exports-finished e = exports (ap answerGiven e)
+    pub exports-measure : MeasuresUnit i w x → ExportsMeasure i w vs n
+    exports-measure M = record { is = ap (λ (a : Answer). record { answer = a; work = w }) (sym e) ∙ M .is }
 
 -- ---- numbers that are no refusal's
 

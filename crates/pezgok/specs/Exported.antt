@@ -1,4 +1,4 @@
--- What the functions for callers from C promise: the same as import_unit, with the answer as numbers. Assumes nothing.
+-- What the functions for callers from C promise: the same as import_unit and measure_unit, with the answer as numbers. Assumes nothing.
 use mathlib.Core.Path.{_≡_}
 use mathlib.Core.Bool.{cond}
 use mathlib.Core.List.{List, [], _∷_}
@@ -6,6 +6,7 @@ use Prim.Native.Nat.{ℕ}
 use lib.Dec.{eqb}
 use lib.ListN.{getD}
 use Rattle.imports.specs.Answer.{Inputs, Answer, after}
+use Rattle.imports.specs.Sizes.{measure}
 use Rattle.dwarf.specs.Answers.{Finished}
 
 -- the answer that a refusal's number and seven values stand for
@@ -21,6 +22,9 @@ answerIn n vs = record {
 pub record Exports (i : Inputs) (w t f u values : List ℕ) (r : ℕ) : Type 0 where
   pub is : record { answer = answerIn r values; records = t; files = f; warnings = u; work = w } ≡ after i
   pub demand : r ≡ 0 → Finished i (answerIn r values) t f u
+
+pub record ExportsMeasure (i : Inputs) (w values : List ℕ) (r : ℕ) : Type 0 where
+  pub is : record { answer = answerIn r values; work = w } ≡ measure i
 
 -- ---- document 01's words for the refusals, as bytes
 

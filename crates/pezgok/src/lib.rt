@@ -1,43 +1,18 @@
 // The import for callers from C and Rust: include/pezgok.h declares these functions.
 ghost use mathlib.Core.Path.{_≡_};
+ghost use mathlib.Core.List.{[]};
 ghost use Prim.Native.Nat.{_≤_, _<_};
 ghost use Rattle.tlv.specs.Buffer.{Put};
-ghost use Rattle.dwarf.specs.Answers.{inputsOf};
-ghost use Rattle.pezgok.specs.Exported.{Exports, refusalWord};
+ghost use Rattle.dwarf.specs.Answers.{answerGiven, inputsOf};
+ghost use Rattle.pezgok.specs.Exported.{answerIn, Exports, ExportsMeasure, refusalWord};
 use dwarf::model::Imported;
 
-// Imports the unit of an ordinal and returns the refusal's number, 0 for none. `values` then has the lengths of records, files and warnings, then
-// functions, line rows, inline nodes, rejected ranges; all 0 after a refusal.
-#[no_mangle]
-pub extern "C" fn pezgok_import<'a>(
-    main: &'a [u8],
-    supplementary: &'a [u8],
-    program: &[u8],
-    ordinal: u64,
-    inlines: bool,
-    call_sites: bool,
-    first_file: u32,
-    work: &mut [u8],
-    records: &mut [u8],
-    files: &mut [u8],
-    warnings: &mut [u8],
-    values: &mut [u64; 7],
-) -> u8
-    ensures { λ r. ⌜ Exports (inputsOf (now (main .entry)) (now (supplementary .entry)) (now (program .entry)) ordinal inlines «call_sites» «first_file» (now (work .entry)) (now (records .entry)) (now (files .entry)) (now (warnings .entry))) (now (work .exit)) (now (records .exit)) (now (files .exit)) (now (warnings .exit)) (now (values .exit)) r ⌝ }
+// An answer as numbers: returns the refusal's, 0 for none. `values` then has the lengths of records, files and warnings, then functions, line rows,
+// inline nodes, rejected ranges; all 0 after a refusal.
+fn tell(answer: Imported, values: &mut [u64; 7]) -> u8
+    ensures { λ r. ⌜ answerGiven answer ≡ answerIn r (now (values .exit)) ⌝ }
 {
-    match dwarf::import::import_unit(
-        main,
-        supplementary,
-        program,
-        ordinal,
-        inlines,
-        call_sites,
-        first_file,
-        work,
-        records,
-        files,
-        warnings,
-    ) {
+    match answer {
         Imported::Refused(r) => {
             *values = [0, 0, 0, 0, 0, 0, 0];
             dwarf::model::refusal_number(r)
@@ -60,6 +35,68 @@ pub extern "C" fn pezgok_import<'a>(
             0
         }
     }
+}
+
+// Imports the unit of an ordinal and tells the answer.
+#[no_mangle]
+pub extern "C" fn pezgok_import<'a>(
+    main: &'a [u8],
+    supplementary: &'a [u8],
+    program: &[u8],
+    ordinal: u64,
+    inlines: bool,
+    call_sites: bool,
+    first_file: u32,
+    work: &mut [u8],
+    records: &mut [u8],
+    files: &mut [u8],
+    warnings: &mut [u8],
+    values: &mut [u64; 7],
+) -> u8
+    ensures { λ r. ⌜ Exports (inputsOf (now (main .entry)) (now (supplementary .entry)) (now (program .entry)) ordinal inlines «call_sites» «first_file» (now (work .entry)) (now (records .entry)) (now (files .entry)) (now (warnings .entry))) (now (work .exit)) (now (records .exit)) (now (files .exit)) (now (warnings .exit)) (now (values .exit)) r ⌝ }
+{
+    let answer = dwarf::import::import_unit(
+        main,
+        supplementary,
+        program,
+        ordinal,
+        inlines,
+        call_sites,
+        first_file,
+        work,
+        records,
+        files,
+        warnings,
+    );
+    tell(answer, values)
+}
+
+// Tells how long the buffers of such an import must be, and its statistics, or its refusal.
+#[no_mangle]
+pub extern "C" fn pezgok_measure<'a>(
+    main: &'a [u8],
+    supplementary: &'a [u8],
+    program: &[u8],
+    ordinal: u64,
+    inlines: bool,
+    call_sites: bool,
+    first_file: u32,
+    work: &mut [u8],
+    values: &mut [u64; 7],
+) -> u8
+    ensures { λ r. ⌜ ExportsMeasure (inputsOf (now (main .entry)) (now (supplementary .entry)) (now (program .entry)) ordinal inlines «call_sites» «first_file» (now (work .entry)) [] [] []) (now (work .exit)) (now (values .exit)) r ⌝ }
+{
+    let answer = dwarf::import::measure_unit(
+        main,
+        supplementary,
+        program,
+        ordinal,
+        inlines,
+        call_sites,
+        first_file,
+        work,
+    );
+    tell(answer, values)
 }
 
 // Writes document 01's word for a refusal's number, as far as it fits, and returns its whole length; 0 for a number that is no refusal's.

@@ -1,5 +1,6 @@
 // Runs recorded cases through the import and holds every answer to the recorded one: refusal, lengths, statistics, the bytes written, those past
-// each length, the buffers filled with 0 after a refusal, work all 0. Names the first case that differs. oracle/README.md says how both files stand.
+// each length, the buffers filled with 0 after a refusal, work all 0. Before each import the pass that writes no buffer is held to the same answer.
+// Names the first case that differs. oracle/README.md says how both files stand.
 ghost use mathlib.Core.Path.{_≡_};
 ghost use Prim.Native.Nat.{_≤_};
 ghost use lib.ListN.{length};
@@ -47,6 +48,7 @@ enum Verdict {
     Past,
     Fill,
     Work,
+    Pass,
     Cut,
 }
 
@@ -255,6 +257,92 @@ fn judge(
     }
 }
 
+// Whether the lengths that the pass says are those of a recorded answer; where a buffer was too short, whether it says so of that one first.
+fn are_lengths(a: Answer, said: [usize; 3], lent: [usize; 3]) -> bool {
+    if a.refusal == 0 {
+        return said[0] == a.records && said[1] == a.files && said[2] == a.warnings;
+    }
+    if a.refusal == 16 {
+        return said[0] > lent[0];
+    }
+    if said[0] > lent[0] {
+        return false;
+    }
+    if a.refusal == 17 {
+        return said[1] > lent[1];
+    }
+    if said[1] > lent[1] {
+        return false;
+    }
+    a.refusal == 18 && said[2] > lent[2]
+}
+
+// Whether the pass says what is recorded, of an import into buffers of these lengths: the refusal up to 15, else the lengths and statistics.
+fn judge_pass(a: Answer, r: Imported, work: &[u8], lent: [usize; 3]) -> bool {
+    if !holds_only(work, 0) {
+        return false;
+    }
+    match r {
+        Imported::Refused(n) => a.refusal < 16 && a.refusal == dwarf::model::refusal_number(n),
+        Imported::Finished {
+            records: x,
+            files: y,
+            warnings: z,
+            stats,
+        } => {
+            if a.refusal == 0 && !same_stats(stats, a) {
+                return false;
+            }
+            are_lengths(a, [x, y, z], lent)
+        }
+    }
+}
+
+// A case over its inputs and over buffers of its lengths: the pass, then the import.
+fn run_both<'a>(
+    answers: i32,
+    c: Case,
+    a: Answer,
+    main: &'a [u8],
+    supplementary: &'a [u8],
+    program: &[u8],
+    expected: &mut [u8],
+    work: &mut [u8],
+    records: &mut [u8],
+    files: &mut [u8],
+    warnings: &mut [u8],
+) -> Verdict {
+    fill_buffers(work, records, files, warnings);
+    let said = dwarf::import::measure_unit(
+        main,
+        supplementary,
+        program,
+        c.ordinal,
+        c.inlines,
+        c.call_sites,
+        c.first_file,
+        work,
+    );
+    if !judge_pass(a, said, work, [records.len(), files.len(), warnings.len()]) {
+        return Verdict::Pass;
+    }
+    fill(work, FILLED);
+    let r = dwarf::import::import_unit(
+        main,
+        supplementary,
+        program,
+        c.ordinal,
+        c.inlines,
+        c.call_sites,
+        c.first_file,
+        work,
+        records,
+        files,
+        warnings,
+    );
+    judge(answers, a, r, expected, work, records, files, warnings)
+}
+
 // A case whose inputs were read, over buffers of its lengths.
 fn run_case(
     answers: i32,
@@ -267,26 +355,24 @@ fn run_case(
     files: &mut [u8],
     warnings: &mut [u8],
 ) -> Verdict {
-    fill_buffers(work, records, files, warnings);
     let main = c.main as usize;
     let middle = main + c.supplementary as usize;
     if inputs.len() < middle {
         return Verdict::Cut;
     }
-    let r = dwarf::import::import_unit(
+    run_both(
+        answers,
+        c,
+        a,
         &inputs[..main],
         &inputs[main..middle],
         &inputs[middle..],
-        c.ordinal,
-        c.inlines,
-        c.call_sites,
-        c.first_file,
+        expected,
         work,
         records,
         files,
         warnings,
-    );
-    judge(answers, a, r, expected, work, records, files, warnings)
+    )
 }
 
 // The buffers of a case: an output buffer is no longer than ours, which hold every recorded output.
@@ -400,6 +486,9 @@ fn write_verdict(number: u64, v: Verdict) -> bool {
         }
         Verdict::Work => {
             write_difference(number, b"work");
+        }
+        Verdict::Pass => {
+            write_difference(number, b"the pass that writes no buffer");
         }
         Verdict::Cut => {
             write_difference(number, b"the files are cut off or too large");

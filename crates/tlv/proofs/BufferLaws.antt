@@ -82,6 +82,10 @@ _then_ {at} {p} {q} {a} {b} {t} {t′} {t″} f g =
     g-place : p ≡ moved at (length a)
     g-place = f .place
 
+-- past the end nothing is laid, and the place goes on
+pub put-out : {at r n : ℕ} {bs t : List ℕ} → length t ≤ at → length t < top → length bs ≡ n → r ≡ moved at n → Put at bs t t r
+put-out {at} {r} {n} {bs} {t} h small e is = record { buffer = sym (overlay-out at bs t h); place = is ∙ ap (moved at) (sym e); small = small }
+
 -- no byte: the place stays
 pub put-none : {at : ℕ} {t : List ℕ} → at ≤ top → length t < top → Put at [] t t at
 put-none h k = record { buffer = refl; place = omega arith; small = k }

@@ -9,7 +9,7 @@ ghost use Rattle.tlv.specs.Lists.{isEmpty};
 ghost use Rattle.tlv.specs.Bytes.{bytesOf};
 ghost use Rattle.tlv.specs.Fields.{encode};
 ghost use Rattle.tlv.specs.Output.{functionPayload, rowPayload, nodePayload, rangePayload, sitePayload, filePayload, malformedRanges, warningPayload};
-ghost use Rattle.tlv.specs.Buffer.{Put};
+ghost use Rattle.tlv.specs.Buffer.{moved, Put};
 use crate::model::AddressRange;
 use crate::model::FileIndex;
 use crate::model::LineEntry;
@@ -41,13 +41,26 @@ fn has_room(buffer: &[u8], at: usize, size: usize) -> bool
     false
 }
 
-// A number that fits is written at once. One that meets the tray's end is put by its halves, and so down to the bytes.
+// The place n further on, or the largest.
+fn advance(at: usize, n: usize) -> usize
+    ensures { λ r. ⌜ r ≡ moved at n ⌝ }
+{
+    if 18446744073709551615 - at < n {
+        return 18446744073709551615;
+    }
+    at + n
+}
+
+// A number that fits is written at once, and past the tray's end nothing is. One that meets the end is put by its halves, and so down to the bytes.
 pub fn put_u16(buffer: &mut [u8], at: usize, v: u16) -> usize
     ensures { λ r. ⌜ Put at (bytesOf 2 v) (now (buffer .entry)) (now (buffer .exit)) r ⌝ }
 {
     if has_room(buffer, at, 2) {
         set_u16(buffer, at, v);
         return at + 2;
+    }
+    if buffer.len() <= at {
+        return advance(at, 2);
     }
     let p = put_u8(buffer, at, (v % 256) as u8);
     put_u8(buffer, p, (v / 256) as u8)
@@ -60,6 +73,9 @@ pub fn put_u32(buffer: &mut [u8], at: usize, v: u32) -> usize
         set_u32(buffer, at, v);
         return at + 4;
     }
+    if buffer.len() <= at {
+        return advance(at, 4);
+    }
     let p = put_u16(buffer, at, (v % 65536) as u16);
     put_u16(buffer, p, (v / 65536) as u16)
 }
@@ -70,6 +86,9 @@ pub fn put_u64(buffer: &mut [u8], at: usize, v: u64) -> usize
     if has_room(buffer, at, 8) {
         set_u64(buffer, at, v);
         return at + 8;
+    }
+    if buffer.len() <= at {
+        return advance(at, 8);
     }
     let p = put_u32(buffer, at, (v % 4294967296) as u32);
     put_u32(buffer, p, (v / 4294967296) as u32)
@@ -106,6 +125,9 @@ pub fn put_bytes(buffer: &mut [u8], at: usize, bs: &[u8]) -> usize
 {
     if has_room(buffer, at, bs.len()) {
         return lay_bytes(buffer, at, bs);
+    }
+    if buffer.len() <= at {
+        return advance(at, bs.len());
     }
     put_each(buffer, at, bs)
 }

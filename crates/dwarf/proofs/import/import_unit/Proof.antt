@@ -6,14 +6,14 @@ use Rattle.dwarf.proofs.AnswerLaws.{outcome-refused, refusal-within, cl
 use Rattle.dwarf.proofs.import.import_unit.Statement.{statement}
 use Rattle.dwarf.proofs.import.import_unit.Tie as tie
 
-run-import-requires : tie.Need-run-import-requires
-run-import-requires c κs = search needs
-
-clear-requires : tie.Need-clear-requires
-clear-requires c κs = search needs
+run-cleared-requires : tie.Need-run-cleared-requires
+run-cleared-requires c κs = search needs
 
 fitting-requires : tie.Need-fitting-requires
 fitting-requires c κs = search needs
+
+clear-requires : tie.Need-clear-requires
+clear-requires c κs = search needs
 
 clear-requires-2 : tie.Need-clear-requires-2
 clear-requires-2 c κs = search needs
@@ -21,14 +21,11 @@ clear-requires-2 c κs = search needs
 clear-requires-3 : tie.Need-clear-requires-3
 clear-requires-3 c κs = search needs
 
-clear-requires-4 : tie.Need-clear-requires-4
-clear-requires-4 c κs = search needs
-
 refusal-of-requires : tie.Need-refusal-of-requires
 refusal-of-requires c κs =
-    let s = c .before .before .before .before .before .before .before .before .before .before .before .before .before .before .before .before .before .before .before .before .before .before .before .before .before .before .before .before .before .before .before .before .before .before .before .before .before .before in
+    let s = c .before .before .before .before .before .before .before .before .before .before .before .before .before .before .before .before .before .before .before .before .before .before .before .before .before .before .before .before .before .before .before .before .before .before in
     let i = inputsOf (s .args .main .now) (s .args .supplementary .now) (s .args .program .now) (s .args .ordinal) (s .args .inlines) (s .args .call-sites) (s .args .first-file) (s .args .work .now) (s .args .records .now) (s .args .files .now) (s .args .warnings .now) in
-    refusal-within i (c .before .before .before .before .before .before .before .before .before .before .before .before .before .before .before .before .before .before .before .before .before .before .before .before .before .before .run-import .ensures) (c .before .before .before .before .before .before .before .before .before .before .before .before .before .fitting .ensures) (c .before .before .before .before .before .before .before .before .before .before .before .before .if1 .taken)
+    refusal-within i (c .before .before .before .before .before .before .before .before .before .before .before .before .before .before .before .before .before .before .before .before .before .before .run-cleared .ensures .0) (c .before .before .before .before .before .before .before .before .before .before .before .before .before .fitting .ensures) (c .before .before .before .before .before .before .before .before .before .before .before .before .if1 .taken)
 
 same-length : tie.Need-same-length
 same-length c = search needs
@@ -44,12 +41,16 @@ same-length-4 c = search needs
 
 returns : tie.Need-returns
 returns c =
-    let s = c .before .before .before .before .before .before .before .before .before .before .before .before .before .before .before .before .before .before .before .before .before .before .before .before .before .before .before .before .before .before .before .before .before .before .before .before .before .before .before in
+    let s = c .before .before .before .before .before .before .before .before .before .before .before .before .before .before .before .before .before .before .before .before .before .before .before .before .before .before .before .before .before .before .before .before .before .before .before in
     let i = inputsOf (s .args .main .now) (s .args .supplementary .now) (s .args .program .now) (s .args .ordinal) (s .args .inlines) (s .args .call-sites) (s .args .first-file) (s .args .work .now) (s .args .records .now) (s .args .files .now) (s .args .warnings .now) in
-    answers-refused i (record { main = slice-bytes (s .args .main .now) (c .before .before .before .before .before .before .before .before .before .before .before .before .before .before .before .before .before .before .before .before .before .before .before .before .before .before .before .before .before .before .before .before .before .before .before .before .before .before .shared-slice-known .given); supplementary = slice-bytes (s .args .supplementary .now) (c .before .before .before .before .before .before .before .before .before .before .before .before .before .before .before .before .before .before .before .before .before .before .before .before .before .before .before .before .before .before .before .before .before .before .before .before .before .shared-slice-known2 .given); firstFile = s .fits .first-file .fits })
-    (outcome-refused i (c .before .before .before .before .before .before .before .before .before .before .before .before .before .before .before .before .before .before .before .before .before .before .before .before .before .before .before .run-import .ensures) (c .before .before .before .before .before .before .before .before .before .before .before .before .before .before .fitting .ensures) (c .before .before .before .before .before .before .before .before .before .before .before .before .before .if1 .taken))
+    let R = c .before .before .before .before .before .before .before .before .before .before .before .before .before .before .before .before .before .before .before .before .before .before .before .run-cleared in
+    answers-refused i (record { main = slice-bytes (s .args .main .now) (c .before .before .before .before .before .before .before .before .before .before .before .before .before .before .before .before .before .before .before .before .before .before .before .before .before .before .before .before .before .before .before .before .before .before .shared-slice-known .given); supplementary = slice-bytes (s .args .supplementary .now) (c .before .before .before .before .before .before .before .before .before .before .before .before .before .before .before .before .before .before .before .before .before .before .before .before .before .before .before .before .before .before .before .before .before .shared-slice-known2 .given); firstFile = s .fits .first-file .fits })
+    (outcome-refused i (R .ensures .0) (c .before .before .before .before .before .before .before .before .before .before .before .before .before .before .fitting .ensures) (c .before .before .before .before .before .before .before .before .before .before .before .before .before .if1 .taken))
     (c .refusal-of .ensures)
-    (cleared (s .args .work .now) (c .before .before .before .before .before .before .before .before .before .before .before .before .before .before .before .before .before .before .before .before .before .before .before .before .before .before .before .run-import .kept .1 .1 .1 .1 .1 .1 .1 .0) (c .before .before .before .before .before .before .before .before .before .before .before .before .before .before .before .before .before .clear .ensures)) (cleared (s .args .records .now) (c .before .before .before .before .before .before .before .before .before .before .before .before .before .before .before .before .before .before .before .before .before .before .before .before .before .before .before .run-import .kept .1 .1 .1 .1 .1 .1 .1 .1 .0) (c .before .before .before .before .before .before .before .before .before .before .before .clear2 .ensures)) (cleared (s .args .files .now) (c .before .before .before .before .before .before .before .before .before .before .before .before .before .before .before .before .before .before .before .before .before .before .before .before .before .before .before .run-import .kept .1 .1 .1 .1 .1 .1 .1 .1 .1 .0) (c .before .before .before .before .before .before .before .clear3 .ensures)) (cleared (s .args .warnings .now) (c .before .before .before .before .before .before .before .before .before .before .before .before .before .before .before .before .before .before .before .before .before .before .before .before .before .before .before .run-import .kept .1 .1 .1 .1 .1 .1 .1 .1 .1 .1 .0) (c .before .before .before .clear4 .ensures))
+    (R .ensures .1)
+    (cleared (s .args .records .now) (R .kept .1 .1 .1 .1 .1 .1 .1 .1 .0) (c .before .before .before .before .before .before .before .before .before .before .before .clear .ensures))
+    (cleared (s .args .files .now) (R .kept .1 .1 .1 .1 .1 .1 .1 .1 .1 .0) (c .before .before .before .before .before .before .before .clear2 .ensures))
+    (cleared (s .args .warnings .now) (R .kept .1 .1 .1 .1 .1 .1 .1 .1 .1 .1 .0) (c .before .before .before .clear3 .ensures))
 
 same-length-5 : tie.Need-same-length-5
 same-length-5 c = search needs
@@ -65,20 +66,21 @@ same-length-8 c = search needs
 
 returns-2 : tie.Need-returns-2
 returns-2 c =
-    let s = c .before .before .before .before .before .before .before .before .before .before .before .before .before .before .before .before .before .before .before .before .before .before .before .before .before .before .before in
+    let s = c .before .before .before .before .before .before .before .before .before .before .before .before .before .before .before .before .before .before .before .before .before .before .before in
     let i = inputsOf (s .args .main .now) (s .args .supplementary .now) (s .args .program .now) (s .args .ordinal) (s .args .inlines) (s .args .call-sites) (s .args .first-file) (s .args .work .now) (s .args .records .now) (s .args .files .now) (s .args .warnings .now) in
-    answers-done i (record { main = slice-bytes (s .args .main .now) (c .before .before .before .before .before .before .before .before .before .before .before .before .before .before .before .before .before .before .before .before .before .before .before .before .before .before .shared-slice-known .given); supplementary = slice-bytes (s .args .supplementary .now) (c .before .before .before .before .before .before .before .before .before .before .before .before .before .before .before .before .before .before .before .before .before .before .before .before .before .shared-slice-known2 .given); firstFile = s .fits .first-file .fits }) (c .before .before .before .before .before .before .before .before .before .before .before .before .before .before .before .run-import .ensures) (c .before .before .fitting .ensures) (c .before .if1 .left) (cleared (s .args .work .now) (c .before .before .before .before .before .before .before .before .before .before .before .before .before .before .before .run-import .kept .1 .1 .1 .1 .1 .1 .1 .0) (c .before .before .before .before .before .clear .ensures))
+    let R = c .before .before .before .before .before .before .before .before .before .before .before .run-cleared in
+    answers-done i (record { main = slice-bytes (s .args .main .now) (c .before .before .before .before .before .before .before .before .before .before .before .before .before .before .before .before .before .before .before .before .before .before .shared-slice-known .given); supplementary = slice-bytes (s .args .supplementary .now) (c .before .before .before .before .before .before .before .before .before .before .before .before .before .before .before .before .before .before .before .before .before .shared-slice-known2 .given); firstFile = s .fits .first-file .fits })
+    (R .ensures .0) (c .before .before .fitting .ensures) (c .before .if1 .left) (R .ensures .1)
 
 pub import-unit-spec : {M : Type 1} → statement M
 import-unit-spec =
     tie.close
     (tie.spec
-    run-import-requires
-    clear-requires
+    run-cleared-requires
     fitting-requires
+    clear-requires
     clear-requires-2
     clear-requires-3
-    clear-requires-4
     refusal-of-requires
     same-length
     same-length-2

@@ -1,6 +1,8 @@
 -- `put_bytes` meets its contract: all at once where they fit, else byte by byte. Assumes nothing.
+use mathlib.Core.Path.{refl}
+use native.Mathlib.Omega.{arith}
 use borrow.Author.Needs.{needs}
-use Rattle.tlv.proofs.BufferLaws.{has-room}
+use Rattle.tlv.proofs.BufferLaws.{has-room, put-out}
 use Rattle.tlv.proofs.output.put_bytes.Statement.{statement}
 use Rattle.tlv.proofs.output.put_bytes.Tie as tie
 
@@ -16,14 +18,23 @@ same-length c = search needs
 returns : tie.Need-returns
 returns c = search needs
 
-put-each-requires : tie.Need-put-each-requires
-put-each-requires c κs = search needs
+advance-requires : tie.Need-advance-requires
+advance-requires c κs = search needs
 
 same-length-2 : tie.Need-same-length-2
 same-length-2 c = search needs
 
 returns-2 : tie.Need-returns-2
-returns-2 c = search needs
+returns-2 c = put-out (omega arith) (omega arith) refl (c .advance .ensures)
+
+put-each-requires : tie.Need-put-each-requires
+put-each-requires c κs = search needs
+
+same-length-3 : tie.Need-same-length-3
+same-length-3 c = search needs
+
+returns-3 : tie.Need-returns-3
+returns-3 c = search needs
 
 pub put-bytes-spec : {M : Type 1} → statement M
 put-bytes-spec =
@@ -33,6 +44,9 @@ put-bytes-spec =
     lay-bytes-requires
     same-length
     returns
-    put-each-requires
+    advance-requires
     same-length-2
-    returns-2)
+    returns-2
+    put-each-requires
+    same-length-3
+    returns-3)

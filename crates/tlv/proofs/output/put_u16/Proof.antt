@@ -4,7 +4,8 @@ use native.Mathlib.Omega.{arith}
 use borrow.Author.Needs.{needs}
 use denote.Ref.{now}
 use lib.ListN.{length}
-use Rattle.tlv.proofs.BufferLaws.{_then_, put-two, has-room, wrote-put}
+use Rattle.tlv.proofs.ByteLaws.{length-bytesOf}
+use Rattle.tlv.proofs.BufferLaws.{put-out, _then_, put-two, has-room, wrote-put}
 use Rattle.tlv.proofs.output.put_u16.Statement.{statement}
 use Rattle.tlv.proofs.output.put_u16.Tie as tie
 
@@ -25,6 +26,15 @@ same-length c = search needs
 returns : tie.Need-returns
 returns c = wrote-put (c .before .before .before .before .before .has-room .ensures) (c .before .before .before .before .if1 .taken) (c .before .before .set-u16 .ensures) (omega arith)
 
+advance-requires : tie.Need-advance-requires
+advance-requires c κs = search needs
+
+same-length-2 : tie.Need-same-length-2
+same-length-2 c = search needs
+
+returns-2 : tie.Need-returns-2
+returns-2 c = put-out (omega arith) (omega arith) (length-bytesOf 2 _) (c .advance .ensures)
+
 cast-put-u8 : tie.Need-cast-put-u8
 cast-put-u8 c = search needs
 
@@ -37,11 +47,11 @@ cast-put-u8-2 c = search needs
 put-u8-requires-2 : tie.Need-put-u8-requires-2
 put-u8-requires-2 c κs = search needs
 
-same-length-2 : tie.Need-same-length-2
-same-length-2 c = search needs
+same-length-3 : tie.Need-same-length-3
+same-length-3 c = search needs
 
-returns-2 : tie.Need-returns-2
-returns-2 c = put-two _ (omega arith) (search _then_)
+returns-3 : tie.Need-returns-3
+returns-3 c = put-two _ (omega arith) (search _then_)
 
 pub put-u16-spec : {M : Type 1} → statement M
 put-u16-spec =
@@ -52,9 +62,12 @@ put-u16-spec =
     add-result
     same-length
     returns
+    advance-requires
+    same-length-2
+    returns-2
     cast-put-u8
     put-u8-requires
     cast-put-u8-2
     put-u8-requires-2
-    same-length-2
-    returns-2)
+    same-length-3
+    returns-3)

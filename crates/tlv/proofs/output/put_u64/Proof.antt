@@ -5,7 +5,8 @@ use borrow.Author.Needs.{needs}
 use denote.Ref.{now}
 use lib.ListN.{length}
 use Rattle.tlv.proofs.WidthLaws.{bytesOf-add}
-use Rattle.tlv.proofs.BufferLaws.{_then_, has-room, wrote-put}
+use Rattle.tlv.proofs.ByteLaws.{length-bytesOf}
+use Rattle.tlv.proofs.BufferLaws.{put-out, _then_, has-room, wrote-put}
 use Rattle.tlv.proofs.output.put_u64.Statement.{statement}
 use Rattle.tlv.proofs.output.put_u64.Tie as tie
 
@@ -26,6 +27,15 @@ same-length c = search needs
 returns : tie.Need-returns
 returns c = wrote-put (c .before .before .before .before .before .has-room .ensures) (c .before .before .before .before .if1 .taken) (c .before .before .set-u64 .ensures) (omega arith)
 
+advance-requires : tie.Need-advance-requires
+advance-requires c κs = search needs
+
+same-length-2 : tie.Need-same-length-2
+same-length-2 c = search needs
+
+returns-2 : tie.Need-returns-2
+returns-2 c = put-out (omega arith) (omega arith) (length-bytesOf 8 _) (c .advance .ensures)
+
 cast-put-u32 : tie.Need-cast-put-u32
 cast-put-u32 c = search needs
 
@@ -38,11 +48,11 @@ cast-put-u32-2 c = search needs
 put-u32-requires-2 : tie.Need-put-u32-requires-2
 put-u32-requires-2 c κs = search needs
 
-same-length-2 : tie.Need-same-length-2
-same-length-2 c = search needs
+same-length-3 : tie.Need-same-length-3
+same-length-3 c = search needs
 
-returns-2 : tie.Need-returns-2
-returns-2 c = rw (bytesOf-add 4 4) (search _then_)
+returns-3 : tie.Need-returns-3
+returns-3 c = rw (bytesOf-add 4 4) (search _then_)
 
 pub put-u64-spec : {M : Type 1} → statement M
 put-u64-spec =
@@ -53,9 +63,12 @@ put-u64-spec =
     add-result
     same-length
     returns
+    advance-requires
+    same-length-2
+    returns-2
     cast-put-u32
     put-u32-requires
     cast-put-u32-2
     put-u32-requires-2
-    same-length-2
-    returns-2)
+    same-length-3
+    returns-3)
