@@ -34,6 +34,7 @@ use Rattle.collect.specs.Passes.{rowsFrom, countRows, offsetsAt}
 use Rattle.collect.specs.Converts.{ConversionIn}
 use Rattle.collect.specs.Collects.{linesExtent, CollectsBy, CollectsLines}
 use Rattle.collect.specs.Stages.{UnitCounted, unitExtent, UnitRoom, UnitInterned, InternsUnit, ConversionOf, finishFrom, FinishesBy, FinishesLines}
+use Rattle.rows.specs.Sizes.{entrySize, rowRoom}
 use Rattle.collect.proofs.RunLaws.{RunCounted, count-done}
 use Rattle.collect.proofs.FrameLaws.{but-wide}
 use Rattle.collect.proofs.HeaderPlaces.{header-is, unit-stands, unit-listed, rows-here}
@@ -130,7 +131,7 @@ module _ {main supplementary program w : List ℕ} {p start len n m free : ℕ} 
           pub interned-placed : Placed main (u .place + 21)
           interned-placed = rw (interned .place) (unit-next stands)
 
-          interned-room : is .base + is .count * 5 + 50 * length (rowsFrom main (p + 21)) + 16 ≤ free + linesExtent main p program
+          interned-room : is .base + is .count * 5 + rowRoom * length (rowsFrom main (p + 21)) + entrySize ≤ free + linesExtent main p program
           unfolding linesExtent
           interned-room =
               let a = offsets-few in
@@ -187,7 +188,7 @@ module _ {main supplementary program w : List ℕ} {p start len n m free : ℕ} 
             pub conversion-counted : countRows (rowsFrom main (cv .unit .place + 21)) 0 0 0 ≡ done (record { lines = n; sequences = m })
             conversion-counted = rw place-is (B .counted)
 
-            pub conversion-fits : length w₂ ≡ length w → cv .lines + 50 * length (rowsFrom main (cv .unit .place + 21)) + 16 ≤ length w₂
+            pub conversion-fits : length w₂ ≡ length w → cv .lines + rowRoom * length (rowsFrom main (cv .unit .place + 21)) + entrySize ≤ length w₂
             conversion-fits last =
                 let l : cv .lines ≡ is .base + is .count * 5 = ap (λ (x : Conversion). x .lines) (M .is) in
                 let all = interned-room in

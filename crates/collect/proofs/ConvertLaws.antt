@@ -17,6 +17,7 @@ use Rattle.tlv.proofs.TableLaws.{here, there, but-of, but-one, but-refl, but-tr
 use Rattle.tlv.proofs.RecordLaws.{records-but}
 use Rattle.lines.specs.Files.{internFile, get}
 use Rattle.lines.specs.Lines.{convertLine, convertRow}
+use Rattle.rows.specs.Sizes.{lineSize}
 use Rattle.rows.specs.Stored.{linesOf}
 use Rattle.rows.proofs.StoredLaws.{lines-but}
 use Rattle.files.specs.declared.index.FoundIndex.{FoundIndex}
@@ -37,7 +38,7 @@ use Rattle.collect.proofs.LineLaws.{none-put, about-put, line-put}
 
 -- what the conversion of rows may write: the file table, the unit's map, and k bytes behind its lines
 abbrev pub written : Conversion → Converting → ℕ → List (ℕ × ℕ)
-written c st k = (st .table .base, extent (st .table)) ∷ (c .indices .base, c .indices .count * 5) ∷ (c .lines + st .count * 25, k) ∷ []
+written c st k = (st .table .base, extent (st .table)) ∷ (c .indices .base, c .indices .count * 5) ∷ (c .lines + st .count * lineSize, k) ∷ []
 
 module _ {main supplementary w w′ : List ℕ} {c : Conversion} {st : Converting} (C : ConversionIn main supplementary w c st) (k : ℕ) (K : KeptBut w w′ (written c st k)) where
   pub offsets-kept : offsetsOf w′ c ≡ offsetsOf w c
@@ -57,7 +58,7 @@ module _ {main supplementary w w′ : List ℕ} {c : Conversion} {st : Convertin
       lines-but (c .lines) (st .count) K (inr (omega arith), (inr (omega arith), (inl (omega arith), tt)))
 
   pub conversion-kept : {files files′ : List ℕ} {st′ : Converting} → length w′ ≡ length w → Grown main supplementary w w′ files files′ (st .table) (st′ .table)
-      → Unnamed (unitAt main c) (headerIn main c) (indicesIn w′ (c .indices)) → c .lines + st′ .count * 25 ≤ length w → ConversionIn main supplementary w′ c st′
+      → Unnamed (unitAt main c) (headerIn main c) (indicesIn w′ (c .indices)) → c .lines + st′ .count * lineSize ≤ length w → ConversionIn main supplementary w′ c st′
   conversion-kept size G named fits =
       let a = C .table in
       let b = C .offsets in
@@ -84,8 +85,8 @@ module _ {main supplementary w w′ : List ℕ} {c : Conversion} {st : Convertin
 
 module _ {main supplementary w : List ℕ} {c : Conversion} {st : Converting} (C : ConversionIn main supplementary w c st) (r : Row) where
   -- the table and the map may have changed before its line is written
-  pub line-row : {w₁ w₂ files files′ warnings warnings′ : List ℕ} {t : StoredFiles} {file : FileIndex} {st′ : Converting} → c .lines + st .count * 25 + 25 ≤ length w
-      → KeptBut w w₁ (written c st 25) → length w₁ ≡ length w → Grown main supplementary w w₁ files files′ (st .table) t
+  pub line-row : {w₁ w₂ files files′ warnings warnings′ : List ℕ} {t : StoredFiles} {file : FileIndex} {st′ : Converting} → c .lines + st .count * lineSize + lineSize ≤ length w
+      → KeptBut w w₁ (written c st lineSize) → length w₁ ≡ length w → Grown main supplementary w w₁ files files′ (st .table) t
       → Unnamed (unitAt main c) (headerIn main c) (indicesIn w₁ (c .indices))
       → convertRow (unitAt main c) (headerIn main c) (offsetsOf w c) (rawOf r) (convertedIn main supplementary w c st [])
       ≡ done (convertLine (offsetsOf w c) (rawOf r) file (linedIn w c (st .count) (tableOf main supplementary w₁ t) (indicesIn w₁ (c .indices)) []))
@@ -101,33 +102,34 @@ module _ {main supplementary w : List ℕ} {c : Conversion} {st : Converting} (C
       let gr = G .room in
       let more = L .more in
       let K₁ = but-one (L .rest) in
-      let K₂ : KeptBut w w₂ (written c st 25) = but-trans K (but-of (L .rest) (there (there (here (omega arith) (omega arith))))) in
-      let clear : t .base + extent t ≤ c .lines + st .count * 25 = omega arith in
+      let K₂ : KeptBut w w₂ (written c st lineSize) = but-trans K (but-of (L .rest) (there (there (here (omega arith) (omega arith))))) in
+      let clear : t .base + extent t ≤ c .lines + st .count * lineSize = omega arith in
       let G₂ : Grown main supplementary w w₂ files files′ (st .table) (st′ .table) = rw (L .table-same) (grown-kept G K₁ (inl clear, tt) size₂) in
       let tables : tableOf main supplementary w₁ t ≡ tableOf main supplementary w₂ (st′ .table) = rw (L .table-same) (sym (table-kept (G .holds) K₁ (inl clear, tt))) in
       let maps : indicesIn w₂ (c .indices) ≡ indicesIn w₁ (c .indices) = records-but indexOf 5 (c .indices .base) (c .indices .count) K₁ (inl (omega arith), tt) in
-      let line = rw (offsets-kept C 25 K, lines-same C 25 K) at (L .is (tableOf main supplementary w₁ t) (indicesIn w₁ (c .indices))) in
+      let line = rw (offsets-kept C lineSize K, lines-same C lineSize K) at (L .is (tableOf main supplementary w₁ t) (indicesIn w₁ (c .indices))) in
       record {
         is = record {
           new = L .new;
           is = is ∙ ap done (line ∙ (λ j. record { table = tables j; indices = sym maps j; lines = linesOf w₂ (c .lines) (st′ .count); warnings = L .new }));
           grown = G₂;
           put = L .put;
-          holds = conversion-kept C 25 K₂ (size₂ ∙ size) G₂ (rw maps named) (omega arith);
+          holds = conversion-kept C lineSize K₂ (size₂ ∙ size) G₂ (rw maps named) (omega arith);
           more = more;
         };
         rest = K₂;
       }
 
   -- it has one in the map
-  pub row-known : {w₂ files warnings warnings′ : List ℕ} {q : FoundIndex} {file : FileIndex} {st′ : Converting} → c .lines + st .count * 25 + 25 ≤ length w → length files < top
+  pub row-known : {w₂ files warnings warnings′ : List ℕ} {q : FoundIndex} {file : FileIndex} {st′ : Converting} → c .lines + st .count * lineSize + lineSize ≤ length w → length files < top
       → numberOf q ≡ get (indicesIn w (c .indices)) (r .file .0) → q ≡ FoundIndex.Number file
       → LineConverted w w₂ warnings warnings′ c st r file st′ → length w₂ ≡ length w → RowConverts main supplementary w w₂ files files warnings warnings′ c st r (ConvertedRow.Next st′)
   unfolding convertRow convertedIn
   row-known room small found e L size = line-row room (but-refl w _) refl (grown-none (C .files) small) (C .unnamed) (rw (sym found ∙ ap numberOf e)) L size
 
   -- its line is appended
-  pub row-appended : {w₂ files warnings : List ℕ} → c .lines + st .count * 25 + 25 ≤ length w → length files < top → st .warned ≤ top → length warnings < top
+  pub row-appended : {w₂ files warnings : List ℕ} → c .lines + st .count * lineSize + lineSize ≤ length w → length files < top → st .warned ≤ top
+      → length warnings < top
       → KnownConverted w w₂ c r (st .count) → length w₂ ≡ length w
       → RowConverts main supplementary w w₂ files files warnings warnings c st r (ConvertedRow.Next (record { table = st .table; count = st .count + 1; warned = st .warned }))
   row-appended room small fits small′ K size = row-known {q = FoundIndex.Number (K .file)} room small (sym (K .known)) refl (line-put (K .line) fits small′) size
@@ -135,7 +137,7 @@ module _ {main supplementary w : List ℕ} {c : Conversion} {st : Converting} (C
   -- ---- a row whose file has none
 
   -- nothing is written to the map or for a line
-  pub still : {w₁ files files′ warnings warnings′ : List ℕ} {n : ℕ} (new : List Warning) → KeptBut w w₁ (written c st 25) → length w₁ ≡ length w → Grown main supplementary w w₁ files files′ (st .table) (st .table)
+  pub still : {w₁ files files′ warnings warnings′ : List ℕ} {n : ℕ} (new : List Warning) → KeptBut w w₁ (written c st lineSize) → length w₁ ≡ length w → Grown main supplementary w w₁ files files′ (st .table) (st .table)
       → indicesIn w₁ (c .indices) ≡ indicesIn w (c .indices)
       → convertRow (unitAt main c) (headerIn main c) (offsetsOf w c) (rawOf r) (convertedIn main supplementary w c st [])
       ≡ done (linedIn w c (st .count) (tableOf main supplementary w₁ (st .table)) (indicesIn w (c .indices)) new)
@@ -145,10 +147,10 @@ module _ {main supplementary w : List ℕ} {c : Conversion} {st : Converting} (C
   still {w₁} new K size G maps is P = record {
     is = record {
       new = new;
-      is = is ∙ ap done (λ j. record { table = tableOf main supplementary w₁ (st .table); indices = sym maps j; lines = sym (lines-same C 25 K) j; warnings = new });
+      is = is ∙ ap done (λ j. record { table = tableOf main supplementary w₁ (st .table); indices = sym maps j; lines = sym (lines-same C lineSize K) j; warnings = new });
       grown = G;
       put = P;
-      holds = conversion-kept C 25 K size G (rw maps (C .unnamed)) (C .lines);
+      holds = conversion-kept C lineSize K size G (rw maps (C .unnamed)) (C .lines);
       more = (omega arith, omega arith);
     };
     rest = K;

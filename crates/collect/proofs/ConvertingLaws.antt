@@ -9,6 +9,7 @@ use lib.Dec.{eqb}
 use lib.ListN.{length, take, drop}
 use borrow.Author.Tests.{eq-eqb, ne-eqb}
 use Rattle.tlv.specs.declared.access.Own.{Own}
+use Rattle.tlv.specs.Grammar.{rowFieldSize, rowKindAt}
 use Rattle.tlv.specs.Outcome.{refused, done, _>>=_}
 use Rattle.tlv.specs.Bytes.{leAt}
 use Rattle.tlv.specs.Buffer.{top, Put}
@@ -30,6 +31,7 @@ use Rattle.collect.specs.declared.convert.ConvertedRow.{ConvertedRow}
 use Rattle.collect.specs.declared.convert.Row.{Row}
 use Rattle.collect.specs.Passes.{rowsFrom, convertFrom}
 use Rattle.collect.specs.Converts.{unitAt, headerIn, offsetsOf, convertedIn, ConversionIn, rawOf, KnownConverted, RowConverted, RowConverts, RowsConvert}
+use Rattle.rows.specs.Sizes.{lineSize}
 use Rattle.collect.proofs.RowsFromLaws.{rows-end, rows-next, row-long, row-kind}
 use Rattle.collect.proofs.PrefixLaws.{convert-row-prefix, convert-row-prefix-refused}
 use Rattle.collect.proofs.LineLaws.{none-put, warnings-append}
@@ -63,14 +65,14 @@ pub record ConvertingRows (main supplementary w₀ w files₀ files warnings₀ 
   pub least : st₀ .count ≤ st .count
   pub most : st .count + more ≤ st₀ .count + left
   pub small : n ≤ at
-  pub rest : KeptBut w₀ w (written c st₀ (left * 25))
-  pub room : c .lines + st₀ .count * 25 + left * 25 ≤ length w
+  pub rest : KeptBut w₀ w (written c st₀ (left * lineSize))
+  pub room : c .lines + st₀ .count * lineSize + left * lineSize ≤ length w
   pub size : length w ≡ length w₀
   pub files-size : length files ≡ length files₀
   pub warnings-size : length warnings ≡ length warnings₀
 
 pub converting-start : {main supplementary w files warnings : List ℕ} {c : Conversion} {st : Converting} {left : ℕ} → ConversionIn main supplementary w c st
-    → c .lines + st .count * 25 + left * 25 ≤ length w → length files < top → st .warned ≤ top → length warnings < top
+    → c .lines + st .count * lineSize + left * lineSize ≤ length w → length files < top → st .warned ≤ top → length warnings < top
     → ConvertingRows main supplementary w w files files warnings warnings c st st left (c .unit .place + 21) 0 left
 converting-start {w = w} C room small fits small′ = record {
   placed = unit-next (C .placed);
@@ -112,7 +114,8 @@ module _ {main supplementary w₀ w files₀ files warnings₀ warnings : List �
     pub converting-over : r ≡ Own.Missing → RowsConvert main supplementary w₀ w files₀ files warnings₀ warnings c st₀ left (ConvertedRow.Next st)
     converting-over e = finished (rw (rows-end main at r own e) (from-none (unitAt main c) (headerIn main c) (offsetsOf w₀ c) n (convertedIn main supplementary w c st (J .new)) more))
 
-    module _ {start len next : ℕ} (e : r ≡ Own.Field start len next) (some-left : more ≡ 0 → ⊥) (kind : ℕ) (read : kind ≡ leAt 1 main (start + 24)) where
+    module _ {start len next : ℕ} (e : r ≡ Own.Field start len next) (some-left : more ≡ 0 → ⊥) (kind : ℕ)
+        (read : kind ≡ leAt 1 main (start + rowKindAt)) where
       turn : convertFrom (unitAt main c) (headerIn main c) (offsetsOf w₀ c) (rowsFrom main at) n more (convertedIn main supplementary w c st (J .new))
           ≡ cond (eqb kind 1) (convertFrom (unitAt main c) (headerIn main c) (offsetsOf w₀ c) (rowsFrom main next) (n + 1) more (convertedIn main supplementary w c st (J .new)))
           (convertRow (unitAt main c) (headerIn main c) (offsetsOf w₀ c) (rawLine (rowOf (take len (drop start main))) n) (convertedIn main supplementary w c st (J .new))
@@ -150,16 +153,16 @@ module _ {main supplementary w₀ w files₀ files warnings₀ warnings : List �
             warnings-size = J .warnings-size;
           }
 
-      module _ (plain : kind ≡ 1 → ⊥) {row : Row} (is-row : rawOf row ≡ rawLine (rowOf (chunk main start 25)) n) where
+      module _ (plain : kind ≡ 1 → ⊥) {row : Row} (is-row : rawOf row ≡ rawLine (rowOf (chunk main start rowFieldSize)) n) where
         converted-row : convertFrom (unitAt main c) (headerIn main c) (offsetsOf w₀ c) (rowsFrom main at) n more (convertedIn main supplementary w c st (J .new))
             ≡ (convertRow (unitAt main c) (headerIn main c) (offsetsOf w c) (rawOf row) (convertedIn main supplementary w c st (J .new))
             >>= convertFrom (unitAt main c) (headerIn main c) (offsetsOf w₀ c) (rowsFrom main next) n (more - 1))
         unfolding chunk
-        converted-row = turn ∙ rw (ne-eqb kind 1 plain, is-row, row-long main at r own start len next e (J .placed), offsets-kept (J .start) (left * 25) (J .rest))
+        converted-row = turn ∙ rw (ne-eqb kind 1 plain, is-row, row-long main at r own start len next e (J .placed), offsets-kept (J .start) (left * lineSize) (J .rest))
 
         module _ {w′ files′ warnings′ : List ℕ} {q : ConvertedRow} (A : RowConverts main supplementary w w′ files files′ warnings warnings′ c st row q) where
           -- what the row may write, the rows may
-          rows-rest : KeptBut w₀ w′ (written c st₀ (left * 25))
+          rows-rest : KeptBut w₀ w′ (written c st₀ (left * lineSize))
           rows-rest =
               let gb = J .grown .base in
               let gr = J .grown .room in

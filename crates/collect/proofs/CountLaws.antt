@@ -5,6 +5,7 @@ use Prim.Native.Nat.{ℕ, _+_, _≤_}
 use native.Mathlib.Omega.{arith}
 use borrow.Author.Tests.{eq-eqb, ne-eqb}
 use Rattle.tlv.specs.declared.access.Own.{Own}
+use Rattle.tlv.specs.Grammar.{rowKindAt}
 use Rattle.tlv.specs.Bytes.{leAt}
 use Rattle.tlv.specs.Checked.{Placed}
 use Rattle.tlv.specs.Access.{NextOwn}
@@ -27,7 +28,7 @@ module _ (s : List ℕ) (p at lines opened n : ℕ) (r : Own) (inv : CountingRow
   unfolding countRows
   counting-done e = rw (inv .same, rows-end s at r own e)
 
-  module _ (start len next : ℕ) (e : r ≡ Own.Field start len next) (kind : ℕ) (read : kind ≡ leAt 1 s (start + 24)) where
+  module _ (start len next : ℕ) (e : r ≡ Own.Field start len next) (kind : ℕ) (read : kind ≡ leAt 1 s (start + rowKindAt)) where
     pub counting-failed : kind ≡ 2 → countedOf CountedRows.Failed ≡ countRows (rowsFrom s p) 0 0 0
     unfolding countRows
     counting-failed two = rw (inv .same, rows-next s at r own start len next e, row-kind s at r own start len next e (inv .placed) kind read, eq-eqb kind 2 two)

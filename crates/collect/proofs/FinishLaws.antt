@@ -20,6 +20,7 @@ use Rattle.tlv.proofs.TableLaws.{here, there, but-of, but-one, but-trans}
 use Rattle.tlv.proofs.RecordLaws.{records-length, records-kept}
 use Rattle.lines.specs.Lines.{Run, runRows, Converted, convertRows, mismatch}
 use Rattle.rows.specs.declared.«unit_lines».StoredLines.{StoredLines}
+use Rattle.rows.specs.Sizes.{entrySize, lineSize, rangeSize, rowRoom}
 use Rattle.rows.specs.Stored.{rangesOf}
 use Rattle.rows.proofs.StoredLaws.{lines-nil}
 use Rattle.files.specs.declared.store.StoredFiles.{StoredFiles}
@@ -77,7 +78,7 @@ module _ {main supplementary w : List ℕ} {c : Conversion} {t : StoredFiles} {w
     lines = C .lines;
   }
 
-  pub conversion-room : c .lines + 50 * rowsOf main c + 16 ≤ length w → c .lines + 0 * 25 + n * 25 ≤ length w
+  pub conversion-room : c .lines + rowRoom * rowsOf main c + entrySize ≤ length w → c .lines + 0 * lineSize + n * lineSize ≤ length w
   conversion-room h = let a = rows-counted .all in omega arith
 
   start : Converted
@@ -115,7 +116,7 @@ module _ {main supplementary w : List ℕ} {c : Conversion} {t : StoredFiles} {w
         let p = rw (append-nil notes) at (convert-rows-prefix-refused (unitAt main c) (headerIn main c) (offsetsOf w c) (rows-counted .run .lines) notes start e h) in
         rw p
 
-    rows-rest : KeptBut w w₁ ((t .base, extent t) ∷ (c .indices .base, c .indices .count * 5) ∷ (c .lines, 50 * rowsOf main c + 16) ∷ [])
+    rows-rest : KeptBut w w₁ ((t .base, extent t) ∷ (c .indices .base, c .indices .count * 5) ∷ (c .lines, rowRoom * rowsOf main c + entrySize) ∷ [])
     rows-rest =
         let k = rows-counted .all in
         but-wide _ (R .rest) (here (omega arith) (omega arith), (there (here (omega arith) (omega arith)), (there (there (here (omega arith) (omega arith))), tt)))
@@ -134,14 +135,15 @@ module _ {main supplementary w : List ℕ} {c : Conversion} {t : StoredFiles} {w
       sequences-few : length (sequencesFrom (rowsFrom main (c .unit .place + 21)) 0 none) ≤ m
       sequences-few = rw (rows-counted .sequences) at (rows-counted .few)
 
-      store-small : st .count * 50 + 25 * length (sequencesFrom (rowsFrom main (c .unit .place + 21)) 0 none) + 16 ≤ 50 * rowsOf main c + 16
+      store-small : st .count * rowRoom + rangeSize * length (sequencesFrom (rowsFrom main (c .unit .place + 21)) 0 none) + entrySize
+          ≤ rowRoom * rowsOf main c + entrySize
       store-small =
           let a = rows-counted .all in
           let b = rows-converted .more in
           let f = sequences-few in
           omega arith
 
-      pub store-room : c .lines + 50 * rowsOf main c + 16 ≤ length w₁ → c .lines + st .count * 50 + 25 * length (sequencesFrom (rowsFrom main (c .unit .place + 21)) 0 none) + 16 ≤ length w₁
+      pub store-room : c .lines + rowRoom * rowsOf main c + entrySize ≤ length w₁ → c .lines + st .count * rowRoom + rangeSize * length (sequencesFrom (rowsFrom main (c .unit .place + 21)) 0 none) + entrySize ≤ length w₁
       store-room h = let a = store-small in omega arith
 
       module _ {w₂ : List ℕ} {l : StoredLines} (S : StoresLines main w₁ w₂ (c .unit .place + 21) (c .offsets) (c .«offset_count») (c .lines) (st .count) l) where
@@ -164,7 +166,8 @@ module _ {main supplementary w : List ℕ} {c : Conversion} {t : StoredFiles} {w
         sequences-same : map (withOffset (offsetsOf w c)) (rows-counted .run .sequences) ≡ rangesOf w₂ (l .sequences) (l .«sequence_count»)
         sequences-same =
             ap (map (withOffset (offsetsOf w c))) (rows-counted .sequences)
-            ∙ ap (λ (o : List ℕ). map (withOffset o) (sequencesFrom (rowsFrom main (c .unit .place + 21)) 0 none)) (sym (offsets-kept C (n * 25) (R .rest)))
+            ∙ ap (λ (o : List ℕ). map (withOffset o) (sequencesFrom (rowsFrom main (c .unit .place + 21)) 0 none))
+            (sym (offsets-kept C (n * lineSize) (R .rest)))
             ∙ sym (S .ranges)
 
         finish-done : finishFrom main supplementary w c t (rows-counted .run)

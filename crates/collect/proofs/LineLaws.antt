@@ -6,6 +6,7 @@ use native.Mathlib.Omega.{arith}
 use lib.ListN.{length}
 use borrow.Author.Tests.{lt-ltb, le-ltb}
 use Rattle.tlv.specs.declared.model.FileIndex.{FileIndex}
+use Rattle.tlv.specs.Grammar.{rowFieldSize}
 use Rattle.tlv.specs.Lists.{at}
 use Rattle.tlv.specs.Bytes.{bytesOf, leAt}
 use Rattle.tlv.specs.Buffer.{top, Put}
@@ -22,6 +23,7 @@ use Rattle.lines.specs.Lines.{rawLine, convertLine}
 use Rattle.files.specs.declared.index.FoundIndex.{FoundIndex}
 use Rattle.files.specs.Indices.{indicesIn, numberOf}
 use Rattle.rows.specs.declared.line.StatementSequence.{StatementSequence}
+use Rattle.rows.specs.Sizes.{lineSize}
 use Rattle.rows.specs.Stored.{sequenceOf, PutLine}
 use Rattle.rows.proofs.StoredLaws.{lines-push}
 use Rattle.collect.specs.declared.convert.Conversion.{Conversion}
@@ -49,7 +51,7 @@ warnings-append (x ∷ a) b = rw (warnings-append a b) (sym (append-assoc (encod
 
 module _ {w : List ℕ} {c : Conversion} {r : Row} {file : FileIndex} where
   pub line-appended : {w′ : List ℕ} {count : ℕ} {o : StatementSequence} → r .line < 4294967296 → sequenceOf o ≡ at (offsetsOf w c) (r .sequence)
-      → PutLine w w′ (c .lines + count * 25) (record { address = r .address; file = file; line = r .line }) o → LineAppended w w′ c r file count
+      → PutLine w w′ (c .lines + count * lineSize) (record { address = r .address; file = file; line = r .line }) o → LineAppended w w′ c r file count
   unfolding convertLine
   line-appended {count = count} h e P = record {
     is = λ table indices. rw (lt-ltb (r .line) (2 ^ 32) h, lines-push (c .lines) count P, e);
@@ -80,12 +82,12 @@ module _ {w : List ℕ} {c : Conversion} {r : Row} {file : FileIndex} where
     put = about-put unrepresentableLine 7 (r .address) (r .line) refl P;
     table-same = refl;
     more = (omega arith, omega arith);
-    rest = kept-refl w (c .lines + st .count * 25) 25;
+    rest = kept-refl w (c .lines + st .count * lineSize) lineSize;
   }
 
 -- ---- a row of the sheet
 
 pub row-read : (s : List ℕ) (start a f l n : ℕ) → a ≡ leAt 8 s start → f ≡ leAt 8 s (start + 8) → l ≡ leAt 8 s (start + 16)
-    → rawOf (record { address = a; file = record { 0 = f }; line = l; sequence = n }) ≡ rawLine (rowOf (chunk s start 25)) n
+    → rawOf (record { address = a; file = record { 0 = f }; line = l; sequence = n }) ≡ rawLine (rowOf (chunk s start rowFieldSize)) n
 unfolding rowOf
-row-read s start a f l n ea ef el = rw (leAt-front 8 s start 25 (omega arith), leAt-chunk 8 s start 25 8 (omega arith), leAt-chunk 8 s start 25 16 (omega arith), ea, ef, el)
+row-read s start a f l n ea ef el = rw (leAt-front 8 s start rowFieldSize (omega arith), leAt-chunk 8 s start rowFieldSize 8 (omega arith), leAt-chunk 8 s start rowFieldSize 16 (omega arith), ea, ef, el)

@@ -5,6 +5,7 @@ use Prim.Native.Nat.{ℕ, _+_, _≤_, _<_}
 use native.Mathlib.Omega.{arith}
 use lib.ListN.{length, take, drop}
 use Rattle.tlv.specs.declared.access.Own.{Own}
+use Rattle.tlv.specs.Grammar.{rowFieldSize, rowKindAt}
 use Rattle.tlv.specs.Bytes.{leAt}
 use Rattle.tlv.specs.Model.{rowOf}
 use Rattle.tlv.specs.Checked.{Placed}
@@ -32,17 +33,17 @@ module _ (s : List ℕ) (p : ℕ) (r : Own) (own : NextOwn s p 0x16 r) where
     row-ahead = let w = own-within s p 0x16 r start len next own e in omega arith
 
     module _ (h : Placed s p) where
-      pub row-long : len ≡ 25
+      pub row-long : len ≡ rowFieldSize
       row-long = let f = own-field s p 0x16 r start len next own e h in placed-row s (f .place) (f .step) 0x16 start len next (f .here) (f .reads) (f .is) refl
 
       -- the whole row can be read
-      pub row-within : start + 25 ≤ length s
+      pub row-within : start + rowFieldSize ≤ length s
       row-within = let l = row-long in let w = own-within s p 0x16 r start len next own e in omega arith
 
       -- a number of the row, read in the whole
-      pub row-number : (k j n : ℕ) → j + k ≤ 25 → n ≡ leAt k s (start + j) → leAt k (take len (drop start s)) j ≡ n
+      pub row-number : (k j n : ℕ) → j + k ≤ rowFieldSize → n ≡ leAt k s (start + j) → leAt k (take len (drop start s)) j ≡ n
       row-number k j n fits is = let l = row-long in number-at s start len k j n (omega arith) is
 
-      pub row-kind : (k : ℕ) → k ≡ leAt 1 s (start + 24) → rowOf (take len (drop start s)) .kind ≡ k
+      pub row-kind : (k : ℕ) → k ≡ leAt 1 s (start + rowKindAt) → rowOf (take len (drop start s)) .kind ≡ k
       unfolding rowOf
-      row-kind k is = row-number 1 24 k (omega arith) is
+      row-kind k is = row-number 1 rowKindAt k (omega arith) is

@@ -12,6 +12,7 @@ use lib.ListN.{length, take, drop}
 use borrow.Author.Tests.{eq-eqb, ne-eqb, lt-ltb, le-ltb}
 use Rattle.tlv.specs.declared.access.Own.{Own}
 use Rattle.tlv.specs.declared.model.AddressRange.{AddressRange}
+use Rattle.tlv.specs.Grammar.{rowKindAt}
 use Rattle.tlv.specs.Lists.{at}
 use Rattle.tlv.specs.Bytes.{le, leAt}
 use Rattle.tlv.specs.Table.{Kept}
@@ -23,6 +24,7 @@ use Rattle.tlv.proofs.TableLaws.{kept-refl, kept-trans, kept-wide}
 use Rattle.tlv.proofs.RecordLaws.{records-length, records-kept, records-push, numbers-at}
 use Rattle.lines.specs.Lines.{RawSequence}
 use Rattle.rows.specs.declared.line.StatementSequence.{StatementSequence}
+use Rattle.rows.specs.Sizes.{rangeSize}
 use Rattle.rows.specs.Stored.{sequenceOf, rangeOf, rangeAt, rangesOf, PutSequenceRange}
 use Rattle.rows.proofs.StoredLaws.{ranges-nil}
 use Rattle.files.proofs.PieceLaws.{at-some, at-none}
@@ -56,16 +58,16 @@ pub record Collecting (s w₀ w : List ℕ) (p offsets n base at k : ℕ) (opene
   pub placed : Placed s at
   pub same : rangesOf w base count ++ map (withOffset (offsetsAt w₀ offsets n)) (sequencesFrom (rowsFrom s at) k (begun opened start))
       ≡ map (withOffset (offsetsAt w₀ offsets n)) (sequencesFrom (rowsFrom s p) 0 none)
-  pub room : base + 25 * (count + length (sequencesFrom (rowsFrom s at) k (begun opened start))) ≤ length w
+  pub room : base + rangeSize * (count + length (sequencesFrom (rowsFrom s at) k (begun opened start))) ≤ length w
   pub first : startOr (begun opened start) 0 ≡ start
   pub few : count ≤ k
   pub small : k ≤ at
   pub below : offsets + n * 8 ≤ base
-  pub rest : Kept w₀ w base (count * 25)
+  pub rest : Kept w₀ w base (count * rangeSize)
   pub size : length w ≡ length w₀
 
 pub collecting-start : {s w : List ℕ} {p offsets n base : ℕ} → Placed s p → offsets + n * 8 ≤ base
-    → base + 25 * length (sequencesFrom (rowsFrom s p) 0 none) ≤ length w → Collecting s w w p offsets n base p 0 false 0 0
+    → base + rangeSize * length (sequencesFrom (rowsFrom s p) 0 none) ≤ length w → Collecting s w w p offsets n base p 0 false 0 0
 collecting-start {s} {w} {p} {offsets} {n} {base} h below room = record {
   placed = h;
   same = rw (ranges-nil w base);
@@ -83,7 +85,8 @@ module _ (s w₀ w : List ℕ) (p offsets n base at k : ℕ) (opened : Bool) (st
   unfolding sequencesFrom
   collecting-done e = record { is = sym (append-nil (rangesOf w base count)) ∙ (rw (rows-end s at r own e) at (inv .same)); rest = inv .rest }
 
-  module _ (row len next : ℕ) (e : r ≡ Own.Field row len next) (kind address : ℕ) (read : kind ≡ leAt 1 s (row + 24)) (reads : address ≡ leAt 8 s row) where
+  module _ (row len next : ℕ) (e : r ≡ Own.Field row len next) (kind address : ℕ) (read : kind ≡ leAt 1 s (row + rowKindAt))
+      (reads : address ≡ leAt 8 s row) where
     row-address : rowOf (take len (drop row s)) .address ≡ address
     unfolding rowOf
     row-address = row-number s at r own row len next e (inv .placed) 8 0 address (omega arith) (rw (add-zero row) reads)
@@ -128,10 +131,10 @@ module _ (s w₀ w : List ℕ) (p offsets n base at k : ℕ) (opened : Bool) (st
         ended = turn (begun opened start) ∙ rw (eq-eqb kind 1 one, inv .first, lt-ltb start address ahead)
 
         -- the record has room
-        pub collecting-room : base + count * 25 + 25 ≤ length w
+        pub collecting-room : base + count * rangeSize + rangeSize ≤ length w
         collecting-room = let x = rw ended at (inv .room) in omega arith
 
-        pub collecting-put : {w′ : List ℕ} → SequencePut w w′ (base + count * 25) offsets n (record { range = record { start = start; end = address }; sequence = k })
+        pub collecting-put : {w′ : List ℕ} → SequencePut w w′ (base + count * rangeSize) offsets n (record { range = record { start = start; end = address }; sequence = k })
             → length w′ ≡ length w → Collecting s w₀ w′ p offsets n base next (k + 1) false 0 (count + 1)
         unfolding rangesOf rangeAt
         collecting-put {w′} P same-size =
@@ -144,7 +147,7 @@ module _ (s w₀ w : List ℕ) (p offsets n base at k : ℕ) (opened : Bool) (st
             let q : RawSequence = record { range = record { start = start; end = address }; sequence = k } in
             let offs : offsetsAt w offsets n ≡ offsetsAt w₀ offsets n = records-kept le 8 offsets n (inv .rest) (inl (inv .below)) in
             let pushed : rangesOf w′ base (count + 1) ≡ rangesOf w base count ++ (withOffset (offsetsAt w₀ offsets n) q ∷ []) =
-            records-push rangeOf 25 base count (withOffset (offsetsAt w₀ offsets n) q) (P .rest) (P .is ∙ ap (λ (o : List ℕ). withOffset o q) offs) in
+            records-push rangeOf rangeSize base count (withOffset (offsetsAt w₀ offsets n) q) (P .rest) (P .is ∙ ap (λ (o : List ℕ). withOffset o q) offs) in
             record {
               placed = placed-next;
               same = rw (pushed, append-assoc) (rw ended at (inv .same));
@@ -153,7 +156,7 @@ module _ (s w₀ w : List ℕ) (p offsets n base at k : ℕ) (opened : Bool) (st
               few = omega arith;
               small = omega arith;
               below = inv .below;
-              rest = kept-trans (kept-wide base ((count + 1) * 25) (inv .rest) (omega arith) (omega arith)) (kept-wide base ((count + 1) * 25) (P .rest) (omega arith) (omega arith));
+              rest = kept-trans (kept-wide base ((count + 1) * rangeSize) (inv .rest) (omega arith) (omega arith)) (kept-wide base ((count + 1) * rangeSize) (P .rest) (omega arith) (omega arith));
               size = same-size ∙ size;
             }
 

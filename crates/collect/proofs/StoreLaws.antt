@@ -10,6 +10,7 @@ use Rattle.tlv.specs.Table.{Apart}
 use Rattle.tlv.proofs.TableLaws.{here, kept-wide, kept-trans}
 use Rattle.tlv.proofs.RecordLaws.{records-but}
 use Rattle.lines.specs.Lines.{sortRows, sameRow, dropNeighbours}
+use Rattle.rows.specs.Sizes.{entrySize, lineSize, rangeSize, rowRoom}
 use Rattle.rows.specs.Stored.{linesOf, rangeOf, rangesOf}
 use Rattle.rows.specs.Sorts.{SortedRows, Deduped}
 use Rattle.rows.proofs.StoredLaws.{lines-kept, ranges-length, ranges-kept}
@@ -18,29 +19,29 @@ use Rattle.collect.specs.Passes.{rowsFrom, sequencesFrom, offsetsAt, wit
 use Rattle.collect.specs.Stages.{StoresLines}
 use Rattle.collect.proofs.FrameLaws.{kept-one}
 
-module _ {main w w₁ : List ℕ} {p offsets n m : ℕ} (lines count : ℕ) (S : SequencesIn main w w₁ p offsets n (lines + count * 25) m) where
+module _ {main w w₁ : List ℕ} {p offsets n m : ℕ} (lines count : ℕ) (S : SequencesIn main w w₁ p offsets n (lines + count * lineSize) m) where
   pub sequences-counted : m ≡ length (sequencesFrom (rowsFrom main p) 0 none)
-  sequences-counted = sym (ranges-length w₁ (lines + count * 25) m) ∙ ap length (S .is) ∙ length-map (sequencesFrom (rowsFrom main p) 0 none) (withOffset (offsetsAt w offsets n))
+  sequences-counted = sym (ranges-length w₁ (lines + count * lineSize) m) ∙ ap length (S .is) ∙ length-map (sequencesFrom (rowsFrom main p) 0 none) (withOffset (offsetsAt w offsets n))
 
-  pub buffer-apart : Apart lines (count * 25) (lines + count * 25 + m * 25) (count * 25)
+  pub buffer-apart : Apart lines (count * lineSize) (lines + count * lineSize + m * rangeSize) (count * lineSize)
   buffer-apart = inl (omega arith)
 
-  module _ {w₂ w₃ : List ℕ} {r : ℕ} (T : SortedRows w₁ w₂ lines (lines + count * 25 + m * 25) count) (D : Deduped w₂ w₃ lines count r) where
+  module _ {w₂ w₃ : List ℕ} {r : ℕ} (T : SortedRows w₁ w₂ lines (lines + count * lineSize + m * rangeSize) count) (D : Deduped w₂ w₃ lines count r) where
     entries-are : linesOf w₃ lines r ≡ dropNeighbours sameRow (sortRows (linesOf w lines count))
     entries-are = D .rows ∙ ap (dropNeighbours sameRow) (T .rows ∙ ap sortRows (lines-kept lines count (S .rest) (inl (omega arith))))
 
-    ranges-are : rangesOf w₃ (lines + count * 25) m ≡ rangesOf w₁ (lines + count * 25) m
+    ranges-are : rangesOf w₃ (lines + count * lineSize) m ≡ rangesOf w₁ (lines + count * lineSize) m
     unfolding rangesOf
     ranges-are =
-        ranges-kept (lines + count * 25) m (D .rest) (inr (omega arith))
-        ∙ records-but rangeOf 25 (lines + count * 25) m (T .rest) (inr (omega arith), (inl (omega arith), tt))
+        ranges-kept (lines + count * lineSize) m (D .rest) (inr (omega arith))
+        ∙ records-but rangeOf rangeSize (lines + count * lineSize) m (T .rest) (inr (omega arith), (inl (omega arith), tt))
 
-    pub stored-lines : lines + count * 50 + 25 * length (sequencesFrom (rowsFrom main p) 0 none) + 16 ≤ length w → length w₃ ≡ length w
-        → StoresLines main w w₃ p offsets n lines count (record { lines = lines; «line_count» = r; sequences = lines + count * 25; «sequence_count» = m; buffer = lines + count * 25 + m * 25 })
+    pub stored-lines : lines + count * rowRoom + rangeSize * length (sequencesFrom (rowsFrom main p) 0 none) + entrySize ≤ length w → length w₃ ≡ length w
+        → StoresLines main w w₃ p offsets n lines count (record { lines = lines; «line_count» = r; sequences = lines + count * lineSize; «sequence_count» = m; buffer = lines + count * lineSize + m * rangeSize })
     stored-lines room size =
         let k = sequences-counted in
         let few = D .within in
-        let all = count * 50 + 25 * length (sequencesFrom (rowsFrom main p) 0 none) + 16 in
+        let all = count * rowRoom + rangeSize * length (sequencesFrom (rowsFrom main p) 0 none) + entrySize in
         record {
           from = refl;
           entries = entries-are;

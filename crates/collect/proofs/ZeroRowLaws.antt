@@ -32,6 +32,7 @@ use Rattle.collect.specs.declared.convert.ConvertedRow.{ConvertedRow}
 use Rattle.collect.specs.declared.convert.Row.{Row}
 use Rattle.collect.specs.declared.convert.SoughtFile.{SoughtFile}
 use Rattle.collect.specs.Converts.{unitAt, headerIn, Unnamed, convertedIn, ConversionIn, soughtOf, LineConverted, RowConverts}
+use Rattle.rows.specs.Sizes.{lineSize}
 use Rattle.collect.proofs.SoughtLaws.{is-zero}
 use Rattle.collect.proofs.LineLaws.{none-put}
 use Rattle.collect.proofs.ConvertLaws.{written, line-row, still}
@@ -70,7 +71,7 @@ module _ {main supplementary w : List ℕ} {c : Conversion} {st : Converting} (C
   zero-asked = let Z = is-zero C (r .file .0) sought in (C .files, (C .unit, (Z .span, (Z .listed, C .listed))))
 
   module _ {w₁ files files′ : List ℕ} {q : InternedFile} (I : Interns main supplementary w w₁ files files′ (st .table) main (c .unit) file q) where
-    kept : KeptBut w w₁ (written c st 25)
+    kept : KeptBut w w₁ (written c st lineSize)
     kept = but-of (I .rest) (here (omega arith) (omega arith))
 
     maps : indicesIn w₁ (c .indices) ≡ indicesIn w (c .indices)
@@ -100,7 +101,7 @@ module _ {main supplementary w : List ℕ} {c : Conversion} {st : Converting} (C
         let G : Grown main supplementary w w₁ files files′ (st .table) (st .table) = rw e at (I .after) in
         still C r [] kept size G maps (rw (unknown, Z .is, ← is, same)) (none-put fits small)
 
-    pub zero-number : {w₂ w₃ warnings warnings′ : List ℕ} {t : StoredFiles} {i : FileIndex} {st′ : Converting} → c .lines + st .count * 25 + 25 ≤ length w → length w₁ ≡ length w
+    pub zero-number : {w₂ w₃ warnings warnings′ : List ℕ} {t : StoredFiles} {i : FileIndex} {st′ : Converting} → c .lines + st .count * lineSize + lineSize ≤ length w → length w₁ ≡ length w
         → q ≡ InternedFile.Number t i → Inserted w₁ w₂ (c .indices) (r .file) i → length w₂ ≡ length w₁
         → LineConverted w₂ w₃ warnings warnings′ c (record { table = t; count = st .count; warned = st .warned }) r i st′ → length w₃ ≡ length w₂
         → RowConverts main supplementary w w₃ files files′ warnings warnings′ c st r (ConvertedRow.Next st′)
@@ -114,7 +115,7 @@ module _ {main supplementary w : List ℕ} {c : Conversion} {st : Converting} (C
         let gb = G .base in
         let gr = G .room in
         let clear : t .base + extent t ≤ c .indices .base = omega arith in
-        let K₂ : KeptBut w w₂ (written c st 25) = but-trans kept (but-of (J .rest) (there (here (omega arith) (omega arith)))) in
+        let K₂ : KeptBut w w₂ (written c st lineSize) = but-trans kept (but-of (J .rest) (there (here (omega arith) (omega arith)))) in
         let is : done (record { table = tableOf main supplementary w₁ t; number = some i }) ≡ internFile (unitAt main c) (headerIn main c) (tableOf main supplementary w (st .table)) (fileOf (spanIn main file)) = rw e at (I .is) in
         let table-same : tableOf main supplementary w₂ t ≡ tableOf main supplementary w₁ t = table-kept (G .holds) (but-one (J .rest)) (inl clear, tt) in
         let set-is : indicesIn w₂ (c .indices) ≡ insertIndex (indicesIn w (c .indices)) (r .file .0) i = J .indices ∙ rw maps in

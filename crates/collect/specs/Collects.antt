@@ -13,6 +13,7 @@ use Rattle.tlv.specs.Places.{unitHere, unitPlaces}
 use Rattle.tlv.specs.Output.{Warning, warningsBytes}
 use Rattle.lines.specs.Lines.{UnitLines, collectLines}
 use Rattle.rows.specs.declared.«unit_lines».StoredLines.{StoredLines}
+use Rattle.rows.specs.Sizes.{entrySize, lineSize, rowRoom}
 use Rattle.rows.specs.Stored.{linesOf, rangesOf}
 use Rattle.rows.specs.Selects.{RowsIn}
 use Rattle.files.specs.declared.store.StoredFiles.{StoredFiles}
@@ -37,7 +38,8 @@ linesIn w l is = record {
 -- how many bytes the lines of the unit at a place may take
 unfoldable pub linesExtent : List ℕ → ℕ → List ℕ → ℕ
 linesExtent main p program =
-    length program / 3 * 8 + 8 * length (unitHere main p .directories) + 5 * (1 + length (unitHere main p .files)) + 50 * length (unitHere main p .rows) + 16
+    length program / 3 * 8 + 8 * length (unitHere main p .directories) + 5 * (1 + length (unitHere main p .files))
+    + rowRoom * length (unitHere main p .rows) + entrySize
 
 -- the file table stands below the first free place, and the lines have room from there on
 pub record LinesRoom (main w program : List ℕ) (t : StoredFiles) (p free : ℕ) : Type 0 where
@@ -53,8 +55,8 @@ pub record CollectedIn (main supplementary program w w′ files files′ warning
   pub rows : RowsIn w′ l
   pub from : free ≤ is .base
   pub indices : is .base + is .count * 5 ≤ l .lines
-  pub sequences : l .lines + l .«line_count» * 25 ≤ l .sequences
-  pub within : l .buffer + 16 + l .«line_count» * 16 ≤ free + linesExtent main p program
+  pub sequences : l .lines + l .«line_count» * lineSize ≤ l .sequences
+  pub within : l .buffer + entrySize + l .«line_count» * entrySize ≤ free + linesExtent main p program
   pub rest : KeptBut w w′ ((t .base, extent t) ∷ (free, linesExtent main p program) ∷ [])
 
 abbrev pub CollectsBy : List ℕ → List ℕ → List ℕ → List ℕ → List ℕ → List ℕ → List ℕ → List ℕ → List ℕ → ℕ → StoredFiles → ℕ → ℕ → CollectedLines → Type 0

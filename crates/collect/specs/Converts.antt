@@ -19,6 +19,7 @@ use Rattle.tlv.specs.Output.{Warning, warningsBytes}
 use Rattle.lines.specs.Paths.{fileEntry}
 use Rattle.lines.specs.Files.{FileTable, FileIndices, get, headerFile}
 use Rattle.lines.specs.Lines.{RawLine, Converted, convertLine, convertRow}
+use Rattle.rows.specs.Sizes.{lineSize}
 use Rattle.rows.specs.Stored.{linesOf}
 use Rattle.files.specs.Pieces.{headerHere, UnitPlaced, FileUnitIn}
 use Rattle.files.specs.Store.{extent, tableOf, FilesIn, Grown}
@@ -67,7 +68,7 @@ pub record ConversionIn (main supplementary w : List ℕ) (c : Conversion) (st :
   pub offsets : c .offsets + c .«offset_count» * 8 ≤ c .unit .directories
   pub directories : c .unit .directories + c .unit .«directory_count» * 8 ≤ c .indices .base
   pub indices : c .indices .base + c .indices .count * 5 ≤ c .lines
-  pub lines : c .lines + st .count * 25 ≤ length w
+  pub lines : c .lines + st .count * lineSize ≤ length w
 
 -- a row of the sheet, with the number of its sequence
 abbrev pub rawOf : Row → RawLine
@@ -96,7 +97,7 @@ linedIn w c count table indices warnings = record { table = table; indices = ind
 -- the row's line stands behind the others, and there is nothing to warn of
 pub record LineAppended (w w′ : List ℕ) (c : Conversion) (r : Row) (file : FileIndex) (count : ℕ) : Type 0 where
   pub is : (table : FileTable) (indices : FileIndices) → convertLine (offsetsOf w c) (rawOf r) file (linedIn w c count table indices []) ≡ linedIn w′ c (count + 1) table indices []
-  pub rest : Kept w w′ (c .lines + count * 25) 25
+  pub rest : Kept w w′ (c .lines + count * lineSize) lineSize
 
 pub record LineConverted (w w′ warnings warnings′ : List ℕ) (c : Conversion) (st : Converting) (r : Row) (file : FileIndex) (st′ : Converting) : Type 0 where
   pub new : List Warning
@@ -104,7 +105,7 @@ pub record LineConverted (w w′ warnings warnings′ : List ℕ) (c : Conversio
   pub put : Put (st .warned) (warningsBytes new) warnings warnings′ (st′ .warned)
   pub table-same : st′ .table ≡ st .table
   pub more : (st .count ≤ st′ .count) × (st′ .count ≤ st .count + 1)
-  pub rest : Kept w w′ (c .lines + st .count * 25) 25
+  pub rest : Kept w w′ (c .lines + st .count * lineSize) lineSize
 
 -- the line of a row whose file has a number in the unit's map
 pub record KnownConverted (w w′ : List ℕ) (c : Conversion) (r : Row) (count : ℕ) : Type 0 where
@@ -137,7 +138,8 @@ ConvertsRow main supplementary w w′ files files′ warnings warnings′ c st r
 -- a refusal too keeps what lies outside the file table, the unit's map and the place of the next line
 pub record RowConverts (main supplementary w w′ files files′ warnings warnings′ : List ℕ) (c : Conversion) (st : Converting) (row : Row) (r : ConvertedRow) : Type 0 where
   pub is : ConvertsRow main supplementary w w′ files files′ warnings warnings′ c st row r
-  pub rest : KeptBut w w′ ((st .table .base, extent (st .table)) ∷ (c .indices .base, c .indices .count * 5) ∷ (c .lines + st .count * 25, 25) ∷ [])
+  pub rest : KeptBut w w′ ((st .table .base, extent (st .table)) ∷ (c .indices .base, c .indices .count * 5)
+      ∷ (c .lines + st .count * lineSize, lineSize) ∷ [])
 
 -- the same of `left` rows of the unit, from its first on
 pub record RowsConverted (main supplementary w w′ files files′ warnings warnings′ : List ℕ) (c : Conversion) (st : Converting) (left : ℕ) (st′ : Converting) : Type 0 where
@@ -157,4 +159,5 @@ ConvertsRows main supplementary w w′ files files′ warnings warnings′ c st 
 -- a refusal too keeps what lies outside the file table, the unit's map and the places of the next lines
 pub record RowsConvert (main supplementary w w′ files files′ warnings warnings′ : List ℕ) (c : Conversion) (st : Converting) (left : ℕ) (r : ConvertedRow) : Type 0 where
   pub is : ConvertsRows main supplementary w w′ files files′ warnings warnings′ c st left r
-  pub rest : KeptBut w w′ ((st .table .base, extent (st .table)) ∷ (c .indices .base, c .indices .count * 5) ∷ (c .lines + st .count * 25, left * 25) ∷ [])
+  pub rest : KeptBut w w′ ((st .table .base, extent (st .table)) ∷ (c .indices .base, c .indices .count * 5)
+      ∷ (c .lines + st .count * lineSize, left * lineSize) ∷ [])

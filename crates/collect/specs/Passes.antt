@@ -14,6 +14,7 @@ use Rattle.tlv.specs.Table.{records, Kept}
 use Rattle.tlv.specs.Model.{CompilationUnit, LineHeader, LineRow, rowOf}
 use Rattle.tlv.specs.Places.{ownFields}
 use Rattle.lines.specs.Lines.{RawSequence, LineSequenceRange, rawLine, Converted, convertRow}
+use Rattle.rows.specs.Sizes.{rangeSize}
 use Rattle.rows.specs.Stored.{rangeAt, rangesOf}
 use Rattle.collect.specs.declared.passes.CountedRows.{CountedRows}
 
@@ -62,12 +63,12 @@ offsetsAt w base n = records le 8 w base n
 -- a sequence was written at p with its offset
 pub record SequencePut (w w′ : List ℕ) (p offsets n : ℕ) (q : RawSequence) : Type 0 where
   pub is : rangeAt w′ p ≡ withOffset (offsetsAt w offsets n) q
-  pub rest : Kept w w′ p 25
+  pub rest : Kept w w′ p rangeSize
 
 -- the unit's sequences were written at base
 pub record SequencesIn (s w w′ : List ℕ) (p offsets n base r : ℕ) : Type 0 where
   pub is : rangesOf w′ base r ≡ map (withOffset (offsetsAt w offsets n)) (sequencesFrom (rowsFrom s p) 0 none)
-  pub rest : Kept w w′ base (r * 25)
+  pub rest : Kept w w′ base (r * rangeSize)
 
 -- `left` rows from here on, each by convertRow
 unfoldable pub convertFrom : CompilationUnit → LineHeader → List ℕ → List LineRow → ℕ → ℕ → Converted → Outcome Converted

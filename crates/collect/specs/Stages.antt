@@ -17,6 +17,7 @@ use Rattle.lines.specs.declared.lines.Header.{Header}
 use Rattle.lines.specs.Files.{FileTable, FileIndices, Indexed, internHeaderFiles}
 use Rattle.lines.specs.Lines.{Run, runRows, convertRows, sortRows, sameRow, dropNeighbours, Collected, mismatch, unitLines}
 use Rattle.rows.specs.declared.«unit_lines».StoredLines.{StoredLines}
+use Rattle.rows.specs.Sizes.{entrySize, lineSize, rangeSize, rowRoom}
 use Rattle.rows.specs.Stored.{linesOf, rangesOf}
 use Rattle.rows.specs.Selects.{RowsIn}
 use Rattle.files.specs.declared.index.StoredIndices.{StoredIndices}
@@ -104,9 +105,10 @@ pub record StoresLines (main w w′ : List ℕ) (p offsets n lines count : ℕ) 
   pub entries : linesOf w′ (r .lines) (r .«line_count») ≡ dropNeighbours sameRow (sortRows (linesOf w lines count))
   pub ranges : rangesOf w′ (r .sequences) (r .«sequence_count») ≡ map (withOffset (offsetsAt w offsets n)) (sequencesFrom (rowsFrom main p) 0 none)
   pub rows : RowsIn w′ r
-  pub sequences : r .lines + r .«line_count» * 25 ≤ r .sequences
-  pub within : r .buffer + 16 + r .«line_count» * 16 ≤ lines + count * 50 + 25 * length (sequencesFrom (rowsFrom main p) 0 none) + 16
-  pub rest : Kept w w′ lines (count * 50 + 25 * length (sequencesFrom (rowsFrom main p) 0 none) + 16)
+  pub sequences : r .lines + r .«line_count» * lineSize ≤ r .sequences
+  pub within : r .buffer + entrySize + r .«line_count» * entrySize
+      ≤ lines + count * rowRoom + rangeSize * length (sequencesFrom (rowsFrom main p) 0 none) + entrySize
+  pub rest : Kept w w′ lines (count * rowRoom + rangeSize * length (sequencesFrom (rowsFrom main p) 0 none) + entrySize)
 
 -- what collectHeader makes of a run, with the sequences' offsets, the file table and the unit's map
 abbrev pub finishRun : CompilationUnit → LineHeader → List ℕ → FileTable → FileIndices → Run → Outcome Collected
@@ -131,8 +133,8 @@ pub record Finished (main supplementary w w′ files files′ warnings warnings�
   pub rows : RowsIn w′ l
   pub map : is ≡ c .indices
   pub from : l .lines ≡ c .lines
-  pub sequences : l .lines + l .«line_count» * 25 ≤ l .sequences
-  pub within : l .buffer + 16 + l .«line_count» * 16 ≤ c .lines + 50 * rowsOf main c + 16
+  pub sequences : l .lines + l .«line_count» * lineSize ≤ l .sequences
+  pub within : l .buffer + entrySize + l .«line_count» * entrySize ≤ c .lines + rowRoom * rowsOf main c + entrySize
 
 abbrev pub FinishesBy : List ℕ → List ℕ → List ℕ → List ℕ → List ℕ → List ℕ → List ℕ → List ℕ → Conversion → StoredFiles → ℕ → CollectedLines → Type 0
 FinishesBy main supplementary w w′ files files′ warnings warnings′ c t warned (CollectedLines.Refused n) =
@@ -143,4 +145,4 @@ FinishesBy main supplementary w w′ files files′ warnings warnings′ c t war
 -- the unit's rows were converted, and its lines and sequences stored; a refusal too keeps what lies outside the file table, the unit's map and the room behind it
 pub record FinishesLines (main supplementary w w′ files files′ warnings warnings′ : List ℕ) (c : Conversion) (t : StoredFiles) (warned : ℕ) (r : CollectedLines) : Type 0 where
   pub is : FinishesBy main supplementary w w′ files files′ warnings warnings′ c t warned r
-  pub rest : KeptBut w w′ ((t .base, extent t) ∷ (c .indices .base, c .indices .count * 5) ∷ (c .lines, 50 * rowsOf main c + 16) ∷ [])
+  pub rest : KeptBut w w′ ((t .base, extent t) ∷ (c .indices .base, c .indices .count * 5) ∷ (c .lines, rowRoom * rowsOf main c + entrySize) ∷ [])

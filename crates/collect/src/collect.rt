@@ -19,6 +19,7 @@ ghost use Rattle.collect.specs.Passes.{rowsFrom, countRows, sequencesFro
 ghost use Rattle.collect.specs.Converts.{ConversionIn};
 ghost use Rattle.collect.specs.Stages.{HeaderRead, UnitCounted, UnitRoom, InternsUnit, ConversionOf, StoresLines, FinishesLines};
 ghost use Rattle.collect.specs.Collects.{UnitIn, LinesRoom, CollectsLines};
+ghost use Rattle.rows.specs.Sizes.{entrySize, rangeSize, rowRoom};
 use crate::convert::Conversion;
 use crate::convert::ConvertedRow;
 use crate::convert::Converting;
@@ -32,6 +33,8 @@ use files::pieces::FileUnit;
 use files::store::StoredFiles;
 use lines::lines::Header;
 use lines::lines::Scan;
+use rows::line::LINE_SIZE;
+use rows::line::RANGE_SIZE;
 use rows::unit_lines::StoredLines;
 use tlv::access::Own;
 
@@ -178,12 +181,12 @@ fn store_lines(
 ) -> StoredLines
     requires { ⌜ Placed (now main) p ⌝ }
     requires { ⌜ offsets + n * 8 ≤ lines ⌝ }
-    requires { ⌜ lines + count * 50 + 25 * length (sequencesFrom (rowsFrom (now main) p) 0 none) + 16 ≤ length (now work) ⌝ }
+    requires { ⌜ lines + count * rowRoom + rangeSize * length (sequencesFrom (rowsFrom (now main) p) 0 none) + entrySize ≤ length (now work) ⌝ }
     ensures { λ r. ⌜ StoresLines (now (main .entry)) (now (work .entry)) (now (work .exit)) p offsets n lines count r ⌝ }
 {
-    let sequences = lines + count * 25;
+    let sequences = lines + count * LINE_SIZE;
     let sequence_count = collect_sequences(main, p, work, offsets, n, sequences);
-    let buffer = sequences + sequence_count * 25;
+    let buffer = sequences + sequence_count * RANGE_SIZE;
     rows::sort::sort_rows(work, lines, buffer, count);
     let line_count = rows::normalize::dedup_rows(work, lines, count);
     StoredLines {
@@ -210,7 +213,7 @@ fn finish_lines(
 ) -> CollectedLines
     requires { ⌜ ConversionIn (now main) (now supplementary) (now work) c (record { table = t; count = 0; warned = warned }) ⌝ }
     requires { ⌜ countRows (rowsFrom (now main) (c .unit .place + 21)) 0 0 0 ≡ done (record { lines = n; sequences = m }) ⌝ }
-    requires { ⌜ c .lines + 50 * length (rowsFrom (now main) (c .unit .place + 21)) + 16 ≤ length (now work) ⌝ }
+    requires { ⌜ c .lines + rowRoom * length (rowsFrom (now main) (c .unit .place + 21)) + entrySize ≤ length (now work) ⌝ }
     ensures { λ r. ⌜ FinishesLines (now (main .entry)) (now (supplementary .entry)) (now (work .entry)) (now (work .exit)) (now (files .entry)) (now (files .exit)) (now (warnings .entry)) (now (warnings .exit)) c t warned r ⌝ }
 {
     let noted = warn_mismatch(warnings, warned, m, c.offset_count);

@@ -3,12 +3,14 @@ ghost use mathlib.Core.Path.{_≡_};
 ghost use mathlib.Core.Option.{none};
 ghost use Prim.Native.Nat.{_+_, _*_, _≤_, _<_};
 ghost use lib.ListN.{length};
+ghost use Rattle.tlv.specs.Grammar.{rowFieldSize};
 ghost use Rattle.tlv.specs.Model.{rowOf};
 ghost use Rattle.tlv.specs.Table.{chunk};
 ghost use Rattle.lines.specs.Files.{get};
 ghost use Rattle.lines.specs.Lines.{rawLine};
 ghost use Rattle.files.specs.Indices.{indicesIn};
 ghost use Rattle.collect.specs.Converts.{ConversionIn, rawOf, zeroOf, listedOf, soughtOf, LineAppended, LineConverted, ConvertsKnown, RowConverts, RowsConvert};
+ghost use Rattle.rows.specs.Sizes.{lineSize};
 use files::index::FileNumber;
 use files::index::FoundIndex;
 use files::index::StoredIndices;
@@ -16,7 +18,9 @@ use files::intern::InternedFile;
 use files::pieces::FileUnit;
 use files::pieces::Span;
 use files::store::StoredFiles;
+use rows::line::LINE_SIZE;
 use tlv::access::Own;
+use tlv::grammar::ROW_KIND;
 use tlv::model::DebugSource;
 
 // The unit, its file 0 before version 5, its map of file numbers, the table of its sequences' offsets, and where its lines go.
@@ -105,7 +109,7 @@ fn sought_file(c: Conversion, file: FileNumber) -> SoughtFile
 // Appends the line of a row whose file has a number and whose line fits 32 bits.
 fn append_line(c: Conversion, row: Row, index: tlv::model::FileIndex, work: &mut [u8], count: usize)
     requires { ⌜ c .offsets + c .«offset_count» * 8 ≤ length (now work) ⌝ }
-    requires { ⌜ c .lines + count * 25 + 25 ≤ length (now work) ⌝ }
+    requires { ⌜ c .lines + count * lineSize + lineSize ≤ length (now work) ⌝ }
     requires { ⌜ row .line < 4294967296 ⌝ }
     ensures { λ _. ⌜ LineAppended (now (work .entry)) (now (work .exit)) c row index count ⌝ }
 {
@@ -115,7 +119,7 @@ fn append_line(c: Conversion, row: Row, index: tlv::model::FileIndex, work: &mut
         file: index,
         line: row.line as u32,
     };
-    rows::line::put_line(work, c.lines + count * 25, entry, offset);
+    rows::line::put_line(work, c.lines + count * LINE_SIZE, entry, offset);
 }
 
 // Appends the line of a row whose file has a number; a line past 32 bits warns.
@@ -128,7 +132,7 @@ fn convert_line(
     st: Converting,
 ) -> Converting
     requires { ⌜ c .offsets + c .«offset_count» * 8 ≤ length (now work) ⌝ }
-    requires { ⌜ c .lines + st .count * 25 + 25 ≤ length (now work) ⌝ }
+    requires { ⌜ c .lines + st .count * lineSize + lineSize ≤ length (now work) ⌝ }
     ensures { λ r. ⌜ LineConverted (now (work .entry)) (now (work .exit)) (now (warnings .entry)) (now (warnings .exit)) c st row index r ⌝ }
 {
     let table = st.table;
@@ -164,7 +168,7 @@ fn convert_zero(
     st: Converting,
 ) -> ConvertedRow
     requires { ⌜ ConversionIn (now main) (now supplementary) (now work) c st ⌝ }
-    requires { ⌜ c .lines + st .count * 25 + 25 ≤ length (now work) ⌝ }
+    requires { ⌜ c .lines + st .count * lineSize + lineSize ≤ length (now work) ⌝ }
     requires { ⌜ get (indicesIn (now work) (c .indices)) (row .file .0) ≡ none ⌝ }
     requires { ⌜ SoughtFile.Zero file ≡ soughtOf c (row .file .0) ⌝ }
     ensures { λ r. ⌜ RowConverts (now (main .entry)) (now (supplementary .entry)) (now (work .entry)) (now (work .exit)) (now (files .entry)) (now (files .exit)) (now (warnings .entry)) (now (warnings .exit)) c st row r ⌝ }
@@ -216,7 +220,7 @@ fn convert_unknown(
     st: Converting,
 ) -> ConvertedRow
     requires { ⌜ ConversionIn (now main) (now supplementary) (now work) c st ⌝ }
-    requires { ⌜ c .lines + st .count * 25 + 25 ≤ length (now work) ⌝ }
+    requires { ⌜ c .lines + st .count * lineSize + lineSize ≤ length (now work) ⌝ }
     requires { ⌜ get (indicesIn (now work) (c .indices)) (row .file .0) ≡ none ⌝ }
     ensures { λ r. ⌜ RowConverts (now (main .entry)) (now (supplementary .entry)) (now (work .entry)) (now (work .exit)) (now (files .entry)) (now (files .exit)) (now (warnings .entry)) (now (warnings .exit)) c st row r ⌝ }
 {
@@ -252,7 +256,7 @@ pub fn convert_row(
     st: Converting,
 ) -> ConvertedRow
     requires { ⌜ ConversionIn (now main) (now supplementary) (now work) c st ⌝ }
-    requires { ⌜ c .lines + st .count * 25 + 25 ≤ length (now work) ⌝ }
+    requires { ⌜ c .lines + st .count * lineSize + lineSize ≤ length (now work) ⌝ }
     ensures { λ r. ⌜ RowConverts (now (main .entry)) (now (supplementary .entry)) (now (work .entry)) (now (work .exit)) (now (files .entry)) (now (files .exit)) (now (warnings .entry)) (now (warnings .exit)) c st row r ⌝ }
 {
     let indices = c.indices;
@@ -265,8 +269,8 @@ pub fn convert_row(
 
 // The row whose payload starts at a place, of the sequence of a number.
 fn read_row(main: &[u8], start: usize, sequence: usize) -> Row
-    requires { ⌜ start + 25 ≤ length (now main) ⌝ }
-    ensures { λ r. ⌜ rawOf r ≡ rawLine (rowOf (chunk (now (main .entry)) start 25)) sequence ⌝ }
+    requires { ⌜ start + rowFieldSize ≤ length (now main) ⌝ }
+    ensures { λ r. ⌜ rawOf r ≡ rawLine (rowOf (chunk (now (main .entry)) start rowFieldSize)) sequence ⌝ }
 {
     let address = tlv::bytes::read_u64(main, start);
     let file = tlv::bytes::read_u64(main, start + 8);
@@ -283,7 +287,7 @@ fn read_row(main: &[u8], start: usize, sequence: usize) -> Row
 fn convert_known(c: Conversion, row: Row, work: &mut [u8], count: usize) -> bool
     requires { ⌜ c .indices .base + c .indices .count * 5 ≤ length (now work) ⌝ }
     requires { ⌜ c .offsets + c .«offset_count» * 8 ≤ length (now work) ⌝ }
-    requires { ⌜ c .lines + count * 25 + 25 ≤ length (now work) ⌝ }
+    requires { ⌜ c .lines + count * lineSize + lineSize ≤ length (now work) ⌝ }
     ensures { λ r. ⌜ ConvertsKnown (now (work .entry)) (now (work .exit)) c row count r ⌝ }
 {
     let indices = c.indices;
@@ -310,7 +314,7 @@ pub fn convert_rows(
     st: Converting,
 ) -> ConvertedRow
     requires { ⌜ ConversionIn (now main) (now supplementary) (now work) c st ⌝ }
-    requires { ⌜ c .lines + st .count * 25 + left * 25 ≤ length (now work) ⌝ }
+    requires { ⌜ c .lines + st .count * lineSize + left * lineSize ≤ length (now work) ⌝ }
     ensures { λ r. ⌜ RowsConvert (now (main .entry)) (now (supplementary .entry)) (now (work .entry)) (now (work .exit)) (now (files .entry)) (now (files .exit)) (now (warnings .entry)) (now (warnings .exit)) c st left r ⌝ }
 {
     let unit = c.unit;
@@ -331,7 +335,7 @@ pub fn convert_rows(
             return ConvertedRow::Next(state);
         };
         let row = read_row(main, start, sequence);
-        if tlv::bytes::read_u8(main, start + 24) == 1 {
+        if tlv::bytes::read_u8(main, start + ROW_KIND) == 1 {
             sequence += 1;
             at = next;
         } else if convert_known(c, row, work, state.count) {

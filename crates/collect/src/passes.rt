@@ -5,9 +5,12 @@ ghost use Prim.Native.Nat.{_+_, _*_, _≤_};
 ghost use lib.ListN.{length};
 ghost use Rattle.tlv.specs.Checked.{Placed};
 ghost use Rattle.tlv.specs.Lists.{at};
+ghost use Rattle.rows.specs.Sizes.{rangeSize};
 ghost use Rattle.rows.specs.Stored.{sequenceOf};
 ghost use Rattle.collect.specs.Passes.{rowsFrom, countRows, countedOf, offsetsAt, sequencesFrom, SequencePut, SequencesIn};
+use rows::line::RANGE_SIZE;
 use tlv::access::Own;
+use tlv::grammar::ROW_KIND;
 
 // How many rows stand in finished sequences, and how many sequences are finished; or that a row could not be read.
 pub enum CountedRows {
@@ -37,7 +40,7 @@ pub fn count_rows(s: &[u8], p: usize) -> CountedRows
                 len: _,
                 next,
             } => {
-                let kind = tlv::bytes::read_u8(s, start + 24);
+                let kind = tlv::bytes::read_u8(s, start + ROW_KIND);
                 if kind == 2 {
                     return CountedRows::Failed;
                 }
@@ -82,7 +85,7 @@ fn put_sequence_record(
     end: u64,
 )
     requires { ⌜ offsets + n * 8 ≤ p ⌝ }
-    requires { ⌜ p + 25 ≤ length (now work) ⌝ }
+    requires { ⌜ p + rangeSize ≤ length (now work) ⌝ }
     ensures { λ _. ⌜ SequencePut (now (work .entry)) (now (work .exit)) p offsets n (record { range = record { start = start; end = end }; sequence = sequence }) ⌝ }
 {
     let offset = sequence_offset(work, offsets, n, sequence);
@@ -104,7 +107,7 @@ pub fn collect_sequences(
 ) -> usize
     requires { ⌜ Placed (now s) p ⌝ }
     requires { ⌜ offsets + n * 8 ≤ base ⌝ }
-    requires { ⌜ base + 25 * length (sequencesFrom (rowsFrom (now s) p) 0 none) ≤ length (now work) ⌝ }
+    requires { ⌜ base + rangeSize * length (sequencesFrom (rowsFrom (now s) p) 0 none) ≤ length (now work) ⌝ }
     ensures { λ r. ⌜ SequencesIn (now (s .entry)) (now (work .entry)) (now (work .exit)) p offsets n base r ⌝ }
 {
     let mut at = p;
@@ -121,11 +124,19 @@ pub fn collect_sequences(
         else {
             return count;
         };
-        let kind = tlv::bytes::read_u8(s, row + 24);
+        let kind = tlv::bytes::read_u8(s, row + ROW_KIND);
         let address = tlv::bytes::read_u64(s, row);
         if kind == 1 {
             if start < address {
-                put_sequence_record(work, offsets, n, k, base + count * 25, start, address);
+                put_sequence_record(
+                    work,
+                    offsets,
+                    n,
+                    k,
+                    base + count * RANGE_SIZE,
+                    start,
+                    address,
+                );
                 count += 1;
                 k += 1;
                 opened = false;

@@ -16,6 +16,7 @@ use Rattle.tlv.proofs.RecordLaws.{records-but}
 use Rattle.files.specs.declared.store.StoredFiles.{StoredFiles}
 use Rattle.files.specs.Store.{extent, FilesIn}
 use Rattle.files.specs.Indices.{indexOf, indicesOf, indicesIn}
+use Rattle.rows.specs.Sizes.{entrySize, lineSize, rangeSize}
 use Rattle.rows.specs.Stored.{lineOf, linesOf, rangeOf, rangesOf}
 use Rattle.collect.specs.Collects.{linesIn}
 use Rattle.references.specs.declared.tables.Index.{Index}
@@ -57,12 +58,13 @@ module _ {main supplementary : List ℕ} {q : ImportContext} {t : StoredFiles} (
   -- where the unit's map, rows and sequences stand
   below-rows : (p k : ℕ) → q .places .indices .base ≤ p → p + k ≤ q .lines .buffer → Clear p k (touched main supplementary q t)
   below-rows p k h g =
-      let up : q .lines .buffer + (16 + q .lines .«line_count» * 16) ≤ q .places .spans = omega (arith, O .buffer, O .text) in
+      let up : q .lines .buffer + (entrySize + q .lines .«line_count» * entrySize) ≤ q .places .spans = omega (arith, O .buffer, O .text) in
       let far : q .places .spans ≤ q .ranges = omega (arith, O .spans-main-units, O .main-units) in
       (inr (omega (arith, O .table)), (inl g, (inl (omega arith), (inl (omega arith), tt))))
 
   -- the executable ranges
-  below-spans : (p k : ℕ) → q .lines .buffer + 16 + q .lines .«line_count» * 16 ≤ p → p + k ≤ q .places .spans → Clear p k (touched main supplementary q t)
+  below-spans : (p k : ℕ) → q .lines .buffer + entrySize + q .lines .«line_count» * entrySize ≤ p → p + k ≤ q .places .spans
+      → Clear p k (touched main supplementary q t)
   below-spans p k h g =
       let down : t .base + extent t ≤ q .lines .buffer = omega (arith, O .table, O .indices, O .lines, O .sequences) in
       let far : q .places .spans ≤ q .ranges = omega (arith, O .spans-main-units, O .main-units) in
@@ -72,7 +74,7 @@ module _ {main supplementary : List ℕ} {q : ImportContext} {t : StoredFiles} (
   below-walk : (p k : ℕ) → q .places .spans + q .places .room ≤ p → p + k ≤ q .ranges → Clear p k (touched main supplementary q t)
   below-walk p k h g =
       let down : t .base + extent t ≤ q .lines .buffer = omega (arith, O .table, O .indices, O .lines, O .sequences) in
-      let up : q .lines .buffer + (16 + q .lines .«line_count» * 16) ≤ q .places .spans = omega (arith, O .buffer, O .text) in
+      let up : q .lines .buffer + (entrySize + q .lines .«line_count» * entrySize) ≤ q .places .spans = omega (arith, O .buffer, O .text) in
       (inr (omega arith), (inr (omega arith), (inr h, (inl g, tt))))
 
 -- ---- what stays
@@ -95,13 +97,15 @@ module _ {main supplementary w w′ : List ℕ} {q : ImportContext} {t : StoredF
   unfolding linesOf
   lines-same =
       let O = C .ordered in
-      records-but lineOf 25 (q .lines .lines) (q .lines .«line_count») K (below-rows O _ _ (omega (arith, O .indices)) (omega (arith, O .lines, O .sequences)))
+      records-but lineOf lineSize (q .lines .lines) (q .lines .«line_count») K
+      (below-rows O _ _ (omega (arith, O .indices)) (omega (arith, O .lines, O .sequences)))
 
   sequences-same : rangesOf w′ (q .lines .sequences) (q .lines .«sequence_count») ≡ rangesOf w (q .lines .sequences) (q .lines .«sequence_count»)
   unfolding rangesOf
   sequences-same =
       let O = C .ordered in
-      records-but rangeOf 25 (q .lines .sequences) (q .lines .«sequence_count») K (below-rows O _ _ (omega (arith, O .indices, O .lines)) (O .sequences))
+      records-but rangeOf rangeSize (q .lines .sequences) (q .lines .«sequence_count») K
+      (below-rows O _ _ (omega (arith, O .indices, O .lines)) (O .sequences))
 
   map-same : indicesIn w′ (q .places .indices) ≡ indicesIn w (q .places .indices)
   unfolding indicesOf
@@ -165,7 +169,7 @@ touched-as main supplementary q t t′ b r K = record { same = λ p k c. K .same
 
 module _ (main supplementary : List ℕ) {w w′ : List ℕ} (q : ImportContext) (t : StoredFiles) where
   -- the rows of a function
-  pub touched-rows : Kept w w′ (q .lines .buffer) (16 + q .lines .«line_count» * 16) → KeptBut w w′ (touched main supplementary q t)
+  pub touched-rows : Kept w w′ (q .lines .buffer) (entrySize + q .lines .«line_count» * entrySize) → KeptBut w w′ (touched main supplementary q t)
   touched-rows K = but-of K (there (here (le-refl _) (le-refl _)))
 
   -- the walk's part

@@ -25,6 +25,7 @@ use Rattle.lines.specs.Rows.{contains, belongs, compactLineRows, ownRows, earli
 use Rattle.rows.specs.declared.line.StatementSequence.{StatementSequence}
 use Rattle.rows.specs.declared.«unit_lines».StoredLines.{StoredLines}
 use Rattle.rows.specs.declared.«unit_lines».FunctionRows.{FunctionRows}
+use Rattle.rows.specs.Sizes.{entrySize}
 use Rattle.rows.specs.Stored.{sequenceOf, entryOf, entriesOf}
 use Rattle.rows.specs.Selects.{unitLinesOf, ForRange}
 use Rattle.rows.proofs.StoredLaws.{entries-length, entries-nil, entries-rest-none, entries-rest-cons}
@@ -51,7 +52,7 @@ pub lines-laid : (w : List ℕ) (p n i : ℕ) → n ≤ i → linesBytes (drop i
 unfolding eachOf
 lines-laid w p n i h = rw (entries-rest-none w p n i h)
 
-pub lines-lay : (w : List ℕ) (p n i : ℕ) (l : LineEntry) → i < n → l ≡ entryOf (chunk w (p + i * 16) 16)
+pub lines-lay : (w : List ℕ) (p n i : ℕ) (l : LineEntry) → i < n → l ≡ entryOf (chunk w (p + i * entrySize) entrySize)
     → linesBytes (drop i (entriesOf w p n)) ≡ encode 0x42 (rowPayload l) ++ linesBytes (drop (i + 1) (entriesOf w p n))
 unfolding eachOf
 lines-lay w p n i l h e = ap (λ (ls : List LineEntry). linesBytes ls) (entries-rest-cons w p n i h) ∙ rw e
@@ -166,10 +167,10 @@ module _ {main supplementary w w₁ u u₁ : List ℕ} {q : ImportContext} (st :
       }
 
   -- what the rows were written to lies apart from the file table
-  written : KeptBut w w₁ ((q .lines .buffer, 16 + q .lines .«line_count» * 16) ∷ [])
+  written : KeptBut w w₁ ((q .lines .buffer, entrySize + q .lines .«line_count» * entrySize) ∷ [])
   written = but-one (R .rest)
 
-  apart : Clear (st .table .base) (extent (st .table)) ((q .lines .buffer, 16 + q .lines .«line_count» * 16) ∷ [])
+  apart : Clear (st .table .base) (extent (st .table)) ((q .lines .buffer, entrySize + q .lines .«line_count» * entrySize) ∷ [])
   apart = (inl (omega (arith, C .ordered .table, C .ordered .indices, C .ordered .lines, C .ordered .sequences)), tt)
 
   rows-touched : KeptBut w w₁ (touched main supplementary q (st .table))
@@ -181,7 +182,7 @@ module _ {main supplementary w w₁ u u₁ : List ℕ} {q : ImportContext} (st :
   pub context-next : length w₁ ≡ length w → ContextIn main supplementary w₁ q (st .table)
   context-next size = context-kept C rows-touched size refl refl (files-kept (C .files) written apart size)
 
-  pub rows-within : length w₁ ≡ length w → own .rows + own .count * 16 ≤ length w₁
+  pub rows-within : length w₁ ≡ length w → own .rows + own .count * entrySize ≤ length w₁
   rows-within size = omega (arith, R .within, C .rows .buffer)
 
   -- the warning was laid, or there was none

@@ -17,6 +17,7 @@ use Rattle.dies.specs.DetailState.{Accepted}
 use Rattle.dwarf.specs.declared.layout.Counts.{Counts}
 use Rattle.dwarf.specs.declared.layout.Layout.{Layout}
 use Rattle.dwarf.specs.Layout.{countOf, Sized, UnitOf, mapExtent, LaidOut}
+use Rattle.rows.specs.Sizes.{entrySize, rowRoom}
 use Rattle.dwarf.proofs.CountLaws.{totalOf, total-few, total-small, text-few}
 
 -- ---- the places, from the counts m of the main input, s of the supplementary one, and x, a third of the program's length
@@ -33,7 +34,7 @@ module _ (m s : Counts) where
 
 module _ (m s : Counts) (x : ℕ) where
   abbrev textAt : ℕ
-  textAt = linesAt m s + x * 8 + 8 * m .directories + 5 * (1 + m .files) + 50 * m .rows + 16
+  textAt = linesAt m s + x * 8 + 8 * m .directories + 5 * (1 + m .files) + rowRoom * m .rows + entrySize
 
   abbrev spansAt : ℕ
   spansAt = textAt + 16 * m .text
@@ -87,7 +88,7 @@ module _ (m s : Counts) (x : ℕ) where
 -- ---- what a unit needs is no more than what its input can bring
 
 lines-most : (l x d f r d′ f′ r′ : ℕ) → d ≤ d′ → f ≤ f′ → r ≤ r′
-    → l + (x * 8 + 8 * d + 5 * (1 + f) + 50 * r + 16) ≤ l + x * 8 + 8 * d′ + 5 * (1 + f′) + 50 * r′ + 16
+    → l + (x * 8 + 8 * d + 5 * (1 + f) + rowRoom * r + entrySize) ≤ l + x * 8 + 8 * d′ + 5 * (1 + f′) + rowRoom * r′ + entrySize
 lines-most l x d f r d′ f′ r′ a b c = omega arith
 
 map-most : (d f a b a′ b′ : ℕ) → d ≤ a + a′ → f ≤ b + b′ → 8 * d + 5 * (1 + f) ≤ 8 * (a + a′) + 5 * (1 + b + b′)
@@ -111,7 +112,7 @@ module _ {main supplementary : List ℕ} {m s : Counts} (M : Sized main m) (S : 
       (omega (arith, directories-few supplementary q any, S .directories)) (omega (arith, files-few-in supplementary q any, S .files))
 
 lines-fit : {main : List ℕ} {m : Counts} (l : ℕ) (program : List ℕ) → Sized main m → (q : ℕ) → UnitOf main q
-    → l + linesExtent main q program ≤ l + length program / 3 * 8 + 8 * m .directories + 5 * (1 + m .files) + 50 * m .rows + 16
+    → l + linesExtent main q program ≤ l + length program / 3 * 8 + 8 * m .directories + 5 * (1 + m .files) + rowRoom * m .rows + entrySize
 unfolding linesExtent
 lines-fit {main} {m} l program M q any =
     lines-most l (length program / 3) _ _ _ (m .directories) (m .files) (m .rows)

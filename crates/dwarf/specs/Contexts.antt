@@ -5,6 +5,7 @@ use Prim.Native.Nat.{ℕ, _+_, _-_, _*_, _≤_}
 use Rattle.tlv.specs.Places.{unitHere}
 use Rattle.files.specs.declared.store.StoredFiles.{StoredFiles}
 use Rattle.files.specs.Store.{extent, FilesIn}
+use Rattle.rows.specs.Sizes.{entrySize, lineSize, rangeSize}
 use Rattle.rows.specs.Selects.{RowsIn}
 use Rattle.collect.specs.Collects.{UnitIn, linesIn}
 use Rattle.references.specs.Names.{dwarfOf, SearchIn}
@@ -30,9 +31,9 @@ contextOf main supplementary w q = record {
 pub record Ordered (main supplementary : List ℕ) (q : ImportContext) (t : StoredFiles) : Type 0 where
   pub table : t .base + extent t ≤ q .places .indices .base
   pub indices : q .places .indices .base + q .places .indices .count * 5 ≤ q .lines .lines
-  pub lines : q .lines .lines + q .lines .«line_count» * 25 ≤ q .lines .sequences
-  pub sequences : q .lines .sequences + q .lines .«sequence_count» * 25 ≤ q .lines .buffer
-  pub buffer : q .lines .buffer + 16 + q .lines .«line_count» * 16 ≤ q .text
+  pub lines : q .lines .lines + q .lines .«line_count» * lineSize ≤ q .lines .sequences
+  pub sequences : q .lines .sequences + q .lines .«sequence_count» * rangeSize ≤ q .lines .buffer
+  pub buffer : q .lines .buffer + entrySize + q .lines .«line_count» * entrySize ≤ q .text
   pub text : q .text + q .«text_count» * 16 ≤ q .places .spans
   pub spans-main-units : q .places .spans + q .places .room ≤ q .places .tables .main .units
   pub spans-main-entries : q .places .spans + q .places .room ≤ q .places .tables .main .entries
@@ -64,5 +65,5 @@ walkExtent main supplementary q = q .places .tables .keys + keysExtent main supp
 -- what an import of ranges writes to: the file table, the rows of a function, the room for a unit that is reached, the walk's part
 abbrev pub touched : List ℕ → List ℕ → ImportContext → StoredFiles → List (ℕ × ℕ)
 touched main supplementary q t =
-    (t .base, extent t) ∷ (q .lines .buffer, 16 + q .lines .«line_count» * 16) ∷ (q .places .spans, q .places .room)
+    (t .base, extent t) ∷ (q .lines .buffer, entrySize + q .lines .«line_count» * entrySize) ∷ (q .places .spans, q .places .room)
     ∷ (q .ranges, walkExtent main supplementary q) ∷ []

@@ -17,6 +17,7 @@ use Rattle.files.specs.declared.index.StoredIndices.{StoredIndices}
 use Rattle.files.specs.declared.store.StoredFiles.{StoredFiles}
 use Rattle.files.specs.Store.{extent, entriesOf, tableOf, FilesIn}
 use Rattle.rows.specs.declared.«unit_lines».StoredLines.{StoredLines}
+use Rattle.rows.specs.Sizes.{entrySize, lineSize}
 use Rattle.rows.specs.Selects.{RowsIn}
 use Rattle.references.specs.declared.tables.Index.{Index}
 use Rattle.references.specs.Tables.{IndexIn}
@@ -50,8 +51,8 @@ pub record LinesLaid (main supplementary w : List ℕ) (l : Layout) (lines : Sto
   pub rows : RowsIn w lines
   pub from : l .lines ≤ indices .base
   pub map : indices .base + indices .count * 5 ≤ lines .lines
-  pub sequences : lines .lines + lines .«line_count» * 25 ≤ lines .sequences
-  pub within : lines .buffer + 16 + lines .«line_count» * 16 ≤ l .text
+  pub sequences : lines .lines + lines .«line_count» * lineSize ≤ lines .sequences
+  pub within : lines .buffer + entrySize + lines .«line_count» * entrySize ≤ l .text
 
 -- the context of an import was made behind the unit's lines, which stay as they are
 pub record MakesContext (main supplementary w w′ : List ℕ) (l : Layout) (unit : ℕ) (lines : StoredLines) (indices : StoredIndices) (inlines callSites : Bool) (q : ImportContext) : Type 0 where

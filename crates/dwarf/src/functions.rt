@@ -7,6 +7,7 @@ ghost use lib.Dec.{eqb};
 ghost use lib.ListN.{length};
 ghost use Rattle.tlv.specs.Buffer.{Put, top};
 ghost use Rattle.tlv.specs.Places.{entryHere, unitHere};
+ghost use Rattle.rows.specs.Sizes.{entrySize};
 ghost use Rattle.rows.specs.Stored.{sequenceOf, entriesOf};
 ghost use Rattle.collect.specs.Collects.{UnitIn};
 ghost use Rattle.references.specs.Tables.{EntryKnown};
@@ -25,6 +26,7 @@ use dies::dies::Warned;
 use files::store::StoredFiles;
 use references::declarations::Declared;
 use references::declarations::DeclaringState;
+use rows::line::ENTRY_SIZE;
 use rows::line::StatementSequence;
 use tlv::access::Value;
 use tlv::model::AddressRange;
@@ -112,14 +114,14 @@ fn warn_sequence(
 
 // The n rows at `from`, as fields 42.
 fn put_lines(records: &mut [u8], at: usize, work: &[u8], from: usize, n: usize) -> usize
-    requires { ⌜ from + n * 16 ≤ length (now work) ⌝ }
+    requires { ⌜ from + n * entrySize ≤ length (now work) ⌝ }
     requires { ⌜ at ≤ top ⌝ }
     ensures { λ r. ⌜ Put at (linesBytes (entriesOf (now (work .entry)) from n)) (now (records .entry)) (now (records .exit)) r ⌝ }
 {
     let mut place = at;
     let mut i = 0;
     while i < n {
-        let line = rows::line::entry_at(work, from + i * 16);
+        let line = rows::line::entry_at(work, from + i * ENTRY_SIZE);
         place = tlv::output::put_line(records, place, line);
         i += 1;
     }

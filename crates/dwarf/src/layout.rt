@@ -4,6 +4,8 @@ ghost use lib.ListN.{length};
 ghost use Rattle.tlv.specs.Limits.{programLimit};
 ghost use Rattle.dies.specs.DetailState.{Accepted};
 ghost use Rattle.dwarf.specs.Layout.{TagsCounted, Sized, LaidOut};
+use rows::line::ENTRY_SIZE;
+use rows::line::ROW_ROOM;
 use tlv::fields::Step;
 
 // The places, from low to high: the file table with its room for files at 0, the unit's lines, its executable ranges, what a unit that is reached
@@ -100,8 +102,8 @@ pub fn lay_out(main: &[u8], supplementary: &[u8], program: &[u8]) -> Layout
         + program.len() / 3 * 8
         + 8 * m.directories
         + 5 * (1 + m.files)
-        + 50 * m.rows
-        + 16;
+        + ROW_ROOM * m.rows
+        + ENTRY_SIZE;
     let spans = text + 16 * m.text;
     let span_room = 8 * (m.directories + s.directories) + 5 * (1 + m.files + s.files);
     let main_units = spans + span_room;

@@ -1,32 +1,43 @@
 // Calls of a function's own rows, by the loop from the front of a table whose rows may stand in any order.
 ghost use Prim.Native.Nat.{_+_, _*_, _≤_};
 ghost use lib.ListN.{length};
+ghost use Rattle.rows.specs.Sizes.{entrySize, lineSize};
 ghost use Rattle.rows.specs.Selects.{RowsBelow};
+use rows::line::ENTRY_SIZE;
+use rows::line::LINE_SIZE;
 use rows::unit_lines::StoredLines;
+
+// A row in the table, and room for it among a function's rows.
+const STORED: usize = LINE_SIZE + ENTRY_SIZE;
 
 // Stores the `count` rows of a call as they come.
 fn store_rows(call: &[u8], count: usize, work: &mut [u8])
-    requires { ⌜ count * 25 ≤ length (now call) ⌝ }
-    requires { ⌜ count * 25 ≤ length (now work) ⌝ }
+    requires { ⌜ count * lineSize ≤ length (now call) ⌝ }
+    requires { ⌜ count * lineSize ≤ length (now work) ⌝ }
 {
     let mut i = 0;
     while i < count {
-        let p = i * 25;
+        let p = i * LINE_SIZE;
         let entry = rows::line::entry_at(call, p);
-        rows::line::put_line(work, p, entry, rows::line::sequence_at(call, p + 16));
+        rows::line::put_line(
+            work,
+            p,
+            entry,
+            rows::line::sequence_at(call, p + ENTRY_SIZE),
+        );
         i += 1;
     }
 }
 
 // How many of the first `most` rows lie below a range, up to the first that does not.
 fn front_below(work: &[u8], l: StoredLines, range: tlv::model::AddressRange, most: usize) -> usize
-    requires { ⌜ l .lines + l .«line_count» * 25 ≤ length (now work) ⌝ }
+    requires { ⌜ l .lines + l .«line_count» * lineSize ≤ length (now work) ⌝ }
     requires { ⌜ most ≤ l .«line_count» ⌝ }
     ensures { λ r. ⌜ RowsBelow (now (work .entry)) l range r ⌝ }
 {
     let mut i = 0;
     while i < most {
-        let address = rows::line::address_at(work, l.lines + i * 25);
+        let address = rows::line::address_at(work, l.lines + i * LINE_SIZE);
         if range.start <= address {
             return i;
         }
@@ -42,8 +53,8 @@ fn front_below(work: &[u8], l: StoredLines, range: tlv::model::AddressRange, mos
 // false where one of those does not lie below the range.
 fn answer_query(queries: &[u8], p: usize, work: &mut [u8], l: StoredLines) -> bool
     requires { ⌜ p + 29 ≤ length (now queries) ⌝ }
-    requires { ⌜ l .lines + l .«line_count» * 25 ≤ l .buffer ⌝ }
-    requires { ⌜ l .buffer + l .«line_count» * 16 ≤ length (now work) ⌝ }
+    requires { ⌜ l .lines + l .«line_count» * lineSize ≤ l .buffer ⌝ }
+    requires { ⌜ l .buffer + l .«line_count» * entrySize ≤ length (now work) ⌝ }
 {
     let range = tlv::model::AddressRange {
         start: tlv::bytes::read_u64(queries, p),
@@ -66,8 +77,8 @@ fn answer_query(queries: &[u8], p: usize, work: &mut [u8], l: StoredLines) -> bo
 }
 
 fn answer_queries(queries: &[u8], work: &mut [u8], l: StoredLines) -> bool
-    requires { ⌜ l .lines + l .«line_count» * 25 ≤ l .buffer ⌝ }
-    requires { ⌜ l .buffer + l .«line_count» * 16 ≤ length (now work) ⌝ }
+    requires { ⌜ l .lines + l .«line_count» * lineSize ≤ l .buffer ⌝ }
+    requires { ⌜ l .buffer + l .«line_count» * entrySize ≤ length (now work) ⌝ }
 {
     let mut p = 0;
     while 29 <= queries.len() - p {
@@ -85,11 +96,11 @@ pub fn answer_front(call: &[u8], work: &mut [u8]) -> bool {
         return false;
     }
     let count = tlv::bytes::read_u32(call, 0) as usize;
-    let end = 4 + count * 25;
+    let end = 4 + count * LINE_SIZE;
     if call.len() < end {
         return false;
     }
-    if work.len() / 41 < count {
+    if work.len() / STORED < count {
         return false;
     }
     store_rows(&call[4..end], count, work);
@@ -100,7 +111,7 @@ pub fn answer_front(call: &[u8], work: &mut [u8]) -> bool {
         line_count: count,
         sequences: 0,
         sequence_count: 0,
-        buffer: count * 25,
+        buffer: count * LINE_SIZE,
     };
     answer_queries(&call[end..], work, l)
 }

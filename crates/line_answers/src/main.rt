@@ -4,10 +4,12 @@ ghost use Prim.Native.Nat.{_+_, _*_, _≤_};
 ghost use lib.ListN.{length};
 ghost use Rattle.tlv.specs.Outcome.{done};
 ghost use Rattle.tlv.specs.Grammar.{checkInput};
+ghost use Rattle.rows.specs.Sizes.{entrySize};
 ghost use Rattle.rows.specs.Selects.{RowsIn};
 ghost use Rattle.collect.specs.Collects.{UnitIn};
 ghost use Rattle.line_answers.specs.Answers.{Room, HasRoom, CollectedRows};
 use collect::collect::CollectedLines;
+use rows::line::ENTRY_SIZE;
 use rows::unit_lines::StoredLines;
 
 mod front;
@@ -287,11 +289,11 @@ fn write_entry(entry: tlv::model::LineEntry) {
 
 // The `count` rows that stand at a place.
 fn write_rows(work: &[u8], rows: usize, count: usize)
-    requires { ⌜ rows + count * 16 ≤ length (now work) ⌝ }
+    requires { ⌜ rows + count * entrySize ≤ length (now work) ⌝ }
 {
     let mut i = 0;
     while i < count {
-        write_entry(rows::line::entry_at(work, rows + i * 16));
+        write_entry(rows::line::entry_at(work, rows + i * ENTRY_SIZE));
         i += 1;
     }
 }

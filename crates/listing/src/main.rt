@@ -9,6 +9,9 @@ const INPUT_LIMIT: usize = 16384;
 // The longest line program, likewise.
 const PROGRAM_LIMIT: usize = 2048;
 
+// A row's payload in the records tray.
+const ROW_SIZE: usize = tlv::output::TRAY_ROW as usize;
+
 // Reads the file of a name, as far as the buffer goes, and answers how many bytes came; a file that can't be opened is empty.
 fn read_file(name: &[u8], buffer: &mut [u8]) -> usize {
     let fd = os::open_read(name);
@@ -57,7 +60,7 @@ fn write_function(p: &[u8]) {
 
 // 42: address, file, line.
 fn write_row(p: &[u8]) {
-    if p.len() < 16 {
+    if p.len() < ROW_SIZE {
         return;
     }
     io::write_all(1, b"row ");

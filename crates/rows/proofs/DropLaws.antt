@@ -12,6 +12,7 @@ use Rattle.tlv.proofs.TableLaws.{inside, kept-refl, kept-wide, kept-trans}
 use Rattle.tlv.proofs.RecordLaws.{records-nil, records-suc, records-rest-none, records-rest-cons, records-copy-push}
 use Rattle.lines.specs.Lines.{sameLine, sameRow, dropAfter, dropNeighbours}
 use Rattle.lines.specs.Rows.{compactLineRows}
+use Rattle.rows.specs.Sizes.{entrySize, lineSize}
 use Rattle.rows.specs.Stored.{entryOf, entriesOf, lineOf, linesOf}
 use Rattle.rows.specs.Sorts.{Deduped, Compacted}
 
@@ -130,10 +131,10 @@ module _ {A : Type 0} {f : List ℕ → A} {s : ℕ} {equal : A → A → Bool} 
 
 -- ---- of a unit's rows, and of a function's
 
-pub deduped : {w₀ w : List ℕ} {base n r : ℕ} → Dropped lineOf 25 sameRow w₀ w base n r → Deduped w₀ w base n r
+pub deduped : {w₀ w : List ℕ} {base n r : ℕ} → Dropped lineOf lineSize sameRow w₀ w base n r → Deduped w₀ w base n r
 unfolding linesOf
 deduped d = record { within = d .within; rows = d .rows; rest = d .rest }
 
-pub compacted : {w₀ w : List ℕ} {base n r : ℕ} → Dropped entryOf 16 sameLine w₀ w base n r → Compacted w₀ w base n r
+pub compacted : {w₀ w : List ℕ} {base n r : ℕ} → Dropped entryOf entrySize sameLine w₀ w base n r → Compacted w₀ w base n r
 unfolding entriesOf compactLineRows
 compacted d = record { within = d .within; rows = d .rows; rest = d .rest }

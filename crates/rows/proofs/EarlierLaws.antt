@@ -19,6 +19,7 @@ use Rattle.rows.specs.declared.line.StatementSequence.{StatementSequence
 use Rattle.rows.specs.declared.«unit_lines».StoredLines.{StoredLines}
 use Rattle.rows.specs.declared.«unit_lines».Covering.{Covering}
 use Rattle.rows.specs.declared.«unit_lines».Earlier.{Earlier}
+use Rattle.rows.specs.Sizes.{entrySize, lineSize}
 use Rattle.rows.specs.Stored.{sequenceOf, storedSequence, entryOf, lineAt, linesOf, rangesOf}
 use Rattle.rows.specs.Sorts.{leading}
 use Rattle.rows.specs.Selects.{unitLinesOf, RowsIn, coveringOf, earlierOf}
@@ -52,31 +53,31 @@ back-start {w} {l} {a} {i} s R e =
     }
 
 module _ {w : List ℕ} {base n a i : ℕ} {s : Option ℕ} (B : Backwards w base n a s i) where
-  module _ (own : StatementSequence) {t : Bool} (h : 0 < i) (q : sequenceOf own ≡ storedSequence w (base + (i - 1) * 25 + 16)) (e : t ≡ belongs s (sequenceOf own)) where
-    back-test : earlierThan a s (lineAt w (base + (i - 1) * 25)) ≡ t
+  module _ (own : StatementSequence) {t : Bool} (h : 0 < i) (q : sequenceOf own ≡ storedSequence w (base + (i - 1) * lineSize + entrySize)) (e : t ≡ belongs s (sequenceOf own)) where
+    back-test : earlierThan a s (lineAt w (base + (i - 1) * lineSize)) ≡ t
     back-test =
-        rw (lt-ltb (lineAt w (base + (i - 1) * 25) .entry .address) a (row-below w base n a (i - 1) (omega (arith, B .most)) (omega (arith, B .few))))
-        (ap (belongs s) (line-sequence w (base + (i - 1) * 25) ∙ sym q) ∙ sym e)
+        rw (lt-ltb (lineAt w (base + (i - 1) * lineSize) .entry .address) a (row-below w base n a (i - 1) (omega (arith, B .most)) (omega (arith, B .few))))
+        (ap (belongs s) (line-sequence w (base + (i - 1) * lineSize) ∙ sym q) ∙ sym e)
 
     -- row i - 1 is the last of the i
-    last-row : last (earlierThan a s) (linesOf w base i) ≡ orElse (cond t (some (lineAt w (base + (i - 1) * 25))) none) (last (earlierThan a s) (linesOf w base (i - 1)))
+    last-row : last (earlierThan a s) (linesOf w base i) ≡ orElse (cond t (some (lineAt w (base + (i - 1) * lineSize))) none) (last (earlierThan a s) (linesOf w base (i - 1)))
     unfolding last orElse
     last-row =
         let is : i ≡ i - 1 + 1 = omega arith in
         ap (λ (k : ℕ). last (earlierThan a s) (linesOf w base k)) is
         ∙ ap (last (earlierThan a s)) (lines-suc w base (i - 1))
-        ∙ last-append (earlierThan a s) (linesOf w base (i - 1)) (lineAt w (base + (i - 1) * 25) ∷ [])
+        ∙ last-append (earlierThan a s) (linesOf w base (i - 1)) (lineAt w (base + (i - 1) * lineSize) ∷ [])
         ∙ rw back-test
 
     pub back-next : t ≡ false → Backwards w base n a s (i - 1)
     unfolding orElse
     back-next f = record { few = omega (arith, B .few); most = omega (arith, B .most); left = B .left ∙ last-row ∙ rw f }
 
-    pub back-found : {x : LineEntry} → t ≡ true → x ≡ entryOf (chunk w (base + (i - 1) * 25) 16)
+    pub back-found : {x : LineEntry} → t ≡ true → x ≡ entryOf (chunk w (base + (i - 1) * lineSize) entrySize)
         → earlierOf (Earlier.Row (record { address = a; file = x .file; line = x .line })) ≡ movedTo a (last (earlierThan a s) (linesOf w base n))
     unfolding orElse
     back-found {x} f is =
-        let same : x ≡ lineAt w (base + (i - 1) * 25) .entry = is ∙ sym (line-entry w (base + (i - 1) * 25)) in
+        let same : x ≡ lineAt w (base + (i - 1) * lineSize) .entry = is ∙ sym (line-entry w (base + (i - 1) * lineSize)) in
         rw (B .left, last-row, f, same)
 
   pub back-none : i ≤ 0 → earlierOf Earlier.Missing ≡ movedTo a (last (earlierThan a s) (linesOf w base n))

@@ -11,6 +11,7 @@ use Rattle.tlv.proofs.TestLaws.{by-less}
 use Rattle.tlv.proofs.ListLaws.{all-drop}
 use Rattle.tlv.proofs.RecordLaws.{records-length, records-at}
 use Rattle.lines.specs.Lines.{SequencedLine}
+use Rattle.rows.specs.Sizes.{lineSize}
 use Rattle.rows.specs.Stored.{lineOf, lineAt, linesOf}
 use Rattle.rows.specs.Sorts.{Sorted, leading}
 
@@ -69,19 +70,19 @@ module _ (a : ℕ) where
 module _ (w : List ℕ) (base n a : ℕ) where
   pub leading-most : leading a (linesOf w base n) ≤ n
   unfolding linesOf
-  leading-most = omega (arith, leading-length a (linesOf w base n), records-length lineOf 25 w base n)
+  leading-most = omega (arith, leading-length a (linesOf w base n), records-length lineOf lineSize w base n)
 
   module _ (i : ℕ) (h : i < n) where
-    address-is : getD (linesOf w base n) i (lineOf []) .entry .address ≡ lineAt w (base + i * 25) .entry .address
+    address-is : getD (linesOf w base n) i (lineOf []) .entry .address ≡ lineAt w (base + i * lineSize) .entry .address
     unfolding linesOf lineAt
-    address-is = ap (λ (x : SequencedLine). x .entry .address) (records-at lineOf 25 w base n i (lineOf []) h)
+    address-is = ap (λ (x : SequencedLine). x .entry .address) (records-at lineOf lineSize w base n i (lineOf []) h)
 
     in-table : i < length (linesOf w base n)
     unfolding linesOf
-    in-table = rw (records-length lineOf 25 w base n) h
+    in-table = rw (records-length lineOf lineSize w base n) h
 
     -- a turn of the search: row i has the address v
-    module _ (v : ℕ) (is : v ≡ lineAt w (base + i * 25) .entry .address) where
+    module _ (v : ℕ) (is : v ≡ lineAt w (base + i * lineSize) .entry .address) where
       pub go-up : Sorted 0 (linesOf w base n) → v < a → i + 1 ≤ leading a (linesOf w base n)
       go-up s l = omega (arith, above a (lineOf []) 0 (linesOf w base n) i s in-table (rw (address-is, ← is) l))
 
@@ -89,8 +90,8 @@ module _ (w : List ℕ) (base n a : ℕ) where
       go-down l = not-above a (lineOf []) (linesOf w base n) i in-table (rw (address-is, ← is) l)
 
     -- what the place of a row says of its address
-    pub row-below : i < leading a (linesOf w base n) → lineAt w (base + i * 25) .entry .address < a
-    row-below l = by-less _ (lineAt w (base + i * 25) .entry .address) a (λ g. g) (λ g. absurd (omega (arith, go-down _ refl g)))
+    pub row-below : i < leading a (linesOf w base n) → lineAt w (base + i * lineSize) .entry .address < a
+    row-below l = by-less _ (lineAt w (base + i * lineSize) .entry .address) a (λ g. g) (λ g. absurd (omega (arith, go-down _ refl g)))
 
-    pub row-from : Sorted 0 (linesOf w base n) → leading a (linesOf w base n) ≤ i → a ≤ lineAt w (base + i * 25) .entry .address
-    row-from s l = by-less _ (lineAt w (base + i * 25) .entry .address) a (λ g. absurd (omega (arith, go-up _ refl s g))) (λ g. g)
+    pub row-from : Sorted 0 (linesOf w base n) → leading a (linesOf w base n) ≤ i → a ≤ lineAt w (base + i * lineSize) .entry .address
+    row-from s l = by-less _ (lineAt w (base + i * lineSize) .entry .address) a (λ g. absurd (omega (arith, go-up _ refl s g))) (λ g. g)

@@ -17,6 +17,7 @@ use Rattle.lines.specs.Lines.{SequencedLine}
 use Rattle.lines.specs.Rows.{belongs}
 use Rattle.rows.specs.declared.line.StatementSequence.{StatementSequence}
 use Rattle.rows.specs.declared.«unit_lines».StoredLines.{StoredLines}
+use Rattle.rows.specs.Sizes.{entrySize, lineSize}
 use Rattle.rows.specs.Stored.{sequenceOf, storedSequence, entryOf, entriesOf, lineAt, linesOf}
 use Rattle.rows.specs.Front.{FrontRows, frontRows}
 use Rattle.rows.specs.Selects.{RowsBelow, Owned}
@@ -43,7 +44,7 @@ pub record Owning (w₀ w : List ℕ) (l : StoredLines) (range : AddressRange) (
       ≡ frontRows range (sequenceOf asked) (linesOf w₀ (l .lines) (l .«line_count»)) .rows
   pub past : i + frontRows range (sequenceOf asked) (drop i (linesOf w₀ (l .lines) (l .«line_count»))) .past
       ≡ frontRows range (sequenceOf asked) (linesOf w₀ (l .lines) (l .«line_count»)) .past
-  pub rest : Kept w₀ w to (l .«line_count» * 16)
+  pub rest : Kept w₀ w to (l .«line_count» * entrySize)
   pub size : length w ≡ length w₀
 
 pub own-start : {w₀ : List ℕ} {l : StoredLines} {range : AddressRange} {asked : StatementSequence} {to below : ℕ}
@@ -54,9 +55,9 @@ own-start {w₀} {l} {range} {asked} {to} {below} B =
     record {
       most = omega (arith, B .start, leading-most w₀ (l .lines) (l .«line_count») (range .start));
       few = omega arith;
-      rows = rw (records-nil entryOf 16 w₀ to) (sym (ap (λ (f : FrontRows). f .rows) skip));
+      rows = rw (records-nil entryOf entrySize w₀ to) (sym (ap (λ (f : FrontRows). f .rows) skip));
       past = sym (ap (λ (f : FrontRows). f .past) skip);
-      rest = kept-refl w₀ to (l .«line_count» * 16);
+      rest = kept-refl w₀ to (l .«line_count» * entrySize);
       size = refl;
     }
 
@@ -79,9 +80,9 @@ module _ {w₀ w : List ℕ} {l : StoredLines} {range : AddressRange} {asked : S
   unfolding frontRows
   own-done h = ends (rw (lines-rest-none w₀ (l .lines) (l .«line_count») i h))
 
-  module _ (b : l .lines + l .«line_count» * 25 ≤ to) (h : i < l .«line_count») {address : ℕ} (a : address ≡ lineAt w (l .lines + i * 25) .entry .address) where
+  module _ (b : l .lines + l .«line_count» * lineSize ≤ to) (h : i < l .«line_count») {address : ℕ} (a : address ≡ lineAt w (l .lines + i * lineSize) .entry .address) where
     abbrev x : SequencedLine
-    x = lineAt w₀ (l .lines + i * 25)
+    x = lineAt w₀ (l .lines + i * lineSize)
 
     abbrev rest : List SequencedLine
     rest = drop (i + 1) (linesOf w₀ (l .lines) (l .«line_count»))
@@ -89,8 +90,8 @@ module _ {w₀ w : List ℕ} {l : StoredLines} {range : AddressRange} {asked : S
     cons : drop i (linesOf w₀ (l .lines) (l .«line_count»)) ≡ x ∷ rest
     cons = lines-rest-cons w₀ (l .lines) (l .«line_count») i h
 
-    same : lineAt w (l .lines + i * 25) ≡ x
-    same = line-kept (l .lines + i * 25) (O .rest) (inl (omega arith))
+    same : lineAt w (l .lines + i * lineSize) ≡ x
+    same = line-kept (l .lines + i * lineSize) (O .rest) (inl (omega arith))
 
     address-is : address ≡ x .entry .address
     address-is = a ∙ ap (λ (y : SequencedLine). y .entry .address) same
@@ -99,14 +100,14 @@ module _ {w₀ w : List ℕ} {l : StoredLines} {range : AddressRange} {asked : S
     own-past g = ends (rw cons (front-ends range (sequenceOf asked) x rest (rw address-is at g)))
 
     module _ {t : Bool} (near : address < range .end)
-        (e : t ≡ (leb (range .start) address && belongs (sequenceOf asked) (storedSequence w (l .lines + i * 25 + 16)))) where
+        (e : t ≡ (leb (range .start) address && belongs (sequenceOf asked) (storedSequence w (l .lines + i * lineSize + entrySize)))) where
       near-is : x .entry .address < range .end
       near-is = rw address-is at near
 
       tested : t ≡ (leb (range .start) (x .entry .address) && belongs (sequenceOf asked) (x .statementSequence))
       tested =
           e ∙ (λ k. leb (range .start) (address-is k) && belongs (sequenceOf asked)
-          ((sequence-kept (l .lines + i * 25 + 16) (O .rest) (inl (omega arith)) ∙ sym (line-sequence w₀ (l .lines + i * 25))) k))
+          ((sequence-kept (l .lines + i * lineSize + entrySize) (O .rest) (inl (omega arith)) ∙ sym (line-sequence w₀ (l .lines + i * lineSize))) k))
 
       pub own-not : t ≡ false → Owning w₀ w l range asked to (i + 1) count
       own-not f =
@@ -122,21 +123,21 @@ module _ {w₀ w : List ℕ} {l : StoredLines} {range : AddressRange} {asked : S
             size = O .size;
           }
 
-      pub own-take : {w′ : List ℕ} → t ≡ true → CopiedBytes w w′ (l .lines + i * 25) (to + count * 16) 16 → length w′ ≡ length w
+      pub own-take : {w′ : List ℕ} → t ≡ true → CopiedBytes w w′ (l .lines + i * lineSize) (to + count * entrySize) entrySize → length w′ ≡ length w
           → Owning w₀ w′ l range asked to (i + 1) (count + 1)
       unfolding entriesOf
       own-take {w′} f C n =
           let turn : from i ≡ record { rows = x .entry ∷ from (i + 1) .rows; past = suc (from (i + 1) .past) } =
           rw cons (front-takes range (sequenceOf asked) x rest near-is tested f) in
-          let is : entryOf (chunk w (l .lines + i * 25) 16) ≡ x .entry =
-          ap entryOf (O .rest .same (l .lines + i * 25) 16 (inl (omega arith))) ∙ sym (line-entry w₀ (l .lines + i * 25)) in
+          let is : entryOf (chunk w (l .lines + i * lineSize) entrySize) ≡ x .entry =
+          ap entryOf (O .rest .same (l .lines + i * lineSize) entrySize (inl (omega arith))) ∙ sym (line-entry w₀ (l .lines + i * lineSize)) in
           let p = rw turn at (O .past) in
           record {
             most = omega arith;
             few = omega (arith, O .few);
-            rows = rw (records-copy-push entryOf 16 to count C, is) (append-assoc (entriesOf w to count) (x .entry ∷ []) (from (i + 1) .rows))
+            rows = rw (records-copy-push entryOf entrySize to count C, is) (append-assoc (entriesOf w to count) (x .entry ∷ []) (from (i + 1) .rows))
                 ∙ rw turn at (O .rows);
             past = omega arith;
-            rest = kept-trans (O .rest) (kept-wide to (l .«line_count» * 16) (C .rest) (omega arith) (omega (arith, O .few)));
+            rest = kept-trans (O .rest) (kept-wide to (l .«line_count» * entrySize) (C .rest) (omega arith) (omega (arith, O .few)));
             size = n ∙ O .size;
           }

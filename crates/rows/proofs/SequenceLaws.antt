@@ -15,6 +15,7 @@ use Rattle.lines.specs.Rows.{contains, belongs, sequenceExists}
 use Rattle.rows.specs.declared.line.StatementSequence.{StatementSequence}
 use Rattle.rows.specs.declared.«unit_lines».StoredLines.{StoredLines}
 use Rattle.rows.specs.declared.«unit_lines».Covering.{Covering}
+use Rattle.rows.specs.Sizes.{rangeSequenceAt, rangeSize}
 use Rattle.rows.specs.Stored.{sequenceOf, storedSequence, rangeAt, rangesOf}
 use Rattle.rows.specs.Selects.{unitLinesOf, coveringOf}
 use Rattle.rows.proofs.StoredLaws.{ranges-rest-cons, ranges-rest-none, range-sequence, range-start, range-end}
@@ -33,9 +34,9 @@ pub seek-start : (w : List ℕ) (base n : ℕ) (s : Option ℕ) → Seeking w ba
 seek-start w base n s = record { most = omega arith; left = refl }
 
 module _ {w : List ℕ} {base n i : ℕ} {s : Option ℕ} (S : Seeking w base n s i) where
-  module _ (own : StatementSequence) {t : Bool} (h : i < n) (q : sequenceOf own ≡ storedSequence w (base + i * 25 + 16)) (e : t ≡ sameSequence s (sequenceOf own)) where
-    seek-test : t ≡ isSequence s (rangeAt w (base + i * 25))
-    seek-test = e ∙ ap (sameSequence s) (q ∙ sym (range-sequence w (base + i * 25)))
+  module _ (own : StatementSequence) {t : Bool} (h : i < n) (q : sequenceOf own ≡ storedSequence w (base + i * rangeSize + rangeSequenceAt)) (e : t ≡ sameSequence s (sequenceOf own)) where
+    seek-test : t ≡ isSequence s (rangeAt w (base + i * rangeSize))
+    seek-test = e ∙ ap (sameSequence s) (q ∙ sym (range-sequence w (base + i * rangeSize)))
 
     pub seek-next : t ≡ false → Seeking w base n s (i + 1)
     unfolding exists
@@ -60,7 +61,7 @@ exists-is w l requested m is e = rw is (sym (rw is at e))
 abbrev pub coversAt : Option ℕ → ℕ → LineSequenceRange → Bool
 coversAt s a = λ q. belongs s (q .statementSequence) && contains (q .range) a
 
-module _ (w : List ℕ) (p a : ℕ) (s : Option ℕ) {own : Option ℕ} {t : Bool} (q : own ≡ storedSequence w (p + 16)) (e : t ≡ belongs s own) where
+module _ (w : List ℕ) (p a : ℕ) (s : Option ℕ) {own : Option ℕ} {t : Bool} (q : own ≡ storedSequence w (p + rangeSequenceAt)) (e : t ≡ belongs s own) where
   covers-test : t ≡ belongs s (rangeAt w p .statementSequence)
   covers-test = e ∙ ap (belongs s) (q ∙ sym (range-sequence w p))
 
@@ -85,14 +86,14 @@ pub cover-start : (w : List ℕ) (base n : ℕ) (s : Option ℕ) (a : ℕ) → C
 cover-start w base n s a = record { most = omega arith; left = refl }
 
 module _ {w : List ℕ} {base n a i : ℕ} {s : Option ℕ} (C : Covered w base n s a i) where
-  module _ {t : Bool} (h : i < n) (e : t ≡ coversAt s a (rangeAt w (base + i * 25))) where
+  module _ {t : Bool} (h : i < n) (e : t ≡ coversAt s a (rangeAt w (base + i * rangeSize))) where
     pub cover-next : t ≡ false → Covered w base n s a (i + 1)
     unfolding first
     cover-next f = record { most = omega arith; left = C .left ∙ rw (ranges-rest-cons w base n i h, ← e, f) }
 
-    pub cover-found : (own : StatementSequence) → t ≡ true → sequenceOf own ≡ storedSequence w (base + i * 25 + 16) → coveringOf (Covering.By own) (first (coversAt s a) (rangesOf w base n))
+    pub cover-found : (own : StatementSequence) → t ≡ true → sequenceOf own ≡ storedSequence w (base + i * rangeSize + rangeSequenceAt) → coveringOf (Covering.By own) (first (coversAt s a) (rangesOf w base n))
     unfolding first mapOption
-    cover-found own f q = rw (C .left, ranges-rest-cons w base n i h, ← e, f, range-sequence w (base + i * 25), q)
+    cover-found own f q = rw (C .left, ranges-rest-cons w base n i h, ← e, f, range-sequence w (base + i * rangeSize), q)
 
   pub cover-none : n ≤ i → coveringOf Covering.Missing (first (coversAt s a) (rangesOf w base n))
   unfolding first

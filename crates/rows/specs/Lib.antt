@@ -1,3 +1,4 @@
+pub mod Sizes
 pub mod Stored
 pub mod Sorts
 pub mod Front

@@ -18,6 +18,7 @@ use Rattle.rows.specs.declared.«unit_lines».Earlier.{Earlier}
 use Rattle.rows.specs.declared.«unit_lines».OwnRows.{OwnRows}
 use Rattle.rows.specs.declared.«unit_lines».Rows.{Rows}
 use Rattle.rows.specs.declared.«unit_lines».FunctionRows.{FunctionRows}
+use Rattle.rows.specs.Sizes.{entrySize, lineSize, rangeSize}
 use Rattle.rows.specs.Stored.{sequenceOf, linesOf, rangesOf, entriesOf}
 use Rattle.rows.specs.Sorts.{Sorted, leading}
 use Rattle.rows.specs.Front.{frontRows}
@@ -32,9 +33,9 @@ unitLinesOf w l = record {
 
 -- rows and sequences stand below the buffer, which has room for a function's rows and one more; the rows are sorted
 pub record RowsIn (w : List ℕ) (l : StoredLines) : Type 0 where
-  pub lines : l .lines + l .«line_count» * 25 ≤ l .buffer
-  pub sequences : l .sequences + l .«sequence_count» * 25 ≤ l .buffer
-  pub buffer : l .buffer + 16 + l .«line_count» * 16 ≤ length w
+  pub lines : l .lines + l .«line_count» * lineSize ≤ l .buffer
+  pub sequences : l .sequences + l .«sequence_count» * rangeSize ≤ l .buffer
+  pub buffer : l .buffer + entrySize + l .«line_count» * entrySize ≤ length w
   pub sorted : Sorted 0 (linesOf w (l .lines) (l .«line_count»))
 
 -- the first `below` rows of the table lie below the range
@@ -47,7 +48,7 @@ pub record Owned (w w′ : List ℕ) (l : StoredLines) (range : AddressRange) (a
   pub rows : entriesOf w′ to (r .count) ≡ frontRows range (sequenceOf asked) (linesOf w (l .lines) (l .«line_count»)) .rows
   pub past : r .past ≡ frontRows range (sequenceOf asked) (linesOf w (l .lines) (l .«line_count»)) .past
   pub within : r .count ≤ l .«line_count»
-  pub rest : Kept w w′ to (l .«line_count» * 16)
+  pub rest : Kept w w′ to (l .«line_count» * entrySize)
 
 -- two answers of the loop: where the first ended at a row, and the other's table is alike through that row, they are the same (document 02, E5)
 abbrev pub OwnedAlike : Type 0
@@ -65,20 +66,20 @@ abbrev pub earlierOf : Earlier → List LineEntry
 earlierOf (Earlier.Row x) = x ∷ []
 earlierOf Earlier.Missing = []
 
--- of the `count` rows that stand 16 bytes past the buffer's begin, with the row in force before them where they start late
+-- of the `count` rows that stand a row past the buffer's begin, with the row in force before them where they start late
 pub record Fronted (w w′ : List ℕ) (l : StoredLines) (range : AddressRange) (asked : StatementSequence) (count : ℕ) (r : Rows) : Type 0 where
   pub rows : entriesOf w′ (r .rows) (r .count)
-      ≡ cond (startsLate (range .start) (entriesOf w (l .buffer + 16) count))
-      (earlierRow (unitLinesOf w l) range (sequenceOf asked) ++ entriesOf w (l .buffer + 16) count)
-      (entriesOf w (l .buffer + 16) count)
+      ≡ cond (startsLate (range .start) (entriesOf w (l .buffer + entrySize) count))
+      (earlierRow (unitLinesOf w l) range (sequenceOf asked) ++ entriesOf w (l .buffer + entrySize) count)
+      (entriesOf w (l .buffer + entrySize) count)
   pub from : l .buffer ≤ r .rows
-  pub within : r .rows + r .count * 16 ≤ l .buffer + 16 + l .«line_count» * 16
-  pub rest : Kept w w′ (l .buffer) 16
+  pub within : r .rows + r .count * entrySize ≤ l .buffer + entrySize + l .«line_count» * entrySize
+  pub rest : Kept w w′ (l .buffer) entrySize
 
 -- for_range: the rows stand in the buffer, and nothing else was written
 pub record ForRange (w w′ : List ℕ) (l : StoredLines) (range : AddressRange) (requested : StatementSequence) (r : FunctionRows) : Type 0 where
   pub rows : entriesOf w′ (r .rows) (r .count) ≡ forRange (unitLinesOf w l) range (sequenceOf requested) .rows
   pub invalid : r .invalid ≡ forRange (unitLinesOf w l) range (sequenceOf requested) .invalid
   pub from : l .buffer ≤ r .rows
-  pub within : r .rows + r .count * 16 ≤ l .buffer + 16 + l .«line_count» * 16
-  pub rest : Kept w w′ (l .buffer) (16 + l .«line_count» * 16)
+  pub within : r .rows + r .count * entrySize ≤ l .buffer + entrySize + l .«line_count» * entrySize
+  pub rest : Kept w w′ (l .buffer) (entrySize + l .«line_count» * entrySize)

@@ -5,6 +5,7 @@ ghost use lib.ListN.{length};
 ghost use Rattle.tlv.specs.Table.{chunk};
 ghost use Rattle.lines.specs.Lines.{sameSequence};
 ghost use Rattle.lines.specs.Rows.{belongs};
+ghost use Rattle.rows.specs.Sizes.{entrySize, lineSize, rangeSize, sequenceSize};
 ghost use Rattle.rows.specs.Stored.{sequenceOf, storedSequence, entryOf, lineAt, PutEntry, PutSequence, PutLine, PutSequenceRange};
 
 // The offset at which the instructions of a row's sequence begin, where that is known.
@@ -12,6 +13,23 @@ pub enum StatementSequence {
     At(u64),
     Unknown,
 }
+
+// The sizes of records. A sequence's offset: whether there is one, 1 byte, and the offset, 8.
+pub const SEQUENCE_SIZE: usize = 9;
+
+// A function's row: the address 8, the file 4, the line 4.
+pub const ENTRY_SIZE: usize = 16;
+
+// A unit's row: a function's row, and its sequence.
+pub const LINE_SIZE: usize = ENTRY_SIZE + SEQUENCE_SIZE;
+
+// Where the offset stands in the record of a sequence, behind its start and end.
+pub const RANGE_SEQUENCE: usize = 16;
+
+pub const RANGE_SIZE: usize = RANGE_SEQUENCE + SEQUENCE_SIZE;
+
+// A unit's row, and as much again while rows are sorted.
+pub const ROW_ROOM: usize = 2 * LINE_SIZE;
 
 // Whether both are unknown, or known and the same.
 pub fn same_sequence(a: StatementSequence, b: StatementSequence) -> bool
@@ -39,9 +57,9 @@ pub fn belongs_to(asked: StatementSequence, own: StatementSequence) -> bool
     }
 }
 
-// The sequence in the 9 bytes at p.
+// The sequence at p.
 pub fn sequence_at(work: &[u8], p: usize) -> StatementSequence
-    requires { ⌜ p + 9 ≤ length (now work) ⌝ }
+    requires { ⌜ p + sequenceSize ≤ length (now work) ⌝ }
     ensures { λ r. ⌜ sequenceOf r ≡ storedSequence (now (work .entry)) p ⌝ }
 {
     if tlv::bytes::read_u8(work, p) == 1 {
@@ -52,16 +70,16 @@ pub fn sequence_at(work: &[u8], p: usize) -> StatementSequence
 
 // The address of the row at p.
 pub fn address_at(work: &[u8], p: usize) -> u64
-    requires { ⌜ p + 25 ≤ length (now work) ⌝ }
+    requires { ⌜ p + lineSize ≤ length (now work) ⌝ }
     ensures { λ r. ⌜ r ≡ lineAt (now (work .entry)) p .entry .address ⌝ }
 {
     tlv::bytes::read_u64(work, p)
 }
 
-// The function's row in the 16 bytes at p.
+// The function's row at p.
 pub fn entry_at(work: &[u8], p: usize) -> tlv::model::LineEntry
-    requires { ⌜ p + 16 ≤ length (now work) ⌝ }
-    ensures { λ r. ⌜ r ≡ entryOf (chunk (now (work .entry)) p 16) ⌝ }
+    requires { ⌜ p + entrySize ≤ length (now work) ⌝ }
+    ensures { λ r. ⌜ r ≡ entryOf (chunk (now (work .entry)) p entrySize) ⌝ }
 {
     tlv::model::LineEntry {
         address: tlv::bytes::read_u64(work, p),
@@ -71,7 +89,7 @@ pub fn entry_at(work: &[u8], p: usize) -> tlv::model::LineEntry
 }
 
 pub fn put_entry(work: &mut [u8], p: usize, entry: tlv::model::LineEntry)
-    requires { ⌜ p + 16 ≤ length (now work) ⌝ }
+    requires { ⌜ p + entrySize ≤ length (now work) ⌝ }
     ensures { λ _. ⌜ PutEntry (now (work .entry)) (now (work .exit)) p entry ⌝ }
 {
     let file = entry.file;
@@ -81,7 +99,7 @@ pub fn put_entry(work: &mut [u8], p: usize, entry: tlv::model::LineEntry)
 }
 
 fn put_sequence(work: &mut [u8], p: usize, sequence: StatementSequence)
-    requires { ⌜ p + 9 ≤ length (now work) ⌝ }
+    requires { ⌜ p + sequenceSize ≤ length (now work) ⌝ }
     ensures { λ _. ⌜ PutSequence (now (work .entry)) (now (work .exit)) p sequence ⌝ }
 {
     match sequence {
@@ -101,11 +119,11 @@ pub fn put_line(
     entry: tlv::model::LineEntry,
     sequence: StatementSequence,
 )
-    requires { ⌜ p + 25 ≤ length (now work) ⌝ }
+    requires { ⌜ p + lineSize ≤ length (now work) ⌝ }
     ensures { λ _. ⌜ PutLine (now (work .entry)) (now (work .exit)) p entry sequence ⌝ }
 {
     put_entry(work, p, entry);
-    put_sequence(work, p + 16, sequence);
+    put_sequence(work, p + ENTRY_SIZE, sequence);
 }
 
 pub fn put_sequence_range(
@@ -114,10 +132,10 @@ pub fn put_sequence_range(
     range: tlv::model::AddressRange,
     sequence: StatementSequence,
 )
-    requires { ⌜ p + 25 ≤ length (now work) ⌝ }
+    requires { ⌜ p + rangeSize ≤ length (now work) ⌝ }
     ensures { λ _. ⌜ PutSequenceRange (now (work .entry)) (now (work .exit)) p range sequence ⌝ }
 {
     tlv::table::set_u64(work, p, range.start);
     tlv::table::set_u64(work, p + 8, range.end);
-    put_sequence(work, p + 16, sequence);
+    put_sequence(work, p + RANGE_SEQUENCE, sequence);
 }

@@ -2,13 +2,15 @@
 ghost use mathlib.Core.Path.{_≡_};
 ghost use Prim.Native.Nat.{_+_, _*_, _≤_};
 ghost use lib.ListN.{length};
+ghost use Rattle.rows.specs.Sizes.{lineSize};
 ghost use Rattle.rows.specs.Stored.{linesOf};
 ghost use Rattle.rows.specs.Sorts.{Sorted, leading};
+use crate::line::LINE_SIZE;
 use crate::line::address_at;
 
 // Of n sorted rows, the index of the first whose address is at least `address`, or n.
 pub fn lower_bound(work: &[u8], base: usize, n: usize, address: u64) -> usize
-    requires { ⌜ base + n * 25 ≤ length (now work) ⌝ }
+    requires { ⌜ base + n * lineSize ≤ length (now work) ⌝ }
     requires { ⌜ Sorted 0 (linesOf (now work) base n) ⌝ }
     ensures { λ r. ⌜ r ≡ leading address (linesOf (now (work .entry)) base n) ⌝ }
 {
@@ -16,7 +18,7 @@ pub fn lower_bound(work: &[u8], base: usize, n: usize, address: u64) -> usize
     let mut hi = n;
     while lo < hi {
         let mid = lo + (hi - lo) / 2;
-        if address_at(work, base + mid * 25) < address {
+        if address_at(work, base + mid * LINE_SIZE) < address {
             lo = mid + 1;
         } else {
             hi = mid;

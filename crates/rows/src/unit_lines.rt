@@ -7,8 +7,13 @@ ghost use lib.Dec.{leb, ltb};
 ghost use lib.ListN.{length};
 ghost use Rattle.tlv.specs.Lists.{first, last, orElse};
 ghost use Rattle.lines.specs.Rows.{contains, belongs, movedTo, earlierRow, startsLate, sequenceExists};
+ghost use Rattle.rows.specs.Sizes.{entrySize, lineSize, rangeSize};
 ghost use Rattle.rows.specs.Stored.{sequenceOf, storedSequence, entriesOf, linesOf, rangeAt, rangesOf};
 ghost use Rattle.rows.specs.Selects.{unitLinesOf, RowsIn, RowsBelow, coveringOf, earlierOf, Owned, Fronted, ForRange};
+use crate::line::ENTRY_SIZE;
+use crate::line::LINE_SIZE;
+use crate::line::RANGE_SEQUENCE;
+use crate::line::RANGE_SIZE;
 use crate::line::StatementSequence;
 use crate::line::address_at;
 use crate::line::belongs_to;
@@ -61,13 +66,13 @@ pub enum Earlier {
 
 // Whether the row at p, which has an address, is at or past a start and belongs to the sequence that is asked for.
 fn takes_row(work: &[u8], p: usize, address: u64, start: u64, asked: StatementSequence) -> bool
-    requires { ⌜ p + 25 ≤ length (now work) ⌝ }
-    ensures { λ r. ⌜ r ≡ (leb start address && belongs (sequenceOf asked) (storedSequence (now (work .entry)) (p + 16))) ⌝ }
+    requires { ⌜ p + lineSize ≤ length (now work) ⌝ }
+    ensures { λ r. ⌜ r ≡ (leb start address && belongs (sequenceOf asked) (storedSequence (now (work .entry)) (p + entrySize))) ⌝ }
 {
     if address < start {
         return false;
     }
-    belongs_to(asked, sequence_at(work, p + 16))
+    belongs_to(asked, sequence_at(work, p + ENTRY_SIZE))
 }
 
 // Copies the rows of a range, of the sequence that is asked for, to `to`: a loop from the front of the table that ends at the first row at or past the
@@ -80,15 +85,15 @@ pub fn own_rows(
     to: usize,
     below: usize,
 ) -> OwnRows
-    requires { ⌜ l .lines + l .«line_count» * 25 ≤ to ⌝ }
-    requires { ⌜ to + l .«line_count» * 16 ≤ length (now work) ⌝ }
+    requires { ⌜ l .lines + l .«line_count» * lineSize ≤ to ⌝ }
+    requires { ⌜ to + l .«line_count» * entrySize ≤ length (now work) ⌝ }
     requires { ⌜ RowsBelow (now work) l range below ⌝ }
     ensures { λ r. ⌜ Owned (now (work .entry)) (now (work .exit)) l range asked to r ⌝ }
 {
     let mut i = below;
     let mut count = 0;
     while i < l.line_count {
-        let p = l.lines + i * 25;
+        let p = l.lines + i * LINE_SIZE;
         let address = address_at(work, p);
         if range.end <= address {
             return OwnRows {
@@ -97,7 +102,7 @@ pub fn own_rows(
             };
         }
         if takes_row(work, p, address, range.start, asked) {
-            tlv::table::copy_record(work, p, to + count * 16, 16);
+            tlv::table::copy_record(work, p, to + count * ENTRY_SIZE, ENTRY_SIZE);
             count += 1;
             i += 1;
         } else {
@@ -134,7 +139,10 @@ pub fn sequence_exists(work: &[u8], l: StoredLines, requested: StatementSequence
     }
     let mut i = 0;
     while i < l.sequence_count {
-        if same_sequence(requested, sequence_at(work, l.sequences + i * 25 + 16)) {
+        if same_sequence(
+            requested,
+            sequence_at(work, l.sequences + i * RANGE_SIZE + RANGE_SEQUENCE),
+        ) {
             return true;
         }
         i += 1;
@@ -144,10 +152,10 @@ pub fn sequence_exists(work: &[u8], l: StoredLines, requested: StatementSequence
 
 // Whether the sequence at p belongs to the one that is asked for and covers an address.
 fn covers(work: &[u8], p: usize, address: u64, asked: StatementSequence) -> bool
-    requires { ⌜ p + 25 ≤ length (now work) ⌝ }
+    requires { ⌜ p + rangeSize ≤ length (now work) ⌝ }
     ensures { λ r. ⌜ r ≡ (belongs (sequenceOf asked) (rangeAt (now (work .entry)) p .statementSequence) && contains (rangeAt (now (work .entry)) p .range) address) ⌝ }
 {
-    if !belongs_to(asked, sequence_at(work, p + 16)) {
+    if !belongs_to(asked, sequence_at(work, p + RANGE_SEQUENCE)) {
         return false;
     }
     if address < tlv::bytes::read_u64(work, p) {
@@ -168,9 +176,9 @@ fn covering_sequence(
 {
     let mut i = 0;
     while i < l.sequence_count {
-        let p = l.sequences + i * 25;
+        let p = l.sequences + i * RANGE_SIZE;
         if covers(work, p, address, asked) {
-            return Covering::By(sequence_at(work, p + 16));
+            return Covering::By(sequence_at(work, p + RANGE_SEQUENCE));
         }
         i += 1;
     }
@@ -184,8 +192,8 @@ fn last_before(work: &[u8], l: StoredLines, address: u64, asked: StatementSequen
 {
     let mut i = lower_bound(work, l.lines, l.line_count, address);
     while 0 < i {
-        let p = l.lines + (i - 1) * 25;
-        if belongs_to(asked, sequence_at(work, p + 16)) {
+        let p = l.lines + (i - 1) * LINE_SIZE;
+        if belongs_to(asked, sequence_at(work, p + ENTRY_SIZE)) {
             let entry = entry_at(work, p);
             let file = entry.file;
             return Earlier::Row(tlv::model::LineEntry {
@@ -227,7 +235,7 @@ fn earlier_row(
 
 // Whether the `count` rows at p are none, or the first is above a start.
 fn starts_late(work: &[u8], p: usize, count: usize, start: u64) -> bool
-    requires { ⌜ p + count * 16 ≤ length (now work) ⌝ }
+    requires { ⌜ p + count * entrySize ≤ length (now work) ⌝ }
     ensures { λ r. ⌜ r ≡ startsLate start (entriesOf (now (work .entry)) p count) ⌝ }
 {
     if count == 0 {
@@ -236,7 +244,7 @@ fn starts_late(work: &[u8], p: usize, count: usize, start: u64) -> bool
     start < tlv::bytes::read_u64(work, p)
 }
 
-// Puts the row in force at the start before the `count` own rows, which stand 16 bytes past the buffer's begin, where they start late.
+// Puts the row in force at the start before the `count` own rows, which stand a row past the buffer's begin, where they start late.
 fn put_earlier(
     work: &mut [u8],
     l: StoredLines,
@@ -248,7 +256,7 @@ fn put_earlier(
     requires { ⌜ count ≤ l .«line_count» ⌝ }
     ensures { λ r. ⌜ Fronted (now (work .entry)) (now (work .exit)) l range asked count r ⌝ }
 {
-    let own = l.buffer + 16;
+    let own = l.buffer + ENTRY_SIZE;
     if !starts_late(work, own, count, range.start) {
         return Rows {
             rows: own,
@@ -293,7 +301,7 @@ pub fn for_range(
     let exists = sequence_exists(work, l, requested);
     let asked = selected_sequence(exists, requested);
     let below = rows_below(work, l, range);
-    let own = own_rows(work, l, range, asked, l.buffer + 16, below);
+    let own = own_rows(work, l, range, asked, l.buffer + ENTRY_SIZE, below);
     let fronted = put_earlier(work, l, range, asked, own.count);
     let left = compact_line_rows(work, fronted.rows, fronted.count);
     let invalid = !exists && left != 0;

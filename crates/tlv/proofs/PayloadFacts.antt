@@ -6,7 +6,7 @@ use Prim.Native.Nat.{ℕ, _≤_}
 use lib.ListN.{length}
 use borrow.Author.Tests.{leb-true, eqb-true}
 use Rattle.tlv.specs.declared.grammar.Context.{Context}
-use Rattle.tlv.specs.Grammar.{payloadShaped, unitShaped, textShaped, headerShaped, directoryShaped, fileShaped, rowShaped, entryShaped, attributeShaped, rangeShaped, failureShaped}
+use Rattle.tlv.specs.Grammar.{payloadShaped, unitShaped, textShaped, headerShaped, directoryShaped, fileShaped, rowShaped, entryShaped, attributeShaped, rangeShaped, failureShaped, rowFieldSize}
 use Rattle.tlv.proofs.TestLaws.{and-left}
 
 module _ (c : Context) (p : List ℕ) where
@@ -34,7 +34,7 @@ module _ (c : Context) (p : List ℕ) where
   unfolding payloadShaped fileShaped
   file-zero-long s = leb-true _ _ (search and-left)
 
-  pub row-long : payloadShaped c 0x16 p ≡ true → length p ≡ 25
+  pub row-long : payloadShaped c 0x16 p ≡ true → length p ≡ rowFieldSize
   unfolding payloadShaped rowShaped
   row-long s = eqb-true _ _ (search and-left)
 

@@ -13,14 +13,14 @@ use Rattle.tlv.specs.declared.model.LineEntry.{LineEntry}
 use Rattle.tlv.specs.Lists.{isEmpty, mapOption}
 use Rattle.tlv.specs.Bytes.{bytesOf, leAt}
 use Rattle.tlv.specs.Model.{rangeOf}
-use Rattle.tlv.specs.Output.{FileEntry, InlineNode, CallSite, WarningKind, rejectedRange, invalidStatementSequence, lineSequenceMismatch, missingLineFile, unrepresentableLine, missingInlineCallFile, invalidInlineCallLine, invalidDeclarationFile, invalidDeclarationLine, Warning, malformedRanges, about, kindNumber, functionPayload, rowPayload, nodePayload, rangePayload, sitePayload, filePayload, warningPayload}
+use Rattle.tlv.specs.Output.{FileEntry, InlineNode, CallSite, WarningKind, rejectedRange, invalidStatementSequence, lineSequenceMismatch, missingLineFile, unrepresentableLine, missingInlineCallFile, invalidInlineCallLine, invalidDeclarationFile, invalidDeclarationLine, Warning, malformedRanges, about, kindNumber, functionPayload, rowPayload, nodePayload, rangePayload, sitePayload, filePayload, warningPayload, trayRowSize}
 use Rattle.tlv.specs.Reader.{lineOf, siteOf, fileEntryOf, kindOf, warningOf}
 use Rattle.tlv.specs.Fits.{Short, RangeFits, LineFits, NodeFits, SiteFits, FileFits, WarningFits}
 use Rattle.tlv.proofs.ByteLaws.{length-bytesOf, leAt-byte, leAt-tail, leAt-first, leAt-only, leAt-next, drop-bytesOf}
 
 -- ---- lengths
 
-pub row-length : (l : LineEntry) → length (rowPayload l) ≡ 16
+pub row-length : (l : LineEntry) → length (rowPayload l) ≡ trayRowSize
 unfolding rowPayload
 row-length l = simp (length-append, length-bytesOf)
 

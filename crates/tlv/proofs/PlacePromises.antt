@@ -11,7 +11,7 @@ use Rattle.tlv.specs.declared.fields.Step.{Step}
 use Rattle.tlv.specs.Bytes.{leAt}
 use Rattle.tlv.specs.Limits.{fieldLimit, stringLimit, reasonLimit, depthLimit}
 use Rattle.tlv.specs.Cursor.{stepAt}
-use Rattle.tlv.specs.Grammar.{mayFollow, rowShaped, valueShaped, attributeShaped, payloadShaped, payloadLimited, shaped, limited}
+use Rattle.tlv.specs.Grammar.{mayFollow, rowShaped, valueShaped, attributeShaped, payloadShaped, payloadLimited, shaped, limited, rowFieldSize, rowKindAt}
 use Rattle.tlv.specs.Checked.{Placed}
 use Rattle.tlv.proofs.TestLaws.{by-test, and-left, and-right}
 use Rattle.tlv.proofs.CursorLaws.{payload-within, payload-length}
@@ -30,7 +30,7 @@ leastOf t =
     (cond (eqb t 0x14) 1
     (cond (eqb t 0x15) 9
     (cond (eqb t 0x1c) 9
-    (cond (eqb t 0x16) 25
+    (cond (eqb t 0x16) rowFieldSize
     (cond (eqb t 0x17) 12
     (cond (eqb t 0x18) 3
     (cond (eqb t 0x19) 17
@@ -70,8 +70,8 @@ module _ (s : List ℕ) (p : ℕ) (r : Step) (t start len past : ℕ) (h : Place
   pub placed-file-zero : t ≡ 0x1c → 9 ≤ len
   placed-file-zero is = by-length (λ n. 9 ≤ n) (file-zero-long _ _ (rw is at shape))
 
-  pub placed-row : t ≡ 0x16 → len ≡ 25
-  placed-row is = by-length (λ n. n ≡ 25) (row-long _ _ (rw is at shape))
+  pub placed-row : t ≡ 0x16 → len ≡ rowFieldSize
+  placed-row is = by-length (λ n. n ≡ rowFieldSize) (row-long _ _ (rw is at shape))
 
   pub placed-entry : t ≡ 0x17 → len ≡ 12
   placed-entry is = by-length (λ n. n ≡ 12) (entry-long _ _ (rw is at shape))
@@ -151,11 +151,11 @@ module _ (s : List ℕ) (p : ℕ) (r : Step) (t start len past : ℕ) (h : Place
   pub placed-unit-fits : (o n : ℕ) → t ≡ 0x10 → o ≡ leAt 8 s start → n ≡ leAt 8 s (start + 8) → o + n < 2 ^ 64
   placed-unit-fits = unit-fits s start len (payload-within s p r t start len past at e) (h .context) t (placed-shaped s p r t start len past h at e)
 
-  pub placed-row-kind : (k : ℕ) → t ≡ 0x16 → k ≡ leAt 1 s (start + 24) → k ≤ 2
+  pub placed-row-kind : (k : ℕ) → t ≡ 0x16 → k ≡ leAt 1 s (start + rowKindAt) → k ≤ 2
   unfolding payloadShaped rowShaped
   placed-row-kind k is ek =
       let l = placed-row is in
-      let all = rw (is, number-at s start len 1 24 k (omega arith) ek) at shape in
+      let all = rw (is, number-at s start len 1 rowKindAt k (omega arith) ek) at shape in
       leb-true k 2 (search and-right)
 
   pub placed-entry-depth : (d : ℕ) → t ≡ 0x17 → d ≡ leAt 2 s (start + 8) → d ≤ depthLimit

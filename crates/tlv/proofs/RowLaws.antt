@@ -7,6 +7,7 @@ use native.Mathlib.Decide.{decLe}
 use lib.ListN.{length, getD}
 use Rattle.tlv.specs.declared.fields.Step.{Step}
 use Rattle.tlv.specs.declared.access.Own.{Own}
+use Rattle.tlv.specs.Grammar.{rowFieldSize}
 use Rattle.tlv.specs.Bytes.{leAt}
 use Rattle.tlv.specs.Cursor.{stepAt}
 use Rattle.tlv.specs.Checked.{Placed}
@@ -32,14 +33,14 @@ module _ (s : List ℕ) (p : ℕ) (here : Placed s p) (inside : p < length s) (r
   step : stepAt s p ≡ Step.Field (getD s p 0) (p + 3) (leAt 2 s (p + 1)) (p + 3 + leAt 2 s (p + 1))
   step = step-field s p inside long whole
 
-  size : leAt 2 s (p + 1) ≡ 25
+  size : leAt 2 s (p + 1) ≡ rowFieldSize
   size = placed-row s p (stepAt s p) (getD s p 0) (p + 3) (leAt 2 s (p + 1)) (p + 3 + leAt 2 s (p + 1)) here refl step row
 
-  behind : p + 3 + leAt 2 s (p + 1) ≡ p + 28
+  behind : p + 3 + leAt 2 s (p + 1) ≡ p + (3 + rowFieldSize)
   behind = omega (arith, size)
 
-  row-step : stepAt s p ≡ Step.Field 0x16 (p + 3) 25 (p + 28)
+  row-step : stepAt s p ≡ Step.Field 0x16 (p + 3) rowFieldSize (p + (3 + rowFieldSize))
   row-step = rw (behind, size, row) at step
 
-  pub row-here : NextOwn s p 0x16 (Own.Field (p + 3) 25 (p + 28))
-  row-here = own-found s p 0x16 p (stepAt s p) (looking-start s p 0x16) refl 0x16 (p + 3) 25 (p + 28) row-step (λ e. omega (arith, e)) (λ e. omega (arith, e)) refl
+  pub row-here : NextOwn s p 0x16 (Own.Field (p + 3) rowFieldSize (p + (3 + rowFieldSize)))
+  row-here = own-found s p 0x16 p (stepAt s p) (looking-start s p 0x16) refl 0x16 (p + 3) rowFieldSize (p + (3 + rowFieldSize)) row-step (λ e. omega (arith, e)) (λ e. omega (arith, e)) refl

@@ -13,7 +13,7 @@ use borrow.Author.Tests.{le-leb, lt-leb, lt-ltb, le-ltb, eq-eqb, ne-eqb}
 use Rattle.tlv.specs.declared.grammar.Context.{Context}
 use Rattle.tlv.specs.Lists.{exists}
 use Rattle.tlv.specs.Bytes.{leAt}
-use Rattle.tlv.specs.Grammar.{unitShaped, textShaped, headerShaped, directoryShaped, fileShaped, rowShaped, entryShaped, valueShaped, attributeShaped, rangeShaped, failureShaped}
+use Rattle.tlv.specs.Grammar.{unitShaped, textShaped, headerShaped, directoryShaped, fileShaped, rowShaped, entryShaped, valueShaped, attributeShaped, rangeShaped, failureShaped, rowFieldSize, rowKindAt}
 use Rattle.tlv.proofs.WidthLaws.{leAt-part}
 
 -- ---- one of a list, as tests that are joined from the left
@@ -110,13 +110,13 @@ module _ (s : List ℕ) (start len : ℕ) (fits : start + len ≤ length s) wher
   unfolding fileShaped
   file-is f h e = rw (part-length s start len fits, le-leb 9 len h, number-first s start len 1 f (omega arith) e)
 
-  pub row-not : (len ≡ 25 → ⊥) → false ≡ rowShaped (take len (drop start s))
+  pub row-not : (len ≡ rowFieldSize → ⊥) → false ≡ rowShaped (take len (drop start s))
   unfolding rowShaped
-  row-not h = rw (part-length s start len fits, ne-eqb len 25 h)
+  row-not h = rw (part-length s start len fits, ne-eqb len rowFieldSize h)
 
-  pub row-is : (k : ℕ) → len ≡ 25 → k ≡ leAt 1 s (start + 24) → leb k 2 ≡ rowShaped (take len (drop start s))
+  pub row-is : (k : ℕ) → len ≡ rowFieldSize → k ≡ leAt 1 s (start + rowKindAt) → leb k 2 ≡ rowShaped (take len (drop start s))
   unfolding rowShaped
-  row-is k h e = rw (part-length s start len fits, eq-eqb len 25 h, number-at s start len 1 24 k (omega arith) e)
+  row-is k h e = rw (part-length s start len fits, eq-eqb len rowFieldSize h, number-at s start len 1 rowKindAt k (omega arith) e)
 
   pub entry-not : (c : Context) → (len ≡ 12 → ⊥) → false ≡ entryShaped c (take len (drop start s))
   unfolding entryShaped

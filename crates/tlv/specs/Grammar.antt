@@ -71,8 +71,12 @@ fileShaped p = leb 9 (length p) && isFlag (leAt 1 p 0)
 abbrev pub rowKindAt : ℕ
 rowKindAt = 24
 
+-- the kind is its last byte
+abbrev pub rowFieldSize : ℕ
+rowFieldSize = rowKindAt + 1
+
 unfoldable pub rowShaped : List ℕ → Bool
-rowShaped p = eqb (length p) (rowKindAt + 1) && leb (leAt 1 p rowKindAt) 2
+rowShaped p = eqb (length p) rowFieldSize && leb (leAt 1 p rowKindAt) 2
 
 -- 17 entry: offset in unit, depth (2 bytes), tag (2 bytes). "Entry offsets rise and stay below the length.
 -- The first entry has depth 0, later ones 1 to the previous plus 1."

@@ -64,7 +64,10 @@ kindNumber invalidDeclarationLine = 11
 unfoldable pub functionPayload : AddressRange → List ℕ → List ℕ
 functionPayload r name = bytesOf 8 (r .start) ++ bytesOf 8 (r .end) ++ name
 
--- 42 row: address, file 4 bytes, line 4 bytes
+-- 42 row: address, file 4 bytes, line 4 bytes; so many bytes
+abbrev pub trayRowSize : ℕ
+trayRowSize = 16
+
 unfoldable pub rowPayload : LineEntry → List ℕ
 rowPayload l = bytesOf 8 (l .address) ++ bytesOf 4 (l .file .0) ++ bytesOf 4 (l .line)
 

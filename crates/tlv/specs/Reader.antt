@@ -10,7 +10,7 @@ use Rattle.tlv.specs.Lists.{exists, mapOption}
 use Rattle.tlv.specs.Bytes.{leAt}
 use Rattle.tlv.specs.Fields.{Field, FieldList, end, cut, more, fields, wholeFields, Group, grouped, payloads}
 use Rattle.tlv.specs.Model.{rangeOf}
-use Rattle.tlv.specs.Output.{FileEntry, InlineNode, CallSite, Function, WarningKind, rejectedRange, invalidStatementSequence, lineSequenceMismatch, missingLineFile, unrepresentableLine, missingInlineCallFile, invalidInlineCallLine, invalidDeclarationFile, invalidDeclarationLine, Warning, malformedRanges, about}
+use Rattle.tlv.specs.Output.{FileEntry, InlineNode, CallSite, Function, WarningKind, rejectedRange, invalidStatementSequence, lineSequenceMismatch, missingLineFile, unrepresentableLine, missingInlineCallFile, invalidInlineCallLine, invalidDeclarationFile, invalidDeclarationLine, Warning, malformedRanges, about, trayRowSize}
 
 -- ---- the form of a records tray
 
@@ -31,7 +31,7 @@ rangeFormed p = ltb (leAt 8 p 0) (leAt 8 p 8)
 unfoldable pub recordsFormed : ℕ → ℕ → List ℕ → Bool
 recordsFormed depth t p =
     cond (eqb t 0x41) (leb 16 (length p) && rangeFormed p)
-    (cond (eqb t 0x42) (eqb (length p) 16)
+    (cond (eqb t 0x42) (eqb (length p) trayRowSize)
     (cond (eqb t 0x43) (leb 10 (length p) && leb (leAt 2 p 0) depth && leb (leAt 2 p 0) 256 && (leb 1 (leAt 2 p 0) || eqb depth 0))
     (cond (eqb t 0x44) (eqb (length p) 16 && rangeFormed p)
     (cond (eqb t 0x45) (leb 9 (length p))

@@ -16,6 +16,8 @@ use crate::bytes::read_u16;
 use crate::bytes::read_u64;
 use crate::fields::Step;
 use crate::fields::field_at;
+use crate::grammar::ROW_FIELD;
+use crate::grammar::ROW_WHOLE;
 
 // A field of an entry, or of a unit before its first entry.
 pub enum Own {
@@ -117,8 +119,8 @@ pub fn next_row(s: &[u8], p: usize) -> Own
         if s[p] == 0x16 {
             return Own::Field {
                 start: p + 3,
-                len: 25,
-                next: p + 28,
+                len: ROW_FIELD,
+                next: p + ROW_WHOLE,
             };
         }
     }

@@ -21,6 +21,15 @@ const REASON_LIMIT: usize = 4096;
 
 const DEPTH_LIMIT: u16 = 1024;
 
+// Where a row field's kind stands in its payload: at its end.
+pub const ROW_KIND: usize = 24;
+
+// The length of a row field's payload.
+pub const ROW_FIELD: usize = ROW_KIND + 1;
+
+// The whole field: its tag, its length and its payload.
+pub const ROW_WHOLE: usize = 3 + ROW_FIELD;
+
 // What the fields so far leave to check the next one against.
 pub struct Context {
     pub previous: u8, // the tag of the last field, 0 before the first
@@ -127,10 +136,10 @@ pub fn row_shaped(s: &[u8], start: usize, len: usize) -> bool
     requires { ⌜ start + len ≤ length (now s) ⌝ }
     ensures { λ r. ⌜ r ≡ rowShaped (take len (drop start (now (s .entry)))) ⌝ }
 {
-    if len != 25 {
+    if len != ROW_FIELD {
         return false;
     }
-    read_u8(s, start + 24) <= 2
+    read_u8(s, start + ROW_KIND) <= 2
 }
 
 pub fn entry_shaped(c: Context, s: &[u8], start: usize, len: usize) -> bool

@@ -167,12 +167,15 @@ pub fn put_function(buffer: &mut [u8], at: usize, range: AddressRange, name: &[u
     put_bytes(buffer, ended, name)
 }
 
+// The length of a row's payload in the records tray.
+pub const TRAY_ROW: u16 = 16;
+
 // 42 row: address, file 4 bytes, line 4 bytes.
 pub fn put_line(buffer: &mut [u8], at: usize, line: LineEntry) -> usize
     ensures { λ r. ⌜ Put at (encode 0x42 (rowPayload line)) (now (buffer .entry)) (now (buffer .exit)) r ⌝ }
 {
     let file = line.file;
-    let headed = put_head(buffer, at, 0x42, 16);
+    let headed = put_head(buffer, at, 0x42, TRAY_ROW);
     let addressed = put_u64(buffer, headed, line.address);
     let filed = put_u32(buffer, addressed, file.0);
     put_u32(buffer, filed, line.line)

@@ -9,6 +9,7 @@ use Rattle.collect.proofs.RowsFromLaws.{row-within, row-ahead}
 use Rattle.collect.proofs.ConvertingLaws.{ConvertingRows, converting-start, converting-same, converting-full, converting-over, converting-ended, converting-refused, converting-more, converting-known}
 use Rattle.collect.proofs.convert.convert_rows.Statement.{statement}
 use Rattle.collect.proofs.convert.convert_rows.Tie as tie
+use Rattle.tlv.specs.Grammar.{rowFieldSize}
 
 abbrev Inv-loop : tie.InvT-loop
 Inv-loop main supplementary c left work₀ files₀ warnings₀ at₀ sequence₀ more₀ state₀ work files warnings at sequence more state =
@@ -71,13 +72,13 @@ read-row-requires c κs =
 add-read-u8 : tie.Need-add-read-u8 Inv-loop μ-loop
 add-read-u8 c =
     let s = c .before .before .before .before .before .before .before .before .before .before .before .before .before .before .args .main .now in
-    let w : c .before .before .start .given .0 .0 + 25 ≤ length s = row-within s _ _ (c .before .before .before .before .next-row .ensures) _ _ _ (c .before .before .start .given .1) (c .before .before .before .before .before .before .loop .inv .placed) in
+    let w : c .before .before .start .given .0 .0 + rowFieldSize ≤ length s = row-within s _ _ (c .before .before .before .before .next-row .ensures) _ _ _ (c .before .before .start .given .1) (c .before .before .before .before .before .before .loop .inv .placed) in
     omega (arith, c .before .before .before .before .before .before .before .before .before .before .before .before .before .before .good .0)
 
 read-u8-requires : tie.Need-read-u8-requires Inv-loop μ-loop
 read-u8-requires c κs =
     let s = c .before .before .before .before .before .before .before .before .before .before .before .before .before .before .args .main .now in
-    let w : c .before .before .start .given .0 .0 + 25 ≤ length s = row-within s _ _ (c .before .before .before .before .next-row .ensures) _ _ _ (c .before .before .start .given .1) (c .before .before .before .before .before .before .loop .inv .placed) in
+    let w : c .before .before .start .given .0 .0 + rowFieldSize ≤ length s = row-within s _ _ (c .before .before .before .before .next-row .ensures) _ _ _ (c .before .before .start .given .1) (c .before .before .before .before .before .before .loop .inv .placed) in
     omega arith
 
 add-sequence : tie.Need-add-sequence Inv-loop μ-loop

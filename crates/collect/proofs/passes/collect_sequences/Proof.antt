@@ -8,6 +8,8 @@ use Rattle.collect.proofs.RowsFromLaws.{row-within, row-ahead}
 use Rattle.collect.proofs.SequencesLaws.{Collecting, collecting-start, collecting-done, collecting-room, collecting-put, collecting-empty, collecting-more, collecting-open}
 use Rattle.collect.proofs.passes.collect_sequences.Statement.{statement}
 use Rattle.collect.proofs.passes.collect_sequences.Tie as tie
+use Rattle.rows.specs.Sizes.{rangeSize}
+use Rattle.tlv.specs.Grammar.{rowFieldSize}
 
 abbrev Inv-loop : tie.InvT-loop
 Inv-loop s p work₀ offsets n base at₀ k₀ opened₀ start₀ count₀ work at k opened start count = Collecting s work₀ work p offsets n base at k opened start count
@@ -35,35 +37,37 @@ returns c = search collecting-done
 
 add-read-u8 : tie.Need-add-read-u8 Inv-loop μ-loop
 add-read-u8 c =
-    let w : c .before .row .given .0 .0 + 25 ≤ length (c .before .before .before .before .before .before .before .args .s .now) = search row-within in
+    let w : c .before .row .given .0 .0 + rowFieldSize ≤ length (c .before .before .before .before .before .before .before .args .s .now) =
+    search row-within in
     omega arith
 
 read-u8-requires : tie.Need-read-u8-requires Inv-loop μ-loop
 read-u8-requires c κs =
-    let w : c .before .row .given .0 .0 + 25 ≤ length (c .before .before .before .before .before .before .before .args .s .now) = search row-within in
+    let w : c .before .row .given .0 .0 + rowFieldSize ≤ length (c .before .before .before .before .before .before .before .args .s .now) =
+    search row-within in
     omega arith
 
 read-u64-requires : tie.Need-read-u64-requires Inv-loop μ-loop
 read-u64-requires c κs =
-    let w : c .before .before .row .given .0 .0 + 25 ≤ length (c .before .before .before .before .before .before .before .before .args .s .now) = search row-within in
+    let w : c .before .before .row .given .0 .0 + rowFieldSize ≤ length (c .before .before .before .before .before .before .before .before .args .s .now) = search row-within in
     omega arith
 
 mul-put-sequence-record : tie.Need-mul-put-sequence-record Inv-loop μ-loop
 mul-put-sequence-record c =
     let l = c .before .before .before .before .before .before .before .before .before in
-    let w : l .before .before .before .args .base + l .loop .count * 25 + 25 ≤ length (l .loop .work) = search collecting-room in
+    let w : l .before .before .before .args .base + l .loop .count * rangeSize + rangeSize ≤ length (l .loop .work) = search collecting-room in
     omega arith
 
 add-put-sequence-record : tie.Need-add-put-sequence-record Inv-loop μ-loop
 add-put-sequence-record c =
     let l = c .before .before .before .before .before .before .before .before .before in
-    let w : l .before .before .before .args .base + l .loop .count * 25 + 25 ≤ length (l .loop .work) = search collecting-room in
+    let w : l .before .before .before .args .base + l .loop .count * rangeSize + rangeSize ≤ length (l .loop .work) = search collecting-room in
     omega arith
 
 put-sequence-record-requires : tie.Need-put-sequence-record-requires Inv-loop μ-loop
 put-sequence-record-requires c κs =
     let l = c .before .before .before .before .before .before .before .before .before in
-    let w : l .before .before .before .args .base + l .loop .count * 25 + 25 ≤ length (l .loop .work) = search collecting-room in
+    let w : l .before .before .before .args .base + l .loop .count * rangeSize + rangeSize ≤ length (l .loop .work) = search collecting-room in
     omega arith
 
 add-count : tie.Need-add-count Inv-loop μ-loop

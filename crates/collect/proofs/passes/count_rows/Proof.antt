@@ -8,6 +8,7 @@ use Rattle.collect.proofs.RowsFromLaws.{row-within, row-ahead}
 use Rattle.collect.proofs.CountLaws.{CountingRows, counting-start, counting-done, counting-failed, counting-end, counting-plain}
 use Rattle.collect.proofs.passes.count_rows.Statement.{statement}
 use Rattle.collect.proofs.passes.count_rows.Tie as tie
+use Rattle.tlv.specs.Grammar.{rowFieldSize}
 
 abbrev Inv-loop : tie.InvT-loop
 Inv-loop s p at₀ lines₀ opened₀ n₀ at lines opened n = CountingRows s p at lines opened n
@@ -31,10 +32,10 @@ enum-known-start : tie.Need-enum-known-start Inv-loop μ-loop
 enum-known-start c = search needs
 
 add-read-u8 : tie.Need-add-read-u8 Inv-loop μ-loop
-add-read-u8 c = let s = c .before .before .before .before .before .before .args .s .now in let w : c .before .start .given .0 .0 + 25 ≤ length s = search row-within in omega arith
+add-read-u8 c = let s = c .before .before .before .before .before .before .args .s .now in let w : c .before .start .given .0 .0 + rowFieldSize ≤ length s = search row-within in omega arith
 
 read-u8-requires : tie.Need-read-u8-requires Inv-loop μ-loop
-read-u8-requires c κs = let s = c .before .before .before .before .before .before .args .s .now in let w : c .before .start .given .0 .0 + 25 ≤ length s = search row-within in omega arith
+read-u8-requires c κs = let s = c .before .before .before .before .before .before .args .s .now in let w : c .before .start .given .0 .0 + rowFieldSize ≤ length s = search row-within in omega arith
 
 returns-2 : tie.Need-returns-2 Inv-loop μ-loop
 returns-2 c = search counting-failed

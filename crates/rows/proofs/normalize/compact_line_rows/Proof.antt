@@ -4,25 +4,26 @@ use native.Mathlib.Omega.{arith}
 use mathlib.Core.Logic.{inl}
 use borrow.Author.Needs.{needs}
 use Rattle.lines.specs.Lines.{sameLine}
+use Rattle.rows.specs.Sizes.{entrySize}
 use Rattle.rows.specs.Stored.{entryOf}
 use Rattle.rows.proofs.DropLaws.{Dropping, dropping-start, dropping-same, dropping-other, dropping-done, dropped-nothing, compacted}
 use Rattle.rows.proofs.normalize.compact_line_rows.Statement.{statement}
 use Rattle.rows.proofs.normalize.compact_line_rows.Tie as tie
 
 abbrev Inv-loop : tie.InvT-loop
-Inv-loop work₀ base n last₀ i₀ work last i = Dropping entryOf 16 sameLine work₀ work base n last i
+Inv-loop work₀ base n last₀ i₀ work last i = Dropping entryOf entrySize sameLine work₀ work base n last i
 
 abbrev μ-loop : tie.MeasureT-loop
 μ-loop work₀ base n last₀ i₀ work last i = n - i
 
 returns : tie.Need-returns Inv-loop μ-loop
-returns c = compacted (dropped-nothing entryOf 16 sameLine (c .before .before .args .work .now) (c .before .before .args .base) (c .before .before .args .n) (c .if1 .taken))
+returns c = compacted (dropped-nothing entryOf entrySize sameLine (c .before .before .args .work .now) (c .before .before .args .base) (c .before .before .args .n) (c .if1 .taken))
 
 loop-holds : tie.Need-loop-holds Inv-loop μ-loop
 loop-holds c =
     let s = c .before .before .args in
     let e = c .if1 .left in
-    dropping-start entryOf 16 sameLine (s .work .now) (s .base) (s .n) (omega arith)
+    dropping-start entryOf entrySize sameLine (s .work .now) (s .base) (s .n) (omega arith)
 
 mul-same-line : tie.Need-mul-same-line Inv-loop μ-loop
 mul-same-line c = omega arith

@@ -4,25 +4,26 @@ use native.Mathlib.Omega.{arith}
 use mathlib.Core.Logic.{inl}
 use borrow.Author.Needs.{needs}
 use Rattle.lines.specs.Lines.{sameRow}
+use Rattle.rows.specs.Sizes.{lineSize}
 use Rattle.rows.specs.Stored.{lineOf, lineAt}
 use Rattle.rows.proofs.DropLaws.{Dropping, dropping-start, dropping-same, dropping-other, dropping-done, dropped-nothing, deduped}
 use Rattle.rows.proofs.normalize.dedup_rows.Statement.{statement}
 use Rattle.rows.proofs.normalize.dedup_rows.Tie as tie
 
 abbrev Inv-loop : tie.InvT-loop
-Inv-loop work₀ base n last₀ i₀ work last i = Dropping lineOf 25 sameRow work₀ work base n last i
+Inv-loop work₀ base n last₀ i₀ work last i = Dropping lineOf lineSize sameRow work₀ work base n last i
 
 abbrev μ-loop : tie.MeasureT-loop
 μ-loop work₀ base n last₀ i₀ work last i = n - i
 
 returns : tie.Need-returns Inv-loop μ-loop
-returns c = deduped (dropped-nothing lineOf 25 sameRow (c .before .before .args .work .now) (c .before .before .args .base) (c .before .before .args .n) (c .if1 .taken))
+returns c = deduped (dropped-nothing lineOf lineSize sameRow (c .before .before .args .work .now) (c .before .before .args .base) (c .before .before .args .n) (c .if1 .taken))
 
 loop-holds : tie.Need-loop-holds Inv-loop μ-loop
 loop-holds c =
     let s = c .before .before .args in
     let e = c .if1 .left in
-    dropping-start lineOf 25 sameRow (s .work .now) (s .base) (s .n) (omega arith)
+    dropping-start lineOf lineSize sameRow (s .work .now) (s .base) (s .n) (omega arith)
 
 mul-same-row : tie.Need-mul-same-row Inv-loop μ-loop
 mul-same-row c = omega arith
