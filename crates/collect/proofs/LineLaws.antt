@@ -51,7 +51,7 @@ warnings-append (x ∷ a) b = rw (warnings-append a b) (sym (append-assoc (encod
 
 module _ {w : List ℕ} {c : Conversion} {r : Row} {file : FileIndex} where
   pub line-appended : {w′ : List ℕ} {count : ℕ} {o : StatementSequence} → r .line < 4294967296 → sequenceOf o ≡ at (offsetsOf w c) (r .sequence)
-      → PutLine w w′ (c .lines + count * lineSize) (record { address = r .address; file = file; line = r .line }) o → LineAppended w w′ c r file count
+      → PutLine w w′ (c .lines + count * lineSize) (record { address = r .address; file = file; line = r .line; column = r .column }) o → LineAppended w w′ c r file count
   unfolding convertLine
   line-appended {count = count} h e P = record {
     is = λ table indices. rw (lt-ltb (r .line) (2 ^ 32) h, lines-push (c .lines) count P, e);
@@ -87,7 +87,7 @@ module _ {w : List ℕ} {c : Conversion} {r : Row} {file : FileIndex} where
 
 -- ---- a row of the sheet
 
-pub row-read : (s : List ℕ) (start a f l n : ℕ) → a ≡ leAt 8 s start → f ≡ leAt 8 s (start + 8) → l ≡ leAt 8 s (start + 16)
-    → rawOf (record { address = a; file = record { 0 = f }; line = l; sequence = n }) ≡ rawLine (rowOf (chunk s start rowFieldSize)) n
+pub row-read : (s : List ℕ) (start a f l k n : ℕ) → a ≡ leAt 8 s start → f ≡ leAt 8 s (start + 8) → l ≡ leAt 8 s (start + 16) → k ≡ leAt 2 s (start + 24)
+    → rawOf (record { address = a; file = record { 0 = f }; line = l; column = k; sequence = n }) ≡ rawLine (rowOf (chunk s start rowFieldSize)) n
 unfolding rowOf
-row-read s start a f l n ea ef el = rw (leAt-front 8 s start rowFieldSize (omega arith), leAt-chunk 8 s start rowFieldSize 8 (omega arith), leAt-chunk 8 s start rowFieldSize 16 (omega arith), ea, ef, el)
+row-read s start a f l k n ea ef el ek = rw (leAt-front 8 s start rowFieldSize (omega arith), leAt-chunk 8 s start rowFieldSize 8 (omega arith), leAt-chunk 8 s start rowFieldSize 16 (omega arith), leAt-chunk 2 s start rowFieldSize 24 (omega arith), ea, ef, el, ek)

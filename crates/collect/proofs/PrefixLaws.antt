@@ -45,7 +45,7 @@ module _ (offsets : List ℕ) (r : RawLine) (ws : List Warning) where
   line-after file c = go (ltb (r .line) (2 ^ 32))
     where
       l : SequencedLine
-      l = record { entry = record { address = r .address; file = file; line = r .line }; statementSequence = at offsets (r .sequence) }
+      l = record { entry = record { address = r .address; file = file; line = r .line; column = r .column }; statementSequence = at offsets (r .sequence) }
 
       w : Warning
       w = about unrepresentableLine (r .address) (r .line)

@@ -72,7 +72,7 @@ pub record ConversionIn (main supplementary w : List ℕ) (c : Conversion) (st :
 
 -- a row of the sheet, with the number of its sequence
 abbrev pub rawOf : Row → RawLine
-rawOf r = record { address = r .address; file = r .file .0; line = r .line; sequence = r .sequence }
+rawOf r = record { address = r .address; file = r .file .0; line = r .line; column = r .column; sequence = r .sequence }
 
 -- ---- the file of a row that the unit's map has no number for
 

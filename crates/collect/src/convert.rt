@@ -45,6 +45,7 @@ pub struct Row {
     pub address: u64,
     pub file: FileNumber,
     pub line: u64,
+    pub column: u16,
     pub sequence: usize,
 }
 
@@ -118,6 +119,7 @@ fn append_line(c: Conversion, row: Row, index: tlv::model::FileIndex, work: &mut
         address: row.address,
         file: index,
         line: row.line as u32,
+        column: row.column,
     };
     rows::line::put_line(work, c.lines + count * LINE_SIZE, entry, offset);
 }
@@ -275,10 +277,12 @@ fn read_row(main: &[u8], start: usize, sequence: usize) -> Row
     let address = tlv::bytes::read_u64(main, start);
     let file = tlv::bytes::read_u64(main, start + 8);
     let line = tlv::bytes::read_u64(main, start + 16);
+    let column = tlv::bytes::read_u16(main, start + 24);
     Row {
         address: address,
         file: FileNumber(file),
         line: line,
+        column: column,
         sequence: sequence,
     }
 }

@@ -3,12 +3,13 @@ ghost use Prim.Native.Nat.{_≤_};
 use tlv::model::FileIndex;
 use tlv::model::LineEntry;
 
-// A code's two digits are the row's file and line.
-fn row(address: u64, code: u8) -> LineEntry {
+// A code's two digits are the row's file and line; no two rows have the same column.
+fn row(place: u16, code: u8) -> LineEntry {
     LineEntry {
-        address: address,
+        address: place as u64,
         file: FileIndex((code / 10) as u32),
         line: (code % 10) as u32,
+        column: place,
     }
 }
 
@@ -19,6 +20,8 @@ fn write_row(row: LineEntry) {
     io::print_decimal(1, row.file.0 as u64);
     io::write_all(1, b":");
     io::print_decimal(1, row.line as u64);
+    io::write_all(1, b":");
+    io::print_decimal(1, row.column as u64);
 }
 
 fn write_left(rows: [LineEntry; 6], count: usize) {
@@ -40,20 +43,23 @@ fn compact(mut rows: [LineEntry; 6], n: usize)
     write_left(rows, count);
 }
 
-fn show(name: &[u8], codes: [u8; 6], n: usize)
-    requires { ⌜ n ≤ 6 ⌝ }
-{
-    io::write_all(1, name);
-    io::write_all(1, b": ");
-    let rows = [
+fn rows_of(codes: [u8; 6]) -> [LineEntry; 6] {
+    [
         row(0, codes[0]),
         row(1, codes[1]),
         row(2, codes[2]),
         row(3, codes[3]),
         row(4, codes[4]),
         row(5, codes[5]),
-    ];
-    compact(rows, n);
+    ]
+}
+
+fn show(name: &[u8], codes: [u8; 6], n: usize)
+    requires { ⌜ n ≤ 6 ⌝ }
+{
+    io::write_all(1, name);
+    io::write_all(1, b": ");
+    compact(rows_of(codes), n);
 }
 
 fn main() {

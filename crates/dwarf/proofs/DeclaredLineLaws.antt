@@ -131,17 +131,17 @@ module _ {main supplementary w : List ℕ} {q : ImportContext} (st : ImportState
             }
 
         pub finds-line : {st′ : DeclaringState} {file : FileIndex} {line a : ℕ} {t t′ : List ℕ} → d ≡ Declared.Found st′ file line
-            → Put (st .at) (encode 0x42 (rowPayload (record { address = start; file = file; line = line }))) t t′ a
+            → Put (st .at) (encode 0x42 (rowPayload (record { address = start; file = file; line = line; column = 0 }))) t t′ a
             → FindsLines (declaredLine (contextOf main supplementary w q) (entryHere main p) start) main supplementary q w t f u st w′ t′ f′ u′
             (record { table = st′ .table; at = a; warned = st′ .warned; count = 1; status = 0 })
         unfolding _>>=_ eachOf
         finds-line {st′} {file} {line} e P =
             let D : Searches main supplementary q st p w w′ f f′ u u′ (Declared.Found st′ file line) = rw e at S in
             record {
-              rows = record { address = start; file = file; line = line } ∷ [];
+              rows = record { address = start; file = file; line = line; column = 0 } ∷ [];
               new = D .new;
               count = λ z. refl;
-              laid = λ z. put-as (append-nil (encode 0x42 (rowPayload (record { address = start; file = file; line = line })))) P;
+              laid = λ z. put-as (append-nil (encode 0x42 (rowPayload (record { address = start; file = file; line = line; column = 0 })))) P;
               warned = λ z. D .after .put;
               grown = λ z. D .after .grown;
               kept = λ z. searched-touched (D .rest);

@@ -186,6 +186,7 @@ fn declared_line<'a>(
                 address: start,
                 file: file,
                 line: line,
+                column: 0,
             };
             let placed = tlv::output::put_line(records, st.at, row);
             let grown = state.table;

@@ -78,7 +78,7 @@ live-fits text r h e = let l = live-range text r e in record { filled = l .fille
 
 lines-fit : (r : AddressRange) (found : Option LineEntry) (rows : List LineEntry) → RangeFits r → Given FoundFits found → All LineFits rows → All LineFits (linesWith r found rows)
 lines-fit r none rows h f k = k
-lines-fit r (some l) rows h f k = (record { address = omega (arith, h .filled, h .small); file = f .file; line = f .line }, tt)
+lines-fit r (some l) rows h f k = (record { address = omega (arith, h .filled, h .small); file = f .file; line = f .line; column = omega arith }, tt)
 
 module _ (r : AddressRange) (name : List ℕ) (lines : List LineEntry) (x : Descendants) where
   abbrev function : Function

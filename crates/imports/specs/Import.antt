@@ -88,10 +88,10 @@ abbrev pub declarationIf : ImportContext → Entry → FileTable → List Warnin
 declarationIf q e table ws [] = resolveDeclarationLine (q .dwarf) (q .unit) e (q .lines .files) table ws
 declarationIf q e table ws (x ∷ xs) = done (record { trail = emptyTrail; table = table; warnings = ws; found = none })
 
--- a declaration that was found is the only row
+-- a declaration that was found is the only row; E7: "a declaration row has 0"
 abbrev pub linesWith : AddressRange → Option LineEntry → List LineEntry → List LineEntry
 linesWith r none rows = rows
-linesWith r (some l) rows = record { address = r .start; file = l .file; line = l .line } ∷ []
+linesWith r (some l) rows = record { address = r .start; file = l .file; line = l .line; column = 0 } ∷ []
 
 -- the root, which bears the function's name and range, above the nodes, where there are any
 abbrev pub rooted : List ℕ → AddressRange → List InlineNode → List InlineNode

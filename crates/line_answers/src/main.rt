@@ -285,6 +285,8 @@ fn write_entry(entry: tlv::model::LineEntry) {
     io::print_decimal(1, file.0 as u64);
     io::write_all(1, b":");
     io::print_decimal(1, entry.line as u64);
+    io::write_all(1, b":");
+    io::print_decimal(1, entry.column as u64);
 }
 
 // The `count` rows that stand at a place.

@@ -23,6 +23,7 @@ pub mod Differences
 pub mod PrintedPath
 pub mod SignedCases
 pub mod WindowsCases
+pub mod ColumnCases
 pub mod PathCodeLaws
 pub mod JoinLaws
 pub mod UlebLaws

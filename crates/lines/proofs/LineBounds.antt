@@ -48,8 +48,8 @@ convert-line-fits : (offsets : List ℕ) (r : RawLine) (file : FileIndex) (c : C
     → RawFits r → IndexFits file → ConvertedFits c → ConvertedFits (convertLine offsets r file c)
 unfolding convertLine
 convert-line-fits offsets r file c raw number f =
-    let line : SequencedLine = record { entry = record { address = r .address; file = file; line = r .line }; statementSequence = at offsets (r .sequence) } in
-    by-test ConvertedFits (ltb (r .line) (2 ^ 32)) (λ e. with-line-fits c line f (record { address = raw .address; file = number; line = ltb-true (r .line) (2 ^ 32) e }))
+    let line : SequencedLine = record { entry = record { address = r .address; file = file; line = r .line; column = r .column }; statementSequence = at offsets (r .sequence) } in
+    by-test ConvertedFits (ltb (r .line) (2 ^ 32)) (λ e. with-line-fits c line f (record { address = raw .address; file = number; line = ltb-true (r .line) (2 ^ 32) e; column = raw .column }))
     (λ e. with-warning-fits c (about unrepresentableLine (r .address) (r .line)) f (raw .address, raw .line))
 
 convert-interned-fits : (offsets : List ℕ) (r : RawLine) (c : Converted) (t : FileTable) (o : Option FileIndex)

@@ -47,18 +47,18 @@ contains-holds r a more e =
     let h = and-left (leb (r .start) a && ltb a (r .end)) more e in
     (leb-true (r .start) a (and-left (leb (r .start) a) (ltb a (r .end)) h), ltb-true a (r .end) (and-right (leb (r .start) a) (ltb a (r .end)) h))
 
--- what is known of a row's file and line, whatever its address
-module _ (Q : FileIndex → ℕ → Type 0) where
+-- what is known of a row's file, line and column, whatever its address
+module _ (Q : FileIndex → ℕ → ℕ → Type 0) where
   abbrev Known : SequencedLine → Type 0
-  Known x = Q (x .entry .file) (x .entry .line)
+  Known x = Q (x .entry .file) (x .entry .line) (x .entry .column)
 
   -- a row in the range
   abbrev Own : AddressRange → LineEntry → Type 0
-  Own r x = RangeHolds r (x .address) × Q (x .file) (x .line)
+  Own r x = RangeHolds r (x .address) × Q (x .file) (x .line) (x .column)
 
   -- a row that was moved to an address
   abbrev Moved : ℕ → LineEntry → Type 0
-  Moved a x = (x .address ≡ a) × Q (x .file) (x .line)
+  Moved a x = (x .address ≡ a) × Q (x .file) (x .line) (x .column)
 
   moved-known : (a : ℕ) (o : Option SequencedLine) → Given Known o → All (Moved a) (movedTo a o)
   moved-known a none f = tt
@@ -75,7 +75,7 @@ earlier-rising l a s (some q) ls h =
 
 -- ---- the rows of a function
 
-module _ (Q : FileIndex → ℕ → Type 0) (l : UnitLines) (known : All (Known Q) (l .entries)) (sorted : Sorted 0 (l .entries)) (r : AddressRange) (s : Option ℕ) where
+module _ (Q : FileIndex → ℕ → ℕ → Type 0) (l : UnitLines) (known : All (Known Q) (l .entries)) (sorted : Sorted 0 (l .entries)) (r : AddressRange) (s : Option ℕ) where
   own : SequencedLine → Bool
   own x = contains r (x .entry .address) && belongs s (x .statementSequence)
 
@@ -121,8 +121,8 @@ rows-distinct : (l : UnitLines) (r : AddressRange) (s : Option ℕ) → Distinct
 unfolding rowsFor
 rows-distinct l r s = compact-distinct _
 
-abbrev Anything : FileIndex → ℕ → Type 0
-Anything i n = Unit {0}
+abbrev Anything : FileIndex → ℕ → ℕ → Type 0
+Anything i n c = Unit {0}
 
 pub rows-agree : (l : UnitLines) (r : AddressRange) (requested : Option ℕ) → Sorted 0 (l .entries) → Nonempty r → RowsAgree r (forRange l r requested .rows)
 unfolding forRange
@@ -135,12 +135,12 @@ rows-agree l r requested sorted filled =
       distinct = rows-distinct l r s;
     }
 
-abbrev Fitting : FileIndex → ℕ → Type 0
-Fitting i n = (i .0 < 2 ^ 32) × (n < 2 ^ 32)
+abbrev Fitting : FileIndex → ℕ → ℕ → Type 0
+Fitting i n c = (i .0 < 2 ^ 32) × (n < 2 ^ 32) × (c < 2 ^ 16)
 
 pub rows-fit : (l : UnitLines) (r : AddressRange) (requested : Option ℕ) → LinesFit l → r .end ≤ 2 ^ 64 → Nonempty r → All LineFits (forRange l r requested .rows)
 unfolding forRange
 rows-fit l r requested fits small filled =
-    rows-all Fitting l (all-map (l .entries) (λ x h. (h .file, h .line)) (fits .entries)) (fits .sorted) r (selectedSequence l requested) LineFits
-    (λ x h. record { address = omega (arith, h .0); file = h .1 .0; line = h .1 .1 })
-    (λ x h. record { address = omega (arith, h .0); file = h .1 .0; line = h .1 .1 })
+    rows-all Fitting l (all-map (l .entries) (λ x h. (h .file, h .line, h .column)) (fits .entries)) (fits .sorted) r (selectedSequence l requested) LineFits
+    (λ x h. record { address = omega (arith, h .0); file = h .1 .0; line = h .1 .1; column = h .1 .2 })
+    (λ x h. record { address = omega (arith, h .0); file = h .1 .0; line = h .1 .1; column = h .1 .2 })

@@ -19,6 +19,7 @@ pub record RawFits (r : RawLine) : Type 0 where
   pub address : r .address < 2 ^ 64
   pub file : r .file < 2 ^ 64
   pub line : r .line < 2 ^ 64
+  pub column : r .column < 2 ^ 16
 
 -- a run with at most n sequences
 pub record RunFits (n : ℕ) (run : Run) : Type 0 where
@@ -26,7 +27,7 @@ pub record RunFits (n : ℕ) (run : Run) : Type 0 where
   pub count : run .count ≤ n
 
 raw-fits : (r : LineRow) (n : ℕ) → RowAccepted r → RawFits (rawLine r n)
-raw-fits r n a = record { address = a .address; file = a .file; line = a .line }
+raw-fits r n a = record { address = a .address; file = a .file; line = a .line; column = a .column }
 
 -- each sequence takes one row more
 pub run-rows-fit : (most : ℕ) (rs : List LineRow) (n : ℕ) (opened : List RawLine) → n + length rs ≤ most → All RowAccepted rs → All RawFits opened

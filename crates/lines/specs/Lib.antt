@@ -10,5 +10,6 @@ pub mod Differences
 pub mod PrintedPath
 pub mod SignedCases
 pub mod WindowsCases
+pub mod ColumnCases
 pub mod Join
 pub mod Scan

@@ -22,6 +22,7 @@ pub record RawLine : Type 0 where
   pub address : ℕ
   pub file : ℕ
   pub line : ℕ
+  pub column : ℕ
   pub sequence : ℕ
 
 -- a sequence's addresses and its number
@@ -35,7 +36,7 @@ pub record Run : Type 0 where
   pub count : ℕ  -- of sequences
 
 abbrev pub rawLine : LineRow → ℕ → RawLine
-rawLine r n = record { address = r .address; file = r .file; line = r .line; sequence = n }
+rawLine r n = record { address = r .address; file = r .file; line = r .line; column = r .column; sequence = n }
 
 -- a sequence starts at its first row; an end row alone makes one from 0
 abbrev pub startOf : List RawLine → ℕ
@@ -91,7 +92,7 @@ withLine c l = record { table = c .table; indices = c .indices; lines = c .lines
 unfoldable pub convertLine : List ℕ → RawLine → FileIndex → Converted → Converted
 convertLine offsets r file c =
     cond (ltb (r .line) (2 ^ 32))
-    (withLine c (record { entry = record { address = r .address; file = file; line = r .line }; statementSequence = at offsets (r .sequence) }))
+    (withLine c (record { entry = record { address = r .address; file = file; line = r .line; column = r .column }; statementSequence = at offsets (r .sequence) }))
     (withWarning c (about unrepresentableLine (r .address) (r .line)))
 
 -- a file that was looked up for a row; one with no path drops the row silently
@@ -134,6 +135,7 @@ sameSequence none (some b) = false
 sameSequence (some a) none = false
 sameSequence (some a) (some b) = eqb a b
 
+-- E7: neighbours drop and merge "as before, whatever their columns, the first one kept"
 abbrev pub sameLine : LineEntry → LineEntry → Bool
 sameLine x y = eqb (x .file .0) (y .file .0) && eqb (x .line) (y .line)
 

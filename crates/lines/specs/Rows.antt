@@ -26,10 +26,10 @@ compactLineRows = dropNeighbours sameLine
 unfoldable pub ownRows : UnitLines → AddressRange → Option ℕ → List LineEntry
 ownRows l r s = map (λ x. x .entry) (filter (λ x. contains r (x .entry .address) && belongs s (x .statementSequence)) (l .entries))
 
--- a row moved to an address
+-- a row moved to an address; E7: it "brings its column"
 abbrev pub movedTo : ℕ → Option SequencedLine → List LineEntry
 movedTo a none = []
-movedTo a (some x) = record { address = a; file = x .entry .file; line = x .entry .line } ∷ []
+movedTo a (some x) = record { address = a; file = x .entry .file; line = x .entry .line; column = x .entry .column } ∷ []
 
 -- "the last earlier row of that sequence (of any, if neither it nor the request has an offset) is put first, moved to the start"
 abbrev pub earlierIn : UnitLines → ℕ → Option ℕ → Option LineSequenceRange → List LineEntry

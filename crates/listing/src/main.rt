@@ -58,7 +58,7 @@ fn write_function(p: &[u8]) {
     end_line();
 }
 
-// 42: address, file, line.
+// 42: address, file, line, column.
 fn write_row(p: &[u8]) {
     if p.len() < ROW_SIZE {
         return;
@@ -67,6 +67,7 @@ fn write_row(p: &[u8]) {
     io::print_hex(1, tlv::bytes::read_u64(p, 0), 1);
     write_decimal(tlv::bytes::read_u32(p, 8) as u64);
     write_decimal(tlv::bytes::read_u32(p, 12) as u64);
+    write_decimal(tlv::bytes::read_u16(p, 16) as u64);
     end_line();
 }
 

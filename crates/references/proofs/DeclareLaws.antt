@@ -49,7 +49,7 @@ module _ {main supplementary w files warnings : List ℕ} {d : Places} {st : Dec
 
   pub declares-found : {f : Search} {file : FileIndex} {line a : ℕ}
       → ((k : ℕ) (ws : List Warning) → f (declaringAt main supplementary w d st ws k)
-      ≡ record { reads = k; outcome = done (withFound (declaringAt main supplementary w d st ws k) (some (record { address = 0; file = file; line = line }))) })
+      ≡ record { reads = k; outcome = done (withFound (declaringAt main supplementary w d st ws k) (some (record { address = 0; file = file; line = line; column = 0 }))) })
       → DeclaresCounted f main supplementary w w files files warnings warnings d st a a (Declared.Found st file line)
   declares-found e = record { reads = λ k. k; adds = λ k. refl; few = tt; new = []; is = λ k ws. rw (append-nil ws) (e k ws); after = state-none; rest = but-refl _ _ }
 

@@ -75,7 +75,7 @@ abbrev pub DeclaredAs : List ℕ → List ℕ → List ℕ → Places → List W
 DeclaredAs main supplementary w′ d ws reads new o (Declared.Refused n) = o ≡ refused n
 DeclaredAs main supplementary w′ d ws reads new o (Declared.Missing st′) = o ≡ done (declaringAt main supplementary w′ d st′ (ws ++ new) reads)
 DeclaredAs main supplementary w′ d ws reads new o (Declared.Found st′ file line) =
-    o ≡ done (withFound (declaringAt main supplementary w′ d st′ (ws ++ new) reads) (some (record { address = 0; file = file; line = line })))
+    o ≡ done (withFound (declaringAt main supplementary w′ d st′ (ws ++ new) reads) (some (record { address = 0; file = file; line = line; column = 0 })))
 
 -- the state after, its new files and warnings written
 pub record DeclaredState (main supplementary w w′ files files′ warnings warnings′ : List ℕ) (d : Places) (st st′ : DeclaringState) (new : List Warning) : Type 0 where
@@ -109,7 +109,7 @@ abbrev pub CountedAs : List ℕ → List ℕ → List ℕ → Places → List Wa
 CountedAs main supplementary w′ d ws n new c (Declared.Refused k) = c ≡ record { reads = n; outcome = refused k }
 CountedAs main supplementary w′ d ws n new c (Declared.Missing st′) = c ≡ record { reads = n; outcome = done (declaringAt main supplementary w′ d st′ (ws ++ new) n) }
 CountedAs main supplementary w′ d ws n new c (Declared.Found st′ file line) =
-    c ≡ record { reads = n; outcome = done (withFound (declaringAt main supplementary w′ d st′ (ws ++ new) n) (some (record { address = 0; file = file; line = line }))) }
+    c ≡ record { reads = n; outcome = done (withFound (declaringAt main supplementary w′ d st′ (ws ++ new) n) (some (record { address = 0; file = file; line = line; column = 0 }))) }
 
 -- where the search goes on, it has read no more entries than it followed targets, and its start
 abbrev pub FewRead : ℕ → Declared → Type 0

@@ -251,7 +251,7 @@ warnDeclaration kind u e n s = absoluteEntryOffset u (e .offset) >>= λ o.
 abbrev pub declarationOf : CompilationUnit → Entry → ℕ → ℕ → Option FileIndex → Declaring → Outcome Declaring
 declarationOf u e file line none s = warnDeclaration invalidDeclarationFile u e file s
 declarationOf u e file line (some i) s =
-    cond (ltb line (2 ^ 32)) (done (withFound s (some (record { address = 0; file = i; line = line })))) (warnDeclaration invalidDeclarationLine u e line s)
+    cond (ltb line (2 ^ 32)) (done (withFound s (some (record { address = 0; file = i; line = line; column = 0 })))) (warnDeclaration invalidDeclarationLine u e line s)
 
 abbrev pub declarationFrom : CompilationUnit → Entry → FileIndices → Option ℕ → Option ℕ → Declaring → Outcome Declaring
 declarationFrom u e is none line s = done s

@@ -74,7 +74,7 @@ module _ {w : List ℕ} {base n a i : ℕ} {s : Option ℕ} (B : Backwards w bas
     back-next f = record { few = omega (arith, B .few); most = omega (arith, B .most); left = B .left ∙ last-row ∙ rw f }
 
     pub back-found : {x : LineEntry} → t ≡ true → x ≡ entryOf (chunk w (base + (i - 1) * lineSize) entrySize)
-        → earlierOf (Earlier.Row (record { address = a; file = x .file; line = x .line })) ≡ movedTo a (last (earlierThan a s) (linesOf w base n))
+        → earlierOf (Earlier.Row (record { address = a; file = x .file; line = x .line; column = x .column })) ≡ movedTo a (last (earlierThan a s) (linesOf w base n))
     unfolding orElse
     back-found {x} f is =
         let same : x ≡ lineAt w (base + (i - 1) * lineSize) .entry = is ∙ sym (line-entry w (base + (i - 1) * lineSize)) in

@@ -10,7 +10,7 @@ use Rattle.lines.specs.Rows.{contains}
 use Rattle.rows.specs.Front.{FrontRows, frontRows}
 
 abbrev row : ℕ → LineEntry
-row a = record { address = a; file = record { 0 = 1 }; line = a }
+row a = record { address = a; file = record { 0 = 1 }; line = a; column = 0 }
 
 -- a row of the sequence at 44
 abbrev of : ℕ → SequencedLine

@@ -56,9 +56,9 @@ module _ (w : List ℕ) (p : ℕ) where
     line = leAt 4 w (p + 12);
   }
   unfolding entryOf
-  entry-of m h = λ i. record { address = leAt-front 8 w p m (omega arith) i; file = record { 0 = leAt-chunk 4 w p m 8 (omega arith) i }; line = leAt-chunk 4 w p m 12 (omega arith) i }
+  entry-of m h = λ i. record { address = leAt-front 8 w p m (omega arith) i; file = record { 0 = leAt-chunk 4 w p m 8 (omega arith) i }; line = leAt-chunk 4 w p m 12 (omega arith) i; column = leAt-chunk 2 w p m 16 (omega arith) i }
 
-  pub entry-is : entryOf (chunk w p entrySize) ≡ record { address = leAt 8 w p; file = record { 0 = leAt 4 w (p + 8) }; line = leAt 4 w (p + 12) }
+  pub entry-is : entryOf (chunk w p entrySize) ≡ record { address = leAt 8 w p; file = record { 0 = leAt 4 w (p + 8) }; line = leAt 4 w (p + 12); column = leAt 2 w (p + 16) }
   entry-is = entry-of entrySize (omega arith)
 
   pub entry-address : entryOf (chunk w p entrySize) .address ≡ leAt 8 w p
@@ -105,23 +105,27 @@ module _ (w : List ℕ) (p : ℕ) where
   range-sequence = ap (λ (q : LineSequenceRange). q .statementSequence) range-is
 
 -- a row that was read field by field
-pub got-entry : (w : List ℕ) (p : ℕ) {a f l : ℕ} → a ≡ leAt 8 w p → f ≡ leAt 4 w (p + 8) → l ≡ leAt 4 w (p + 12) → record { address = a; file = record { 0 = f }; line = l } ≡ entryOf (chunk w p entrySize)
-got-entry w p a f l = (λ i. record { address = a i; file = record { 0 = f i }; line = l i }) ∙ sym (entry-is w p)
+pub got-entry : (w : List ℕ) (p : ℕ) {a f l k : ℕ} → a ≡ leAt 8 w p → f ≡ leAt 4 w (p + 8) → l ≡ leAt 4 w (p + 12) → k ≡ leAt 2 w (p + 16)
+    → record { address = a; file = record { 0 = f }; line = l; column = k } ≡ entryOf (chunk w p entrySize)
+got-entry w p a f l k = (λ i. record { address = a i; file = record { 0 = f i }; line = l i; column = k i }) ∙ sym (entry-is w p)
 
 pub got-address : (w : List ℕ) (p : ℕ) {a : ℕ} → a ≡ leAt 8 w p → a ≡ lineAt w p .entry .address
 got-address w p a = a ∙ sym (line-address w p)
 
 -- ---- what the writes make of them
 
-pub put-entry : {w w₁ w₂ w₃ : List ℕ} {p : ℕ} {l : LineEntry} → Wrote w w₁ p 8 (l .address) → Wrote w₁ w₂ (p + 8) 4 (l .file .0) → Wrote w₂ w₃ (p + 12) 4 (l .line) → PutEntry w w₃ p l
-put-entry {w} {w₁} {w₂} {w₃} {p} {l} A F L =
-    let ea : leAt 8 w₃ p ≡ l .address = leAt-kept 8 p (L .rest) (inl (omega arith)) ∙ leAt-kept 8 p (F .rest) (inl (omega arith)) ∙ A .value in
-    let ef : leAt 4 w₃ (p + 8) ≡ l .file .0 = leAt-kept 4 (p + 8) (L .rest) (inl (omega arith)) ∙ F .value in
+pub put-entry : {w w₁ w₂ w₃ w₄ : List ℕ} {p : ℕ} {l : LineEntry} → Wrote w w₁ p 8 (l .address) → Wrote w₁ w₂ (p + 8) 4 (l .file .0) → Wrote w₂ w₃ (p + 12) 4 (l .line)
+    → Wrote w₃ w₄ (p + 16) 2 (l .column) → PutEntry w w₄ p l
+put-entry {w} {w₁} {w₂} {w₃} {w₄} {p} {l} A F L C =
+    let ea : leAt 8 w₄ p ≡ l .address = leAt-kept 8 p (C .rest) (inl (omega arith)) ∙ leAt-kept 8 p (L .rest) (inl (omega arith)) ∙ leAt-kept 8 p (F .rest) (inl (omega arith)) ∙ A .value in
+    let ef : leAt 4 w₄ (p + 8) ≡ l .file .0 = leAt-kept 4 (p + 8) (C .rest) (inl (omega arith)) ∙ leAt-kept 4 (p + 8) (L .rest) (inl (omega arith)) ∙ F .value in
+    let el : leAt 4 w₄ (p + 12) ≡ l .line = leAt-kept 4 (p + 12) (C .rest) (inl (omega arith)) ∙ L .value in
     record {
-      entry = entry-is w₃ p ∙ (λ i. record { address = ea i; file = record { 0 = ef i }; line = L .value i });
+      entry = entry-is w₄ p ∙ (λ i. record { address = ea i; file = record { 0 = ef i }; line = el i; column = C .value i });
       rest =
           kept-trans (kept-wide p entrySize (A .rest) (omega arith) (omega arith))
-          (kept-trans (kept-wide p entrySize (F .rest) (omega arith) (omega arith)) (kept-wide p entrySize (L .rest) (omega arith) (omega arith)));
+          (kept-trans (kept-wide p entrySize (F .rest) (omega arith) (omega arith))
+          (kept-trans (kept-wide p entrySize (L .rest) (omega arith) (omega arith)) (kept-wide p entrySize (C .rest) (omega arith) (omega arith))));
     }
 
 pub put-some : {w w₁ w₂ : List ℕ} {p n : ℕ} → Wrote w w₁ p 1 1 → Wrote w₁ w₂ (p + 1) 8 n → PutSequence w w₂ p (StatementSequence.At n)

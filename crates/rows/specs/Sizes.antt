@@ -5,9 +5,9 @@ use Prim.Native.Nat.{ℕ, _+_, _*_}
 abbrev pub sequenceSize : ℕ
 sequenceSize = 9
 
--- a function's row: the address 8, the file 4, the line 4
+-- a function's row: the address 8, the file 4, the line 4, the column 2
 abbrev pub entrySize : ℕ
-entrySize = 16
+entrySize = 18
 
 -- a unit's row: a function's row, and its sequence
 abbrev pub lineSize : ℕ

@@ -24,7 +24,7 @@ storedSequence b p = cond (eqb (leAt 1 b p) 1) (some (leAt 8 b (p + 1))) none
 -- ---- a function's row
 
 unfoldable pub entryOf : List ℕ → LineEntry
-entryOf b = record { address = leAt 8 b 0; file = record { 0 = leAt 4 b 8 }; line = leAt 4 b 12 }
+entryOf b = record { address = leAt 8 b 0; file = record { 0 = leAt 4 b 8 }; line = leAt 4 b 12; column = leAt 2 b 16 }
 
 unfoldable pub entriesOf : List ℕ → ℕ → ℕ → List LineEntry
 entriesOf w base n = records entryOf entrySize w base n

@@ -200,6 +200,7 @@ fn last_before(work: &[u8], l: StoredLines, address: u64, asked: StatementSequen
                 address: address,
                 file: file,
                 line: entry.line,
+                column: entry.column,
             });
         }
         i -= 1;

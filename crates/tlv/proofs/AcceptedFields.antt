@@ -101,6 +101,7 @@ row-promise c p b s l = record {
   address = leAt-bound 8 p 0 b;
   file = leAt-bound 8 p 8 b;
   line = leAt-bound 8 p 16 b;
+  column = leAt-bound 2 p 24 b;
   kind = leb-true _ _ (search (and-left, and-right));
 }
 

@@ -97,20 +97,30 @@ module _ (r : AddressRange) (h : RangeFits r) where
   range-back = rw range-function (function-range [])
 
 -- 42
-pub row-back : (l : LineEntry) → LineFits l → lineOf (rowPayload l) ≡ l
-unfolding rowPayload lineOf
-row-back l h =
-    let file = bytesOf 4 (l .file .0) in
-    let line = bytesOf 4 (l .line) in
-    rw (
-      append-assoc (bytesOf 8 (l .address)) file line,
-      leAt-first 8 (l .address) (file ++ line) (h .address),
-      leAt-next 4 8 (l .address) 0 (file ++ line),
-      leAt-first 4 (l .file .0) line (h .file),
-      leAt-next 4 8 (l .address) 4 (file ++ line),
-      leAt-next 4 4 (l .file .0) 0 line,
-      leAt-only 4 (l .line) (h .line),
-    )
+module _ (l : LineEntry) where
+  row-spread : rowPayload l ≡ bytesOf 8 (l .address) ++ (bytesOf 4 (l .file .0) ++ (bytesOf 4 (l .line) ++ bytesOf 2 (l .column)))
+  unfolding rowPayload
+  row-spread = simp append-assoc
+
+  pub row-back : LineFits l → lineOf (rowPayload l) ≡ l
+  unfolding lineOf
+  row-back h =
+      let column = bytesOf 2 (l .column) in
+      let line = bytesOf 4 (l .line) ++ column in
+      let file = bytesOf 4 (l .file .0) ++ line in
+      rw (
+        row-spread,
+        leAt-first 8 (l .address) file (h .address),
+        leAt-next 4 8 (l .address) 0 file,
+        leAt-first 4 (l .file .0) line (h .file),
+        leAt-next 4 8 (l .address) 4 file,
+        leAt-next 4 4 (l .file .0) 0 line,
+        leAt-first 4 (l .line) column (h .line),
+        leAt-next 2 8 (l .address) 8 file,
+        leAt-next 2 4 (l .file .0) 4 line,
+        leAt-next 2 4 (l .line) 0 column,
+        leAt-only 2 (l .column) (h .column),
+      )
 
 -- 43
 module _ (n : InlineNode) where

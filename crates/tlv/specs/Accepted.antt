@@ -34,6 +34,7 @@ pub record RowAccepted (r : LineRow) : Type 0 where
   pub address : r .address < 2 ^ 64
   pub file : r .file < 2 ^ 64
   pub line : r .line < 2 ^ 64
+  pub column : r .column < 2 ^ 16
   pub kind : r .kind ≤ 2
 
 -- an entry of a unit of n bytes

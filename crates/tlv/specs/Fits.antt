@@ -23,6 +23,7 @@ pub record LineFits (l : LineEntry) : Type 0 where
   pub address : l .address < 2 ^ 64
   pub file : l .file .0 < 2 ^ 32
   pub line : l .line < 2 ^ 32
+  pub column : l .column < 2 ^ 16
 
 -- a node where the largest depth is d
 pub record NodeFits (d : ℕ) (n : InlineNode) : Type 0 where

@@ -67,9 +67,9 @@ directoryShaped p = leb 1 (length p) && isFlag (leAt 1 p 0)
 unfoldable pub fileShaped : List ℕ → Bool
 fileShaped p = leb 9 (length p) && isFlag (leAt 1 p 0)
 
--- 16 row: address, file number, line, kind (1 byte: 0 plain, 1 end of sequence, 2 failed here): where the kind stands
+-- 16 row: address, file number, line, (E7) a column of 2 bytes "after the line", kind (1 byte: 0 plain, 1 end of sequence, 2 failed here): where the kind stands
 abbrev pub rowKindAt : ℕ
-rowKindAt = 24
+rowKindAt = 26
 
 -- the kind is its last byte
 abbrev pub rowFieldSize : ℕ

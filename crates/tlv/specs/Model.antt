@@ -59,6 +59,7 @@ pub record LineRow : Type 0 where
   pub address : ℕ
   pub file : ℕ
   pub line : ℕ
+  pub column : ℕ
   pub kind : ℕ
 
 pub record CompilationUnit : Type 0 where
@@ -105,7 +106,7 @@ fileOf p = record { failed = flagAt p 0; directory = leAt 8 p 1; path = drop 9 p
 
 -- 16
 unfoldable pub rowOf : List ℕ → LineRow
-rowOf p = record { address = leAt 8 p 0; file = leAt 8 p 8; line = leAt 8 p 16; kind = leAt 1 p rowKindAt }
+rowOf p = record { address = leAt 8 p 0; file = leAt 8 p 8; line = leAt 8 p 16; column = leAt 2 p 24; kind = leAt 1 p rowKindAt }
 
 -- 18
 unfoldable pub attributeOf : List ℕ → Attribute

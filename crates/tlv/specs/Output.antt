@@ -64,12 +64,12 @@ kindNumber invalidDeclarationLine = 11
 unfoldable pub functionPayload : AddressRange → List ℕ → List ℕ
 functionPayload r name = bytesOf 8 (r .start) ++ bytesOf 8 (r .end) ++ name
 
--- 42 row: address, file 4 bytes, line 4 bytes; so many bytes
+-- 42 row: address, file 4 bytes, line 4 bytes, (E7) column 2 bytes; so many bytes
 abbrev pub trayRowSize : ℕ
-trayRowSize = 16
+trayRowSize = 18
 
 unfoldable pub rowPayload : LineEntry → List ℕ
-rowPayload l = bytesOf 8 (l .address) ++ bytesOf 4 (l .file .0) ++ bytesOf 4 (l .line)
+rowPayload l = bytesOf 8 (l .address) ++ bytesOf 4 (l .file .0) ++ bytesOf 4 (l .line) ++ bytesOf 2 (l .column)
 
 -- 43 node: depth 2, call file 4, call line 4, name
 unfoldable pub nodePayload : InlineNode → List ℕ

@@ -52,7 +52,7 @@ recordsForm previous depth (more f fs) =
 -- ---- what a records tray says
 
 unfoldable pub lineOf : List ℕ → LineEntry
-lineOf p = record { address = leAt 8 p 0; file = record { 0 = leAt 4 p 8 }; line = leAt 4 p 12 }
+lineOf p = record { address = leAt 8 p 0; file = record { 0 = leAt 4 p 8 }; line = leAt 4 p 12; column = leAt 2 p 16 }
 
 unfoldable pub nodeOf : Group → InlineNode
 nodeOf g =

@@ -22,7 +22,7 @@ const REASON_LIMIT: usize = 4096;
 const DEPTH_LIMIT: u16 = 1024;
 
 // Where a row field's kind stands in its payload: at its end.
-pub const ROW_KIND: usize = 24;
+pub const ROW_KIND: usize = 26;
 
 // The length of a row field's payload.
 pub const ROW_FIELD: usize = ROW_KIND + 1;

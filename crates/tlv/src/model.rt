@@ -14,6 +14,7 @@ pub struct LineEntry {
     pub address: u64,
     pub file: FileIndex,
     pub line: u32,
+    pub column: u16,
 }
 
 // The sheet that something stands in, or is remembered under.

@@ -168,9 +168,9 @@ pub fn put_function(buffer: &mut [u8], at: usize, range: AddressRange, name: &[u
 }
 
 // The length of a row's payload in the records tray.
-pub const TRAY_ROW: u16 = 16;
+pub const TRAY_ROW: u16 = 18;
 
-// 42 row: address, file 4 bytes, line 4 bytes.
+// 42 row: address, file 4 bytes, line 4 bytes, column 2 bytes.
 pub fn put_line(buffer: &mut [u8], at: usize, line: LineEntry) -> usize
     ensures { λ r. ⌜ Put at (encode 0x42 (rowPayload line)) (now (buffer .entry)) (now (buffer .exit)) r ⌝ }
 {
@@ -178,7 +178,8 @@ pub fn put_line(buffer: &mut [u8], at: usize, line: LineEntry) -> usize
     let headed = put_head(buffer, at, 0x42, TRAY_ROW);
     let addressed = put_u64(buffer, headed, line.address);
     let filed = put_u32(buffer, addressed, file.0);
-    put_u32(buffer, filed, line.line)
+    let lined = put_u32(buffer, filed, line.line);
+    put_u16(buffer, lined, line.column)
 }
 
 // 43 node: depth 2, call file 4, call line 4, name. Its ranges follow in fields of their own.

@@ -109,7 +109,7 @@ module _ {M : Type 1} (𝓤 : URA M) (H : Heap 𝓤) (A : Atoms 𝓤) (W : Given
 
   -- where the rows that are not lent lie
   abbrev far : ℕ
-  far = at 0 16 (length (take n xs))
+  far = at 0 24 (length (take n xs))
 
   -- an array in its local is rows in memory, those that are lent and the others
   apart : (b : ℕ) → ent 𝓤 (H .at fullShare six b 0 (val xs)) (sep 𝓤 (sem 𝓤 H A (cells (in-memory R) (take n xs) b 0)) (sem 𝓤 H A (cells (in-memory R) (drop-list n xs) b far)))
@@ -124,7 +124,7 @@ module _ {M : Type 1} (𝓤 : URA M) (H : Heap 𝓤) (A : Atoms 𝓤) (W : Given
   whole : (b : ℕ) (zs : List LineEntry) → length zs ≡ length (take n xs)
       → ent 𝓤 (sep 𝓤 (sem 𝓤 H A (cells (in-memory R) zs b 0)) (sem 𝓤 H A (cells (in-memory R) (drop-list n xs) b far))) (sem 𝓤 H A (partAt Rows fullShare (zs ++ drop-list n xs) b 0))
   whole b zs e =
-      qed W (‵ (cells (in-memory R) zs b 0) ∷ ‵ (cells (in-memory R) (drop-list n xs) b far) ∷ []) ∵ rewrite ! 1 (λ (k : ℕ). ‵ (cells (in-memory R) (drop-list n xs) b (at 0 16 k))) (sym e) refl $
+      qed W (‵ (cells (in-memory R) zs b 0) ∷ ‵ (cells (in-memory R) (drop-list n xs) b far) ∷ []) ∵ rewrite ! 1 (λ (k : ℕ). ‵ (cells (in-memory R) (drop-list n xs) b (at 0 24 k))) (sym e) refl $
       use2 W (‵ (cells (in-memory R) (zs ++ drop-list n xs) b 0)) (join-app 𝓤 H A (in-memory R) zs (drop-list n xs) b 0) $ use1 W (‵ (row R fullShare (zs ++ drop-list n xs) b 0)) (whole-out 𝓤 H A W R (zs ++ drop-list n xs) b 0) $
       feqI ! ℕ (length (zs ++ drop-list n xs)) 6 (same-len n xs zs e ∙ are-six) $ fjoin ! $ by ! (array-whole 𝓤 H A W R fullShare 6 (zs ++ drop-list n xs) b 0)
 

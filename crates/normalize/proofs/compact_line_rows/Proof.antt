@@ -82,7 +82,7 @@ R = T.the-row
 
 -- what an index past the end would give: no read is there
 abbrev none : LineEntry
-none = record { address = 0; file = record { 0 = 0 }; line = 0 }
+none = record { address = 0; file = record { 0 = 0 }; line = 0; column = 0 }
 
 -- the machine value of a row
 abbrev val : LineEntry → Val
@@ -118,7 +118,7 @@ module _ {M : Type 1} (𝓤 : URA M) (H : Heap 𝓤) (A : Atoms 𝓤) (W : Given
   abbrev n : ℕ
   n = length xs
 
-  bytes : n * 16 < 2 ^ 63
+  bytes : n * 24 < 2 ^ 63
   bytes = room .1
 
   -- a row's machine value has the struct's MIR type
@@ -229,9 +229,9 @@ module _ {M : Type 1} (𝓤 : URA M) (H : Heap 𝓤) (A : Atoms 𝓤) (W : Given
         let at-i : t .i < length l = omega (arith, t .kept .size) in
         let at-next : t .last + 1 < length l = omega (arith, t .kept .order, t .kept .size) in
         let last-fits : t .last + 1 < 2 ^ 64 = omega (arith, t .kept .order, room .0) in
-        let offset-i : t .i * 16 < 2 ^ 64 = omega (arith, bytes) in
-        let offset-last : t .last * 16 < 2 ^ 64 = omega (arith, t .kept .order, bytes) in
-        let offset-next : (t .last + 1) * 16 < 2 ^ 64 = omega (arith, t .kept .order, bytes) in
+        let offset-i : t .i * 24 < 2 ^ 64 = omega (arith, bytes) in
+        let offset-last : t .last * 24 < 2 ^ 64 = omega (arith, t .kept .order, bytes) in
+        let offset-next : (t .last + 1) * 24 < 2 ^ 64 = omega (arith, t .kept .order, bytes) in
         qed W (In t) ∵ exec ! C Λ En piece.turn-1 (anyQ (afterTurn 𝓤 H (Below 𝓤 H A Fewer In t) Left)) $
         assigns ! (of-opd ! (load ! (from ! (fld ! refl (stop !))) (look-in ! 1 (sub ! 1 refl (whole !))))) (from ! (stop !)) (init ! 5 refl (tt, record { fits = room .0 })) $
         assigns ! (bin ! (load ! (from ! (stop !)) (look ! 3 refl)) (load ! (from ! (stop !)) (look ! 5 refl)) tt) (from ! (stop !)) (init ! 6 refl (tt, tt)) $
@@ -240,7 +240,7 @@ module _ {M : Type 1} (𝓤 : URA M) (H : Heap 𝓤) (A : Atoms 𝓤) (W : Given
         -- row i: its place, and the row itself, to _10 and _4
         assigns ! (bin ! (load ! (from ! (stop !)) (look ! 3 refl)) (lit ! tt) (record { fits = offset-i })) (from ! (stop !)) (store ! 5 refl (tt, record { fits = offset-i })) $
         assigns ! (bin ! (load ! (from ! (fld ! refl (stop !))) (look-in ! 1 (sub ! 0 refl (whole !)))) (load ! (from ! (stop !)) (look ! 5 refl)) tt) (from ! (stop !)) (init ! 7 refl (tt, tt)) $
-        rewrite ! 7 (λ (p : ℕ). ‵ (fat fullShare tyPtr l₉ 0 (vptr b p))) (sym (place-is 16 o (t .i))) refl $
+        rewrite ! 7 (λ (p : ℕ). ‵ (fat fullShare tyPtr l₉ 0 (vptr b p))) (sym (place-is 24 o (t .i))) refl $
         elem-out ! R (Is R) (shows 𝓤 H A R) (LL.vals T.the-type T′.the-laws) (LL.tells T.the-type T′.the-laws) fullShare l (t .i) none b o at-i (λ gy.
         assigns ! (of-opd ! (load ! (from ! (hop ! (look ! 9 refl) (stop !))) (look-raw ! 0 refl))) (from ! (stop !)) (init ! 10 refl (typed y gy)) $
         assigns ! (of-opd ! (load ! (from ! (stop !)) (look ! 10 refl))) (from ! (stop !)) (init ! 6 refl (typed y gy)) $
@@ -248,7 +248,7 @@ module _ {M : Type 1} (𝓤 : URA M) (H : Heap 𝓤) (A : Atoms 𝓤) (W : Given
         -- the last row kept, to _10
         assigns ! (bin ! (load ! (from ! (stop !)) (look ! 2 refl)) (lit ! tt) (record { fits = offset-last })) (from ! (stop !)) (store ! 5 refl (tt, record { fits = offset-last })) $
         assigns ! (bin ! (load ! (from ! (fld ! refl (stop !))) (look-in ! 1 (sub ! 0 refl (whole !)))) (load ! (from ! (stop !)) (look ! 5 refl)) tt) (from ! (stop !)) (init ! 10 refl (tt, tt)) $
-        rewrite ! 10 (λ (p : ℕ). ‵ (fat fullShare tyPtr l₁₂ 0 (vptr b p))) (sym (place-is 16 o (t .last))) refl $
+        rewrite ! 10 (λ (p : ℕ). ‵ (fat fullShare tyPtr l₁₂ 0 (vptr b p))) (sym (place-is 24 o (t .last))) refl $
         elem-out ! R (Is R) (shows 𝓤 H A R) (LL.vals T.the-type T′.the-laws) (LL.tells T.the-type T′.the-laws) fullShare l (t .last) none b o at-last (λ gx.
         assigns ! (of-opd ! (load ! (from ! (hop ! (look ! 12 refl) (stop !))) (look-raw ! 0 refl))) (from ! (stop !)) (store ! 10 refl (typed x gx)) $
         elem-back ! R fullShare l (t .last) none (val x ∷ []) b o at-last $
@@ -269,7 +269,7 @@ module _ {M : Type 1} (𝓤 : URA M) (H : Heap 𝓤) (A : Atoms 𝓤) (W : Given
         (λ no. assigns ! (bin ! (load ! (from ! (stop !)) (look ! 2 refl)) (lit ! tt) (record { fits = last-fits })) (from ! (stop !)) (store ! 2 refl (tt, record { fits = last-fits })) $
         assigns ! (bin ! (load ! (from ! (stop !)) (look ! 2 refl)) (lit ! tt) (record { fits = offset-next })) (from ! (stop !)) (init ! 11 refl (tt, record { fits = offset-next })) $
         assigns ! (bin ! (load ! (from ! (fld ! refl (stop !))) (look-in ! 1 (sub ! 0 refl (whole !)))) (load ! (from ! (stop !)) (look ! 11 refl)) tt) (from ! (stop !)) (init ! 12 refl (tt, tt)) $
-        rewrite ! 12 (λ (p : ℕ). ‵ (fat fullShare tyPtr l₁₄ 0 (vptr b p))) (sym (place-is 16 o (t .last + 1))) refl $
+        rewrite ! 12 (λ (p : ℕ). ‵ (fat fullShare tyPtr l₁₄ 0 (vptr b p))) (sym (place-is 24 o (t .last + 1))) refl $
         elem-out ! R (Is R) (shows 𝓤 H A R) (LL.vals T.the-type T′.the-laws) (LL.tells T.the-type T′.the-laws) fullShare l (t .last + 1) none b o at-next (λ _.
         assigns ! (of-opd ! (load ! (from ! (stop !)) (look ! 6 refl))) (from ! (hop ! (look ! 14 refl) (stop !))) (store-raw ! 0 refl (typed y gy)) $
         move ! (1 ∷ []) $ drop ! $ owned ! R (Is R) (LL.makes T.the-type T′.the-plain 𝓤 H A) y (val y ∷ []) gy $ move ! (1 ∷ 0 ∷ []) $ elem-put ! R fullShare l (t .last + 1) y (val y ∷ []) b o at-next $

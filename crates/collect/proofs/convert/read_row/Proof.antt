@@ -19,6 +19,12 @@ add-read-u64-2 c = search needs
 read-u64-requires-3 : tie.Need-read-u64-requires-3
 read-u64-requires-3 c κs = search needs
 
+add-read-u16 : tie.Need-add-read-u16
+add-read-u16 c = search needs
+
+read-u16-requires : tie.Need-read-u16-requires
+read-u16-requires c κs = search needs
+
 returns : tie.Need-returns
 returns c = search row-read
 
@@ -31,4 +37,6 @@ read-row-spec =
     read-u64-requires-2
     add-read-u64-2
     read-u64-requires-3
+    add-read-u16
+    read-u16-requires
     returns)

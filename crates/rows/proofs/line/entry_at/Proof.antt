@@ -19,6 +19,12 @@ add-read-u32-2 c = search needs
 read-u32-requires-2 : tie.Need-read-u32-requires-2
 read-u32-requires-2 c κs = search needs
 
+add-read-u16 : tie.Need-add-read-u16
+add-read-u16 c = search needs
+
+read-u16-requires : tie.Need-read-u16-requires
+read-u16-requires c κs = search needs
+
 returns : tie.Need-returns
 returns c = search got-entry
 
@@ -31,4 +37,6 @@ entry-at-spec =
     read-u32-requires
     add-read-u32-2
     read-u32-requires-2
+    add-read-u16
+    read-u16-requires
     returns)

@@ -1,4 +1,4 @@
--- `line::put_entry` meets its contract: three writes are a row. Assumes nothing.
+-- `line::put_entry` meets its contract: four writes are a row. Assumes nothing.
 use Rattle.rows.proofs.StoredLaws.{put-entry}
 use borrow.Author.Needs.{needs}
 use Rattle.rows.proofs.line.put_entry.Statement.{statement}
@@ -19,6 +19,12 @@ add-set-u32-2 c = search needs
 set-u32-requires-2 : tie.Need-set-u32-requires-2
 set-u32-requires-2 c κs = search needs
 
+add-set-u16 : tie.Need-add-set-u16
+add-set-u16 c = search needs
+
+set-u16-requires : tie.Need-set-u16-requires
+set-u16-requires c κs = search needs
+
 same-length : tie.Need-same-length
 same-length c = search needs
 
@@ -34,5 +40,7 @@ put-entry-spec =
     set-u32-requires
     add-set-u32-2
     set-u32-requires-2
+    add-set-u16
+    set-u16-requires
     same-length
     returns)

@@ -2,8 +2,7 @@
 use borrow.Author.Needs.{needs}
 use Rattle.tlv.specs.Output.{rowPayload}
 use Rattle.tlv.proofs.PayloadLaws.{row-length}
-use Rattle.tlv.proofs.BufferLaws.{_then_}
-use Rattle.tlv.proofs.OutputLaws.{put-headed}
+use Rattle.tlv.proofs.OutputLaws.{put-headed, put-four}
 use Rattle.tlv.proofs.output.put_line.Statement.{statement}
 use Rattle.tlv.proofs.output.put_line.Tie as tie
 
@@ -19,12 +18,15 @@ put-u32-requires c κs = search needs
 put-u32-requires-2 : tie.Need-put-u32-requires-2
 put-u32-requires-2 c κs = search needs
 
+put-u16-requires : tie.Need-put-u16-requires
+put-u16-requires c κs = search needs
+
 same-length : tie.Need-same-length
 same-length c = search needs
 
 returns : tie.Need-returns
 unfolding rowPayload
-returns c = search (put-headed, _then_, row-length)
+returns c = search (put-headed, put-four, row-length)
 
 pub put-line-spec : {M : Type 1} → statement M
 put-line-spec =
@@ -34,5 +36,6 @@ put-line-spec =
     put-u64-requires
     put-u32-requires
     put-u32-requires-2
+    put-u16-requires
     same-length
     returns)
