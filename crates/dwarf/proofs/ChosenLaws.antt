@@ -9,6 +9,7 @@ use lib.ListN.{length}
 use Rattle.tlv.specs.Outcome.{refused, done, _>>=_}
 use Rattle.tlv.specs.Buffer.{top, Put}
 use Rattle.tlv.specs.Fields.{encode}
+use Rattle.tlv.specs.Limits.{joinedLimit}
 use Rattle.tlv.specs.Places.{unitHere}
 use Rattle.tlv.specs.Output.{FileEntry, Warning, filePayload, filesBytes}
 use Rattle.tlv.proofs.BufferLaws.{_then_, put-as}
@@ -111,7 +112,7 @@ module _ {main supplementary program w : List ℕ} {l : Layout} {place : ℕ} (A
       let e = all-room in
       omega arith
 
-  pub files-room : 0 + (l .room * 45 + 12290) ≤ length w
+  pub files-room : 0 + (l .room * 45 + joinedLimit) ≤ length w
   files-room = let a = L .lines in let b = lines-end in omega arith
 
   module _ {w₁ : List ℕ} {first : ℕ} {t : StoredFiles} (E : Empty main supplementary w w₁ 0 (l .room) first 0 t) where

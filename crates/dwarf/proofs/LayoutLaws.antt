@@ -5,7 +5,7 @@ use Prim.Native.Nat.{ℕ, _+_, _*_, _/_, _≤_, _<_, _^_}
 use native.Mathlib.Nat.{mul-le-mul-left}
 use native.Mathlib.Omega.{arith}
 use lib.ListN.{length}
-use Rattle.tlv.specs.Limits.{workOfField, workOfProgramByte, workBesides}
+use Rattle.tlv.specs.Limits.{workOfField, workOfProgramByte, workBesides, joinedLimit}
 use Rattle.tlv.specs.Fields.{fields}
 use Rattle.tlv.proofs.UnitsOrder.{unit-places-length}
 use Rattle.files.specs.Possible.{possibleFiles}
@@ -27,7 +27,7 @@ module _ (m s : Counts) where
   roomAt = m .files + m .zeros + s .files + s .zeros + 1
 
   abbrev linesAt : ℕ
-  linesAt = roomAt * 45 + 12290
+  linesAt = roomAt * 45 + joinedLimit
 
   abbrev spanRoom : ℕ
   spanRoom = 8 * (m .directories + s .directories) + 5 * (1 + m .files + s .files)

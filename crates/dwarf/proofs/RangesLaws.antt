@@ -21,6 +21,7 @@ use Rattle.tlv.specs.Output.{eachOf, warningPayload, warningsBytes, malformedRa
 use Rattle.tlv.specs.Checked.{Placed}
 use Rattle.tlv.specs.Places.{ownFields, entryHere}
 use Rattle.tlv.specs.Access.{NextOwn}
+use Rattle.tlv.specs.Limits.{reasonLimit}
 use Rattle.tlv.proofs.BufferLaws.{put-as}
 use Rattle.tlv.proofs.WidthLaws.{drop-part}
 use Rattle.tlv.proofs.ChunkLaws.{leAt-chunk, leAt-front}
@@ -206,7 +207,7 @@ abbrev reasonAt : List ℕ → ℕ → ℕ → List ℕ
 reasonAt main start len = take (start + len - (start + 1)) (drop (start + 1) main)
 
 module _ {main : List ℕ} {at : ℕ} (h : Placed main at) {own : Own} (N : NextOwn main at 0x1a own) (start len next : ℕ) (e : own ≡ Own.Field start len next) where
-  pub named-within : (1 ≤ len) × (len - 1 ≤ 4096) × (start + len ≤ length main)
+  pub named-within : (1 ≤ len) × (len - 1 ≤ reasonLimit) × (start + len ≤ length main)
   named-within =
       let f = own-field main at 0x1a own start len next N e h in (
         placed-failure main (f .place) (f .step) 0x1a start len next (f .here) (f .reads) (f .is) refl,

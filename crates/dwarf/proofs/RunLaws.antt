@@ -11,7 +11,7 @@ use Rattle.tlv.specs.declared.grammar.Checked.{Checked}
 use Rattle.tlv.specs.declared.access.Place.{Place}
 use Rattle.tlv.specs.Outcome.{Outcome, refused, done, _>>=_}
 use Rattle.tlv.specs.Lists.{at, mapOption}
-use Rattle.tlv.specs.Limits.{inputLimit, programLimit, fieldLimit}
+use Rattle.tlv.specs.Limits.{inputLimit, programLimit, fieldLimit, workOfField, workOfProgramByte, workBesides}
 use Rattle.tlv.specs.Fields.{fields}
 use Rattle.tlv.specs.Grammar.{checkInput}
 use Rattle.tlv.specs.Checked.{checkedOf}
@@ -160,25 +160,25 @@ module _ (i : Inputs) (n : ℕ) {p : Place} (e : placeOf p ≡ at (unitPlaces 0 
       writes-refused z (λ y. omega arith) (chosen i n p e ∙ ap (λ (x : Place). importChosen i n (mapOption (unitHere (i .main)) (placeOf x))) is)
 
   module _ {q : ℕ} (is : p ≡ Place.At q) where
-    pub chosen-short : length (i .work) < 64 * n + 4 * length (i .program) + 16384 → r .status ≡ 5 → Writes (importChosen i n (at (units (i .main)) (i .ordinal))) t f u t′ f′ u′ r
+    pub chosen-short : length (i .work) < workOfField * n + workOfProgramByte * length (i .program) + workBesides → r .status ≡ 5 → Writes (importChosen i n (at (units (i .main)) (i .ordinal))) t f u t′ f′ u′ r
     unfolding answer.workNeeded mapOption
     chosen-short h z =
         writes-refused z (λ y. omega arith)
-        (chosen i n p e ∙ ap (λ (x : Place). importChosen i n (mapOption (unitHere (i .main)) (placeOf x))) is ∙ rw (lt-ltb (length (i .work)) (64 * n + 4 * length (i .program) + 16384) h))
+        (chosen i n p e ∙ ap (λ (x : Place). importChosen i n (mapOption (unitHere (i .main)) (placeOf x))) is ∙ rw (lt-ltb (length (i .work)) (workOfField * n + workOfProgramByte * length (i .program) + workBesides) h))
 
-    pub chosen-long : 64 * n + 4 * length (i .program) + 16384 ≤ length (i .work)
+    pub chosen-long : workOfField * n + workOfProgramByte * length (i .program) + workBesides ≤ length (i .work)
         → Writes (importUnit (dwarfOf (i .main) (i .supplementary)) (unitHere (i .main) q) (i .program) (i .inlines) (i .callSites) (startState (i .firstFile))) t f u t′ f′ u′ r
         → Writes (importChosen i n (at (units (i .main)) (i .ordinal))) t f u t′ f′ u′ r
     unfolding answer.workNeeded answer.dwarfOf answer.initialState mapOption
     chosen-long h W =
         writes-as
-        (chosen i n p e ∙ ap (λ (x : Place). importChosen i n (mapOption (unitHere (i .main)) (placeOf x))) is ∙ rw (le-ltb (length (i .work)) (64 * n + 4 * length (i .program) + 16384) h)) W
+        (chosen i n p e ∙ ap (λ (x : Place). importChosen i n (mapOption (unitHere (i .main)) (placeOf x))) is ∙ rw (le-ltb (length (i .work)) (workOfField * n + workOfProgramByte * length (i .program) + workBesides) h)) W
 
 module _ {main supplementary : List ℕ} {n : ℕ} (B : BothAccepted main supplementary n) where
   pub accepted-both : (Accepted main) × (Accepted supplementary)
   accepted-both = (record { number = B .main-fields; is = B .main-accepted }, record { number = B .supplementary-fields; is = B .supplementary-accepted })
 
-  pub work-enough : (program w : List ℕ) → 64 * n + 4 * length program + 16384 ≤ length w → WorkEnough main supplementary program w
+  pub work-enough : (program w : List ℕ) → workOfField * n + workOfProgramByte * length program + workBesides ≤ length w → WorkEnough main supplementary program w
   work-enough program w h = record {
     long = λ m k em ek.
         let a : B .main-fields ≡ m = done-is (sym (B .main-accepted) ∙ em) in

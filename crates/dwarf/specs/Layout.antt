@@ -5,7 +5,7 @@ use Prim.Native.Nat.{ℕ, _+_, _*_, _≤_, _<_, _^_}
 use lib.ListN.{length, getD}
 use Rattle.tlv.specs.Outcome.{done}
 use Rattle.tlv.specs.Lists.{Any}
-use Rattle.tlv.specs.Limits.{workOfField, workOfProgramByte, workBesides}
+use Rattle.tlv.specs.Limits.{workOfField, workOfProgramByte, workBesides, joinedLimit}
 use Rattle.tlv.specs.Fields.{fields, payloads, wholeFields}
 use Rattle.tlv.specs.Grammar.{checkInput}
 use Rattle.tlv.specs.Places.{unitHere, unitPlaces}
@@ -51,7 +51,7 @@ keysRoom main supplementary = (entryCount main + entryCount supplementary + 1) *
 pub record LaidOut (main supplementary program : List ℕ) (l : Layout) : Type 0 where
   pub few : length (possibleFiles main supplementary) < l .room
   pub small : l .room < 2 ^ 32
-  pub lines : l .room * 45 + 12290 ≤ l .lines
+  pub lines : l .room * 45 + joinedLimit ≤ l .lines
   pub text : (q : ℕ) → UnitOf main q → l .lines + linesExtent main q program ≤ l .text
   pub spans : (q : ℕ) → UnitOf main q → l .text + 16 * length (unitHere main q .text) ≤ l .spans
   pub room-main : (q : ℕ) → UnitOf main q → mapExtent main q ≤ l .«span_room»

@@ -31,6 +31,13 @@ use rows::unit_lines::StoredLines;
 use tlv::access::Place;
 use tlv::grammar::Checked;
 
+// Bytes of work for each field, for each byte of the program, and besides.
+const WORK_OF_FIELD: usize = 64;
+
+const WORK_OF_PROGRAM_BYTE: usize = 4;
+
+const WORK_BESIDES: usize = 32768;
+
 // The full lengths of what an import writes, the statistics, and the refusal, 0 for none.
 pub struct Ran {
     pub records: usize,
@@ -252,7 +259,7 @@ fn import_accepted<'a>(
     let Place::At(place) = tlv::access::unit_by_ordinal(main, ordinal) else {
         return refused(4);
     };
-    if work.len() < 64 * number + 4 * program.len() + 16384 {
+    if work.len() < WORK_OF_FIELD * number + WORK_OF_PROGRAM_BYTE * program.len() + WORK_BESIDES {
         return refused(5);
     }
     import_chosen(

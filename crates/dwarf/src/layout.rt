@@ -4,6 +4,7 @@ ghost use lib.ListN.{length};
 ghost use Rattle.tlv.specs.Limits.{programLimit};
 ghost use Rattle.dies.specs.DetailState.{Accepted};
 ghost use Rattle.dwarf.specs.Layout.{TagsCounted, Sized, LaidOut};
+use files::store::JOINED_LIMIT;
 use rows::line::ENTRY_SIZE;
 use rows::line::ROW_ROOM;
 use tlv::fields::Step;
@@ -97,7 +98,7 @@ pub fn lay_out(main: &[u8], supplementary: &[u8], program: &[u8]) -> Layout
     let m = counts_of(main);
     let s = counts_of(supplementary);
     let room = m.files + m.zeros + s.files + s.zeros + 1;
-    let lines = room * 45 + 12290;
+    let lines = room * 45 + JOINED_LIMIT;
     let text = lines
         + program.len() / 3 * 8
         + 8 * m.directories

@@ -10,6 +10,7 @@ use borrow.Author.Tests.{lt-ltb, le-ltb}
 use Rattle.tlv.specs.Outcome.{done}
 use Rattle.tlv.specs.Fields.{encode}
 use Rattle.tlv.specs.Buffer.{top, Put}
+use Rattle.tlv.specs.Limits.{joinedLimit}
 use Rattle.tlv.specs.Table.{chunk}
 use Rattle.tlv.specs.Output.{FileEntry, filePayload, filesBytes, eachOf}
 use Rattle.tlv.proofs.BufferLaws.{put-none, put-as}
@@ -38,7 +39,7 @@ use Rattle.files.proofs.AddLaws.{entries-length, grownBy, entries-grown
 
 -- ---- a file is laid, to be looked up
 
-pub laid-room : {s w w′ : List ℕ} {p : FilePieces} {at n : ℕ} → PiecesIn s p → Laid w w′ at n (fileIn s p .directory) → n ≤ 12290
+pub laid-room : {s w w′ : List ℕ} {p : FilePieces} {at n : ℕ} → PiecesIn s p → Laid w w′ at n (fileIn s p .directory) → n ≤ joinedLimit
 unfolding fileIn
 laid-room {s} {p = p} P L =
     omega (
@@ -62,7 +63,7 @@ laid-at {s} {w} {w′} {p} {at} {n} {h} {r} P L a b = record {
   short = laid-room P L;
   hashed = b .0 ∙ (λ i. hashFrom (start i) (cut-span s (p .base .start) (p .base .len) i));
   small = b .1;
-  rest = kept-wide at 12290 (L .rest) (omega arith) (omega (arith, laid-room P L));
+  rest = kept-wide at joinedLimit (L .rest) (omega arith) (omega (arith, laid-room P L));
 }
   where
     start : h ≡ hashFrom 0 (appendPath (appendPath (spanIn s (p .compilation)) (spanIn s (p .directory))) (spanIn s (p .own)))

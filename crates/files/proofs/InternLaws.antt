@@ -14,6 +14,7 @@ use Rattle.tlv.specs.Table.{Kept, KeptBut}
 use Rattle.tlv.specs.Model.{fileOf}
 use Rattle.tlv.specs.Access.{NextOwn}
 use Rattle.tlv.specs.Checked.{Placed}
+use Rattle.tlv.specs.Limits.{stringLimit}
 use Rattle.tlv.specs.Places.{unitHere}
 use Rattle.tlv.proofs.TableLaws.{kept-refl, here, there, but-of, but-one, but-trans}
 use Rattle.lines.specs.Paths.{fileEntry}
@@ -36,10 +37,10 @@ use Rattle.files.proofs.GrownLaws.{table-kept, grown-none, grown-kept}
 -- ---- the sheet of a source
 
 module _ (main supplementary : List ℕ) {w : List ℕ} {source : DebugSource} {unit : FileUnit} {file : Span} (U : FileUnitIn (sourceIn main supplementary source) w unit) (S : FileSpanIn (sourceIn main supplementary source) file) where
-  pub asked-main : source ≡ DebugSource.Main → FileUnitIn main w unit × ((file .start + file .len ≤ length main) × ((9 ≤ file .len) × (file .len ≤ 9 + 4096)))
+  pub asked-main : source ≡ DebugSource.Main → FileUnitIn main w unit × ((file .start + file .len ≤ length main) × ((9 ≤ file .len) × (file .len ≤ 9 + stringLimit)))
   asked-main e = let F : FileSpanIn main file = rw e at S in (rw e at U, (F .within, (F .numbered, F .short)))
 
-  pub asked-supplementary : source ≡ DebugSource.Supplementary → FileUnitIn supplementary w unit × ((file .start + file .len ≤ length supplementary) × ((9 ≤ file .len) × (file .len ≤ 9 + 4096)))
+  pub asked-supplementary : source ≡ DebugSource.Supplementary → FileUnitIn supplementary w unit × ((file .start + file .len ≤ length supplementary) × ((9 ≤ file .len) × (file .len ≤ 9 + stringLimit)))
   asked-supplementary e = let F : FileSpanIn supplementary file = rw e at S in (rw e at U, (F .within, (F .numbered, F .short)))
 
 module _ (main supplementary : List ℕ) {source : DebugSource} where

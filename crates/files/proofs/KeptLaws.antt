@@ -7,6 +7,7 @@ use native.Mathlib.Omega.{arith}
 use lib.ListN.{length}
 use Rattle.tlv.specs.Buffer.{top}
 use Rattle.tlv.specs.Bytes.{leAt}
+use Rattle.tlv.specs.Limits.{joinedLimit}
 use Rattle.tlv.specs.Table.{Apart, Kept, Clear, KeptBut, Zeroed}
 use Rattle.tlv.proofs.TableLaws.{inside, but-one, leAt-but, kept-wide}
 use Rattle.tlv.proofs.RecordLaws.{records-but, records-nil}
@@ -73,7 +74,7 @@ unfolding entriesOf
 no-entries main supplementary w base room first written = records-nil (storedFile main supplementary) 41 w (base + room * 4)
 
 pub empty-files : (main supplementary : List ℕ) {w w′ : List ℕ} {base room : ℕ} (first written : ℕ) → Zeroed w w′ base (base + room * 4)
-    → length (possibleFiles main supplementary) < room → room < 2 ^ 32 → base + (room * 45 + 12290) ≤ length w → length main < 2 ^ 32 → length supplementary < 2 ^ 32
+    → length (possibleFiles main supplementary) < room → room < 2 ^ 32 → base + (room * 45 + joinedLimit) ≤ length w → length main < 2 ^ 32 → length supplementary < 2 ^ 32
     → first < 2 ^ 32 → written ≤ top → length w′ ≡ length w → Empty main supplementary w w′ base room first written (record { first = first; base = base; room = room; count = 0; written = written })
 empty-files main supplementary {w} {w′} {base} {room} first written Z few small within main-small supplementary-small numbered fits l = record {
   holds = record {
@@ -96,5 +97,5 @@ empty-files main supplementary {w} {w′} {base} {room} first written Z few smal
   room-is = refl;
   first-is = refl;
   written-is = refl;
-  rest = kept-wide base (room * 45 + 12290) (Z .rest) (omega arith) (omega arith);
+  rest = kept-wide base (room * 45 + joinedLimit) (Z .rest) (omega arith) (omega arith);
 }

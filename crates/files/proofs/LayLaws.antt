@@ -4,6 +4,7 @@ use mathlib.Core.List.{List}
 use Prim.Native.Nat.{ℕ, _+_, _-_, _≤_}
 use native.Mathlib.Omega.{arith}
 use lib.ListN.{length, take, drop, length-take}
+use Rattle.tlv.specs.Limits.{stringLimit}
 use Rattle.tlv.specs.Table.{chunk}
 use Rattle.tlv.proofs.ChunkLaws.{chunk-none}
 use Rattle.lines.specs.Paths.{appendPath}
@@ -20,15 +21,15 @@ use Rattle.files.proofs.DirectoryLaws.{cut-span}
 abbrev pub lent : List ℕ → Span → List ℕ
 lent s a = take (a .start + a .len - a .start) (drop (a .start) s)
 
-pub lent-short : (s : List ℕ) (a : Span) → SpanIn s a → length (lent s a) ≤ 4096
+pub lent-short : (s : List ℕ) (a : Span) → SpanIn s a → length (lent s a) ≤ stringLimit
 lent-short s a S = simp length-take (omega arith)
 
 -- what stands first is no longer than its piece, and the next is longer by its own piece and a slash
-pub first-length : (w : List ℕ) {w₁ : List ℕ} {at l : ℕ} (s : List ℕ) (a : Span) → Laid w w₁ at l (appendPath (chunk w at 0) (lent s a)) → SpanIn s a → l ≤ 4096
+pub first-length : (w : List ℕ) {w₁ : List ℕ} {at l : ℕ} (s : List ℕ) (a : Span) → Laid w w₁ at l (appendPath (chunk w at 0) (lent s a)) → SpanIn s a → l ≤ stringLimit
 first-length w s a L S = omega (arith, join-room w (lent s a) L, lent-short s a S)
 
 pub second-length : (w₁ : List ℕ) {w₂ : List ℕ} {at m : ℕ} (l : ℕ) (s : List ℕ) (a : Span) {w x : List ℕ} → Laid w w₁ at l x
-    → Laid w₁ w₂ at m (appendPath (chunk w₁ at l) (lent s a)) → SpanIn s a → m ≤ l + 4097
+    → Laid w₁ w₂ at m (appendPath (chunk w₁ at l) (lent s a)) → SpanIn s a → m ≤ l + (1 + stringLimit)
 second-length w₁ {w₂} {at} l s a L M S =
     omega (arith, M .size, append-path-length (chunk w₁ at l) (lent s a), ap length (L .path), L .size, lent-short s a S)
 

@@ -9,6 +9,7 @@ use lib.ListN.{length, getD}
 use Rattle.tlv.specs.Outcome.{Outcome, refused, done}
 use Rattle.tlv.specs.Bytes.{leAt}
 use Rattle.tlv.specs.Buffer.{top, Put}
+use Rattle.tlv.specs.Limits.{joinedLimit}
 use Rattle.tlv.specs.Table.{chunk, records, Kept, KeptBut}
 use Rattle.tlv.specs.Output.{FileEntry, filesBytes}
 use Rattle.lines.specs.Files.{FileTable, placeOf, Added, addFile}
@@ -65,7 +66,7 @@ scratchFrom t = t .base + t .room * 45
 
 -- how many bytes the table takes from its base on
 abbrev pub extent : StoredFiles → ℕ
-extent t = t .room * 45 + 12290
+extent t = t .room * 45 + joinedLimit
 
 abbrev pub recordIn : List ℕ → StoredFiles → ℕ → List ℕ
 recordIn w t i = chunk w (recordsFrom t + i * 41) 41
@@ -104,7 +105,7 @@ pub record FilesIn (main supplementary w : List ℕ) (t : StoredFiles) : Type 0 
 -- the directory of a file stands in the room to join one, and its hash is this
 pub record LaidFile (w : List ℕ) (t : StoredFiles) (n hash : ℕ) (e : FileEntry) : Type 0 where
   pub directory : chunk w (scratchFrom t) n ≡ e .directory
-  pub short : n ≤ 12290
+  pub short : n ≤ joinedLimit
   pub hashed : hash ≡ hashOf e
   pub small : hash < modulus
 
@@ -139,10 +140,10 @@ pub record Linked (w w′ : List ℕ) (t : StoredFiles) (source : DebugSource) (
 -- a file's directory was laid, and its hash is this
 pub record LaidAt (w w′ : List ℕ) (at : ℕ) (e : FileEntry) (r : LaidHash) : Type 0 where
   pub directory : chunk w′ at (r .n) ≡ e .directory
-  pub short : r .n ≤ 12290
+  pub short : r .n ≤ joinedLimit
   pub hashed : r .hash ≡ hashOf e
   pub small : r .hash < modulus
-  pub rest : Kept w w′ at 12290
+  pub rest : Kept w w′ at joinedLimit
 
 -- the table t of w has become the table t′ of w′: with `new` files at its end, which were written to the files tray
 pub record Grown (main supplementary w w′ files files′ : List ℕ) (t t′ : StoredFiles) : Type 0 where

@@ -1,7 +1,8 @@
 // Whether a path that stands in the work slice is the one that is joined from three pieces, without joining them.
 ghost use mathlib.Core.Path.{_≡_};
-ghost use Prim.Native.Nat.{_+_, _≤_};
+ghost use Prim.Native.Nat.{_+_, _*_, _≤_};
 ghost use lib.ListN.{length};
+ghost use Rattle.tlv.specs.Limits.{stringLimit};
 ghost use Rattle.tlv.specs.Lists.{same};
 ghost use Rattle.tlv.specs.Table.{chunk};
 ghost use Rattle.lines.specs.Paths.{appendPath};
@@ -78,7 +79,7 @@ pub fn is_joined(
     own: &[u8],
 ) -> bool
     requires { ⌜ at + n ≤ length (now work) ⌝ }
-    requires { ⌜ length (now compilation) + length (now directory) + length (now own) ≤ 16384 ⌝ }
+    requires { ⌜ length (now compilation) + length (now directory) + length (now own) ≤ 3 * stringLimit ⌝ }
     ensures { λ r. ⌜ r ≡ same (chunk (now (work .entry)) at n) (appendPath (appendPath (now (compilation .entry)) (now (directory .entry))) (now (own .entry))) ⌝ }
 {
     let first = separator(compilation, directory);

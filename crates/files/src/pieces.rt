@@ -5,6 +5,7 @@ ghost use lib.ListN.{length, drop};
 ghost use Rattle.tlv.specs.Lists.{at};
 ghost use Rattle.tlv.specs.Fields.{fields, payloads};
 ghost use Rattle.tlv.specs.Checked.{Placed};
+ghost use Rattle.tlv.specs.Limits.{stringLimit, joinedLimit};
 ghost use Rattle.tlv.specs.Places.{ownFields, unitHere};
 ghost use Rattle.lines.specs.Paths.{isAbsolute, needsCompilation, readDirectory, namedDirectory};
 ghost use Rattle.lines.specs.Join.{Laid};
@@ -268,7 +269,7 @@ pub fn file_pieces(s: &[u8], work: &[u8], unit: FileUnit, file: Span) -> Named
     requires { ⌜ FileUnitIn (now s) (now work) unit ⌝ }
     requires { ⌜ file .start + file .len ≤ length (now s) ⌝ }
     requires { ⌜ 9 ≤ file .len ⌝ }
-    requires { ⌜ file .len ≤ 9 + 4096 ⌝ }
+    requires { ⌜ file .len ≤ 9 + stringLimit ⌝ }
     ensures { λ r. ⌜ Pieced (now (s .entry)) unit file r ⌝ }
 {
     if tlv::bytes::read_u8(s, file.start) == 1 {
@@ -299,7 +300,7 @@ pub fn file_pieces(s: &[u8], work: &[u8], unit: FileUnit, file: Span) -> Named
 // Joins the directory of a file at a place of the work slice, and returns its length.
 pub fn lay_directory(s: &[u8], p: FilePieces, work: &mut [u8], at: usize) -> usize
     requires { ⌜ PiecesIn (now s) p ⌝ }
-    requires { ⌜ at + 12290 ≤ length (now work) ⌝ }
+    requires { ⌜ at + joinedLimit ≤ length (now work) ⌝ }
     ensures { λ r. ⌜ Laid (now (work .entry)) (now (work .exit)) at r (fileIn (now (s .entry)) p .directory) ⌝ }
 {
     let compilation = p.compilation;

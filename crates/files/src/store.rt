@@ -3,6 +3,7 @@ ghost use mathlib.Core.Path.{_≡_};
 ghost use Prim.Native.Nat.{_+_, _*_, _≤_, _<_, _^_};
 ghost use mathlib.Core.Option.{none};
 ghost use lib.ListN.{length};
+ghost use Rattle.tlv.specs.Limits.{joinedLimit};
 ghost use Rattle.tlv.specs.Table.{chunk};
 ghost use Rattle.lines.specs.Files.{sameFile, placeOf};
 ghost use Rattle.files.specs.Pieces.{sourceIn, spanOf, fileIn, PiecesIn};
@@ -16,7 +17,11 @@ use crate::pieces::FilePieces;
 use crate::pieces::Span;
 use crate::pieces::lay_directory;
 use crate::pieces::put_span;
+use tlv::grammar::STRING_LIMIT;
 use tlv::model::DebugSource;
+
+// The longest joined path: three strings and the two slashes between them.
+pub const JOINED_LIMIT: usize = 3 * STRING_LIMIT + 2;
 
 // The table: the number of its first file, where it stands in the work slice, how many files it has room for and has,
 // and how many bytes were written to the files tray.
@@ -294,7 +299,7 @@ fn append_file(
 // Lays the directory of a file, and gives its length and the file's hash.
 pub fn lay_file(s: &[u8], p: FilePieces, work: &mut [u8], at: usize) -> LaidHash
     requires { ⌜ PiecesIn (now s) p ⌝ }
-    requires { ⌜ at + 12290 ≤ length (now work) ⌝ }
+    requires { ⌜ at + joinedLimit ≤ length (now work) ⌝ }
     ensures { λ r. ⌜ LaidAt (now (work .entry)) (now (work .exit)) at (fileIn (now (s .entry)) p) r ⌝ }
 {
     let b = p.base;
@@ -369,7 +374,7 @@ pub fn new_files(
 ) -> StoredFiles
     requires { ⌜ length (possibleFiles (now main) (now supplementary)) < room ⌝ }
     requires { ⌜ room < 2 ^ 32 ⌝ }
-    requires { ⌜ base + (room * 45 + 12290) ≤ length (now work) ⌝ }
+    requires { ⌜ base + (room * 45 + joinedLimit) ≤ length (now work) ⌝ }
     requires { ⌜ length (now main) < 2 ^ 32 ⌝ }
     requires { ⌜ length (now supplementary) < 2 ^ 32 ⌝ }
     ensures { λ r. ⌜ Empty (now (main .entry)) (now (supplementary .entry)) (now (work .entry)) (now (work .exit)) base room first written r ⌝ }

@@ -14,6 +14,7 @@ use Rattle.tlv.specs.Lists.{Any, at}
 use Rattle.tlv.specs.Fields.{fields, fieldsFrom, wholeFields, payloads}
 use Rattle.tlv.specs.Access.{placeOf}
 use Rattle.tlv.specs.Grammar.{checkInput}
+use Rattle.tlv.specs.Limits.{joinedLimit}
 use Rattle.tlv.specs.Places.{unitHere, unitPlaces}
 use Rattle.files.specs.declared.store.StoredFiles.{StoredFiles}
 use Rattle.files.specs.declared.index.StoredIndices.{StoredIndices}
@@ -63,14 +64,14 @@ room-main R = R .main-small
 pub room-few : {main program n work : ℕ} → Room main program n work → n + 1 < 2 ^ 32
 room-few R = omega (arith, R .few)
 
-pub room-table : {main program n work : ℕ} → Room main program n work → 0 + ((n + 1) * 45 + 12290) ≤ work
+pub room-table : {main program n work : ℕ} → Room main program n work → 0 + ((n + 1) * 45 + joinedLimit) ≤ work
 room-table R = omega (arith, R .within)
 
 pub empty-holds : {s supplementary w w′ : List ℕ} {base room first written : ℕ} {t : StoredFiles} → Empty s supplementary w w′ base room first written t → FilesIn s supplementary w′ t
 empty-holds E = E .holds
 
 pub lines-room : {s w w′ program : List ℕ} {n p : ℕ} {t : StoredFiles} → checkInput s ≡ done n → UnitIn s p → Room (length s) (length program) n (length w)
-    → Empty s [] w w′ 0 (n + 1) 1 0 t → length w′ ≡ length w → LinesRoom s w′ program t p ((n + 1) * 45 + 12290)
+    → Empty s [] w w′ 0 (n + 1) 1 0 t → length w′ ≡ length w → LinesRoom s w′ program t p ((n + 1) * 45 + joinedLimit)
 unfolding linesExtent
 lines-room {s} {w} {w′} {program} {n} {p} {t} e U R E same =
     let any = at-any p (U .number) (unitPlaces 0 (fields s)) (U .is) in

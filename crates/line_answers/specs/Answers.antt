@@ -2,6 +2,7 @@
 use Prim.Native.Nat.{ℕ, _+_, _*_, _/_, _≤_, _<_, _^_}
 use mathlib.Core.Bool.{Bool, true, false}
 use mathlib.Core.List.{List}
+use Rattle.tlv.specs.Limits.{joinedLimit}
 use Rattle.rows.specs.Selects.{RowsIn}
 use Rattle.collect.specs.declared.collect.CollectedLines.{CollectedLines}
 
@@ -9,7 +10,7 @@ use Rattle.collect.specs.declared.collect.CollectedLines.{CollectedLines}
 pub record Room (main program n work : ℕ) : Type 0 where
   pub main-small : main < 2 ^ 32
   pub few : n ≤ 65536
-  pub within : n * 108 + 12372 + program / 3 * 8 ≤ work
+  pub within : n * 108 + (joinedLimit + 82) + program / 3 * 8 ≤ work
 
 abbrev pub RoomBy : ℕ → ℕ → ℕ → ℕ → Bool → Type 0
 RoomBy main program n work true = Room main program n work

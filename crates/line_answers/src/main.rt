@@ -9,6 +9,7 @@ ghost use Rattle.rows.specs.Selects.{RowsIn};
 ghost use Rattle.collect.specs.Collects.{UnitIn};
 ghost use Rattle.line_answers.specs.Answers.{Room, HasRoom, CollectedRows};
 use collect::collect::CollectedLines;
+use files::store::JOINED_LIMIT;
 use rows::line::ENTRY_SIZE;
 use rows::unit_lines::StoredLines;
 
@@ -241,7 +242,7 @@ fn collect_placed(
     ensures { λ r. ⌜ CollectedRows (now (work .exit)) r ⌝ }
 {
     let room = n + 1;
-    let free = room * 45 + 12290;
+    let free = room * 45 + JOINED_LIMIT;
     let table = files::store::new_files(main, b"", work, 0, room, 1, 0);
     collect::collect::collect_lines(
         main,
@@ -267,7 +268,7 @@ fn has_room(main: usize, program: usize, n: usize, work: usize) -> bool
     if 65536 < n {
         return false;
     }
-    let need = n * 108 + 12372;
+    let need = n * 108 + (JOINED_LIMIT + 82);
     if work < need {
         return false;
     }

@@ -24,6 +24,7 @@ pub mod PrintedPath
 pub mod SignedCases
 pub mod WindowsCases
 pub mod ColumnCases
+pub mod Longest
 pub mod PathCodeLaws
 pub mod JoinLaws
 pub mod UlebLaws

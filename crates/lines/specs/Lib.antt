@@ -11,5 +11,6 @@ pub mod PrintedPath
 pub mod SignedCases
 pub mod WindowsCases
 pub mod ColumnCases
+pub mod Longest
 pub mod Join
 pub mod Scan

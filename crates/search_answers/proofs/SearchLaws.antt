@@ -13,6 +13,7 @@ use Rattle.tlv.specs.Places.{unitPlaces}
 use Rattle.tlv.specs.Lists.{Any}
 use Rattle.tlv.specs.Table.{Kept, KeptBut, Clear}
 use Rattle.tlv.specs.Index.{indexedOf, Indexed}
+use Rattle.tlv.specs.Limits.{joinedLimit}
 use Rattle.tlv.specs.Units.{unitOf24, IndexedUnits}
 use Rattle.tlv.proofs.IndexLaws.{index-length}
 use Rattle.tlv.proofs.UnitsOrder.{unit-places-length}
@@ -91,12 +92,12 @@ map-fits s n k e few q any = omega (arith, directories-few s q any, files-few-in
 
 -- one sheet's behind the other's, and the followed targets behind them
 pub tables-built : {s t w w₁ w₂ : List ℕ} {n m : ℕ} {a b : Index} → checkInput s ≡ done n → checkInput t ≡ done m → Room (length s) (length t) n m (length w)
-    → IndexedSheet s w w₁ ((n + m) * 45 + 12335 + ((n + m) * 8 + 5)) n a → IndexedSheet t w₁ w₂ ((n + m) * 45 + 12335 + ((n + m) * 8 + 5) + n * 40) m b
+    → IndexedSheet s w w₁ ((n + m) * 45 + (joinedLimit + 45) + ((n + m) * 8 + 5)) n a → IndexedSheet t w₁ w₂ ((n + m) * 45 + (joinedLimit + 45) + ((n + m) * 8 + 5) + n * 40) m b
     → SearchesIn s t w₂
     (record {
-      tables = record { main = a; supplementary = b; keys = (n + m) * 45 + 12335 + ((n + m) * 8 + 5) + n * 40 + m * 40 };
-      indices = record { base = (n + m) * 45 + 12335; count = 0 };
-      spans = (n + m) * 45 + 12335;
+      tables = record { main = a; supplementary = b; keys = (n + m) * 45 + (joinedLimit + 45) + ((n + m) * 8 + 5) + n * 40 + m * 40 };
+      indices = record { base = (n + m) * 45 + (joinedLimit + 45); count = 0 };
+      spans = (n + m) * 45 + (joinedLimit + 45);
       room = (n + m) * 8 + 5;
     })
     (n + m + 1)
@@ -161,7 +162,7 @@ module _ {s t w : List ℕ} {d : Places} {files : ℕ} (S : SearchesIn s t w d f
       (index-kept (T .supplementary-index) (R .rest) (T .supplementary-units) (T .supplementary-entries) size) size
 
   -- the file table has room below the others
-  pub files-room : 0 + (files * 45 + 12290) ≤ length w
+  pub files-room : 0 + (files * 45 + joinedLimit) ≤ length w
   files-room = omega (arith, S .table, S .indices, S .main-units, S .search-tables .main-index .units-within)
 
   -- after writes of a declaration search, whose table of files is the one at 0

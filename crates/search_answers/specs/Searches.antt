@@ -6,6 +6,7 @@ use mathlib.Core.List.{List}
 use lib.ListN.{length}
 use Rattle.tlv.specs.Lists.{Any}
 use Rattle.tlv.specs.Fields.{fields}
+use Rattle.tlv.specs.Limits.{joinedLimit}
 use Rattle.tlv.specs.Places.{unitHere, unitPlaces}
 use Rattle.tlv.specs.Table.{Kept}
 use Rattle.files.specs.Possible.{possibleFiles}
@@ -20,7 +21,7 @@ pub record Room (main supplementary n m work : ℕ) : Type 0 where
   pub supplementary-small : supplementary < 2 ^ 32
   pub main-few : n ≤ 65536
   pub supplementary-few : m ≤ 65536
-  pub within : n * 110 + m * 123 + 12344 ≤ work
+  pub within : n * 110 + m * 123 + (joinedLimit + 54) ≤ work
 
 abbrev pub RoomBy : ℕ → ℕ → ℕ → ℕ → ℕ → Bool → Type 0
 RoomBy main supplementary n m work true = Room main supplementary n m work
@@ -51,7 +52,7 @@ pub record SearchesIn (main supplementary w : List ℕ) (d : Places) (files : �
   pub small : files < 2 ^ 32
   pub main-small : length main < 2 ^ 32
   pub supplementary-small : length supplementary < 2 ^ 32
-  pub table : files * 45 + 12290 ≤ d .indices .base
+  pub table : files * 45 + joinedLimit ≤ d .indices .base
   pub indices : d .indices .base + d .indices .count * 5 ≤ d .spans
   pub main-units : d .spans + d .room ≤ d .tables .main .units
   pub main-entries : d .spans + d .room ≤ d .tables .main .entries

@@ -7,6 +7,7 @@ ghost use Rattle.tlv.specs.Grammar.{checkInput};
 ghost use Rattle.references.specs.Tables.{EntryKnown};
 ghost use Rattle.search_answers.specs.Searches.{Room, HasRoom, IndexedSheet, SearchesIn};
 use files::index::StoredIndices;
+use files::store::JOINED_LIMIT;
 use references::declarations::Declared;
 use references::declarations::DeclaringState;
 use references::declarations::Places;
@@ -122,7 +123,7 @@ fn has_room(main: usize, supplementary: usize, n: usize, m: usize, work: usize) 
     if 65536 < m {
         return false;
     }
-    if work < n * 110 + m * 123 + 12344 {
+    if work < n * 110 + m * 123 + (JOINED_LIMIT + 54) {
         return false;
     }
     true
@@ -154,7 +155,7 @@ fn build_tables(main: &[u8], supplementary: &[u8], n: usize, m: usize, work: &mu
     requires { ⌜ Room (length (now main)) (length (now supplementary)) n m (length (now work)) ⌝ }
     ensures { λ r. ⌜ SearchesIn (now (main .entry)) (now (supplementary .entry)) (now (work .exit)) r (n + m + 1) ⌝ }
 {
-    let spans = (n + m) * 45 + 12335;
+    let spans = (n + m) * 45 + (JOINED_LIMIT + 45);
     let room = (n + m) * 8 + 5;
     let base = spans + room;
     let next = base + n * 40;

@@ -124,7 +124,7 @@ payloadShaped c t p =
 unfoldable pub shaped : Context → Field → Bool
 shaped c f = mayFollow (c .previous) (f .tag) && payloadShaped c (f .tag) (f .payload)
 
--- ---- 3: over 65,536 fields or 256 units in a sheet, a string or reason over 4,096 bytes, an entry depth over 1,024
+-- ---- 3: over 65,536 fields or 256 units in a sheet, a string over 6,113 bytes, a reason over 4,096, an entry depth over 1,024
 
 unfoldable pub payloadLimited : Context → ℕ → List ℕ → Bool
 payloadLimited c t p =

@@ -1,5 +1,5 @@
 -- The limits of document 01's table, each named once. Assumes nothing.
-use Prim.Native.Nat.{ℕ}
+use Prim.Native.Nat.{ℕ, _+_, _*_}
 
 -- 1, oversize: bytes of a sheet, bytes of a line program
 abbrev pub inputLimit : ℕ
@@ -15,16 +15,22 @@ fieldLimit = 65536
 abbrev pub unitLimit : ℕ
 unitLimit = 256
 
+-- E12: "The colour library's longest linkage name is 6,113 bytes"
 abbrev pub stringLimit : ℕ
-stringLimit = 4096
+stringLimit = 6113
 
+-- E12: "reasons keep 4,096"
 abbrev pub reasonLimit : ℕ
 reasonLimit = 4096
 
 abbrev pub depthLimit : ℕ
 depthLimit = 1024
 
--- 5, short work: bytes of work for each field, for each byte of the program, and besides
+-- the longest joined path: three strings and the two slashes between them
+abbrev pub joinedLimit : ℕ
+joinedLimit = 3 * stringLimit + 2
+
+-- 5, short work: bytes of work for each field, for each byte of the program, and (E12) besides, "to hold" the longest joined path
 abbrev pub workOfField : ℕ
 workOfField = 64
 
@@ -32,4 +38,4 @@ abbrev pub workOfProgramByte : ℕ
 workOfProgramByte = 4
 
 abbrev pub workBesides : ℕ
-workBesides = 16384
+workBesides = 32768

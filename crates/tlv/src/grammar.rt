@@ -15,7 +15,7 @@ const FIELD_LIMIT: u64 = 65536;
 
 const UNIT_LIMIT: u64 = 256;
 
-const STRING_LIMIT: usize = 4096;
+pub const STRING_LIMIT: usize = 6113;
 
 const REASON_LIMIT: usize = 4096;
 
