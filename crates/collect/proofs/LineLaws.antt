@@ -6,7 +6,7 @@ use native.Mathlib.Omega.{arith}
 use lib.ListN.{length}
 use borrow.Author.Tests.{lt-ltb, le-ltb}
 use Rattle.tlv.specs.declared.model.FileIndex.{FileIndex}
-use Rattle.tlv.specs.Grammar.{rowFieldSize}
+use Rattle.tlv.specs.Grammar.{rowFieldSize, rowLineAt, rowColumnAt}
 use Rattle.tlv.specs.Lists.{at}
 use Rattle.tlv.specs.Bytes.{bytesOf, leAt}
 use Rattle.tlv.specs.Buffer.{top, Put}
@@ -87,7 +87,7 @@ module _ {w : List ℕ} {c : Conversion} {r : Row} {file : FileIndex} where
 
 -- ---- a row of the sheet
 
-pub row-read : (s : List ℕ) (start a f l k n : ℕ) → a ≡ leAt 8 s start → f ≡ leAt 8 s (start + 8) → l ≡ leAt 8 s (start + 16) → k ≡ leAt 2 s (start + 24)
+pub row-read : (s : List ℕ) (start a f l k n : ℕ) → a ≡ leAt 8 s start → f ≡ leAt 8 s (start + 8) → l ≡ leAt 8 s (start + rowLineAt) → k ≡ leAt 2 s (start + rowColumnAt)
     → rawOf (record { address = a; file = record { 0 = f }; line = l; column = k; sequence = n }) ≡ rawLine (rowOf (chunk s start rowFieldSize)) n
 unfolding rowOf
-row-read s start a f l k n ea ef el ek = rw (leAt-front 8 s start rowFieldSize (omega arith), leAt-chunk 8 s start rowFieldSize 8 (omega arith), leAt-chunk 8 s start rowFieldSize 16 (omega arith), leAt-chunk 2 s start rowFieldSize 24 (omega arith), ea, ef, el, ek)
+row-read s start a f l k n ea ef el ek = rw (leAt-front 8 s start rowFieldSize (omega arith), leAt-chunk 8 s start rowFieldSize 8 (omega arith), leAt-chunk 8 s start rowFieldSize rowLineAt (omega arith), leAt-chunk 2 s start rowFieldSize rowColumnAt (omega arith), ea, ef, el, ek)

@@ -20,7 +20,9 @@ use files::pieces::Span;
 use files::store::StoredFiles;
 use rows::line::LINE_SIZE;
 use tlv::access::Own;
+use tlv::grammar::ROW_COLUMN;
 use tlv::grammar::ROW_KIND;
+use tlv::grammar::ROW_LINE;
 use tlv::model::DebugSource;
 
 // The unit, its file 0 before version 5, its map of file numbers, the table of its sequences' offsets, and where its lines go.
@@ -276,8 +278,8 @@ fn read_row(main: &[u8], start: usize, sequence: usize) -> Row
 {
     let address = tlv::bytes::read_u64(main, start);
     let file = tlv::bytes::read_u64(main, start + 8);
-    let line = tlv::bytes::read_u64(main, start + 16);
-    let column = tlv::bytes::read_u16(main, start + 24);
+    let line = tlv::bytes::read_u64(main, start + ROW_LINE);
+    let column = tlv::bytes::read_u16(main, start + ROW_COLUMN);
     Row {
         address: address,
         file: FileNumber(file),

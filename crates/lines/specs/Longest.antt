@@ -18,7 +18,7 @@ abbrev pub longestUnit : CompilationUnit
 longestUnit = unitOf (some (replicate stringLimit 0x61)) (given (replicate stringLimit 0x62) ∷ [])
 
 -- bytes of a file's field, without its tag and length
-pub fieldLength : Outcome (Option FileEntry) → ℕ
+unfoldable pub fieldLength : Outcome (Option FileEntry) → ℕ
 fieldLength (refused n) = 0
 fieldLength (done none) = 0
 fieldLength (done (some e)) = length (filePayload e)

@@ -9,8 +9,10 @@ const INPUT_LIMIT: usize = 16384;
 // The longest line program, likewise.
 const PROGRAM_LIMIT: usize = 2048;
 
-// A row's payload in the records tray.
+// A row's payload in the records tray, and where its column stands there.
 const ROW_SIZE: usize = tlv::output::TRAY_ROW as usize;
+
+const ROW_COLUMN: usize = tlv::output::TRAY_COLUMN as usize;
 
 // Reads the file of a name, as far as the buffer goes, and answers how many bytes came; a file that can't be opened is empty.
 fn read_file(name: &[u8], buffer: &mut [u8]) -> usize {
@@ -67,7 +69,7 @@ fn write_row(p: &[u8]) {
     io::print_hex(1, tlv::bytes::read_u64(p, 0), 1);
     write_decimal(tlv::bytes::read_u32(p, 8) as u64);
     write_decimal(tlv::bytes::read_u32(p, 12) as u64);
-    write_decimal(tlv::bytes::read_u16(p, 16) as u64);
+    write_decimal(tlv::bytes::read_u16(p, ROW_COLUMN) as u64);
     end_line();
 }
 

@@ -18,7 +18,7 @@ use Rattle.tlv.proofs.TableLaws.{leAt-kept, kept-wide, kept-trans}
 use Rattle.tlv.proofs.RecordLaws.{records-length, records-nil, records-at, records-suc, records-add, records-part, records-rest-none, records-rest-cons, records-kept, records-but, records-push, records-copy-push, tab-take}
 use Rattle.lines.specs.Lines.{SequencedLine, LineSequenceRange}
 use Rattle.rows.specs.declared.line.StatementSequence.{StatementSequence}
-use Rattle.rows.specs.Sizes.{entrySize, lineSize, rangeSequenceAt, rangeSize, sequenceSize}
+use Rattle.rows.specs.Sizes.{columnAt, entrySize, lineSize, rangeSequenceAt, rangeSize, sequenceSize}
 use Rattle.rows.specs.Stored.{sequenceOf, storedSequence, entryOf, entriesOf, lineOf, lineAt, linesOf, rangeOf, rangeAt, rangesOf, PutEntry, PutSequence, PutLine, PutSequenceRange}
 
 -- ---- a sequence
@@ -56,9 +56,9 @@ module _ (w : List ℕ) (p : ℕ) where
     line = leAt 4 w (p + 12);
   }
   unfolding entryOf
-  entry-of m h = λ i. record { address = leAt-front 8 w p m (omega arith) i; file = record { 0 = leAt-chunk 4 w p m 8 (omega arith) i }; line = leAt-chunk 4 w p m 12 (omega arith) i; column = leAt-chunk 2 w p m 16 (omega arith) i }
+  entry-of m h = λ i. record { address = leAt-front 8 w p m (omega arith) i; file = record { 0 = leAt-chunk 4 w p m 8 (omega arith) i }; line = leAt-chunk 4 w p m 12 (omega arith) i; column = leAt-chunk 2 w p m columnAt (omega arith) i }
 
-  pub entry-is : entryOf (chunk w p entrySize) ≡ record { address = leAt 8 w p; file = record { 0 = leAt 4 w (p + 8) }; line = leAt 4 w (p + 12); column = leAt 2 w (p + 16) }
+  pub entry-is : entryOf (chunk w p entrySize) ≡ record { address = leAt 8 w p; file = record { 0 = leAt 4 w (p + 8) }; line = leAt 4 w (p + 12); column = leAt 2 w (p + columnAt) }
   entry-is = entry-of entrySize (omega arith)
 
   pub entry-address : entryOf (chunk w p entrySize) .address ≡ leAt 8 w p
@@ -105,7 +105,7 @@ module _ (w : List ℕ) (p : ℕ) where
   range-sequence = ap (λ (q : LineSequenceRange). q .statementSequence) range-is
 
 -- a row that was read field by field
-pub got-entry : (w : List ℕ) (p : ℕ) {a f l k : ℕ} → a ≡ leAt 8 w p → f ≡ leAt 4 w (p + 8) → l ≡ leAt 4 w (p + 12) → k ≡ leAt 2 w (p + 16)
+pub got-entry : (w : List ℕ) (p : ℕ) {a f l k : ℕ} → a ≡ leAt 8 w p → f ≡ leAt 4 w (p + 8) → l ≡ leAt 4 w (p + 12) → k ≡ leAt 2 w (p + columnAt)
     → record { address = a; file = record { 0 = f }; line = l; column = k } ≡ entryOf (chunk w p entrySize)
 got-entry w p a f l k = (λ i. record { address = a i; file = record { 0 = f i }; line = l i; column = k i }) ∙ sym (entry-is w p)
 
@@ -115,7 +115,7 @@ got-address w p a = a ∙ sym (line-address w p)
 -- ---- what the writes make of them
 
 pub put-entry : {w w₁ w₂ w₃ w₄ : List ℕ} {p : ℕ} {l : LineEntry} → Wrote w w₁ p 8 (l .address) → Wrote w₁ w₂ (p + 8) 4 (l .file .0) → Wrote w₂ w₃ (p + 12) 4 (l .line)
-    → Wrote w₃ w₄ (p + 16) 2 (l .column) → PutEntry w w₄ p l
+    → Wrote w₃ w₄ (p + columnAt) 2 (l .column) → PutEntry w w₄ p l
 put-entry {w} {w₁} {w₂} {w₃} {w₄} {p} {l} A F L C =
     let ea : leAt 8 w₄ p ≡ l .address = leAt-kept 8 p (C .rest) (inl (omega arith)) ∙ leAt-kept 8 p (L .rest) (inl (omega arith)) ∙ leAt-kept 8 p (F .rest) (inl (omega arith)) ∙ A .value in
     let ef : leAt 4 w₄ (p + 8) ≡ l .file .0 = leAt-kept 4 (p + 8) (C .rest) (inl (omega arith)) ∙ leAt-kept 4 (p + 8) (L .rest) (inl (omega arith)) ∙ F .value in

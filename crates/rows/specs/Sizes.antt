@@ -6,8 +6,11 @@ abbrev pub sequenceSize : ℕ
 sequenceSize = 9
 
 -- a function's row: the address 8, the file 4, the line 4, the column 2
+abbrev pub columnAt : ℕ
+columnAt = 16
+
 abbrev pub entrySize : ℕ
-entrySize = 18
+entrySize = columnAt + 2
 
 -- a unit's row: a function's row, and its sequence
 abbrev pub lineSize : ℕ

@@ -11,7 +11,7 @@ use Rattle.tlv.specs.Bytes.{leAt}
 use Rattle.tlv.specs.Table.{chunk, records, Kept}
 use Rattle.lines.specs.Lines.{SequencedLine, LineSequenceRange}
 use Rattle.rows.specs.declared.line.StatementSequence.{StatementSequence}
-use Rattle.rows.specs.Sizes.{entrySize, lineSize, rangeSequenceAt, rangeSize, sequenceSize}
+use Rattle.rows.specs.Sizes.{columnAt, entrySize, lineSize, rangeSequenceAt, rangeSize, sequenceSize}
 
 abbrev pub sequenceOf : StatementSequence → Option ℕ
 sequenceOf (StatementSequence.At n) = some n
@@ -24,7 +24,7 @@ storedSequence b p = cond (eqb (leAt 1 b p) 1) (some (leAt 8 b (p + 1))) none
 -- ---- a function's row
 
 unfoldable pub entryOf : List ℕ → LineEntry
-entryOf b = record { address = leAt 8 b 0; file = record { 0 = leAt 4 b 8 }; line = leAt 4 b 12; column = leAt 2 b 16 }
+entryOf b = record { address = leAt 8 b 0; file = record { 0 = leAt 4 b 8 }; line = leAt 4 b 12; column = leAt 2 b columnAt }
 
 unfoldable pub entriesOf : List ℕ → ℕ → ℕ → List LineEntry
 entriesOf w base n = records entryOf entrySize w base n

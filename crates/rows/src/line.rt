@@ -17,8 +17,10 @@ pub enum StatementSequence {
 // The sizes of records. A sequence's offset: whether there is one, 1 byte, and the offset, 8.
 pub const SEQUENCE_SIZE: usize = 9;
 
-// A function's row: the address 8, the file 4, the line 4, the column 2.
-pub const ENTRY_SIZE: usize = 18;
+// A function's row: the address 8, the file 4, the line 4, the column 2. Where the column stands, and the size.
+const COLUMN: usize = 16;
+
+pub const ENTRY_SIZE: usize = COLUMN + 2;
 
 // A unit's row: a function's row, and its sequence.
 pub const LINE_SIZE: usize = ENTRY_SIZE + SEQUENCE_SIZE;
@@ -85,7 +87,7 @@ pub fn entry_at(work: &[u8], p: usize) -> tlv::model::LineEntry
         address: tlv::bytes::read_u64(work, p),
         file: tlv::model::FileIndex(tlv::bytes::read_u32(work, p + 8)),
         line: tlv::bytes::read_u32(work, p + 12),
-        column: tlv::bytes::read_u16(work, p + 16),
+        column: tlv::bytes::read_u16(work, p + COLUMN),
     }
 }
 
@@ -97,7 +99,7 @@ pub fn put_entry(work: &mut [u8], p: usize, entry: tlv::model::LineEntry)
     tlv::table::set_u64(work, p, entry.address);
     tlv::table::set_u32(work, p + 8, file.0);
     tlv::table::set_u32(work, p + 12, entry.line);
-    tlv::table::set_u16(work, p + 16, entry.column);
+    tlv::table::set_u16(work, p + COLUMN, entry.column);
 }
 
 fn put_sequence(work: &mut [u8], p: usize, sequence: StatementSequence)

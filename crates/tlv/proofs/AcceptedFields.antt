@@ -12,7 +12,7 @@ use Rattle.tlv.specs.Bytes.{Bytes, leAt}
 use Rattle.tlv.specs.Limits.{fieldLimit, stringLimit, depthLimit}
 use Rattle.tlv.specs.Fields.{Field, headOf, payloads, payloadOf}
 use Rattle.tlv.specs.declared.grammar.Context.{Context}
-use Rattle.tlv.specs.Grammar.{mayFollow, payloadShaped, payloadLimited, shaped, limited, next, unitShaped, rowShaped, entryShaped}
+use Rattle.tlv.specs.Grammar.{mayFollow, payloadShaped, payloadLimited, shaped, limited, next, unitShaped, rowShaped, entryShaped, rowLineAt, rowColumnAt}
 use Rattle.tlv.specs.Model.{rangeOf, directoryOf, fileOf, rowOf, attributeOf, entryRangeOf, failureOf}
 use Rattle.tlv.specs.Accepted.{Small, String, Given, AttributeAccepted, FailureAccepted, RowAccepted}
 use Rattle.tlv.proofs.TestLaws.{by-test, and-left, and-right}
@@ -100,8 +100,8 @@ unfolding payloadShaped rowShaped rowOf
 row-promise c p b s l = record {
   address = leAt-bound 8 p 0 b;
   file = leAt-bound 8 p 8 b;
-  line = leAt-bound 8 p 16 b;
-  column = leAt-bound 2 p 24 b;
+  line = leAt-bound 8 p rowLineAt b;
+  column = leAt-bound 2 p rowColumnAt b;
   kind = leb-true _ _ (search (and-left, and-right));
 }
 

@@ -67,9 +67,16 @@ directoryShaped p = leb 1 (length p) && isFlag (leAt 1 p 0)
 unfoldable pub fileShaped : List ℕ → Bool
 fileShaped p = leb 9 (length p) && isFlag (leAt 1 p 0)
 
--- 16 row: address, file number, line, (E7) a column of 2 bytes "after the line", kind (1 byte: 0 plain, 1 end of sequence, 2 failed here): where the kind stands
+-- 16 row: address, file number, line, (E7) a column of 2 bytes "after the line", kind (1 byte: 0 plain, 1 end of sequence, 2 failed here): where
+-- these stand
+abbrev pub rowLineAt : ℕ
+rowLineAt = 16
+
+abbrev pub rowColumnAt : ℕ
+rowColumnAt = rowLineAt + 8
+
 abbrev pub rowKindAt : ℕ
-rowKindAt = 26
+rowKindAt = rowColumnAt + 2
 
 -- the kind is its last byte
 abbrev pub rowFieldSize : ℕ

@@ -10,7 +10,7 @@ use Rattle.tlv.specs.Outcome.{Outcome, done}
 use Rattle.tlv.specs.Lists.{mapOption}
 use Rattle.tlv.specs.Bytes.{leAt}
 use Rattle.tlv.specs.Fields.{Group, grouped, payloads, payloadOf, fields, wholeFields}
-use Rattle.tlv.specs.Grammar.{rowKindAt}
+use Rattle.tlv.specs.Grammar.{rowLineAt, rowColumnAt, rowKindAt}
 
 -- an attribute: its name, its kind, the number that its value spells, and its value's bytes
 pub record Attribute : Type 0 where
@@ -106,7 +106,7 @@ fileOf p = record { failed = flagAt p 0; directory = leAt 8 p 1; path = drop 9 p
 
 -- 16
 unfoldable pub rowOf : List ℕ → LineRow
-rowOf p = record { address = leAt 8 p 0; file = leAt 8 p 8; line = leAt 8 p 16; column = leAt 2 p 24; kind = leAt 1 p rowKindAt }
+rowOf p = record { address = leAt 8 p 0; file = leAt 8 p 8; line = leAt 8 p rowLineAt; column = leAt 2 p rowColumnAt; kind = leAt 1 p rowKindAt }
 
 -- 18
 unfoldable pub attributeOf : List ℕ → Attribute

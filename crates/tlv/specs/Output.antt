@@ -1,5 +1,5 @@
 -- What the trays are given, and its bytes (document 01, "Trays use the same field shape"). A tray is one of the three output buffers. Assumes nothing.
-use Prim.Native.Nat.{ℕ}
+use Prim.Native.Nat.{ℕ, _+_}
 use mathlib.Core.Bool.{Bool, cond}
 use mathlib.Core.List.{List, [], _∷_, _++_}
 use lib.ListN.{length}
@@ -64,9 +64,12 @@ kindNumber invalidDeclarationLine = 11
 unfoldable pub functionPayload : AddressRange → List ℕ → List ℕ
 functionPayload r name = bytesOf 8 (r .start) ++ bytesOf 8 (r .end) ++ name
 
--- 42 row: address, file 4 bytes, line 4 bytes, (E7) column 2 bytes; so many bytes
+-- 42 row: address, file 4 bytes, line 4 bytes, (E7) column 2 bytes: where the column stands, and how many bytes these are
+abbrev pub trayColumnAt : ℕ
+trayColumnAt = 16
+
 abbrev pub trayRowSize : ℕ
-trayRowSize = 18
+trayRowSize = trayColumnAt + 2
 
 unfoldable pub rowPayload : LineEntry → List ℕ
 rowPayload l = bytesOf 8 (l .address) ++ bytesOf 4 (l .file .0) ++ bytesOf 4 (l .line) ++ bytesOf 2 (l .column)

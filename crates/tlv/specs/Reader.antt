@@ -10,7 +10,7 @@ use Rattle.tlv.specs.Lists.{exists, mapOption}
 use Rattle.tlv.specs.Bytes.{leAt}
 use Rattle.tlv.specs.Fields.{Field, FieldList, end, cut, more, fields, wholeFields, Group, grouped, payloads}
 use Rattle.tlv.specs.Model.{rangeOf}
-use Rattle.tlv.specs.Output.{FileEntry, InlineNode, CallSite, Function, WarningKind, rejectedRange, invalidStatementSequence, lineSequenceMismatch, missingLineFile, unrepresentableLine, missingInlineCallFile, invalidInlineCallLine, invalidDeclarationFile, invalidDeclarationLine, Warning, malformedRanges, about, trayRowSize}
+use Rattle.tlv.specs.Output.{FileEntry, InlineNode, CallSite, Function, WarningKind, rejectedRange, invalidStatementSequence, lineSequenceMismatch, missingLineFile, unrepresentableLine, missingInlineCallFile, invalidInlineCallLine, invalidDeclarationFile, invalidDeclarationLine, Warning, malformedRanges, about, trayRowSize, trayColumnAt}
 
 -- ---- the form of a records tray
 
@@ -52,7 +52,7 @@ recordsForm previous depth (more f fs) =
 -- ---- what a records tray says
 
 unfoldable pub lineOf : List ℕ → LineEntry
-lineOf p = record { address = leAt 8 p 0; file = record { 0 = leAt 4 p 8 }; line = leAt 4 p 12; column = leAt 2 p 16 }
+lineOf p = record { address = leAt 8 p 0; file = record { 0 = leAt 4 p 8 }; line = leAt 4 p 12; column = leAt 2 p trayColumnAt }
 
 unfoldable pub nodeOf : Group → InlineNode
 nodeOf g =

@@ -21,8 +21,12 @@ const REASON_LIMIT: usize = 4096;
 
 const DEPTH_LIMIT: u16 = 1024;
 
-// Where a row field's kind stands in its payload: at its end.
-pub const ROW_KIND: usize = 26;
+// Where a row field's line, column and kind stand in its payload: the kind at its end.
+pub const ROW_LINE: usize = 16;
+
+pub const ROW_COLUMN: usize = ROW_LINE + 8;
+
+pub const ROW_KIND: usize = ROW_COLUMN + 2;
 
 // The length of a row field's payload.
 pub const ROW_FIELD: usize = ROW_KIND + 1;

@@ -167,8 +167,11 @@ pub fn put_function(buffer: &mut [u8], at: usize, range: AddressRange, name: &[u
     put_bytes(buffer, ended, name)
 }
 
-// The length of a row's payload in the records tray.
-pub const TRAY_ROW: u16 = 18;
+// Where a row's column stands in its payload in the records tray.
+pub const TRAY_COLUMN: u16 = 16;
+
+// The length of that payload.
+pub const TRAY_ROW: u16 = TRAY_COLUMN + 2;
 
 // 42 row: address, file 4 bytes, line 4 bytes, column 2 bytes.
 pub fn put_line(buffer: &mut [u8], at: usize, line: LineEntry) -> usize
