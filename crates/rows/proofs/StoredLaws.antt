@@ -54,6 +54,7 @@ module _ (w : List ℕ) (p : ℕ) where
       0 = leAt 4 w (p + 8);
     };
     line = leAt 4 w (p + 12);
+    column = leAt 2 w (p + columnAt);
   }
   unfolding entryOf
   entry-of m h = λ i. record { address = leAt-front 8 w p m (omega arith) i; file = record { 0 = leAt-chunk 4 w p m 8 (omega arith) i }; line = leAt-chunk 4 w p m 12 (omega arith) i; column = leAt-chunk 2 w p m columnAt (omega arith) i }
