@@ -11,9 +11,14 @@ const INPUT_LIMIT: usize = 16_777_216;
 const PROGRAM_LIMIT: usize = 4_194_304;
 
 pub fn answer(case: &Case) -> Answer {
+    answer_in(case, [case.records, case.files, case.warnings])
+}
+
+/// The answer of a call with other lengths of the three buffers.
+pub fn answer_in(case: &Case, lengths: [u32; 3]) -> Answer {
     inputs(case)
         .and_then(|(dwarf, ordinal)| finished(case, &dwarf, ordinal))
-        .and_then(|imported| fitting(case, output::written(&imported, case.first_file)))
+        .and_then(|imported| fitting(output::written(&imported, case.first_file), lengths))
         .unwrap_or_else(|refusal| Answer { refusal, ..Answer::default() })
 }
 
@@ -52,13 +57,13 @@ pub fn finished(case: &Case, dwarf: &Dwarf<Slice<'_>>, ordinal: usize) -> Result
 }
 
 /// Refusals 16 to 18 come when everything else is done, lowest first.
-fn fitting(case: &Case, answer: Answer) -> Result<Answer, u8> {
+fn fitting(answer: Answer, [records, files, warnings]: [u32; 3]) -> Result<Answer, u8> {
     let over = |bytes: &[u8], length: u32| bytes.len() as u64 > u64::from(length);
-    if over(&answer.records, case.records) {
+    if over(&answer.records, records) {
         Err(16)
-    } else if over(&answer.files, case.files) {
+    } else if over(&answer.files, files) {
         Err(17)
-    } else if over(&answer.warnings, case.warnings) {
+    } else if over(&answer.warnings, warnings) {
         Err(18)
     } else {
         Ok(answer)

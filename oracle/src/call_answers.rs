@@ -7,6 +7,7 @@ use crate::case::Case;
 use crate::convert::dwarf::references::{Found, Searched, searched};
 use crate::convert::dwarf::{Collected, lines};
 use crate::error::{Result, refusal};
+use crate::model::LineEntry;
 use crate::output::{written_files, written_warnings};
 use crate::stand_in::gimli::{AttributeValue, Dwarf, Slice};
 
@@ -47,7 +48,20 @@ fn called(call: &Call) -> Result<String> {
 
 fn rows(query: &Query, collected: &Collected) -> String {
     let (rows, invalid) = collected.rows(query.start, query.end, query.sequence);
-    rows.iter().fold(format!("rows {}", u8::from(invalid)), |text, row| format!("{text} {:x}:{}:{}", row.address, row.file.get(), row.line))
+    rows.iter().fold(format!("rows {}", u8::from(invalid)), |text, row| {
+        format!("{text} {:x}:{}:{}{}", row.address, row.file.get(), row.line, column(row))
+    })
+}
+
+/// What follows a row's line: its column. The plain Rust knows none (E7).
+#[cfg(not(feature = "plain"))]
+fn column(row: &LineEntry) -> String {
+    format!(":{}", row.column)
+}
+
+#[cfg(feature = "plain")]
+fn column(_: &LineEntry) -> &'static str {
+    ""
 }
 
 /// How many lines and sequences a unit has, the files that were added, and the warnings.

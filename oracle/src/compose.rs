@@ -13,6 +13,7 @@ pub const BLOCK: u16 = 0x0b;
 
 pub const NAME: u16 = 0x03;
 pub const ORIGIN: u16 = 0x31;
+pub const DECL_COLUMN: u16 = 0x39;
 pub const DECL_FILE: u16 = 0x3a;
 pub const DECL_LINE: u16 = 0x3b;
 pub const SPECIFICATION: u16 = 0x47;
@@ -88,8 +89,8 @@ impl Fields {
         self.field(0x15, &[&[failed], &directory.to_le_bytes(), path])
     }
 
-    pub fn row(&mut self, address: u64, file: u64, line: u64, kind: u8) -> &mut Self {
-        self.field(0x16, &[&address.to_le_bytes(), &file.to_le_bytes(), &line.to_le_bytes(), &[kind]])
+    pub fn row(&mut self, address: u64, file: u64, line: u64, column: u16, kind: u8) -> &mut Self {
+        self.field(0x16, &[&address.to_le_bytes(), &file.to_le_bytes(), &line.to_le_bytes(), &column.to_le_bytes(), &[kind]])
     }
 
     pub fn entry(&mut self, offset: u64, depth: u16, tag: u16) -> &mut Self {

@@ -49,6 +49,14 @@ rules! {
     BelowCompilation: "E3: a Windows path below the compilation directory",
     OneNumber: "E3: two Windows paths with one number",
     NoLetter: "E3: a colon behind no letter, left as before",
+    ColumnsDropped: "E7: exact neighbours with other columns drop, the first is left",
+    FirstMoved: "E7: of exact neighbours with other columns the first is moved to the start",
+    ColumnsMerged: "E7: neighbours of one file and line merge, whatever their columns",
+    ColumnMoved: "E7: a row moved to the start brings its column",
+    LineTwice: "E7: one line twice, other columns, another line between",
+    LargestColumn: "E7: column 65,535",
+    DeclarationColumn: "E7: a declaration row has column 0",
+    DeclarationsColumn: "E7: a declaration row has column 0, its entry another",
     Sorted: "rows: sorted by address",
     Stable: "rows: of one address in their order, not by line",
     ExactNeighbours: "rows: exact neighbours drop",
@@ -157,6 +165,7 @@ fn examine(case: &Case, counts: &mut Counts, reached: &mut Reached) -> Result<()
     if let Some(header) = &unit.lines {
         skipping(header, reached);
         sorting(unit, header, &rows.0, reached);
+        requests::exact_neighbours(unit, &rows.0, reached);
         requests::windows_paths(unit, header, files(&imported.builder), reached);
     }
     reached.hit(Rule::MissingFile, kinds[6] == 1);
@@ -355,7 +364,15 @@ fn requested(unit: &Data<'_>, entry: &EntryData<Slice<'_>>) -> Option<u64> {
     (value != none).then_some(value)
 }
 
-fn function_rows(function: &Function, requested: Option<u64>, (rows, sequences): &Rows, reached: &mut Reached) {
+/// Judges a function's rows too, columns included: the plain Rust has none.
+fn function_rows(
+    unit: &Data<'_>,
+    entry: &EntryData<Slice<'_>>,
+    function: &Function,
+    (rows, sequences): &Rows,
+    reached: &mut Reached,
+) -> Result<(), String> {
+    let requested = requested(unit, entry);
     let range = function.range;
     let exists = requested.is_none_or(|_| sequences.iter().any(|sequence| sequence.1 == requested));
     let selected = requested.filter(|_| exists);
@@ -365,21 +382,22 @@ fn function_rows(function: &Function, requested: Option<u64>, (rows, sequences):
     reached.hit(Rule::SequenceSelects, own.len() < inside.count());
     let same = |a: &LineEntry, b: &LineEntry| (a.file, a.line) == (b.file, b.line);
     reached.hit(Rule::Compacted, own.windows(2).any(|pair| same(pair[0], pair[1])));
-    let mut found = !own.is_empty();
+    let mut moved = None;
     let covering = sequences.iter().find(|sequence| chosen(sequence.1) && sequence.0.contains(range.start));
     if let Some(covering) = covering.filter(|_| own.first().is_none_or(|row| row.address > range.start)) {
         let of = selected.or(covering.1);
-        let earlier = rows.iter().rev().find(|row| row.0.address < range.start && (of.is_none() || row.1 == of));
-        if let Some((earlier, _)) = earlier {
-            found = true;
+        moved = rows.iter().rev().find(|row| row.0.address < range.start && (of.is_none() || row.1 == of));
+        if let Some((earlier, _)) = moved {
             reached.hit(Rule::Moved, true);
             reached.hit(Rule::MovedBefore, !own.is_empty());
             reached.hit(Rule::MovedOfAny, of.is_none());
             reached.hit(Rule::CompactedLast, own.first().is_some_and(|first| same(first, earlier)));
         }
     }
+    let found = moved.is_some() || !own.is_empty();
     reached.hit(Rule::MissingSequence, !exists && found);
     reached.hit(Rule::MissingSequenceSilent, !exists && !found);
+    requests::columns(unit, entry, function, &own, moved.map(|row| &row.0), reached)
 }
 
 // ---- records
@@ -398,7 +416,7 @@ fn records(case: &Case, unit: &Data<'_>, imported: &Imported, events: &[Event], 
     let functions = imported.builder.functions();
     let mut last = None;
     for ((root, named), function) in walks.iter().zip(functions) {
-        function_rows(function, requested(unit, &unit.entries[*root]), rows, reached);
+        function_rows(unit, &unit.entries[*root], function, rows, reached)?;
         let kept = walk(unit, *root, named, function.range, reached);
         let nodes = function.inline.as_ref().map_or(0, |root| count(root) - 1);
         if case.inlines && kept != nodes {

@@ -1,5 +1,5 @@
 //! The cases of document 01's "Operands, paths and a printed import", each as an import, with the listing that
-//! it must print; that of a Windows path is request E3's.
+//! it must print; that of a Windows path is request E3's, and the columns, all 0, are E7's.
 
 use crate::case::Case;
 use crate::compose::*;
@@ -53,8 +53,8 @@ fn call(main: Fields, program: &[u8]) -> Case {
 }
 
 const PRINTED: &str = "function 1000 1010 dim
-row 1000 1 10
-row 1008 1 12
+row 1000 1 10 0
+row 1008 1 12 0
 inline 0 0 0 dim
 range 1000 1010
 inline 1 1 11 fade
@@ -66,7 +66,7 @@ stats 1 2 1 0
 fn printed() -> Case {
     let mut main = unit(0x2000);
     main.header(0, 32, 5, 4, 13, &OPCODE_LENGTHS).directory(0, b"/src").file(0, 0, b"cue.c");
-    main.row(0x1000, 0, 10, PLAIN).row(0x1008, 0, 12, PLAIN).row(0x1010, 0, 0, END);
+    main.row(0x1000, 0, 10, 0, PLAIN).row(0x1008, 0, 12, 0, PLAIN).row(0x1010, 0, 0, 0, END);
     main.entry(11, 0, COMPILE_UNIT).entry(20, 1, SUBPROGRAM).string(NAME, b"dim").range(0x1000, 0x1010, 0);
     main.entry(30, 2, INLINED).string(NAME, b"fade").attribute(CALL_FILE, UNSIGNED, 0).attribute(CALL_LINE, UNSIGNED, 11);
     main.range(0x1004, 0x1008, 0);
@@ -82,14 +82,14 @@ fn program(name: &'static str, program: &[u8], listing: &str) -> Shown {
 fn lines(program: &[u8], sequences: u64, requested: u64) -> Case {
     let mut main = unit(0x2000);
     main.header(0, 32, 5, 4, 13, &OPCODE_LENGTHS).file(0, 0, b"a.c");
-    (1..=sequences).for_each(|number| _ = main.row(0x1000, 0, 10 * number, PLAIN).row(0x1010, 0, 0, END));
+    (1..=sequences).for_each(|number| _ = main.row(0x1000, 0, 10 * number, 0, PLAIN).row(0x1010, 0, 0, 0, END));
     main.entry(11, 0, COMPILE_UNIT).entry(20, 1, SUBPROGRAM).string(NAME, b"dim");
     main.attribute(STATEMENT_SEQUENCE, SECTION_OFFSET, requested).range(0x1000, 0x1010, 0);
     call(main, program)
 }
 
 fn read(line: u32) -> String {
-    format!("function 1000 1010 dim\nrow 1000 1 {line}\nfile 1  a.c\nstats 1 1 0 0\n")
+    format!("function 1000 1010 dim\nrow 1000 1 {line} 0\nfile 1  a.c\nstats 1 1 0 0\n")
 }
 
 /// A file of directory 0 in version 4, the compilation directory being /w.

@@ -2,6 +2,7 @@
 //! text that they answer. The Rust has no such function: a loop over the call's own rows answers here, written from
 //! the request. crates/line_answers answers the same calls.
 
+use crate::generate::column;
 use crate::random::Random;
 
 const LAST: u64 = u64::MAX;
@@ -20,6 +21,7 @@ struct Row {
     address: u64,
     file: u32,
     line: u32,
+    column: u16,
     sequence: Option<u64>,
 }
 
@@ -69,7 +71,8 @@ impl Call {
 
 impl Row {
     fn bytes(&self) -> Vec<u8> {
-        [&self.address.to_le_bytes(), [self.file, self.line].map(u32::to_le_bytes).as_flattened(), &sequence_bytes(self.sequence)].concat()
+        let numbers = [self.file, self.line].map(u32::to_le_bytes);
+        [&self.address.to_le_bytes(), numbers.as_flattened(), &self.column.to_le_bytes(), &sequence_bytes(self.sequence)].concat()
     }
 }
 
@@ -96,7 +99,7 @@ impl Query {
 
     fn answer(&self, rows: &[Row]) -> String {
         let (place, own) = self.own(rows);
-        own.iter().fold(format!("place {place}"), |text, row| format!("{text} {:x}:{}:{}", row.address, row.file, row.line))
+        own.iter().fold(format!("place {place}"), |text, row| format!("{text} {:x}:{}:{}:{}", row.address, row.file, row.line, row.column))
     }
 }
 
@@ -119,7 +122,8 @@ fn whole(random: &mut Random) -> Call {
 fn row(random: &mut Random) -> Row {
     let near = 0x1000 + 4 * random.below(24);
     let address = if random.chance(4) { random.pick(&[0, 1, LAST - 1, LAST]) } else { near };
-    Row { address, file: random.between(1, 3) as u32, line: random.between(0, 40) as u32, sequence: sequence(random) }
+    let (file, line) = (random.between(1, 3) as u32, random.between(0, 40) as u32);
+    Row { address, file, line, column: column(random), sequence: sequence(random) }
 }
 
 fn sequence(random: &mut Random) -> Option<u64> {
@@ -143,7 +147,7 @@ mod tests {
     use super::*;
 
     fn table(rows: &[(u64, Option<u64>)]) -> Vec<Row> {
-        rows.iter().map(|&(address, sequence)| Row { address, file: 1, line: 2, sequence }).collect()
+        rows.iter().map(|&(address, sequence)| Row { address, file: 1, line: 2, column: 3, sequence }).collect()
     }
 
     fn asked(start: u64, end: u64, sequence: Option<u64>) -> Query {
@@ -155,8 +159,8 @@ mod tests {
     fn answers_by_hand() {
         let known = Some(44);
         let mixed = table(&[(4, known), (0x10, known), (0x20, known), (0x12, known)]);
-        assert_eq!(asked(8, 0x20, None).answer(&mixed), "place 2 10:1:2");
-        assert_eq!(asked(8, 0x21, None).answer(&mixed), "place 4 10:1:2 20:1:2 12:1:2");
+        assert_eq!(asked(8, 0x20, None).answer(&mixed), "place 2 10:1:2:3");
+        assert_eq!(asked(8, 0x21, None).answer(&mixed), "place 4 10:1:2:3 20:1:2:3 12:1:2:3");
         assert_eq!(asked(8, 0x20, Some(45)).answer(&mixed), "place 2");
         assert_eq!(asked(8, 0x20, None).answer(&[]), "place 0");
         assert_eq!(asked(0x10, 0x10, None).answer(&mixed), "place 1");

@@ -240,6 +240,10 @@ impl Writer<'_> {
             number(file, (random.pick(&[1, 2, 2]), if random.chance(5 + odd) { random.pick(&[0, 5, 9, LAST]) } else { known }));
             let past = random.pick(&[1 << 32, LAST, u64::from(u32::MAX)]);
             number(line, (UNSIGNED, if random.chance(5 + odd) { past } else { random.below(30) }));
+            // A declaration's column, which nothing reads.
+            if line == DECL_LINE && random.chance(30) {
+                number(DECL_COLUMN, (UNSIGNED, random.between(1, 99)));
+            }
         }
         if random.chance(odd) {
             let name = random.pick(&[file, line, ORIGIN, STATEMENT_SEQUENCE]);
@@ -395,6 +399,12 @@ pub fn before_header_end(version: u8, word: u8) -> u64 {
     (if word == 8 { 12 + 8 } else { 4 + 4 }) + if version == 5 { 4 } else { 2 }
 }
 
+/// A row's column.
+pub fn column(random: &mut Random) -> u16 {
+    let any = random.next() as u16;
+    random.pick(&[0, 1, 9, u16::MAX, any])
+}
+
 /// Rows of some sequences; how many were ended.
 fn rows(random: &mut Random, odd: u64, lines: &mut Lines) -> u64 {
     let (first, files, fields) = (lines.first_file, lines.files, &mut lines.fields);
@@ -402,7 +412,11 @@ fn rows(random: &mut Random, odd: u64, lines: &mut Lines) -> u64 {
         let known = first + random.below(files.max(1));
         let file = if random.chance(5 + odd) { random.pick(&[0, 0, files + 1, LAST]) } else { known };
         let line = if random.chance(2 + odd) { random.pick(&[0, u64::from(u32::MAX), 1 << 32]) } else { random.between(10, 12) };
-        fields.row(address, file, line, PLAIN);
+        fields.row(address, file, line, column(random), PLAIN);
+        // An exact neighbour but for the column.
+        if random.chance(12) {
+            fields.row(address, file, line, column(random), PLAIN);
+        }
     };
     let sequences = random.pick(&[0, 1, 1, 1, 2, 2, 3]);
     for _ in 0..sequences {
@@ -412,9 +426,9 @@ fn rows(random: &mut Random, odd: u64, lines: &mut Lines) -> u64 {
             address = if random.chance(15) { address.saturating_sub(8) } else { address + random.pick(&[0, 0, 2, 4, 8, 0x10]) };
         }
         if random.chance(odd / 3) {
-            fields.row(address, 0, 0, FAILED_ROW);
+            fields.row(address, 0, 0, column(random), FAILED_ROW);
         }
-        fields.row(address + random.pick(&[0, 4, 0x10, 0x40]), 0, 0, END);
+        fields.row(address + random.pick(&[0, 4, 0x10, 0x40]), 0, 0, column(random), END);
     }
     for _ in 0..random.pick(&[0, 0, 0, 0, 1, 2]) {
         plain(random, fields, 0x1000);

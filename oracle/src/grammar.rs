@@ -193,8 +193,9 @@ impl<'a> Parser<'a> {
             }
             _ => {
                 let (address, file, line) = (payload.number(8)?, payload.number(8)?, payload.number(8)?);
+                let column = payload.number(2)? as u16;
                 let kind = [RowKind::Plain, RowKind::End, RowKind::Failed][usize::from(payload.byte(0, 2)?)];
-                unit.rows.push(LineRow { address, file, line, kind });
+                unit.rows.push(LineRow { address, file, line, column, kind });
             }
         }
         Ok(true)

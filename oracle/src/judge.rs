@@ -7,7 +7,7 @@ use crate::calls::{lines, searches};
 use crate::case::{Answer, Case};
 use crate::files::Source;
 use crate::requests::{REQUESTS, is_padded, set_apart, windows_root};
-use crate::{answer, call_answers};
+use crate::{answer, answer_in, call_answers, grammar, output};
 
 /// The oracle's answer, of which the plain Rust has been asked; else what is wrong.
 pub fn judged(case: &Case) -> Result<Answer, String> {
@@ -17,9 +17,15 @@ pub fn judged(case: &Case) -> Result<Answer, String> {
 }
 
 /// Whether the plain Rust gives the oracle's answer too. It must, unless a request sets the case apart.
+///
+/// Its records are shorter, since it knows no columns (E7), and so it does not say when they are too long for their buffer: it is asked with
+/// one that is as long as can be, and where the oracle refuses with 16, both are asked with three of those.
 pub fn judge(case: &Case, answer: &Answer) -> Result<bool, String> {
-    let plain = plain::answer(case);
-    let shared = same(answer, &plain);
+    const ROOM: u32 = u32::MAX;
+    let short = answer.refusal == 16;
+    let lengths = if short { [ROOM; 3] } else { [ROOM, case.files, case.warnings] };
+    let plain = plain::answer_in(case, lengths);
+    let shared = if short { same(&answer_in(case, lengths), &plain) } else { same(answer, &plain) };
     if !shared && !set_apart(case).contains(&true) {
         return Err(format!(
             "the plain Rust answers otherwise, and no request sets the case apart: refusal {} and statistics {:?}, the plain Rust's {} and {:?}",
@@ -29,10 +35,32 @@ pub fn judge(case: &Case, answer: &Answer) -> Result<bool, String> {
     Ok(shared)
 }
 
-/// Whether two answers are the same in all that the plain Rust knows of. No request has put anything else into an answer: every byte
-/// counts. One that does takes it out here before the two are compared.
+/// Whether two answers are the same in all that the plain Rust knows of: every byte counts but those of the columns, which E7 put in.
 fn same(answer: &Answer, plain: &Answer) -> bool {
-    answer == plain
+    (answer.refusal, answer.statistics) == (plain.refusal, plain.statistics)
+        && (&answer.files, &answer.warnings) == (&plain.files, &plain.warnings)
+        && without_columns(&answer.records) == plain.records
+}
+
+/// Records without the last two bytes of each row.
+fn without_columns(records: &[u8]) -> Vec<u8> {
+    let (mut kept, mut rest) = (Vec::with_capacity(records.len()), records);
+    while let Some((tag, payload, after)) = grammar::field(rest) {
+        let columns = if tag == 0x42 { 2 } else { 0 };
+        output::field(&mut kept, tag, &[&payload[..payload.len() - columns]]);
+        rest = after;
+    }
+    kept
+}
+
+/// The lines of an answer for rows without the last number of each row.
+fn without_column_numbers(text: &str) -> String {
+    let row = |word: &str| word.rsplit_once(':').map_or(word, |(kept, _)| kept).to_owned();
+    let line = |line: &str| match line.strip_prefix("rows ") {
+        Some(rows) => format!("rows {}", rows.split(' ').map(row).collect::<Vec<_>>().join(" ")),
+        None => line.to_owned(),
+    };
+    text.split('\n').map(line).collect::<Vec<_>>().join("\n")
 }
 
 /// The answer to a call of the lines layer, judged in the same way.
@@ -43,7 +71,9 @@ pub fn judged_lines(call: &lines::Call) -> Result<String, String> {
         lines::Call::Path(path) => windows_root(path).is_some(),
         lines::Call::Operand { .. } | lines::Call::Join(..) => false,
     };
-    judged_text(call_answers::lines(call), plain::call_answers::lines(call), apart)
+    let (text, plain) = (call_answers::lines(call), plain::call_answers::lines(call));
+    judged_text(&without_column_numbers(&text), &plain, apart)?;
+    Ok(text)
 }
 
 /// The answers to a call of the searches, which no request is about, a line each. The counts of reads are the oracle's alone: its text of
@@ -52,13 +82,13 @@ pub fn judged_searches(call: &searches::Call) -> Result<String, String> {
     let joined =
         |answers: &[searches::Answer], line: fn(&searches::Answer) -> String| answers.iter().map(line).collect::<Vec<_>>().join("\n");
     let (answers, plain) = (call_answers::searches(call), plain::call_answers::searches(call));
-    judged_text(joined(&answers, |answer| answer.text.clone()), joined(&plain, |answer| answer.text.clone()), false)?;
+    judged_text(&joined(&answers, |answer| answer.text.clone()), &joined(&plain, |answer| answer.text.clone()), false)?;
     Ok(joined(&answers, searches::Answer::line))
 }
 
-fn judged_text(text: String, plain: String, apart: bool) -> Result<String, String> {
+fn judged_text(text: &str, plain: &str, apart: bool) -> Result<(), String> {
     if text == plain || apart {
-        Ok(text)
+        Ok(())
     } else {
         Err(format!("the plain Rust answers otherwise, and no request sets the call apart: {text:?}, the plain Rust's {plain:?}"))
     }
@@ -87,7 +117,7 @@ pub fn shares(path: &Path) -> Result<bool, String> {
         cases += 1;
     }
     let share = |count: u64| format!("{:.1} %", 100.0 * count as f64 / cases.max(1) as f64);
-    println!("{cases} cases, {judged} of them ({}) judged by the plain Rust, which answers the same", share(judged));
+    println!("{cases} cases, {judged} of them ({}) judged by the plain Rust, which answers the same but for columns", share(judged));
     for ((request, _), (count, otherwise)) in REQUESTS.iter().zip(apart) {
         println!("{count} ({}) set apart by {request}; {otherwise} of them the plain Rust answers otherwise", share(count));
     }

@@ -57,7 +57,7 @@ mod grammar;
 mod output;
 mod trace;
 
-pub use answer::{answer, finished, inputs, work_needed};
+pub use answer::{answer, answer_in, finished, inputs, work_needed};
 pub use case::{Answer, Case};
 pub use output::written;
 
@@ -72,6 +72,8 @@ pub use plain::{self, calls, case};
 
 // ---- the oracle's own
 
+#[cfg(all(test, not(feature = "plain")))]
+mod columns;
 #[cfg(not(feature = "plain"))]
 pub mod compose;
 #[cfg(not(feature = "plain"))]

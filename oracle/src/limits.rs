@@ -2,7 +2,7 @@
 
 use crate::case::Case;
 use crate::compose::*;
-use crate::generate::{bad_instruction, before_header_end, padded_advance, windows};
+use crate::generate::{bad_instruction, before_header_end, column, padded_advance, windows};
 use crate::random::Random;
 
 /// Cases over 64 KiB, the same for every seed: too large ones, and as many fields as there may be.
@@ -272,8 +272,8 @@ fn instructions(random: &mut Random) -> Case {
         OPCODE_LENGTHS.iter().map(|&length| if random.chance(25) { random.pick(&[0, 1, 2, 3]) } else { length }).collect();
     main.unit(0, 100, 5, 4).text(0x1000, 0x2000);
     main.header(offset, 32, version, word, base, &lengths);
-    main.file(u8::from(random.chance(5)), 0, b"a.c").row(0x1000, 1, 10, PLAIN);
-    main.row(0x1010, 0, 0, if random.chance(5) { FAILED_ROW } else { END });
+    main.file(u8::from(random.chance(5)), 0, b"a.c").row(0x1000, 1, 10, column(random), PLAIN);
+    main.row(0x1010, 0, 0, column(random), if random.chance(5) { FAILED_ROW } else { END });
     main.entry(0, 0, COMPILE_UNIT).entry(1, 1, SUBPROGRAM).string(NAME, b"dim");
     main.attribute(STATEMENT_SEQUENCE, UNSIGNED, offset.wrapping_add(before).wrapping_add(32)).range(0x1000, 0x1010, 0);
     Case::new(main.0, Vec::new(), program)
@@ -307,7 +307,9 @@ fn advance_line(random: &mut Random) -> Case {
     }
     let mut main = Fields::default();
     main.unit(0, 100, 5, 4).text(0x1000, 0x2000).header(0, 32, 5, 4, random.pick(&[13, 13, 13, 13, 4, 3]), &lengths).file(0, 0, b"a.c");
-    main.row(0x1000, 0, 10, PLAIN).row(0x1010, 0, 0, END).row(0x1000, 0, 20, PLAIN).row(0x1010, 0, 0, END);
+    for line in [10, 20] {
+        main.row(0x1000, 0, line, column(random), PLAIN).row(0x1010, 0, 0, 0, END);
+    }
     main.entry(0, 0, COMPILE_UNIT).entry(1, 1, SUBPROGRAM).string(NAME, b"dim").attribute(STATEMENT_SEQUENCE, SECTION_OFFSET, second);
     main.range(0x1000, 0x1010, 0);
     Case::new(main.0, Vec::new(), program)
@@ -371,9 +373,10 @@ fn order(random: &mut Random) -> Case {
     main.directory(u8::from(random.chance(20)), b"d").file_zero(u8::from(random.chance(20)), 1, b"z.c");
     main.file(u8::from(random.chance(15)), random.below(3), b"a.c").file(0, 1, b"a.c").file(0, 0, random.pick(&[b"".as_slice(), b"c.c"]));
     for _ in 0..random.between(1, 4) {
-        main.row(0x1000, random.below(4), random.pick(&[5, 5, 1 << 32]), if random.chance(8) { FAILED_ROW } else { PLAIN });
+        let kind = if random.chance(8) { FAILED_ROW } else { PLAIN };
+        main.row(0x1000, random.below(4), random.pick(&[5, 5, 1 << 32]), column(random), kind);
     }
-    main.row(0x1010, 0, 0, END).entry(0, 0, COMPILE_UNIT);
+    main.row(0x1010, 0, 0, 0, END).entry(0, 0, COMPILE_UNIT);
     main.entry(1, 1, SUBPROGRAM).string(NAME, if random.chance(90) { b"dim" } else { b"" });
     if random.chance(15) {
         main.attribute(LINKAGE_NAME, random.pick(&[FAILED, UNSIGNED]), 3);
@@ -411,7 +414,7 @@ fn file_numbers(random: &mut Random) -> Case {
     main.unit(0, 100, 5, 4).text(0x1000, 0x2000).header(0, 32, version, 4, 13, &OPCODE_LENGTHS);
     main.file_zero(0, 0, random.pick(&names));
     (0..files).for_each(|_| _ = main.file(0, 0, random.pick(&names)));
-    main.row(0x1000, random.pick(&[0, 1]), 10, PLAIN).row(0x1008, 0, 0, END);
+    main.row(0x1000, random.pick(&[0, 1]), 10, column(random), PLAIN).row(0x1008, 0, 0, 0, END);
     main.entry(0, 0, COMPILE_UNIT).entry(1, 1, SUBPROGRAM).string(NAME, b"dim").attribute(ORIGIN, SECTION_REF, 200);
     main.range(random.pick(&[0x1000, 0x1010]), 0x1020, 0);
     main.unit(200, 100, 5, 4).header(0, 32, version, 4, 13, &OPCODE_LENGTHS).file(0, 0, random.pick(&names)).file(0, 0, b"far.c");

@@ -296,7 +296,9 @@ mod tests {
     use std::collections::BTreeSet;
 
     use super::*;
+    use crate::answer::inputs;
     use crate::call_answers::lines;
+    use crate::stand_in::gimli::{LineRow, RowKind};
 
     #[test]
     fn document_01_answers() {
@@ -378,6 +380,34 @@ mod tests {
         for part in ["F\\11\\00\\05", "F\\11\\00\\06", "F\\11\\00\\07", "\nrows 1 ", "\nrows 0 ", "\nrows 0\n"] {
             assert!(answers.iter().any(|answer| answer.contains(part)), "no call for rows answers {part:?}");
         }
+    }
+
+    /// Rows that are told apart by their columns alone: one line twice; a row moved to a start, and the first of exact neighbours moved.
+    #[test]
+    fn every_answer_of_e7_is_reached() {
+        let (mut largest, mut twice, mut moved, mut first) = (0, 0, 0, 0);
+        for call in rows_calls(1).take(300) {
+            let Call::Rows { case, queries } = &call else { unreachable!("calls for rows") };
+            let (Ok((dwarf, _)), answer) = (inputs(case), lines(&call)) else { continue };
+            let sheet = &dwarf.units[0].rows;
+            for (query, line) in queries.iter().zip(answer.lines().skip(1)) {
+                let rows: Vec<Vec<&str>> = line.split(' ').skip(2).map(|row| row.split(':').collect()).collect();
+                assert!(rows.iter().all(|row| row.len() == 4), "{line}");
+                largest += usize::from(rows.iter().any(|row| row[3] == "65535"));
+                let other = |a: &[&str], b: &[&str]| a[1..3] == b[1..3] && a[3] != b[3];
+                twice += usize::from(rows.iter().any(|a| rows.iter().any(|b| other(a, b))));
+                let Some(row) = rows.first().filter(|row| row[3] != "0") else { continue };
+                if sheet.iter().any(|own| own.address == query.start) || row[0] != format!("{:x}", query.start) {
+                    continue;
+                }
+                moved += 1;
+                let told = |row: &LineRow| (row.kind == RowKind::Plain, row.address, row.file, row.line);
+                let column = |of: &LineRow| of.column.to_string() == row[3] && of.line.to_string() == row[2];
+                first +=
+                    usize::from(sheet.windows(2).any(|pair| told(&pair[0]) == told(&pair[1]) && column(&pair[0]) && !column(&pair[1])));
+            }
+        }
+        assert!(largest > 20 && twice > 20 && moved > 10 && first > 0, "{largest} {twice} {moved} {first}");
     }
 
     fn shape(answer: &str) -> String {

@@ -40,7 +40,7 @@ fn write_field(output: &mut Vec<u8>, tag: u8, payload: &[u8], file: &mut u64) {
     let number = |at: usize, size: usize| payload[at..at + size].iter().rev().fold(0, |value, &byte| value << 8 | u64::from(byte));
     match tag {
         0x41 => line(output, "function", &[Hex(number(0, 8)), Hex(number(8, 8)), Text(&payload[16..])]),
-        0x42 => line(output, "row", &[Hex(number(0, 8)), Decimal(number(8, 4)), Decimal(number(12, 4))]),
+        0x42 => line(output, "row", &[Hex(number(0, 8)), Decimal(number(8, 4)), Decimal(number(12, 4)), Decimal(number(16, 2))]),
         0x43 => line(output, "inline", &[Decimal(number(0, 2)), Decimal(number(2, 4)), Decimal(number(6, 4)), Text(&payload[10..])]),
         0x44 => line(output, "range", &[Hex(number(0, 8)), Hex(number(8, 8))]),
         0x45 if payload[8] == 0 => line(output, "site", &[Hex(number(0, 8))]),

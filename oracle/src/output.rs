@@ -4,7 +4,11 @@ use crate::GsymBuilder;
 use crate::case::Answer;
 use crate::convert::ConversionWarning;
 use crate::convert::dwarf::Imported;
+#[cfg(feature = "plain")]
+use crate::model::LineEntry;
 use crate::model::{AddressRange, FileEntry, FileIndex, InlineNode};
+#[cfg(not(feature = "plain"))]
+use crate::requests::line_and_column;
 
 /// The files that were added, without the reserved one.
 pub fn files(builder: &GsymBuilder) -> &[FileEntry] {
@@ -27,7 +31,7 @@ pub fn written(imported: &Imported, first_file: u32) -> Answer {
     for function in imported.builder.functions() {
         field(records, 0x41, &[&range(function.range), &function.name]);
         for row in &function.lines {
-            field(records, 0x42, &[&row.address.to_le_bytes(), &number(row.file).to_le_bytes(), &row.line.to_le_bytes()]);
+            field(records, 0x42, &[&row.address.to_le_bytes(), &number(row.file).to_le_bytes(), &line_and_column(row)]);
         }
         if let Some(root) = &function.inline {
             node(records, root, 0, &number);
@@ -58,6 +62,12 @@ pub fn written_warnings(warnings: &[ConversionWarning]) -> Vec<u8> {
         field(&mut output, 0x46, &[&[kind], &values]);
     }
     output
+}
+
+/// The plain Rust knows no columns (E7): its rows end in the line.
+#[cfg(feature = "plain")]
+fn line_and_column(row: &LineEntry) -> [u8; 4] {
+    row.line.to_le_bytes()
 }
 
 pub fn field(output: &mut Vec<u8>, tag: u8, parts: &[&[u8]]) {

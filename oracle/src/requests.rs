@@ -4,12 +4,13 @@
 use crate::answer::inputs;
 use crate::case::Case;
 use crate::error::{Error, Result};
+use crate::model::LineEntry;
 use crate::stand_in::gimli::{AttributeValue, Dwarf, Slice};
 
 /// Whether a request is about what an import of the unit of this number reads.
 type Concerns = fn(&Dwarf<Slice<'_>>, usize) -> bool;
 
-/// The requests that alter answers.
+/// The requests that set cases apart.
 pub const REQUESTS: [(&str, Concerns); 2] = [("E2", pads_advance), ("E3", has_windows_path)];
 
 /// For each request whether it sets a case apart. An input that the grammar refuses is none's.
@@ -147,4 +148,16 @@ fn has_windows_path(dwarf: &Dwarf<Slice<'_>>, _: usize) -> bool {
     let units = dwarf.units.iter().chain(dwarf.sup().into_iter().flat_map(|sup| &sup.units));
     let mut files = units.filter_map(|unit| unit.lines.as_ref()).flat_map(|header| header.file_zero.iter().chain(&header.files));
     files.any(|file| matches!(file.path, AttributeValue::String(path) if windows_root(path.0).is_some()))
+}
+
+// ---- E7: columns in the rows
+
+/// Whether one of two neighbours in a unit's table drops, if their sequence is the same: "as before, whatever their columns".
+pub fn exact_neighbours(a: &LineEntry, b: &LineEntry) -> bool {
+    (a.address, a.file, a.line) == (b.address, b.file, b.line)
+}
+
+/// What a row of the records ends in: "a column of 2 bytes after the line".
+pub fn line_and_column(row: &LineEntry) -> Vec<u8> {
+    [row.line.to_le_bytes().as_slice(), &row.column.to_le_bytes()].concat()
 }

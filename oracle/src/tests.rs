@@ -57,11 +57,11 @@ fn order_within_a_unit() {
     assert_eq!(after_unit(|f| _ = f.text(0, 1).compilation_directory(b"")), 2);
     assert_eq!(after_header(|f| _ = f.header(0, 32, 4, 4, 13, &[])), 2);
     assert_eq!(after_unit(|f| _ = f.directory(0, b"")), 2);
-    assert_eq!(after_header(|f| _ = f.directory(0, b"").file_zero(0, 0, b"").file(0, 0, b"").row(0, 0, 0, END).entry(0, 0, 1)), 0);
+    assert_eq!(after_header(|f| _ = f.directory(0, b"").file_zero(0, 0, b"").file(0, 0, b"").row(0, 0, 0, 0, END).entry(0, 0, 1)), 0);
     assert_eq!(after_header(|f| _ = f.file_zero(0, 0, b"").file_zero(0, 0, b"")), 2);
     assert_eq!(after_header(|f| _ = f.file(0, 0, b"").file_zero(0, 0, b"")), 2);
-    assert_eq!(after_header(|f| _ = f.row(0, 0, 0, PLAIN).file(0, 0, b"")), 2);
-    assert_eq!(after_header(|f| _ = f.entry(0, 0, 1).row(0, 0, 0, PLAIN)), 2);
+    assert_eq!(after_header(|f| _ = f.row(0, 0, 0, 0, PLAIN).file(0, 0, b"")), 2);
+    assert_eq!(after_header(|f| _ = f.entry(0, 0, 1).row(0, 0, 0, 0, PLAIN)), 2);
     assert_eq!(after_unit(|f| _ = f.attribute(NAME, UNSIGNED, 0)), 2);
     assert_eq!(after_unit(|f| _ = f.entry(0, 0, 1).range(0, 1, 0).attribute(NAME, UNSIGNED, 0)), 2);
     assert_eq!(after_unit(|f| _ = f.entry(0, 0, 1).failure(0, b"").failure(1, b"")), 2);
@@ -76,7 +76,8 @@ fn shapes() {
     assert_eq!([bytes(0x12, &[0; 15]), bytes(0x12, &[0; 17]), bytes(0x13, &[0; 18]), bytes(0x13, &[0; 19])], [2; 4]);
     assert_eq!(after_unit(|f| _ = f.header(0, 0, 6, 4, 0, &[])), 2);
     assert_eq!(after_header(|f| _ = f.directory(2, b"")), 2);
-    assert_eq!(after_header(|f| _ = f.row(0, 0, 0, 3)), 2);
+    assert_eq!([0, 1, 2, 3].map(|kind| after_header(|f| _ = f.row(0, 0, 0, u16::MAX, kind))), [0, 0, 6, 2]);
+    assert_eq!([24, 25, 26, 27, 28].map(|size| after_header(|f| f.0.extend(raw(0x16, &vec![0; size])))), [2, 2, 2, 0, 2]);
     assert_eq!(after_header(|f| f.0.extend(raw(0x15, &[0; 8]))), 2);
     assert_eq!(after_unit(|f| _ = f.entry(99, 0, 1)), 0);
     assert_eq!(
@@ -117,7 +118,7 @@ fn limits() {
 fn units_work_and_buffers() {
     let (_, case, _) = document::cases().remove(0);
     let full = answer(&case);
-    assert_eq!((full.records.len(), full.files.len(), full.warnings.len(), full.statistics), (131, 14, 0, [1, 2, 1, 0]));
+    assert_eq!((full.records.len(), full.files.len(), full.warnings.len(), full.statistics), (135, 14, 0, [1, 2, 1, 0]));
     let refused = |change: &dyn Fn(&mut Case)| {
         let mut changed = case.clone();
         change(&mut changed);
@@ -129,7 +130,7 @@ fn units_work_and_buffers() {
     // 17 fields and a program of 3 bytes.
     let work = 64 * 17 + 4 * 3 + 16_384;
     assert_eq!([refused(&|case| case.work = work), refused(&|case| case.work = work - 1)], [0, 5]);
-    assert_eq!([refused(&|case| case.records = 131), refused(&|case| (case.records, case.files) = (130, 13))], [0, 16]);
+    assert_eq!([refused(&|case| case.records = 135), refused(&|case| (case.records, case.files) = (134, 13))], [0, 16]);
     assert_eq!([refused(&|case| case.files = 14), refused(&|case| case.files = 13), refused(&|case| case.warnings = 0)], [0, 17, 0]);
     assert_eq!(refused(&|case| case.supplementary = vec![0x10]), 2);
     assert_eq!([refused(&|case| case.first_file = 0), refused(&|case| case.first_file = u32::MAX)], [0; 2]);

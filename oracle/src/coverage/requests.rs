@@ -1,9 +1,11 @@
 //! What of the change requests the cases reach, judged by the requests' own words.
 
 use super::{Data, Reached, Rule, Value};
-use crate::model::FileEntry;
+use crate::compose::DECL_COLUMN;
+use crate::convert::dwarf::Sequenced;
+use crate::model::{FileEntry, Function, LineEntry};
 use crate::requests::advances;
-use crate::stand_in::gimli::{FileEntry as GimliFile, LineProgramHeader, Slice};
+use crate::stand_in::gimli::{EntryData, FileEntry as GimliFile, LineProgramHeader, LineRow, RowKind, Slice};
 
 /// E2: opcode 3 on the way through a program, up to the fault that refuses it or the first operand that the request is about.
 pub fn advance_line(header: &LineProgramHeader<Slice<'_>>, refusal: u8, reached: &mut Reached) {
@@ -84,4 +86,59 @@ pub fn windows_paths(unit: &Data<'_>, header: &LineProgramHeader<Slice<'_>>, tab
         let drive = matches!(path, [letter, b':', b'\\', ..] if !letter.is_ascii_alphabetic()) && !path.contains(&b'/');
         reached.hit(Rule::NoLetter, drive && table.iter().any(|entry| entry.basename == path && entry.directory.is_empty()));
     }
+}
+
+/// E7: rows of the sheet that follow each other and differ in the column alone: the table has the first.
+fn neighbours<'u>(unit: &'u Data<'_>) -> impl Iterator<Item = (&'u LineRow, &'u LineRow)> {
+    let told = |row: &LineRow| (row.kind == RowKind::Plain, row.address, row.file, row.line);
+    let pairs = unit.rows.windows(2).map(|pair| (&pair[0], &pair[1]));
+    pairs.filter(move |(a, b)| told(a).0 && told(a) == told(b) && a.column != b.column)
+}
+
+/// Whether a row of a table is one of the sheet.
+fn is_row(entry: &LineEntry, row: &LineRow) -> bool {
+    (entry.address, u64::from(entry.line), entry.column) == (row.address, row.line, row.column)
+}
+
+pub fn exact_neighbours(unit: &Data<'_>, table: &[Sequenced<LineEntry>], reached: &mut Reached) {
+    let there = |row: &LineRow| table.iter().any(|(entry, _)| is_row(entry, row));
+    reached.hit(Rule::ColumnsDropped, neighbours(unit).any(|(first, second)| there(first) && !there(second)));
+}
+
+/// The rows of a function against those that it was given: its own, and the one that is moved to its start.
+pub fn columns(
+    unit: &Data<'_>,
+    entry: &EntryData<Slice<'_>>,
+    function: &Function,
+    own: &[&LineEntry],
+    moved: Option<&LineEntry>,
+    reached: &mut Reached,
+) -> Result<(), String> {
+    let line = |row: &LineEntry| (row.file, row.line);
+    let start = function.range.start;
+    let given = moved.map(|row| LineEntry { address: start, ..*row }).into_iter().chain(own.iter().map(|row| **row));
+    let mut expected: Vec<LineEntry> = Vec::new();
+    for row in given {
+        match expected.last() {
+            Some(last) if line(last) == line(&row) => reached.hit(Rule::ColumnsMerged, last.column != row.column),
+            _ => expected.push(row),
+        }
+    }
+    let rows = &function.lines;
+    if let (true, [row]) = (expected.is_empty(), &rows[..]) {
+        expected.push(LineEntry { column: 0, ..*row });
+        reached.hit(Rule::DeclarationColumn, true);
+        reached.hit(Rule::DeclarationsColumn, entry.attribute(DECL_COLUMN).is_some());
+    }
+    if *rows != expected {
+        return Err(format!("a function's rows are {rows:?}, and by the documents' words {expected:?}"));
+    }
+    if let Some(moved) = moved {
+        reached.hit(Rule::ColumnMoved, moved.column != 0);
+        reached.hit(Rule::FirstMoved, neighbours(unit).any(|(first, _)| is_row(moved, first)));
+    }
+    let again = |place: usize, row: &LineEntry| rows[..place].iter().any(|before| line(before) == line(row) && before.column != row.column);
+    reached.hit(Rule::LineTwice, rows.iter().enumerate().any(|(place, row)| again(place, row)));
+    reached.hit(Rule::LargestColumn, rows.iter().any(|row| row.column == u16::MAX));
+    Ok(())
 }

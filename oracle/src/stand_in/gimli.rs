@@ -509,6 +509,7 @@ pub struct LineRow {
     pub address: u64,
     pub file: u64,
     pub line: u64,
+    pub column: u16,
     pub kind: RowKind,
 }
 
@@ -518,6 +519,7 @@ impl LineRow {
         address(&self) -> u64 = self.address;
         file_index(&self) -> u64 = self.file;
         line(&self) -> Option<NonZeroU64> = NonZeroU64::new(self.line);
+        column(&self) -> u16 = self.column;
     }
 }
 
