@@ -2,7 +2,7 @@
 
 use std::collections::{BTreeSet, HashSet};
 
-use gimli::{LineProgramHeader, UnitOffset};
+use gimli::{ColumnType, LineProgramHeader, UnitOffset};
 
 use crate::fields::{self, Part, Fields};
 use crate::unit::{self, Decoded, Entry, Slice, Source, Value};
@@ -154,6 +154,8 @@ struct Row {
     address: u64,
     file: u64,
     line: u64,
+    /// 0 for the left edge; a column that does not fit is the largest.
+    column: u16,
     /// 0 plain, 1 end of sequence, 2 failed here.
     kind: u8,
 }
@@ -169,6 +171,10 @@ impl<'a> Lines<'a> {
                     address: row.address(),
                     file: row.file_index(),
                     line: row.line().map_or(0, |line| line.get()),
+                    column: match row.column() {
+                        ColumnType::LeftEdge => 0,
+                        ColumnType::Column(column) => column.get().try_into().unwrap_or(u16::MAX),
+                    },
                     kind: row.end_sequence().into(),
                 }),
                 Ok(None) => break,
@@ -177,6 +183,7 @@ impl<'a> Lines<'a> {
                         address: 0,
                         file: 0,
                         line: 0,
+                        column: 0,
                         kind: 2,
                     });
                     break;
@@ -296,6 +303,7 @@ fn write_lines<'a>(
                 Part::U64(row.address),
                 Part::U64(row.file),
                 Part::U64(row.line),
+                Part::U16(row.column),
                 Part::U8(row.kind),
             ],
         )?;

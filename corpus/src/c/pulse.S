@@ -1,6 +1,7 @@
 /* Debug data written by hand, as by a toolchain that pads the operand of opcode 3 (advance line) to ten bytes. It is a signed
    LEB128 number (DWARF 5, 6.2.5.2 and 7.6): the tenth byte is 00 after nine of a number that is not negative, 7f after nine of
-   a negative one. VERSION, 4 or 5, is that of the unit and of its line program. */
+   a negative one. Its columns reach and pass 65,535, which no compiler here writes. VERSION, 4 or 5, is that of the unit and of its
+   line program. */
 
 /* Opcode 3 with n, 0 to 127, and with -n, 1 to 127. */
 #define UP(n) .byte 3, 0x80 | n, 0x80, 0x80, 0x80, 0x80, 0x80, 0x80, 0x80, 0x80, 0x00
@@ -9,6 +10,7 @@
 #define START(address) .byte 0, 9, 2; .quad address
 #define ADVANCE(from, to) .byte 2; .uleb128 to - from
 #define COPY .byte 1
+#define COLUMN(n) .byte 5; .uleb128 n
 #define END .byte 0, 1, 1
 
         .text
@@ -76,17 +78,22 @@ program:
         START(pulse)
         .byte 4, FIRST
         UP(41)                          /* line 42 */
+        COLUMN(5)
         COPY
         ADVANCE(pulse, pulse_less)
         DOWN(3)                         /* line 39 */
+        COLUMN(65534)
         COPY
         ADVANCE(pulse_less, pulse_kept)
         UP(64)                          /* line 103 */
+        COLUMN(65535)
         COPY
         ADVANCE(pulse_kept, pulse_none)
         DOWN(65)                        /* line 38 */
+        COLUMN(65536)
         COPY
         .byte 3, 0x7e                   /* line 36, not padded */
+        COLUMN(70001)
         .byte 13 + 14 * 2 + 5           /* 2 bytes on */
         ADVANCE(pulse_back, pulse_end)
         END
@@ -98,8 +105,10 @@ program:
         UP(0)
         UP(6)                           /* line 7 */
         ADVANCE(beat, beat_on)
+        COLUMN(0xffffffffffffffff)
         COPY
         DOWN(1)                         /* line 6 */
+        COLUMN(0)
         .byte 13 + 14 * 1 + 7           /* 1 byte on, line 8 */
         ADVANCE(beat_go, beat_end)
         END
