@@ -30,7 +30,7 @@ struct Times {
     parse: Duration,
     /// The Rust's import_unit over the parsed input.
     import: Duration,
-    /// The oracle's writing of what it leaves behind, as our import writes it.
+    /// The oracle's writing of what it leaves behind, as our import writes it but for columns, which the Rust as it stands does not know.
     write: Duration,
     /// A copy of the inputs.
     copy: Duration,

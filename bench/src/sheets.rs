@@ -66,6 +66,11 @@ fn header(main: &mut Fields) -> &mut Fields {
     main.header(0, 32, 5, 4, 13, &OPCODE_LENGTHS).directory(0, b"/rig/src")
 }
 
+/// The column of a row by its number, as a compiler might give it.
+fn column(row: u64) -> u16 {
+    1 + (7 * row % 80) as u16
+}
+
 fn subprogram(main: &mut Fields, offset: u64, name: &[u8], start: u64, end: u64) {
     main.entry(offset, 1, SUBPROGRAM).string(NAME, name).range(start, end, 0);
 }
@@ -81,8 +86,8 @@ fn rows(count: u64) -> Case {
     let mut program = Vec::new();
     for function in 0..functions {
         let start = START + 256 * function;
-        (0..61).for_each(|row| _ = main.row(start + 4 * row, (function + row / 16) % 8, 10 + 3 * row % 40, PLAIN));
-        main.row(start + 256, 0, 0, END);
+        (0..61).for_each(|row| _ = main.row(start + 4 * row, (function + row / 16) % 8, 10 + 3 * row % 40, column(row), PLAIN));
+        main.row(start + 256, 0, 0, 0, END);
         program.extend([0x4b; 61]);
         program.extend([0, 1, 1]);
     }
@@ -99,8 +104,8 @@ fn functions(count: u64, order: fn(u64, u64) -> u64) -> Case {
     let mut main = unit();
     header(&mut main).file(0, 0, b"cue.c");
     let functions = (count - 7) / 8;
-    (0..5 * functions).for_each(|row| _ = main.row(START + 8 * row, 0, 10 + row % 40, PLAIN));
-    main.row(START + 40 * functions, 0, 0, END).entry(0, 0, COMPILE_UNIT);
+    (0..5 * functions).for_each(|row| _ = main.row(START + 8 * row, 0, 10 + row % 40, column(row), PLAIN));
+    main.row(START + 40 * functions, 0, 0, 0, END).entry(0, 0, COMPILE_UNIT);
     for place in 0..functions {
         let start = START + 40 * order(place, functions);
         subprogram(&mut main, 1 + 8 * place, format!("function{place}").as_bytes(), start, start + 40);
@@ -156,8 +161,8 @@ fn files(count: u64) -> Case {
     (0..directories).for_each(|directory| _ = main.directory(0, format!("part{directory}/source").as_bytes()));
     let files = (count - directories - 12) / 2;
     (0..files).for_each(|file| _ = main.file(0, file % (directories + 1), format!("file{file}.cpp").as_bytes()));
-    (0..files).for_each(|file| _ = main.row(START + 4 * file, file, 1, PLAIN));
-    main.row(START + 4 * files, 0, 0, END).entry(0, 0, COMPILE_UNIT);
+    (0..files).for_each(|file| _ = main.row(START + 4 * file, file, 1, column(file), PLAIN));
+    main.row(START + 4 * files, 0, 0, 0, END).entry(0, 0, COMPILE_UNIT);
     subprogram(&mut main, 1, b"function", START, START + 4 * files);
     case(main, Fields::default(), vec![0, 1, 1])
 }
@@ -177,7 +182,7 @@ fn directories(count: u64) -> Case {
     let mut main = unit();
     header(&mut main);
     (0..count - 20).for_each(|_| _ = main.directory(0, b"part"));
-    main.file(0, count - 30, b"a.c").row(START, 0, 1, PLAIN).row(START + 16, 0, 0, END).entry(0, 0, COMPILE_UNIT);
+    main.file(0, count - 30, b"a.c").row(START, 0, 1, 1, PLAIN).row(START + 16, 0, 0, 0, END).entry(0, 0, COMPILE_UNIT);
     subprogram(&mut main, 1, b"f", START, START + 16);
     case(main, Fields::default(), vec![0, 1, 1])
 }
@@ -186,7 +191,7 @@ fn named_files(count: u64, name: fn(u64) -> Vec<u8>) -> Case {
     let mut main = unit();
     header(&mut main);
     (0..count - 20).for_each(|file| _ = main.file(0, 0, &name(file)));
-    main.row(START, 7, 1, PLAIN).row(START + 16, 0, 0, END).entry(0, 0, COMPILE_UNIT);
+    main.row(START, 7, 1, 1, PLAIN).row(START + 16, 0, 0, 0, END).entry(0, 0, COMPILE_UNIT);
     subprogram(&mut main, 1, b"f", START, START + 16);
     case(main, Fields::default(), vec![0, 1, 1])
 }
@@ -197,7 +202,7 @@ fn spread_files(count: u64) -> Case {
     let half = (count - 20) / 2;
     (0..half).for_each(|directory| _ = main.directory(0, format!("some/part/{directory}/source").as_bytes()));
     (0..half).for_each(|file| _ = main.file(0, file, b"main.cpp"));
-    main.row(START, 7, 1, PLAIN).row(START + 16, 0, 0, END).entry(0, 0, COMPILE_UNIT);
+    main.row(START, 7, 1, 1, PLAIN).row(START + 16, 0, 0, 0, END).entry(0, 0, COMPILE_UNIT);
     subprogram(&mut main, 1, b"f", START, START + 16);
     case(main, Fields::default(), vec![0, 1, 1])
 }
@@ -206,8 +211,8 @@ fn spread_files(count: u64) -> Case {
 fn plain_rows(count: u64, place: fn(u64) -> u64) -> Case {
     let mut main = unit();
     header(&mut main).file(0, 0, b"a.c");
-    (0..count - 20).for_each(|row| _ = main.row(START + 4 * place(row), 0, row, PLAIN));
-    main.row(START + 4 * LIMIT, 0, 0, END).entry(0, 0, COMPILE_UNIT);
+    (0..count - 20).for_each(|row| _ = main.row(START + 4 * place(row), 0, row, column(row), PLAIN));
+    main.row(START + 4 * LIMIT, 0, 0, 0, END).entry(0, 0, COMPILE_UNIT);
     subprogram(&mut main, 1, b"f", START, START + 4 * LIMIT);
     case(main, Fields::default(), vec![0, 1, 1])
 }
@@ -218,7 +223,7 @@ fn sequences(count: u64) -> Case {
     header(&mut main).file(0, 0, b"a.c");
     let functions = (count - 20) / 6;
     for function in 0..functions {
-        main.row(START + 16 * function, 0, function, PLAIN).row(START + 16 * function + 16, 0, 0, END);
+        main.row(START + 16 * function, 0, function, column(function), PLAIN).row(START + 16 * function + 16, 0, 0, 0, END);
     }
     main.entry(0, 0, COMPILE_UNIT);
     for function in 0..functions {

@@ -15,6 +15,7 @@ pub fn named(name: &str) -> Result<Wrong, String> {
         "stock-record" => Wrong::Import(stock_record),
         "writes-nothing" => Wrong::Import(writes_nothing),
         "copies-the-first" => Wrong::Import(copies_the_first),
+        "forgets-columns" => Wrong::Import(forgets_columns),
         "invents-statistics" => Wrong::Import(invents_statistics),
         "forgets-a-byte" => Wrong::Pass(forgets_a_byte),
         _ => return Err(format!("{name} is no wrong import and no wrong pass")),
@@ -42,18 +43,23 @@ fn writes_nothing(got: &mut Got) {
     }
 }
 
-/// The first record's bytes over those of each later one, as far as they go.
-fn copies_the_first(got: &mut Got) {
+/// The bytes of the records, none after a refusal, and where each field of a tag begins.
+fn fields(got: &mut Got, tag: u8) -> (&mut [u8], Vec<usize>) {
     let length = got.lengths[0] as usize;
     let records = &mut got.buffers[0][..if got.refusal == 0 { length } else { 0 }];
-    let mut starts = Vec::new();
-    let mut at = 0;
+    let (mut starts, mut at) = (Vec::new(), 0);
     while at + 3 <= records.len() {
-        if records[at] == 0x41 {
+        if records[at] == tag {
             starts.push(at);
         }
         at += 3 + usize::from(u16::from_le_bytes([records[at + 1], records[at + 2]]));
     }
+    (records, starts)
+}
+
+/// The first record's bytes over those of each later one, as far as they go.
+fn copies_the_first(got: &mut Got) {
+    let (records, starts) = fields(got, 0x41);
     if let [_, second, ..] = starts[..] {
         let first = records[..second].to_vec();
         for start in &starts[1..] {
@@ -61,6 +67,12 @@ fn copies_the_first(got: &mut Got) {
             records[*start..end].copy_from_slice(&first[..end - start]);
         }
     }
+}
+
+/// 0 for the column of each row, its last two bytes.
+fn forgets_columns(got: &mut Got) {
+    let (records, starts) = fields(got, 0x42);
+    starts.iter().for_each(|start| records[start + 19..start + 21].fill(0));
 }
 
 fn invents_statistics(got: &mut Got) {

@@ -97,7 +97,7 @@ fn field(tag: u8, p: &[u8], file: &mut u64, out: &mut impl Write) -> io::Result<
     };
     match tag {
         0x41 => text(format!("function {:x} {:x} ", number(0, 8), number(8, 8)), &p[16..]),
-        0x42 => text(format!("row {:x} {} {}", number(0, 8), number(8, 4), number(12, 4)), b""),
+        0x42 => text(format!("row {:x} {} {} {}", number(0, 8), number(8, 4), number(12, 4), number(16, 2)), b""),
         0x43 => text(format!("inline {} {} {} ", number(0, 2), number(2, 4), number(6, 4)), &p[10..]),
         0x44 => text(format!("range {:x} {:x}", number(0, 8), number(8, 8)), b""),
         0x45 if p[8] == 0 => text(format!("site {:x}", number(0, 8)), b""),

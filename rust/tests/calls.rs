@@ -37,7 +37,9 @@ fn a_unit_is_imported() {
     let mut lent = Lent::new(work_length(main.len() / 3, program.len()), 4096);
     let done = lent.call(&main, &program).expect("it is finished");
     assert_eq!((done.functions, done.line_rows, done.inline_nodes, done.rejected_ranges), (1, 2, 1, 0));
-    assert_eq!((done.files, done.warnings), (14, 0));
+    assert_eq!((done.records, done.files, done.warnings), (135, 14, 0));
+    // The first row: address 1000 hex, file 1, line 10, column 0.
+    assert_eq!(&lent.records[22..43], b"\x42\x12\x00\x00\x10\x00\x00\x00\x00\x00\x00\x01\x00\x00\x00\x0a\x00\x00\x00\x00\x00");
     assert_eq!(&lent.files[..14], b"\x40\x0b\x00\x04\x00/srccue.c");
     assert!(lent.files[14..].iter().chain(&lent.records[done.records..]).all(|&byte| byte == 0xa5));
     assert!(lent.work.iter().all(|&byte| byte == 0));
@@ -62,7 +64,7 @@ fn the_lengths_that_are_measured_are_enough_and_no_less_is() {
     let inputs = Inputs { main: &main, supplementary: &[], program: &program };
     let mut work = vec![0xa5; work_length(main.len() / 3, program.len())];
     let needed = measure(inputs, Options::default(), &mut work).expect("it is measured");
-    assert_eq!((needed.records, needed.files, needed.warnings), (131, 14, 0));
+    assert_eq!((needed.records, needed.files, needed.warnings), (135, 14, 0));
     assert!(work.iter().all(|&byte| byte == 0));
     let call = |records: usize, files: usize, work: &mut Vec<u8>| {
         work.fill(0xa5);
