@@ -9,6 +9,8 @@ use crate::stand_in::gimli::{Dwarf, Slice};
 
 const INPUT_LIMIT: usize = 16_777_216;
 const PROGRAM_LIMIT: usize = 4_194_304;
+/// Room for the longest joined path (E12).
+const WORK_BESIDES: u64 = 32_768;
 
 pub fn answer(case: &Case) -> Answer {
     answer_in(case, [case.records, case.files, case.warnings])
@@ -38,7 +40,7 @@ pub fn inputs(case: &Case) -> Result<(Dwarf<Slice<'_>>, usize), u8> {
 }
 
 pub fn work_needed(fields: usize, program: usize) -> u64 {
-    64 * fields as u64 + 4 * program as u64 + 16_384
+    64 * fields as u64 + 4 * program as u64 + WORK_BESIDES
 }
 
 /// What the Rust leaves behind, or refusals 6 to 15.

@@ -57,6 +57,19 @@ rules! {
     LargestColumn: "E7: column 65,535",
     DeclarationColumn: "E7: a declaration row has column 0",
     DeclarationsColumn: "E7: a declaration row has column 0, its entry another",
+    LongestString: "E12: a string of 6,113 bytes in the main input",
+    LongestStringThere: "E12: a string of 6,113 bytes in the supplementary input",
+    LongerString: "E12: a string of 6,114 bytes in the main input refused with 3",
+    LongerStringThere: "E12: a string of 6,114 bytes in the supplementary input refused with 3",
+    LongestReason: "E12: a reason of 4,096 bytes in the main input",
+    LongestReasonThere: "E12: a reason of 4,096 bytes in the supplementary input",
+    LongerReason: "E12: a reason of 4,097 bytes in the main input refused with 3",
+    LongerReasonThere: "E12: a reason of 4,097 bytes in the supplementary input refused with 3",
+    LongestFunction: "E12: a function's name of 6,113 bytes",
+    LongestNode: "E12: an inlined call's name of 6,113 bytes",
+    LongestSite: "E12: a call site's name of 6,113 bytes",
+    LongestPath: "E12: a file joined of three strings of 6,113 bytes, its name the third",
+    LongestDirectory: "E12: a file joined of three strings of 6,113 bytes, its name the last byte",
     Sorted: "rows: sorted by address",
     Stable: "rows: of one address in their order, not by line",
     ExactNeighbours: "rows: exact neighbours drop",
@@ -150,6 +163,7 @@ fn examine(case: &Case, counts: &mut Counts, reached: &mut Reached) -> Result<()
         rest = after;
     }
     counts.warnings.iter_mut().zip(kinds).for_each(|(count, kind)| *count += kind);
+    requests::limits(case, &answer, reached);
     let Ok((dwarf, ordinal)) = inputs(case) else {
         return Ok(());
     };

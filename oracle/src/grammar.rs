@@ -13,7 +13,9 @@ const PAST_LIMIT: u8 = 3;
 
 const FIELD_LIMIT: usize = 65_536;
 const UNIT_LIMIT: usize = 256;
-const STRING_LIMIT: usize = 4_096;
+/// Of every string (E12); document 01's number stays that of a reason.
+pub const STRING_LIMIT: usize = 6_113;
+pub const REASON_LIMIT: usize = 4_096;
 const DEPTH_LIMIT: u64 = 1_024;
 
 pub struct Input<'a> {
@@ -249,7 +251,7 @@ impl<'a> Parser<'a> {
             _ => {
                 let (after, reason) = (payload.flag()?, payload.rest());
                 entry.failure = Some((after, reason));
-                if after || previous != 0x19 { Ok(short(reason)) } else { Err(MISSHAPEN) }
+                if after || previous != 0x19 { Ok(reason.0.len() <= REASON_LIMIT) } else { Err(MISSHAPEN) }
             }
         }
     }

@@ -1,8 +1,10 @@
-//! Cases at the limits of document 01, one step below and above them.
+//! Cases at the limits of document 01 and of request E12, one step below and above them.
 
+use crate::answer::work_needed;
 use crate::case::Case;
 use crate::compose::*;
 use crate::generate::{bad_instruction, before_header_end, column, padded_advance, windows};
+use crate::grammar::{REASON_LIMIT, STRING_LIMIT};
 use crate::random::Random;
 
 /// Cases over 64 KiB, the same for every seed: too large ones, and as many fields as there may be.
@@ -11,7 +13,7 @@ pub fn large() -> Vec<Case> {
         let mut main = Fields::default();
         main.unit(0, 100, 5, 4).header(0, 32, 5, 4, 13, &OPCODE_LENGTHS);
         (2..fields).for_each(|_| _ = main.directory(0, b""));
-        Case { work: 64 * fields + 16_384, ..Case::new(main.take(), Vec::new(), Vec::new()) }
+        Case { work: work_needed(fields as usize, 0), ..Case::new(main.take(), Vec::new(), Vec::new()) }
     };
     let mut unit = Fields::default();
     unit.unit(0, 100, 5, 4).header(0, 32, 5, 4, 13, &OPCODE_LENGTHS);
@@ -29,7 +31,7 @@ pub fn large() -> Vec<Case> {
 }
 
 pub fn case(random: &mut Random) -> Case {
-    match random.below(26) {
+    match random.below(27) {
         0 => nested(random),
         1..6 => chain(random),
         6..9 => ring(random),
@@ -43,6 +45,7 @@ pub fn case(random: &mut Random) -> Case {
         20 => sources(random),
         21 => order(random),
         22..24 => advance_line(random),
+        24 => longest(random),
         _ => file_numbers(random),
     }
 }
@@ -190,23 +193,55 @@ fn sizes(random: &mut Random) -> Case {
     call(main, Fields::default())
 }
 
-/// Strings and reasons of 4,096 bytes, or one more.
+/// A string or a reason as long as it may be, or one byte longer, at each of the seven places of either input.
 fn strings(random: &mut Random) -> Case {
-    let mut main = Fields::default();
-    let chosen = random.below(7);
-    let length = random.pick(&[4096, 4096, 4097]);
+    const REASON: u64 = 6;
+    let chosen = random.below(REASON + 2).min(REASON);
+    let limit = if chosen == REASON { REASON_LIMIT } else { STRING_LIMIT };
+    let length = limit + random.pick(&[0, 0, 1]);
     let mut long = vec![b'a'; length];
     if windows(random) {
         long[..3].copy_from_slice(random.pick(&[b"C:\\", b"c:/", b"\\\\\\", b"\\\\a"]));
         long[length - 1 - random.pick(&[0, 1, 9])] = b'\\';
     }
-    let text = |place: u64| if place == chosen { long.as_slice() } else { b"b" };
     let failed = u8::from(random.chance(15));
-    main.unit(0, 100, 5, 4).compilation_directory(text(0)).text(0x1000, 0x2000).header(0, 32, 4, 4, 13, &OPCODE_LENGTHS);
-    main.directory(failed, text(1)).file_zero(failed, 1, text(2)).file(0, 1, text(3)).entry(0, 0, COMPILE_UNIT);
-    main.entry(1, 1, SUBPROGRAM).string(NAME, text(4)).string(0x1234, text(5)).range(0x1000, 0x1010, 0);
-    main.failure(1, text(6));
-    call(main, Fields::default())
+    let input = |long: &[u8]| {
+        let mut fields = Fields::default();
+        let text = |place: u64| if place == chosen { long } else { b"b" };
+        fields.unit(0, 100, 5, 4).compilation_directory(text(0)).text(0x1000, 0x2000).header(0, 32, 4, 4, 13, &OPCODE_LENGTHS);
+        fields.directory(failed, text(1)).file_zero(failed, 1, text(2)).file(0, 1, text(3)).entry(0, 0, COMPILE_UNIT);
+        fields.entry(1, 1, SUBPROGRAM).string(NAME, text(4)).string(0x1234, text(5)).range(0x1000, 0x1010, 0);
+        fields.failure(1, text(REASON));
+        fields
+    };
+    match random.below(3) {
+        0 => call(input(b"b"), input(&long)),
+        1 => call(input(&long), input(b"b")),
+        _ => call(input(&long), Fields::default()),
+    }
+}
+
+/// Longest strings that are joined to one path, or stand in records: the names of a function, a node and a call site, the last two of either
+/// input.
+fn longest(random: &mut Random) -> Case {
+    let text = |random: &mut Random, byte: u8| vec![byte; if random.chance(60) { STRING_LIMIT } else { 1 }];
+    let (mut main, mut supplementary) = (Fields::default(), Fields::default());
+    let [compilation, directory, mut path] = [b'w', b'd', b'f'].map(|byte| text(random, byte));
+    // Where the path has a directory of its own, the joined one is longest with the shortest basename.
+    if path.len() > 2 && random.chance(50) {
+        let place = path.len() - random.pick(&[2, 2, 3]);
+        path[place] = b'/';
+    }
+    main.unit(0, 100, 5, 4).compilation_directory(&compilation).text(0x1000, 0x2000).header(0, 32, 4, 4, 13, &OPCODE_LENGTHS);
+    main.directory(0, &directory).file(0, 1, &path).entry(0, 0, COMPILE_UNIT);
+    main.entry(1, 1, SUBPROGRAM).string(NAME, &text(random, b'n')).range(0x1000, 0x1010, 0);
+    let kind = random.pick(&[UNIT_REF, SUPPLEMENTARY_REF]);
+    main.entry(2, 2, INLINED).attribute(ORIGIN, kind, 4).range(0x1004, 0x1008, 0);
+    main.entry(3, 2, CALL_SITE).attribute(RETURN_PC, ADDRESS, 0x1004).attribute(CALL_ORIGIN, kind, 4);
+    start(&mut supplementary, 0, 100);
+    let named = if kind == UNIT_REF { &mut main } else { &mut supplementary };
+    named.entry(4, 1, BLOCK).string(LINKAGE_NAME, &text(random, b'o'));
+    call(main, supplementary)
 }
 
 /// Entries to depth 1,024 or one more; a depth that leaps.

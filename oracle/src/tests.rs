@@ -97,15 +97,15 @@ fn shapes() {
 
 #[test]
 fn limits() {
-    let long = [b'a'; 4097];
-    for (length, expected) in [(4096, 0), (4097, 3)] {
+    let long = [b'a'; 6114];
+    for (length, expected) in [(4096, 0), (4097, 0), (6113, 0), (6114, 3)] {
         let text = &long[..length];
         assert_eq!(after_unit(|f| _ = f.compilation_directory(text)), expected);
         assert_eq!(after_header(|f| _ = f.directory(1, text)), expected);
         assert_eq!(after_header(|f| _ = f.file_zero(1, 0, text)), expected);
         assert_eq!(after_header(|f| _ = f.file(0, 0, text)), expected);
         assert_eq!(after_unit(|f| _ = f.entry(0, 0, 1).string(7, text)), expected);
-        assert_eq!(after_unit(|f| _ = f.entry(0, 0, 1).failure(0, text)), expected);
+        assert_eq!(after_unit(|f| _ = f.entry(0, 0, 1).failure(0, text)), if length <= 4096 { 0 } else { 3 });
         // 2 goes before 3 in one field, the first bad field before later ones.
         assert_eq!(after_unit(|f| _ = f.entry(0, 0, 1).failure(2, text)), 2);
         assert_eq!(after_unit(|f| _ = f.entry(0, 0, 1).string(7, text).entry(0, 0, 1)), if expected == 3 { 3 } else { 2 });
@@ -128,7 +128,7 @@ fn units_work_and_buffers() {
     };
     assert_eq!([refused(&|case| case.ordinal = 1), refused(&|case| (case.ordinal, case.work) = (u64::MAX, 0))], [4; 2]);
     // 17 fields and a program of 3 bytes.
-    let work = 64 * 17 + 4 * 3 + 16_384;
+    let work = 64 * 17 + 4 * 3 + 32_768;
     assert_eq!([refused(&|case| case.work = work), refused(&|case| case.work = work - 1)], [0, 5]);
     assert_eq!([refused(&|case| case.records = 135), refused(&|case| (case.records, case.files) = (134, 13))], [0, 16]);
     assert_eq!([refused(&|case| case.files = 14), refused(&|case| case.files = 13), refused(&|case| case.warnings = 0)], [0, 17, 0]);

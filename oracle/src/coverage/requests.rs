@@ -1,8 +1,10 @@
 //! What of the change requests the cases reach, judged by the requests' own words.
 
 use super::{Data, Reached, Rule, Value};
-use crate::compose::DECL_COLUMN;
+use crate::case::{Answer, Case};
+use crate::compose::{DECL_COLUMN, STRING};
 use crate::convert::dwarf::Sequenced;
+use crate::grammar::field;
 use crate::model::{FileEntry, Function, LineEntry};
 use crate::requests::advances;
 use crate::stand_in::gimli::{EntryData, FileEntry as GimliFile, LineProgramHeader, LineRow, RowKind, Slice};
@@ -141,4 +143,53 @@ pub fn columns(
     reached.hit(Rule::LineTwice, rows.iter().enumerate().any(|(place, row)| again(place, row)));
     reached.hit(Rule::LargestColumn, rows.iter().any(|row| row.column == u16::MAX));
     Ok(())
+}
+
+/// E12: the lengths of an input's strings, each with false, and of its reasons.
+fn lengths(input: &[u8]) -> Vec<(bool, usize)> {
+    let (mut lengths, mut rest) = (Vec::new(), input);
+    while let Some((tag, payload, after)) = field(rest) {
+        let before = match tag {
+            0x11 => Some(0),
+            0x14 | 0x1a => Some(1),
+            0x15 | 0x1c => Some(9),
+            0x18 if payload.get(2) == Some(&STRING) => Some(3),
+            _ => None,
+        };
+        lengths.extend(before.and_then(|before| payload.len().checked_sub(before)).map(|length| (tag == 0x1a, length)));
+        rest = after;
+    }
+    lengths
+}
+
+/// E12: strings and reasons at their limits and one byte past them, in both inputs, and what the outputs have of the longest.
+pub fn limits(case: &Case, answer: &Answer, reached: &mut Reached) {
+    const NAME: usize = 6_113;
+    const REASON: usize = 4_096;
+    use Rule::*;
+    for (input, [string, reason, longer_string, longer_reason]) in [
+        (&case.main, [LongestString, LongestReason, LongerString, LongerReason]),
+        (&case.supplementary, [LongestStringThere, LongestReasonThere, LongerStringThere, LongerReasonThere]),
+    ] {
+        let lengths = lengths(input);
+        reached.hit(string, answer.refusal == 0 && lengths.contains(&(false, NAME)));
+        reached.hit(reason, answer.refusal == 0 && lengths.contains(&(true, REASON)));
+        reached.hit(longer_string, answer.refusal == 3 && lengths.contains(&(false, NAME + 1)));
+        reached.hit(longer_reason, answer.refusal == 3 && lengths.contains(&(true, REASON + 1)));
+    }
+    let mut rest = &answer.records[..];
+    while let Some((tag, payload, after)) = field(rest) {
+        reached.hit(LongestFunction, tag == 0x41 && payload.len() == 16 + NAME);
+        reached.hit(LongestNode, tag == 0x43 && payload.len() == 10 + NAME);
+        reached.hit(LongestSite, tag == 0x45 && payload.len() == 9 + NAME);
+        rest = after;
+    }
+    rest = &answer.files;
+    while let Some((_, payload, after)) = field(rest) {
+        let directory = usize::from(u16::from_le_bytes([payload[0], payload[1]]));
+        let whole = payload.len() == 2 + 3 * NAME + 1;
+        reached.hit(LongestPath, whole && directory == 2 * NAME + 1);
+        reached.hit(LongestDirectory, whole && directory == 3 * NAME);
+        rest = after;
+    }
 }
