@@ -337,7 +337,7 @@ fn write_ranges(
     let die = die.map_err(|error| format!("not decoded: {error}"))?;
     let failure = |stage, error: gimli::Error, fields: &mut Fields| {
         let reason = error.to_string();
-        let parts = [Part::U8(stage), Part::Text(reason.as_bytes())];
+        let parts = [Part::U8(stage), Part::Reason(reason.as_bytes())];
         fields
             .field(fields::RANGE_FAILURE, &parts)
             .map_err(String::from)

@@ -6,8 +6,11 @@ pub const SHEET_LIMIT: usize = 16_777_216;
 pub const PROGRAM_LIMIT: usize = 4_194_304;
 const FIELD_LIMIT: usize = 65_536;
 const UNIT_LIMIT: usize = 256;
-const STRING_LIMIT: usize = 4_096;
+const STRING_LIMIT: usize = 6_113;
+const REASON_LIMIT: usize = 4_096;
 const DEPTH_LIMIT: u64 = 1_024;
+/// What work needs besides fields and program.
+const WORK_BESIDES: u64 = 32_768;
 
 pub const UNIT: u8 = 0x10;
 pub const DIRECTORY_OF_UNIT: u8 = 0x11;
@@ -29,8 +32,10 @@ pub enum Part<'a> {
     U64(u64),
     /// Bytes without a limit of their own.
     Bytes(&'a [u8]),
-    /// A string or a reason, which has a limit.
+    /// A string, which has a limit.
     Text(&'a [u8]),
+    /// The reason of a range failure, which has another.
+    Reason(&'a [u8]),
 }
 
 #[derive(Default)]
@@ -62,9 +67,12 @@ impl Fields {
                 Part::U64(value) => self.bytes.extend(value.to_le_bytes()),
                 Part::Bytes(bytes) => self.bytes.extend(bytes),
                 Part::Text(bytes) if bytes.len() > STRING_LIMIT => {
-                    return Err("a string of more than 4,096 bytes");
+                    return Err("a string of more than 6,113 bytes");
                 }
-                Part::Text(bytes) => self.bytes.extend(bytes),
+                Part::Reason(bytes) if bytes.len() > REASON_LIMIT => {
+                    return Err("a reason of more than 4,096 bytes");
+                }
+                Part::Text(bytes) | Part::Reason(bytes) => self.bytes.extend(bytes),
             }
         }
         let length = self.bytes.len() - start - 3;
@@ -91,5 +99,5 @@ impl Fields {
 /// The work length that an import of these inputs needs, and no byte more.
 pub fn work_length(main: &Fields, supplementary: &Fields, program: &[u8]) -> u64 {
     let fields = (main.fields + supplementary.fields) as u64;
-    64 * fields + 4 * program.len() as u64 + 16_384
+    64 * fields + 4 * program.len() as u64 + WORK_BESIDES
 }
