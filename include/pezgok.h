@@ -22,8 +22,9 @@ enum {
     PEZGOK_VALUES
 };
 
-/* The work slice that an import of so many fields, of both inputs together, and so many bytes of line program needs. */
-#define PEZGOK_WORK(fields, program_len) (64 * (size_t)(fields) + 4 * (size_t)(program_len) + 16384)
+/* The work slice that an import of so many fields, of both inputs together, and so many bytes of line program needs. It was 16,384 bytes less while
+ * strings had 4,096 bytes at most: what is shorter is refused with 5. */
+#define PEZGOK_WORK(fields, program_len) (64 * (size_t)(fields) + 4 * (size_t)(program_len) + 32768)
 
 /* Imports the unit of an ordinal, from 0, of the main input. Returns 0, or the refusal's number, 1 to 18.
  *

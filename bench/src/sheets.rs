@@ -45,7 +45,7 @@ pub const WORST: [(&str, fn() -> Case); 26] = [
     ("a web in no order, searched from 2,048 entries", || tangle(2_048)),
     ("a web through the supplementary input", || supplementary_web(LIMIT)),
     ("entries 1,024 deep, nodes 256 deep", || nested(LIMIT)),
-    ("the longest names", || long_names(4_000)),
+    ("the longest names", || long_names(2_700)),
 ];
 
 fn case(main: Fields, supplementary: Fields, program: Vec<u8>) -> Case {
@@ -373,11 +373,11 @@ fn nested(count: u64) -> Case {
     case(main, Fields::default(), Vec::new())
 }
 
-/// Names of 4,096 bytes, each searched behind a reference and given to a record.
+/// The longest names, of 6,113 bytes, each searched behind a reference and given to a record.
 fn long_names(count: u64) -> Case {
     let mut main = unit();
     main.entry(0, 0, COMPILE_UNIT);
-    let name = vec![b'n'; 4_096];
+    let name = vec![b'n'; 6_113];
     (0..count).for_each(|entry| _ = main.entry(1 + entry, 1, BLOCK).string(NAME, &name));
     for entry in 0..count {
         main.entry(1 + count + entry, 1, SUBPROGRAM).attribute(ORIGIN, UNIT_REF, 1 + entry).range(

@@ -112,9 +112,10 @@ impl fmt::Display for Refusal {
 
 impl std::error::Error for Refusal {}
 
-/// How long the work slice has to be for so many fields, of both inputs together, and so many bytes of program.
+/// How long the work slice has to be for so many fields, of both inputs together, and so many bytes of program: 16,384 bytes more than while strings
+/// had 4,096 bytes at most.
 pub const fn work_length(fields: usize, program: usize) -> usize {
-    64 * fields + 4 * program + 16_384
+    64 * fields + 4 * program + 32_768
 }
 
 /// Imports a unit. Any content and any length is taken.
