@@ -15,6 +15,12 @@ use references::tables::Index;
 use references::tables::Tables;
 use references::tables::Target;
 
+// What the file table takes besides a record for each file: the longest joined path, and a record more.
+const TABLE_BESIDES: usize = JOINED_LIMIT + 45;
+
+// What all tables take besides so much for each field.
+const ROOM_BESIDES: usize = JOINED_LIMIT + 54;
+
 // The number in the next 4 bytes.
 fn next_u32() -> u32 {
     let mut bytes = [0u8; 4];
@@ -123,7 +129,7 @@ fn has_room(main: usize, supplementary: usize, n: usize, m: usize, work: usize) 
     if 65536 < m {
         return false;
     }
-    if work < n * 110 + m * 123 + (JOINED_LIMIT + 54) {
+    if work < n * 110 + m * 123 + ROOM_BESIDES {
         return false;
     }
     true
@@ -155,7 +161,7 @@ fn build_tables(main: &[u8], supplementary: &[u8], n: usize, m: usize, work: &mu
     requires { ⌜ Room (length (now main)) (length (now supplementary)) n m (length (now work)) ⌝ }
     ensures { λ r. ⌜ SearchesIn (now (main .entry)) (now (supplementary .entry)) (now (work .exit)) r (n + m + 1) ⌝ }
 {
-    let spans = (n + m) * 45 + (JOINED_LIMIT + 45);
+    let spans = (n + m) * 45 + TABLE_BESIDES;
     let room = (n + m) * 8 + 5;
     let base = spans + room;
     let next = base + n * 40;
