@@ -165,8 +165,6 @@ module _ (i : Inputs) where
         records = ap (λ (a : After). readRecords (take (a .answer .records) (a .records))) e ∙ D .records;
         files = ap (λ (a : After). readFiles (take (a .answer .files) (a .files))) e ∙ D .files;
         warnings = ap (λ (a : After). readWarnings (take (a .answer .warnings) (a .warnings))) e ∙ D .warnings;
-        unit = D .unit;
-        chosen = D .chosen;
         agree = D .agree;
       }
 

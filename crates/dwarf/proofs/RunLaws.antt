@@ -1,21 +1,23 @@
 -- An import up to refusal 15: refusals 1 to 5, and the unit that is chosen. Assumes nothing.
 use mathlib.Core.Path.{_≡_, refl, sym, ap, _∙_}
 use mathlib.Core.Bool.{Bool, true, false, cond, _||_, true≢false}
-use mathlib.Core.List.{List}
+use mathlib.Core.List.{List, [], _∷_}
 use Prim.Native.Nat.{ℕ, _+_, _*_, _≤_, _<_}
 use native.Mathlib.Omega.{arith}
 use lib.Dec.{ltb}
 use lib.ListN.{length}
-use borrow.Author.Tests.{ltb-false, lt-ltb, le-ltb}
+use borrow.Author.Tests.{ltb-false, lt-ltb, le-ltb, eq-eqb, ne-eqb}
 use Rattle.tlv.specs.declared.grammar.Checked.{Checked}
 use Rattle.tlv.specs.declared.access.Place.{Place}
 use Rattle.tlv.specs.Outcome.{Outcome, refused, done, _>>=_}
-use Rattle.tlv.specs.Lists.{at, mapOption}
-use Rattle.tlv.specs.Limits.{inputLimit, programLimit, fieldLimit, workOfField, workOfProgramByte, workBesides}
+use Rattle.tlv.specs.Lists.{at, mapOption, isEmpty}
+use Rattle.tlv.specs.Limits.{inputLimit, programLimit, fieldLimit}
 use Rattle.tlv.specs.Fields.{fields}
 use Rattle.tlv.specs.Grammar.{checkInput}
 use Rattle.tlv.specs.Checked.{checkedOf}
+use Rattle.tlv.specs.Buffer.{top, Put}
 use Rattle.tlv.specs.Model.{units}
+use Rattle.tlv.specs.Output.{eachOf, recordsBytes, filesBytes, warningsBytes}
 use Rattle.tlv.specs.Places.{unitHere, unitPlaces}
 use Rattle.tlv.specs.Access.{placeOf}
 use Rattle.tlv.proofs.OutcomeLaws.{done-is}
@@ -25,10 +27,11 @@ use Rattle.references.specs.Names.{dwarfOf}
 use Rattle.dies.specs.DetailState.{Accepted}
 use Rattle.imports.specs.Import.{State, importUnit}
 use Rattle.imports.specs.Answer as answer
-use Rattle.imports.specs.Answer.{Inputs, importChosen, importOf}
+use Rattle.imports.specs.Answer.{Inputs, isBare, workNeeded, initialState, importChosen, importOf}
+use Rattle.dwarf.specs.Stats.{statsOf}
 use Rattle.dwarf.specs.declared.import.Ran.{Ran}
 use Rattle.dwarf.specs.declared.import.BothChecked.{BothChecked}
-use Rattle.dwarf.specs.Runs.{oversizeOf, Writes, BothAccepted, NotOversize, CheckedAs, ChecksBoth, WorkEnough, startState}
+use Rattle.dwarf.specs.Runs.{oversizeOf, Writes, BothAccepted, NotOversize, CheckedAs, ChecksBoth, WorkEnough, startState, shortOf, nothingRan, bareStatus}
 use Rattle.dwarf.proofs.CountLaws.{accepted-few}
 
 -- ---- an outcome that is another's, or a refusal
@@ -39,6 +42,10 @@ module _ {o : Outcome State} {t f u t′ f′ u′ : List ℕ} {r : Ran} where
 
   pub writes-as : {x : Outcome State} → o ≡ x → Writes x t f u t′ f′ u′ r → Writes o t f u t′ f′ u′ r
   writes-as e W = rw e W
+
+-- nothing was laid
+none-put : {t t′ : List ℕ} {k : ℕ} → t′ ≡ t → length t < top → k ≡ 0 → Put 0 [] t t′ k
+none-put e l z = record { buffer = e; place = omega arith; small = l }
 
 -- ---- refusal 1
 
@@ -154,34 +161,81 @@ module _ (i : Inputs) (n : ℕ) (p : Place) (e : placeOf p ≡ at (unitPlaces 0 
   chosen = ap (importChosen i n) (unit-of-place (i .main) (i .ordinal) p e)
 
 module _ (i : Inputs) (n : ℕ) {p : Place} (e : placeOf p ≡ at (unitPlaces 0 (fields (i .main))) (i .ordinal)) {t f u t′ f′ u′ : List ℕ} {r : Ran} where
-  pub chosen-missing : p ≡ Place.Missing → r .status ≡ 4 → Writes (importChosen i n (at (units (i .main)) (i .ordinal))) t f u t′ f′ u′ r
-  unfolding mapOption
-  chosen-missing is z =
-      writes-refused z (λ y. omega arith) (chosen i n p e ∙ ap (λ (x : Place). importChosen i n (mapOption (unitHere (i .main)) (placeOf x))) is)
+  pub chosen-missing : p ≡ Place.Missing → t′ ≡ t → f′ ≡ f → u′ ≡ u → length t < top → length f < top → length u < top
+      → r ≡ nothingRan (bareStatus (i .main) (i .program) (i .ordinal) n (i .work))
+      → Writes (importChosen i n (at (units (i .main)) (i .ordinal))) t f u t′ f′ u′ r
+  unfolding mapOption answer.workNeeded bareStatus initialState recordsBytes filesBytes warningsBytes eachOf
+  chosen-missing is et ef eu lt lf lu er =
+      writes-as (chosen i n p e ∙ ap (λ (x : Place). importChosen i n (mapOption (unitHere (i .main)) (placeOf x))) is)
+      (by-status (isBare i) (ltb (length (i .work)) (workNeeded i n)) er)
+    where
+      by-status : (a b : Bool) → r ≡ nothingRan (cond a (cond b 5 0) 4) → Writes (cond a (cond b (refused 5) (done (initialState i))) (refused 4)) t f u t′ f′ u′ r
+      by-status true true x = writes-refused (ap (λ (y : Ran). y .status) x) (λ y. omega arith) refl
+      by-status true false x = record {
+        ok = λ z. record {
+          state = initialState i;
+          is = refl;
+          records = none-put et lt (ap (λ (y : Ran). y .records) x);
+          files = none-put ef lf (ap (λ (y : Ran). y .files) x);
+          warnings = none-put eu lu (ap (λ (y : Ran). y .warnings) x);
+          stats = ap (λ (y : Ran). statsOf (y .stats)) x;
+        };
+        no = λ z. absurd (z (ap (λ (y : Ran). y .status) x));
+      }
+      by-status false b x = writes-refused (ap (λ (y : Ran). y .status) x) (λ y. omega arith) refl
 
-  module _ {q : ℕ} (is : p ≡ Place.At q) where
-    pub chosen-short : length (i .work) < workOfField * n + workOfProgramByte * length (i .program) + workBesides → r .status ≡ 5 → Writes (importChosen i n (at (units (i .main)) (i .ordinal))) t f u t′ f′ u′ r
+  module _ {q : ℕ} (is : p ≡ Place.At q) {b : Bool} (tested : b ≡ shortOf (i .work) n (i .program)) where
+    pub chosen-short : b ≡ true → r .status ≡ 5 → Writes (importChosen i n (at (units (i .main)) (i .ordinal))) t f u t′ f′ u′ r
     unfolding answer.workNeeded mapOption
     chosen-short h z =
         writes-refused z (λ y. omega arith)
-        (chosen i n p e ∙ ap (λ (x : Place). importChosen i n (mapOption (unitHere (i .main)) (placeOf x))) is ∙ rw (lt-ltb (length (i .work)) (workOfField * n + workOfProgramByte * length (i .program) + workBesides) h))
+        (chosen i n p e ∙ ap (λ (x : Place). importChosen i n (mapOption (unitHere (i .main)) (placeOf x))) is ∙ rw (sym tested ∙ h))
 
-    pub chosen-long : workOfField * n + workOfProgramByte * length (i .program) + workBesides ≤ length (i .work)
+    pub chosen-long : b ≡ false
         → Writes (importUnit (dwarfOf (i .main) (i .supplementary)) (unitHere (i .main) q) (i .program) (i .inlines) (i .callSites) (startState (i .firstFile))) t f u t′ f′ u′ r
         → Writes (importChosen i n (at (units (i .main)) (i .ordinal))) t f u t′ f′ u′ r
     unfolding answer.workNeeded answer.dwarfOf answer.initialState mapOption
     chosen-long h W =
         writes-as
-        (chosen i n p e ∙ ap (λ (x : Place). importChosen i n (mapOption (unitHere (i .main)) (placeOf x))) is ∙ rw (le-ltb (length (i .work)) (workOfField * n + workOfProgramByte * length (i .program) + workBesides) h)) W
+        (chosen i n p e ∙ ap (λ (x : Place). importChosen i n (mapOption (unitHere (i .main)) (placeOf x))) is ∙ rw (sym tested ∙ h)) W
 
 module _ {main supplementary : List ℕ} {n : ℕ} (B : BothAccepted main supplementary n) where
   pub accepted-both : (Accepted main) × (Accepted supplementary)
   accepted-both = (record { number = B .main-fields; is = B .main-accepted }, record { number = B .supplementary-fields; is = B .supplementary-accepted })
 
-  pub work-enough : (program w : List ℕ) → workOfField * n + workOfProgramByte * length program + workBesides ≤ length w → WorkEnough main supplementary program w
-  work-enough program w h = record {
+  pub work-enough : (program w : List ℕ) {b : Bool} → b ≡ shortOf w n program → b ≡ false → WorkEnough main supplementary program w
+  work-enough program w tested h = record {
     long = λ m k em ek.
         let a : B .main-fields ≡ m = done-is (sym (B .main-accepted) ∙ em) in
         let b : B .supplementary-fields ≡ k = done-is (sym (B .supplementary-accepted) ∙ ek) in
-        omega (arith, B .sum);
+        omega (arith, B .sum, ltb-false (length w) (64 * n + 4 * length program + 16384) (sym tested ∙ h));
   }
+
+-- ---- without a unit
+
+empty-length : (xs : List ℕ) → length xs ≡ 0 → isEmpty xs ≡ true
+empty-length [] e = refl
+empty-length (x ∷ xs) e = absurd (omega arith)
+
+filled-length : (xs : List ℕ) → (length xs ≡ 0 → ⊥) → isEmpty xs ≡ false
+filled-length [] h = absurd (h refl)
+filled-length (x ∷ xs) h = refl
+
+module _ (main program : List ℕ) (ordinal n : ℕ) (work : List ℕ) where
+  pub bare-filled : (length main ≡ 0 → ⊥) → 4 ≡ bareStatus main program ordinal n work
+  unfolding bareStatus
+  bare-filled h = sym (rw (filled-length main h))
+
+  module _ (z : length main ≡ 0) where
+    pub bare-other : (ordinal ≡ 0 → ⊥) → 4 ≡ bareStatus main program ordinal n work
+    unfolding bareStatus
+    bare-other h = sym (rw (empty-length main z, ne-eqb ordinal 0 h))
+
+    module _ (o : ordinal ≡ 0) {b : Bool} (e : b ≡ shortOf work n program) where
+      pub bare-short : b ≡ true → 5 ≡ bareStatus main program ordinal n work
+      unfolding bareStatus
+      bare-short is = sym (rw (empty-length main z, eq-eqb ordinal 0 o, sym e ∙ is))
+
+      pub bare-long : b ≡ false → 0 ≡ bareStatus main program ordinal n work
+      unfolding bareStatus
+      bare-long is = sym (rw (empty-length main z, eq-eqb ordinal 0 o, sym e ∙ is))

@@ -7,11 +7,11 @@ use Prim.Native.Nat.{ℕ}
 use lib.ListN.{take}
 use Rattle.tlv.specs.Outcome.{done}
 use Rattle.tlv.specs.Lists.{at}
-use Rattle.tlv.specs.Model.{CompilationUnit, units}
+use Rattle.tlv.specs.Model.{units}
 use Rattle.tlv.specs.Reader.{readRecords, readFiles, readWarnings}
 use Rattle.imports.specs.Import.{State}
-use Rattle.imports.specs.Answer.{Inputs, Answer, noStats, importOf, dwarfOf, after}
-use Rattle.imports.specs.Demand.{subjects, RecordAgrees, Pointwise}
+use Rattle.imports.specs.Answer.{Inputs, Answer, noStats, importOf, after}
+use Rattle.imports.specs.Demand.{ChosenAgrees}
 use Rattle.imports.specs.Sizes.{measure}
 use Rattle.dwarf.specs.declared.model.Refusal.{Refusal}
 use Rattle.dwarf.specs.declared.model.Imported.{Imported}
@@ -67,9 +67,7 @@ pub record Finished (i : Inputs) (a : Answer) (t f u : List ℕ) : Type 0 where
   pub records : readRecords (take (a .records) t) ≡ some (state .records)
   pub files : readFiles (take (a .files) f) ≡ some (state .table .entries)
   pub warnings : readWarnings (take (a .warnings) u) ≡ some (state .warnings)
-  pub unit : CompilationUnit
-  pub chosen : at (units (i .main)) (i .ordinal) ≡ some unit
-  pub agree : Pointwise (RecordAgrees (dwarfOf i) unit (i .inlines)) (subjects (dwarfOf i) unit) (state .records)
+  pub agree : ChosenAgrees i (at (units (i .main)) (i .ordinal)) (state .records)
 
 -- the answer, the output buffers t, f and u and the work slice w after the call are those of the definition; and demand 3
 pub record ImportsUnit (i : Inputs) (w t f u : List ℕ) (r : Imported) : Type 0 where

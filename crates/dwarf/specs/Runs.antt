@@ -1,11 +1,12 @@
 -- What the parts of an import promise, up to refusal 15. Assumes nothing.
 use mathlib.Core.Path.{_≡_}
-use mathlib.Core.Bool.{Bool, cond, _||_}
+use mathlib.Core.Bool.{Bool, cond, _&&_, _||_}
 use mathlib.Core.List.{List, [], _∷_, _++_}
 use Prim.Native.Nat.{ℕ, _+_, _-_, _*_, _≤_}
 use lib.Dec.{ltb, eqb}
 use lib.ListN.{length}
 use Rattle.tlv.specs.Outcome.{Outcome, refused, done, _>>=_}
+use Rattle.tlv.specs.Lists.{isEmpty}
 use Rattle.tlv.specs.Buffer.{Put}
 use Rattle.tlv.specs.Fields.{fields}
 use Rattle.tlv.specs.Table.{Kept, KeptBut}
@@ -128,6 +129,10 @@ CheckedAs main supplementary (BothChecked.Refused n) = (n ≡ 0 → ⊥) × ((f 
 pub record ChecksBoth (main supplementary : List ℕ) (r : BothChecked) : Type 0 where
   pub is : CheckedAs main supplementary r
 
+-- work is shorter than document 01 asks of two sheets with n fields
+abbrev pub shortOf : List ℕ → ℕ → List ℕ → Bool
+shortOf work n program = ltb (length work) (workOfField * n + workOfProgramByte * length program + workBesides)
+
 -- work is as long as document 01 asks
 pub record WorkEnough (main supplementary program w : List ℕ) : Type 0 where
   pub long : (m n : ℕ) → checkInput main ≡ done m → checkInput supplementary ≡ done n → workOfField * (m + n) + workOfProgramByte * length program + workBesides ≤ length w
@@ -135,6 +140,22 @@ pub record WorkEnough (main supplementary program w : List ℕ) : Type 0 where
 -- before any unit, with the first file number
 abbrev pub startState : ℕ → State
 startState first = record { table = record { first = first; entries = [] }; records = []; warnings = []; stats = noStats }
+
+-- ---- without a unit
+
+-- nothing was written, with this refusal
+abbrev pub nothingRan : ℕ → Ran
+nothingRan n = record {
+  records = 0;
+  files = 0;
+  warnings = 0;
+  stats = record { functions = 0; «line_rows» = 0; «inline_nodes» = 0; «rejected_ranges» = 0 };
+  status = n;
+}
+
+-- 4, but for a package without debug data (document 02, E4), of which only the work length is left to test; 0 where it is long enough
+unfoldable pub bareStatus : List ℕ → List ℕ → ℕ → ℕ → List ℕ → ℕ
+bareStatus main program ordinal n work = cond (isEmpty main && eqb ordinal 0) (cond (shortOf work n program) 5 0) 4
 
 -- ---- refusals 16 to 18
 

@@ -6,7 +6,7 @@ ghost use lib.ListN.{length, replicate};
 ghost use Rattle.tlv.specs.Lists.{at};
 ghost use Rattle.tlv.specs.Buffer.{top};
 ghost use Rattle.tlv.specs.Fields.{fields, payloads, wholeFields};
-ghost use Rattle.tlv.specs.Limits.{inputLimit};
+ghost use Rattle.tlv.specs.Limits.{inputLimit, programLimit, fieldLimit};
 ghost use Rattle.tlv.specs.Model.{units};
 ghost use Rattle.tlv.specs.Places.{unitHere, unitPlaces};
 ghost use Rattle.collect.specs.Collects.{UnitIn};
@@ -15,7 +15,7 @@ ghost use Rattle.dies.specs.DetailState.{Accepted};
 ghost use Rattle.imports.specs.Import.{importUnit};
 ghost use Rattle.imports.specs.Answer.{importChosen, importOf};
 ghost use Rattle.dwarf.specs.Contexts.{ContextIn};
-ghost use Rattle.dwarf.specs.Runs.{IndexesInput, LinesLaid, MakesContext, RunsDetails, Writes, oversizeOf, BothAccepted, NotOversize, ChecksBoth, WorkEnough, startState, fitStatus};
+ghost use Rattle.dwarf.specs.Runs.{IndexesInput, LinesLaid, MakesContext, RunsDetails, Writes, oversizeOf, BothAccepted, NotOversize, ChecksBoth, WorkEnough, startState, shortOf, nothingRan, bareStatus, fitStatus};
 ghost use Rattle.dwarf.specs.Answers.{inputsOf, ImportsUnit, MeasuresUnit};
 use crate::layout::Layout;
 use crate::model::ConversionStats;
@@ -31,11 +31,13 @@ use rows::unit_lines::StoredLines;
 use tlv::access::Place;
 use tlv::grammar::Checked;
 
-// Bytes of work for each field, for each byte of the program, and besides.
+// The work length that document 01 asks for: bytes for each field of both inputs, ..
 const WORK_OF_FIELD: usize = 64;
 
+// .. for each byte of the line program, ..
 const WORK_OF_PROGRAM_BYTE: usize = 4;
 
+// .. and besides.
 const WORK_BESIDES: usize = 32768;
 
 // The full lengths of what an import writes, the statistics, and the refusal, 0 for none.
@@ -47,8 +49,9 @@ pub struct Ran {
     pub status: u8,
 }
 
-fn refused(n: u8) -> Ran
-    ensures { λ r. ⌜ r .status ≡ n ⌝ }
+// Nothing is written.
+fn nothing(n: u8) -> Ran
+    ensures { λ r. ⌜ r ≡ nothingRan n ⌝ }
 {
     Ran {
         records: 0,
@@ -57,6 +60,12 @@ fn refused(n: u8) -> Ran
         stats: crate::model::no_stats(),
         status: n,
     }
+}
+
+fn refused(n: u8) -> Ran
+    ensures { λ r. ⌜ r .status ≡ n ⌝ }
+{
+    nothing(n)
 }
 
 // The units and the entries of an input, in tables of the work slice.
@@ -237,6 +246,33 @@ fn import_chosen<'a>(
     }
 }
 
+// Refusal 5, of two inputs with so many fields.
+fn is_short(work: &[u8], number: usize, program: &[u8]) -> bool
+    requires { ⌜ number ≤ fieldLimit + fieldLimit ⌝ }
+    requires { ⌜ length (now program) ≤ programLimit ⌝ }
+    ensures { λ r. ⌜ r ≡ shortOf (now (work .entry)) number (now (program .entry)) ⌝ }
+{
+    work.len() < WORK_OF_FIELD * number + WORK_OF_PROGRAM_BYTE * program.len() + WORK_BESIDES
+}
+
+// Where there is no such unit: a package without debug data is done, with work enough; else 4 or 5.
+fn import_nothing(main: &[u8], program: &[u8], ordinal: u64, number: usize, work: &[u8]) -> Ran
+    requires { ⌜ number ≤ fieldLimit + fieldLimit ⌝ }
+    requires { ⌜ length (now program) ≤ programLimit ⌝ }
+    ensures { λ r. ⌜ r ≡ nothingRan (bareStatus (now (main .entry)) (now (program .entry)) ordinal number (now (work .entry))) ⌝ }
+{
+    if main.len() != 0 {
+        return nothing(4);
+    }
+    if ordinal != 0 {
+        return nothing(4);
+    }
+    if is_short(work, number, program) {
+        return nothing(5);
+    }
+    nothing(0)
+}
+
 // Refusals 4 and 5, and the import of two accepted inputs with so many fields.
 fn import_accepted<'a>(
     main: &'a [u8],
@@ -257,9 +293,9 @@ fn import_accepted<'a>(
     ensures { λ r. ⌜ Writes (importChosen (inputsOf (now (main .entry)) (now (supplementary .entry)) (now (program .entry)) ordinal inlines «call_sites» «first_file» (now (work .entry)) (now (records .entry)) (now (files .entry)) (now (warnings .entry))) number (at (units (now (main .entry))) ordinal)) (now (records .entry)) (now (files .entry)) (now (warnings .entry)) (now (records .exit)) (now (files .exit)) (now (warnings .exit)) r ⌝ }
 {
     let Place::At(place) = tlv::access::unit_by_ordinal(main, ordinal) else {
-        return refused(4);
+        return import_nothing(main, program, ordinal, number, work);
     };
-    if work.len() < WORK_OF_FIELD * number + WORK_OF_PROGRAM_BYTE * program.len() + WORK_BESIDES {
+    if is_short(work, number, program) {
         return refused(5);
     }
     import_chosen(
@@ -401,8 +437,8 @@ fn fitting(r: Ran, records: usize, files: usize, warnings: usize) -> u8
     0
 }
 
-// Imports the unit of an ordinal. No content and no length is ruled out. After every call work holds only 0, and after a refusal so do the three
-// output buffers.
+// Imports the unit of an ordinal; an empty main input with ordinal 0 is finished with nothing in it. No content and no length is ruled out. After every
+// call work holds only 0, and after a refusal so do the three output buffers.
 pub fn import_unit<'a>(
     main: &'a [u8],
     supplementary: &'a [u8],

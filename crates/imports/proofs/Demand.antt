@@ -1,19 +1,21 @@
 -- Demand 3 whole: what an import leaves in the records tray agrees with the unit's entries. Assumes nothing.
 use mathlib.Core.Path.{_≡_, refl, sym, ap, _∙_}
-use mathlib.Core.Bool.{Bool, true, false, cond}
-use mathlib.Core.List.{List}
+use mathlib.Core.Bool.{Bool, true, false, cond, false≢true}
+use mathlib.Core.List.{List, [], _∷_}
 use mathlib.Core.Option.{Option, none, some}
 use Prim.Native.Nat.{ℕ, _+_}
 use native.Mathlib.Omega.{arith}
 use lib.ListN.{length, take, drop}
-use lib.Dec.{ltb}
+use lib.Dec.{ltb, eqb}
+use borrow.Author.Tests.{eqb-true}
 use lib.Seq.{take-at}
 use Rattle.tlv.specs.Outcome.{Outcome, refused, done, _>>=_}
-use Rattle.tlv.specs.Lists.{at}
+use Rattle.tlv.specs.Lists.{at, isEmpty}
 use Rattle.tlv.specs.Grammar.{checkInput}
 use Rattle.tlv.specs.Model.{CompilationUnit, units}
 use Rattle.tlv.specs.Accepted.{UnitAccepted}
 use Rattle.tlv.specs.Reader.{readRecords, readFiles, readWarnings}
+use Rattle.tlv.proofs.TestLaws.{and-left, and-right}
 use Rattle.tlv.proofs.ListLaws.{all-at, given-some}
 use Rattle.tlv.proofs.OutcomeLaws.{done-is, refused-not, with-done}
 use Rattle.tlv.proofs.ReadBack.{records-back, files-back, warnings-back}
@@ -21,8 +23,8 @@ use Rattle.tlv.proofs.AcceptedUnits.{accepting}
 use Rattle.lines.proofs.RowLaws.{rows-agree}
 use Rattle.lines.proofs.LineBounds.{sorted-lines}
 use Rattle.imports.specs.Import.{State, importUnit}
-use Rattle.imports.specs.Answer.{Inputs, oversize, workNeeded, initialState, dwarfOf, importChosen, importOf, Written, written, fitting, outcomeOf, Answer, answerOf, bufferAfter, after}
-use Rattle.imports.specs.Demand.{RecordAgrees, Pointwise, subjects, Units, Lent, Finished, Demand}
+use Rattle.imports.specs.Answer.{Inputs, oversize, workNeeded, initialState, dwarfOf, isBare, importChosen, importOf, Written, written, fitting, outcomeOf, Answer, answerOf, bufferAfter, after}
+use Rattle.imports.specs.Demand.{ChosenAgrees, Units, Lent, Finished, Demand}
 use Rattle.imports.proofs.Refusals.{refusals}
 use Rattle.imports.proofs.ImportBounds.{producing}
 use Rattle.imports.proofs.WalkMachine.{walk-tree, walk-treeless}
@@ -32,45 +34,52 @@ use Rattle.imports.proofs.Records.{units-agree}
 pub each-unit : Units
 each-unit = units-agree walk-tree walk-treeless rows-agree sorted-lines
 
--- ---- a finished import has checked the main sheet, chosen a unit and imported it
+-- ---- a finished import has checked the main sheet, and imported the unit that was asked for, or there is none
 
-record Chosen (i : Inputs) (s : State) : Type 0 where
-  fields : ℕ
-  checked : checkInput (i .main) ≡ done fields
-  unit : CompilationUnit
-  chosen : at (units (i .main)) (i .ordinal) ≡ some unit
-  imported : importUnit (dwarfOf i) unit (i .program) (i .inlines) (i .callSites) (initialState i) ≡ done s
+empty-is : (xs : List ℕ) → isEmpty xs ≡ true → xs ≡ []
+empty-is [] e = refl
+empty-is (x ∷ xs) e = absurd (false≢true e)
 
-module _ (i : Inputs) (s : State) where
-  from-chosen : (m n : ℕ) → checkInput (i .main) ≡ done m → (o : Option CompilationUnit) → at (units (i .main)) (i .ordinal) ≡ o → importChosen i n o ≡ done s → Chosen i s
-  from-chosen m n c none a e = refused-not e
-  from-chosen m n c (some u) a e = go (ltb (length (i .work)) (workNeeded i n)) e
+module _ (i : Inputs) (s : State) (l : Lent i) where
+  of-unit : (m : ℕ) → checkInput (i .main) ≡ done m → (u : CompilationUnit) → at (units (i .main)) (i .ordinal) ≡ some u
+      → importUnit (dwarfOf i) u (i .program) (i .inlines) (i .callSites) (initialState i) ≡ done s → ChosenAgrees i (some u) (s .records)
+  unfolding initialState
+  of-unit m c u a e =
+      let all = accepting (i .main) m (l .main) c in
+      let accepted = given-some UnitAccepted (at (units (i .main)) (i .ordinal)) u (all-at UnitAccepted (units (i .main)) (i .ordinal) all) a in
+      let x = each-unit (dwarfOf i) u (i .program) (i .inlines) (i .callSites) (initialState i) s accepted e in
+      rw (x .added) (x .agree)
+
+  from-worked : (b : Bool) {o : Outcome State} → cond b (refused 5) o ≡ done s → o ≡ done s
+  from-worked true q = refused-not q
+  from-worked false q = q
+
+  from-chosen : (m n : ℕ) → checkInput (i .main) ≡ done m → (o : Option CompilationUnit) → at (units (i .main)) (i .ordinal) ≡ o
+      → importChosen i n o ≡ done s → ChosenAgrees i o (s .records)
+  unfolding initialState
+  from-chosen m n c none a = go (isBare i) (ltb (length (i .work)) (workNeeded i n)) refl
     where
-      go : (b : Bool) → cond b (refused 5) (importUnit (dwarfOf i) u (i .program) (i .inlines) (i .callSites) (initialState i)) ≡ done s → Chosen i s
-      go true q = refused-not q
-      go false q = record { fields = m; checked = c; unit = u; chosen = a; imported = q }
+      go : (b w : Bool) → isBare i ≡ b → cond b (cond w (refused 5) (done (initialState i))) (refused 4) ≡ done s → ChosenAgrees i none (s .records)
+      go true w is q =
+          (empty-is (i .main) (and-left (isEmpty (i .main)) (eqb (i .ordinal) 0) is),
+          eqb-true (i .ordinal) 0 (and-right (isEmpty (i .main)) (eqb (i .ordinal) 0) is),
+          ap (λ (x : State). x .records) (sym (done-is (from-worked w q))))
+      go false w is q = refused-not q
+  from-chosen m n c (some u) a = λ e. of-unit m c u a (from-worked (ltb (length (i .work)) (workNeeded i n)) e)
 
-  was-chosen : importOf i ≡ done s → Chosen i s
+  was-chosen : importOf i ≡ done s → ChosenAgrees i (at (units (i .main)) (i .ordinal)) (s .records)
   unfolding importOf
   was-chosen = go (oversize i)
     where
       rest : Outcome State
       rest = checkInput (i .main) >>= λ m. checkInput (i .supplementary) >>= λ n. importChosen i (m + n) (at (units (i .main)) (i .ordinal))
 
-      go : (b : Bool) → cond b (refused 1) rest ≡ done s → Chosen i s
+      go : (b : Bool) → cond b (refused 1) rest ≡ done s → ChosenAgrees i (at (units (i .main)) (i .ordinal)) (s .records)
       go true e = refused-not e
       go false e =
           with-done (checkInput (i .main)) _ e λ m c e₁.
           with-done (checkInput (i .supplementary)) _ e₁ λ n _ e₂.
           from-chosen m (m + n) c (at (units (i .main)) (i .ordinal)) refl e₂
-
-agrees : (i : Inputs) (s : State) (l : Lent i) (c : Chosen i s) → Pointwise (RecordAgrees (dwarfOf i) (c .unit) (i .inlines)) (subjects (dwarfOf i) (c .unit)) (s .records)
-unfolding initialState
-agrees i s l c =
-    let all = accepting (i .main) (c .fields) (l .main) (c .checked) in
-    let accepted = given-some UnitAccepted (at (units (i .main)) (i .ordinal)) (c .unit) (all-at UnitAccepted (units (i .main)) (i .ordinal) all) (c .chosen) in
-    let u = each-unit (dwarfOf i) (c .unit) (i .program) (i .inlines) (i .callSites) (initialState i) s accepted (c .imported) in
-    rw (u .added) (u .agree)
 
 -- ---- what was written is what is read
 
@@ -94,7 +103,6 @@ module _ (i : Inputs) (l : Lent i) where
   read : (s : State) → importOf i ≡ done s → outcomeOf i ≡ done (written s) → Finished i
   unfolding after written answerOf
   read s q o =
-      let c = was-chosen i s q in
       let f = producing i s l q in
       record {
         state = s;
@@ -102,9 +110,7 @@ module _ (i : Inputs) (l : Lent i) where
         records = ap readRecords (held (λ w. w .records) (λ a. a .records) (λ w. refl) (i .records) (outcomeOf i) (written s) o) ∙ records-back (s .records) (f .records);
         files = ap readFiles (held (λ w. w .files) (λ a. a .files) (λ w. refl) (i .files) (outcomeOf i) (written s) o) ∙ files-back (s .table .entries) (f .files);
         warnings = ap readWarnings (held (λ w. w .warnings) (λ a. a .warnings) (λ w. refl) (i .warnings) (outcomeOf i) (written s) o) ∙ warnings-back (s .warnings) (f .warnings);
-        unit = c .unit;
-        chosen = c .chosen;
-        agree = agrees i s l c;
+        agree = was-chosen i s l q;
       }
 
   finished : (w : Written) → outcomeOf i ≡ done w → Finished i

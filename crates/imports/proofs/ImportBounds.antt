@@ -32,7 +32,7 @@ use Rattle.references.proofs.NameBounds.{DwarfAccepted, attribute-accepted, abs
 use Rattle.references.proofs.DeclarationBounds.{FoundFits, DeclaringFits, gives-declaration}
 use Rattle.imports.specs.Tree.{Descendants}
 use Rattle.imports.specs.Import.{State, ImportContext, sequenceIf, statementSequenceOffset, isLiveRange, isTombstone, rejected, sequenceWarning, declarationIf, linesWith, rooted, detailContext, addFunction, importRange, importRanges, importByFailure, importSubprogram, isSubprogram, descendantsOf, importUnitDetails, importUnit}
-use Rattle.imports.specs.Answer.{Inputs, oversize, workNeeded, initialState, dwarfOf, importChosen, importOf}
+use Rattle.imports.specs.Answer.{Inputs, oversize, workNeeded, initialState, dwarfOf, isBare, importChosen, importOf}
 use Rattle.imports.specs.Demand.{Lent, Producing}
 use Rattle.imports.proofs.Subjects.{live-range}
 use Rattle.imports.proofs.NodeBounds.{rooted-fits}
@@ -175,10 +175,13 @@ gives-fitting i lent =
     gives-bind (gives-of (checkInput (i .supplementary)) λ s. accepting (i .supplementary) s (lent .supplementary)) λ s supplementary.
     chosen (m + s) (record { main = main; supplementary = supplementary }) (program-short i e) (at (units (i .main)) (i .ordinal)) (all-at UnitAccepted (units (i .main)) (i .ordinal) main)
   where
+    begun : ImportFits (initialState i)
+    begun = record { table = record { few = omega (arith, lent .firstFile); files = tt }; records = tt; warnings = tt }
+
     chosen : (n : ℕ) → DwarfAccepted (dwarfOf i) → length (i .program) ≤ programLimit → (o : Option CompilationUnit) → Given UnitAccepted o → Gives ImportFits (importChosen i n o)
-    chosen n dwarf short none h = gives-none
+    chosen n dwarf short none h = gives-cond (isBare i) (λ e. gives-cond (ltb (length (i .work)) (workNeeded i n)) (λ b. gives-none) (λ b. gives begun)) (λ e. gives-none)
     chosen n dwarf short (some u) h = gives-cond (ltb (length (i .work)) (workNeeded i n)) (λ e. gives-none)
-        (λ e. unit-fits (dwarfOf i) u (i .program) (i .inlines) (i .callSites) (initialState i) dwarf h (omega arith) (record { table = record { few = omega (arith, lent .firstFile); files = tt }; records = tt; warnings = tt }))
+        (λ e. unit-fits (dwarfOf i) u (i .program) (i .inlines) (i .callSites) (initialState i) dwarf h (omega arith) begun)
 
 -- everything that an import leaves behind fits the trays' fields
 pub producing : Producing

@@ -32,3 +32,4 @@ pub mod TreeBounds
 pub mod ImportBounds
 pub mod Examples
 pub mod Sizing
+pub mod Bare

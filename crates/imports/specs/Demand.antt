@@ -159,6 +159,11 @@ Refusals = (i : Inputs) (n : ℕ) → outcomeOf i ≡ refused n → (1 ≤ n) ×
 
 -- ---- the whole demand, of what the trays hold after a call
 
+-- records answer for the unit that was asked for; a package without debug data (document 02, E4) has no unit, and no record
+abbrev pub ChosenAgrees : Inputs → Option CompilationUnit → List Function → Type 0
+ChosenAgrees i none rs = (i .main ≡ []) × (i .ordinal ≡ 0) × (rs ≡ [])
+ChosenAgrees i (some u) rs = Pointwise (RecordAgrees (dwarfOf i) u (i .inlines)) (subjects (dwarfOf i) u) rs
+
 pub record Finished (i : Inputs) : Type 0 where
   -- the trays are read back as what the import leaves behind
   pub state : State
@@ -167,9 +172,7 @@ pub record Finished (i : Inputs) : Type 0 where
   pub files : readFiles (take (after i .answer .files) (after i .files)) ≡ some (state .table .entries)
   pub warnings : readWarnings (take (after i .answer .warnings) (after i .warnings)) ≡ some (state .warnings)
   -- record k answers for subject k of the unit that was asked for
-  pub unit : CompilationUnit
-  pub chosen : at (units (i .main)) (i .ordinal) ≡ some unit
-  pub agree : Pointwise (RecordAgrees (dwarfOf i) unit (i .inlines)) (subjects (dwarfOf i) unit) (state .records)
+  pub agree : ChosenAgrees i (at (units (i .main)) (i .ordinal)) (state .records)
 
 abbrev pub Demand : Type 0
 Demand = (i : Inputs) → Lent i → after i .answer .refusal ≡ 0 → Finished i

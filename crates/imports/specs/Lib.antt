@@ -8,3 +8,4 @@ pub mod Demand
 pub mod Cases
 pub mod Printed
 pub mod Sizes
+pub mod Bare

@@ -1,4 +1,5 @@
--- `import::import_accepted` meets its contract: refusals 4 and 5, or the import of the unit at the place. Assumes nothing.
+-- `import::import_accepted` meets its contract: no unit, refusal 5, or the import of the unit at the place. Assumes nothing.
+use mathlib.Core.Path.{refl}
 use native.Mathlib.Omega.{arith}
 use borrow.Author.Needs.{needs}
 use Rattle.dwarf.specs.Answers.{inputsOf}
@@ -15,44 +16,39 @@ enum-known-place c = search needs
 enum-told : tie.Need-enum-told
 enum-told c = search needs
 
-refused-requires : tie.Need-refused-requires
-refused-requires c κs = search needs
-
-returns : tie.Need-returns
-returns c =
-    let s = c .before .before .before .before .before .before .before .before .before .before .before in
-    let i = inputsOf (s .args .main .now) (s .args .supplementary .now) (s .args .program .now) (s .args .ordinal) (s .args .inlines) (s .args .call-sites) (s .args .first-file) (s .args .work .now) (s .args .records .now) (s .args .files .now) (s .args .warnings .now) in
-    chosen-missing i (s .args .number) (c .before .before .before .unit-by-ordinal .ensures) (c .before .enum-told .given .1) (c .refused .ensures)
-
-mul-if1 : tie.Need-mul-if1
-mul-if1 c = omega (arith, both-few (c .before .before .before .before .before .before .before .before .before .before .before .pre .0))
-
-mul-if1-2 : tie.Need-mul-if1-2
-mul-if1-2 c = let b = c .before .before .before .before .before .before .before .before .before .before .before .pre .1 in omega arith
-
-add-if1 : tie.Need-add-if1
-add-if1 c = let b = c .before .before .before .before .before .before .before .before .before .before .before .pre .1 in omega (arith, both-few (c .before .before .before .before .before .before .before .before .before .before .before .pre .0))
-
-add-if1-2 : tie.Need-add-if1-2
-add-if1-2 c = let b = c .before .before .before .before .before .before .before .before .before .before .before .pre .1 in omega (arith, both-few (c .before .before .before .before .before .before .before .before .before .before .before .pre .0))
-
-refused-requires-2 : tie.Need-refused-requires-2
-refused-requires-2 c κs = search needs
-
-returns-2 : tie.Need-returns-2
-returns-2 c =
-    let s = c .before .before .before .before .before .before .before .before .before .before .before .before .before in
-    let i = inputsOf (s .args .main .now) (s .args .supplementary .now) (s .args .program .now) (s .args .ordinal) (s .args .inlines) (s .args .call-sites) (s .args .first-file) (s .args .work .now) (s .args .records .now) (s .args .files .now) (s .args .warnings .now) in
-    chosen-short i (s .args .number) (c .before .before .before .before .before .unit-by-ordinal .ensures) (c .before .before .before .place .given .1) (c .before .if1 .taken) (c .refused2 .ensures)
-
-import-chosen-requires : tie.Need-import-chosen-requires
-import-chosen-requires c κs = (accepted-both (c .before .before .before .before .before .before .before .before .before .before .before .before .before .before .before .before .pre .0), (c .before .before .before .before .before .before .before .before .before .before .before .before .before .before .before .before .pre .1, (chosen-in _ (c .before .before .before .before .before .before .before .before .before .before .before .before .before .before .before .before .args .ordinal) (c .before .before .before .before .before .before .before .before .unit-by-ordinal .ensures) (c .before .before .before .before .before .before .place .given .1), work-enough (c .before .before .before .before .before .before .before .before .before .before .before .before .before .before .before .before .pre .0) _ _ (c .before .before .before .before .if1 .left))))
+import-nothing-requires : tie.Need-import-nothing-requires
+import-nothing-requires c κs = let p = c .before .before .before .before .before .before .before .before .before .before .before .pre in (both-few (p .0), p .1 .program-within)
 
 same-length : tie.Need-same-length
 same-length c = search needs
 
+returns : tie.Need-returns
+returns c =
+    let s = c .before .before .before .before .before .before .before .before .before .before .before .before in
+    let i = inputsOf (s .args .main .now) (s .args .supplementary .now) (s .args .program .now) (s .args .ordinal) (s .args .inlines) (s .args .call-sites) (s .args .first-file) (s .args .work .now) (s .args .records .now) (s .args .files .now) (s .args .warnings .now) in
+    chosen-missing i (s .args .number) (c .before .before .before .before .unit-by-ordinal .ensures) (c .before .before .enum-told .given .1) refl refl refl (omega arith) (omega arith) (omega arith) (c .import-nothing .ensures)
+
+is-short-requires : tie.Need-is-short-requires
+is-short-requires c κs = let p = c .before .before .before .before .before .before .before .before .before .before .before .before .pre in (both-few (p .0), p .1 .program-within)
+
+refused-requires : tie.Need-refused-requires
+refused-requires c κs = search needs
+
 same-length-2 : tie.Need-same-length-2
 same-length-2 c = search needs
+
+returns-2 : tie.Need-returns-2
+returns-2 c =
+    let s = c .before .before .before .before .before .before .before .before .before .before .before .before .before .before .before in
+    let i = inputsOf (s .args .main .now) (s .args .supplementary .now) (s .args .program .now) (s .args .ordinal) (s .args .inlines) (s .args .call-sites) (s .args .first-file) (s .args .work .now) (s .args .records .now) (s .args .files .now) (s .args .warnings .now) in
+    chosen-short i (s .args .number) (c .before .before .before .before .before .before .before .unit-by-ordinal .ensures) (c .before .before .before .before .before .place .given .1) (c .before .before .is-short .ensures) (c .before .if1 .taken) (c .refused .ensures)
+
+import-chosen-requires : tie.Need-import-chosen-requires
+import-chosen-requires c κs =
+    let s = c .before .before .before .before .before .before .before .before .before .before .before .before .before .before .before .before .before .before in
+    (accepted-both (s .pre .0), (s .pre .1,
+    (chosen-in _ (s .args .ordinal) (c .before .before .before .before .before .before .before .before .before .before .unit-by-ordinal .ensures) (c .before .before .before .before .before .before .before .before .place .given .1),
+    work-enough (s .pre .0) _ _ (c .before .before .before .before .before .is-short .ensures) (c .before .before .before .before .if1 .left))))
 
 same-length-3 : tie.Need-same-length-3
 same-length-3 c = search needs
@@ -60,11 +56,18 @@ same-length-3 c = search needs
 same-length-4 : tie.Need-same-length-4
 same-length-4 c = search needs
 
+same-length-5 : tie.Need-same-length-5
+same-length-5 c = search needs
+
+same-length-6 : tie.Need-same-length-6
+same-length-6 c = search needs
+
 returns-3 : tie.Need-returns-3
 returns-3 c =
-    let s = c .before .before .before .before .before .before .before .before .before .before .before .before .before .before .before .before .before .before .before .before .before .before .before .before .before in
+    let s = c .before .before .before .before .before .before .before .before .before .before .before .before .before .before .before .before .before .before .before .before .before .before .before .before .before .before .before in
     let i = inputsOf (s .args .main .now) (s .args .supplementary .now) (s .args .program .now) (s .args .ordinal) (s .args .inlines) (s .args .call-sites) (s .args .first-file) (s .args .work .now) (s .args .records .now) (s .args .files .now) (s .args .warnings .now) in
-    chosen-long i (s .args .number) (c .before .before .before .before .before .before .before .before .before .before .before .before .before .before .before .before .before .unit-by-ordinal .ensures) (c .before .before .before .before .before .before .before .before .before .before .before .before .before .before .before .place .given .1) (c .before .before .before .before .before .before .before .before .before .before .before .before .before .if1 .left) (c .before .before .before .before .before .before .before .before .import-chosen .ensures)
+    chosen-long i (s .args .number) (c .before .before .before .before .before .before .before .before .before .before .before .before .before .before .before .before .before .before .before .unit-by-ordinal .ensures) (c .before .before .before .before .before .before .before .before .before .before .before .before .before .before .before .before .before .place .given .1)
+    (c .before .before .before .before .before .before .before .before .before .before .before .before .before .before .is-short .ensures) (c .before .before .before .before .before .before .before .before .before .before .before .before .before .if1 .left) (c .before .before .before .before .before .before .before .before .import-chosen .ensures)
 
 pub import-accepted-spec : {M : Type 1} → statement M
 import-accepted-spec =
@@ -73,17 +76,16 @@ import-accepted-spec =
     unit-by-ordinal-requires
     enum-known-place
     enum-told
-    refused-requires
+    import-nothing-requires
+    same-length
     returns
-    mul-if1
-    mul-if1-2
-    add-if1
-    add-if1-2
-    refused-requires-2
+    is-short-requires
+    refused-requires
+    same-length-2
     returns-2
     import-chosen-requires
-    same-length
-    same-length-2
     same-length-3
     same-length-4
+    same-length-5
+    same-length-6
     returns-3)

@@ -1,0 +1,100 @@
+-- A package without debug data: what the import and the pass answer (`AllBare`). Assumes nothing.
+use mathlib.Core.Path.{_≡_, refl, sym, ap, _∙_}
+use mathlib.Core.Bool.{Bool, true, false, cond, _&&_}
+use mathlib.Core.List.{List, [], _∷_}
+use mathlib.Core.Option.{Option, none}
+use Prim.Native.Nat.{ℕ, _+_, _≤_, _<_}
+use native.Mathlib.Omega.{arith}
+use lib.ListN.{length}
+use lib.Dec.{ltb, eqb}
+use borrow.Author.Tests.{le-ltb, lt-ltb, ne-eqb}
+use Rattle.tlv.specs.Outcome.{Outcome, refused, done, _>>=_}
+use Rattle.tlv.specs.Lists.{at, isEmpty}
+use Rattle.tlv.specs.Fields.{grouped, fieldsFrom, wholeFields}
+use Rattle.tlv.specs.Grammar.{checkFrom, checkInput}
+use Rattle.tlv.specs.Model.{CompilationUnit, units}
+use Rattle.tlv.specs.Output.{eachOf, recordsBytes, filesBytes, warningsBytes}
+use Rattle.imports.specs.Import.{State}
+use Rattle.imports.specs.Answer.{Inputs, oversize, workNeeded, initialState, isBare, worked, importChosen, importOf, Written, written, fitting, outcomeOf, answerOf, bufferAfter, After, after}
+use Rattle.imports.specs.Sizes.{measured, sizesOf}
+use Rattle.imports.specs.Bare.{nothingDone, untouched, Tested, Bare, AllBare}
+
+-- an empty sheet is accepted, and has no unit
+none-checked : checkInput [] ≡ done 0
+unfolding checkInput fieldsFrom checkFrom
+none-checked = refl
+
+no-unit : (k : ℕ) → at (units []) k ≡ none
+unfolding units grouped wholeFields fieldsFrom at
+no-unit k = refl
+
+sum : (n : ℕ) → 0 + n ≡ n
+sum n = omega arith
+
+module _ (i : Inputs) (e : i .main ≡ []) where
+  -- what is left of the import: the sizes, the supplementary sheet, then the unit that is not there
+  abbrev left : Outcome State
+  left = cond (oversize i) (refused 1) (checkInput (i .supplementary) >>= λ n. importChosen i n none)
+
+  import-is : importOf i ≡ left
+  unfolding importOf _>>=_
+  import-is =
+      (λ k. cond (oversize i) (refused 1) (checkInput (e k) >>= λ m. checkInput (i .supplementary) >>= λ s. importChosen i (m + s) (at (units (e k)) (i .ordinal))))
+      ∙ (λ k. cond (oversize i) (refused 1) (none-checked k >>= λ m. checkInput (i .supplementary) >>= λ s. importChosen i (m + s) (no-unit (i .ordinal) k)))
+      ∙ (λ k. cond (oversize i) (refused 1) (checkInput (i .supplementary) >>= λ s. importChosen i (sum s k) none))
+
+  -- an import that is refused
+  refused-is : {n : ℕ} → importOf i ≡ refused n → after i .answer .refusal ≡ n
+  unfolding after answerOf outcomeOf _>>=_
+  refused-is q = ap (λ (o : Outcome State). answerOf (o >>= λ s. fitting i (written s)) .refusal) q
+
+  module _ (n : ℕ) (T : Tested i n) where
+    chosen-none : importOf i ≡ importChosen i n none
+    unfolding _>>=_
+    chosen-none = import-is ∙ (λ k. cond (T .sizes k) (refused 1) (T .supplementary k >>= λ s. importChosen i s none))
+
+    by-bare : {b : Bool} → isBare i ≡ b → importOf i ≡ cond b (worked i n (done (initialState i))) (refused 4)
+    by-bare q = chosen-none ∙ ap (λ (x : Bool). cond x (worked i n (done (initialState i))) (refused 4)) q
+
+    by-work : {b : Bool} → i .ordinal ≡ 0 → ltb (length (i .work)) (workNeeded i n) ≡ b → importOf i ≡ cond b (refused 5) (done (initialState i))
+    by-work z q = by-bare (λ k. isEmpty (e k) && eqb (z k) 0) ∙ ap (λ (x : Bool). cond x (refused 5) (done (initialState i))) q
+
+  abbrev none-written : Written
+  none-written = record { records = []; files = []; warnings = []; stats = initialState i .stats }
+
+  written-none : written (initialState i) ≡ none-written
+  unfolding written initialState recordsBytes filesBytes warningsBytes eachOf
+  written-none = refl
+
+  fits-none : fitting i none-written ≡ done none-written
+  unfolding fitting
+  fits-none = rw (le-ltb (length (i .records)) 0 (omega arith), le-ltb (length (i .files)) 0 (omega arith), le-ltb (length (i .warnings)) 0 (omega arith))
+
+  module _ (q : importOf i ≡ done (initialState i)) where
+    outcome-none : outcomeOf i ≡ done none-written
+    unfolding outcomeOf _>>=_
+    outcome-none = ap (λ (o : Outcome State). o >>= λ s. fitting i (written s)) q ∙ ap (fitting i) written-none ∙ fits-none
+
+    after-none : after i ≡ untouched i
+    unfolding after answerOf bufferAfter initialState
+    after-none = ap (λ (o : Outcome Written). record {
+      answer = answerOf o;
+      records = bufferAfter (λ w. w .records) (i .records) o;
+      files = bufferAfter (λ w. w .files) (i .files) o;
+      warnings = bufferAfter (λ w. w .warnings) (i .warnings) o;
+      work = untouched i .work;
+    }) outcome-none
+
+    sizes-none : sizesOf i ≡ nothingDone
+    unfolding sizesOf measured written initialState recordsBytes filesBytes warningsBytes eachOf
+    sizes-none = ap measured q
+
+pub all-bare : AllBare
+unfolding _>>=_
+all-bare i e = record {
+  bare = λ n T z h. let q = by-work i e n T z (le-ltb (length (i .work)) (workNeeded i n) h) in (after-none i e q, sizes-none i e q);
+  sizes = λ o. refused-is i e (import-is i e ∙ λ k. cond (o k) (refused 1) (checkInput (i .supplementary) >>= λ n. importChosen i n none));
+  supplementary = λ k o c. refused-is i e (import-is i e ∙ λ x. cond (o x) (refused 1) (c x >>= λ n. importChosen i n none));
+  work = λ n T z h. refused-is i e (by-work i e n T z (lt-ltb (length (i .work)) (workNeeded i n) h));
+  other = λ n T h. refused-is i e (by-bare i e n T (λ k. isEmpty (e k) && ne-eqb (i .ordinal) 0 h k));
+}
