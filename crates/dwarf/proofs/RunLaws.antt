@@ -11,7 +11,7 @@ use Rattle.tlv.specs.declared.grammar.Checked.{Checked}
 use Rattle.tlv.specs.declared.access.Place.{Place}
 use Rattle.tlv.specs.Outcome.{Outcome, refused, done, _>>=_}
 use Rattle.tlv.specs.Lists.{at, mapOption, isEmpty}
-use Rattle.tlv.specs.Limits.{inputLimit, programLimit, fieldLimit}
+use Rattle.tlv.specs.Limits.{inputLimit, programLimit, fieldLimit, workOfField, workOfProgramByte, workBesides}
 use Rattle.tlv.specs.Fields.{fields}
 use Rattle.tlv.specs.Grammar.{checkInput}
 use Rattle.tlv.specs.Checked.{checkedOf}
@@ -208,7 +208,7 @@ module _ {main supplementary : List ℕ} {n : ℕ} (B : BothAccepted main supple
     long = λ m k em ek.
         let a : B .main-fields ≡ m = done-is (sym (B .main-accepted) ∙ em) in
         let b : B .supplementary-fields ≡ k = done-is (sym (B .supplementary-accepted) ∙ ek) in
-        omega (arith, B .sum, ltb-false (length w) (64 * n + 4 * length program + 16384) (sym tested ∙ h));
+        omega (arith, B .sum, ltb-false (length w) (workOfField * n + workOfProgramByte * length program + workBesides) (sym tested ∙ h));
   }
 
 -- ---- without a unit

@@ -60,10 +60,11 @@ module _ (i : Inputs) (s : State) (l : Lent i) where
   from-chosen m n c none a = go (isBare i) (ltb (length (i .work)) (workNeeded i n)) refl
     where
       go : (b w : Bool) → isBare i ≡ b → cond b (cond w (refused 5) (done (initialState i))) (refused 4) ≡ done s → ChosenAgrees i none (s .records)
-      go true w is q =
-          (empty-is (i .main) (and-left (isEmpty (i .main)) (eqb (i .ordinal) 0) is),
-          eqb-true (i .ordinal) 0 (and-right (isEmpty (i .main)) (eqb (i .ordinal) 0) is),
-          ap (λ (x : State). x .records) (sym (done-is (from-worked w q))))
+      go true w is q = (
+        empty-is (i .main) (and-left (isEmpty (i .main)) (eqb (i .ordinal) 0) is),
+        eqb-true (i .ordinal) 0 (and-right (isEmpty (i .main)) (eqb (i .ordinal) 0) is),
+        ap (λ (x : State). x .records) (sym (done-is (from-worked w q))),
+      )
       go false w is q = refused-not q
   from-chosen m n c (some u) a = λ e. of-unit m c u a (from-worked (ltb (length (i .work)) (workNeeded i n)) e)
 

@@ -45,10 +45,16 @@ returns-2 c =
 
 import-chosen-requires : tie.Need-import-chosen-requires
 import-chosen-requires c κs =
-    let s = c .before .before .before .before .before .before .before .before .before .before .before .before .before .before .before .before .before .before in
-    (accepted-both (s .pre .0), (s .pre .1,
-    (chosen-in _ (s .args .ordinal) (c .before .before .before .before .before .before .before .before .before .before .unit-by-ordinal .ensures) (c .before .before .before .before .before .before .before .before .place .given .1),
-    work-enough (s .pre .0) _ _ (c .before .before .before .before .before .is-short .ensures) (c .before .before .before .before .if1 .left))))
+    let s = c .before .before .before .before .before .before .before .before .before .before .before .before .before .before .before .before .before .before in (
+      accepted-both (s .pre .0),
+      (
+        s .pre .1,
+        (
+          chosen-in _ (s .args .ordinal) (c .before .before .before .before .before .before .before .before .before .before .unit-by-ordinal .ensures) (c .before .before .before .before .before .before .before .before .place .given .1),
+          work-enough (s .pre .0) _ _ (c .before .before .before .before .before .is-short .ensures) (c .before .before .before .before .if1 .left),
+        ),
+      ),
+    )
 
 same-length-3 : tie.Need-same-length-3
 same-length-3 c = search needs
