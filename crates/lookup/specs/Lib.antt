@@ -1,0 +1,10 @@
+pub mod Tray
+pub mod Lookup
+pub mod Window
+pub mod Form
+pub mod Means
+pub mod Demand
+pub mod Answers
+pub mod Walk
+pub mod Listing
+pub mod Index
