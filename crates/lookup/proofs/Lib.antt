@@ -10,6 +10,8 @@ pub mod ClauseReads
 pub mod ClauseTests
 pub mod RowMeans
 pub mod Meanings
+pub mod SheetChain
+pub mod SheetLaws
 pub mod CheckLaws
 pub mod StepLaws
 pub mod WalkLaws
