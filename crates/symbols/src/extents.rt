@@ -1,0 +1,160 @@
+// The ranges of the records in a result, in a lent work slice: those of the tray merged, and those of the symbols joined since. They decide about time alone.
+ghost use mathlib.Core.Path.{_≡_};
+ghost use mathlib.Core.Bool.{true};
+ghost use mathlib.Core.List.{[], _∷_, _++_};
+ghost use Prim.Native.Nat.{_+_, _*_, _≤_};
+ghost use lib.ListN.{length, take};
+ghost use Rattle.tlv.specs.Addresses.{Nonempty};
+ghost use Rattle.tlv.specs.Lists.{exists};
+ghost use Rattle.lookup.specs.Lookup.{holds};
+ghost use Rattle.lookup.specs.Walk.{Stands};
+ghost use Rattle.imports.specs.Ranges.{Apart};
+ghost use Rattle.dies.specs.RangeTable.{rangesAt};
+ghost use Rattle.symbols.specs.Walk.{rangesIn, Standing};
+ghost use Rattle.symbols.specs.Extents.{GatheredIn, Lying, Known, Remembered};
+use crate::model::RANGE_SIZE;
+use lookup::model::FUNCTION_TAG;
+use tlv::fields::Step;
+use tlv::fields::field_at;
+use tlv::model::AddressRange;
+
+// The tables: `functions` merged ranges from the beginning of work on, `added` more from `base` on. Where there is no room, `fast` is false.
+pub struct Extents {
+    pub fast: bool,
+    pub functions: usize,
+    pub base: usize,
+    pub added: usize,
+}
+
+// Whether one of the n ranges at p, which are apart, holds an address: a binary search.
+fn in_ranges(work: &[u8], p: usize, n: usize, address: u64) -> bool
+    requires { ⌜ p + n * 16 ≤ length (now work) ⌝ }
+    requires { ⌜ Apart (rangesAt (now work) p n) ⌝ }
+    ensures { λ r. ⌜ r ≡ exists (holds address) (rangesAt (now (work .entry)) p n) ⌝ }
+{
+    let mut lo: usize = 0;
+    let mut hi = n;
+    while lo < hi {
+        let mid = lo + (hi - lo) / 2;
+        let r = dies::ranges::range_at(work, p + mid * RANGE_SIZE);
+        if address < r.start {
+            hi = mid;
+        } else if address < r.end {
+            return true;
+        } else {
+            lo = mid + 1;
+        }
+    }
+    false
+}
+
+// How many ranges were gathered; `fast` is false where they have no room.
+pub struct Gathered {
+    pub fast: bool,
+    pub n: usize,
+}
+
+// The ranges of a tray's functions, as they come.
+fn gather_functions(s: &[u8], work: &mut [u8]) -> Gathered
+    requires { ⌜ Stands (now s) 0 ⌝ }
+    ensures { λ r. ⌜ GatheredIn (now (s .entry)) (now (work .exit)) r ⌝ }
+{
+    let mut p: usize = 0;
+    let mut n: usize = 0;
+    loop {
+        match field_at(s, p) {
+            Step::End => {
+                return Gathered { fast: true, n: n };
+            }
+            Step::Cut => {
+                return Gathered { fast: true, n: n };
+            }
+            Step::Field {
+                tag,
+                start,
+                len,
+                next,
+            } => {
+                if tag == FUNCTION_TAG {
+                    let r = lookup::window::range_of(s, start, len);
+                    if work.len() - n * RANGE_SIZE < RANGE_SIZE {
+                        return Gathered { fast: false, n: n };
+                    }
+                    dies::ranges::put_range_at(work, n * RANGE_SIZE, r);
+                    n += 1;
+                    p = next;
+                } else {
+                    p = next;
+                }
+            }
+        }
+    }
+}
+
+// The tables of a tray with no symbol joined.
+pub fn learn(s: &[u8], work: &mut [u8]) -> Extents
+    requires { ⌜ Stands (now s) 0 ⌝ }
+    ensures { λ r. ⌜ Known (rangesIn (now (s .entry))) (now (work .exit)) r ⌝ }
+{
+    let g = gather_functions(s, work);
+    if !g.fast {
+        return Extents {
+            fast: false,
+            functions: 0,
+            base: 0,
+            added: 0,
+        };
+    }
+    let n = g.n;
+    dies::ranges::order_ranges(work, 0, n);
+    let k = dies::ranges::merge_ranges(work, 0, n);
+    Extents {
+        fast: true,
+        functions: k,
+        base: n * RANGE_SIZE,
+        added: 0,
+    }
+}
+
+// Whether a record in the first `at` bytes of the result holds an address: by the tables, or by a walk.
+pub fn is_held_with(result: &[u8], at: usize, address: u64, work: &[u8], e: Extents) -> bool
+    requires { ⌜ Standing (now result) at ⌝ }
+    requires { ⌜ Known (rangesIn (take at (now result))) (now work) e ⌝ }
+    ensures { λ r. ⌜ r ≡ exists (holds address) (rangesIn (take at (now (result .entry)))) ⌝ }
+{
+    if !e.fast {
+        return crate::join::is_held(result, at, address);
+    }
+    if in_ranges(work, 0, e.functions, address) {
+        return true;
+    }
+    in_ranges(work, e.base, e.added, address)
+}
+
+// The tables with the range of a symbol that was joined.
+pub fn remember(work: &mut [u8], e: Extents, range: AddressRange) -> Extents
+    requires { ⌜ Nonempty range ⌝ }
+    requires { ⌜ Lying (now work) e ⌝ }
+    ensures { λ r. ⌜ Remembered (now (work .entry)) (now (work .exit)) e range r ⌝ }
+{
+    if !e.fast {
+        return e;
+    }
+    let base = e.base;
+    let added = e.added;
+    if work.len() - (base + added * RANGE_SIZE) < RANGE_SIZE {
+        return Extents {
+            fast: false,
+            functions: 0,
+            base: 0,
+            added: 0,
+        };
+    }
+    let n = dies::ranges::add_range(work, base, added, range);
+    Extents {
+        fast: true,
+        functions: e.functions,
+        base: base,
+        added: n,
+    }
+}
