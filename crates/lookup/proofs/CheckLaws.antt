@@ -17,7 +17,7 @@ use Rattle.tlv.specs.Reader.{recordsAfter, rangeFormed, recordsFormed, depthAft
 use Rattle.tlv.proofs.TestLaws.{and-left, and-right}
 use Rattle.tlv.proofs.CursorLaws.{fields-at}
 use Rattle.tlv.proofs.ShapeLaws.{part-length, number-at, number-first}
-use Rattle.lookup.specs.Tray.{trayRowSize}
+use Rattle.tlv.specs.Output.{trayRowSize}
 
 module _ (s : List ℕ) (start len : ℕ) (fits : start + len ≤ length s) where
   pub range-is : (a b : ℕ) → 16 ≤ len → a ≡ leAt 8 s start → b ≡ leAt 8 s (start + 8) → ltb a b ≡ rangeFormed (take len (drop start s))

@@ -13,7 +13,7 @@ use Rattle.tlv.specs.Bytes.{leAt}
 use Rattle.tlv.specs.Fields.{FieldList, fields}
 use Rattle.tlv.specs.Reader.{recordsAfter, rangeFormed, recordsFormed}
 use Rattle.tlv.proofs.TestLaws.{and-left, and-right}
-use Rattle.lookup.specs.Tray.{trayRowSize}
+use Rattle.tlv.specs.Output.{trayRowSize}
 use Rattle.lookup.specs.Form.{NodeParts, FunctionParts, tagged, nodesFields, trayFields, ended, StartsBelow, FunctionPayload, RowPayload, RangePayload}
 use Rattle.lookup.specs.Form.{SitePayload, NodeFormed, DepthsAfter, Depths, depthIn, FunctionFormed}
 use Rattle.lookup.proofs.FormLaws.{Ordered}

@@ -12,7 +12,7 @@ use Rattle.tlv.specs.Bytes.{leAt}
 use Rattle.tlv.specs.Fields.{Field, FieldList, end, cut, more, fields}
 use Rattle.tlv.specs.Reader.{recordsAfter, rangeFormed, recordsFormed, depthAfter, recordsForm}
 use Rattle.tlv.proofs.TestLaws.{and-left, and-right}
-use Rattle.lookup.specs.Tray.{trayRowSize}
+use Rattle.tlv.specs.Output.{trayRowSize}
 use Rattle.lookup.specs.Form.{NodeParts, tagged, nodesFields, trayFields, ended, depthIn, InForm}
 use Rattle.lookup.proofs.FormLaws.{node-ordered}
 use Rattle.lookup.proofs.ClauseLaws.{Stage, at-start, in-rows, at-node, in-ranges, in-sites, stageOf, after, after-is, Allowed, allowed-end}

@@ -13,7 +13,7 @@ use Rattle.tlv.specs.Bytes.{leAt}
 use Rattle.tlv.specs.Fields.{Field, FieldList, end, more, fields}
 use Rattle.tlv.specs.Reader.{recordsAfter, rangeFormed, recordsFormed, depthAfter, recordsForm}
 use Rattle.tlv.proofs.RecordForm.{Ready, functionNext, siteNext, nodeNext}
-use Rattle.lookup.specs.Tray.{trayRowSize}
+use Rattle.tlv.specs.Output.{trayRowSize}
 use Rattle.lookup.specs.Form.{NodeParts, FunctionParts, tagged, nodesFields, trayFields, ended, FunctionPayload, RowPayload, RangePayload, SitePayload}
 use Rattle.lookup.specs.Form.{NodeFormed, DepthsAfter, Depths, depthIn, FunctionFormed, InForm, FormIs}
 use Rattle.lookup.proofs.FormLaws.{Ordered}

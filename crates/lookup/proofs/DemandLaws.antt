@@ -24,7 +24,7 @@ use Rattle.imports.specs.Ranges.{Holds}
 use Rattle.imports.specs.Import.{rooted}
 use Rattle.imports.specs.Answer.{Inputs, dwarfOf, after}
 use Rattle.imports.specs.Agree.{TreeNode, treeEntries, treeNode, rootOf, Fits, against, entry, TreeAgrees}
-use Rattle.imports.specs.Demand.{Subject, subjects, RecordAgrees, Pointwise, Finished}
+use Rattle.imports.specs.Demand.{Subject, subjects, RecordAgrees, Pointwise, ChosenAgrees, Finished}
 use Rattle.imports.proofs.Demand.{demand}
 use Rattle.lookup.specs.Tray.{GroupAt, group, functionsAt, nodesAt, functionRange, node, functionsOf}
 use Rattle.lookup.specs.Lookup.{holds, nodeHolds, chainFrom, chain, Frames, framesOf, qualifying, lookUp}
@@ -196,6 +196,25 @@ module _ (i : Inputs) (tray : List ℕ) (w : WrittenBy i tray) where
       go true e = sym (Option·some-injective _ _ e)
       go false e = absurd (Option·none-ne-some _ e)
 
+  -- the unit that was asked for, whose subjects the records answer for
+  pub record Asked (f : Finished i) : Type 0 where
+    pub unit : CompilationUnit
+    pub chosen : at (units (i .main)) (i .ordinal) ≡ some unit
+    pub agree : Pointwise (RecordAgrees (dwarfOf i) unit true) (subjects (dwarfOf i) unit) (f .state .records)
+
+  -- there is one, or the package has no debug data and there is no record
+  pub asked : (f : Finished i) → Asked f ⊎ ((at (units (i .main)) (i .ordinal) ≡ none) × (f .state .records ≡ []))
+  asked f = go (at (units (i .main)) (i .ordinal)) refl (f .agree)
+    where
+      go : (o : Option CompilationUnit) → at (units (i .main)) (i .ordinal) ≡ o → ChosenAgrees i o (f .state .records)
+          → Asked f ⊎ ((at (units (i .main)) (i .ordinal) ≡ none) × (f .state .records ≡ []))
+      go none e c = inr (e, c .2)
+      go (some u) e c = inl (record {
+        unit = u;
+        chosen = e;
+        agree = subst (λ (b : Bool). Pointwise (RecordAgrees (dwarfOf i) u b) (subjects (dwarfOf i) u) (f .state .records)) (w .inlines) c;
+      })
+
   pub found-one : (fs : List GroupAt) → functionsOf tray ≡ done fs → fs ≡ functionsAt tray
   unfolding functionsOf
   found-one fs = go (recordsForm 0 0 (fields tray))
@@ -205,19 +224,21 @@ module _ (i : Inputs) (tray : List ℕ) (w : WrittenBy i tray) where
       go false e = refused-not e
 
 module _ (i : Inputs) (tray : List ℕ) (a : ℕ) (x : Frames) (w : WrittenBy i tray) where
-  explained : (g : GroupAt) (k : ℕ) → at (functionsAt tray) k ≡ some g → framesOf a g ≡ x → Explained i tray a x
+  -- record k of the import is what the function at number k says
+  told : (f : Finished i) (g : GroupAt) (k : ℕ) → at (functionsAt tray) k ≡ some g → at (f .state .records) k ≡ some (functionOf (group g))
+  told f g k e =
+      subst (λ (l : List Function). at l k ≡ some (functionOf (group g))) (sym (records-are i tray w f))
+      (at-map (λ h. functionOf (group h)) (functionsAt tray) k g e)
+
+  by-unit : (f : Finished i) (u : Asked i tray w f) (g : GroupAt) (k : ℕ) → at (functionsAt tray) k ≡ some g → framesOf a g ≡ x → Explained i tray a x
   unfolding framesOf chain
-  explained g k e q =
-      let f = demand i (w .lent) (w .finished) in
-      let is = subst (λ (l : List Function). at l k ≡ some (functionOf (group g))) (sym (records-are i tray w f))
-      (at-map (λ h. functionOf (group h)) (functionsAt tray) k g e) in
-      let agree = subst (λ (b : Bool). Pointwise (RecordAgrees (dwarfOf i) (f .unit) b) (subjects (dwarfOf i) (f .unit)) (f .state .records)) (w .inlines)
-      (f .agree) in
-      let s = pointwise-at (RecordAgrees (dwarfOf i) (f .unit) true) (subjects (dwarfOf i) (f .unit)) (f .state .records) k (functionOf (group g)) agree is in
+  by-unit f u g k e q =
+      let s = pointwise-at (RecordAgrees (dwarfOf i) (u .unit) true) (subjects (dwarfOf i) (u .unit)) (f .state .records) k (functionOf (group g)) (u .agree)
+      (told f g k e) in
       let t = s .2 .tree refl in
       record {
-        unit = f .unit;
-        chosen = f .chosen;
+        unit = u .unit;
+        chosen = u .chosen;
         number = k;
         subject = s .0;
         asked = s .1;
@@ -228,9 +249,17 @@ module _ (i : Inputs) (tray : List ℕ) (a : ℕ) (x : Frames) (w : WrittenBy i 
         nodes = t .0;
         tree = t .2;
         inline = t .1;
-        below = subst (λ (l : List ℕ). All (Kept-here i (f .unit) (s .0 .number) g a (t .0) (t .1) (t .2)) (drop 1 l)) (ap (λ (y : Frames). y .chain) q)
-            (all-map (drop 1 (chainFrom a 0 (nodesAt g))) (kept-here i (f .unit) (s .0 .number) g a (t .0) (t .1) (t .2)) (rest-held a 0 (nodesAt g)));
+        below = subst (λ (l : List ℕ). All (Kept-here i (u .unit) (s .0 .number) g a (t .0) (t .1) (t .2)) (drop 1 l)) (ap (λ (y : Frames). y .chain) q)
+            (all-map (drop 1 (chainFrom a 0 (nodesAt g))) (kept-here i (u .unit) (s .0 .number) g a (t .0) (t .1) (t .2)) (rest-held a 0 (nodesAt g)));
       }
+
+  explained : (g : GroupAt) (k : ℕ) → at (functionsAt tray) k ≡ some g → framesOf a g ≡ x → Explained i tray a x
+  unfolding at
+  explained g k e q = let f = demand i (w .lent) (w .finished) in go f (asked i tray w f)
+    where
+      go : (f : Finished i) → Asked i tray w f ⊎ ((at (units (i .main)) (i .ordinal) ≡ none) × (f .state .records ≡ [])) → Explained i tray a x
+      go f (inl u) = by-unit f u g k e q
+      go f (inr h) = absurd (Option·none-ne-some _ (subst (λ (l : List Function). at l k ≡ some (functionOf (group g))) (h .1) (told f g k e)))
 
   by-first : (o : Option GroupAt) → first (λ f. holds a (functionRange f)) (functionsAt tray) ≡ o → qualifying (framesOf a) o ≡ done x → Explained i tray a x
   by-first none e q = refused-not q

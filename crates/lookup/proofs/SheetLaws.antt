@@ -11,7 +11,7 @@ use Rattle.tlv.specs.declared.model.AddressRange.{AddressRange}
 use Rattle.tlv.specs.Addresses.{RangeHolds}
 use Rattle.tlv.specs.Outcome.{Outcome, refused, done, _>>=_}
 use Rattle.tlv.specs.Lists.{All, at, first, mapOption}
-use Rattle.tlv.specs.Model.{CompilationUnit}
+use Rattle.tlv.specs.Model.{CompilationUnit, units}
 use Rattle.tlv.specs.Fields.{fields}
 use Rattle.tlv.specs.Output.{InlineNode, Function}
 use Rattle.tlv.specs.Reader.{recordsForm, readRecords, functionOf}
@@ -29,7 +29,7 @@ use Rattle.lookup.specs.Demand.{WrittenBy}
 use Rattle.lookup.specs.Sheet.{HoldsUnder, EntriesUnder, no-more, NodesAt, ChainPlaces, bare, rooted-at, FirstSubject, Framed, Unheld, Answered}
 use Rattle.lookup.specs.Sheet.{FromSheet}
 use Rattle.lookup.proofs.ReadLaws.{reads-functions, reads-nodes}
-use Rattle.lookup.proofs.DemandLaws.{at-map, pointwise-at, records-are}
+use Rattle.lookup.proofs.DemandLaws.{at-map, pointwise-at, records-are, Asked, asked}
 use Rattle.lookup.proofs.FormLaws.{chaining}
 use Rattle.lookup.proofs.RowMeans.{function-is, row-is}
 use Rattle.lookup.proofs.SheetChain.{length-tree, Paired, Inwards, inwards}
@@ -108,12 +108,9 @@ module _ (g : GroupAt) (r : AddressRange) (name : List ℕ) (us : List TreeEntry
 
 -- ---- the whole
 
-module _ (i : Inputs) (tray : List ℕ) (a : ℕ) (w : WrittenBy i tray) (f : Finished i) where
+module _ (i : Inputs) (tray : List ℕ) (a : ℕ) (w : WrittenBy i tray) (f : Finished i) (asks : Asked i tray w f) where
   abbrev told : List Subject
-  told = subjects (dwarfOf i) (f .unit)
-
-  agree : Pointwise (RecordAgrees (dwarfOf i) (f .unit) true) told (f .state .records)
-  agree = subst (λ (b : Bool). Pointwise (RecordAgrees (dwarfOf i) (f .unit) b) told (f .state .records)) (w .inlines) (f .agree)
+  told = subjects (dwarfOf i) (asks .unit)
 
   -- subject m and function m have one range
   record Facing (m : ℕ) (k : Subject) : Type 0 where
@@ -124,7 +121,7 @@ module _ (i : Inputs) (tray : List ℕ) (a : ℕ) (w : WrittenBy i tray) (f : Fi
   facing : (m : ℕ) (k : Subject) → at told m ≡ some k → Facing m k
   unfolding functionOf
   facing m k e =
-      let p = pointwise-left (RecordAgrees (dwarfOf i) (f .unit) true) told (f .state .records) m k agree e in
+      let p = pointwise-left (RecordAgrees (dwarfOf i) (asks .unit) true) told (f .state .records) m k (asks .agree) e in
       let at-map-is = subst (λ (l : List Function). at l m ≡ some (p .0)) (records-are i tray w f) (p .1) in
       let q = mapped (λ h. functionOf (group h)) (at (functionsAt tray) m) (p .0)
       (sym (at-image (λ h. functionOf (group h)) (functionsAt tray) m) ∙ at-map-is) in
@@ -140,13 +137,13 @@ module _ (i : Inputs) (tray : List ℕ) (a : ℕ) (w : WrittenBy i tray) (f : Fi
       let k = h .number in
       let is = subst (λ (l : List Function). at l k ≡ some (functionOf (group g))) (sym (records-are i tray w f))
       (at-map (λ h. functionOf (group h)) (functionsAt tray) k g (h .numbered)) in
-      let s = pointwise-at (RecordAgrees (dwarfOf i) (f .unit) true) told (f .state .records) k (functionOf (group g)) agree is in
+      let s = pointwise-at (RecordAgrees (dwarfOf i) (asks .unit) true) told (f .state .records) k (functionOf (group g)) (asks .agree) is in
       let t = s .2 .tree refl in
-      let all = chain-of g (functionRange g) (functionOf (group g) .name) (treeEntries (dwarfOf i) (f .unit)) (s .0 .number) a (h .holding) (t .0) (t .2)
+      let all = chain-of g (functionRange g) (functionOf (group g) .name) (treeEntries (dwarfOf i) (asks .unit)) (s .0 .number) a (h .holding) (t .0) (t .2)
       (t .1) c in
       record {
-        unit = f .unit;
-        chosen = f .chosen;
+        unit = asks .unit;
+        chosen = asks .chosen;
         number = k;
         subject = s .0;
         asked = record {
@@ -177,10 +174,9 @@ module _ (i : Inputs) (tray : List ℕ) (a : ℕ) (w : WrittenBy i tray) (f : Fi
 
   unheld-all : All (λ g. ¬ RangeHolds (functionRange g) a) (functionsAt tray) → Unheld i a
   unheld-all h = record {
-    unit = f .unit;
-    chosen = f .chosen;
-    none = none-holds h told (λ m k e y. let z = facing m k e in given-some (λ g. ¬ RangeHolds (functionRange g) a) (at (functionsAt tray) m) (z .one)
-        (all-at (λ g. ¬ RangeHolds (functionRange g) a) (functionsAt tray) m h) (z .numbered) (holds-too m k z y));
+    none = λ u e. subst (λ (x : CompilationUnit). All (λ k. ¬ RangeHolds (k .range) a) (subjects (dwarfOf i) x)) (Option·some-injective _ _ (sym (asks .chosen) ∙ e))
+        (none-holds h told (λ m k e y. let z = facing m k e in given-some (λ g. ¬ RangeHolds (functionRange g) a) (at (functionsAt tray) m) (z .one)
+        (all-at (λ g. ¬ RangeHolds (functionRange g) a) (functionsAt tray) m h) (z .numbered) (holds-too m k z y)));
   }
 
   by-first : (o : Option GroupAt) → HoldingIs a (functionsAt tray) o → All (λ g. Chained g a) (functionsAt tray) → Answered i tray a (qualifying (framesOf a) o)
@@ -188,6 +184,11 @@ module _ (i : Inputs) (tray : List ℕ) (a : ℕ) (w : WrittenBy i tray) (f : Fi
   by-first (some g) h c = framed g (framesOf a g) h (given-some (λ x. Chained x a) (at (functionsAt tray) (h .number)) g
       (all-at (λ x. Chained x a) (functionsAt tray) (h .number) c) (h .numbered)) refl
 
+map-empty : (xs : List GroupAt) → map (λ g. functionOf (group g)) xs ≡ [] → xs ≡ []
+map-empty [] e = refl
+map-empty (x ∷ xs) e = absurd (cons≢nil e)
+
+module _ (i : Inputs) (tray : List ℕ) (a : ℕ) (w : WrittenBy i tray) (f : Finished i) where
   -- the tray is in document 01's form
   formed : recordsForm 0 0 (fields tray) ≡ true
   formed = go (recordsForm 0 0 (fields tray)) (sym (reads-functions tray) ∙ ap readRecords (w .tray-is) ∙ f .records)
@@ -196,11 +197,22 @@ module _ (i : Inputs) (tray : List ℕ) (a : ℕ) (w : WrittenBy i tray) (f : Fi
       go true e = refl
       go false e = absurd (Option·none-ne-some _ e)
 
+  -- a package without debug data has no function, and no unit
+  by-unit : Asked i tray w f ⊎ ((at (units (i .main)) (i .ordinal) ≡ none) × (f .state .records ≡ [])) → functionsOf tray ≡ done (functionsAt tray)
+      → Answered i tray a (qualifying (framesOf a) (first (λ g. holds a (functionRange g)) (functionsAt tray)))
+  unfolding first
+  by-unit (inl u) e =
+      by-first i tray a w f u (first (λ g. holds a (functionRange g)) (functionsAt tray)) (function-is a (functionsAt tray)) (chaining tray (functionsAt tray) a e)
+  by-unit (inr h) e =
+      subst (λ (l : List GroupAt). Answered i tray a (qualifying (framesOf a) (first (λ g. holds a (functionRange g)) l)))
+      (sym (map-empty (functionsAt tray) (sym (records-are i tray w f) ∙ h .1)))
+      (refl, record { none = λ u q. absurd (Option·none-ne-some u (sym (h .0) ∙ q)) })
+
   pub answered : Answered i tray a (lookUp tray a)
   unfolding lookUp functionsOf _>>=_
   answered =
       let e : functionsOf tray ≡ done (functionsAt tray) = rw formed in
-      rw formed (by-first (first (λ g. holds a (functionRange g)) (functionsAt tray)) (function-is a (functionsAt tray)) (chaining tray (functionsAt tray) a e))
+      rw formed (by-unit (asked i tray w f) e)
 
 pub from-sheet : FromSheet
 from-sheet i tray a w = answered i tray a w (demand i (w .lent) (w .finished))

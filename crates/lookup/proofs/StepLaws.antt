@@ -19,7 +19,8 @@ use Rattle.tlv.specs.Reader.{recordsAfter, rangeFormed, recordsFormed, depthAft
 use Rattle.tlv.proofs.TestLaws.{and-left, and-right}
 use Rattle.tlv.proofs.CursorLaws.{fields-at, fields-field, field-within, payload-within, payload-length, next-within}
 use Rattle.tlv.proofs.ShapeLaws.{part-length, number-at, number-first}
-use Rattle.lookup.specs.Tray.{trayRowSize, FieldAt, GroupAt, fieldsAt, groupsAt}
+use Rattle.tlv.specs.Output.{trayRowSize}
+use Rattle.lookup.specs.Tray.{FieldAt, GroupAt, fieldsAt, groupsAt}
 use Rattle.lookup.specs.Lookup.{holds}
 use Rattle.lookup.specs.Walk.{Stands, ownAt}
 

@@ -10,7 +10,7 @@ use Rattle.tlv.specs.Lists.{All}
 use Rattle.tlv.specs.Bytes.{leAt}
 use Rattle.tlv.specs.Fields.{Field, FieldList, end, more, fields}
 use Rattle.tlv.specs.Reader.{recordsForm}
-use Rattle.lookup.specs.Tray.{trayRowSize}
+use Rattle.tlv.specs.Output.{trayRowSize}
 
 -- ---- "fields in its order": the payloads of a tray's fields, function by function
 

@@ -91,11 +91,9 @@ pub record Framed (i : Inputs) (tray : List ℕ) (a : ℕ) (x : Frames) : Type 0
   pub chain : EntriesUnder (treeEntries (dwarfOf i) unit) (subject .number) (tree .merged) a none entries
   pub places : ChainPlaces found (tree .entryOf) (length nodes) entries (x .chain)
 
--- no subject of the unit holds the address
+-- no subject of the unit holds the address; a package without debug data (document 02, E4) has no unit
 pub record Unheld (i : Inputs) (a : ℕ) : Type 0 where
-  pub unit : CompilationUnit
-  pub chosen : at (units (i .main)) (i .ordinal) ≡ some unit
-  pub none : All (λ k. ¬ RangeHolds (k .range) a) (subjects (dwarfOf i) unit)
+  pub none : (u : CompilationUnit) → at (units (i .main)) (i .ordinal) ≡ some u → All (λ k. ¬ RangeHolds (k .range) a) (subjects (dwarfOf i) u)
 
 abbrev pub Answered : Inputs → List ℕ → ℕ → Outcome Frames → Type 0
 Answered i tray a (done x) = Framed i tray a x

@@ -16,7 +16,7 @@ pub const SITE_TAG: u8 = 0x45;
 // How long their payloads are: a row's and a range's just so, the others' at the least, since a name or a pattern follows.
 pub const FUNCTION_SIZE: usize = 16;
 
-pub const ROW_SIZE: usize = 16;
+pub const ROW_SIZE: usize = tlv::output::TRAY_ROW as usize;
 
 pub const NODE_SIZE: usize = 10;
 
