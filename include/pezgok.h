@@ -53,6 +53,32 @@ uint8_t pezgok_measure(
     uint8_t *work, size_t work_len,
     uint64_t values[PEZGOK_VALUES]);
 
+/* ---- Look-ups in a records buffer that an import wrote, of as many bytes as it said, or in any other bytes. Finds are byte places of fields in the
+ * buffer. Returns 0, or 19 where the bytes are no records, 16 where a list is too short, 20 where no function qualifies. The same is owed of slices
+ * and pointers as above. */
+
+/* Where found has what; the place of a row is 0 where there is none. */
+enum { PEZGOK_FUNCTION, PEZGOK_HAS_ROW, PEZGOK_ROW, PEZGOK_NODES, PEZGOK_FOUND };
+
+/* The most nodes that a chain has. */
+#define PEZGOK_CHAIN 257
+
+/* What is running at an address: the first function of the buffer that holds it, its last row at or below it, and its inlined calls that hold it,
+ * outermost first, the function's own node before them. Places of chain that are not of it are 0; after a refusal all are, and found too. */
+uint8_t pezgok_look_up(const uint8_t *records, size_t records_len, uint64_t address, size_t found[PEZGOK_FOUND], size_t chain[PEZGOK_CHAIN]);
+
+/* The function that ends last at or below an address, the first of the buffer among equals; 0 after a refusal. */
+uint8_t pezgok_nearest_below(const uint8_t *records, size_t records_len, uint64_t address, size_t *place);
+
+/* Writes the fields of the functions of which no address is outside the window from start to below end, in the buffer's order, and their length; bytes
+ * past it stay. After a refusal the list holds only 0, and length is 0. */
+uint8_t pezgok_functions_inside(
+    const uint8_t *records, size_t records_len, uint64_t start, uint64_t end, uint8_t *list, size_t list_len, size_t *length);
+
+/* The same of the functions that share an address with the window and reach outside it. */
+uint8_t pezgok_functions_crossing(
+    const uint8_t *records, size_t records_len, uint64_t start, uint64_t end, uint8_t *list, size_t list_len, size_t *length);
+
 /* Writes the word for a refusal's number to name, as far as it fits, and returns its whole length; 0 if it is no refusal's. No byte 0 is added. */
 size_t pezgok_refusal_name(uint8_t refusal, uint8_t *name, size_t name_len);
 

@@ -1,7 +1,9 @@
 //! Safe calls of the proved import: one unit of a main input, with a supplementary one and a line program, to records, files and warnings.
-//! [`measure`] says how long the buffers must be, [`import`] fills them.
+//! [`measure`] says how long the buffers must be, [`import`] fills them; [`look`] asks the records what is running at an address.
 
 use std::fmt;
+
+pub mod look;
 
 mod sys {
     unsafe extern "C" {
@@ -91,7 +93,7 @@ pub struct Finished {
     pub rejected_ranges: u64,
 }
 
-/// Why an import was refused: a number from 1 to 18. Its three output buffers then hold only 0.
+/// Why a call was refused: a number from 1 to 18 of an import, whose three output buffers then hold only 0; 16, 19 or 20 of a look-up.
 #[derive(Clone, Copy, Debug, Eq, PartialEq)]
 pub struct Refusal(u8);
 

@@ -1,11 +1,8 @@
 -- The answer of an import as numbers, and the numbers that are no refusal's. Assumes nothing.
 use mathlib.Core.Path.{_≡_, sym, subst, ap, _∙_}
-use mathlib.Core.Bool.{false}
 use mathlib.Core.List.{List, [], _∷_}
-use Prim.Native.Nat.{ℕ, suc, _≤_, _<_}
+use Prim.Native.Nat.{ℕ, suc, _<_}
 use native.Mathlib.Omega.{arith}
-use lib.Dec.{eqb}
-use borrow.Author.Tests.{ne-eqb}
 use Rattle.imports.specs.Answer.{Inputs, Answer, noStats}
 use Rattle.dwarf.specs.declared.model.ConversionStats.{ConversionStats}
 use Rattle.dwarf.specs.declared.model.Refusal.{Refusal}
@@ -46,10 +43,3 @@ no-word-below n h = rw (the-zero n h)
   where
     the-zero : (n : ℕ) → n < 1 → n ≡ 0
     the-zero n h = omega arith
-
-pub no-word-above : (n : ℕ) → 19 ≤ n → refusalWord n ≡ []
-unfolding refusalWord
-no-word-above n h = rw (other 1 (omega arith), other 2 (omega arith), other 3 (omega arith), other 4 (omega arith), other 5 (omega arith), other 6 (omega arith), other 7 (omega arith), other 8 (omega arith), other 9 (omega arith), other 10 (omega arith), other 11 (omega arith), other 12 (omega arith), other 13 (omega arith), other 14 (omega arith), other 15 (omega arith), other 16 (omega arith), other 17 (omega arith), other 18 (omega arith))
-  where
-    other : (k : ℕ) → k < n → eqb n k ≡ false
-    other k h = ne-eqb n k (λ e. omega (arith, e))

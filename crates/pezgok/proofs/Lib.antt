@@ -1,1 +1,2 @@
 pub mod ExportLaws
+pub mod LookLaws

@@ -26,7 +26,7 @@ pub record Exports (i : Inputs) (w t f u values : List ℕ) (r : ℕ) : Type 0 w
 pub record ExportsMeasure (i : Inputs) (w values : List ℕ) (r : ℕ) : Type 0 where
   pub is : record { answer = answerIn r values; work = w } ≡ measure i
 
--- ---- document 01's words for the refusals, as bytes
+-- ---- words for the refusals, as bytes: document 01's, and two for document 02's 19 and 20
 
 unfoldable pub refusalWord : ℕ → List ℕ
 refusalWord n =
@@ -48,4 +48,6 @@ refusalWord n =
     (cond (eqb n 16) (115 ∷ 104 ∷ 111 ∷ 114 ∷ 116 ∷ 32 ∷ 116 ∷ 114 ∷ 97 ∷ 121 ∷ [])  -- short tray
     (cond (eqb n 17) (115 ∷ 104 ∷ 111 ∷ 114 ∷ 116 ∷ 32 ∷ 116 ∷ 114 ∷ 97 ∷ 121 ∷ [])  -- short tray
     (cond (eqb n 18) (115 ∷ 104 ∷ 111 ∷ 114 ∷ 116 ∷ 32 ∷ 116 ∷ 114 ∷ 97 ∷ 121 ∷ [])  -- short tray
-    [])))))))))))))))))
+    (cond (eqb n 19) (109 ∷ 105 ∷ 115 ∷ 115 ∷ 104 ∷ 97 ∷ 112 ∷ 101 ∷ 110 ∷ 32 ∷ 114 ∷ 101 ∷ 99 ∷ 111 ∷ 114 ∷ 100 ∷ 115 ∷ [])  -- misshapen records
+    (cond (eqb n 20) (110 ∷ 111 ∷ 32 ∷ 102 ∷ 117 ∷ 110 ∷ 99 ∷ 116 ∷ 105 ∷ 111 ∷ 110 ∷ [])  -- no function
+    [])))))))))))))))))))

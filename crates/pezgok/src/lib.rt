@@ -7,6 +7,8 @@ ghost use Rattle.dwarf.specs.Answers.{answerGiven, inputsOf};
 ghost use Rattle.pezgok.specs.Exported.{answerIn, Exports, ExportsMeasure, refusalWord};
 use dwarf::model::Imported;
 
+pub mod look;
+
 // An answer as numbers: returns the refusal's, 0 for none. `values` then has the lengths of records, files and warnings, then functions, line rows,
 // inline nodes, rejected ranges; all 0 after a refusal.
 fn tell(answer: Imported, values: &mut [u64; 7]) -> u8
@@ -107,7 +109,10 @@ pub extern "C" fn pezgok_refusal_name(refusal: u8, name: &mut [u8]) -> usize
     if refusal < 10 {
         return early_name(refusal, name);
     }
-    late_name(refusal, name)
+    if refusal < 19 {
+        return late_name(refusal, name);
+    }
+    look::look_name(refusal, name)
 }
 
 fn early_name(refusal: u8, name: &mut [u8]) -> usize
@@ -129,7 +134,7 @@ fn early_name(refusal: u8, name: &mut [u8]) -> usize
 }
 
 fn late_name(refusal: u8, name: &mut [u8]) -> usize
-    requires { ⌜ 10 ≤ refusal ⌝ }
+    requires { ⌜ (10 ≤ refusal) × (refusal < 19) ⌝ }
     ensures { λ r. ⌜ Put 0 (refusalWord refusal) (now (name .entry)) (now (name .exit)) r ⌝ }
 {
     match refusal {
