@@ -18,6 +18,11 @@ pub fn answer(case: &Case) -> Answer {
 
 /// The answer of a call with other lengths of the three buffers.
 pub fn answer_in(case: &Case, lengths: [u32; 3]) -> Answer {
+    // The Rust, which imports a unit, has no answer to these.
+    #[cfg(not(feature = "plain"))]
+    if crate::requests::is_bare(case) {
+        return crate::requests::of_bare(case);
+    }
     inputs(case)
         .and_then(|(dwarf, ordinal)| finished(case, &dwarf, ordinal))
         .and_then(|imported| fitting(output::written(&imported, case.first_file), lengths))
@@ -26,7 +31,7 @@ pub fn answer_in(case: &Case, lengths: [u32; 3]) -> Answer {
 
 /// The parsed inputs and the unit's number, or refusals 1 to 5.
 pub fn inputs(case: &Case) -> Result<(Dwarf<Slice<'_>>, usize), u8> {
-    if case.main.len() > INPUT_LIMIT || case.supplementary.len() > INPUT_LIMIT || case.program.len() > PROGRAM_LIMIT {
+    if is_oversize(case) {
         return Err(1);
     }
     let main = parse(&case.main, &case.program, false)?;
@@ -37,6 +42,10 @@ pub fn inputs(case: &Case) -> Result<(Dwarf<Slice<'_>>, usize), u8> {
     }
     let sup = (!case.supplementary.is_empty()).then(|| Box::new(Dwarf::new(supplementary.units, None)));
     Ok((Dwarf::new(main.units, sup), ordinal))
+}
+
+pub fn is_oversize(case: &Case) -> bool {
+    case.main.len() > INPUT_LIMIT || case.supplementary.len() > INPUT_LIMIT || case.program.len() > PROGRAM_LIMIT
 }
 
 pub fn work_needed(fields: usize, program: usize) -> u64 {

@@ -49,6 +49,15 @@ rules! {
     BelowCompilation: "E3: a Windows path below the compilation directory",
     OneNumber: "E3: two Windows paths with one number",
     NoLetter: "E3: a colon behind no letter, left as before",
+    BareDone: "E4: a package without debug data done",
+    BareProgram: "E4: done, with a program that begins with a cut instruction",
+    BareSupplementary: "E4: done, with a supplementary input",
+    BareBuffers: "E4: done, with buffers of no byte",
+    BareOversize: "E4: refused with 1, the ordinal being another",
+    BareMisshapen: "E4: refused with 2 for the supplementary input, the ordinal being another and work short",
+    BarePastLimit: "E4: refused with 3 for the supplementary input, work being short",
+    BareOther: "E4: another ordinal refused with 4, work being short",
+    BareWork: "E4: refused with 5, work being a byte short",
     ColumnsDropped: "E7: exact neighbours with other columns drop, the first is left",
     FirstMoved: "E7: of exact neighbours with other columns the first is moved to the start",
     ColumnsMerged: "E7: neighbours of one file and line merge, whatever their columns",
@@ -164,6 +173,10 @@ fn examine(case: &Case, counts: &mut Counts, reached: &mut Reached) -> Result<()
     }
     counts.warnings.iter_mut().zip(kinds).for_each(|(count, kind)| *count += kind);
     requests::limits(case, &answer, reached);
+    if case.main.is_empty() {
+        requests::bare(case, answer.refusal, reached);
+        return Ok(());
+    }
     let Ok((dwarf, ordinal)) = inputs(case) else {
         return Ok(());
     };

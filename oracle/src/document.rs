@@ -1,5 +1,6 @@
 //! The cases of document 01's "Operands, paths and a printed import", each as an import, with the listing that
-//! it must print; that of a Windows path is request E3's, and the columns, all 0, are E7's.
+//! it must print; that of a Windows path is request E3's, and the columns, all 0, are E7's. Behind them those of request E4, a package
+//! without debug data.
 
 use crate::case::Case;
 use crate::compose::*;
@@ -38,6 +39,37 @@ pub fn cases() -> Vec<Shown> {
         cases.push((name, call(main, &[]), listing.to_owned()));
     }
     cases.push(("4-8, 8-10, 20-30 merge to 4-10, 20-30", merged(), MERGED.to_owned()));
+    cases.extend(bare());
+    cases
+}
+
+/// E4: an empty main input, with each test that is left of it failing and passing, and each before those that follow it. Without any
+/// input it takes 32,768 bytes of work.
+fn bare() -> Vec<Shown> {
+    let unit = unit(0x2000).take();
+    let long = Fields::default().unit(0, 100, 5, 4).compilation_directory(&[b'a'; 6114]).take();
+    let done = "stats 0 0 0 0\n";
+    let case = |name, supplementary: &[u8], program: &[u8], ordinal, work, listing: &str| {
+        let case = Case { ordinal, work, ..Case::new(Vec::new(), supplementary.to_vec(), program.to_vec()) };
+        (name, case, listing.to_owned())
+    };
+    let mut cases = vec![
+        case("E4: done, with buffers of no byte", &[], &[], 0, 32_768, done),
+        case("E4: work a byte short", &[], &[], 0, 32_767, "refused 5\n"),
+        case("E4: a cut instruction that is not read", &[], &[0], 0, 32_772, done),
+        case("E4: the program's bytes count in work", &[], &[0], 0, 32_771, "refused 5\n"),
+        case("E4: a supplementary input, sound", &unit, &[0, 0], 0, 64 * 2 + 8 + 32_768, done),
+        case("E4: its fields count in work", &unit, &[0, 0], 0, 64 * 2 + 8 + 32_767, "refused 5\n"),
+        case("E4: a supplementary input past a limit, before 5", &long, &[], 0, 0, "refused 3\n"),
+        case("E4: another ordinal", &unit, &[0], 1, 57_344, "refused 4\n"),
+        case("E4: another ordinal, before 5", &[], &[], 1, 0, "refused 4\n"),
+        case("E4: an ordinal whose lower half is 0", &[], &[], 1 << 32, 32_768, "refused 4\n"),
+        case("E4: the largest ordinal", &[], &[], u64::MAX, 32_768, "refused 4\n"),
+        case("E4: a supplementary input, misshapen, before 4 and 5", &[0x10], &[], 1, 0, "refused 2\n"),
+        case("E4: a supplementary input past a limit, before 4 and 5", &long, &[], 1, 0, "refused 3\n"),
+    ];
+    let first = &mut cases[0].1;
+    (first.records, first.files, first.warnings) = (0, 0, 0);
     cases
 }
 

@@ -14,6 +14,9 @@ const LAST: u64 = u64::MAX;
 pub fn case(seed: u64, number: u64) -> Case {
     let mut random = Random::new(seed, number);
     let kind = random.below(100);
+    if kind == 99 {
+        return bare(&mut random);
+    }
     let mut case = if kind < 25 { limits::case(&mut random) } else { sound(&mut random) };
     if (25..40).contains(&kind) {
         damage(&mut random, &mut case);
@@ -39,6 +42,26 @@ fn fit(random: &mut Random, case: &mut Case) {
         let length = bytes.len() as u32;
         if short == 5 || short == place { length.saturating_sub(1) } else { length + random.pick(&[0, 0, 1, 40]) }
     });
+}
+
+/// E4's packages without debug data, with what is still tested of them: sound and damaged supplementary inputs, programs of any bytes,
+/// work around its length, at times another ordinal or a main input that is not empty.
+fn bare(random: &mut Random) -> Case {
+    let mut other = sound(random);
+    match random.below(8) {
+        0..3 => other.main.clear(),
+        3..6 => damage(random, &mut other),
+        6 => other.main = Fields::default().unit(0, 100, 5, 4).compilation_directory(&[b'a'; 6114]).take(),
+        _ => {}
+    }
+    let program = (0..random.pick(&[0, 0, 1, 3, 20])).map(|_| random.pick(&[0, 0, 1, 2, 0x80, 0xff])).collect();
+    let main = if random.chance(5) { vec![0x10] } else { Vec::new() };
+    let mut case = Case { main, supplementary: other.main, program, ..other };
+    case.ordinal = random.pick(&[0, 0, 0, 0, 1, LAST]);
+    let needed = work_needed(parse(&case.supplementary, &[], true).map_or(0, |input| input.fields), case.program.len());
+    case.work = random.pick(&[needed, needed, needed, needed + 4096, needed - 1, 0]);
+    [case.records, case.files, case.warnings] = [(); 3].map(|()| random.pick(&[0, 0, 1, 40]));
+    case
 }
 
 // ---- sound inputs

@@ -27,6 +27,10 @@ pub fn large() -> Vec<Case> {
         program(4_194_304),
         limited(65_536),
         limited(65_537),
+        // E4: the sizes of a package without debug data.
+        Case { ordinal: 7, ..Case::new(Vec::new(), vec![0x10; 16_777_217], Vec::new()) },
+        Case::new(Vec::new(), Vec::new(), vec![0; 4_194_305]),
+        Case { work: 4 * 4_194_304 + 32_768, ..Case::new(Vec::new(), Vec::new(), vec![0; 4_194_304]) },
     ]
 }
 

@@ -1,21 +1,34 @@
 //! What the change requests ask, written from their own words and from the Standard, for the amendments of the Rust's text to call;
 //! and which cases they set apart from the Rust's text as it stands.
 
-use crate::answer::inputs;
-use crate::case::Case;
+use crate::answer::{inputs, is_oversize, work_needed};
+use crate::case::{Answer, Case};
 use crate::error::{Error, Result};
+use crate::grammar::parse;
 use crate::model::LineEntry;
 use crate::stand_in::gimli::{AttributeValue, Dwarf, Slice};
 
-/// Whether a request is about what an import of the unit of this number reads.
-type Concerns = fn(&Dwarf<Slice<'_>>, usize) -> bool;
+/// What a request is about.
+#[derive(Clone, Copy)]
+pub enum Concerns {
+    /// What an import of the unit of this number reads.
+    Unit(fn(&Dwarf<Slice<'_>>, usize) -> bool),
+    /// A call whose ordinal names no unit.
+    NoUnit(fn(&Case) -> bool),
+}
 
 /// The requests that set cases apart.
-pub const REQUESTS: [(&str, Concerns); 2] = [("E2", pads_advance), ("E3", has_windows_path)];
+pub const REQUESTS: [(&str, Concerns); 3] =
+    [("E2", Concerns::Unit(pads_advance)), ("E3", Concerns::Unit(has_windows_path)), ("E4", Concerns::NoUnit(is_bare))];
 
 /// For each request whether it sets a case apart. An input that the grammar refuses is none's.
 pub fn set_apart(case: &Case) -> [bool; REQUESTS.len()] {
-    inputs(case).map_or([false; REQUESTS.len()], |(dwarf, ordinal)| REQUESTS.map(|(_, concerns)| concerns(&dwarf, ordinal)))
+    let read = inputs(case);
+    REQUESTS.map(|(_, concerns)| match (concerns, &read) {
+        (Concerns::Unit(concerns), Ok((dwarf, ordinal))) => concerns(dwarf, *ordinal),
+        (Concerns::NoUnit(concerns), Err(4)) => concerns(case),
+        _ => false,
+    })
 }
 
 // ---- E2: signed operands in line programs
@@ -148,6 +161,25 @@ fn has_windows_path(dwarf: &Dwarf<Slice<'_>>, _: usize) -> bool {
     let units = dwarf.units.iter().chain(dwarf.sup().into_iter().flat_map(|sup| &sup.units));
     let mut files = units.filter_map(|unit| unit.lines.as_ref()).flat_map(|header| header.file_zero.iter().chain(&header.files));
     files.any(|file| matches!(file.path, AttributeValue::String(path) if windows_root(path.0).is_some()))
+}
+
+// ---- E4: a package without debug data
+
+/// "With an empty main sheet and ordinal 0".
+pub fn is_bare(case: &Case) -> bool {
+    case.main.is_empty() && case.ordinal == 0
+}
+
+/// "The import is done, lengths and statistics are zero, and the line program is not read. Sizes, the supplementary sheet and the work
+/// length are still tested", in document 01's order.
+pub fn of_bare(case: &Case) -> Answer {
+    let refusal = match parse(&case.supplementary, &[], true) {
+        _ if is_oversize(case) => 1,
+        Err(refusal) => refusal,
+        Ok(supplementary) if case.work < work_needed(supplementary.fields, case.program.len()) => 5,
+        Ok(_) => 0,
+    };
+    Answer { refusal, ..Answer::default() }
 }
 
 // ---- E7: columns in the rows

@@ -41,8 +41,8 @@ fn units() {
     assert_eq!([unit(0, 0, 1, 4), unit(0, 0, 6, 4), unit(0, 0, 5, 5), unit(0, 0, 5, 0), unit(1, u64::MAX, 5, 4)], [2; 5]);
     assert_eq!([after_unit(|f| _ = f.unit(100, 5, 5, 4)), after_unit(|f| _ = f.unit(100, 0, 5, 4).unit(100, 1, 5, 4))], [0; 2]);
     assert_eq!(after_unit(|f| _ = f.unit(99, 5, 5, 4)), 2);
-    // No unit at all, and fields that are cut off, unknown, or too long by a byte.
-    assert_eq!(refusal(&[]), 4);
+    // No unit at all, which E4 finishes; fields that are cut off, unknown, or too long by a byte.
+    assert_eq!(refusal(&[]), 0);
     assert_eq!(
         [refusal(&[0x10]), refusal(&[0x10, 18]), refusal(&[0x10, 18, 0, 0]), refusal(&raw(0x1b, &[])), refusal(&raw(0, &[]))],
         [2; 5]
@@ -111,7 +111,7 @@ fn limits() {
         assert_eq!(after_unit(|f| _ = f.entry(0, 0, 1).string(7, text).entry(0, 0, 1)), if expected == 3 { 3 } else { 2 });
     }
     let refusals: Vec<u8> = crate::limits::large().iter().map(|case| answer(case).refusal).collect();
-    assert_eq!(refusals, [1, 1, 2, 1, 0, 0, 3]);
+    assert_eq!(refusals, [1, 1, 2, 1, 0, 0, 3, 1, 1, 0]);
 }
 
 #[test]

@@ -1,8 +1,9 @@
 //! What of the change requests the cases reach, judged by the requests' own words.
 
 use super::{Data, Reached, Rule, Value};
+use crate::answer::work_needed;
 use crate::case::{Answer, Case};
-use crate::compose::{DECL_COLUMN, STRING};
+use crate::compose::{DECL_COLUMN, STRING, field_count};
 use crate::convert::dwarf::Sequenced;
 use crate::grammar::field;
 use crate::model::{FileEntry, Function, LineEntry};
@@ -87,6 +88,27 @@ pub fn windows_paths(unit: &Data<'_>, header: &LineProgramHeader<Slice<'_>>, tab
         let Value::String(Slice(path)) = file.path else { continue };
         let drive = matches!(path, [letter, b':', b'\\', ..] if !letter.is_ascii_alphabetic()) && !path.contains(&b'/');
         reached.hit(Rule::NoLetter, drive && table.iter().any(|entry| entry.basename == path && entry.directory.is_empty()));
+    }
+}
+
+/// E4: a call with an empty main input.
+pub fn bare(case: &Case, refusal: u8, reached: &mut Reached) {
+    let first = case.ordinal == 0;
+    // Of an accepted supplementary input.
+    let needed = || work_needed(field_count(&case.supplementary), case.program.len());
+    match refusal {
+        0 => {
+            reached.hit(Rule::BareDone, true);
+            reached.hit(Rule::BareProgram, case.program == [0]);
+            reached.hit(Rule::BareSupplementary, !case.supplementary.is_empty());
+            reached.hit(Rule::BareBuffers, (case.records, case.files, case.warnings) == (0, 0, 0));
+        }
+        1 => reached.hit(Rule::BareOversize, !first),
+        2 => reached.hit(Rule::BareMisshapen, !first && case.work == 0),
+        3 => reached.hit(Rule::BarePastLimit, first && case.work < work_needed(0, case.program.len())),
+        4 => reached.hit(Rule::BareOther, !first && case.work < needed()),
+        5 => reached.hit(Rule::BareWork, first && case.work + 1 == needed()),
+        _ => {}
     }
 }
 
