@@ -5,7 +5,7 @@ use mathlib.Core.List.{List, [], _∷_}
 use mathlib.Core.Option.{Option, none}
 use Prim.Native.Nat.{ℕ, _+_, _≤_, _<_}
 use native.Mathlib.Omega.{arith}
-use lib.ListN.{length}
+use lib.ListN.{length, replicate}
 use lib.Dec.{ltb, eqb}
 use borrow.Author.Tests.{le-ltb, lt-ltb, ne-eqb}
 use Rattle.tlv.specs.Outcome.{Outcome, refused, done, _>>=_}
@@ -98,3 +98,24 @@ all-bare i e = record {
   work = λ n T z h. refused-is i e (by-work i e n T z (lt-ltb (length (i .work)) (workNeeded i n) h));
   other = λ n T h. refused-is i e (by-bare i e n T (λ k. isEmpty (e k) && ne-eqb (i .ordinal) 0 h k));
 }
+
+-- ---- computed, of calls without any input: the ordinal, the work length, the refusal
+
+abbrev refusalOf : ℕ → ℕ → ℕ
+refusalOf ordinal work = after (record {
+  main = [];
+  supplementary = [];
+  program = [];
+  ordinal = ordinal;
+  inlines = true;
+  callSites = true;
+  firstFile = 1;
+  work = replicate work 0;
+  records = [];
+  files = [];
+  warnings = [];
+}) .answer .refusal
+
+example-bare : (refusalOf 0 16384 ≡ 0) × (refusalOf 0 16383 ≡ 5) × (refusalOf 1 16384 ≡ 4) × (refusalOf 1 0 ≡ 4)
+unfolding checkInput fieldsFrom checkFrom units grouped wholeFields at _>>=_ oversize workNeeded initialState importOf written recordsBytes filesBytes warningsBytes eachOf fitting outcomeOf answerOf after
+example-bare = (refl, refl, refl, refl)
