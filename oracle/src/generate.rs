@@ -49,8 +49,9 @@ fn fit(random: &mut Random, case: &mut Case) {
 fn bare(random: &mut Random) -> Case {
     let mut other = sound(random);
     match random.below(8) {
-        0..3 => other.main.clear(),
-        3..6 => damage(random, &mut other),
+        0..2 => other.main.clear(),
+        2..5 => damage(random, &mut other),
+        5 => other.main = vec![0x10],
         6 => other.main = Fields::default().unit(0, 100, 5, 4).compilation_directory(&[b'a'; 6114]).take(),
         _ => {}
     }

@@ -104,7 +104,7 @@ pub fn bare(case: &Case, refusal: u8, reached: &mut Reached) {
             reached.hit(Rule::BareBuffers, (case.records, case.files, case.warnings) == (0, 0, 0));
         }
         1 => reached.hit(Rule::BareOversize, !first),
-        2 => reached.hit(Rule::BareMisshapen, !first && case.work == 0),
+        2 => reached.hit(Rule::BareMisshapen, !first && case.work < work_needed(0, case.program.len())),
         3 => reached.hit(Rule::BarePastLimit, first && case.work < work_needed(0, case.program.len())),
         4 => reached.hit(Rule::BareOther, !first && case.work < needed()),
         5 => reached.hit(Rule::BareWork, first && case.work + 1 == needed()),
