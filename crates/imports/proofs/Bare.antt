@@ -3,13 +3,14 @@ use mathlib.Core.Path.{_≡_, refl, sym, ap, _∙_}
 use mathlib.Core.Bool.{Bool, true, false, cond, _&&_}
 use mathlib.Core.List.{List, [], _∷_}
 use mathlib.Core.Option.{Option, none}
-use Prim.Native.Nat.{ℕ, _+_, _≤_, _<_}
+use Prim.Native.Nat.{ℕ, _+_, _-_, _≤_, _<_}
 use native.Mathlib.Omega.{arith}
 use lib.ListN.{length, replicate}
 use lib.Dec.{ltb, eqb}
 use borrow.Author.Tests.{le-ltb, lt-ltb, ne-eqb}
 use Rattle.tlv.specs.Outcome.{Outcome, refused, done, _>>=_}
 use Rattle.tlv.specs.Lists.{at, isEmpty}
+use Rattle.tlv.specs.Limits.{workBesides}
 use Rattle.tlv.specs.Fields.{grouped, fieldsFrom, wholeFields}
 use Rattle.tlv.specs.Grammar.{checkFrom, checkInput}
 use Rattle.tlv.specs.Model.{CompilationUnit, units}
@@ -116,6 +117,7 @@ refusalOf ordinal work = after (record {
   warnings = [];
 }) .answer .refusal
 
-example-bare : (refusalOf 0 16384 ≡ 0) × (refusalOf 0 16383 ≡ 5) × (refusalOf 1 16384 ≡ 4) × (refusalOf 1 0 ≡ 4)
-unfolding checkInput fieldsFrom checkFrom units grouped wholeFields at _>>=_ oversize workNeeded initialState importOf written recordsBytes filesBytes warningsBytes eachOf fitting outcomeOf answerOf after
+example-bare : (refusalOf 0 workBesides ≡ 0) × (refusalOf 0 (workBesides - 1) ≡ 5) × (refusalOf 1 workBesides ≡ 4) × (refusalOf 1 0 ≡ 4)
+unfolding checkInput fieldsFrom checkFrom units grouped wholeFields at _>>=_ oversize workNeeded initialState
+    importOf written recordsBytes filesBytes warningsBytes eachOf fitting outcomeOf answerOf after
 example-bare = (refl, refl, refl, refl)
