@@ -1,33 +1,25 @@
--- Tables of ranges: the ranges of a tray gathered and merged, one range more, whether an address is held. Assumes nothing.
-use mathlib.Core.Path.{_≡_, refl, sym, ap, subst, _∙_}
+-- Tables of ranges: those of a tray merged, one range more, whether an address is held. Assumes nothing.
+use mathlib.Core.Path.{_≡_, sym, ap, subst, _∙_}
 use mathlib.Core.Bool.{Bool, true, false, not, true≢false, false≢true}
 use mathlib.Core.Logic.{_⊎_, inl, inr, ⊎-elim, _↔_}
-use mathlib.Core.List.{List, [], _∷_, _++_, map, append-nil, append-assoc}
-use Prim.Native.Nat.{ℕ, _+_, _-_, _*_, _≤_, _<_}
+use mathlib.Core.List.{List, [], _∷_, _++_}
+use Prim.Native.Nat.{ℕ, _+_, _-_, _*_, _≤_}
 use native.Mathlib.Omega.{arith}
-use lib.Dec.{leb, ltb}
-use lib.ListN.{length, take, drop}
-use borrow.Author.Tests.{ltb-true, not-true, not-false}
-use Rattle.tlv.specs.declared.fields.Step.{Step}
+use lib.ListN.{length}
+use borrow.Author.Tests.{not-true, not-false}
 use Rattle.tlv.specs.declared.model.AddressRange.{AddressRange}
-use Rattle.tlv.specs.Addresses.{RangeHolds, Nonempty}
+use Rattle.tlv.specs.Addresses.{Nonempty}
 use Rattle.tlv.specs.Lists.{All, exists}
-use Rattle.tlv.specs.Bytes.{leAt}
-use Rattle.tlv.specs.Reader.{rangeFormed, recordsFormed}
-use Rattle.tlv.specs.Cursor.{stepAt}
-use Rattle.tlv.specs.Model.{rangeOf}
-use Rattle.tlv.proofs.TestLaws.{and-right}
+use Rattle.tlv.specs.Table.{Kept}
 use Rattle.tlv.proofs.ListLaws.{all-append}
 use Rattle.imports.specs.Ranges.{Holds, Apart, coalesceRanges}
 use Rattle.imports.proofs.RangeLaws.{merge-holds}
 use Rattle.dies.specs.RangeTable.{rangesAt, PutRange, Added, Reordered, MergedAt}
 use Rattle.dies.proofs.RangeTableLaws.{ranges-nil, ranges-push, ranges-below}
+use Rattle.dies.proofs.InsertLaws.{apart-nonempty}
 use Rattle.dies.proofs.ReorderLaws.{reordered-all, reordered-merge}
-use Rattle.lookup.specs.Tray.{GroupAt, functionsAt, functionRange}
 use Rattle.lookup.specs.Lookup.{holds}
-use Rattle.lookup.specs.Walk.{Stands}
 use Rattle.lookup.proofs.DemandLaws.{some-holds}
-use Rattle.lookup.proofs.StepLaws.{functionsFrom, functions-end, functions-cut, functions-this, functions-next, formed-here, stands-next}
 use Rattle.symbols.specs.declared.extents.Extents.{Extents}
 use Rattle.symbols.specs.declared.extents.Gathered.{Gathered}
 use Rattle.symbols.specs.Walk.{rangesIn}
@@ -54,109 +46,47 @@ module _ (a : ℕ) where
       go (inl q) = inl (inr q)
       go (inr q) = inr q
 
--- ---- the tray's ranges gathered
+-- ---- ranges that are merged
 
--- a function's range is not empty
-pub function-filled : {s : List ℕ} {p : ℕ} {r : Step} {t start len next : ℕ} (x : AddressRange) → Stands s p → r ≡ stepAt s p
-    → r ≡ Step.Field t start len next → t ≡ 0x41
-    → x ≡ rangeOf (take len (drop start s)) → Nonempty x
-unfolding recordsFormed rangeFormed rangeOf
-function-filled {s} {p} {r} {t} {start} {len} {next} x st at e q is =
-    let f = take len (drop start s) in
-    let k = rw q at (formed-here s p r at t start len next e st) in
-    let l : leAt 8 f 0 < leAt 8 f 8 = ltb-true (leAt 8 f 0) (leAt 8 f 8) (and-right (leb 16 (length f)) (rangeFormed f) k) in
-    subst (λ (y : AddressRange). Nonempty y) (sym is) l
+pub reordered-filled : {w w₁ : List ℕ} {p n : ℕ} → All Nonempty (rangesAt w p n) → Reordered w w₁ p n → All Nonempty (rangesAt w₁ p n)
+reordered-filled h o = reordered-all Nonempty o h
 
-pub record Gathering (s w₀ w : List ℕ) (p n : ℕ) : Type 0 where
-  pub stands : Stands s p
-  pub within : n * 16 ≤ length w
-  pub ranges : rangesAt w 0 n ++ map functionRange (functionsFrom s p) ≡ rangesIn s
-  pub filled : All Nonempty (rangesAt w 0 n)
-  pub size : length w ≡ length w₀
+kept-twice : {w w₁ w₂ : List ℕ} {p m : ℕ} → Kept w w₁ p m → Kept w₁ w₂ p m → Kept w w₂ p m
+kept-twice k l = record { same = λ q n h. l .same q n h ∙ k .same q n h }
 
-pub gathering-start : (s w : List ℕ) → Stands s 0 → Gathering s w w 0 0
-unfolding functionsAt
-gathering-start s w st = record { stands = st; within = omega arith; ranges = rw (ranges-nil w 0); filled = rw (ranges-nil w 0) tt; size = refl }
-
-pub gathered-short : {s w₀ w : List ℕ} {p n : ℕ} → Gathering s w₀ w p n → GatheredIn s w (record { fast = false; n = n })
-gathered-short g = record { within = g .within; ranges = λ e. absurd (false≢true e); filled = g .filled }
-
-module _ {s w₀ w : List ℕ} {p n : ℕ} {r : Step} (g : Gathering s w₀ w p n) (at : r ≡ stepAt s p) where
-  gathered-all : functionsFrom s p ≡ [] → GatheredIn s w (record { fast = true; n = n })
-  gathered-all e = record {
-    within = g .within;
-    ranges =
-        λ q. sym (append-nil (rangesAt w 0 n)) ∙ subst (λ (fs : List GroupAt). rangesAt w 0 n ++ map functionRange fs ≡ rangesIn s) e (g .ranges);
-    filled = g .filled;
-  }
-
-  pub gathered-end : r ≡ Step.End → GatheredIn s w (record { fast = true; n = n })
-  gathered-end e = gathered-all (functions-end s p r at e)
-
-  pub gathered-cut : r ≡ Step.Cut → GatheredIn s w (record { fast = true; n = n })
-  gathered-cut e = gathered-all (functions-cut s p r at e)
-
-  module _ (t start len next : ℕ) (e : r ≡ Step.Field t start len next) where
-    st : Stands s next
-    st = stands-next s p r at t start len next e (g .stands)
-
-    pub gathering-other : (t ≡ 0x41 → ⊥) → Gathering s w₀ w next n
-    gathering-other q = record {
-      stands = st;
-      within = g .within;
-      ranges =
-          subst (λ (fs : List GroupAt). rangesAt w 0 n ++ map functionRange fs ≡ rangesIn s)
-          (functions-next s p r at t start len next e q) (g .ranges);
-      filled = g .filled;
-      size = g .size;
-    }
-
-    pub gathering-this : {w′ : List ℕ} (x : AddressRange) → t ≡ 0x41 → x ≡ rangeOf (take len (drop start s)) → 16 ≤ length w - n * 16
-        → PutRange w w′ (n * 16) x → length w′ ≡ length w
-        → Gathering s w₀ w′ next (n + 1)
-    gathering-this {w′} x q is room put same =
-        let full = function-filled x (g .stands) at e q is in
-        let pushed : rangesAt w′ 0 (n + 1) ≡ rangesAt w 0 n ++ (x ∷ []) = ranges-push 0 n (subst (λ (i : ℕ). PutRange w w′ i x) (omega arith) put) in
-        record {
-          stands = st;
-          within = omega arith;
-          ranges =
-              ap (λ (l : List AddressRange). l ++ map functionRange (functionsFrom s next)) pushed
-              ∙ append-assoc (rangesAt w 0 n) (x ∷ []) (map functionRange (functionsFrom s next))
-              ∙ ap (λ (y : AddressRange). rangesAt w 0 n ++ (y ∷ map functionRange (functionsFrom s next))) is
-              ∙ subst (λ (fs : List GroupAt). rangesAt w 0 n ++ map functionRange fs ≡ rangesIn s) (functions-this s p r at t start len next e q) (g .ranges);
-          filled = rw pushed (all-append Nonempty (rangesAt w 0 n) (x ∷ []) (g .filled) (full, tt));
-          size = same ∙ g .size;
-        }
+pub settled : {w w₁ w₂ : List ℕ} {p n k : ℕ} → All Nonempty (rangesAt w p n) → Reordered w w₁ p n → MergedAt w₁ w₂ p n k → MergedAt w w₂ p n k
+settled h o m = record { ranges = m .ranges ∙ reordered-merge o h; apart = m .apart; few = m .few; rest = kept-twice (o .rest) (m .rest) }
 
 -- ---- the tables of a tray
 
-no-table : (w : List ℕ) → Lying w (record { fast = false; functions = 0; base = 0; added = 0 })
-no-table w = record { below = omega arith; within = omega arith; first = rw (ranges-nil w 0) tt; second = rw (ranges-nil w 0) tt }
+no-table : (w : List ℕ) → Lying w (record { fast = false; functions = 0; base = 0; merged = 0; added = 0 })
+no-table w = record {
+  below = omega arith;
+  within = omega arith;
+  some = omega arith;
+  first = rw (ranges-nil w 0) tt;
+  second = rw (ranges-nil w 0) tt;
+  filled = rw (ranges-nil w 0) tt;
+}
 
-pub known-none : (rs : List AddressRange) (w : List ℕ) → Known rs w (record { fast = false; functions = 0; base = 0; added = 0 })
+pub known-none : (rs : List AddressRange) (w : List ℕ) → Known rs w (record { fast = false; functions = 0; base = 0; merged = 0; added = 0 })
 known-none rs w = record { lying = no-table w; same = λ e. absurd (false≢true e) }
 
-module _ {s w₁ : List ℕ} {g : Gathered} (got : GatheredIn s w₁ g) where
-  pub learn-nonempty : {w₂ : List ℕ} → Reordered w₁ w₂ 0 (g .n) → All Nonempty (rangesAt w₂ 0 (g .n))
-  learn-nonempty o = reordered-all Nonempty o (got .filled)
-
-  pub learned : {w₂ w₃ : List ℕ} {k : ℕ} → not (g .fast) ≡ false → Reordered w₁ w₂ 0 (g .n) → MergedAt w₂ w₃ 0 (g .n) k → length w₂ ≡ length w₁
-      → length w₃ ≡ length w₂
-      → Known (rangesIn s) w₃ (record { fast = true; functions = k; base = g .n * 16; added = 0 })
-  learned {w₂} {w₃} {k} fast o m e f =
-      let is : rangesAt w₃ 0 k ≡ coalesceRanges (rangesIn s) =
-          m .ranges ∙ reordered-merge o (got .filled) ∙ ap coalesceRanges (got .ranges (not-false (g .fast) fast)) in
-      let few = m .few in
-      let room = got .within in
-      record {
-        lying = record { below = omega arith; within = omega arith; first = m .apart; second = rw (ranges-nil w₃ (g .n * 16)) tt };
-        same = λ _ a. (
-          λ h. ⊎-elim (λ x. merge-holds (rangesIn s) a .0 (subst (λ (l : List AddressRange). Holds l a) is x))
-              (λ x. absurd (subst (λ (l : List AddressRange). Holds l a) (ranges-nil w₃ (g .n * 16)) x)) h,
-          λ h. inl (subst (λ (l : List AddressRange). Holds l a) (sym is) (merge-holds (rangesIn s) a .1 h)),
-        );
-      }
+pub learned : {s w₁ w₂ : List ℕ} {g : Gathered} {k : ℕ} → GatheredIn s w₁ g → not (g .fast) ≡ false → MergedAt w₁ w₂ 0 (g .n) k → length w₂ ≡ length w₁
+    → Known (rangesIn s) w₂ (record { fast = true; functions = k; base = g .n * 16; merged = 0; added = 0 })
+learned {s} {w₁} {w₂} {g} {k} got fast m e =
+    let is : rangesAt w₂ 0 k ≡ coalesceRanges (rangesIn s) = m .ranges ∙ ap coalesceRanges (got .ranges (not-false (g .fast) fast)) in
+    let few = m .few in
+    let room = got .within in
+    let nil = ranges-nil w₂ (g .n * 16) in
+    record {
+      lying = record { below = omega arith; within = omega arith; some = omega arith; first = m .apart; second = rw nil tt; filled = rw nil tt };
+      same = λ _ a. (
+        λ h. ⊎-elim (λ x. merge-holds (rangesIn s) a .0 (subst (λ (l : List AddressRange). Holds l a) is x))
+            (λ x. absurd (subst (λ (l : List AddressRange). Holds l a) nil x)) h,
+        λ h. inl (subst (λ (l : List AddressRange). Holds l a) (sym is) (merge-holds (rangesIn s) a .1 h)),
+      );
+    }
 
 -- ---- one range more
 
@@ -164,48 +94,127 @@ module _ {w : List ℕ} {e : Extents} (x : AddressRange) where
   pub remember-slow : not (e .fast) ≡ true → Remembered w w e x e
   remember-slow h = record { grown = λ rs k. record { lying = k .lying; same = λ f. absurd (true≢false (sym f ∙ not-true (e .fast) h)) } }
 
-  pub remember-full : Remembered w w e x (record { fast = false; functions = 0; base = 0; added = 0 })
+  pub remember-full : Remembered w w e x (record { fast = false; functions = 0; base = 0; merged = 0; added = 0 })
   remember-full = record { grown = λ rs k. known-none (rs ++ (x ∷ [])) w }
 
-  pub remember-added : {w′ : List ℕ} {n : ℕ} → Lying w e → not (e .fast) ≡ false → 16 ≤ length w - (e .base + e .added * 16)
-      → Added w w′ (e .base) (e .added) x n → length w′ ≡ length w
-      → Remembered w w′ e x (record { fast = true; functions = e .functions; base = e .base; added = n })
-  remember-added {w′} {n} l f room a same = record { grown = grown }
+-- the second table holds what it held and the range, however it now stands there
+grown-by : {w w′ : List ℕ} {e : Extents} (x : AddressRange) (m n : ℕ) → not (e .fast) ≡ false
+    → Lying w′ (record { fast = true; functions = e .functions; base = e .base; merged = m; added = n })
+    → rangesAt w′ 0 (e .functions) ≡ rangesAt w 0 (e .functions)
+    → ((y : ℕ) → Holds (rangesAt w′ (e .base) n) y ↔ Holds (rangesAt w (e .base) (e .added) ++ (x ∷ [])) y)
+    → Remembered w w′ e x (record { fast = true; functions = e .functions; base = e .base; merged = m; added = n })
+grown-by {w} {w′} {e} x m n f lying first held = record { grown = λ rs k. record { lying = lying; same = λ _ y. (to rs k y, from rs k y) } }
+  where
+    to : (rs : List AddressRange) → Known rs w e → (y : ℕ)
+        → HeldIn w′ (record { fast = true; functions = e .functions; base = e .base; merged = m; added = n }) y → Holds (rs ++ (x ∷ [])) y
+    to rs k y (inl h) = held-left y rs (x ∷ []) (k .same (not-false (e .fast) f) y .0 (inl (subst (λ (q : List AddressRange). Holds q y) first h)))
+    to rs k y (inr h) =
+        ⊎-elim (λ u. held-left y rs (x ∷ []) (k .same (not-false (e .fast) f) y .0 (inr u))) (λ u. held-right y rs (x ∷ []) u)
+        (held-split y (rangesAt w (e .base) (e .added)) (x ∷ []) (held y .0 h))
+
+    from : (rs : List AddressRange) → Known rs w e → (y : ℕ) → Holds (rs ++ (x ∷ [])) y
+        → HeldIn w′ (record { fast = true; functions = e .functions; base = e .base; merged = m; added = n }) y
+    from rs k y h =
+        ⊎-elim
+        (λ u. ⊎-elim (λ v. inl (subst (λ (q : List AddressRange). Holds q y) (sym first) v))
+            (λ v. inr (held y .1 (held-left y (rangesAt w (e .base) (e .added)) (x ∷ []) v))) (k .same (not-false (e .fast) f) y .1 u))
+        (λ u. inr (held y .1 (held-right y (rangesAt w (e .base) (e .added)) (x ∷ []) u))) (held-split y rs (x ∷ []) h)
+
+turned-round : (y : ℕ) (x : AddressRange) (rs : List AddressRange) → Holds (x ∷ rs) y ↔ Holds (rs ++ (x ∷ [])) y
+turned-round y x rs = (to, from)
+  where
+    to : Holds (x ∷ rs) y → Holds (rs ++ (x ∷ [])) y
+    to (inl h) = held-right y rs (x ∷ []) (inl h)
+    to (inr h) = held-left y rs (x ∷ []) h
+
+    one : Holds (x ∷ []) y → Holds (x ∷ rs) y
+    one (inl h) = inl h
+    one (inr h) = absurd h
+
+    from : Holds (rs ++ (x ∷ [])) y → Holds (x ∷ rs) y
+    from h = ⊎-elim (λ u. inr u) one (held-split y rs (x ∷ []) h)
+
+-- where all of the second table is merged, it is apart
+pub all-apart : {w : List ℕ} {e : Extents} {b : Bool} → Lying w e → (b ≡ true → e .merged ≡ e .added) → b ≡ true
+    → Apart (rangesAt w (e .base) (e .added))
+all-apart {w} {e} l t c = subst (λ (n : ℕ). Apart (rangesAt w (e .base) n)) (t c) (l .second)
+
+module _ {w w₁ : List ℕ} {e : Extents} (x : AddressRange) (l : Lying w e) (full : Nonempty x) (put : PutRange w w₁ (e .base + e .added * 16) x) where
+  pushed : rangesAt w₁ (e .base) (e .added + 1) ≡ rangesAt w (e .base) (e .added) ++ (x ∷ [])
+  pushed = ranges-push (e .base) (e .added) put
+
+  pub pushed-filled : All Nonempty (rangesAt w₁ (e .base) (e .added + 1))
+  pushed-filled = rw pushed (all-append Nonempty (rangesAt w (e .base) (e .added)) (x ∷ []) (l .filled) (full, tt))
+
+module _ {w w₁ : List ℕ} {e : Extents} (x : AddressRange) (l : Lying w e) (f : not (e .fast) ≡ false)
+    (room : 16 ≤ length w - (e .base + e .added * 16)) where
+  -- merged with all others at once
+  pub remember-added : {n : ℕ} → Added w w₁ (e .base) (e .added) x n → length w₁ ≡ length w
+      → Remembered w w₁ e x (record { fast = true; functions = e .functions; base = e .base; merged = n; added = n })
+  remember-added {n} a same =
+      let below = l .below in
+      let within = l .within in
+      let few = a .few in
+      let kept : rangesAt w₁ 0 (e .functions) ≡ rangesAt w 0 (e .functions) = ranges-below 0 (e .functions) (a .rest) (omega arith) in
+      grown-by x n n f
+      (record {
+        below = l .below;
+        within = omega arith;
+        some = omega arith;
+        first = rw kept (l .first);
+        second = a .apart;
+        filled = apart-nonempty (rangesAt w₁ (e .base) n) (a .apart);
+      })
+      kept held
     where
-      first-kept : rangesAt w′ 0 (e .functions) ≡ rangesAt w 0 (e .functions)
-      first-kept = let b = l .below in ranges-below 0 (e .functions) (a .rest) (omega arith)
+      held : (y : ℕ) → Holds (rangesAt w₁ (e .base) n) y ↔ Holds (rangesAt w (e .base) (e .added) ++ (x ∷ [])) y
+      held y =
+          let old = rangesAt w (e .base) (e .added) in
+          let merged = subst (λ (q : List AddressRange). Holds q y ↔ Holds (x ∷ old) y) (sym (a .ranges)) (merge-holds (x ∷ old) y) in
+          (λ h. turned-round y x old .0 (merged .0 h), λ h. merged .1 (turned-round y x old .1 h))
 
-      grown : (rs : List AddressRange) → Known rs w e
-          → Known (rs ++ (x ∷ [])) w′ (record { fast = true; functions = e .functions; base = e .base; added = n })
-      grown rs k =
-          let few = a .few in
-          let within = l .within in
-          record {
-            lying = record { below = l .below; within = omega arith; first = rw first-kept (l .first); second = a .apart };
-            same = λ _ y. (λ h. to rs k y h, λ h. from rs k y h);
-          }
-        where
-          held : (y : ℕ) → Holds (rangesAt w′ (e .base) n) y ↔ Holds (x ∷ rangesAt w (e .base) (e .added)) y
-          held y =
-              subst (λ (q : List AddressRange). Holds q y ↔ Holds (x ∷ rangesAt w (e .base) (e .added)) y) (sym (a .ranges))
-              (merge-holds (x ∷ rangesAt w (e .base) (e .added)) y)
+  module _ (full : Nonempty x) (put : PutRange w w₁ (e .base + e .added * 16) x) (same : length w₁ ≡ length w) where
+    first-kept : rangesAt w₁ 0 (e .functions) ≡ rangesAt w 0 (e .functions)
+    first-kept = let below = l .below in ranges-below 0 (e .functions) (put .rest) (omega arith)
 
-          to : (rs : List AddressRange) → Known rs w e → (y : ℕ) → HeldIn w′ (record { fast = true; functions = e .functions; base = e .base; added = n }) y
-              → Holds (rs ++ (x ∷ [])) y
-          to rs k y (inl h) = held-left y rs (x ∷ []) (k .same (not-false (e .fast) f) y .0 (inl (subst (λ (q : List AddressRange). Holds q y) first-kept h)))
-          to rs k y (inr h) =
-              ⊎-elim (λ u. held-right y rs (x ∷ []) (inl u)) (λ u. held-left y rs (x ∷ []) (k .same (not-false (e .fast) f) y .0 (inr u))) (held y .0 h)
+    -- behind those that are merged
+    pub remember-pushed : Remembered w w₁ e x (record { fast = true; functions = e .functions; base = e .base; merged = e .merged; added = e .added + 1 })
+    remember-pushed =
+        let within = l .within in
+        let some = l .some in
+        let kept : rangesAt w₁ (e .base) (e .merged) ≡ rangesAt w (e .base) (e .merged) = ranges-below (e .base) (e .merged) (put .rest) (omega arith) in
+        grown-by x (e .merged) (e .added + 1) f
+        (record {
+          below = l .below;
+          within = omega arith;
+          some = omega arith;
+          first = rw first-kept (l .first);
+          second = rw kept (l .second);
+          filled = pushed-filled x l full put;
+        })
+        first-kept (λ y. subst (λ (q : List AddressRange). Holds q y ↔ Holds (rangesAt w (e .base) (e .added) ++ (x ∷ [])) y) (sym (pushed x l full put)) (λ h. h, λ h. h))
 
-          from : (rs : List AddressRange) → Known rs w e → (y : ℕ) → Holds (rs ++ (x ∷ [])) y
-              → HeldIn w′ (record { fast = true; functions = e .functions; base = e .base; added = n }) y
-          from rs k y h = ⊎-elim
-              (λ u. ⊎-elim (λ v. inl (subst (λ (q : List AddressRange). Holds q y) (sym first-kept) v)) (λ v. inr (held y .1 (inr v)))
-                  (k .same (not-false (e .fast) f) y .1 u))
-              (λ u. inr (held y .1 (inl (one u)))) (held-split y rs (x ∷ []) h)
-            where
-              one : Holds (x ∷ []) y → RangeHolds x y
-              one (inl q) = q
-              one (inr q) = absurd q
+    -- and then merged with all of them
+    pub remember-settled : {w₂ : List ℕ} {n : ℕ} → MergedAt w₁ w₂ (e .base) (e .added + 1) n → length w₂ ≡ length w₁
+        → Remembered w w₂ e x (record { fast = true; functions = e .functions; base = e .base; merged = n; added = n })
+    remember-settled {w₂} {n} m again =
+        let below = l .below in
+        let within = l .within in
+        let few = m .few in
+        let kept : rangesAt w₂ 0 (e .functions) ≡ rangesAt w 0 (e .functions) = ranges-below 0 (e .functions) (m .rest) (omega arith) ∙ first-kept in
+        let is : rangesAt w₂ (e .base) n ≡ coalesceRanges (rangesAt w (e .base) (e .added) ++ (x ∷ [])) = m .ranges ∙ ap coalesceRanges (pushed x l full put) in
+        grown-by x n n f
+        (record {
+          below = l .below;
+          within = omega arith;
+          some = omega arith;
+          first = rw kept (l .first);
+          second = m .apart;
+          filled = apart-nonempty (rangesAt w₂ (e .base) n) (m .apart);
+        })
+        kept
+        (λ y. subst (λ (q : List AddressRange). Holds q y ↔ Holds (rangesAt w (e .base) (e .added) ++ (x ∷ [])) y) (sym is)
+            (merge-holds (rangesAt w (e .base) (e .added) ++ (x ∷ [])) y))
 
 -- ---- is an address held, by the tables
 

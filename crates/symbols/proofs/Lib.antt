@@ -6,6 +6,7 @@ pub mod TurnLaws
 pub mod ResultLaws
 pub mod AnswerLaws
 pub mod SoughtLaws
+pub mod GatherLaws
 pub mod ExtentLaws
 pub mod ChoiceLaws
 pub mod LookedLaws

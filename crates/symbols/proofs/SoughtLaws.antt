@@ -1,12 +1,13 @@
--- Ranges that are apart: a binary search finds the one that holds an address. Assumes nothing.
+-- Which range of a table holds an address: a search by halves among ranges that are apart, a look at each behind them. Assumes nothing.
 use mathlib.Core.Path.{_≡_, refl, sym, ap, subst, _∙_}
 use mathlib.Core.Bool.{Bool, true, false, cond, _&&_, true≢false}
 use mathlib.Core.Logic.{_⊎_, inl, inr, _↔_}
-use mathlib.Core.List.{List, [], _∷_}
+use mathlib.Core.List.{List, [], _∷_, _++_}
 use Prim.Native.Nat.{ℕ, zero, suc, _+_, _-_, _*_, _/_, _≤_, _<_}
 use native.Mathlib.Omega.{arith}
 use native.Mathlib.Decide.{decLe}
 use lib.Dec.{leb, ltb}
+use lib.ListN.{drop}
 use borrow.Author.Tests.{le-leb, lt-leb, lt-ltb, le-ltb}
 use Rattle.tlv.specs.declared.model.AddressRange.{AddressRange}
 use Rattle.tlv.specs.Lists.{exists}
@@ -14,6 +15,7 @@ use Rattle.tlv.specs.Model.{rangeOf}
 use Rattle.tlv.specs.Table.{chunk, tab, records}
 use Rattle.imports.specs.Ranges.{Holds, Above, Apart}
 use Rattle.dies.specs.RangeTable.{rangesAt}
+use Rattle.dies.proofs.RangeTableLaws.{ranges-end, ranges-cons, ranges-add}
 use Rattle.lookup.specs.Lookup.{holds}
 use Rattle.lookup.proofs.DemandLaws.{some-holds}
 
@@ -168,3 +170,57 @@ module _ (w : List ℕ) (p n a lo hi : ℕ) (apart : Apart (rangesAt w p n)) (s 
 
   pub middle-above : x .end ≤ a → Sought w p n a (lo + (hi - lo) / 2 + 1) hi
   middle-above k = sought-above w p n apart a lo hi s (lo + (hi - lo) / 2) x (omega arith) (omega arith) is k
+
+-- ---- a look at each range
+
+pub record Looked (w : List ℕ) (p n a i : ℕ) : Type 0 where
+  pub within : i ≤ n
+  pub rest : exists (holds a) (rangesAt w p n) ≡ exists (holds a) (drop i (rangesAt w p n))
+
+pub looked-start : (w : List ℕ) (p n a : ℕ) → Looked w p n a 0
+looked-start w p n a = record { within = omega arith; rest = refl }
+
+module _ {w : List ℕ} {p n a i : ℕ} (s : Looked w p n a i) where
+  pub looked-none : n ≤ i → false ≡ exists (holds a) (rangesAt w p n)
+  unfolding exists
+  looked-none h = sym (s .rest ∙ ap (λ (l : List AddressRange). exists (holds a) l) (ranges-end w p n i h))
+
+  module _ (h : i < n) {x : AddressRange} (is : x ≡ rangeOf (chunk w (p + i * 16) 16)) where
+    turn : exists (holds a) (rangesAt w p n) ≡ cond (holds a x) true (exists (holds a) (drop (i + 1) (rangesAt w p n)))
+    unfolding exists
+    turn = s .rest ∙ ap (λ (l : List AddressRange). exists (holds a) l) (ranges-cons w p n i h) ∙ rw is
+
+    pub looked-below : a < x .start → Looked w p n a (i + 1)
+    looked-below l = record { within = omega arith; rest = turn ∙ rw (holds-false a x (inr l)) }
+
+    pub looked-found : x .start ≤ a → a < x .end → true ≡ exists (holds a) (rangesAt w p n)
+    looked-found l k = sym (turn ∙ rw (holds-true a x l k))
+
+    pub looked-above : x .start ≤ a → x .end ≤ a → Looked w p n a (i + 1)
+    looked-above l k = record { within = omega arith; rest = turn ∙ rw (holds-false a x (inl k)) }
+
+-- ---- both parts of a table
+
+exists-both : (a : ℕ) (rs ss : List AddressRange) → exists (holds a) (rs ++ ss) ≡ cond (exists (holds a) rs) true (exists (holds a) ss)
+unfolding exists
+exists-both a [] ss = refl
+exists-both a (r ∷ rs) ss = rw (exists-both a rs ss) (go (holds a r))
+  where
+    go : (b : Bool) → cond b true (cond (exists (holds a) rs) true (exists (holds a) ss)) ≡ cond (cond b true (exists (holds a) rs)) true (exists (holds a) ss)
+    go true = refl
+    go false = refl
+
+module _ (w : List ℕ) (p m n a : ℕ) (b : Bool) (l : m ≤ n) (first : b ≡ exists (holds a) (rangesAt w p m)) where
+  parts : exists (holds a) (rangesAt w p n) ≡ cond b true (exists (holds a) (rangesAt w (p + m * 16) (n - m)))
+  parts =
+      let whole : m + (n - m) ≡ n = omega arith in
+      ap (λ (k : ℕ). exists (holds a) (rangesAt w p k)) (sym whole)
+      ∙ ap (λ (rs : List AddressRange). exists (holds a) rs) (ranges-add w p m (n - m))
+      ∙ exists-both a (rangesAt w p m) (rangesAt w (p + m * 16) (n - m))
+      ∙ ap (λ (c : Bool). cond c true (exists (holds a) (rangesAt w (p + m * 16) (n - m)))) (sym first)
+
+  pub in-first : b ≡ true → true ≡ exists (holds a) (rangesAt w p n)
+  in-first e = sym (parts ∙ rw e)
+
+  pub in-rest : (c : Bool) → b ≡ false → c ≡ exists (holds a) (rangesAt w (p + m * 16) (n - m)) → c ≡ exists (holds a) (rangesAt w p n)
+  in-rest c e is = is ∙ sym (parts ∙ rw e)

@@ -5,11 +5,11 @@ ghost use mathlib.Core.List.{[], _∷_, _++_};
 ghost use Prim.Native.Nat.{_+_, _*_, _≤_};
 ghost use lib.ListN.{length, take};
 ghost use Rattle.tlv.specs.Addresses.{Nonempty};
-ghost use Rattle.tlv.specs.Lists.{exists};
+ghost use Rattle.tlv.specs.Lists.{All, exists};
 ghost use Rattle.lookup.specs.Lookup.{holds};
 ghost use Rattle.lookup.specs.Walk.{Stands};
 ghost use Rattle.imports.specs.Ranges.{Apart};
-ghost use Rattle.dies.specs.RangeTable.{rangesAt};
+ghost use Rattle.dies.specs.RangeTable.{rangesAt, MergedAt};
 ghost use Rattle.symbols.specs.Walk.{rangesIn, Standing};
 ghost use Rattle.symbols.specs.Extents.{GatheredIn, Lying, Known, Remembered};
 use crate::model::RANGE_SIZE;
@@ -18,13 +18,18 @@ use tlv::fields::Step;
 use tlv::fields::field_at;
 use tlv::model::AddressRange;
 
-// The tables: `functions` merged ranges from the beginning of work on, `added` more from `base` on. Where there is no room, `fast` is false.
+// The tables: `functions` merged ranges from the beginning of work on, and from `base` on `added` more, the first `merged` of which are merged. Where
+// there is no room, `fast` is false.
 pub struct Extents {
     pub fast: bool,
     pub functions: usize,
     pub base: usize,
+    pub merged: usize,
     pub added: usize,
 }
+
+// How many ranges that come in no order wait at most: each costs a look until all are merged at once.
+const WAITING_MOST: usize = 1024;
 
 // Whether one of the n ranges at p, which are apart, holds an address: a binary search.
 fn in_ranges(work: &[u8], p: usize, n: usize, address: u64) -> bool
@@ -46,6 +51,47 @@ fn in_ranges(work: &[u8], p: usize, n: usize, address: u64) -> bool
         }
     }
     false
+}
+
+// Whether one of the n ranges at p holds an address: a look at each.
+fn among(work: &[u8], p: usize, n: usize, address: u64) -> bool
+    requires { ⌜ p + n * 16 ≤ length (now work) ⌝ }
+    ensures { λ r. ⌜ r ≡ exists (holds address) (rangesAt (now (work .entry)) p n) ⌝ }
+{
+    let mut i: usize = 0;
+    while i < n {
+        let r = dies::ranges::range_at(work, p + i * RANGE_SIZE);
+        i += 1;
+        if r.start <= address {
+            if address < r.end {
+                return true;
+            }
+        }
+    }
+    false
+}
+
+// The same where the first m are apart.
+fn in_table(work: &[u8], p: usize, m: usize, n: usize, address: u64) -> bool
+    requires { ⌜ p + n * 16 ≤ length (now work) ⌝ }
+    requires { ⌜ m ≤ n ⌝ }
+    requires { ⌜ Apart (rangesAt (now work) p m) ⌝ }
+    ensures { λ r. ⌜ r ≡ exists (holds address) (rangesAt (now (work .entry)) p n) ⌝ }
+{
+    if in_ranges(work, p, m, address) {
+        return true;
+    }
+    among(work, p + m * RANGE_SIZE, n - m, address)
+}
+
+// The n ranges at p merged, in whatever order they come.
+fn settle(work: &mut [u8], p: usize, n: usize) -> usize
+    requires { ⌜ p + n * 16 ≤ length (now work) ⌝ }
+    requires { ⌜ All Nonempty (rangesAt (now work) p n) ⌝ }
+    ensures { λ r. ⌜ MergedAt (now (work .entry)) (now (work .exit)) p n r ⌝ }
+{
+    dies::ranges::order_ranges(work, p, n);
+    dies::ranges::merge_ranges(work, p, n)
 }
 
 // How many ranges were gathered; `fast` is false where they have no room.
@@ -102,16 +148,17 @@ pub fn learn(s: &[u8], work: &mut [u8]) -> Extents
             fast: false,
             functions: 0,
             base: 0,
+            merged: 0,
             added: 0,
         };
     }
     let n = g.n;
-    dies::ranges::order_ranges(work, 0, n);
-    let k = dies::ranges::merge_ranges(work, 0, n);
+    let k = settle(work, 0, n);
     Extents {
         fast: true,
         functions: k,
         base: n * RANGE_SIZE,
+        merged: 0,
         added: 0,
     }
 }
@@ -128,7 +175,23 @@ pub fn is_held_with(result: &[u8], at: usize, address: u64, work: &[u8], e: Exte
     if in_ranges(work, 0, e.functions, address) {
         return true;
     }
-    in_ranges(work, e.base, e.added, address)
+    in_table(work, e.base, e.merged, e.added, address)
+}
+
+// Whether a range can be merged with the n at p at once: all of these are merged, and it starts at or behind the start of the last, as in a list in the
+// order of its addresses.
+fn goes_behind(work: &[u8], p: usize, m: usize, n: usize, range: AddressRange) -> bool
+    requires { ⌜ p + n * 16 ≤ length (now work) ⌝ }
+    ensures { λ r. ⌜ (r ≡ true → m ≡ n) ⌝ }
+{
+    if m != n {
+        return false;
+    }
+    if n == 0 {
+        return true;
+    }
+    let last = dies::ranges::range_at(work, p + (n - 1) * RANGE_SIZE);
+    last.start <= range.start
 }
 
 // The tables with the range of a symbol that was joined.
@@ -140,21 +203,45 @@ pub fn remember(work: &mut [u8], e: Extents, range: AddressRange) -> Extents
     if !e.fast {
         return e;
     }
+    let functions = e.functions;
     let base = e.base;
+    let merged = e.merged;
     let added = e.added;
     if work.len() - (base + added * RANGE_SIZE) < RANGE_SIZE {
         return Extents {
             fast: false,
             functions: 0,
             base: 0,
+            merged: 0,
             added: 0,
         };
     }
-    let n = dies::ranges::add_range(work, base, added, range);
+    if goes_behind(work, base, merged, added, range) {
+        let n = dies::ranges::add_range(work, base, added, range);
+        return Extents {
+            fast: true,
+            functions: functions,
+            base: base,
+            merged: n,
+            added: n,
+        };
+    }
+    dies::ranges::put_range_at(work, base + added * RANGE_SIZE, range);
+    if added - merged < WAITING_MOST {
+        return Extents {
+            fast: true,
+            functions: functions,
+            base: base,
+            merged: merged,
+            added: added + 1,
+        };
+    }
+    let n = settle(work, base, added + 1);
     Extents {
         fast: true,
-        functions: e.functions,
+        functions: functions,
         base: base,
+        merged: n,
         added: n,
     }
 }
