@@ -79,6 +79,23 @@ uint8_t pezgok_functions_inside(
 uint8_t pezgok_functions_crossing(
     const uint8_t *records, size_t records_len, uint64_t start, uint64_t end, uint8_t *list, size_t list_len, size_t *length);
 
+/* The work slice with which a join of symbols to records of these lengths takes no walk over the records for a symbol. */
+#define PEZGOK_SYMBOLS_WORK(records_len, symbols_len) (16 * ((size_t)(records_len) / 19 + (size_t)(symbols_len) / 19))
+
+/* Joins a list of fields 50 hex (start, size, name) to the records of an import: result begins with the records, then has a bare function for each
+ * symbol that has a size and a name and whose start no record already in the result holds, in list order. Returns 0, and the result's byte length in
+ * *length; bytes behind it stay. records_len + symbols_len bytes are always enough. Or returns the refusal's number: 19 for misshapen records, 26 for a
+ * misshapen symbol or one that ends past 2^64 - 1, 27 for a result that is too short; then result holds only 0, and *length is 0.
+ *
+ * Work may have any length, 0 too, and any content: it decides about time alone, and holds only 0 after every call. The same is owed of slices and
+ * pointers as by pezgok_import. */
+uint8_t pezgok_join_symbols(
+    const uint8_t *records, size_t records_len,
+    const uint8_t *symbols, size_t symbols_len,
+    uint8_t *result, size_t result_len,
+    uint8_t *work, size_t work_len,
+    size_t *length);
+
 /* Writes the word for a refusal's number to name, as far as it fits, and returns its whole length; 0 if it is no refusal's. No byte 0 is added. */
 size_t pezgok_refusal_name(uint8_t refusal, uint8_t *name, size_t name_len);
 

@@ -1,9 +1,13 @@
 //! Safe calls of the proved import: one unit of a main input, with a supplementary one and a line program, to records, files and warnings.
-//! [`measure`] says how long the buffers must be, [`import`] fills them; [`look`] asks the records what is running at an address.
+//! [`measure`] says how long the buffers must be, [`import`] fills them; [`look`] asks the records what is running at an address;
+//! [`join_symbols`] adds the functions that only a symbol table knows.
 
 use std::fmt;
 
 pub mod look;
+mod symbols;
+
+pub use symbols::{join_symbols, join_symbols_with, symbols_work_length};
 
 mod sys {
     unsafe extern "C" {

@@ -1,2 +1,3 @@
 pub mod ExportLaws
 pub mod LookLaws
+pub mod JoinedLaws

@@ -88,31 +88,5 @@ list-told x size r lent after t h = sym (t .is lent) ∙ h
 pub no-word-between : (n : ℕ) → 19 ≤ n → n < 19 → refusalWord n ≡ []
 no-word-between n h k = absurd (omega arith)
 
-pub no-word-looked : (n : ℕ) → 21 ≤ n → refusalWord n ≡ []
-unfolding refusalWord
-no-word-looked n h =
-    rw (
-      other 1 (omega arith),
-      other 2 (omega arith),
-      other 3 (omega arith),
-      other 4 (omega arith),
-      other 5 (omega arith),
-      other 6 (omega arith),
-      other 7 (omega arith),
-      other 8 (omega arith),
-      other 9 (omega arith),
-      other 10 (omega arith),
-      other 11 (omega arith),
-      other 12 (omega arith),
-      other 13 (omega arith),
-      other 14 (omega arith),
-      other 15 (omega arith),
-      other 16 (omega arith),
-      other 17 (omega arith),
-      other 18 (omega arith),
-      other 19 (omega arith),
-      other 20 (omega arith),
-    )
-  where
-    other : (k : ℕ) → k < n → eqb n k ≡ false
-    other k h = ne-eqb n k (λ e. omega (arith, e))
+pub no-word-looked : (n : ℕ) → 21 ≤ n → n < 21 → refusalWord n ≡ []
+no-word-looked n h k = absurd (omega arith)

@@ -26,7 +26,7 @@ pub record Exports (i : Inputs) (w t f u values : List ℕ) (r : ℕ) : Type 0 w
 pub record ExportsMeasure (i : Inputs) (w values : List ℕ) (r : ℕ) : Type 0 where
   pub is : record { answer = answerIn r values; work = w } ≡ measure i
 
--- ---- words for the refusals, as bytes: document 01's, and two for document 02's 19 and 20
+-- ---- words for the refusals, as bytes: document 01's, and those for document 02's 19, 20, 26 and 27
 
 unfoldable pub refusalWord : ℕ → List ℕ
 refusalWord n =
@@ -50,4 +50,6 @@ refusalWord n =
     (cond (eqb n 18) (115 ∷ 104 ∷ 111 ∷ 114 ∷ 116 ∷ 32 ∷ 116 ∷ 114 ∷ 97 ∷ 121 ∷ [])  -- short tray
     (cond (eqb n 19) (109 ∷ 105 ∷ 115 ∷ 115 ∷ 104 ∷ 97 ∷ 112 ∷ 101 ∷ 110 ∷ 32 ∷ 114 ∷ 101 ∷ 99 ∷ 111 ∷ 114 ∷ 100 ∷ 115 ∷ [])  -- misshapen records
     (cond (eqb n 20) (110 ∷ 111 ∷ 32 ∷ 102 ∷ 117 ∷ 110 ∷ 99 ∷ 116 ∷ 105 ∷ 111 ∷ 110 ∷ [])  -- no function
-    [])))))))))))))))))))
+    (cond (eqb n 26) (109 ∷ 105 ∷ 115 ∷ 115 ∷ 104 ∷ 97 ∷ 112 ∷ 101 ∷ 110 ∷ 32 ∷ 115 ∷ 121 ∷ 109 ∷ 98 ∷ 111 ∷ 108 ∷ [])  -- misshapen symbol
+    (cond (eqb n 27) (115 ∷ 104 ∷ 111 ∷ 114 ∷ 116 ∷ 32 ∷ 114 ∷ 101 ∷ 115 ∷ 117 ∷ 108 ∷ 116 ∷ [])  -- short result
+    [])))))))))))))))))))))

@@ -1,2 +1,3 @@
 pub mod Exported
 pub mod Looked
+pub mod Joined

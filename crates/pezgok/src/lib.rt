@@ -7,6 +7,7 @@ ghost use Rattle.dwarf.specs.Answers.{answerGiven, inputsOf};
 ghost use Rattle.pezgok.specs.Exported.{answerIn, Exports, ExportsMeasure, refusalWord};
 use dwarf::model::Imported;
 
+pub mod joins;
 pub mod look;
 
 // An answer as numbers: returns the refusal's, 0 for none. `values` then has the lengths of records, files and warnings, then functions, line rows,
@@ -112,7 +113,10 @@ pub extern "C" fn pezgok_refusal_name(refusal: u8, name: &mut [u8]) -> usize
     if refusal < 19 {
         return late_name(refusal, name);
     }
-    look::look_name(refusal, name)
+    if refusal < 21 {
+        return look::look_name(refusal, name);
+    }
+    joins::join_name(refusal, name)
 }
 
 fn early_name(refusal: u8, name: &mut [u8]) -> usize

@@ -1,6 +1,6 @@
 // The look-ups for callers from C and Rust.
 ghost use mathlib.Core.Path.{_≡_};
-ghost use Prim.Native.Nat.{_≤_};
+ghost use Prim.Native.Nat.{_≤_, _<_};
 ghost use Rattle.tlv.specs.Buffer.{Put};
 ghost use Rattle.lookup.specs.Lookup.{nearestBelow};
 ghost use Rattle.lookup.specs.Window.{functionsInside, functionsCrossing};
@@ -128,7 +128,7 @@ pub extern "C" fn pezgok_functions_crossing(
 
 // The words for 19 and 20.
 pub fn look_name(refusal: u8, name: &mut [u8]) -> usize
-    requires { ⌜ 19 ≤ refusal ⌝ }
+    requires { ⌜ (19 ≤ refusal) × (refusal < 21) ⌝ }
     ensures { λ r. ⌜ Put 0 (refusalWord refusal) (now (name .entry)) (now (name .exit)) r ⌝ }
 {
     match refusal {

@@ -1,4 +1,4 @@
--- `look::look_name` meets its contract: 19 and 20 lay their words, and a larger number lays nothing. Assumes nothing.
+-- `look::look_name` meets its contract: 19 and 20 lay their words, and there is no other. Assumes nothing.
 use native.Mathlib.Omega.{arith}
 use mathlib.Core.Path.{ap}
 use Rattle.tlv.proofs.BufferLaws.{put-as, put-nothing}
@@ -36,7 +36,7 @@ unfolding refusalWord
 returns-2 c = put-as (ap refusalWord (c .before .before .before .before .before .match .keys2)) (c .before .before .put-bytes2 .ensures)
 
 returns-3 : tie.Need-returns-3
-returns-3 c = put-nothing (no-word-looked _ (above 20 _ (above 19 _ (c .before .before .pre) (c .match .rest .0 .1)) (c .match .rest .1))) (omega arith) (omega arith)
+returns-3 c = put-nothing (no-word-looked _ (above 20 _ (above 19 _ (c .before .before .pre .0) (c .match .rest .0 .1)) (c .match .rest .1)) (c .before .before .pre .1)) (omega arith) (omega arith)
 
 pub look-name-spec : {M : Type 1} → statement M
 look-name-spec =
