@@ -9,11 +9,14 @@ use object::{
     Section, SectionIndex, SectionKind,
 };
 
+use crate::symbols::Symbols;
+
 pub struct DebugFile {
     pub sections: gimli::Dwarf<Vec<u8>>,
     pub endian: RunTimeEndian,
     /// The executable sections, ascending.
     pub text: Vec<(u64, u64)>,
+    pub symbols: Symbols,
     /// The supplementary file that this one names, with its identity.
     pub supplementary: Option<(PathBuf, Vec<u8>)>,
     /// What a file that names this one as supplementary calls it.
@@ -48,10 +51,12 @@ pub fn read(path: &Path) -> Result<DebugFile, String> {
     let (supplementary, mut identities) = links(&file)?;
     let build_id = file.build_id().map_err(|error| error.to_string())?;
     identities.extend(build_id.map(<[u8]>::to_vec));
+    let symbols = Symbols::read(&file, &layout)?;
     Ok(DebugFile {
         sections,
         endian,
         text: layout.text,
+        symbols,
         supplementary,
         identities,
         unapplied,
@@ -60,10 +65,10 @@ pub fn read(path: &Path) -> Result<DebugFile, String> {
 
 /// Where sections lie: in a linked file at their addresses; in a relocatable one the executable
 /// sections one after the other from 0, each at a multiple of 16, then all others but debug data.
-struct Layout {
-    text: Vec<(u64, u64)>,
+pub struct Layout {
+    pub text: Vec<(u64, u64)>,
     bases: HashMap<SectionIndex, u64>,
-    relocatable: bool,
+    pub relocatable: bool,
 }
 
 impl Layout {
@@ -106,7 +111,7 @@ impl Layout {
         })
     }
 
-    fn base(&self, section: &Section) -> Result<u64, String> {
+    pub fn base(&self, section: &Section) -> Result<u64, String> {
         if !self.relocatable || is_debug(section) {
             return Ok(section.address());
         }

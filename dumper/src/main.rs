@@ -4,6 +4,7 @@ mod dump;
 mod elf;
 mod output;
 mod fields;
+mod symbols;
 mod unit;
 
 use std::collections::BTreeMap;
@@ -15,6 +16,7 @@ use dump::{Dump, Input};
 use elf::DebugFile;
 use gimli::{AttributeValue, EndianSlice};
 use output::{fault, Pending};
+use symbols::Symbols;
 use unit::{Decoded, Source};
 
 const USAGE: &str = "\
@@ -133,6 +135,8 @@ struct Summary {
     dumped: usize,
     skipped: BTreeMap<String, usize>,
     unapplied: usize,
+    /// Those of the last file.
+    symbols: Symbols,
 }
 
 impl Summary {
@@ -158,9 +162,10 @@ fn each_unit(
     summary: &mut Summary,
     mut keep: impl FnMut(About, Dump) -> Result<(), String>,
 ) -> Result<(), String> {
-    let file = elf::read(object).map_err(|what| fault(object, what))?;
+    let mut file = elf::read(object).map_err(|what| fault(object, what))?;
     let second = read_supplementary(object, &file, supplementary)?;
     summary.unapplied += file.unapplied;
+    summary.symbols = std::mem::take(&mut file.symbols);
     let mut dwarf = file
         .sections
         .borrow(|data| EndianSlice::new(data, file.endian));
@@ -274,8 +279,11 @@ fn dump(object: &Path, place: &Path, supplementary: Option<&Path>) -> Result<(),
         Ok(())
     })?;
     std::fs::write(folder.join("index"), index).map_err(|error| fault(place, error))?;
+    let symbols = &summary.symbols;
+    std::fs::write(folder.join("symbols"), &symbols.bytes).map_err(|error| fault(place, error))?;
     pending.finish()?;
     summary.print();
+    symbols.print();
     Ok(())
 }
 

@@ -1,31 +1,39 @@
-//! Lists the units of a folder that `dumper dump` wrote: for each a heading, then what the import gives, in the words of the listing program.
+//! Lists the units of a folder that `dumper dump` wrote: for each a heading, then what the import gives, in the words of the listing program. With
+//! `--symbols`, behind the units, the functions that are known only by symbol.
 
 use std::io::{self, BufWriter, IsTerminal, Write};
 use std::path::Path;
 use std::{env, fs, process};
 
-use pezgok::{Buffers, Finished, Inputs, Options, Refusal, import, measure, work_length};
+use pezgok::{Buffers, Finished, Inputs, Options, Refusal, import, join_symbols, measure, work_length};
 
 fn main() {
-    let Some(folder) = env::args_os().nth(1) else {
-        fail("list FOLDER: a folder that `dumper dump` wrote");
+    let words: Vec<_> = env::args_os().skip(1).collect();
+    let (folder, with_symbols) = match &words[..] {
+        [folder] => (folder, false),
+        [folder, word] if word == "--symbols" => (folder, true),
+        _ => fail("list FOLDER [--symbols]: a folder that `dumper dump` wrote"),
     };
-    let folder = Path::new(&folder);
+    let folder = Path::new(folder);
     let index = fs::read_to_string(folder.join("index")).unwrap_or_else(|error| fail(&format!("{}: {error}", folder.display())));
     let rows: Vec<Vec<&str>> = index.lines().skip(1).map(|line| line.split('\t').collect()).collect();
     let mut out = BufWriter::new(io::stdout().lock());
     let shown = io::stderr().is_terminal() || rows.len() > 100;
+    let mut all = Vec::new();
     for (place, row) in rows.iter().enumerate() {
         let [unit, ordinal, .., name] = row[..] else { fail("the folder's index is cut off") };
         let Ok(ordinal) = ordinal.parse() else { fail("the folder's index has no ordinal") };
         if shown && place % 100 == 99 {
             eprintln!("{} of {} units", place + 1, rows.len());
         }
-        if let Err(error) = list(folder, unit, ordinal, name, &mut out) {
-            stop(&error);
+        match list(folder, unit, ordinal, name, &mut out) {
+            Ok(records) if with_symbols => all.extend(records),
+            Ok(_) => (),
+            Err(error) => stop(&error),
         }
     }
-    if let Err(error) = out.flush() {
+    let listed = if with_symbols { symbols(folder, &all, &mut out) } else { Ok(()) };
+    if let Err(error) = listed.and_then(|()| out.flush()) {
         stop(&error);
     }
 }
@@ -43,7 +51,8 @@ fn fail(message: &str) -> ! {
     process::exit(2);
 }
 
-fn list(folder: &Path, unit: &str, ordinal: u64, name: &str, out: &mut impl Write) -> io::Result<()> {
+/// Lists a unit and gives its records; none where it is refused.
+fn list(folder: &Path, unit: &str, ordinal: u64, name: &str, out: &mut impl Write) -> io::Result<Vec<u8>> {
     let read = |ending: &str| fs::read(folder.join(format!("{unit}.{ending}"))).unwrap_or_default();
     let (main, supplementary, program) = (fs::read(folder.join(format!("{unit}.main")))?, read("sup"), read("line"));
     writeln!(out, "unit {unit} {name}")?;
@@ -53,12 +62,23 @@ fn list(folder: &Path, unit: &str, ordinal: u64, name: &str, out: &mut impl Writ
     let options = Options { ordinal, ..Options::default() };
     let needed = match measure(inputs, options, &mut work) {
         Ok(needed) => needed,
-        Err(refusal) => return refused(refusal, out),
+        Err(refusal) => return refused(refusal, out).map(|()| Vec::new()),
     };
     let [mut records, mut files, mut warnings] = [needed.records, needed.files, needed.warnings].map(buffer);
     let buffers = Buffers { work: &mut work, records: &mut records, files: &mut files, warnings: &mut warnings };
     match import(inputs, options, buffers) {
-        Ok(done) => finished(done, &records, &files, &warnings, out),
+        Ok(done) => finished(done, &records, &files, &warnings, out).map(|()| records),
+        Err(refusal) => refused(refusal, out).map(|()| Vec::new()),
+    }
+}
+
+/// The functions that the symbol tables add to the records of all units. Records of several units, one behind the other, are a records tray too.
+fn symbols(folder: &Path, records: &[u8], out: &mut impl Write) -> io::Result<()> {
+    let list = fs::read(folder.join("symbols"))?;
+    writeln!(out, "symbols")?;
+    let mut result = buffer(records.len() + list.len());
+    match join_symbols(records, &list, &mut result) {
+        Ok(length) => fields(&result[records.len()..length], &mut 1, out),
         Err(refusal) => refused(refusal, out),
     }
 }
@@ -78,14 +98,19 @@ fn refused(refusal: Refusal, out: &mut impl Write) -> io::Result<()> {
 
 fn finished(done: Finished, records: &[u8], files: &[u8], warnings: &[u8], out: &mut impl Write) -> io::Result<()> {
     let mut file = 1;
-    for mut rest in [&records[..done.records], &files[..done.files], &warnings[..done.warnings]] {
-        while let [tag, low, high, after @ ..] = rest {
-            let (payload, next) = after.split_at(usize::from(u16::from_le_bytes([*low, *high])));
-            field(*tag, payload, &mut file, out)?;
-            rest = next;
-        }
+    for tray in [&records[..done.records], &files[..done.files], &warnings[..done.warnings]] {
+        fields(tray, &mut file, out)?;
     }
     writeln!(out, "stats {} {} {} {}", done.functions, done.line_rows, done.inline_nodes, done.rejected_ranges)
+}
+
+fn fields(mut tray: &[u8], file: &mut u64, out: &mut impl Write) -> io::Result<()> {
+    while let [tag, low, high, after @ ..] = tray {
+        let (payload, next) = after.split_at(usize::from(u16::from_le_bytes([*low, *high])));
+        field(*tag, payload, file, out)?;
+        tray = next;
+    }
+    Ok(())
 }
 
 fn field(tag: u8, p: &[u8], file: &mut u64, out: &mut impl Write) -> io::Result<()> {
