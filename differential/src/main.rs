@@ -10,6 +10,7 @@ use oracle::compose::field_count;
 use oracle::files::Source;
 use oracle::{Answer, Case, answer, generate, judged, limits, work_needed};
 
+mod joins;
 mod pass;
 mod wrong;
 
@@ -18,7 +19,8 @@ differential generated SEED COUNT [OPTIONS]     generated cases, each as it is, 
 differential cases CASES [OPTIONS]              the cases of a file, in the same way
 differential replay CASES ANSWERS [OPTIONS]     the cases of a file as they are, held to recorded answers
 differential large [OPTIONS]                    the cases over 64 KiB
-OPTIONS: --out DIR where a difference is written; --wrong NAME calls a wrong import or a wrong pass instead: it has to be reported";
+differential joins SEED COUNT [OPTIONS]         joins of symbols, each with work slices of several lengths
+OPTIONS: --out DIR where a difference is written; --wrong NAME calls a wrong import, pass or join instead: it has to be reported";
 
 /// What stands in the buffers before a call, and behind them all the time.
 const FILLED: u8 = 0xa5;
@@ -63,6 +65,7 @@ fn run(arguments: &[String]) -> Result<bool, String> {
             compare(std::iter::from_fn(move || source.case().transpose()), &options(rest)?)
         }
         ["replay", cases, answers, ref rest @ ..] => replay(Path::new(cases), Path::new(answers), &options(rest)?),
+        ["joins", seed, count, ref rest @ ..] => joins::compare(number(seed)?, number(count)?, &options(rest)?),
         ["large", ref rest @ ..] => compare(limits::large().into_iter().map(Ok), &options(rest)?),
         _ => Err(format!("these are the commands:{USAGE}")),
     }

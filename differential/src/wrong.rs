@@ -1,12 +1,14 @@
-//! Wrong imports and a wrong pass that the comparison has to report: each alters what the proved one left behind.
+//! Wrong imports, a wrong pass and a wrong join that the comparison has to report: each alters what the proved one left behind.
 
 use crate::Got;
+use crate::joins;
 use crate::pass::Said;
 
 #[derive(Clone, Copy)]
 pub enum Wrong {
     Import(fn(&mut Got)),
     Pass(fn(&mut Said)),
+    Join(fn(&mut joins::Got)),
 }
 
 pub fn named(name: &str) -> Result<Wrong, String> {
@@ -18,7 +20,8 @@ pub fn named(name: &str) -> Result<Wrong, String> {
         "forgets-columns" => Wrong::Import(forgets_columns),
         "invents-statistics" => Wrong::Import(invents_statistics),
         "forgets-a-byte" => Wrong::Pass(forgets_a_byte),
-        _ => return Err(format!("{name} is no wrong import and no wrong pass")),
+        "renames-a-symbol" => Wrong::Join(renames_a_symbol),
+        _ => return Err(format!("{name} is no wrong import, no wrong pass and no wrong join")),
     })
 }
 
@@ -84,4 +87,11 @@ fn invents_statistics(got: &mut Got) {
 /// A records buffer that is a byte too short.
 fn forgets_a_byte(said: &mut Said) {
     said.lengths[0] = said.lengths[0].saturating_sub(1);
+}
+
+/// The last byte of the result, which a name mostly ends with.
+fn renames_a_symbol(got: &mut joins::Got) {
+    if let Some(last) = got.length.checked_sub(1) {
+        got.result[last] ^= 1;
+    }
 }

@@ -104,6 +104,10 @@ mod requests;
 pub mod search_cases;
 #[cfg(not(feature = "plain"))]
 mod search_webs;
+#[cfg(not(feature = "plain"))]
+pub mod symbol_cases;
+#[cfg(not(feature = "plain"))]
+pub mod symbols;
 #[cfg(all(test, not(feature = "plain")))]
 mod tests;
 
