@@ -18,8 +18,9 @@ use Rattle.tlv.specs.Reader.{nodeOf}
 use Rattle.lookup.specs.declared.model.Chain.{Chain}
 use Rattle.lookup.specs.Tray.{FieldAt, GroupAt, groupsAt, hasTag, node}
 use Rattle.lookup.specs.Lookup.{nodeHolds, chainFrom}
-use Rattle.lookup.specs.Walk.{Stands, ownAt, heldFrom, ChainAt}
-use Rattle.lookup.proofs.StepLaws.{own-end, own-cut, own-function, own-next, node-deep}
+use Rattle.lookup.specs.Walk.{StandsOwn, ownAt, heldFrom, ChainAt}
+use Rattle.lookup.proofs.StepLaws.{own-end, own-cut, own-function, own-next}
+use Rattle.lookup.proofs.OwnLaws.{node-deep}
 
 -- the chain that is left from place p on, where its next node has depth n
 abbrev pub leftAt : List ℕ → ℕ → ℕ → ℕ → List ℕ
@@ -81,7 +82,7 @@ module _ (s : List ℕ) (own a p n : ℕ) (places : List ℕ) (r : Step) (g : Ga
     unfolding groupsAt
     chain-other q k = gather-same g _ (rw (own-next s p r at t start len next e q, ne-eqb t 0x43 k))
 
-    module _ (st : Stands s p) (d : ℕ) (q : (t ≡ 0x41 → ⊥)) (k : t ≡ 0x43) (is : d ≡ leAt 2 s start) where
+    module _ (st : StandsOwn s p) (d : ℕ) (q : (t ≡ 0x41 → ⊥)) (k : t ≡ 0x43) (is : d ≡ leAt 2 s start) where
       -- the node, by its depth and whether it holds the address
       left-is : leftAt s p a n ≡ cond (ltb d n) [] (cond (eqb d n && heldFrom s next a) (p ∷ leftAt s next a (suc n)) (leftAt s next a n))
       unfolding groupsAt chainFrom nodeOf heldFrom

@@ -14,9 +14,14 @@ pub mod SheetChain
 pub mod SheetLaws
 pub mod CheckLaws
 pub mod StepLaws
+pub mod OwnLaws
 pub mod WalkLaws
 pub mod ChainWalkLaws
 pub mod LookLaws
 pub mod ListingLaws
 pub mod NearestWalkLaws
+pub mod ExtentLaws
 pub mod IndexLaws
+pub mod HereLaws
+pub mod Indexing
+pub mod LookInLaws

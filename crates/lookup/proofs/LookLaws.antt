@@ -20,15 +20,16 @@ use Rattle.lookup.specs.declared.model.LookedUp.{LookedUp}
 use Rattle.lookup.specs.declared.address.FunctionPlace.{FunctionPlace}
 use Rattle.lookup.specs.Tray.{GroupAt, nodesAt, functionsAt, functionsOf, functionRange}
 use Rattle.lookup.specs.Lookup.{holds, rowInForce, chain, Frames, framesOf, qualifying, lookUp}
-use Rattle.lookup.specs.Walk.{Stands, ownAt, FoundHere, FunctionFound, rowFrom, ChainAt, RefusedWith}
+use Rattle.lookup.specs.Walk.{Stands, StandsOwn, ownAt, FoundHere, FunctionFound, rowFrom, ChainAt, RefusedWith}
 use Rattle.lookup.specs.Answers.{refusalNumber, rowPlace, framesGiven, LooksUp}
 use Rattle.lookup.proofs.DemandLaws.{explaining}
+use Rattle.lookup.proofs.OwnLaws.{stands-own}
 
 pub stands-start : (s : List ℕ) (b : Bool) → b ≡ recordsForm 0 0 (fields s) → not b ≡ false → Stands s 0
 stands-start s b e h = record { previous = 0; depth = 0; formed = sym e ∙ not-false b h; within = omega arith }
 
 -- the definition's answer, with the chain's places in bounds: demand 3 is then a theorem
-looks-up : (s : List ℕ) (a : ℕ) (r : LookedUp) → framesGiven (r .running) (r .chain) ≡ lookUp s a → r .chain .nodes ≤ 257
+pub looks-up : (s : List ℕ) (a : ℕ) (r : LookedUp) → framesGiven (r .running) (r .chain) ≡ lookUp s a → r .chain .nodes ≤ 257
     → ((n : ℕ) → framesGiven (r .running) (r .chain) ≡ refused n → r .chain .nodes ≡ 0)
     → drop (r .chain .nodes) (r .chain .places) ≡ replicate (257 - r .chain .nodes) 0 → LooksUp s a r
 looks-up s a r is few bare rest = record { is = is; few = few; bare = bare; rest = rest; demand = λ i x w e. explaining i s a x w (sym is ∙ e) }
@@ -64,5 +65,5 @@ module _ (s : List ℕ) (a : ℕ) (b : Bool) (form : b ≡ recordsForm 0 0 (fiel
         (k .few) (λ n q. refused-not (sym q)) (k .rest)
 
 -- where its own fields begin is a place of the tray
-pub own-stands : (s : List ℕ) (a : ℕ) (r : FunctionPlace) (place own : ℕ) → FunctionFound s a r → r ≡ FunctionPlace.At place own → Stands s own
-own-stands s a r place own f e = subst (FunctionFound s a) e f .stands
+pub own-stands : (s : List ℕ) (a : ℕ) (r : FunctionPlace) (place own : ℕ) → FunctionFound s a r → r ≡ FunctionPlace.At place own → StandsOwn s own
+own-stands s a r place own f e = stands-own (subst (FunctionFound s a) e f .stands)

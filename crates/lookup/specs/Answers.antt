@@ -17,8 +17,9 @@ use Rattle.lookup.specs.Lookup.{Frames, lookUp}
 use Rattle.lookup.specs.Window.{ListAfter}
 use Rattle.lookup.specs.Demand.{WrittenBy, Explained}
 
--- "one too short for the list gives 16"; "19, tray not in the form of document 01"; "20, no function qualifies"
+-- document 01's 5, short work, of an index; "one too short for the list gives 16"; "19, tray not in the form of document 01"; "20, no function qualifies"
 abbrev pub refusalNumber : Refusal → ℕ
+refusalNumber Refusal.ShortIndex = 5
 refusalNumber Refusal.ShortList = 16
 refusalNumber Refusal.MisshapenRecords = 19
 refusalNumber Refusal.NoFunction = 20

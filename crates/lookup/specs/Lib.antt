@@ -9,3 +9,4 @@ pub mod Answers
 pub mod Walk
 pub mod Listing
 pub mod Index
+pub mod LookIn

@@ -4,7 +4,7 @@ ghost use Prim.Native.Nat.{_+_, _≤_};
 ghost use lib.ListN.{length, take, drop};
 ghost use Rattle.tlv.specs.Model.{rangeOf};
 ghost use Rattle.lookup.specs.Lookup.{holds};
-ghost use Rattle.lookup.specs.Walk.{Stands, FunctionFound, rowFrom, heldFrom, ChainAt, RefusedWith};
+ghost use Rattle.lookup.specs.Walk.{Stands, StandsOwn, FunctionFound, rowFrom, heldFrom, ChainAt, RefusedWith};
 ghost use Rattle.lookup.specs.Answers.{rowPlace, LooksUp};
 use crate::form::check_records;
 use crate::model::CHAIN_MOST;
@@ -76,8 +76,8 @@ pub fn function_at(s: &[u8], address: u64) -> FunctionPlace
 }
 
 // The last row at or below the address among the own fields of a function, which begin at `own`.
-fn row_in_force(s: &[u8], own: usize, address: u64) -> Row
-    requires { ⌜ Stands (now s) own ⌝ }
+pub fn row_in_force(s: &[u8], own: usize, address: u64) -> Row
+    requires { ⌜ StandsOwn (now s) own ⌝ }
     ensures { λ r. ⌜ rowPlace r ≡ rowFrom (now (s .entry)) own address ⌝ }
 {
     let mut p = own;
@@ -116,7 +116,7 @@ fn row_in_force(s: &[u8], own: usize, address: u64) -> Row
 
 // Whether one of the ranges of a node, whose own fields begin at `own`, holds the address.
 fn node_holds(s: &[u8], own: usize, address: u64) -> bool
-    requires { ⌜ Stands (now s) own ⌝ }
+    requires { ⌜ StandsOwn (now s) own ⌝ }
     ensures { λ r. ⌜ r ≡ heldFrom (now (s .entry)) own address ⌝ }
 {
     let mut p = own;
@@ -154,8 +154,8 @@ fn node_holds(s: &[u8], own: usize, address: u64) -> bool
 }
 
 // The chain of nodes that hold the address, of the function whose own fields begin at `own`.
-fn chain_at(s: &[u8], own: usize, address: u64) -> Chain
-    requires { ⌜ Stands (now s) own ⌝ }
+pub fn chain_at(s: &[u8], own: usize, address: u64) -> Chain
+    requires { ⌜ StandsOwn (now s) own ⌝ }
     ensures { λ r. ⌜ ChainAt (now (s .entry)) own address r ⌝ }
 {
     let mut places: [usize; CHAIN_MOST] = [0; CHAIN_MOST];
@@ -214,7 +214,7 @@ fn chain_at(s: &[u8], own: usize, address: u64) -> Chain
     }
 }
 
-fn refused(r: Refusal) -> LookedUp
+pub fn refused(r: Refusal) -> LookedUp
     ensures { λ x. ⌜ RefusedWith r x ⌝ }
 {
     LookedUp {

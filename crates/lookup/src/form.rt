@@ -25,7 +25,7 @@ use tlv::fields::Step;
 use tlv::fields::field_at;
 
 // Whether a field of a tag may stand after one of the tag `previous`.
-fn may_follow(previous: u8, tag: u8) -> bool
+pub fn may_follow(previous: u8, tag: u8) -> bool
     ensures { λ r. ⌜ r ≡ exists (eqb tag) (recordsAfter previous) ⌝ }
 {
     match previous {
@@ -55,7 +55,7 @@ fn range_formed(s: &[u8], start: usize, len: usize) -> bool
     from < to
 }
 
-fn function_formed(s: &[u8], start: usize, len: usize) -> bool
+pub fn function_formed(s: &[u8], start: usize, len: usize) -> bool
     requires { ⌜ start + len ≤ length (now s) ⌝ }
     ensures { λ r. ⌜ r ≡ recordsFormed 0 0x41 (take len (drop start (now (s .entry)))) ⌝ }
 {
@@ -87,7 +87,7 @@ fn range_field_formed(s: &[u8], start: usize, len: usize) -> bool
 }
 
 // Whether the payload of a field is formed, where the next node may be `depth` deep.
-fn payload_formed(depth: u64, tag: u8, s: &[u8], start: usize, len: usize) -> bool
+pub fn payload_formed(depth: u64, tag: u8, s: &[u8], start: usize, len: usize) -> bool
     requires { ⌜ start + len ≤ length (now s) ⌝ }
     ensures { λ r. ⌜ r ≡ recordsFormed depth tag (take len (drop start (now (s .entry)))) ⌝ }
 {
@@ -102,7 +102,7 @@ fn payload_formed(depth: u64, tag: u8, s: &[u8], start: usize, len: usize) -> bo
 }
 
 // How deep the node after a field may be.
-fn depth_after(depth: u64, tag: u8, s: &[u8], start: usize, len: usize) -> u64
+pub fn depth_after(depth: u64, tag: u8, s: &[u8], start: usize, len: usize) -> u64
     requires { ⌜ start + len ≤ length (now s) ⌝ }
     requires { ⌜ recordsFormed depth tag (take len (drop start (now s))) ≡ true ⌝ }
     ensures { λ r. ⌜ r ≡ depthAfter depth (fieldIn (now (s .entry)) tag start len) ⌝ }

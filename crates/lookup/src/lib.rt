@@ -2,5 +2,7 @@
 pub mod address;
 pub mod below;
 pub mod form;
+pub mod index;
+pub mod lookin;
 pub mod model;
 pub mod window;

@@ -31,6 +31,7 @@ pub const CHAIN_MOST: usize = 257;
 
 // Why a look-up is refused; `refusalNumber` of specs/Answers.antt gives document 02's numbers.
 pub enum Refusal {
+    ShortIndex,
     ShortList,
     MisshapenRecords,
     NoFunction,
@@ -41,6 +42,7 @@ pub fn refusal_number(r: Refusal) -> u8
     ensures { λ n. ⌜ n ≡ refusalNumber r ⌝ }
 {
     match r {
+        Refusal::ShortIndex => 5,
         Refusal::ShortList => 16,
         Refusal::MisshapenRecords => 19,
         Refusal::NoFunction => 20,
@@ -80,5 +82,11 @@ pub enum Nearest {
 // The byte length of a list.
 pub enum Listed {
     Finished(usize),
+    Refused(Refusal),
+}
+
+// How many functions an index has, and whether it is in the order of their addresses.
+pub enum Indexed {
+    Finished { functions: usize, rising: bool },
     Refused(Refusal),
 }

@@ -4,15 +4,16 @@ use Prim.Native.Nat.{_-_}
 use native.Mathlib.Omega.{arith}
 use lib.ListN.{length}
 use Rattle.tlv.proofs.CursorLaws.{next-less}
-use Rattle.lookup.specs.Walk.{Stands}
-use Rattle.lookup.proofs.StepLaws.{stands-next, node-first}
-use Rattle.lookup.proofs.ChainWalkLaws.{leftAt, Gathering, gather-start, chain-end, chain-cut, chain-function, chain-other, chain-leaves, chain-deeper, chain-room, chain-passes, chain-takes}
+use Rattle.lookup.specs.Walk.{StandsOwn}
+use Rattle.lookup.proofs.OwnLaws.{own-stands-next, node-first}
+use Rattle.lookup.proofs.ChainWalkLaws.{leftAt, Gathering, gather-start, chain-end, chain-cut, chain-function, chain-other, chain-leaves}
+use Rattle.lookup.proofs.ChainWalkLaws.{chain-deeper, chain-room, chain-passes, chain-takes}
 use borrow.Author.Needs.{needs}
 use Rattle.lookup.proofs.address.chain_at.Statement.{statement}
 use Rattle.lookup.proofs.address.chain_at.Tie as tie
 
 abbrev Inv-loop : tie.InvT-loop
-Inv-loop s own address places₀ n₀ p₀ places n p = Stands s p × Gathering (leftAt s own address 0) places (leftAt s p address n) n
+Inv-loop s own address places₀ n₀ p₀ places n p = StandsOwn s p × Gathering (leftAt s own address 0) places (leftAt s p address n) n
 
 abbrev μ-loop : tie.MeasureT-loop
 μ-loop s own address places₀ n₀ p₀ places n p = length s - p
@@ -51,7 +52,7 @@ returns-4 : tie.Need-returns-4 Inv-loop μ-loop
 returns-4 c = search chain-leaves
 
 node-holds-requires : tie.Need-node-holds-requires Inv-loop μ-loop
-node-holds-requires c κs = search stands-next
+node-holds-requires c κs = search own-stands-next
 
 mul-places : tie.Need-mul-places Inv-loop μ-loop
 mul-places c = search needs
@@ -66,25 +67,25 @@ loop-less : tie.Need-loop-less Inv-loop μ-loop
 loop-less c = search next-less
 
 loop-again : tie.Need-loop-again Inv-loop μ-loop
-loop-again c = (search stands-next, search chain-takes)
+loop-again c = (search own-stands-next, search chain-takes)
 
 loop-less-2 : tie.Need-loop-less-2 Inv-loop μ-loop
 loop-less-2 c = search next-less
 
 loop-again-2 : tie.Need-loop-again-2 Inv-loop μ-loop
-loop-again-2 c = (search stands-next, search chain-passes)
+loop-again-2 c = (search own-stands-next, search chain-passes)
 
 loop-less-3 : tie.Need-loop-less-3 Inv-loop μ-loop
 loop-less-3 c = search next-less
 
 loop-again-3 : tie.Need-loop-again-3 Inv-loop μ-loop
-loop-again-3 c = (search stands-next, search chain-deeper)
+loop-again-3 c = (search own-stands-next, search chain-deeper)
 
 loop-less-4 : tie.Need-loop-less-4 Inv-loop μ-loop
 loop-less-4 c = search next-less
 
 loop-again-4 : tie.Need-loop-again-4 Inv-loop μ-loop
-loop-again-4 c = (search stands-next, search chain-other)
+loop-again-4 c = (search own-stands-next, search chain-other)
 
 pub chain-at-spec : {M : Type 1} → statement M
 chain-at-spec =

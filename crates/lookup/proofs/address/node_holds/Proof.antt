@@ -3,15 +3,15 @@ use mathlib.Core.Path.{_≡_, refl}
 use Prim.Native.Nat.{_-_}
 use lib.ListN.{length}
 use Rattle.tlv.proofs.CursorLaws.{next-less, payload-within}
-use Rattle.lookup.specs.Walk.{Stands, heldFrom}
-use Rattle.lookup.proofs.StepLaws.{stands-next, range-long}
+use Rattle.lookup.specs.Walk.{StandsOwn, heldFrom}
+use Rattle.lookup.proofs.OwnLaws.{own-stands-next, range-long}
 use Rattle.lookup.proofs.WalkLaws.{held-end, held-cut, held-function, held-node, held-other, held-not, held-this}
 use borrow.Author.Needs.{needs}
 use Rattle.lookup.proofs.address.node_holds.Statement.{statement}
 use Rattle.lookup.proofs.address.node_holds.Tie as tie
 
 abbrev Inv-loop : tie.InvT-loop
-Inv-loop s own address p₀ p = Stands s p × (heldFrom s own address ≡ heldFrom s p address)
+Inv-loop s own address p₀ p = StandsOwn s p × (heldFrom s own address ≡ heldFrom s p address)
 
 abbrev μ-loop : tie.MeasureT-loop
 μ-loop s own address p₀ p = length s - p
@@ -53,13 +53,13 @@ loop-less : tie.Need-loop-less Inv-loop μ-loop
 loop-less c = search next-less
 
 loop-again : tie.Need-loop-again Inv-loop μ-loop
-loop-again c = (search stands-next, search held-not)
+loop-again c = (search own-stands-next, search held-not)
 
 loop-less-2 : tie.Need-loop-less-2 Inv-loop μ-loop
 loop-less-2 c = search next-less
 
 loop-again-2 : tie.Need-loop-again-2 Inv-loop μ-loop
-loop-again-2 c = (search stands-next, search held-other)
+loop-again-2 c = (search own-stands-next, search held-other)
 
 pub node-holds-spec : {M : Type 1} → statement M
 node-holds-spec =

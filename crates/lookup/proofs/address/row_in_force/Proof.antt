@@ -5,15 +5,15 @@ use lib.ListN.{length}
 use Rattle.tlv.proofs.CursorLaws.{next-less, payload-within}
 use Rattle.tlv.specs.Lists.{orElse}
 use Rattle.lookup.specs.Answers.{rowPlace}
-use Rattle.lookup.specs.Walk.{Stands, rowFrom}
-use Rattle.lookup.proofs.StepLaws.{stands-next, row-first, row-long}
+use Rattle.lookup.specs.Walk.{StandsOwn, rowFrom}
+use Rattle.lookup.proofs.OwnLaws.{own-stands-next, row-first, row-long}
 use Rattle.lookup.proofs.WalkLaws.{or-none, row-end, row-cut, row-function, row-other, row-above, row-taken}
 use borrow.Author.Needs.{needs}
 use Rattle.lookup.proofs.address.row_in_force.Statement.{statement}
 use Rattle.lookup.proofs.address.row_in_force.Tie as tie
 
 abbrev Inv-loop : tie.InvT-loop
-Inv-loop s own address p₀ row₀ p row = Stands s p × (rowFrom s own address ≡ orElse (rowFrom s p address) (rowPlace row))
+Inv-loop s own address p₀ row₀ p row = StandsOwn s p × (rowFrom s own address ≡ orElse (rowFrom s p address) (rowPlace row))
 
 abbrev μ-loop : tie.MeasureT-loop
 μ-loop s own address p₀ row₀ p row = length s - p
@@ -49,19 +49,19 @@ loop-less : tie.Need-loop-less Inv-loop μ-loop
 loop-less c = search next-less
 
 loop-again : tie.Need-loop-again Inv-loop μ-loop
-loop-again c = (search stands-next, search (row-taken, row-long))
+loop-again c = (search own-stands-next, search (row-taken, row-long))
 
 loop-less-2 : tie.Need-loop-less-2 Inv-loop μ-loop
 loop-less-2 c = search next-less
 
 loop-again-2 : tie.Need-loop-again-2 Inv-loop μ-loop
-loop-again-2 c = (search stands-next, search (row-above, row-long))
+loop-again-2 c = (search own-stands-next, search (row-above, row-long))
 
 loop-less-3 : tie.Need-loop-less-3 Inv-loop μ-loop
 loop-less-3 c = search next-less
 
 loop-again-3 : tie.Need-loop-again-3 Inv-loop μ-loop
-loop-again-3 c = (search stands-next, search row-other)
+loop-again-3 c = (search own-stands-next, search row-other)
 
 pub row-in-force-spec : {M : Type 1} → statement M
 row-in-force-spec =
