@@ -1,6 +1,6 @@
 -- The answers of the look-ups as numbers, and the numbers that have no word. Assumes nothing.
 use mathlib.Core.Path.{_≡_, refl, sym, ap, subst, _∙_}
-use mathlib.Core.Bool.{false}
+use mathlib.Core.Bool.{Bool, false}
 use mathlib.Core.List.{List, [], _∷_}
 use Prim.Native.Nat.{ℕ, suc, _-_, _≤_, _<_}
 use native.Mathlib.Omega.{arith}
@@ -15,11 +15,13 @@ use Rattle.lookup.specs.declared.model.Running.{Running}
 use Rattle.lookup.specs.declared.model.LookedUp.{LookedUp}
 use Rattle.lookup.specs.declared.model.Nearest.{Nearest}
 use Rattle.lookup.specs.declared.model.Listed.{Listed}
+use Rattle.lookup.specs.declared.model.Indexed.{Indexed}
 use Rattle.lookup.specs.Lookup.{Frames, lookUp, nearestBelow}
 use Rattle.lookup.specs.Window.{ListAfter}
 use Rattle.lookup.specs.Answers.{refusalNumber, framesGiven, LooksUp, nearestGiven, listGiven}
 use Rattle.pezgok.specs.Exported.{refusalWord}
-use Rattle.pezgok.specs.Looked.{framesIn, nodesOf, ToldFrames, ExportsLookUp, nearestIn, listIn, ToldList}
+use Rattle.lookup.specs.LookIn.{LooksUpIn}
+use Rattle.pezgok.specs.Looked.{ToldIndex, ExportsLookUpIn, framesIn, nodesOf, ToldFrames, ExportsLookUp, nearestIn, listIn, ToldList}
 
 -- ---- frames
 
@@ -32,6 +34,7 @@ module _ (x : LookedUp) (running : Running) (c : Chain) (er : running ≡ x .run
   }
     where
       go : (r : Refusal) → refused (refusalNumber r) ≡ framesIn (refusalNumber r) (0 ∷ 0 ∷ 0 ∷ 0 ∷ []) (c .places)
+      go Refusal.ShortIndex = refl
       go Refusal.ShortList = refl
       go Refusal.MisshapenRecords = refl
       go Refusal.NoFunction = refl
@@ -64,6 +67,7 @@ pub nearest-refused : (x : Nearest) (q : Refusal) (n : ℕ) → x ≡ Nearest.Re
 nearest-refused x q n e en = rw (e, en) (go q)
   where
     go : (r : Refusal) → refused (refusalNumber r) ≡ nearestIn (refusalNumber r) 0
+    go Refusal.ShortIndex = refl
     go Refusal.ShortList = refl
     go Refusal.MisshapenRecords = refl
     go Refusal.NoFunction = refl
@@ -82,6 +86,24 @@ list-finished x n e = record { is = λ lent. rw e }
 
 pub list-told : (x : Listed) (size r : ℕ) (lent : List ℕ) (after : ListAfter) → ToldList x size r → listGiven x lent ≡ after → listIn r size lent ≡ after
 list-told x size r lent after t h = sym (t .is lent) ∙ h
+
+-- ---- an index
+
+pub index-refused : (x : Indexed) (q : Refusal) (n : ℕ) → x ≡ Indexed.Refused q → n ≡ refusalNumber q → ToldIndex x 0 false n
+index-refused x q n e en = record { finished = λ z. absurd (go q (sym en ∙ z)); refused = λ z. (q, e, en, refl, refl) }
+  where
+    go : (r : Refusal) → refusalNumber r ≡ 0 → ⊥
+    go Refusal.ShortIndex k = omega (arith, k)
+    go Refusal.ShortList k = omega (arith, k)
+    go Refusal.MisshapenRecords k = omega (arith, k)
+    go Refusal.NoFunction k = omega (arith, k)
+
+pub index-finished : (x : Indexed) (n : ℕ) (rising : Bool) → x ≡ Indexed.Finished n rising → ToldIndex x n rising 0
+index-finished x n rising e = record { finished = λ z. e; refused = λ z. absurd (z refl) }
+
+pub exports-look-up-in : {tray w found chain : List ℕ} {n a r : ℕ} {rising : Bool} (x : LookedUp) → LooksUpIn tray w n rising a x → ToldFrames x found chain r
+    → ExportsLookUpIn tray w n rising a found chain r
+exports-look-up-in x L T = record { answer = x; is = L; told = T; own = λ I. exports-look-up (L .own I) T }
 
 -- ---- numbers that have no word
 

@@ -1,6 +1,7 @@
 -- What the look-ups for callers from C promise: the same as those of `lookup`, with the answer as numbers. Assumes nothing.
 use mathlib.Core.Path.{_≡_}
-use mathlib.Core.Bool.{cond}
+use mathlib.Core.Logic.{_≢_}
+use mathlib.Core.Bool.{Bool, false, cond}
 use mathlib.Core.List.{List}
 use mathlib.Core.Option.{Option, none, some}
 use Prim.Native.Nat.{ℕ, _-_, _≤_}
@@ -8,13 +9,17 @@ use lib.Dec.{eqb}
 use lib.ListN.{getD, take, drop, replicate}
 use Rattle.tlv.specs.Outcome.{Outcome, refused, done}
 use Rattle.imports.specs.Answer.{Inputs}
+use Rattle.lookup.specs.declared.model.Refusal.{Refusal}
+use Rattle.lookup.specs.declared.model.Indexed.{Indexed}
 use Rattle.lookup.specs.declared.model.Running.{Running}
 use Rattle.lookup.specs.declared.model.LookedUp.{LookedUp}
 use Rattle.lookup.specs.declared.model.Listed.{Listed}
 use Rattle.lookup.specs.Lookup.{Frames, lookUp}
 use Rattle.lookup.specs.Window.{ListAfter}
 use Rattle.lookup.specs.Demand.{WrittenBy, Explained}
-use Rattle.lookup.specs.Answers.{framesGiven, listGiven}
+use Rattle.lookup.specs.Answers.{refusalNumber, framesGiven, listGiven}
+use Rattle.lookup.specs.Index.{IndexOf, MakesIndex}
+use Rattle.lookup.specs.LookIn.{LooksUpIn}
 
 -- the row, where the first number says that there is one
 abbrev pub rowIn : ℕ → ℕ → Option ℕ
@@ -49,3 +54,22 @@ listIn n size lent = record { refusal = n; size = size; lent = lent }
 
 pub record ToldList (x : Listed) (size r : ℕ) : Type 0 where
   pub is : (lent : List ℕ) → listGiven x lent ≡ listIn r size lent
+
+-- ---- by an index
+
+-- the refusal's number, the number of functions, whether they are in the order of their addresses
+pub record ToldIndex (x : Indexed) (n : ℕ) (rising : Bool) (r : ℕ) : Type 0 where
+  pub finished : r ≡ 0 → x ≡ Indexed.Finished n rising
+  pub refused : r ≢ 0 → (q : Refusal) × (x ≡ Indexed.Refused q) × (r ≡ refusalNumber q) × (n ≡ 0) × (rising ≡ false)
+
+pub record ExportsIndex (tray w w′ : List ℕ) (n : ℕ) (rising : Bool) (r : ℕ) : Type 0 where
+  pub answer : Indexed
+  pub is : MakesIndex tray w w′ answer
+  pub told : ToldIndex answer n rising r
+
+pub record ExportsLookUpIn (tray w : List ℕ) (n : ℕ) (rising : Bool) (a : ℕ) (found chain : List ℕ) (r : ℕ) : Type 0 where
+  pub answer : LookedUp
+  pub is : LooksUpIn tray w n rising a answer
+  pub told : ToldFrames answer found chain r
+  -- by the tray's own index it is the look-up
+  pub own : IndexOf tray w n rising → ExportsLookUp tray a found chain r

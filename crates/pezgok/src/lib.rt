@@ -7,6 +7,7 @@ ghost use Rattle.dwarf.specs.Answers.{answerGiven, inputsOf};
 ghost use Rattle.pezgok.specs.Exported.{answerIn, Exports, ExportsMeasure, refusalWord};
 use dwarf::model::Imported;
 
+pub mod index;
 pub mod joins;
 pub mod look;
 

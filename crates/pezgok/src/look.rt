@@ -16,7 +16,7 @@ use lookup::model::refusal_number;
 
 // An answer as numbers: returns the refusal's, 0 for none. `found` then has the place of the function, 1 or 0 for a row or none, its place, the number of
 // the chain's nodes, and `chain` begins with their places; all else is 0.
-fn tell_frames(answer: LookedUp, found: &mut [usize; 4], chain: &mut [usize; 257]) -> u8
+pub fn tell_frames(answer: LookedUp, found: &mut [usize; 4], chain: &mut [usize; 257]) -> u8
     ensures { λ r. ⌜ ToldFrames answer (now (found .exit)) (now (chain .exit)) r ⌝ }
 {
     let running = answer.running;
