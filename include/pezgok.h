@@ -26,7 +26,8 @@ enum {
  * strings had 4,096 bytes at most: what is shorter is refused with 5. */
 #define PEZGOK_WORK(fields, program_len) (64 * (size_t)(fields) + 4 * (size_t)(program_len) + 32768)
 
-/* Imports the unit of an ordinal, from 0, of the main input. Returns 0, or the refusal's number, 1 to 18.
+/* Imports the unit of an ordinal, from 0, of the main input. Returns 0, or the refusal's number, 1 to 18. An empty main input with ordinal 0 is a
+ * package without debug data: the import is finished, all values are 0 and the line program is not read.
  *
  * Any content and any length is taken. No two of the slices may overlap, but for two that are only read, nor may values overlap any; a pointer is not null, also where
  * its length is 0. After every call work holds only 0. After a refusal the three output buffers hold only 0, and so do the values; else each

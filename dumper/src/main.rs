@@ -27,10 +27,35 @@ fn main() -> ExitCode {
     let arguments = std::env::args_os().skip(1).map(PathBuf::from).collect();
     match run(arguments) {
         Ok(()) => ExitCode::SUCCESS,
-        Err(message) => {
-            eprintln!("dumper: {message}");
-            ExitCode::FAILURE
+        Err(stop) => {
+            eprintln!("dumper: {}", stop.message);
+            ExitCode::from(stop.status)
         }
+    }
+}
+
+/// Bad input. An object without debug data is none, and has a status of its own.
+const FAULT: u8 = 1;
+const NO_DEBUG_DATA: u8 = 3;
+
+/// What a run ends with where it gives no output.
+struct Stop {
+    message: String,
+    status: u8,
+}
+
+impl From<String> for Stop {
+    fn from(message: String) -> Self {
+        Stop {
+            message,
+            status: FAULT,
+        }
+    }
+}
+
+impl From<&str> for Stop {
+    fn from(message: &str) -> Self {
+        message.to_owned().into()
     }
 }
 
@@ -43,7 +68,7 @@ struct Options {
     append: bool,
 }
 
-fn run(arguments: Vec<PathBuf>) -> Result<(), String> {
+fn run(arguments: Vec<PathBuf>) -> Result<(), Stop> {
     let mut options = Options::default();
     let mut arguments = arguments.into_iter();
     let command = arguments.next().ok_or(USAGE)?;
@@ -56,7 +81,9 @@ fn run(arguments: Vec<PathBuf>) -> Result<(), String> {
                 options.append = true;
                 continue;
             }
-            Some(other) if other.starts_with("--") => return Err(format!("{other}?\n{USAGE}")),
+            Some(other) if other.starts_with("--") => {
+                return Err(format!("{other}?\n{USAGE}").into())
+            }
             _ => {
                 options.plain.push(argument);
                 continue;
@@ -161,7 +188,7 @@ fn each_unit(
     supplementary: Option<&Path>,
     summary: &mut Summary,
     mut keep: impl FnMut(About, Dump) -> Result<(), String>,
-) -> Result<(), String> {
+) -> Result<(), Stop> {
     let mut file = elf::read(object).map_err(|what| fault(object, what))?;
     let second = read_supplementary(object, &file, supplementary)?;
     summary.unapplied += file.unapplied;
@@ -185,7 +212,10 @@ fn each_unit(
         text: &file.text,
     };
     if input.main.len() == 0 {
-        return Err(fault(object, "has no units of DWARF"));
+        return Err(Stop {
+            message: fault(object, "has no debug data: no unit of DWARF"),
+            status: NO_DEBUG_DATA,
+        });
     }
     for number in 0..input.main.len() {
         let mut about = About::new(number, input.main.place(number).0);
@@ -248,13 +278,13 @@ fn read_supplementary(
     }
 }
 
-fn dump(object: &Path, place: &Path, supplementary: Option<&Path>) -> Result<(), String> {
+fn dump(object: &Path, place: &Path, supplementary: Option<&Path>) -> Result<(), Stop> {
     let pending = Pending::new(place)?;
     let folder = pending.folder()?;
     let mut index =
         String::from("unit\tordinal\toffset\tversion\tmain\tsupplementary\tline\tfields\tname\n");
     let mut summary = Summary::default();
-    each_unit(object, supplementary, &mut summary, |about, dump| {
+    let ended = each_unit(object, supplementary, &mut summary, |about, dump| {
         let parts = [
             ("main", &dump.main.bytes),
             ("sup", &dump.supplementary.bytes),
@@ -277,14 +307,20 @@ fn dump(object: &Path, place: &Path, supplementary: Option<&Path>) -> Result<(),
             about.name
         );
         Ok(())
-    })?;
-    std::fs::write(folder.join("index"), index).map_err(|error| fault(place, error))?;
+    });
     let symbols = &summary.symbols;
+    // Without debug data there may still be symbols.
+    if let Err(stop) = &ended {
+        if stop.status != NO_DEBUG_DATA || symbols.bytes.is_empty() {
+            return ended;
+        }
+    }
+    std::fs::write(folder.join("index"), index).map_err(|error| fault(place, error))?;
     std::fs::write(folder.join("symbols"), &symbols.bytes).map_err(|error| fault(place, error))?;
     pending.finish()?;
     summary.print();
     symbols.print();
-    Ok(())
+    ended
 }
 
 const INLINES: u8 = 1;
@@ -313,7 +349,7 @@ fn case(dump: &Dump) -> Vec<u8> {
     bytes
 }
 
-fn cases(options: &Options, out: &Path) -> Result<(), String> {
+fn cases(options: &Options, out: &Path) -> Result<(), Stop> {
     let pending = Pending::new(out)?;
     let mut file = pending.file()?;
     if options.append && out.exists() {

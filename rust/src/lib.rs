@@ -54,6 +54,7 @@ mod sys {
 /// What is read.
 #[derive(Clone, Copy, Debug)]
 pub struct Inputs<'a> {
+    /// Empty: a package without debug data, whose import of ordinal 0 is finished with nothing in it.
     pub main: &'a [u8],
     /// Empty: there is none.
     pub supplementary: &'a [u8],

@@ -79,3 +79,20 @@ fn the_lengths_that_are_measured_are_enough_and_no_less_is() {
     assert_eq!((refusal.number(), refusal.to_string().as_str()), (2, "misshapen"));
     assert!(work.iter().all(|&byte| byte == 0));
 }
+
+#[test]
+fn a_package_without_debug_data_is_finished() {
+    let inputs = Inputs { main: &[], supplementary: &[], program: &[0] };
+    let call = |ordinal: u64, work: usize| {
+        let (mut work, mut records) = (vec![0xa5; work], vec![0xa5; 8]);
+        let options = Options { ordinal, ..Options::default() };
+        let result = import(inputs, options, Buffers { work: &mut work, records: &mut records, files: &mut [], warnings: &mut [] });
+        assert!(work.iter().all(|&byte| byte == 0));
+        assert!(records.iter().all(|&byte| byte == if result.is_ok() { 0xa5 } else { 0 }));
+        assert_eq!(measure(inputs, options, &mut work), result);
+        result.map_err(Refusal::number)
+    };
+    assert_eq!(call(0, work_length(0, 1)), Ok(Finished::default()));
+    assert_eq!(call(0, work_length(0, 1) - 1), Err(5));
+    assert_eq!([call(1, work_length(0, 1)), call(u64::MAX, 0)], [Err(4); 2]);
+}
