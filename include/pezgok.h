@@ -80,6 +80,22 @@ uint8_t pezgok_functions_inside(
 uint8_t pezgok_functions_crossing(
     const uint8_t *records, size_t records_len, uint64_t start, uint64_t end, uint8_t *list, size_t list_len, size_t *length);
 
+/* ---- For many look-ups in one buffer: an index of its functions, made once. */
+
+/* The length of an index, for each function. */
+#define PEZGOK_EXTENT 24
+
+/* Makes the index, and tells how many functions it has and whether they are in the order of their addresses, since no two overlap. Returns 0, or 19,
+ * or 5 where the slice is too short; it then holds only 0, and so do both values. Bytes past the index stay. */
+uint8_t pezgok_make_index(
+    const uint8_t *records, size_t records_len, uint8_t *index, size_t index_len, size_t *functions, bool *rising);
+
+/* What pezgok_look_up answers, by the buffer's own index and the two values told with it: by a binary search where rising is true, else by a pass over
+ * the index. Any other bytes and values are taken too: then 5 where the index is shorter than functions says, 19 where no function stands where it says. */
+uint8_t pezgok_look_up_in(
+    const uint8_t *records, size_t records_len, const uint8_t *index, size_t index_len, size_t functions, bool rising, uint64_t address,
+    size_t found[PEZGOK_FOUND], size_t chain[PEZGOK_CHAIN]);
+
 /* The work slice with which a join of symbols to records of these lengths takes no walk over the records for a symbol. */
 #define PEZGOK_SYMBOLS_WORK(records_len, symbols_len) (16 * ((size_t)(records_len) / 19 + (size_t)(symbols_len) / 19))
 

@@ -38,8 +38,8 @@ const ITEMS: &[(&str, &[&str])] = &[
     ("error.rs", &["pub type Result<", "impl Error {", "impl From<gimli::Error> for Error {"]),
 ];
 
-/// The oracle's own text in which a fault may be planted too.
-const REQUESTS: &str = "requests.rs";
+/// The oracle's own texts in which a fault may be planted too, and what says that one is.
+const OWN: &[(&str, &str)] = &[("requests.rs", "faulty_requests"), ("lookup.rs", "faulty_lookup")];
 
 /// A block of amendments.txt or faults.txt.
 struct Block {
@@ -62,7 +62,7 @@ fn main() {
     println!("cargo::rerun-if-env-changed=GSYM_SRC");
     // The feature is the package plain's alone.
     println!("cargo::rustc-check-cfg=cfg(feature, values(\"plain\"))");
-    println!("cargo::rustc-check-cfg=cfg(faulty_requests)");
+    OWN.iter().for_each(|(_, faulty)| println!("cargo::rustc-check-cfg=cfg({faulty})"));
     let plain = env::var_os("CARGO_FEATURE_PLAIN").is_some();
     let mut package = PathBuf::from(env::var_os("CARGO_MANIFEST_DIR").unwrap());
     // The package plain stands within the oracle's.
@@ -89,9 +89,11 @@ fn main() {
         }
         write(&output.join(path), &text);
     }
-    if let Some(fault) = fault.take_if(|fault| fault.file == REQUESTS) {
-        write(&output.join(REQUESTS), &edited(&read(&package.join("src").join(REQUESTS)), &fault, false));
-        println!("cargo::rustc-cfg=faulty_requests");
+    for (path, faulty) in OWN {
+        if let Some(fault) = fault.take_if(|fault| fault.file == *path) {
+            write(&output.join(path), &edited(&read(&package.join("src").join(path)), &fault, false));
+            println!("cargo::rustc-cfg={faulty}");
+        }
     }
     if let Some(block) = amendments.into_iter().chain(fault).next() {
         fail(format!("amendments.txt or faults.txt names {}, of which nothing is taken in", block.file));

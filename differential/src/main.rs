@@ -11,6 +11,7 @@ use oracle::files::Source;
 use oracle::{Answer, Case, answer, generate, judged, limits, work_needed};
 
 mod joins;
+mod look;
 mod pass;
 mod wrong;
 
@@ -20,6 +21,8 @@ differential cases CASES [OPTIONS]              the cases of a file, in the same
 differential replay CASES ANSWERS [OPTIONS]     the cases of a file as they are, held to recorded answers
 differential large [OPTIONS]                    the cases over 64 KiB
 differential joins SEED COUNT [OPTIONS]         joins of symbols, each with work slices of several lengths
+differential looks SEED COUNT                   look-ups in generated records, 40 queries each, held to the oracle's model
+differential looks-in CASES                     the same in the records of the cases of a file
 OPTIONS: --out DIR where a difference is written; --wrong NAME calls a wrong import, pass or join instead: it has to be reported";
 
 /// What stands in the buffers before a call, and behind them all the time.
@@ -66,6 +69,11 @@ fn run(arguments: &[String]) -> Result<bool, String> {
         }
         ["replay", cases, answers, ref rest @ ..] => replay(Path::new(cases), Path::new(answers), &options(rest)?),
         ["joins", seed, count, ref rest @ ..] => joins::compare(number(seed)?, number(count)?, &options(rest)?),
+        ["looks", seed, count] => look::generated(number(seed)?, number(count)?),
+        ["looks-in", path] => {
+            let mut source = Source::open(Path::new(path))?;
+            look::cases(std::iter::from_fn(move || source.case().transpose()))
+        }
         ["large", ref rest @ ..] => compare(limits::large().into_iter().map(Ok), &options(rest)?),
         _ => Err(format!("these are the commands:{USAGE}")),
     }

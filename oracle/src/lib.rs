@@ -94,10 +94,14 @@ pub mod limits;
 pub mod line_cases;
 #[cfg(not(feature = "plain"))]
 pub mod listing;
+#[cfg(not(feature = "plain"))]
+pub mod look_cases;
+#[cfg(not(any(feature = "plain", faulty_lookup)))]
+pub mod lookup;
 #[cfg(all(test, not(feature = "plain")))]
 mod merging;
 #[cfg(not(feature = "plain"))]
-mod random;
+pub mod random;
 #[cfg(not(any(feature = "plain", faulty_requests)))]
 mod requests;
 #[cfg(not(feature = "plain"))]
@@ -111,10 +115,14 @@ pub mod symbols;
 #[cfg(all(test, not(feature = "plain")))]
 mod tests;
 
-// The build's copy, with the fault that is planted in it.
+// The build's copies, with the fault that is planted in one.
 #[cfg(faulty_requests)]
 mod requests {
     text!("requests.rs");
+}
+#[cfg(faulty_lookup)]
+pub mod lookup {
+    text!("lookup.rs");
 }
 
 #[cfg(not(feature = "plain"))]

@@ -7,7 +7,7 @@ use std::{env, fs};
 
 use oracle::files::{Source, Target};
 use oracle::listing::{INPUT_LIMIT, PROGRAM_LIMIT, listing};
-use oracle::{Case, answer, coverage, document, front_cases, generate, judge, judged, limits, line_cases, search_cases};
+use oracle::{Case, answer, coverage, document, front_cases, generate, judge, judged, limits, line_cases, look_cases, search_cases};
 
 const USAGE: &str = "
 oracle one DIR                              the listing of unit.main, unit.sup and unit.line in DIR
@@ -23,7 +23,8 @@ oracle coverage CASES                       counts what the cases reach; fails i
 oracle judge CASES                          counts the cases that the plain Rust judges; fails if it answers otherwise, or if they are few
 oracle lines SEED COUNT ROWS FRONTS STDIN STDOUT    writes calls of operands, sequences and paths, then calls for the rows of units,
                                             then calls for rows from the front of tables, and their answers as text
-oracle searches SEED COUNT STDIN STDOUT     writes calls of the searches, and their answers as text";
+oracle searches SEED COUNT STDIN STDOUT     writes calls of the searches, and their answers as text
+oracle looks SEED COUNT STDIN STDOUT        writes calls of the look-ups, and their answers as text";
 
 const INPUTS: [&str; 3] = ["unit.main", "unit.sup", "unit.line"];
 
@@ -58,6 +59,7 @@ fn run(arguments: &[&str]) -> Result<bool, String> {
             lines(number(seed)?, [number(count)?, number(rows)?, number(fronts)?], Path::new(stdin), Path::new(stdout))
         }
         ["searches", seed, count, stdin, stdout] => searches(number(seed)?, number(count)?, Path::new(stdin), Path::new(stdout)),
+        ["looks", seed, count, stdin, stdout] => looks(number(seed)?, number(count)?, Path::new(stdin), Path::new(stdout)),
         _ => Err(format!("these are the commands:{USAGE}")),
     }
 }
@@ -174,6 +176,18 @@ fn searches(seed: u64, count: u64, stdin: &Path, stdout: &Path) -> Result<bool, 
         let answer = judge::judged_searches(&call).map_err(|message| format!("call {number}: {message}"))?;
         cases.write(&[&call.bytes()])?;
         answers.write(&[answer.as_bytes(), b"\n"])?;
+    }
+    Ok(cases.finish()? && answers.finish()?)
+}
+
+/// So many calls of the look-ups behind their number, and the lines of each answer.
+fn looks(seed: u64, count: u64, stdin: &Path, stdout: &Path) -> Result<bool, String> {
+    let all = u32::try_from(count).map_err(|_| format!("{count} calls are too many"))?;
+    let (mut cases, mut answers) = (Target::create(stdin)?, Target::create(stdout)?);
+    cases.write(&[&all.to_le_bytes()])?;
+    for call in look_cases::calls(seed).take(count as usize) {
+        cases.write(&[&call.bytes()])?;
+        answers.write(&[call.answer().as_bytes(), b"\n"])?;
     }
     Ok(cases.finish()? && answers.finish()?)
 }

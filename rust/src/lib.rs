@@ -98,7 +98,7 @@ pub struct Finished {
     pub rejected_ranges: u64,
 }
 
-/// Why a call was refused: a number from 1 to 18 of an import, whose three output buffers then hold only 0; 16, 19 or 20 of a look-up.
+/// Why a call was refused: a number from 1 to 18 of an import, whose three output buffers then hold only 0; 5, 16, 19 or 20 of a look-up.
 #[derive(Clone, Copy, Debug, Eq, PartialEq)]
 pub struct Refusal(u8);
 

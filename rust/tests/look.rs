@@ -3,7 +3,7 @@
 use std::fs;
 use std::path::PathBuf;
 
-use pezgok::look::{functions_crossing, functions_inside, look_up, nearest_below};
+use pezgok::look::{EXTENT_SIZE, Index, functions_crossing, functions_inside, look_up, nearest_below};
 use pezgok::{Buffers, Inputs, Options, Refusal, import, work_length};
 
 /// Document 01's function from 1000 to 1010 hex: rows at 1000 and 1008, an inlined call from 1004 to 1008.
@@ -72,4 +72,20 @@ fn what_is_no_tray_is_refused() {
     assert_eq!((refusal.number(), refusal.to_string().as_str()), (19, "misshapen records"));
     let refusal = nearest_below(&[], 0).expect_err("it is refused");
     assert_eq!((refusal.number(), refusal.to_string().as_str()), (20, "no function"));
+}
+
+#[test]
+fn an_index_answers_as_the_records_do() {
+    let records = records();
+    let mut bytes = [0; EXTENT_SIZE];
+    let index = Index::make(&records, &mut bytes).expect("it is made");
+    assert_eq!((index.functions(), index.is_rising()), (1, true));
+    for address in [0, 0xfff, 0x1000, 0x1005, 0x1008, 0x100f, 0x1010, u64::MAX] {
+        assert_eq!(index.look_up(&records, address), look_up(&records, address));
+    }
+    assert_eq!(index.look_up(b"no records", 0x1000).map_err(Refusal::number), Err(19));
+    let mut short = [0xa5; EXTENT_SIZE - 1];
+    assert_eq!(Index::make(&records, &mut short).map(|_| ()).map_err(Refusal::number), Err(5));
+    assert_eq!(short, [0; EXTENT_SIZE - 1]);
+    assert_eq!(Index::make(b"no records", &mut short).map(|_| ()).map_err(Refusal::number), Err(19));
 }
