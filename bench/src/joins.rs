@@ -72,7 +72,7 @@ fn function(start: u64, records: &mut Vec<u8>) {
     let range = range.as_flattened();
     field(0x41, &[range, b"fade"], records);
     for row in 0..8 {
-        field(0x42, &[&(start + row).to_le_bytes(), &1u32.to_le_bytes(), &10u32.to_le_bytes()], records);
+        field(0x42, &[&(start + row).to_le_bytes(), &1u32.to_le_bytes(), &10u32.to_le_bytes(), &3u16.to_le_bytes()], records);
     }
     for depth in 0..2u16 {
         field(0x43, &[&depth.to_le_bytes(), &1u32.to_le_bytes(), &10u32.to_le_bytes(), b"dim"], records);

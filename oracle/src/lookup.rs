@@ -1,7 +1,7 @@
 //! What is running at an address (document 02, E6): a model written from the request. A records buffer is parsed into functions with trees of
 //! inlined calls, and the trees are asked. The Rust has no such function.
 
-/// How long a row's payload is: address, file and line.
+/// How long a row's payload is: address, file, line and column (E7).
 pub const ROW_SIZE: usize = 18;
 const DEEPEST: usize = 256;
 

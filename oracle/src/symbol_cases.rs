@@ -81,7 +81,7 @@ fn records(random: &mut Random) -> Vec<u8> {
 fn function(random: &mut Random) -> Vec<Vec<u8>> {
     let mut parts = vec![field(FUNCTION, &[&pair(random), name(random)])];
     for _ in 0..random.below(3) {
-        let row = [address(random).to_le_bytes(), random.next().to_le_bytes()].concat();
+        let row = [address(random), random.next(), random.next()].map(u64::to_le_bytes).concat();
         parts.push(field(ROW, &[&row[..ROW_SIZE]]));
     }
     let mut depth = 0;

@@ -8,7 +8,7 @@ pub const RANGE: u8 = 0x44;
 pub const SITE: u8 = 0x45;
 pub const SYMBOL: u8 = 0x50;
 /// The length of a row's payload.
-pub const ROW_SIZE: usize = 16;
+pub const ROW_SIZE: usize = 18;
 const DEEPEST: u16 = 256;
 
 /// A records tray, a list of symbols, and how long the result may be.
