@@ -13,6 +13,7 @@ use oracle::plain::{finished, inputs, written};
 use oracle::{Case, judged};
 
 mod joins;
+mod looks;
 mod sheets;
 
 const USAGE: &str = "
@@ -21,6 +22,7 @@ bench scaled [TURNS]                each family, from 1,024 fields to 65,536
 bench worst [TURNS [PART]]          the worst that the limits allow, or those of them that have PART in their name
 bench pass CASES [TURNS]            the pass that writes no buffer beside the import: the cases of a file, each family at 65,536 fields, the worst
 bench joins [TURNS]                 joins of symbols to trays of 65,536 fields to a million
+bench looks CASES [TURNS]           look-ups in the records of the cases, joined to megabytes: by the records alone, and by an index of them
 bench run ours|rust FAMILY FIELDS TURNS     one of them alone, for a profiler; FAMILY may be one of the worst, FIELDS is then not read
 bench run ours|rust corpus CASES TURNS      the cases of a file";
 
@@ -95,6 +97,7 @@ fn run(arguments: &[String]) -> Result<(), String> {
         ["worst", ref turns @ ..] => worst(self::turns(turns, 3)?, ""),
         ["pass", cases, ref turns @ ..] => pass(&read(cases)?, self::turns(turns, 9)?),
         ["joins", ref turns @ ..] => joins::joins(self::turns(turns, 9)?),
+        ["looks", cases, ref turns @ ..] => looks::looks(&read(cases)?, self::turns(turns, 9)?),
         ["run", side, "corpus", cases, ref turns @ ..] => alone(side, &read(cases)?, self::turns(turns, 1)?),
         ["run", side, family, fields, ref turns @ ..] => {
             let fields = fields.parse().map_err(|_| format!("{fields} is no number"))?;
