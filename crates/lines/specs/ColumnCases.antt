@@ -37,7 +37,9 @@ abbrev pub columnCases : List ColumnCase
 columnCases =
     -- two calls on one line, another line between, are told apart
     record {
-      rows = row 0x1000 10 3 ∷ row 0x1002 11 1 ∷ row 0x1004 10 9 ∷ []; start = 0x1000; gives = row 0x1000 10 3 ∷ row 0x1002 11 1 ∷ row 0x1004 10 9 ∷ [];
+      rows = row 0x1000 10 3 ∷ row 0x1002 11 1 ∷ row 0x1004 10 9 ∷ [];
+      start = 0x1000;
+      gives = row 0x1000 10 3 ∷ row 0x1002 11 1 ∷ row 0x1004 10 9 ∷ [];
     }
     -- without one between they merge, "the first one kept"
     ∷ record { rows = row 0x1000 10 3 ∷ row 0x1004 10 9 ∷ []; start = 0x1000; gives = row 0x1000 10 3 ∷ [] }

@@ -93,7 +93,7 @@ module _ (tray list result : List ℕ) where
                 let s = put-length copied in
                 let t = all .short (omega arith) in
                 let w : length result < length (wholeFrom tray list 0) =
-                    subst (λ (y : List ℕ). length result < length (wholeFrom y list 0)) taken (omega arith) in
+                subst (λ (y : List ℕ). length result < length (wholeFrom y list 0)) taken (omega arith) in
                 cleared-as Refusal.ShortResult result₂ result₃ x (same ∙ s) c (too-long w)
 
             pub join-done : q ≤ length result₂ → joinGiven (Joined.Finished q) result₂ ≡ joinSymbols tray list result
@@ -106,7 +106,7 @@ module _ (tray list result : List ℕ) where
                 let rest : drop q result₁ ≡ drop q result = behind is in
                 let now : result₂ ≡ wholeFrom tray list 0 ++ drop (length (wholeFrom tray list 0)) result =
                 t .0 ∙ ap (λ (y : List ℕ). wholeFrom y list 0 ++ drop q result₁) taken ∙ ap (λ (y : List ℕ). wholeFrom tray list 0 ++ y) rest
-                    ∙ ap (λ (i : ℕ). wholeFrom tray list 0 ++ drop i result) is in
+                ∙ ap (λ (i : ℕ). wholeFrom tray list 0 ++ drop i result) is in
                 rw (whole, le-ltb (length result) (length (wholeFrom tray list 0)) fits, is, now)
               where
                 behind : q ≡ length (wholeFrom tray list 0) → drop q result₁ ≡ drop q result

@@ -40,9 +40,9 @@ module _ (rest : List ℕ) where
       go : (c : Bool) → leb (le (a ∷ b ∷ [])) (length l) ≡ c
           → Uncut (cond c (more (record { tag = t; payload = take (le (a ∷ b ∷ [])) l }) (fieldsFrom (le (a ∷ b ∷ [])) l)) cut)
           → (le (a ∷ b ∷ []) ≤ length l → Uncut (fieldsFrom (le (a ∷ b ∷ [])) l)
-              → fieldsFrom (le (a ∷ b ∷ [])) (l ++ rest) ≡ prepend (wholeFields (fieldsFrom (le (a ∷ b ∷ [])) l)) (fields rest))
+          → fieldsFrom (le (a ∷ b ∷ [])) (l ++ rest) ≡ prepend (wholeFields (fieldsFrom (le (a ∷ b ∷ [])) l)) (fields rest))
           → cond (leb (le (a ∷ b ∷ [])) (length (l ++ rest)))
-              (more (record { tag = t; payload = take (le (a ∷ b ∷ [])) (l ++ rest) }) (fieldsFrom (le (a ∷ b ∷ [])) (l ++ rest))) cut
+          (more (record { tag = t; payload = take (le (a ∷ b ∷ [])) (l ++ rest) }) (fieldsFrom (le (a ∷ b ∷ [])) (l ++ rest))) cut
           ≡ prepend (wholeFields (cond c (more (record { tag = t; payload = take (le (a ∷ b ∷ [])) l }) (fieldsFrom (le (a ∷ b ∷ [])) l)) cut)) (fields rest)
       go true e v ih =
           let fits : le (a ∷ b ∷ []) ≤ length l = leb-true _ _ e in
@@ -63,7 +63,7 @@ form-uncut previous d end h = tt
 form-uncut previous d cut h = false≢true h
 form-uncut previous d (more f fs) h =
     form-uncut (f .tag) (depthAfter d f) fs
-        (and-right (exists (eqb (f .tag)) (recordsAfter previous) && recordsFormed d (f .tag) (f .payload)) (recordsForm (f .tag) (depthAfter d f) fs) h)
+    (and-right (exists (eqb (f .tag)) (recordsAfter previous) && recordsFormed d (f .tag) (f .payload)) (recordsForm (f .tag) (depthAfter d f) fs) h)
 
 -- ---- bare functions behind a tray
 
@@ -81,7 +81,7 @@ function-follows t e = rw e (go (eqb t 0x41 || eqb t 0x42) (eqb t 0x44) (eqb t 0
   where
     go : (a b c : Bool)
         → exists (eqb 0x41) (cond a (0x41 ∷ 0x42 ∷ 0x43 ∷ 0x45 ∷ []) (cond false (0x44 ∷ [])
-            (cond b (0x41 ∷ 0x43 ∷ 0x44 ∷ 0x45 ∷ []) (cond c (0x41 ∷ 0x45 ∷ []) (0x41 ∷ []))))) ≡ true
+        (cond b (0x41 ∷ 0x43 ∷ 0x44 ∷ 0x45 ∷ []) (cond c (0x41 ∷ 0x45 ∷ []) (0x41 ∷ []))))) ≡ true
     go true b c = refl
     go false true c = refl
     go false false true = refl
@@ -103,7 +103,7 @@ unfolding recordsForm
 bares-formed [] h previous d e = e
 bares-formed (s ∷ ss) h previous d e =
     rw (function-follows previous (not-true _ e), function-formed d s (h .0))
-        (bares-formed ss (h .1) 0x41 (depthAfter d (record { tag = 0x41; payload = payloadOf s })) refl)
+    (bares-formed ss (h .1) 0x41 (depthAfter d (record { tag = 0x41; payload = payloadOf s })) refl)
 
 tray-formed : (fs : FieldList) (ss : List Symbol) → All Fits ss → (previous d : ℕ) → recordsForm previous d fs ≡ true
     → recordsForm previous d (prepend (wholeFields fs) (prepend (tagged 0x41 payloadOf ss) end)) ≡ true
@@ -112,9 +112,9 @@ tray-formed end ss h previous d e = bares-formed ss h previous d e
 tray-formed cut ss h previous d e = absurd (false≢true e)
 tray-formed (more f fs) ss h previous d e =
     let both =
-        and-left (exists (eqb (f .tag)) (recordsAfter previous) && recordsFormed d (f .tag) (f .payload)) (recordsForm (f .tag) (depthAfter d f) fs) e in
+    and-left (exists (eqb (f .tag)) (recordsAfter previous) && recordsFormed d (f .tag) (f .payload)) (recordsForm (f .tag) (depthAfter d f) fs) e in
     let rest =
-        and-right (exists (eqb (f .tag)) (recordsAfter previous) && recordsFormed d (f .tag) (f .payload)) (recordsForm (f .tag) (depthAfter d f) fs) e in
+    and-right (exists (eqb (f .tag)) (recordsAfter previous) && recordsFormed d (f .tag) (f .payload)) (recordsForm (f .tag) (depthAfter d f) fs) e in
     rw both (tray-formed fs ss h (f .tag) (depthAfter d f) rest)
 
 -- ---- the groups
@@ -172,11 +172,11 @@ reads-joined tray ss fs h e = go (recordsForm 0 0 (fields tray)) refl e
     go : (b : Bool) → recordsForm 0 0 (fields tray) ≡ b → cond b (some (map functionOf (grouped 0x41 (wholeFields (fields tray)) .groups))) none ≡ some fs
         → cond (recordsForm 0 0 (fields (tray ++ eachOf (λ s. encode 0x41 (functionPayload (s .range) (s .name))) ss)))
         (some (map functionOf
-            (grouped 0x41 (wholeFields (fields (tray ++ eachOf (λ s. encode 0x41 (functionPayload (s .range) (s .name))) ss))) .groups))) none
+        (grouped 0x41 (wholeFields (fields (tray ++ eachOf (λ s. encode 0x41 (functionPayload (s .range) (s .name))) ss))) .groups))) none
         ≡ some (fs ++ map bare ss)
     go true f q =
         let spelled =
-            spells-append (spells-itself tray (form-uncut 0 0 (fields tray) f)) (spells-tagged 0x41 payloadOf ss (all-map ss (λ s k. k .short) h)) in
+        spells-append (spells-itself tray (form-uncut 0 0 (fields tray) f)) (spells-tagged 0x41 payloadOf ss (all-map ss (λ s k. k .short) h)) in
         let is = fields-spelled spelled in
         let form : recordsForm 0 0 (prepend (wholeFields (fields tray) ++ tagged 0x41 payloadOf ss) end) ≡ true =
         rw (prepend-append (wholeFields (fields tray)) (tagged 0x41 payloadOf ss) end) (tray-formed (fields tray) ss h 0 0 f) in

@@ -130,11 +130,13 @@ covering rs (p ∷ ps) =
         → All (Covered rs (joining rs (map symbolOf ps))) ps
         → All (Covered (rs ++ (symbolOf p .range ∷ [])) (joining (rs ++ (symbolOf p .range ∷ [])) (map symbolOf ps))) ps
         → All (Covered rs (cond (b || c) (joining rs (map symbolOf ps))
-            (symbolOf p ∷ joining (rs ++ (symbolOf p .range ∷ [])) (map symbolOf ps)))) (p ∷ ps)
+        (symbolOf p ∷ joining (rs ++ (symbolOf p .range ∷ [])) (map symbolOf ps)))) (p ∷ ps)
     go true e c h x y = (inl (passed-is (symbolOf p) e), x)
-    go false e true h x y =
-        (inr (held-left (symbolOf p .range .start) rs (map (λ (s : Symbol). s .range) (joining rs (map symbolOf ps)))
-            (some-holds (symbolOf p .range .start) rs h)), x)
+    go false e true h x y = (
+      inr (held-left (symbolOf p .range .start) rs (map (λ (s : Symbol). s .range) (joining rs (map symbolOf ps)))
+          (some-holds (symbolOf p .range .start) rs h)),
+      x,
+    )
     go false e false h x y = (
       inr (held-right (symbolOf p .range .start) rs
           (symbolOf p .range ∷ map (λ (s : Symbol). s .range) (joining (rs ++ (symbolOf p .range ∷ [])) (map symbolOf ps)))

@@ -117,7 +117,7 @@ grown-by {w} {w′} {e} x m n f lying first held = record { grown = λ rs k. rec
     from rs k y h =
         ⊎-elim
         (λ u. ⊎-elim (λ v. inl (subst (λ (q : List AddressRange). Holds q y) (sym first) v))
-            (λ v. inr (held y .1 (held-left y (rangesAt w (e .base) (e .added)) (x ∷ []) v))) (k .same (not-false (e .fast) f) y .1 u))
+        (λ v. inr (held y .1 (held-left y (rangesAt w (e .base) (e .added)) (x ∷ []) v))) (k .same (not-false (e .fast) f) y .1 u))
         (λ u. inr (held y .1 (held-right y (rangesAt w (e .base) (e .added)) (x ∷ []) u))) (held-split y rs (x ∷ []) h)
 
 turned-round : (y : ℕ) (x : AddressRange) (rs : List AddressRange) → Holds (x ∷ rs) y ↔ Holds (rs ++ (x ∷ [])) y
@@ -214,7 +214,7 @@ module _ {w w₁ : List ℕ} {e : Extents} (x : AddressRange) (l : Lying w e) (f
         })
         kept
         (λ y. subst (λ (q : List AddressRange). Holds q y ↔ Holds (rangesAt w (e .base) (e .added) ++ (x ∷ [])) y) (sym is)
-            (merge-holds (rangesAt w (e .base) (e .added) ++ (x ∷ [])) y))
+        (merge-holds (rangesAt w (e .base) (e .added) ++ (x ∷ [])) y))
 
 -- ---- is an address held, by the tables
 

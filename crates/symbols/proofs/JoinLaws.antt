@@ -39,7 +39,7 @@ shorts zero (t ∷ x ∷ y ∷ l) b = go (leb (le (x ∷ y ∷ [])) (length l)) 
   where
     go : (c : Bool) → leb (le (x ∷ y ∷ [])) (length l) ≡ c → x < 256 → y < 256 → All (λ f. Short (f .payload)) (wholeFields (fieldsFrom (le (x ∷ y ∷ [])) l))
         → All (λ f. Short (f .payload))
-            (wholeFields (cond c (more (record { tag = t; payload = take (le (x ∷ y ∷ [])) l }) (fieldsFrom (le (x ∷ y ∷ [])) l)) cut))
+        (wholeFields (cond c (more (record { tag = t; payload = take (le (x ∷ y ∷ [])) l }) (fieldsFrom (le (x ∷ y ∷ [])) l)) cut))
     go true e hx hy ih =
         let n = length-take-le (le (x ∷ y ∷ [])) l (leb-true _ _ e) in
         (omega arith, ih)
@@ -123,7 +123,7 @@ module _ (tray list result : List ℕ) (fs : List Function) (b : Bytes list) (r 
 
   by-form : (gs : List GroupAt) → functionsOf tray ≡ done gs → (c : Bool) → symbolsForm (fields list) ≡ c
       → cond c (done (tray ++ bareBytes (joining (map functionRange gs) (map symbolOf (payloads 0x50 (wholeFields (fields list))))))) (refused 26)
-          ≡ done result → JoinedReads tray list result fs
+      ≡ done result → JoinedReads tray list result fs
   unfolding fieldsFrom
   by-form gs g true s e =
       let fit = joining-fits (map (λ f. f .range) fs) (payloads 0x50 (wholeFields (fields list))) (whole-payloads (fields list) s (shorts 0 list b)) in

@@ -181,7 +181,7 @@ pub laid-put : {at q : ℕ} {t t′ : List ℕ} (s : List ℕ) (start len : ℕ)
 laid-put {at} {q} {t} {t′} s start len rs x n b p fits long ex en z w e k =
     let size : start + len - (start + 16) ≡ len - 16 = omega arith in
     put-as (laid-this s start len fits long rs x n ex en b z w e k)
-        (subst (λ (i : ℕ). Put at (encode 0x41 (functionPayload (record { start = x; end = x + n }) (take i (drop (start + 16) s)))) t t′ q) size p)
+    (subst (λ (i : ℕ). Put at (encode 0x41 (functionPayload (record { start = x; end = x + n }) (take i (drop (start + 16) s)))) t t′ q) size p)
 
 pub symbol-range-is : (s : List ℕ) (start len x n : ℕ) → start + len ≤ length s → 16 ≤ len → x ≡ leAt 8 s start → n ≡ leAt 8 s (start + 8)
     → record { start = x; end = x + n } ≡ symbolOf (take len (drop start s)) .range

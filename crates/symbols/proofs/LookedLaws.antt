@@ -130,7 +130,7 @@ record Result (tray result : List ℕ) : Type 0 where
 module _ (tray list result : List ℕ) (b : Bytes list) where
   result-by : (gs : List GroupAt) (c : Bool) → symbolsForm (fields list) ≡ c
       → cond c (done (tray ++ bareBytes (joining (map functionRange gs) (map symbolOf (payloads 0x50 (wholeFields (fields list)))))))
-          (refused 26) ≡ done result
+      (refused 26) ≡ done result
       → Result tray result
   unfolding fieldsFrom
   result-by gs true s e = record {

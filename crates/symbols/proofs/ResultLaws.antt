@@ -206,7 +206,7 @@ module _ {list result₀ result result′ : List ℕ} {from p at q : ℕ} {r : S
       let within = j .standing .within in
       let front : length (take at result) ≡ at = length-take-le at result within in
       let long : length (wholeFrom (take from result₀) list 0)
-          ≡ at + length bytesLaid + length (bareBytes (joining (rangesIn (take at result ++ bytesLaid)) (symbolsFrom list next))) =
+      ≡ at + length bytesLaid + length (bareBytes (joining (rangesIn (take at result ++ bytesLaid)) (symbolsFrom list next))) =
       ap length whole-next ∙ rw (length-append, length-append, front) in
       record { fits = λ l. absurd (omega arith); short = λ l. omega arith }
 
