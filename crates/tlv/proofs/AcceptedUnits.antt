@@ -119,5 +119,6 @@ pub accepting : Accepting
 unfolding checkInput units
 accepting s n b e =
     let gs = grouped 0x10 (wholeFields (fields s)) .groups in
-    let passed = grouped-passed 0x10 start (wholeFields (fields s)) (checked-passed start (fields s) n (fields-bytes 0 s b) e) in
+    let c = start (e .program) in
+    let passed = grouped-passed 0x10 c (wholeFields (fields s)) (checked-passed c (fields s) n (fields-bytes 0 s b) (e .passes)) in
     all-image UnitAccepted unitOf gs (all-map gs unit-accepted (passed .groups))
