@@ -1,4 +1,4 @@
-/* The proved import of one DWARF unit, for C. Link libpezgok.a, which `rt staticlib pezgok` writes to target/staticlib. */
+/* The proved import of one DWARF unit, or of all units, for C. Link libpezgok.a, which `rt staticlib pezgok` writes to target/staticlib. */
 #ifndef PEZGOK_H
 #define PEZGOK_H
 
@@ -51,6 +51,30 @@ uint8_t pezgok_measure(
     const uint8_t *supplementary, size_t supplementary_len,
     const uint8_t *program, size_t program_len,
     uint64_t ordinal, bool inlines, bool call_sites, uint32_t first_file,
+    uint8_t *work, size_t work_len,
+    uint64_t values[PEZGOK_VALUES]);
+
+/* Imports all units of the main input, in order, into one records buffer, with one table of files: a file that an earlier unit brought keeps its number
+ * and is written once. Each buffer has what the imports of the units write one after another, and the statistics are added. The first unit that is
+ * refused refuses all. An input without units is a package without debug data. The units' line programs stand in one program: a unit's part of it is named
+ * by field 1e hex behind its line header, without which it is the whole. All else is as of pezgok_import; work has the same length. */
+uint8_t pezgok_import_dwarf(
+    const uint8_t *main, size_t main_len,
+    const uint8_t *supplementary, size_t supplementary_len,
+    const uint8_t *program, size_t program_len,
+    bool inlines, bool call_sites, uint32_t first_file,
+    uint8_t *work, size_t work_len,
+    uint8_t *records, size_t records_len,
+    uint8_t *files, size_t files_len,
+    uint8_t *warnings, size_t warnings_len,
+    uint64_t values[PEZGOK_VALUES]);
+
+/* How long the three output buffers of such an import must be, and its statistics, as pezgok_measure says it of pezgok_import. */
+uint8_t pezgok_measure_dwarf(
+    const uint8_t *main, size_t main_len,
+    const uint8_t *supplementary, size_t supplementary_len,
+    const uint8_t *program, size_t program_len,
+    bool inlines, bool call_sites, uint32_t first_file,
     uint8_t *work, size_t work_len,
     uint64_t values[PEZGOK_VALUES]);
 

@@ -9,6 +9,9 @@ mod symbols;
 
 pub use symbols::{join_symbols, join_symbols_with, symbols_work_length};
 
+mod whole;
+pub use whole::{import_dwarf, measure_dwarf};
+
 mod sys {
     unsafe extern "C" {
         pub fn pezgok_import(
@@ -64,7 +67,7 @@ pub struct Inputs<'a> {
 /// What is asked.
 #[derive(Clone, Copy, Debug)]
 pub struct Options {
-    /// The unit's number in the main input, from 0.
+    /// The unit's number in the main input, from 0. Not read where all units are imported.
     pub ordinal: u64,
     pub inlines: bool,
     pub call_sites: bool,
