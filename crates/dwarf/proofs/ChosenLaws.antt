@@ -32,17 +32,18 @@ use Rattle.dies.specs.DetailState.{Accepted}
 use Rattle.dies.proofs.NodeStepLaws.{each-append, warnings-append}
 use Rattle.imports.specs.Import.{importUnitDetails, importUnit}
 use Rattle.imports.specs.Answer.{noStats}
-use Rattle.dwarf.specs.declared.model.ImportContext.{ImportContext}
-use Rattle.dwarf.specs.declared.model.ImportState.{ImportState}
-use Rattle.dwarf.specs.declared.model.ConversionStats.{ConversionStats}
+use Rattle.subprograms.specs.declared.model.ImportContext.{ImportContext}
+use Rattle.subprograms.specs.declared.model.ImportState.{ImportState}
+use Rattle.subprograms.specs.declared.model.ConversionStats.{ConversionStats}
 use Rattle.dwarf.specs.declared.layout.Layout.{Layout}
 use Rattle.dwarf.specs.declared.import.Ran.{Ran}
-use Rattle.dwarf.specs.Stats.{statsOf}
+use Rattle.subprograms.specs.Stats.{statsOf}
 use Rattle.dwarf.specs.Layout.{keysRoom, LaidOut}
-use Rattle.dwarf.specs.Contexts.{contextOf, ContextIn}
-use Rattle.dwarf.specs.Steps.{Imports}
+use Rattle.subprograms.specs.Contexts.{contextOf, ContextIn}
+use Rattle.subprograms.specs.Steps.{Imports}
 use Rattle.dwarf.specs.Runs.{LinesLaid, MakesContext, RunsDetails, Writes, WorkEnough, startState}
-use Rattle.dwarf.proofs.MakeLaws.{unit-of, text-behind, main-behind, keys-behind}
+use Rattle.subprograms.proofs.ContextLaws.{unit-of}
+use Rattle.dwarf.proofs.MakeLaws.{text-behind, main-behind, keys-behind}
 
 -- ---- the subprograms
 

@@ -22,7 +22,8 @@ use Rattle.tlv.proofs.PlaceFacts.{accepted-count}
 use Rattle.files.proofs.FewLaws.{Rising, amounts-few, grouped-few, unit-few}
 use Rattle.dies.specs.DetailState.{Accepted}
 use Rattle.dwarf.specs.declared.layout.Counts.{Counts}
-use Rattle.dwarf.specs.Layout.{countOf, Sized, UnitOf}
+use Rattle.subprograms.specs.Contexts.{UnitOf}
+use Rattle.dwarf.specs.Layout.{countOf, Sized}
 
 -- ---- an accepted input has few fields
 

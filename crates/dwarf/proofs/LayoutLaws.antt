@@ -16,7 +16,8 @@ use Rattle.references.proofs.FewKeys.{keys-few}
 use Rattle.dies.specs.DetailState.{Accepted}
 use Rattle.dwarf.specs.declared.layout.Counts.{Counts}
 use Rattle.dwarf.specs.declared.layout.Layout.{Layout}
-use Rattle.dwarf.specs.Layout.{countOf, Sized, UnitOf, mapExtent, LaidOut}
+use Rattle.subprograms.specs.Contexts.{UnitOf, mapExtent}
+use Rattle.dwarf.specs.Layout.{countOf, Sized, LaidOut}
 use Rattle.rows.specs.Sizes.{entrySize, rowRoom}
 use Rattle.dwarf.proofs.CountLaws.{totalOf, total-few, total-small, text-few}
 

@@ -3,7 +3,6 @@ use mathlib.Core.Path.{_≡_, refl, sym, subst, ap, _∙_}
 use mathlib.Core.Bool.{Bool}
 use mathlib.Core.Logic.{inl, inr}
 use mathlib.Core.List.{List, [], _∷_}
-use mathlib.Core.Option.{Option, none, some}
 use Prim.Native.Nat.{ℕ, zero, suc, _+_, _-_, _*_, _≤_}
 use native.Mathlib.Omega.{arith}
 use lib.ListN.{length}
@@ -28,31 +27,13 @@ use Rattle.references.proofs.FollowLaws.{index-kept}
 use Rattle.dies.specs.Details.{entryCount}
 use Rattle.dies.specs.RangeTable.{rangesAt}
 use Rattle.dies.proofs.RangeTableLaws.{ranges-below}
-use Rattle.dwarf.specs.declared.model.ImportContext.{ImportContext}
+use Rattle.subprograms.specs.declared.model.ImportContext.{ImportContext}
 use Rattle.dwarf.specs.declared.layout.Layout.{Layout}
-use Rattle.dwarf.specs.Text.{TextIndexed}
-use Rattle.dwarf.specs.Layout.{UnitOf, LaidOut}
-use Rattle.dwarf.specs.Contexts.{Ordered}
+use Rattle.subprograms.specs.Text.{TextIndexed}
+use Rattle.dwarf.specs.Layout.{LaidOut}
+use Rattle.subprograms.specs.Contexts.{Ordered}
 use Rattle.dwarf.specs.Runs.{IndexesInput, LinesLaid, MakesContext}
-
--- ---- a unit by its number stands among all
-
-abbrev valueOf : Option ℕ → ℕ
-valueOf none = 0
-valueOf (some x) = x
-
-abbrev Known : Option ℕ → Type 0
-Known none = ⊥
-Known (some x) = Unit {0}
-
-at-any : (q n : ℕ) (xs : List ℕ) → at xs n ≡ some q → Any (λ p. p ≡ q) xs
-unfolding at
-at-any q n [] e = subst Known (sym e) tt
-at-any q zero (x ∷ xs) e = inl (ap valueOf e)
-at-any q (suc n) (x ∷ xs) e = inr (at-any q n xs e)
-
-pub unit-of : {s : List ℕ} {p : ℕ} → UnitIn s p → UnitOf s p
-unit-of {s} {p} U = at-any p (U .number) (unitPlaces 0 (fields s)) (U .is)
+use Rattle.subprograms.proofs.ContextLaws.{unit-of}
 
 -- ---- where the tables stand
 

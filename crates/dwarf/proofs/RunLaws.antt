@@ -28,7 +28,7 @@ use Rattle.dies.specs.DetailState.{Accepted}
 use Rattle.imports.specs.Import.{State, importUnit}
 use Rattle.imports.specs.Answer as answer
 use Rattle.imports.specs.Answer.{Inputs, isBare, workNeeded, initialState, importChosen, importOf}
-use Rattle.dwarf.specs.Stats.{statsOf}
+use Rattle.subprograms.specs.Stats.{statsOf}
 use Rattle.dwarf.specs.declared.import.Ran.{Ran}
 use Rattle.dwarf.specs.declared.import.BothChecked.{BothChecked}
 use Rattle.dwarf.specs.Runs.{oversizeOf, Writes, BothAccepted, NotOversize, CheckedAs, ChecksBoth, WorkEnough, startState, shortOf, nothingRan, bareStatus}

@@ -15,7 +15,7 @@ use Rattle.imports.specs.Demand.{ChosenAgrees}
 use Rattle.imports.specs.Sizes.{measure}
 use Rattle.dwarf.specs.declared.model.Refusal.{Refusal}
 use Rattle.dwarf.specs.declared.model.Imported.{Imported}
-use Rattle.dwarf.specs.Stats.{statsOf}
+use Rattle.subprograms.specs.Stats.{statsOf}
 
 -- document 01's number of a refusal
 abbrev pub refusalNumber : Refusal → ℕ

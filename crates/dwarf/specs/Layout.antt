@@ -4,7 +4,6 @@ use mathlib.Core.List.{List}
 use Prim.Native.Nat.{ℕ, _+_, _*_, _≤_, _<_, _^_}
 use lib.ListN.{length, getD}
 use Rattle.tlv.specs.Outcome.{done}
-use Rattle.tlv.specs.Lists.{Any}
 use Rattle.tlv.specs.Limits.{workOfField, workOfProgramByte, workBesides, joinedLimit}
 use Rattle.tlv.specs.Fields.{fields, payloads, wholeFields}
 use Rattle.tlv.specs.Grammar.{checkInput}
@@ -13,6 +12,7 @@ use Rattle.files.specs.Possible.{possibleFiles}
 use Rattle.collect.specs.Collects.{linesExtent}
 use Rattle.references.specs.Keys.{possibleKeys}
 use Rattle.dies.specs.Details.{rangeCount, entryCount}
+use Rattle.subprograms.specs.Contexts.{UnitOf, mapExtent}
 use Rattle.dwarf.specs.declared.layout.Layout.{Layout}
 use Rattle.dwarf.specs.declared.layout.Counts.{Counts}
 
@@ -34,14 +34,6 @@ pub record Sized (s : List ℕ) (c : Counts) : Type 0 where
   pub entries : c .entries ≡ countOf 0x17 s
   pub attributes : c .attributes ≡ countOf 0x18 s
   pub ranges : c .ranges ≡ countOf 0x19 s
-
--- a unit stands at q
-abbrev pub UnitOf : List ℕ → ℕ → Type 0
-UnitOf s q = Any (λ p. p ≡ q) (unitPlaces 0 (fields s))
-
--- what the directories and the map of a unit need
-abbrev pub mapExtent : List ℕ → ℕ → ℕ
-mapExtent s q = 8 * length (unitHere s q .directories) + 5 * (1 + length (unitHere s q .files))
 
 -- what the targets that a search can follow need, with a chain's head for each entry and one more
 abbrev pub keysRoom : List ℕ → List ℕ → ℕ

@@ -25,13 +25,13 @@ use Rattle.references.specs.Tables.{IndexIn}
 use Rattle.dies.specs.Details.{entryCount}
 use Rattle.imports.specs.Import.{State, importUnitDetails}
 use Rattle.imports.specs.Answer.{noStats}
-use Rattle.dwarf.specs.declared.model.ImportContext.{ImportContext}
+use Rattle.subprograms.specs.declared.model.ImportContext.{ImportContext}
 use Rattle.dwarf.specs.declared.layout.Layout.{Layout}
 use Rattle.dwarf.specs.declared.import.Ran.{Ran}
 use Rattle.dwarf.specs.declared.import.BothChecked.{BothChecked}
-use Rattle.dwarf.specs.Stats.{statsOf}
+use Rattle.subprograms.specs.Stats.{statsOf}
 use Rattle.dwarf.specs.Layout.{keysRoom, LaidOut}
-use Rattle.dwarf.specs.Contexts.{contextOf, ContextIn}
+use Rattle.subprograms.specs.Contexts.{contextOf, ContextIn}
 
 -- ---- the tables
 

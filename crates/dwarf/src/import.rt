@@ -14,13 +14,13 @@ ghost use Rattle.references.specs.Names.{dwarfOf};
 ghost use Rattle.dies.specs.DetailState.{Accepted};
 ghost use Rattle.imports.specs.Import.{importUnit};
 ghost use Rattle.imports.specs.Answer.{importChosen, importOf};
-ghost use Rattle.dwarf.specs.Contexts.{ContextIn};
+ghost use Rattle.subprograms.specs.Contexts.{ContextIn};
 ghost use Rattle.dwarf.specs.Runs.{IndexesInput, LinesLaid, MakesContext, RunsDetails, Writes, oversizeOf, BothAccepted, NotOversize, ChecksBoth, WorkEnough, startState, shortOf, nothingRan, bareStatus, fitStatus};
 ghost use Rattle.dwarf.specs.Answers.{inputsOf, ImportsUnit, MeasuresUnit};
 use crate::layout::Layout;
-use crate::model::ConversionStats;
-use crate::model::ImportContext;
-use crate::model::ImportState;
+use subprograms::model::ConversionStats;
+use subprograms::model::ImportContext;
+use subprograms::model::ImportState;
 use crate::model::Imported;
 use collect::collect::CollectedLines;
 use files::index::StoredIndices;
@@ -57,7 +57,7 @@ fn nothing(n: u8) -> Ran
         records: 0,
         files: 0,
         warnings: 0,
-        stats: crate::model::no_stats(),
+        stats: subprograms::model::no_stats(),
         status: n,
     }
 }
@@ -102,7 +102,7 @@ fn import_context(
     requires { ⌜ LinesLaid (now main) (now supplementary) (now work) l lines indices ⌝ }
     ensures { λ r. ⌜ MakesContext (now (main .entry)) (now (supplementary .entry)) (now (work .entry)) (now (work .exit)) l unit lines indices inlines «call_sites» r ⌝ }
 {
-    let text_count = crate::text::index_text(main, unit, work, l.text);
+    let text_count = subprograms::text::index_text(main, unit, work, l.text);
     let m = index_input(main, work, l.main_units, l.main_entries);
     let s = index_input(
         supplementary,
@@ -155,10 +155,10 @@ fn import_collected<'a>(
         table: table,
         at: 0,
         warned: warned,
-        stats: crate::model::no_stats(),
+        stats: subprograms::model::no_stats(),
         status: 0,
     };
-    let r = crate::units::import_unit_details(
+    let r = subprograms::units::import_unit_details(
         main,
         supplementary,
         work,

@@ -1,7 +1,4 @@
 // The import of a unit (the Rust's convert/dwarf.rs).
-pub mod functions;
 pub mod import;
 pub mod layout;
 pub mod model;
-pub mod text;
-pub mod units;

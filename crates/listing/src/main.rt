@@ -1,5 +1,5 @@
 // Document 01's listing program: imports unit 0 of unit.main, with unit.sup and unit.line, and prints what the import gives.
-use dwarf::model::ConversionStats;
+use subprograms::model::ConversionStats;
 use dwarf::model::Imported;
 use tlv::fields::Step;
 

@@ -4,7 +4,7 @@ use mathlib.Core.List.{List, [], _∷_}
 use Prim.Native.Nat.{ℕ, suc, _<_}
 use native.Mathlib.Omega.{arith}
 use Rattle.imports.specs.Answer.{Inputs, Answer, noStats}
-use Rattle.dwarf.specs.declared.model.ConversionStats.{ConversionStats}
+use Rattle.subprograms.specs.declared.model.ConversionStats.{ConversionStats}
 use Rattle.dwarf.specs.declared.model.Refusal.{Refusal}
 use Rattle.dwarf.specs.declared.model.Imported.{Imported}
 use Rattle.dwarf.specs.Answers.{refusalNumber, answerGiven, Finished, ImportsUnit, MeasuresUnit}

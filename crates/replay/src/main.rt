@@ -4,7 +4,7 @@
 ghost use mathlib.Core.Path.{_≡_};
 ghost use Prim.Native.Nat.{_≤_};
 ghost use lib.ListN.{length};
-use dwarf::model::ConversionStats;
+use subprograms::model::ConversionStats;
 use dwarf::model::Imported;
 
 // What stands in the output buffers and in work before a call.
