@@ -16,7 +16,7 @@ use Rattle.tlv.specs.Fields.{fields, wholeFields, payloads, encode}
 use Rattle.tlv.specs.Buffer.{Put, top}
 use Rattle.tlv.specs.Table.{chunk, records, Kept}
 use Rattle.tlv.specs.Model.{Entry, Attribute}
-use Rattle.tlv.specs.Grammar.{checkInput}
+use Rattle.tlv.specs.Checked.{Accepts}
 use Rattle.tlv.specs.Places.{entryHere, unitHere}
 use Rattle.tlv.specs.Output.{InlineNode, CallSite, Warning, WarningKind, about, kindNumber, eachOf, nodeBytes, sitePayload, warningsBytes}
 use Rattle.lines.specs.Files.{FileIndices, fileIndex}
@@ -191,7 +191,7 @@ stepEntry c e x = collectEntry c e (finish (e .depth) x)
 -- the grammar accepts the sheet
 pub record Accepted (s : List ℕ) : Type 0 where
   pub number : ℕ
-  pub is : checkInput s ≡ done number
+  pub is : Accepts s number
 
 -- the return address that an attribute is
 abbrev pub addressOf : Option Attribute → Address

@@ -12,7 +12,7 @@ use borrow.Author.Tests.{eqb-true, ne-eqb}
 use Rattle.tlv.specs.Outcome.{Outcome, refused, done}
 use Rattle.tlv.specs.Lists.{Any, All, mapOption}
 use Rattle.tlv.specs.Fields.{Field, fields, wholeFields, Group, grouped, payloads, headOf, payloadOf}
-use Rattle.tlv.specs.Grammar.{checkInput}
+use Rattle.tlv.specs.Checked.{Accepts}
 use Rattle.tlv.specs.Model.{CompilationUnit, LineHeader, HeaderFile, fileOf, unitOf, units}
 use Rattle.tlv.specs.Places.{unitHere, unitPlaces}
 use Rattle.tlv.specs.Output.{FileEntry}
@@ -102,7 +102,7 @@ unfolding tabled
 tabled-rise = (omega arith, (omega arith, (omega arith, (omega arith, (omega arith, (omega arith, (omega arith, (omega arith, tt))))))))
 
 -- they are together no more than the fields of an accepted sheet
-pub tags-few : (s : List ℕ) (n : ℕ) → checkInput s ≡ done n
+pub tags-few : (s : List ℕ) (n : ℕ) → Accepts s n
     → countOf 0x10 s + countOf 0x14 s + countOf 0x15 s + countOf 0x1c s + countOf 0x16 s + countOf 0x17 s + countOf 0x18 s + countOf 0x19 s ≤ n
 unfolding tabled
 tags-few s n e = omega (arith, accepted-count s n e, amounts-few tabled (wholeFields (fields s)) tabled-rise)

@@ -1,7 +1,7 @@
 -- Demand 3 whole: what an import leaves in the records tray agrees with the unit's entries. Assumes nothing.
 use mathlib.Core.Path.{_≡_, refl, sym, ap, _∙_}
 use mathlib.Core.Bool.{Bool, true, false, cond, false≢true}
-use mathlib.Core.List.{List, [], _∷_}
+use mathlib.Core.List.{List, [], _∷_, _++_, append-nil, append-assoc}
 use mathlib.Core.Option.{Option, none, some}
 use Prim.Native.Nat.{ℕ, _+_}
 use native.Mathlib.Omega.{arith}
@@ -100,29 +100,60 @@ held : (part : Written → List ℕ) (size : Answer → ℕ) → ((w : Written) 
 unfolding bufferAfter
 held part size sizes buffer o w e = rw (e, sizes w) (take-at (part w) (drop (length (part w)) buffer) (length (part w)) refl)
 
-module _ (i : Inputs) (l : Lent i) where
-  read : (s : State) → importOf i ≡ done s → outcomeOf i ≡ done (written s) → Finished i
-  unfolding after written answerOf
-  read s q o =
-      let f = producing i s l q in
-      record {
-        state = s;
-        imported = q;
-        records = ap readRecords (held (λ w. w .records) (λ a. a .records) (λ w. refl) (i .records) (outcomeOf i) (written s) o) ∙ records-back (s .records) (f .records);
-        files = ap readFiles (held (λ w. w .files) (λ a. a .files) (λ w. refl) (i .files) (outcomeOf i) (written s) o) ∙ files-back (s .table .entries) (f .files);
-        warnings = ap readWarnings (held (λ w. w .warnings) (λ a. a .warnings) (λ w. refl) (i .warnings) (outcomeOf i) (written s) o) ∙ warnings-back (s .warnings) (f .warnings);
-        agree = was-chosen i s l q;
-      }
+-- what the trays hold after a call that leaves s behind
+module _ (i : Inputs) (o : Outcome State) (s : State) (f : StateFits s) (e : outcomeOf i o ≡ done (written s)) where
+  back-records : readRecords (take (afterwards i o .answer .records) (afterwards i o .records)) ≡ some (s .records)
+  unfolding afterwards written answerOf
+  back-records = ap readRecords (held (λ w. w .records) (λ a. a .records) (λ w. refl) (i .records) (outcomeOf i o) (written s) e) ∙ records-back (s .records) (f .records)
 
-  finished : (w : Written) → outcomeOf i ≡ done w → Finished i
+  back-files : readFiles (take (afterwards i o .answer .files) (afterwards i o .files)) ≡ some (s .table .entries)
+  unfolding afterwards written answerOf
+  back-files = ap readFiles (held (λ w. w .files) (λ a. a .files) (λ w. refl) (i .files) (outcomeOf i o) (written s) e) ∙ files-back (s .table .entries) (f .files)
+
+  back-warnings : readWarnings (take (afterwards i o .answer .warnings) (afterwards i o .warnings)) ≡ some (s .warnings)
+  unfolding afterwards written answerOf
+  back-warnings = ap readWarnings (held (λ w. w .warnings) (λ a. a .warnings) (λ w. refl) (i .warnings) (outcomeOf i o) (written s) e) ∙ warnings-back (s .warnings) (f .warnings)
+
+module _ (i : Inputs) (o : Outcome State) (within : RefusesIn 1 15 o) {P : Type 0} (f : (s : State) → o ≡ done s → outcomeOf i o ≡ done (written s) → P) where
+  finished : (w : Written) → outcomeOf i o ≡ done w → P
   unfolding outcomeOf
-  finished w e = with-done (importOf i) (λ s. fitting i (written s)) e λ s q r. read s q (e ∙ sym (ap done (fits-is i (written s) w r)))
+  finished w e = with-done o (λ s. fitting i (written s)) e λ s q r. f s q (e ∙ sym (ap done (fits-is i (written s) w r)))
 
-  by-outcome : (o : Outcome Written) → outcomeOf i ≡ o → answerOf o .refusal ≡ 0 → Finished i
+  by-outcome : (x : Outcome Written) → outcomeOf i o ≡ x → answerOf x .refusal ≡ 0 → P
   unfolding answerOf
-  by-outcome (refused n) e z = absurd (omega (arith, refusals i n e))
+  by-outcome (refused n) e z = absurd (omega (arith, refusal-number (refuses-outcome i o within) e))
   by-outcome (done w) e z = finished w e
+
+  by-answer : afterwards i o .answer .refusal ≡ 0 → P
+  unfolding afterwards
+  by-answer z = by-outcome (outcomeOf i o) refl z
 
 pub demand : Demand
 unfolding after
-demand i l z = by-outcome i l (outcomeOf i) refl z
+demand i l z = by-answer i (importOf i) (refuses-import i) (λ s q e.
+    let f = producing i s l q in
+    record {
+      state = s;
+      imported = q;
+      records = back-records i (importOf i) s f e;
+      files = back-files i (importOf i) s f e;
+      warnings = back-warnings i (importOf i) s f e;
+      agree = was-chosen i l s q;
+    }) z
+
+-- the same of all units
+pub dwarf-demand : DwarfDemand
+unfolding afterDwarf
+dwarf-demand i l z = by-answer i (importDwarfOf i) (refuses-dwarf i) (λ s q e.
+    let f = dwarf-producing i s l q in
+    record {
+      state = s;
+      imported = q;
+      records = back-records i (importDwarfOf i) s f e;
+      files = back-files i (importDwarfOf i) s f e;
+      warnings = back-warnings i (importDwarfOf i) s f e;
+      agree = all-imported i l s q;
+    }) z
+
+pub dwarf-refusals : DwarfRefusals
+dwarf-refusals i n e = refusal-number (refuses-outcome i (importDwarfOf i) (refuses-dwarf i)) e

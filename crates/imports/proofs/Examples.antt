@@ -51,6 +51,7 @@ unitOf entries = record {
   directory = none;
   text = from-to 0 100 ∷ [];
   header = none;
+  part = none;
   directories = [];
   fileZero = none;
   files = [];

@@ -6,14 +6,15 @@ use mathlib.Core.Option.{Option, none, some}
 use Prim.Native.Nat.{ℕ, _+_, _*_, _-_, _^_, _≤_, _<_}
 use native.Mathlib.Omega.{arith}
 use borrow.Author.Tests.{ltb-false}
-use lib.ListN.{length}
+use lib.ListN.{length, length-take, length-drop}
 use lib.Dec.{ltb, eqb}
 use Rattle.tlv.specs.declared.model.AddressRange.{AddressRange}
 use Rattle.tlv.specs.declared.model.LineEntry.{LineEntry}
+use Rattle.tlv.specs.Outcome.{Outcome}
 use Rattle.tlv.specs.Lists.{All, at, isEmpty}
 use Rattle.tlv.specs.Limits.{inputLimit, programLimit}
 use Rattle.tlv.specs.Grammar.{checkInput}
-use Rattle.tlv.specs.Model.{CompilationUnit, Entry, EntryRange, Attribute, RangeFailure, dieRanges, units}
+use Rattle.tlv.specs.Model.{CompilationUnit, Entry, EntryRange, Attribute, RangeFailure, ProgramPart, programPart, programOf, dieRanges, units}
 use Rattle.tlv.specs.Output.{Function, Warning, malformedRanges, about, rejectedRange, warningPayload}
 use Rattle.tlv.specs.Accepted.{Small, String, Given, AttributeAccepted, FailureAccepted, EntryAccepted, UnitAccepted}
 use Rattle.tlv.specs.Fits.{RangeFits, LineFits, FunctionFits, WarningFits}
@@ -31,9 +32,10 @@ use Rattle.references.specs.Search.{Dwarf, attribute}
 use Rattle.references.proofs.NameBounds.{DwarfAccepted, attribute-accepted, absolute-small, gives-name}
 use Rattle.references.proofs.DeclarationBounds.{FoundFits, DeclaringFits, gives-declaration}
 use Rattle.imports.specs.Tree.{Descendants}
-use Rattle.imports.specs.Import.{State, ImportContext, sequenceIf, statementSequenceOffset, isLiveRange, isTombstone, rejected, sequenceWarning, declarationIf, linesWith, rooted, detailContext, addFunction, importRange, importRanges, importByFailure, importSubprogram, isSubprogram, descendantsOf, importUnitDetails, importUnit}
-use Rattle.imports.specs.Answer.{Inputs, oversize, workNeeded, initialState, dwarfOf, isBare, importChosen, importOf}
+use Rattle.imports.specs.Import.{State, ImportContext, sequenceIf, statementSequenceOffset, isLiveRange, isTombstone, rejected, sequenceWarning, declarationIf, linesWith, rooted, detailContext, addFunction, importRange, importRanges, importByFailure, importSubprogram, isSubprogram, descendantsOf, importUnitDetails, importUnit, importUnits}
+use Rattle.imports.specs.Answer.{Inputs, oversize, workNeeded, initialState, dwarfOf, importWorked, isBare, importChosen, checked, importOf, importDwarfOf}
 use Rattle.imports.specs.Demand.{Lent, Producing}
+use Rattle.imports.specs.Joined.{DwarfProducing}
 use Rattle.imports.proofs.Subjects.{live-range}
 use Rattle.imports.proofs.NodeBounds.{rooted-fits}
 use Rattle.imports.proofs.TreeBounds.{DetailsFit, details-fit}
@@ -153,11 +155,20 @@ module _ (q : ImportContext) (accepted : ImportAccepted q) where
       (λ b. gives-bind (subprogram-fits e (descendantsOf (e .depth) es) (h .0) (all-take-while (EntryAccepted (q .unit .length)) (λ x. ltb (e .depth) (x .depth)) es (h .1)) s f) λ x g. later x (h .1) g)
       (λ b. later s (h .1) f)
 
+-- a part is no longer than the program
+part-shorter : (u : CompilationUnit) (program : List ℕ) → length (programOf u program) ≤ length program
+unfolding programOf
+part-shorter u program = go (u .part)
+  where
+    go : (o : Option ProgramPart) → length (programPart o program) ≤ length program
+    go none = omega arith
+    go (some p) = simp (length-take, length-drop) (omega arith)
+
 unit-fits : (d : Dwarf) (u : CompilationUnit) (program : List ℕ) (inlines callSites : Bool) (s : State)
     → DwarfAccepted d → UnitAccepted u → length program < 2 ^ 64 → ImportFits s → Gives ImportFits (importUnit d u program inlines callSites s)
 unfolding importUnit
 unit-fits d u program inlines callSites s dwarf unit short f =
-    gives-bind (gives-lines u program (s .table) unit (omega (arith, unit .few)) short (f .table)) λ c k.
+    gives-bind (gives-lines u (programOf u program) (s .table) unit (omega (arith, unit .few)) (omega (arith, part-shorter u program)) (f .table)) λ c k.
     details-of-unit-fit (record { dwarf = d; unit = u; lines = c .lines; includeInlines = inlines; includeCallSites = callSites }) (record { dwarf = dwarf; unit = unit; lines = k .lines }) (u .entries) _ (unit .entries)
     (record { table = k .table; records = f .records; warnings = all-append WarningFits (s .warnings) (c .warnings) (f .warnings) (k .warnings) })
 
@@ -167,22 +178,47 @@ program-short : (i : Inputs) → oversize i ≡ false → length (i .program) �
 unfolding oversize
 program-short i e = ltb-false programLimit (length (i .program)) (or-neither (ltb inputLimit (length (i .main)) || ltb inputLimit (length (i .supplementary))) (ltb programLimit (length (i .program))) e)
 
-gives-fitting : (i : Inputs) → Lent i → Gives ImportFits (importOf i)
-unfolding importOf dwarfOf initialState
-gives-fitting i lent =
-    gives-cond (oversize i) (λ e. gives-none) λ e.
-    gives-bind (gives-of (checkInput (i .main)) λ m. accepting (i .main) m (lent .main)) λ m main.
-    gives-bind (gives-of (checkInput (i .supplementary)) λ s. accepting (i .supplementary) s (lent .supplementary)) λ s supplementary.
-    chosen (m + s) (record { main = main; supplementary = supplementary }) (program-short i e) (at (units (i .main)) (i .ordinal)) (all-at UnitAccepted (units (i .main)) (i .ordinal) main)
-  where
-    begun : ImportFits (initialState i)
-    begun = record { table = record { few = omega (arith, lent .firstFile); files = tt }; records = tt; warnings = tt }
+module _ (i : Inputs) (lent : Lent i) where
+  begun : ImportFits (initialState i)
+  unfolding initialState
+  begun = record { table = record { few = omega (arith, lent .firstFile); files = tt }; records = tt; warnings = tt }
 
-    chosen : (n : ℕ) → DwarfAccepted (dwarfOf i) → length (i .program) ≤ programLimit → (o : Option CompilationUnit) → Given UnitAccepted o → Gives ImportFits (importChosen i n o)
-    chosen n dwarf short none h = gives-cond (isBare i) (λ e. gives-cond (ltb (length (i .work)) (workNeeded i n)) (λ b. gives-none) (λ b. gives begun)) (λ e. gives-none)
-    chosen n dwarf short (some u) h = gives-cond (ltb (length (i .work)) (workNeeded i n)) (λ e. gives-none)
-        (λ e. unit-fits (dwarfOf i) u (i .program) (i .inlines) (i .callSites) (initialState i) dwarf h (omega arith) begun)
+  module _ (dwarf : DwarfAccepted (dwarfOf i)) (short : length (i .program) ≤ programLimit) where
+    units-fit : (us : List CompilationUnit) (s : State) → All UnitAccepted us → ImportFits s
+        → Gives ImportFits (importUnits (dwarfOf i) us (i .program) (i .inlines) (i .callSites) s)
+    unfolding importUnits
+    units-fit [] s h f = gives f
+    units-fit (u ∷ us) s h f =
+        let later = units-fit us in
+        gives-bind (unit-fits (dwarfOf i) u (i .program) (i .inlines) (i .callSites) s dwarf (h .0) (omega arith) f) λ t g. later t (h .1) g
+
+    worked-fits : (n : ℕ) (us : List CompilationUnit) → All UnitAccepted us → Gives ImportFits (importWorked i n us)
+    worked-fits n us h = gives-cond (ltb (length (i .work)) (workNeeded i n us)) (λ e. gives-none) (λ e. units-fit us (initialState i) h begun)
+
+    chosen-fits : (n : ℕ) (o : Option CompilationUnit) → Given UnitAccepted o → Gives ImportFits (importChosen i n o)
+    chosen-fits n none h = gives-cond (isBare i) (λ e. worked-fits n [] tt) (λ e. gives-none)
+    chosen-fits n (some u) h = worked-fits n (u ∷ []) (h, tt)
+
+  checked-fits : (rest : ℕ → Outcome State) → ((n : ℕ) → DwarfAccepted (dwarfOf i) → length (i .program) ≤ programLimit → Gives ImportFits (rest n)) → Gives ImportFits (checked i rest)
+  unfolding checked dwarfOf
+  checked-fits rest h =
+      let l = length (i .program) in
+      gives-cond (oversize i) (λ e. gives-none) λ e.
+      gives-bind (gives-of (checkInput l (i .main)) λ m k. accepting (i .main) m (lent .main) (record { program = l; passes = k })) λ m main.
+      gives-bind (gives-of (checkInput l (i .supplementary)) λ s k. accepting (i .supplementary) s (lent .supplementary) (record { program = l; passes = k })) λ s supplementary.
+      h (m + s) (record { main = main; supplementary = supplementary }) (program-short i e)
+
+  gives-fitting : Gives ImportFits (importOf i)
+  unfolding importOf dwarfOf
+  gives-fitting = checked-fits _ (λ n dwarf short. chosen-fits dwarf short n (at (units (i .main)) (i .ordinal)) (all-at UnitAccepted (units (i .main)) (i .ordinal) (dwarf .main)))
+
+  dwarf-fitting : Gives ImportFits (importDwarfOf i)
+  unfolding importDwarfOf dwarfOf
+  dwarf-fitting = checked-fits _ (λ n dwarf short. worked-fits dwarf short n (units (i .main)) (dwarf .main))
 
 -- everything that an import leaves behind fits the trays' fields
 pub producing : Producing
 producing i s lent e = let f = given (gives-fitting i lent) e in record { records = f .records; files = f .table .files; warnings = f .warnings }
+
+pub dwarf-producing : DwarfProducing
+dwarf-producing i s lent e = let f = given (dwarf-fitting i lent) e in record { records = f .records; files = f .table .files; warnings = f .warnings }

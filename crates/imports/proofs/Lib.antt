@@ -32,4 +32,6 @@ pub mod TreeBounds
 pub mod ImportBounds
 pub mod Examples
 pub mod Sizing
+pub mod Joining
 pub mod Bare
+pub mod DwarfExamples

@@ -11,7 +11,7 @@ use Rattle.tlv.specs.declared.model.AddressRange.{AddressRange}
 use Rattle.tlv.specs.declared.model.LineEntry.{LineEntry}
 use Rattle.tlv.specs.Addresses.{Nonempty}
 use Rattle.tlv.specs.Outcome.{done}
-use Rattle.tlv.specs.Model.{CompilationUnit, Entry}
+use Rattle.tlv.specs.Model.{CompilationUnit, Entry, programOf}
 use Rattle.tlv.specs.Accepted.{UnitAccepted}
 use Rattle.tlv.specs.Output.{Function}
 use Rattle.tlv.proofs.TestLaws.{empty-filled}
@@ -73,7 +73,7 @@ module _
     -- what the import of a unit adds to the records answers for its subjects, one for each, in order
     pub units-agree : Units
     unfolding importUnit subjects
-    units-agree d u program inlines callSites s t accepted h = with-done (collectLines u program (s .table)) _ h λ c h₁ h₂.
+    units-agree d u program inlines callSites s t accepted h = with-done (collectLines u (programOf u program) (s .table)) _ h λ c h₁ h₂.
         let q : ImportContext = record { dwarf = d; unit = u; lines = c .lines; includeInlines = inlines; includeCallSites = callSites } in
         let new = from-entries q (u .entries) 0 refl (record { table = c .table; records = s .records; warnings = s .warnings ++ c .warnings; stats = s .stats }) t h₂ in
-        record { new = new .new; added = new .added; agree = pointwise-map (Written q) (RecordAgrees d u inlines) (written-agrees q accepted (sorted-lines u program (s .table) c h₁)) (subjects d u) (new .new) (new .agree) }
+        record { new = new .new; added = new .added; agree = pointwise-map (Written q) (RecordAgrees d u inlines) (written-agrees q accepted (sorted-lines u (programOf u program) (s .table) c h₁)) (subjects d u) (new .new) (new .agree) }

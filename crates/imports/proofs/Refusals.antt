@@ -7,8 +7,9 @@ use mathlib.Core.Option.{Option, none, some}
 use Rattle.tlv.specs.declared.model.AddressRange.{AddressRange}
 use Rattle.tlv.specs.declared.model.FileIndex.{FileIndex}
 use Rattle.tlv.specs.declared.model.LineEntry.{LineEntry}
-use Rattle.tlv.specs.Outcome.{refused}
-use Rattle.tlv.specs.Model.{CompilationUnit, Entry, EntryRange, Attribute, RangeFailure}
+use Rattle.tlv.specs.Outcome.{Outcome, refused}
+use Rattle.tlv.specs.Lists.{at}
+use Rattle.tlv.specs.Model.{CompilationUnit, Entry, EntryRange, Attribute, RangeFailure, units}
 use Rattle.tlv.specs.Output.{Warning}
 use Rattle.tlv.proofs.RefusalLaws.{RefusesIn, never, refuses-wider, refusal-number, refusing, refuses-input}
 use Rattle.lines.specs.Files.{FileTable, get}
@@ -16,8 +17,8 @@ use Rattle.lines.proofs.Refusals.{refuses-lines}
 use Rattle.references.specs.Search.{Dwarf, attribute, unsignedAttribute, fileIndexAttribute}
 use Rattle.references.proofs.Refusals.{refuses-offset, refuses-name, refuses-reference-name, refuses-declaration-line}
 use Rattle.imports.specs.Tree.{DetailContext, Descendants, siteWithOrigin, siteAt, makeCallSite, callFileFrom, callFileIf, callFileOf, callLineIf, callLineOf, pushInline, makeInlineNode, collectEntry, collectEntries, collectDescendants, extractSubprogramDetails}
-use Rattle.imports.specs.Import.{State, ImportContext, sequenceWarning, declarationIf, importRange, importRanges, importByFailure, importSubprogram, importUnitDetails, importUnit}
-use Rattle.imports.specs.Answer.{Inputs, Written, importChosen, importOf, fitting, outcomeOf}
+use Rattle.imports.specs.Import.{State, ImportContext, sequenceWarning, declarationIf, importRange, importRanges, importByFailure, importSubprogram, importUnitDetails, importUnit, importUnits}
+use Rattle.imports.specs.Answer.{Inputs, Written, importWorked, importChosen, checked, importOf, importDwarfOf, fitting, outcomeOf}
 use Rattle.imports.specs.Demand.{Refusals}
 
 -- ---- below a subprogram: 6 to 14
@@ -120,22 +121,39 @@ refuses-unit d u program inlines callSites s = search (refusing, refuses-lines, 
 
 -- ---- the whole: 1 to 15, then 16 to 18
 
+refuses-units : (d : Dwarf) (us : List CompilationUnit) (program : List ℕ) (inlines callSites : Bool) (s : State)
+    → RefusesIn 6 15 (importUnits d us program inlines callSites s)
+unfolding importUnits
+refuses-units d [] program inlines callSites s = never
+refuses-units d (u ∷ us) program inlines callSites s = let later = refuses-units d us program inlines callSites in search (refusing, refuses-unit)
+
+refuses-worked : (i : Inputs) (n : ℕ) (us : List CompilationUnit) → RefusesIn 1 15 (importWorked i n us)
+refuses-worked i n us = search (refusing, refuses-wider 6 15, refuses-units)
+
+refuses-checked : (i : Inputs) (rest : ℕ → Outcome State) → ((n : ℕ) → RefusesIn 1 15 (rest n)) → RefusesIn 1 15 (checked i rest)
+unfolding checked
+refuses-checked i rest h = search (refusing, refuses-wider 2 3, refuses-input, h)
+
 pub refuses-import : (i : Inputs) → RefusesIn 1 15 (importOf i)
 unfolding importOf
-refuses-import i = search (refusing, refuses-wider 2 3, refuses-input, go)
+refuses-import i = refuses-checked i _ (λ n. go n (at (units (i .main)) (i .ordinal)))
   where
     go : (n : ℕ) (o : Option CompilationUnit) → RefusesIn 1 15 (importChosen i n o)
-    go n none = search refusing
-    go n (some u) = search (refusing, refuses-wider 6 15, refuses-unit)
+    go n none = search (refusing, refuses-worked)
+    go n (some u) = search refuses-worked
+
+pub refuses-dwarf : (i : Inputs) → RefusesIn 1 15 (importDwarfOf i)
+unfolding importDwarfOf
+refuses-dwarf i = refuses-checked i _ (λ n. refuses-worked i n (units (i .main)))
 
 pub refuses-fitting : (i : Inputs) (w : Written) → RefusesIn 16 18 (fitting i w)
 unfolding fitting
 refuses-fitting i w = search refusing
 
-pub refuses-outcome : (i : Inputs) → RefusesIn 1 18 (outcomeOf i)
+pub refuses-outcome : (i : Inputs) (o : Outcome State) → RefusesIn 1 15 o → RefusesIn 1 18 (outcomeOf i o)
 unfolding outcomeOf
-refuses-outcome i = search (refusing, refuses-wider 1 15, refuses-import, refuses-wider 16 18, refuses-fitting)
+refuses-outcome i o h = search (refusing, refuses-wider 1 15, h, refuses-wider 16 18, refuses-fitting)
 
 -- every refusal is one of document 01's numbers
 pub refusals : Refusals
-refusals i n e = refusal-number (refuses-outcome i) e
+refusals i n e = refusal-number (refuses-outcome i (importOf i) (refuses-import i)) e

@@ -9,7 +9,7 @@ use lib.ListN.{length, getD, take, drop}
 use lib.Dec.{eqb}
 use Rattle.tlv.specs.declared.model.AddressRange.{AddressRange}
 use Rattle.tlv.specs.Addresses.{Nonempty, Inside}
-use Rattle.tlv.specs.Outcome.{refused, done}
+use Rattle.tlv.specs.Outcome.{Outcome, refused, done}
 use Rattle.tlv.specs.Lists.{Any, All, filter, at, isEmpty}
 use Rattle.tlv.specs.Bytes.{Bytes}
 use Rattle.tlv.specs.Model.{CompilationUnit, Entry, RangeFailure, dieRanges, units}
@@ -21,7 +21,7 @@ use Rattle.lines.specs.RowsAgree.{RowsAgree}
 use Rattle.references.specs.Search.{Dwarf, resolveName}
 use Rattle.imports.specs.Tree.{rangesOf, DetailContext, Descendants, makeCallSite, extractSubprogramDetails}
 use Rattle.imports.specs.Import.{State, isLiveRange, isSubprogram, descendantsOf, rooted, importUnit}
-use Rattle.imports.specs.Answer.{Inputs, dwarfOf, importOf, outcomeOf, after}
+use Rattle.imports.specs.Answer.{Inputs, dwarfOf, importOf, importDwarfOf, outcomeOf, After, after, afterDwarf}
 use Rattle.imports.specs.Agree.{TreeEntry, foundName, treeEntries, entry, Below, TreeNode, treeNode, TreeAgrees, TooDeep}
 
 -- ---- the subjects of a unit, in order: a subprogram's entry that has a name, and one of its live ranges
@@ -152,10 +152,17 @@ pub record StateFits (s : State) : Type 0 where
 abbrev pub Producing : Type 0
 Producing = (i : Inputs) (s : State) → Lent i → importOf i ≡ done s → StateFits s
 
+-- the same of the import of all units (document 02, E11)
+abbrev pub DwarfProducing : Type 0
+DwarfProducing = (i : Inputs) (s : State) → Lent i → importDwarfOf i ≡ done s → StateFits s
+
 -- ---- every refusal is one of document 01's numbers
 
 abbrev pub Refusals : Type 0
-Refusals = (i : Inputs) (n : ℕ) → outcomeOf i ≡ refused n → (1 ≤ n) × (n ≤ 18)
+Refusals = (i : Inputs) (n : ℕ) → outcomeOf i (importOf i) ≡ refused n → (1 ≤ n) × (n ≤ 18)
+
+abbrev pub DwarfRefusals : Type 0
+DwarfRefusals = (i : Inputs) (n : ℕ) → outcomeOf i (importDwarfOf i) ≡ refused n → (1 ≤ n) × (n ≤ 18)
 
 -- ---- the whole demand, of what the trays hold after a call
 
@@ -164,15 +171,33 @@ abbrev pub ChosenAgrees : Inputs → Option CompilationUnit → List Function �
 ChosenAgrees i none rs = (i .main ≡ []) × (i .ordinal ≡ 0) × (rs ≡ [])
 ChosenAgrees i (some u) rs = Pointwise (RecordAgrees (dwarfOf i) u (i .inlines)) (subjects (dwarfOf i) u) rs
 
-pub record Finished (i : Inputs) : Type 0 where
-  -- the trays are read back as what the import leaves behind
+-- records answer for the subjects of units, those of the first unit first (document 02, E11): "Every record in the joined tray obeys demand 3 against its
+-- own unit"
+abbrev pub UnitsAgree : Dwarf → Bool → List CompilationUnit → List Function → Type 0
+UnitsAgree d inlines [] rs = rs ≡ []
+UnitsAgree d inlines (u ∷ us) rs =
+    (own : List Function) × (rest : List Function) × (rs ≡ own ++ rest)
+    × Pointwise (RecordAgrees d u inlines) (subjects d u) own × UnitsAgree d inlines us rest
+
+-- a call that is finished, which left a behind: where the import comes to o, the trays are read back as what it leaves behind, and the records agree
+pub record Finished (o : Outcome State) (Agree : List Function → Type 0) (a : After) : Type 0 where
   pub state : State
-  pub imported : importOf i ≡ done state
-  pub records : readRecords (take (after i .answer .records) (after i .records)) ≡ some (state .records)
-  pub files : readFiles (take (after i .answer .files) (after i .files)) ≡ some (state .table .entries)
-  pub warnings : readWarnings (take (after i .answer .warnings) (after i .warnings)) ≡ some (state .warnings)
-  -- record k answers for subject k of the unit that was asked for
-  pub agree : ChosenAgrees i (at (units (i .main)) (i .ordinal)) (state .records)
+  pub imported : o ≡ done state
+  pub records : readRecords (take (a .answer .records) (a .records)) ≡ some (state .records)
+  pub files : readFiles (take (a .answer .files) (a .files)) ≡ some (state .table .entries)
+  pub warnings : readWarnings (take (a .answer .warnings) (a .warnings)) ≡ some (state .warnings)
+  pub agree : Agree (state .records)
+
+-- of the import of a unit: record k answers for subject k of the unit that was asked for
+abbrev pub UnitFinished : Inputs → After → Type 0
+UnitFinished i a = Finished (importOf i) (ChosenAgrees i (at (units (i .main)) (i .ordinal))) a
 
 abbrev pub Demand : Type 0
-Demand = (i : Inputs) → Lent i → after i .answer .refusal ≡ 0 → Finished i
+Demand = (i : Inputs) → Lent i → after i .answer .refusal ≡ 0 → UnitFinished i (after i)
+
+-- of the import of all units
+abbrev pub DwarfFinished : Inputs → After → Type 0
+DwarfFinished i a = Finished (importDwarfOf i) (UnitsAgree (dwarfOf i) (i .inlines) (units (i .main))) a
+
+abbrev pub DwarfDemand : Type 0
+DwarfDemand = (i : Inputs) → Lent i → afterDwarf i .answer .refusal ≡ 0 → DwarfFinished i (afterDwarf i)

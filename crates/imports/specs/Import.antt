@@ -9,7 +9,7 @@ use Rattle.tlv.specs.declared.model.AddressRange.{AddressRange}
 use Rattle.tlv.specs.declared.model.LineEntry.{LineEntry}
 use Rattle.tlv.specs.Outcome.{Outcome, done, _>>=_}
 use Rattle.tlv.specs.Lists.{takeWhile, exists, isEmpty}
-use Rattle.tlv.specs.Model.{CompilationUnit, Entry, EntryRange, Attribute, RangeFailure, dieRanges}
+use Rattle.tlv.specs.Model.{CompilationUnit, Entry, EntryRange, Attribute, RangeFailure, programOf, dieRanges}
 use Rattle.tlv.specs.Output.{InlineNode, Function, Warning, malformedRanges, about, rejectedRange, invalidStatementSequence}
 use Rattle.lines.specs.Files.{FileTable, fileIndex}
 use Rattle.lines.specs.Lines.{UnitLines, collectLines}
@@ -174,9 +174,15 @@ importUnitDetails q (e ∷ es) s =
     (importSubprogram q e (descendantsOf (e .depth) es) s >>= importUnitDetails q es)
     (importUnitDetails q es s)
 
--- import_unit
+-- import_unit, over the unit's part of the program
 unfoldable pub importUnit : Dwarf → CompilationUnit → List ℕ → Bool → Bool → State → Outcome State
 importUnit d u program inlines callSites s =
-    collectLines u program (s .table) >>= λ c.
+    collectLines u (programOf u program) (s .table) >>= λ c.
     importUnitDetails (record { dwarf = d; unit = u; lines = c .lines; includeInlines = inlines; includeCallSites = callSites }) (u .entries)
     (record { table = c .table; records = s .records; warnings = s .warnings ++ c .warnings; stats = s .stats })
+
+-- import_dwarf, as far as units that are not split go (document 02, E11): "the unit imports one after another, each beginning with the file table the last
+-- one left; trays and statistics are joined and added. The first refused unit refuses all"
+unfoldable pub importUnits : Dwarf → List CompilationUnit → List ℕ → Bool → Bool → State → Outcome State
+importUnits d [] program inlines callSites s = done s
+importUnits d (u ∷ us) program inlines callSites s = importUnit d u program inlines callSites s >>= importUnits d us program inlines callSites

@@ -9,3 +9,4 @@ pub mod Cases
 pub mod Printed
 pub mod Sizes
 pub mod Bare
+pub mod Joined

@@ -15,7 +15,7 @@ use Rattle.tlv.specs.Outcome.{done}
 use Rattle.tlv.specs.Lists.{Any, All, exists, first}
 use Rattle.tlv.specs.Bytes.{leAt}
 use Rattle.tlv.specs.Fields.{fields}
-use Rattle.tlv.specs.Grammar.{checkInput}
+use Rattle.tlv.specs.Checked.{Accepts}
 use Rattle.tlv.specs.Model.{CompilationUnit, Entry, Attribute, units}
 use Rattle.tlv.specs.Places.{entryHere, unitHere, unitPlaces}
 use Rattle.tlv.specs.Table.{chunk, Kept, Wrote}
@@ -168,7 +168,7 @@ module _ (f : CompilationUnit → List Attribute → List DieKey) (P : DieKey �
   unit-keys u (v ∷ us) (inl same) p = any-left P (entryKeys f v (v .entries)) (unitKeys f us) (rw same p)
   unit-keys u (v ∷ us) (inr later) p = any-right P (entryKeys f v (v .entries)) (unitKeys f us) (unit-keys u us later p)
 
-  known-keys : {s : List ℕ} {q p : ℕ} (n : ℕ) → checkInput s ≡ done n → EntryKnown s q p → Any P (f (unitHere s q) (entryHere s p .attributes)) → Any P (unitKeys f (units s))
+  known-keys : {s : List ℕ} {q p : ℕ} (n : ℕ) → Accepts s n → EntryKnown s q p → Any P (f (unitHere s q) (entryHere s p .attributes)) → Any P (unitKeys f (units s))
   known-keys {s} {q} {p} n accepted known any =
       unit-keys (unitHere s q) (units s) (rw (units-places s) (any-image (unitHere s) q (unitPlaces 0 (fields s)) (known-unit n accepted known)))
       (entry-keys (unitHere s q) (entryHere s p) (unitHere s q .entries) (known-entry n accepted known) any)
@@ -215,7 +215,7 @@ unfolding mainKeys
 later-main u P a later p =
     by-test (Any P) (eqb (a .kind) 4) (λ _. inr p) (λ _. by-test (Any P) (eqb (a .kind) 5) (λ _. inr p) (λ _. by-test (Any P) (eqb (a .kind) 6) (λ _. inr p) (λ _. p)))
 
-module _ {main supplementary : List ℕ} {n q p v : ℕ} (name : ℕ) (accepted : checkInput main ≡ done n) (known : EntryKnown main q p) where
+module _ {main supplementary : List ℕ} {n q p v : ℕ} (name : ℕ) (accepted : Accepts main n) (known : EntryKnown main q p) where
   from-main : (k : ℕ) (key : ℕ → DieKey) → ((a : Attribute) (later : List Attribute) → a .kind ≡ k → Any (λ x. key (a .value) ≡ x) (mainKeys (unitHere main q) (a ∷ later)))
       → Referring (attribute (entryHere main p) name) k v → PossibleKey main supplementary (key v)
   unfolding possibleKeys
@@ -246,7 +246,7 @@ pub either-source : (source : DebugSource) (o : ℕ) (ks : List DieKey) → Any 
 either-source DebugSource.Main o ks = inl refl
 either-source DebugSource.Supplementary o ks = inr (inl refl)
 
-module _ {main supplementary : List ℕ} {n q p v : ℕ} (name : ℕ) (accepted : checkInput supplementary ≡ done n) (known : EntryKnown supplementary q p) where
+module _ {main supplementary : List ℕ} {n q p v : ℕ} (name : ℕ) (accepted : Accepts supplementary n) (known : EntryKnown supplementary q p) where
   from-supplementary : (k : ℕ) (key : ℕ → DieKey)
       → ((a : Attribute) (later : List Attribute) → a .kind ≡ k → Any (λ x. key (a .value) ≡ x) (supplementaryKeys (unitHere supplementary q) (a ∷ later)))
       → Referring (attribute (entryHere supplementary p) name) k v → PossibleKey main supplementary (key v)

@@ -14,7 +14,7 @@ use Rattle.tlv.specs.declared.index.Found.{Found}
 use Rattle.tlv.specs.Outcome.{done}
 use Rattle.tlv.specs.Lists.{Any, first, mapOption}
 use Rattle.tlv.specs.Fields.{fields}
-use Rattle.tlv.specs.Grammar.{checkInput}
+use Rattle.tlv.specs.Checked.{Accepts}
 use Rattle.tlv.specs.Model.{units}
 use Rattle.tlv.specs.Places.{unitHere, entryHere, unitPlaces, IndexedEntry, entryIndex}
 use Rattle.tlv.specs.Access.{placeOf}
@@ -165,7 +165,7 @@ rising-lookup k (d ∷ es) e h (inr later) =
     let l = rising-above (suc (d .offset)) es e (h .1) later in
     rw (ne-eqb (d .offset) (e .offset) (λ is. omega arith)) (rising-lookup (suc (d .offset)) es e (h .1) later)
 
-module _ {s : List ℕ} {q p : ℕ} (n : ℕ) (accepted : checkInput s ≡ done n) (known : EntryKnown s q p) where
+module _ {s : List ℕ} {q p : ℕ} (n : ℕ) (accepted : Accepts s n) (known : EntryKnown s q p) where
   known-found : lookup (known .entry .offset) (entryIndex 0 0 0 (fields s)) ≡ some (known .entry)
   known-found = rising-lookup 0 (entryIndex 0 0 0 (fields s)) (known .entry) (index-rising s n accepted) (known .listed)
 

@@ -10,7 +10,7 @@ use Rattle.tlv.specs.declared.access.Value.{Value}
 use Rattle.tlv.specs.Outcome.{Outcome, refused, done}
 use Rattle.tlv.specs.Lists.{Any}
 use Rattle.tlv.specs.Fields.{fields}
-use Rattle.tlv.specs.Grammar.{checkInput}
+use Rattle.tlv.specs.Checked.{Accepts}
 use Rattle.tlv.specs.Table.{records}
 use Rattle.tlv.specs.Model.{Attribute, units}
 use Rattle.tlv.specs.Places.{IndexedEntry, entryIndex, entryHere, unitHere, unitPlaces}
@@ -25,7 +25,7 @@ use Rattle.references.specs.Search.{attribute, ifEmpty, nameFrom, ownNam
 -- a sheet that the grammar accepts, whose units and entries stand in tables
 pub record IndexIn (s w : List ℕ) (x : Index) : Type 0 where
   pub number : ℕ
-  pub accepted : checkInput s ≡ done number
+  pub accepted : Accepts s number
   pub units : records unitOf24 24 w (x .units) (x .«unit_count») ≡ map (indexedUnit s) (unitPlaces 0 (fields s))
   pub entries : records indexedOf 16 w (x .entries) (x .«entry_count») ≡ entryIndex 0 0 0 (fields s)
   pub units-within : x .units + 24 * x .«unit_count» ≤ length w

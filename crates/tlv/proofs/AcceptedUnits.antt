@@ -12,6 +12,7 @@ use Rattle.tlv.specs.Bytes.{leAt}
 use Rattle.tlv.specs.Fields.{Field, Group, Groups, grouped, fields, wholeFields, payloads, payloadOf}
 use Rattle.tlv.specs.declared.grammar.Context.{Context}
 use Rattle.tlv.specs.Grammar.{start, next, checkInput}
+use Rattle.tlv.specs.Checked.{Accepts}
 use Rattle.tlv.specs.Model.{rangeOf, directoryOf, fileOf, rowOf, attributeOf, entryRangeOf, failureOf, entryOf, unitOf, units}
 use Rattle.tlv.specs.Accepted.{Small, String, AttributeAccepted, FailureAccepted, RowAccepted, EntryAccepted, Ordered, UnitAccepted, Accepting}
 use Rattle.tlv.proofs.ListLaws.{all-map, all-image, given-image}
@@ -119,5 +120,6 @@ pub accepting : Accepting
 unfolding checkInput units
 accepting s n b e =
     let gs = grouped 0x10 (wholeFields (fields s)) .groups in
-    let passed = grouped-passed 0x10 start (wholeFields (fields s)) (checked-passed start (fields s) n (fields-bytes 0 s b) e) in
+    let c = start (e .program) in
+    let passed = grouped-passed 0x10 c (wholeFields (fields s)) (checked-passed c (fields s) n (fields-bytes 0 s b) (e .passes)) in
     all-image UnitAccepted unitOf gs (all-map gs unit-accepted (passed .groups))

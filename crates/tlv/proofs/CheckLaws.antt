@@ -138,14 +138,14 @@ module _ (s : List ℕ) (start len : ℕ) (fits : start + len ≤ length s) (c :
       omega arith
 
   pub next-unit : (o n : ℕ) → t ≡ 0x10 → o ≡ leAt 8 s start → n ≡ leAt 8 s (start + 8)
-      → record { previous = t; count = c .count + 1; units = c .units + 1; end = o + n; length = n; offset = 0; depth = 0 } ≡ next c (fieldIn s t start len)
+      → record { previous = t; count = c .count + 1; units = c .units + 1; end = o + n; length = n; offset = 0; depth = 0; program = c .program } ≡ next c (fieldIn s t start len)
   unfolding next
   next-unit o n e eo en =
       let l = unit-here e in
       rw (e, number-first s start len 8 o (omega arith) eo, number-at s start len 8 8 n (omega arith) en)
 
   pub next-entry : (o d : ℕ) → t ≡ 0x17 → o ≡ leAt 8 s start → d ≡ leAt 2 s (start + 8)
-      → record { previous = t; count = c .count + 1; units = c .units; end = c .end; length = c .length; offset = o + 1; depth = d + 1 }
+      → record { previous = t; count = c .count + 1; units = c .units; end = c .end; length = c .length; offset = o + 1; depth = d + 1; program = c .program }
       ≡ next c (fieldIn s t start len)
   unfolding next
   next-entry o d e eo ed =
@@ -153,7 +153,7 @@ module _ (s : List ℕ) (start len : ℕ) (fits : start + len ≤ length s) (c :
       rw (e, number-first s start len 8 o (omega arith) eo, number-at s start len 2 8 d (omega arith) ed)
 
 pub next-other : (c : Context) (t : ℕ) (p : List ℕ) → (t ≡ 0x10 → ⊥) → (t ≡ 0x17 → ⊥)
-    → record { previous = t; count = c .count + 1; units = c .units; end = c .end; length = c .length; offset = c .offset; depth = c .depth }
+    → record { previous = t; count = c .count + 1; units = c .units; end = c .end; length = c .length; offset = c .offset; depth = c .depth; program = c .program }
     ≡ next c (record { tag = t; payload = p })
 unfolding next
 next-other c t p h k = rw (ne-eqb t 0x10 h, ne-eqb t 0x17 k)

@@ -12,9 +12,9 @@ use Rattle.tlv.specs.declared.fields.Step.{Step}
 use Rattle.tlv.specs.Outcome.{done}
 use Rattle.tlv.specs.Bytes.{leAt}
 use Rattle.tlv.specs.Fields.{Field, FieldList, end, cut, more, fields, wholeFields, payloads}
-use Rattle.tlv.specs.Grammar.{shaped, limited, next, checkFrom, checkInput}
+use Rattle.tlv.specs.Grammar.{shaped, limited, next, checkFrom}
 use Rattle.tlv.specs.Cursor.{stepAt}
-use Rattle.tlv.specs.Checked.{fieldIn, Placed}
+use Rattle.tlv.specs.Checked.{Accepts, fieldIn, Placed}
 use Rattle.tlv.specs.Places.{IndexedEntry, behind, entryIndex}
 use Rattle.tlv.specs.Table.{chunk, records, Kept, Wrote}
 use Rattle.tlv.specs.Index.{indexedOf, PutEntry, Indexed, Rising}
@@ -247,6 +247,6 @@ module _ {s w₀ w : List ℕ} {base p n unit offset : ℕ} (I : Indexing s w₀
 
 -- ---- the table of an accepted sheet is what a search asks for
 
-pub table-rising : (s w : List ℕ) (base r n : ℕ) → checkInput s ≡ done n → records indexedOf 16 w base r ≡ entryIndex 0 0 0 (fields s)
+pub table-rising : (s w : List ℕ) (base r n : ℕ) → Accepts s n → records indexedOf 16 w base r ≡ entryIndex 0 0 0 (fields s)
     → Rising (records indexedOf 16 w base r)
 table-rising s w base r n e table = rw table (index-rising s n e)

@@ -16,7 +16,7 @@ use Rattle.tlv.specs.Bytes.{leAt}
 use Rattle.tlv.specs.Fields.{Field, FieldList, end, cut, more, fields, wholeFields, grouped}
 use Rattle.tlv.specs.Grammar.{start, shaped, limited, next, checkFrom, checkInput}
 use Rattle.tlv.specs.Model.{Entry, entryOf, unitOf}
-use Rattle.tlv.specs.Checked.{fieldIn}
+use Rattle.tlv.specs.Checked.{Accepts, fieldIn}
 use Rattle.tlv.specs.Places.{ownFields, unitFields, entryHere, unitHere, behind, unitPlaces, IndexedEntry, entryIndex}
 use Rattle.tlv.specs.Index.{lookup, entryIn}
 use Rattle.tlv.proofs.TestLaws.{by-test}
@@ -202,7 +202,7 @@ before s o q p =
     p refl
 
 -- the entry of a unit by its offset is the one that the index has at the unit's offset and its own, where that is the unit's
-pub index-finds : (s : List ℕ) (n q o : ℕ) → checkInput s ≡ done n → Any (λ p. p ≡ q) (unitPlaces 0 (fields s))
+pub index-finds : (s : List ℕ) (n q o : ℕ) → Accepts s n → Any (λ p. p ≡ q) (unitPlaces 0 (fields s))
     → first (λ e. eqb (e .offset) o) (unitHere s q .entries) ≡ entryIn s q (lookup (unitHere s q .offset + o) (entryIndex 0 0 0 (fields s)))
 unfolding checkInput
-index-finds s n q o e any = before s o q 0 start n 0 0 e refl any .1
+index-finds s n q o e any = before s o q 0 (start (e .program)) n 0 0 (e .passes) refl any .1

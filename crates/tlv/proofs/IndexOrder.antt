@@ -11,6 +11,7 @@ use Rattle.tlv.specs.Outcome.{done}
 use Rattle.tlv.specs.Bytes.{leAt}
 use Rattle.tlv.specs.Fields.{Field, FieldList, end, cut, more, fields}
 use Rattle.tlv.specs.Grammar.{start, mayFollow, unitShaped, payloadShaped, shaped, limited, next, checkFrom, checkInput}
+use Rattle.tlv.specs.Checked.{Accepts}
 use Rattle.tlv.specs.Places.{behind, entryIndex}
 use Rattle.tlv.specs.Index.{RisingFrom, Rising}
 use Rattle.tlv.proofs.TestLaws.{by-test, and-right}
@@ -79,6 +80,6 @@ rising-from c (more f fs) n p q o k e unit low high =
     rising-from (next c f) fs n (behind p f) q o k (both .2) (omega arith) (omega arith) (omega arith)))
 
 -- units ascend without overlap, and entries in them
-pub index-rising : (s : List ℕ) (n : ℕ) → checkInput s ≡ done n → Rising (entryIndex 0 0 0 (fields s))
+pub index-rising : (s : List ℕ) (n : ℕ) → Accepts s n → Rising (entryIndex 0 0 0 (fields s))
 unfolding checkInput
-index-rising s n e = rising-from start (fields s) n 0 0 0 0 e refl (omega arith) (omega arith)
+index-rising s n e = rising-from (start (e .program)) (fields s) n 0 0 0 0 (e .passes) refl (omega arith) (omega arith)

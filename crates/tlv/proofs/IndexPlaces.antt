@@ -15,7 +15,7 @@ use Rattle.tlv.specs.Lists.{All, Any, first}
 use Rattle.tlv.specs.Bytes.{leAt}
 use Rattle.tlv.specs.Fields.{Field, FieldList, more, fields}
 use Rattle.tlv.specs.Grammar.{start, shaped, limited, next, checkFrom, checkInput}
-use Rattle.tlv.specs.Checked.{fieldIn, Placed}
+use Rattle.tlv.specs.Checked.{Accepts, fieldIn, Placed}
 use Rattle.tlv.specs.Places.{entryHere, unitHere, behind, unitPlaces, IndexedEntry, entryIndex}
 use Rattle.tlv.specs.Index.{indexedOf, lookup, foundOf, entryIn}
 use Rattle.tlv.specs.Table.{records}
@@ -112,10 +112,10 @@ lookup-offset x (d ∷ es) e found =
 
 -- ---- an accepted sheet
 
-module _ (s : List ℕ) (n : ℕ) (accepted : checkInput s ≡ done n) where
+module _ (s : List ℕ) (n : ℕ) (accepted : Accepts s n) where
   pub index-placed : All (EntryPlaced s (unitPlaces 0 (fields s))) (entryIndex 0 0 0 (fields s))
   unfolding checkInput
-  index-placed = placing s (unitPlaces 0 (fields s)) 0 start n 0 0 accepted (λ h. absurd (omega arith)) (each-among (unitPlaces 0 (fields s)))
+  index-placed = placing s (unitPlaces 0 (fields s)) 0 (start (accepted .program)) n 0 0 (accepted .passes) (λ h. absurd (omega arith)) (each-among (unitPlaces 0 (fields s)))
 
   -- what is found in it
   module _ (x : ℕ) (e : IndexedEntry) (found : lookup x (entryIndex 0 0 0 (fields s)) ≡ some e) where

@@ -86,12 +86,13 @@ may-attribute t =
     let P : List ℕ → Type 0 = λ l. exists (eqb 0x18) l ≡ true → (eqb t 0x17 || eqb t 0x18) ≡ true in
     by-test P (eqb t 0x10) (λ _ k. absurd (false≢true k)) (λ _.
     by-test P (eqb t 0x11 || eqb t 0x12) (λ _ k. absurd (false≢true k)) (λ _.
-    by-test P (eqb t 0x13 || eqb t 0x14) (λ _ k. absurd (false≢true k)) (λ _.
+    by-test P (eqb t 0x13) (λ _ k. absurd (false≢true k)) (λ _.
+    by-test P (eqb t 0x1e || eqb t 0x14) (λ _ k. absurd (false≢true k)) (λ _.
     by-test P (eqb t 0x1c || eqb t 0x15) (λ _ k. absurd (false≢true k)) (λ _.
     by-test P (eqb t 0x16) (λ _ k. absurd (false≢true k)) (λ _.
     by-test P (eqb t 0x17 || eqb t 0x18) (λ e k. e) (λ _.
     by-test P (eqb t 0x19) (λ _ k. absurd (false≢true k)) (λ _.
-    by-test P (eqb t 0x1a) (λ _ k. absurd (false≢true k)) (λ _ k. absurd (false≢true k)))))))))
+    by-test P (eqb t 0x1a) (λ _ k. absurd (false≢true k)) (λ _ k. absurd (false≢true k))))))))))
 
 passing-attributes : Passing 0x18 (λ t. t ≡ 0x18 → ⊥)
 passing-attributes = record { never = λ late own. late refl; keeps = keeps }

@@ -19,7 +19,7 @@ use Rattle.tlv.specs.Bytes.{Bytes}
 use Rattle.tlv.specs.Fields.{Field, FieldList, end, cut, more, fields, wholeFields, payloads}
 use Rattle.tlv.specs.Cursor.{stepAt}
 use Rattle.tlv.specs.Grammar.{start, after, mayFollow, payloadShaped, shaped, limited, next, checkFrom, checkInput}
-use Rattle.tlv.specs.Checked.{fieldIn, checkedOf, Placed}
+use Rattle.tlv.specs.Checked.{Accepts, fieldIn, checkedOf, Placed}
 use Rattle.tlv.proofs.TestLaws.{by-test, and-left}
 use Rattle.tlv.proofs.ListLaws.{all-drop}
 use Rattle.tlv.proofs.OutcomeLaws.{done-is, refused-not}
@@ -31,8 +31,8 @@ use Rattle.tlv.proofs.AcceptedCounts.{next-count, fewer}
 -- ---- an accepted sheet
 
 -- an answer that accepts
-pub accepted-done : (s : List ℕ) (r : Checked) (n : ℕ) → checkedOf r ≡ checkInput s → r ≡ Checked.Accepted n → checkInput s ≡ done n
-accepted-done s r n e is = rw is at (sym e)
+pub accepted-done : (s : List ℕ) (r : Checked) (program n : ℕ) → checkedOf r ≡ checkInput program s → r ≡ Checked.Accepted n → Accepts s n
+accepted-done s r program n e is = record { program = program; passes = rw is at (sym e) }
 
 -- the fields that are checked are counted
 counted : (c : Context) (fs : FieldList) (n : ℕ) → checkFrom c fs ≡ done n → n ≡ c .count + length (wholeFields fs)
@@ -45,12 +45,12 @@ counted c (more f fs) n e =
     omega (arith, next-count c f)
 
 -- an accepted sheet of n fields has n whole fields
-pub accepted-count : (s : List ℕ) (n : ℕ) → checkInput s ≡ done n → n ≡ length (wholeFields (fields s))
+pub accepted-count : (s : List ℕ) (n : ℕ) → Accepts s n → n ≡ length (wholeFields (fields s))
 unfolding checkInput
-accepted-count s n e = let k = counted start (fields s) n e in omega arith
+accepted-count s n e = let k = counted (start (e .program)) (fields s) n (e .passes) in omega arith
 
 -- and of each tag at most n
-pub accepted-payloads : (s : List ℕ) (n t : ℕ) → checkInput s ≡ done n → length (payloads t (wholeFields (fields s))) ≤ n
+pub accepted-payloads : (s : List ℕ) (n t : ℕ) → Accepts s n → length (payloads t (wholeFields (fields s))) ≤ n
 accepted-payloads s n t e = omega (arith, accepted-count s n e, fewer t (wholeFields (fields s)))
 
 -- what is known of a slice of bytes, as a statement on its list
@@ -61,12 +61,12 @@ slice-bytes (b ∷ s) h = (h 0 .fits, slice-bytes s (λ i. h (suc i)))
 -- ---- its places
 
 -- the start is one
-pub placed-start : (s : List ℕ) (n : ℕ) → checkInput s ≡ done n → Placed s 0
+pub placed-start : (s : List ℕ) (n : ℕ) → Accepts s n → Placed s 0
 unfolding checkInput
-placed-start s n e = record { context = start; count = n; passes = e; within = omega arith }
+placed-start s n e = record { context = start (e .program); count = n; passes = e .passes; within = omega arith }
 
-pub accepted-start : (s : List ℕ) (r : Checked) (n : ℕ) → checkedOf r ≡ checkInput s → r ≡ Checked.Accepted n → Placed s 0
-accepted-start s r n e is = placed-start s n (accepted-done s r n e is)
+pub accepted-start : (s : List ℕ) (r : Checked) (program n : ℕ) → checkedOf r ≡ checkInput program s → r ≡ Checked.Accepted n → Placed s 0
+accepted-start s r program n e is = placed-start s n (accepted-done s r program n e is)
 
 -- the fields from a place on pass, one after the other
 pub placed-passed : (s : List ℕ) (p : ℕ) → Bytes s → (h : Placed s p) → AllPassed (h .context) (wholeFields (fields (drop p s)))

@@ -47,6 +47,6 @@ refuses-check c end = never
 refuses-check c cut = search refusing
 refuses-check c (more f fs) = let later = refuses-check (next c f) fs in search refusing
 
-pub refuses-input : (s : List ℕ) → RefusesIn 2 3 (checkInput s)
+pub refuses-input : (program : ℕ) (s : List ℕ) → RefusesIn 2 3 (checkInput program s)
 unfolding checkInput
-refuses-input s = refuses-check start (fields s)
+refuses-input program s = refuses-check (start program) (fields s)

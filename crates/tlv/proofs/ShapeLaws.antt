@@ -94,6 +94,25 @@ module _ (s : List ℕ) (start len : ℕ) (fits : start + len ≤ length s) wher
         number-at s start len 1 17 w (omega arith) ew,
       )
 
+  pub part-not : (c : Context) → (len ≡ 16 → ⊥) → false ≡ partShaped c (take len (drop start s))
+  unfolding partShaped
+  part-not c h = rw (part-length s start len fits, ne-eqb len 16 h)
+
+  -- a part that begins past the program, and one that begins in it
+  module _ (c : Context) (a n : ℕ) (h : len ≡ 16) (ea : a ≡ leAt 8 s start) (en : n ≡ leAt 8 s (start + 8)) where
+    part-as : partShaped c (take len (drop start s)) ≡ leb (a + n) (c .program)
+    unfolding partShaped
+    part-as = rw (part-length s start len fits, eq-eqb len 16 h, number-first s start len 8 a (omega arith) ea, number-at s start len 8 8 n (omega arith) en)
+
+    pub part-past : c .program < a → false ≡ partShaped c (take len (drop start s))
+    part-past k = sym (part-as ∙ lt-leb (a + n) (c .program) (omega arith))
+
+    pub part-is : a ≤ c .program → leb n (c .program - a) ≡ partShaped c (take len (drop start s))
+    part-is k = sym (part-as ∙ elim (decLe n (c .program - a)) [
+      | yes l ↦ le-leb (a + n) (c .program) (omega arith) ∙ sym (le-leb n (c .program - a) l)
+      | no l ↦ lt-leb (a + n) (c .program) (omega arith) ∙ sym (lt-leb n (c .program - a) (omega arith))
+    ])
+
   pub directory-not : len < 1 → false ≡ directoryShaped (take len (drop start s))
   unfolding directoryShaped
   directory-not h = rw (part-length s start len fits, lt-leb 1 len h)

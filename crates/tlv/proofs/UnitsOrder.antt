@@ -15,7 +15,7 @@ use Rattle.tlv.specs.Outcome.{done}
 use Rattle.tlv.specs.Lists.{Any, first}
 use Rattle.tlv.specs.Fields.{Field, FieldList, end, cut, more, fields, wholeFields, payloads}
 use Rattle.tlv.specs.Grammar.{start, shaped, payloadLimited, limited, next, checkFrom, checkInput}
-use Rattle.tlv.specs.Checked.{fieldIn}
+use Rattle.tlv.specs.Checked.{Accepts, fieldIn}
 use Rattle.tlv.specs.Places.{unitHere, behind, unitPlaces, IndexedEntry, entryIndex}
 use Rattle.tlv.specs.Index.{lookup}
 use Rattle.tlv.specs.Units.{indexedUnit, within, containing}
@@ -74,9 +74,9 @@ few-from c (more f fs) m p e h =
     rw a (omega arith))
 
 -- an accepted sheet has at most 256
-pub few-unit-places : (s : List ℕ) (n : ℕ) → checkInput s ≡ done n → length (unitPlaces 0 (fields s)) ≤ unitLimit
+pub few-unit-places : (s : List ℕ) (n : ℕ) → Accepts s n → length (unitPlaces 0 (fields s)) ≤ unitLimit
 unfolding checkInput
-few-unit-places s n e = let k = few-from start (fields s) n 0 e (omega arith) in omega arith
+few-unit-places s n e = let k = few-from (start (e .program)) (fields s) n 0 (e .passes) (omega arith) in omega arith
 
 -- ---- an offset lies in one unit at most
 
@@ -125,12 +125,12 @@ module _ (s : List ℕ) (x q : ℕ) where
         (λ p t start n past is to most long ih at. only-turn p past (fieldIn s t start n) (fields (drop past s)) (omega arith) at (ih refl))
         p refl
 
-module _ (s : List ℕ) (n : ℕ) (accepted : checkInput s ≡ done n) (x : ℕ) where
+module _ (s : List ℕ) (n : ℕ) (accepted : Accepts s n) (x : ℕ) where
   -- a unit that has x in it is the one that is found
   pub only-containing : (q : ℕ) → Any (λ y. y ≡ q) (unitPlaces 0 (fields s)) → unitHere s q .offset ≤ x → x < unitHere s q .offset + unitHere s q .length
       → containing x (map (indexedUnit s) (unitPlaces 0 (fields s))) ≡ some q
   unfolding checkInput
-  only-containing q any low high = containing-places s x (unitPlaces 0 (fields s)) ∙ only s x q low high 0 start n accepted any .1
+  only-containing q any low high = containing-places s x (unitPlaces 0 (fields s)) ∙ only s x q low high 0 (start (accepted .program)) n (accepted .passes) any .1
 
   -- the unit of the entry at x is the one that is found
   pub entry-containing : (e : IndexedEntry) → lookup x (entryIndex 0 0 0 (fields s)) ≡ some e

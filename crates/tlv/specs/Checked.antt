@@ -9,7 +9,7 @@ use Rattle.tlv.specs.declared.grammar.Judged.{Judged}
 use Rattle.tlv.specs.declared.grammar.Checked.{Checked}
 use Rattle.tlv.specs.Outcome.{Outcome, refused, done}
 use Rattle.tlv.specs.Fields.{Field, fields}
-use Rattle.tlv.specs.Grammar.{shaped, limited, next, checkFrom}
+use Rattle.tlv.specs.Grammar.{shaped, limited, next, checkFrom, checkInput}
 
 -- the field of tag t whose payload is the n bytes of s from `start` on
 abbrev pub fieldIn : List ℕ → ℕ → ℕ → ℕ → Field
@@ -24,6 +24,11 @@ abbrev pub checkedOf : Checked → Outcome ℕ
 checkedOf (Checked.Accepted n) = done n
 checkedOf Checked.Misshapen = refused 2
 checkedOf Checked.PastLimit = refused 3
+
+-- a sheet is accepted, with a line program of some length, and has n fields
+pub record Accepts (s : List ℕ) (n : ℕ) : Type 0 where
+  pub program : ℕ
+  pub passes : checkInput program s ≡ done n
 
 -- p is the place of a field of an accepted sheet, or its end: the fields from p on pass after what stands before them
 pub record Placed (s : List ℕ) (p : ℕ) : Type 0 where

@@ -12,23 +12,36 @@ use Rattle.tlv.specs.Bytes.{leAt}
 use Rattle.tlv.specs.Limits.{fieldLimit, unitLimit, stringLimit, reasonLimit, depthLimit}
 use Rattle.tlv.specs.Fields.{Field, FieldList, end, cut, more, fields}
 
-abbrev pub start : Context
-start = record { previous = 0; count = 0; units = 0; end = 0; length = 0; offset = 0; depth = 0 }
+-- before the first field, with a line program of so many bytes
+abbrev pub start : ℕ → Context
+start program = record { previous = 0; count = 0; units = 0; end = 0; length = 0; offset = 0; depth = 0; program = program }
 
 -- ---- the order: "A unit is 10, at most one 11, any 12; then optionally 13 and, only after one, any 14, at most one 1c, any 15, any 16; then entries, .."
+-- Document 02, E11: "A field 1e hex after a line header": directly behind it, and at most one
+
+-- the part's tag, where its length stands behind its start, and its payload's size
+abbrev pub partTag : ℕ
+partTag = 0x1e
+
+abbrev pub partLengthAt : ℕ
+partLengthAt = 8
+
+abbrev pub partFieldSize : ℕ
+partFieldSize = partLengthAt + 8
 
 -- the tags that may stand after a tag
 unfoldable pub after : ℕ → List ℕ
 after t =
     cond (eqb t 0x10) (0x10 ∷ 0x11 ∷ 0x12 ∷ 0x13 ∷ 0x17 ∷ [])
     (cond (eqb t 0x11 || eqb t 0x12) (0x10 ∷ 0x12 ∷ 0x13 ∷ 0x17 ∷ [])
-    (cond (eqb t 0x13 || eqb t 0x14) (0x10 ∷ 0x14 ∷ 0x1c ∷ 0x15 ∷ 0x16 ∷ 0x17 ∷ [])
+    (cond (eqb t 0x13) (0x10 ∷ partTag ∷ 0x14 ∷ 0x1c ∷ 0x15 ∷ 0x16 ∷ 0x17 ∷ [])
+    (cond (eqb t partTag || eqb t 0x14) (0x10 ∷ 0x14 ∷ 0x1c ∷ 0x15 ∷ 0x16 ∷ 0x17 ∷ [])
     (cond (eqb t 0x1c || eqb t 0x15) (0x10 ∷ 0x15 ∷ 0x16 ∷ 0x17 ∷ [])
     (cond (eqb t 0x16) (0x10 ∷ 0x16 ∷ 0x17 ∷ [])
     (cond (eqb t 0x17 || eqb t 0x18) (0x10 ∷ 0x17 ∷ 0x18 ∷ 0x19 ∷ 0x1a ∷ [])
     (cond (eqb t 0x19) (0x10 ∷ 0x17 ∷ 0x19 ∷ 0x1a ∷ [])
     (cond (eqb t 0x1a) (0x10 ∷ 0x17 ∷ [])
-    (0x10 ∷ []))))))))
+    (0x10 ∷ [])))))))))
 
 unfoldable pub mayFollow : ℕ → ℕ → Bool
 mayFollow previous t = exists (eqb t) (after previous)
@@ -58,6 +71,10 @@ textShaped p = eqb (length p) 16
 -- 13 line header: offset, header length, version, word size, opcode base (1 byte each), then any number of standard opcode lengths
 unfoldable pub headerShaped : List ℕ → Bool
 headerShaped p = leb 19 (length p) && isVersion (leAt 1 p 16) && isWord (leAt 1 p 17)
+
+-- 1e part of the line program: start, length, 8 bytes each. "a part past the program is misshapen": its end counts, in numbers without a limit
+unfoldable pub partShaped : Context → List ℕ → Bool
+partShaped c p = eqb (length p) partFieldSize && leb (leAt 8 p 0 + leAt 8 p partLengthAt) (c .program)
 
 -- 14 directory: a failed flag, the string
 unfoldable pub directoryShaped : List ℕ → Bool
@@ -118,6 +135,7 @@ payloadShaped c t p =
     (cond (eqb t 0x11) true
     (cond (eqb t 0x12) (textShaped p)
     (cond (eqb t 0x13) (headerShaped p)
+    (cond (eqb t partTag) (partShaped c p)
     (cond (eqb t 0x14) (directoryShaped p)
     (cond (eqb t 0x15 || eqb t 0x1c) (fileShaped p)
     (cond (eqb t 0x16) (rowShaped p)
@@ -125,7 +143,7 @@ payloadShaped c t p =
     (cond (eqb t 0x18) (attributeShaped p)
     (cond (eqb t 0x19) (rangeShaped p)
     (cond (eqb t 0x1a) (failureShaped (c .previous) p)
-    false))))))))))
+    false)))))))))))
 
 -- 2: a field that is no breach of the grammar
 unfoldable pub shaped : Context → Field → Bool
@@ -162,6 +180,7 @@ next c f =
       length = leAt 8 p 8;
       offset = 0;
       depth = 0;
+      program = c .program;
     })
     (cond (eqb t 0x17)
     (record {
@@ -172,6 +191,7 @@ next c f =
       length = c .length;
       offset = leAt 8 p 0 + 1;
       depth = leAt 2 p 8 + 1;
+      program = c .program;
     })
     (record {
       previous = t;
@@ -181,6 +201,7 @@ next c f =
       length = c .length;
       offset = c .offset;
       depth = c .depth;
+      program = c .program;
     }))
 
 -- the number of fields, or the refusal that the first bad field gives
@@ -189,6 +210,6 @@ checkFrom c end = done (c .count)
 checkFrom c cut = refused 2
 checkFrom c (more f fs) = cond (shaped c f) (cond (limited c f) (checkFrom (next c f) fs) (refused 3)) (refused 2)
 
--- an input of fields; document 01 calls it a sheet
-unfoldable pub checkInput : List ℕ → Outcome ℕ
-checkInput s = checkFrom start (fields s)
+-- an input of fields, which document 01 calls a sheet, that is lent with a line program of so many bytes
+unfoldable pub checkInput : ℕ → List ℕ → Outcome ℕ
+checkInput program s = checkFrom (start program) (fields s)

@@ -9,11 +9,11 @@ pub mod Model
 pub mod Output
 pub mod Reader
 pub mod Fits
-pub mod Accepted
 pub mod Buffer
 pub mod Table
 pub mod Cursor
 pub mod Checked
+pub mod Accepted
 pub mod Places
 pub mod Access
 pub mod Index

@@ -2,15 +2,15 @@
 use Prim.Native.Nat.{ℕ}
 use mathlib.Core.Bool.{Bool}
 use mathlib.Core.List.{List, map}
-use mathlib.Core.Option.{Option}
-use lib.ListN.{length, drop}
+use mathlib.Core.Option.{Option, none, some}
+use lib.ListN.{length, take, drop}
 use lib.Dec.{eqb}
 use Rattle.tlv.specs.declared.model.AddressRange.{AddressRange}
 use Rattle.tlv.specs.Outcome.{Outcome, done}
 use Rattle.tlv.specs.Lists.{mapOption}
 use Rattle.tlv.specs.Bytes.{leAt}
 use Rattle.tlv.specs.Fields.{Group, grouped, payloads, payloadOf, fields, wholeFields}
-use Rattle.tlv.specs.Grammar.{rowLineAt, rowColumnAt, rowKindAt}
+use Rattle.tlv.specs.Grammar.{partTag, partLengthAt, rowLineAt, rowColumnAt, rowKindAt}
 
 -- an attribute: its name, its kind, the number that its value spells, and its value's bytes
 pub record Attribute : Type 0 where
@@ -45,6 +45,11 @@ pub record LineHeader : Type 0 where
   pub opcodeBase : ℕ
   pub opcodeLengths : List ℕ
 
+-- the unit's part of the lent line program (document 02, E11)
+pub record ProgramPart : Type 0 where
+  pub start : ℕ
+  pub length : ℕ
+
 pub record Directory : Type 0 where
   pub failed : Bool
   pub path : List ℕ
@@ -70,6 +75,7 @@ pub record CompilationUnit : Type 0 where
   pub directory : Option (List ℕ)
   pub text : List AddressRange  -- the executable ranges
   pub header : Option LineHeader
+  pub part : Option ProgramPart  -- none: the whole program
   pub directories : List Directory
   pub fileZero : Option HeaderFile  -- file 0 before version 5
   pub files : List HeaderFile
@@ -95,6 +101,10 @@ headerOf p = record {
   opcodeBase = leAt 1 p 18;
   opcodeLengths = drop 19 p;
 }
+
+-- 1e
+unfoldable pub partOf : List ℕ → ProgramPart
+partOf p = record { start = leAt 8 p 0; length = leAt 8 p partLengthAt }
 
 -- 14
 unfoldable pub directoryOf : List ℕ → Directory
@@ -146,6 +156,7 @@ unitOf g =
       directory = payloadOf 0x11 own;
       text = map rangeOf (payloads 0x12 own);
       header = mapOption headerOf (payloadOf 0x13 own);
+      part = mapOption partOf (payloadOf partTag own);
       directories = map directoryOf (payloads 0x14 own);
       fileZero = mapOption fileOf (payloadOf 0x1c own);
       files = map fileOf (payloads 0x15 own);
@@ -156,6 +167,16 @@ unitOf g =
 -- the units of a sheet
 unfoldable pub units : List ℕ → List CompilationUnit
 units s = map unitOf (grouped 0x10 (wholeFields (fields s)) .groups)
+
+-- ---- the unit's program
+
+abbrev pub programPart : Option ProgramPart → List ℕ → List ℕ
+programPart none program = program
+programPart (some p) program = take (p .length) (drop (p .start) program)
+
+-- "names the unit's part of the lent program by start and length; .. without 1e it is the whole program"
+unfoldable pub programOf : CompilationUnit → List ℕ → List ℕ
+programOf u program = programPart (u .part) program
 
 -- ---- where rows and ranges come from
 

@@ -3,7 +3,7 @@ ghost use mathlib.Core.Path.{_≡_};
 ghost use mathlib.Core.Bool.{true};
 ghost use Prim.Native.Nat.{_+_, _≤_};
 ghost use lib.ListN.{length, take, drop};
-ghost use Rattle.tlv.specs.Grammar.{mayFollow, unitShaped, textShaped, headerShaped, directoryShaped, fileShaped, rowShaped, entryShaped, valueShaped, attributeShaped, rangeShaped, failureShaped, payloadShaped, payloadLimited, shaped, limited, next, checkInput};
+ghost use Rattle.tlv.specs.Grammar.{mayFollow, unitShaped, textShaped, headerShaped, partShaped, directoryShaped, fileShaped, rowShaped, entryShaped, valueShaped, attributeShaped, rangeShaped, failureShaped, payloadShaped, payloadLimited, shaped, limited, next, checkInput};
 ghost use Rattle.tlv.specs.Checked.{fieldIn, judgedOf, checkedOf};
 use crate::bytes::read_u8;
 use crate::bytes::read_u16;
@@ -20,6 +20,13 @@ pub const STRING_LIMIT: usize = 6113;
 const REASON_LIMIT: usize = 4096;
 
 const DEPTH_LIMIT: u16 = 1024;
+
+// The field that names a unit's part of the line program: its tag, where the length stands behind the start, and the length of its payload.
+pub const PART_TAG: u8 = 0x1e;
+
+pub const PART_LENGTH: usize = 8;
+
+pub const PART_FIELD: usize = PART_LENGTH + 8;
 
 // Where a row field's line, column and kind stand in its payload: the kind at its end.
 pub const ROW_LINE: usize = 16;
@@ -43,6 +50,7 @@ pub struct Context {
     pub length: u64, // its length
     pub offset: u64, // the least offset that the next entry may have
     pub depth: u64, // the largest depth that the next entry may have
+    pub program: u64, // the bytes of the line program that is lent with the input
 }
 
 // Whether a field of a tag may stand after one of the tag `previous`.
@@ -54,6 +62,13 @@ pub fn may_follow(previous: u8, tag: u8) -> bool
         0x11 => (tag == 0x10) | (tag == 0x12) | (tag == 0x13) | (tag == 0x17),
         0x12 => (tag == 0x10) | (tag == 0x12) | (tag == 0x13) | (tag == 0x17),
         0x13 => (tag == 0x10)
+            | (tag == PART_TAG)
+            | (tag == 0x14)
+            | (tag == 0x1c)
+            | (tag == 0x15)
+            | (tag == 0x16)
+            | (tag == 0x17),
+        PART_TAG => (tag == 0x10)
             | (tag == 0x14)
             | (tag == 0x1c)
             | (tag == 0x15)
@@ -114,6 +129,22 @@ pub fn header_shaped(s: &[u8], start: usize, len: usize) -> bool
     let version = read_u8(s, start + 16);
     let word = read_u8(s, start + 17);
     (2 <= version) & (version <= 5) & ((word == 4) | (word == 8))
+}
+
+// No part passes the program.
+pub fn part_shaped(c: Context, s: &[u8], start: usize, len: usize) -> bool
+    requires { ⌜ start + len ≤ length (now s) ⌝ }
+    ensures { λ r. ⌜ r ≡ partShaped c (take len (drop start (now (s .entry)))) ⌝ }
+{
+    if len != PART_FIELD {
+        return false;
+    }
+    let from = read_u64(s, start);
+    let size = read_u64(s, start + PART_LENGTH);
+    if c.program < from {
+        return false;
+    }
+    size <= c.program - from
 }
 
 pub fn directory_shaped(s: &[u8], start: usize, len: usize) -> bool
@@ -212,6 +243,7 @@ pub fn payload_shaped(c: Context, tag: u8, s: &[u8], start: usize, len: usize) -
         0x11 => true,
         0x12 => text_shaped(s, start, len),
         0x13 => header_shaped(s, start, len),
+        PART_TAG => part_shaped(c, s, start, len),
         0x14 => directory_shaped(s, start, len),
         0x15 => file_shaped(s, start, len),
         0x1c => file_shaped(s, start, len),
@@ -263,6 +295,7 @@ pub fn next(c: Context, tag: u8, s: &[u8], start: usize, len: usize) -> Context
                 length: size,
                 offset: 0,
                 depth: 0,
+                program: c.program,
             }
         }
         0x17 => {
@@ -276,6 +309,7 @@ pub fn next(c: Context, tag: u8, s: &[u8], start: usize, len: usize) -> Context
                 length: c.length,
                 offset: offset + 1,
                 depth: depth + 1,
+                program: c.program,
             }
         }
         _ => Context {
@@ -286,6 +320,7 @@ pub fn next(c: Context, tag: u8, s: &[u8], start: usize, len: usize) -> Context
             length: c.length,
             offset: c.offset,
             depth: c.depth,
+            program: c.program,
         },
     }
 }
@@ -323,8 +358,9 @@ pub enum Checked {
     PastLimit,
 }
 
-pub fn check_input(s: &[u8]) -> Checked
-    ensures { λ r. ⌜ checkedOf r ≡ checkInput (now (s .entry)) ⌝ }
+// With the length of the line program that is lent with it.
+pub fn check_input(s: &[u8], program: usize) -> Checked
+    ensures { λ r. ⌜ checkedOf r ≡ checkInput program (now (s .entry)) ⌝ }
 {
     let mut p: usize = 0;
     let mut c = Context {
@@ -335,6 +371,7 @@ pub fn check_input(s: &[u8]) -> Checked
         length: 0,
         offset: 0,
         depth: 0,
+        program: program as u64,
     };
     loop {
         match field_at(s, p) {

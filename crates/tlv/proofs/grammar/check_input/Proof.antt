@@ -12,10 +12,10 @@ use Rattle.tlv.proofs.grammar.check_input.Statement.{statement}
 use Rattle.tlv.proofs.grammar.check_input.Tie as tie
 
 abbrev Inv-loop : tie.InvT-loop
-Inv-loop s p₀ c₀ p c = (p ≤ length s) × (checkInput s ≡ checkFrom c (fields (drop p s)))
+Inv-loop s program p₀ c₀ p c = (p ≤ length s) × (checkInput program s ≡ checkFrom c (fields (drop p s)))
 
 abbrev μ-loop : tie.MeasureT-loop
-μ-loop s p₀ c₀ p c = length s - p
+μ-loop s program p₀ c₀ p c = length s - p
 
 loop-holds : tie.Need-loop-holds Inv-loop μ-loop
 unfolding checkInput
