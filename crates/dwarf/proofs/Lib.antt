@@ -1,9 +1,14 @@
 pub mod CountLaws
 pub mod LayoutLaws
 pub mod TallyLaws
+pub mod CheckLaws
 pub mod IndexingLaws
-pub mod MakeLaws
-pub mod ChosenLaws
+pub mod TablesLaws
+pub mod PartFacts
+pub mod PartLaws
+pub mod GrowsLaws
+pub mod UnitStepLaws
+pub mod EachLaws
 pub mod RunLaws
 pub mod AnswerLaws
 pub mod MeasureLaws

@@ -3,10 +3,9 @@ use mathlib.Core.Path.{_≡_}
 use mathlib.Core.List.{List}
 use Prim.Native.Nat.{ℕ, _+_, _*_, _≤_, _<_, _^_}
 use lib.ListN.{length, getD}
-use Rattle.tlv.specs.Outcome.{done}
 use Rattle.tlv.specs.Limits.{workOfField, workOfProgramByte, workBesides, joinedLimit}
 use Rattle.tlv.specs.Fields.{fields, payloads, wholeFields}
-use Rattle.tlv.specs.Grammar.{checkInput}
+use Rattle.tlv.specs.Checked.{Accepts}
 use Rattle.tlv.specs.Places.{unitHere, unitPlaces}
 use Rattle.files.specs.Possible.{possibleFiles}
 use Rattle.collect.specs.Collects.{linesExtent}
@@ -56,5 +55,5 @@ pub record LaidOut (main supplementary program : List ℕ) (l : Layout) : Type 0
   pub stack : l .ranges + 16 * (1 + rangeCount main) ≤ l .stack
   pub sites : l .stack + 14 * entryCount main ≤ l .sites
   pub keys : l .sites + 12 * entryCount main ≤ l .keys
-  pub within : (m n : ℕ) → checkInput main ≡ done m → checkInput supplementary ≡ done n
+  pub within : (m n : ℕ) → Accepts main m → Accepts supplementary n
       → l .keys + keysRoom main supplementary ≤ workOfField * (m + n) + workOfProgramByte * length program + workBesides

@@ -1,3 +1,7 @@
 pub mod Layout
+pub mod Checks
+pub mod Tables
+pub mod Part
+pub mod Units
 pub mod Runs
 pub mod Answers

@@ -4,6 +4,15 @@ ghost use Prim.Native.Nat.{_≤_};
 ghost use Rattle.dwarf.specs.Answers.{refusalNumber};
 use subprograms::model::ConversionStats;
 
+// What is asked for: all units of the main input, or the unit of an ordinal; the two switches; the number of the first file.
+pub struct Options {
+    pub all: bool,
+    pub ordinal: u64,
+    pub inlines: bool,
+    pub call_sites: bool,
+    pub first_file: u32,
+}
+
 // Document 01's refusals, in the order of their numbers.
 pub enum Refusal {
     Oversize,

@@ -21,15 +21,15 @@ use Rattle.subprograms.specs.Contexts.{ContextIn, touched}
 use Rattle.subprograms.specs.Steps.{Imports, Rejects, stateOf}
 use Rattle.subprograms.proofs.ContextLaws.{context-kept, touched-as}
 
-records-append : (xs ys : List Function) → recordsBytes (xs ++ ys) ≡ recordsBytes xs ++ recordsBytes ys
+pub records-append : (xs ys : List Function) → recordsBytes (xs ++ ys) ≡ recordsBytes xs ++ recordsBytes ys
 unfolding recordsBytes
 records-append xs ys = each-append functionBytes xs ys
 
-no-records : recordsBytes [] ≡ []
+pub no-records : recordsBytes [] ≡ []
 unfolding recordsBytes eachOf
 no-records = refl
 
-no-warnings : warningsBytes [] ≡ []
+pub no-warnings : warningsBytes [] ≡ []
 unfolding warningsBytes eachOf
 no-warnings = refl
 
