@@ -10,23 +10,26 @@ use lib.Dec.{ltb, eqb}
 use borrow.Author.Tests.{eqb-true}
 use lib.Seq.{take-at}
 use Rattle.tlv.specs.Outcome.{Outcome, refused, done, _>>=_}
-use Rattle.tlv.specs.Lists.{at, isEmpty}
+use Rattle.tlv.specs.Lists.{All, at, isEmpty}
 use Rattle.tlv.specs.Grammar.{checkInput}
 use Rattle.tlv.specs.Model.{CompilationUnit, units}
-use Rattle.tlv.specs.Accepted.{UnitAccepted}
+use Rattle.tlv.specs.Accepted.{Given, UnitAccepted}
+use Rattle.tlv.specs.Output.{Function}
 use Rattle.tlv.specs.Reader.{readRecords, readFiles, readWarnings}
 use Rattle.tlv.proofs.TestLaws.{and-left, and-right}
-use Rattle.tlv.proofs.ListLaws.{all-at, given-some}
+use Rattle.tlv.proofs.ListLaws.{all-at}
+use Rattle.tlv.proofs.RefusalLaws.{RefusesIn, refusal-number}
 use Rattle.tlv.proofs.OutcomeLaws.{done-is, refused-not, with-done}
 use Rattle.tlv.proofs.ReadBack.{records-back, files-back, warnings-back}
 use Rattle.tlv.proofs.AcceptedUnits.{accepting}
 use Rattle.lines.proofs.RowLaws.{rows-agree}
 use Rattle.lines.proofs.LineBounds.{sorted-lines}
-use Rattle.imports.specs.Import.{State, importUnit}
-use Rattle.imports.specs.Answer.{Inputs, oversize, workNeeded, initialState, dwarfOf, isBare, importChosen, importOf, Written, written, fitting, outcomeOf, Answer, answerOf, bufferAfter, after}
-use Rattle.imports.specs.Demand.{ChosenAgrees, Units, Lent, Finished, Demand}
-use Rattle.imports.proofs.Refusals.{refusals}
-use Rattle.imports.proofs.ImportBounds.{producing}
+use Rattle.imports.specs.Import.{State, importUnit, importUnits}
+use Rattle.imports.specs.Answer.{Inputs, oversize, workNeeded, initialState, dwarfOf, importWorked, isBare, importChosen, checked, importOf, importDwarfOf}
+use Rattle.imports.specs.Answer.{Written, written, fitting, outcomeOf, Answer, answerOf, bufferAfter, afterwards, after, afterDwarf}
+use Rattle.imports.specs.Demand.{ChosenAgrees, UnitsAgree, Units, Lent, StateFits, Finished, Demand, DwarfDemand}
+use Rattle.imports.proofs.Refusals.{refuses-import, refuses-dwarf, refuses-outcome}
+use Rattle.imports.proofs.ImportBounds.{producing, dwarf-producing}
 use Rattle.imports.proofs.WalkMachine.{walk-tree, walk-treeless}
 use Rattle.imports.proofs.Records.{units-agree}
 
@@ -40,47 +43,68 @@ empty-is : (xs : List ℕ) → isEmpty xs ≡ true → xs ≡ []
 empty-is [] e = refl
 empty-is (x ∷ xs) e = absurd (false≢true e)
 
-module _ (i : Inputs) (s : State) (l : Lent i) where
-  of-unit : (m : ℕ) → checkInput (i .main) ≡ done m → (u : CompilationUnit) → at (units (i .main)) (i .ordinal) ≡ some u
-      → importUnit (dwarfOf i) u (i .program) (i .inlines) (i .callSites) (initialState i) ≡ done s → ChosenAgrees i (some u) (s .records)
-  unfolding initialState
-  of-unit m c u a e =
-      let all = accepting (i .main) m (l .main) c in
-      let accepted = given-some UnitAccepted (at (units (i .main)) (i .ordinal)) u (all-at UnitAccepted (units (i .main)) (i .ordinal) all) a in
-      let x = each-unit (dwarfOf i) u (i .program) (i .inlines) (i .callSites) (initialState i) s accepted e in
-      rw (x .added) (x .agree)
+-- a refusal is no import
+not-refused : {A : Type 0} (b : Bool) (n : ℕ) {o : Outcome A} {a : A} → cond b (refused n) o ≡ done a → o ≡ done a
+not-refused true n e = refused-not e
+not-refused false n e = e
 
-  from-worked : (b : Bool) {o : Outcome State} → cond b (refused 5) o ≡ done s → o ≡ done s
-  from-worked true q = refused-not q
-  from-worked false q = q
-
-  from-chosen : (m n : ℕ) → checkInput (i .main) ≡ done m → (o : Option CompilationUnit) → at (units (i .main)) (i .ordinal) ≡ o
-      → importChosen i n o ≡ done s → ChosenAgrees i o (s .records)
-  unfolding initialState
-  from-chosen m n c none a = go (isBare i) (ltb (length (i .work)) (workNeeded i n)) refl
-    where
-      go : (b w : Bool) → isBare i ≡ b → cond b (cond w (refused 5) (done (initialState i))) (refused 4) ≡ done s → ChosenAgrees i none (s .records)
-      go true w is q = (
-        empty-is (i .main) (and-left (isEmpty (i .main)) (eqb (i .ordinal) 0) is),
-        eqb-true (i .ordinal) 0 (and-right (isEmpty (i .main)) (eqb (i .ordinal) 0) is),
-        ap (λ (x : State). x .records) (sym (done-is (from-worked w q))),
+module _ (i : Inputs) (l : Lent i) where
+  -- units one after another, from a state on
+  of-units : (us : List CompilationUnit) (s t : State) → All UnitAccepted us
+      → importUnits (dwarfOf i) us (i .program) (i .inlines) (i .callSites) s ≡ done t
+      → (new : List Function) × (t .records ≡ s .records ++ new) × UnitsAgree (dwarfOf i) (i .inlines) us new
+  unfolding importUnits
+  of-units [] s t h e = ([], ap (λ (x : State). x .records) (sym (done-is e)) ∙ sym (append-nil (s .records)), refl)
+  of-units (u ∷ us) s t h e =
+      with-done (importUnit (dwarfOf i) u (i .program) (i .inlines) (i .callSites) s) _ e λ x ex ey.
+      let a = each-unit (dwarfOf i) u (i .program) (i .inlines) (i .callSites) s x (h .0) ex in
+      let b = of-units us x t (h .1) ey in (
+        a .new ++ b .0,
+        b .1 ∙ ap (λ (rs : List Function). rs ++ b .0) (a .added) ∙ append-assoc (s .records) (a .new) (b .0),
+        (a .new, b .0, refl, a .agree, b .2),
       )
-      go false w is q = refused-not q
-  from-chosen m n c (some u) a = λ e. of-unit m c u a (from-worked (ltb (length (i .work)) (workNeeded i n)) e)
 
-  was-chosen : importOf i ≡ done s → ChosenAgrees i (at (units (i .main)) (i .ordinal)) (s .records)
-  unfolding importOf
-  was-chosen = go (oversize i)
-    where
-      rest : Outcome State
-      rest = checkInput (i .main) >>= λ m. checkInput (i .supplementary) >>= λ n. importChosen i (m + n) (at (units (i .main)) (i .ordinal))
+  module _ (s : State) where
+    from-worked : (n : ℕ) (us : List CompilationUnit) → All UnitAccepted us → importWorked i n us ≡ done s
+        → UnitsAgree (dwarfOf i) (i .inlines) us (s .records)
+    unfolding initialState
+    from-worked n us h e =
+        let x = of-units us (initialState i) s h (not-refused (ltb (length (i .work)) (workNeeded i n us)) 5 e) in
+        rw (x .1) (x .2)
 
-      go : (b : Bool) → cond b (refused 1) rest ≡ done s → ChosenAgrees i (at (units (i .main)) (i .ordinal)) (s .records)
-      go true e = refused-not e
-      go false e =
-          with-done (checkInput (i .main)) _ e λ m c e₁.
-          with-done (checkInput (i .supplementary)) _ e₁ λ n _ e₂.
-          from-chosen m (m + n) c (at (units (i .main)) (i .ordinal)) refl e₂
+    from-chosen : (n : ℕ) (o : Option CompilationUnit) → Given UnitAccepted o → importChosen i n o ≡ done s → ChosenAgrees i o (s .records)
+    from-chosen n none h = go (isBare i) refl
+      where
+        go : (b : Bool) → isBare i ≡ b → cond b (importWorked i n []) (refused 4) ≡ done s → ChosenAgrees i none (s .records)
+        go true is q = (
+          empty-is (i .main) (and-left (isEmpty (i .main)) (eqb (i .ordinal) 0) is),
+          eqb-true (i .ordinal) 0 (and-right (isEmpty (i .main)) (eqb (i .ordinal) 0) is),
+          from-worked n [] tt q,
+        )
+        go false is q = refused-not q
+    from-chosen n (some u) h = λ e.
+        let x = from-worked n (u ∷ []) (h, tt) e in
+        let same : s .records ≡ x .0 = x .2 ∙ ap (λ (rs : List Function). x .0 ++ rs) (x .4) ∙ append-nil (x .0) in
+        rw same (x .3)
+
+    -- what was checked
+    from-checked : (rest : ℕ → Outcome State) {P : Type 0} → checked i rest ≡ done s
+        → ((n : ℕ) → All UnitAccepted (units (i .main)) → rest n ≡ done s → P) → P
+    unfolding checked
+    from-checked rest e f =
+        let k = length (i .program) in
+        with-done (checkInput k (i .main)) _ (not-refused (oversize i) 1 e) λ m c e₁.
+        with-done (checkInput k (i .supplementary)) _ e₁ λ n _ e₂.
+        f (m + n) (accepting (i .main) m (l .main) (record { program = k; passes = c })) e₂
+
+    was-chosen : importOf i ≡ done s → ChosenAgrees i (at (units (i .main)) (i .ordinal)) (s .records)
+    unfolding importOf
+    was-chosen e = from-checked _ e λ n all q.
+        from-chosen n (at (units (i .main)) (i .ordinal)) (all-at UnitAccepted (units (i .main)) (i .ordinal) all) q
+
+    all-imported : importDwarfOf i ≡ done s → UnitsAgree (dwarfOf i) (i .inlines) (units (i .main)) (s .records)
+    unfolding importDwarfOf
+    all-imported e = from-checked _ e λ n all q. from-worked n (units (i .main)) all q
 
 -- ---- what was written is what is read
 
@@ -100,60 +124,40 @@ held : (part : Written → List ℕ) (size : Answer → ℕ) → ((w : Written) 
 unfolding bufferAfter
 held part size sizes buffer o w e = rw (e, sizes w) (take-at (part w) (drop (length (part w)) buffer) (length (part w)) refl)
 
--- what the trays hold after a call that leaves s behind
-module _ (i : Inputs) (o : Outcome State) (s : State) (f : StateFits s) (e : outcomeOf i o ≡ done (written s)) where
-  back-records : readRecords (take (afterwards i o .answer .records) (afterwards i o .records)) ≡ some (s .records)
-  unfolding afterwards written answerOf
-  back-records = ap readRecords (held (λ w. w .records) (λ a. a .records) (λ w. refl) (i .records) (outcomeOf i o) (written s) e) ∙ records-back (s .records) (f .records)
+-- a call whose import comes to o
+module _ (i : Inputs) (o : Outcome State) (Agree : List Function → Type 0) (within : RefusesIn 1 15 o) where
+  module _ (fits : (s : State) → o ≡ done s → StateFits s) (agrees : (s : State) → o ≡ done s → Agree (s .records)) where
+    read : (s : State) → o ≡ done s → outcomeOf i o ≡ done (written s) → Finished o Agree (afterwards i o)
+    unfolding afterwards written answerOf
+    read s q e =
+        let f = fits s q in
+        record {
+          state = s;
+          imported = q;
+          records = ap readRecords (held (λ w. w .records) (λ a. a .records) (λ w. refl) (i .records) (outcomeOf i o) (written s) e)
+              ∙ records-back (s .records) (f .records);
+          files = ap readFiles (held (λ w. w .files) (λ a. a .files) (λ w. refl) (i .files) (outcomeOf i o) (written s) e)
+              ∙ files-back (s .table .entries) (f .files);
+          warnings = ap readWarnings (held (λ w. w .warnings) (λ a. a .warnings) (λ w. refl) (i .warnings) (outcomeOf i o) (written s) e)
+              ∙ warnings-back (s .warnings) (f .warnings);
+          agree = agrees s q;
+        }
 
-  back-files : readFiles (take (afterwards i o .answer .files) (afterwards i o .files)) ≡ some (s .table .entries)
-  unfolding afterwards written answerOf
-  back-files = ap readFiles (held (λ w. w .files) (λ a. a .files) (λ w. refl) (i .files) (outcomeOf i o) (written s) e) ∙ files-back (s .table .entries) (f .files)
+    by-outcome : (x : Outcome Written) → outcomeOf i o ≡ x → answerOf x .refusal ≡ 0 → Finished o Agree (afterwards i o)
+    unfolding answerOf outcomeOf
+    by-outcome (refused n) e z = absurd (omega (arith, refusal-number (refuses-outcome i o within) e))
+    by-outcome (done w) e z = with-done o (λ s. fitting i (written s)) e λ s q r. read s q (e ∙ sym (ap done (fits-is i (written s) w r)))
 
-  back-warnings : readWarnings (take (afterwards i o .answer .warnings) (afterwards i o .warnings)) ≡ some (s .warnings)
-  unfolding afterwards written answerOf
-  back-warnings = ap readWarnings (held (λ w. w .warnings) (λ a. a .warnings) (λ w. refl) (i .warnings) (outcomeOf i o) (written s) e) ∙ warnings-back (s .warnings) (f .warnings)
-
-module _ (i : Inputs) (o : Outcome State) (within : RefusesIn 1 15 o) {P : Type 0} (f : (s : State) → o ≡ done s → outcomeOf i o ≡ done (written s) → P) where
-  finished : (w : Written) → outcomeOf i o ≡ done w → P
-  unfolding outcomeOf
-  finished w e = with-done o (λ s. fitting i (written s)) e λ s q r. f s q (e ∙ sym (ap done (fits-is i (written s) w r)))
-
-  by-outcome : (x : Outcome Written) → outcomeOf i o ≡ x → answerOf x .refusal ≡ 0 → P
-  unfolding answerOf
-  by-outcome (refused n) e z = absurd (omega (arith, refusal-number (refuses-outcome i o within) e))
-  by-outcome (done w) e z = finished w e
-
-  by-answer : afterwards i o .answer .refusal ≡ 0 → P
-  unfolding afterwards
-  by-answer z = by-outcome (outcomeOf i o) refl z
+    finished : afterwards i o .answer .refusal ≡ 0 → Finished o Agree (afterwards i o)
+    unfolding afterwards
+    finished z = by-outcome (outcomeOf i o) refl z
 
 pub demand : Demand
 unfolding after
-demand i l z = by-answer i (importOf i) (refuses-import i) (λ s q e.
-    let f = producing i s l q in
-    record {
-      state = s;
-      imported = q;
-      records = back-records i (importOf i) s f e;
-      files = back-files i (importOf i) s f e;
-      warnings = back-warnings i (importOf i) s f e;
-      agree = was-chosen i l s q;
-    }) z
+demand i l = finished i (importOf i) (ChosenAgrees i (at (units (i .main)) (i .ordinal))) (refuses-import i) (λ s. producing i s l) (was-chosen i l)
 
 -- the same of all units
 pub dwarf-demand : DwarfDemand
 unfolding afterDwarf
-dwarf-demand i l z = by-answer i (importDwarfOf i) (refuses-dwarf i) (λ s q e.
-    let f = dwarf-producing i s l q in
-    record {
-      state = s;
-      imported = q;
-      records = back-records i (importDwarfOf i) s f e;
-      files = back-files i (importDwarfOf i) s f e;
-      warnings = back-warnings i (importDwarfOf i) s f e;
-      agree = all-imported i l s q;
-    }) z
-
-pub dwarf-refusals : DwarfRefusals
-dwarf-refusals i n e = refusal-number (refuses-outcome i (importDwarfOf i) (refuses-dwarf i)) e
+dwarf-demand i l =
+    finished i (importDwarfOf i) (UnitsAgree (dwarfOf i) (i .inlines) (units (i .main))) (refuses-dwarf i) (λ s. dwarf-producing i s l) (all-imported i l)

@@ -34,8 +34,7 @@ use Rattle.references.proofs.DeclarationBounds.{FoundFits, DeclaringFits, gives
 use Rattle.imports.specs.Tree.{Descendants}
 use Rattle.imports.specs.Import.{State, ImportContext, sequenceIf, statementSequenceOffset, isLiveRange, isTombstone, rejected, sequenceWarning, declarationIf, linesWith, rooted, detailContext, addFunction, importRange, importRanges, importByFailure, importSubprogram, isSubprogram, descendantsOf, importUnitDetails, importUnit, importUnits}
 use Rattle.imports.specs.Answer.{Inputs, oversize, workNeeded, initialState, dwarfOf, importWorked, isBare, importChosen, checked, importOf, importDwarfOf}
-use Rattle.imports.specs.Demand.{Lent, Producing}
-use Rattle.imports.specs.Joined.{DwarfProducing}
+use Rattle.imports.specs.Demand.{Lent, Producing, DwarfProducing}
 use Rattle.imports.proofs.Subjects.{live-range}
 use Rattle.imports.proofs.NodeBounds.{rooted-fits}
 use Rattle.imports.proofs.TreeBounds.{DetailsFit, details-fit}

@@ -34,4 +34,4 @@ pub mod Examples
 pub mod Sizing
 pub mod Joining
 pub mod Bare
-pub mod DwarfExamples
+pub mod DwarfCases

@@ -19,7 +19,7 @@ use Rattle.references.proofs.Refusals.{refuses-offset, refuses-name, refuses-re
 use Rattle.imports.specs.Tree.{DetailContext, Descendants, siteWithOrigin, siteAt, makeCallSite, callFileFrom, callFileIf, callFileOf, callLineIf, callLineOf, pushInline, makeInlineNode, collectEntry, collectEntries, collectDescendants, extractSubprogramDetails}
 use Rattle.imports.specs.Import.{State, ImportContext, sequenceWarning, declarationIf, importRange, importRanges, importByFailure, importSubprogram, importUnitDetails, importUnit, importUnits}
 use Rattle.imports.specs.Answer.{Inputs, Written, importWorked, importChosen, checked, importOf, importDwarfOf, fitting, outcomeOf}
-use Rattle.imports.specs.Demand.{Refusals}
+use Rattle.imports.specs.Demand.{Refusals, DwarfRefusals}
 
 -- ---- below a subprogram: 6 to 14
 
@@ -157,3 +157,6 @@ refuses-outcome i o h = search (refusing, refuses-wider 1 15, h, refuses-wider 1
 -- every refusal is one of document 01's numbers
 pub refusals : Refusals
 refusals i n e = refusal-number (refuses-outcome i (importOf i) (refuses-import i)) e
+
+pub dwarf-refusals : DwarfRefusals
+dwarf-refusals i n e = refusal-number (refuses-outcome i (importDwarfOf i) (refuses-dwarf i)) e

@@ -10,3 +10,4 @@ pub mod Printed
 pub mod Sizes
 pub mod Bare
 pub mod Joined
+pub mod DwarfCases

@@ -11,7 +11,7 @@ use Rattle.tlv.specs.Outcome.{Outcome, refused, done}
 use Rattle.tlv.specs.Lists.{isNone, isEmpty}
 use Rattle.tlv.specs.Model.{CompilationUnit, Entry}
 use Rattle.tlv.specs.Fields.{fields}
-use Rattle.tlv.specs.Grammar.{checkInput}
+use Rattle.tlv.specs.Checked.{Accepts}
 use Rattle.tlv.specs.Places.{unitHere, entryHere, unitPlaces}
 use Rattle.tlv.specs.Output.{WarningKind, invalidDeclarationFile, invalidDeclarationLine}
 use Rattle.tlv.proofs.OutcomeLaws.{Gives, gives, gives-none, gives-cond, gives-bind}
@@ -160,7 +160,7 @@ bounded d u e in-unit in-entry =
     }
 
 -- of the entry at place p of the unit at place q of an accepted sheet
-pub bounded-at : {main : List ℕ} {q p : ℕ} (supplementary : List ℕ) (n : ℕ) → checkInput main ≡ done n → EntryKnown main q p
+pub bounded-at : {main : List ℕ} {q p : ℕ} (supplementary : List ℕ) (n : ℕ) → Accepts main n → EntryKnown main q p
     → ReadsBounded (dwarfOf main supplementary) (unitHere main q) (entryHere main p)
 bounded-at {main} {q} {p} supplementary n accepted known =
     bounded (dwarfOf main supplementary) (unitHere main q) (entryHere main p)

@@ -33,6 +33,7 @@ unit offset entries = record {
   directory = none;
   text = [];
   header = none;
+  part = none;
   directories = [];
   fileZero = none;
   files = [];
@@ -167,6 +168,7 @@ failing = record {
   directory = none;
   text = [];
   header = some header;
+  part = none;
   directories = [];
   fileZero = none;
   files = record { failed = true; directory = 0; path = [] } ∷ [];

@@ -13,7 +13,7 @@ use borrow.Author.Tests.{le-leb, lt-leb, lt-ltb, le-ltb, eq-eqb, ne-eqb}
 use Rattle.tlv.specs.declared.grammar.Context.{Context}
 use Rattle.tlv.specs.Lists.{exists}
 use Rattle.tlv.specs.Bytes.{leAt}
-use Rattle.tlv.specs.Grammar.{unitShaped, textShaped, headerShaped, directoryShaped, fileShaped, rowShaped, entryShaped, valueShaped, attributeShaped, rangeShaped, failureShaped, rowFieldSize, rowKindAt}
+use Rattle.tlv.specs.Grammar.{unitShaped, textShaped, headerShaped, partLengthAt, partFieldSize, partShaped, directoryShaped, fileShaped, rowShaped, entryShaped, valueShaped, attributeShaped, rangeShaped, failureShaped, rowFieldSize, rowKindAt}
 use Rattle.tlv.proofs.WidthLaws.{leAt-part}
 
 -- ---- one of a list, as tests that are joined from the left
@@ -94,15 +94,15 @@ module _ (s : List ℕ) (start len : ℕ) (fits : start + len ≤ length s) wher
         number-at s start len 1 17 w (omega arith) ew,
       )
 
-  pub part-not : (c : Context) → (len ≡ 16 → ⊥) → false ≡ partShaped c (take len (drop start s))
+  pub part-not : (c : Context) → (len ≡ partFieldSize → ⊥) → false ≡ partShaped c (take len (drop start s))
   unfolding partShaped
-  part-not c h = rw (part-length s start len fits, ne-eqb len 16 h)
+  part-not c h = rw (part-length s start len fits, ne-eqb len partFieldSize h)
 
   -- a part that begins past the program, and one that begins in it
-  module _ (c : Context) (a n : ℕ) (h : len ≡ 16) (ea : a ≡ leAt 8 s start) (en : n ≡ leAt 8 s (start + 8)) where
+  module _ (c : Context) (a n : ℕ) (h : len ≡ partFieldSize) (ea : a ≡ leAt 8 s start) (en : n ≡ leAt 8 s (start + partLengthAt)) where
     part-as : partShaped c (take len (drop start s)) ≡ leb (a + n) (c .program)
     unfolding partShaped
-    part-as = rw (part-length s start len fits, eq-eqb len 16 h, number-first s start len 8 a (omega arith) ea, number-at s start len 8 8 n (omega arith) en)
+    part-as = rw (part-length s start len fits, eq-eqb len partFieldSize h, number-first s start len 8 a (omega arith) ea, number-at s start len 8 partLengthAt n (omega arith) en)
 
     pub part-past : c .program < a → false ≡ partShaped c (take len (drop start s))
     part-past k = sym (part-as ∙ lt-leb (a + n) (c .program) (omega arith))
