@@ -48,8 +48,8 @@ left w t f u r = record { answer = answerGiven r; records = t; files = f; warnin
 
 -- demand 3 of the records: against the unit that was asked for, or each against its own
 abbrev pub AgreeAll : Bool → Inputs → List Function → Type 0
-AgreeAll true i rs = UnitsAgree (dwarfOf i) (i .inlines) (units (i .main)) rs
-AgreeAll false i rs = ChosenAgrees i (at (units (i .main)) (i .ordinal)) rs
+AgreeAll true i = UnitsAgree (dwarfOf i) (i .inlines) (units (i .main))
+AgreeAll false i = ChosenAgrees i (at (units (i .main)) (i .ordinal))
 
 -- the answer, the output buffers t, f and u and the work slice w after a call that comes to o are those of the definition; and demand 3
 pub record ImportsBy (all : Bool) (i : Inputs) (w t f u : List ℕ) (r : Imported) : Type 0 where

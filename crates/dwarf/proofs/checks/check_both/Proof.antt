@@ -1,9 +1,9 @@
--- `import::check_both` meets its contract: what the checks of both inputs say together. Assumes nothing.
+-- `checks::check_both` meets its contract: what the checks of both inputs say together. Assumes nothing.
 use native.Mathlib.Omega.{arith}
 use borrow.Author.Needs.{needs}
-use Rattle.dwarf.proofs.RunLaws.{both-misshapen, both-limited, second-misshapen, second-limited, checked-few, both-done}
-use Rattle.dwarf.proofs.import.check_both.Statement.{statement}
-use Rattle.dwarf.proofs.import.check_both.Tie as tie
+use Rattle.dwarf.proofs.CheckLaws.{both-misshapen, both-limited, second-misshapen, second-limited, checked-few, both-done}
+use Rattle.dwarf.proofs.checks.check_both.Statement.{statement}
+use Rattle.dwarf.proofs.checks.check_both.Tie as tie
 
 check-input-requires : tie.Need-check-input-requires
 check-input-requires c κs = search needs

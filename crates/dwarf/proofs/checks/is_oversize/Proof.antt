@@ -1,7 +1,7 @@
--- `import::is_oversize` meets its contract, a test for each branch. Assumes nothing.
-use Rattle.dwarf.proofs.RunLaws.{oversize-main, oversize-supplementary, oversize-program}
-use Rattle.dwarf.proofs.import.is_oversize.Statement.{statement}
-use Rattle.dwarf.proofs.import.is_oversize.Tie as tie
+-- `checks::is_oversize` meets its contract, a test for each branch. Assumes nothing.
+use Rattle.dwarf.proofs.CheckLaws.{oversize-main, oversize-supplementary, oversize-program}
+use Rattle.dwarf.proofs.checks.is_oversize.Statement.{statement}
+use Rattle.dwarf.proofs.checks.is_oversize.Tie as tie
 
 returns : tie.Need-returns
 returns c = oversize-main (c .before .args .main .now) (c .before .args .supplementary .now) (c .before .args .program .now) (c .if1 .taken)

@@ -1,7 +1,7 @@
--- `import::fitting` meets its contract, a test for each branch. Assumes nothing.
+-- `run::fitting` meets its contract, a test for each branch. Assumes nothing.
 use Rattle.dwarf.proofs.AnswerLaws.{fit-refused, fit-records, fit-files, fit-warnings, fit-all}
-use Rattle.dwarf.proofs.import.fitting.Statement.{statement}
-use Rattle.dwarf.proofs.import.fitting.Tie as tie
+use Rattle.dwarf.proofs.run.fitting.Statement.{statement}
+use Rattle.dwarf.proofs.run.fitting.Tie as tie
 
 returns : tie.Need-returns
 returns c = fit-refused _ _ _ _ (c .if1 .taken)
