@@ -94,8 +94,8 @@ module _ {main supplementary : List ℕ} {size : ℕ} where
         };
       }
 
-pub checked-few : (s : List ℕ) {size : ℕ} {a : Checked} {n : ℕ} → checkedOf a ≡ checkInput size s → a ≡ Checked.Accepted n → n ≤ fieldLimit
-checked-few s {size} {a} {n} e is = accepted-few s n (record { program = size; passes = sym e ∙ ap checkedOf is })
+pub checked-few : (s : List ℕ) (size : ℕ) {a : Checked} {n : ℕ} → checkedOf a ≡ checkInput size s → a ≡ Checked.Accepted n → n ≤ fieldLimit
+checked-few s size {a} {n} e is = accepted-few s n (record { program = size; passes = sym e ∙ ap checkedOf is })
 
 pub both-accepted : {main supplementary : List ℕ} {size : ℕ} {x : BothChecked} {n : ℕ} → ChecksBoth main supplementary size x → x ≡ BothChecked.Accepted n → BothAccepted main supplementary size n
 both-accepted C e = rw e at (C .is)
@@ -122,7 +122,7 @@ module _ (main : List ℕ) (o : Options) where
   unfolding missingOf
   missing-all e = sym (rw e)
 
-  module _ (one : o .all ≡ false) {p : Place} (e : placeOf p ≡ at (unitPlaces 0 (fields main)) (o .ordinal)) where
+  module _ (one : o .all ≡ false) (p : Place) (e : placeOf p ≡ at (unitPlaces 0 (fields main)) (o .ordinal)) where
     -- the unit is the one at the place
     by-place : missingOf main o ≡ missingUnit main (o .ordinal) (mapOption (unitHere main) (placeOf p))
     unfolding missingOf

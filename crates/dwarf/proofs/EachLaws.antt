@@ -41,17 +41,13 @@ module _ {A : Type 0} where
   at-inside (x ∷ xs) (suc k) d h = at-inside xs k d (omega arith)
 
   -- the list from a place on begins with what stands there
-  from-at : (xs : List A) (k : ℕ) (x : A) → at xs k ≡ some x → k < length xs → drop k xs ≡ x ∷ drop (k + 1) xs
+  from-at : (xs : List A) (k : ℕ) (x : A) → at xs k ≡ some x → k < length xs → drop k xs ≡ x ∷ drop (suc k) xs
   unfolding at
   from-at [] k x e h = absurd (omega arith)
   from-at (y ∷ xs) zero x e h = ap (λ (z : A). z ∷ xs) (Option·some-injective y x e)
   from-at (y ∷ xs) (suc k) x e h = from-at xs k x e (omega arith)
 
 module _ {main supplementary program w : List ℕ} {l : Layout} {x : Tables} (T : TablesIn main supplementary program w l x) where
-  -- the record of a unit lies in the slice
-  pub record-inside : (k : ℕ) → k < x .main .«unit_count» → x .main .units + 24 * k + 24 ≤ length w
-  record-inside k h = let a = T .of-main .index .units-within in omega arith
-
   pub place-inside : (k p : ℕ) → k < x .main .«unit_count» → p ≡ leAt 8 w (x .main .units + 24 * k + 16) → UnitIn main p × (at (units main) k ≡ some (unitHere main p))
   unfolding unitOf24 indexedUnit mapOption
   place-inside k p h e =
@@ -133,6 +129,10 @@ module _ {main supplementary program : List ℕ} {l : Layout} {x : Tables} {inli
   abbrev whole : State → Outcome State
   whole = importUnits (dwarfOf main supplementary) (unitsFrom main from to) program inlines callSites
 
+  -- the record of the next unit lies in the slice
+  pub record-inside : k < to → x .main .units + 24 * k + 24 ≤ length w
+  record-inside h = let a = I .tables .of-main .index .units-within in let b = I .within in omega arith
+
   pub units-end : to ≤ k → Grows whole main supplementary (besideTables l (length w₀)) w₀ t₀ f₀ u₀ st₀ w t f u st
   units-end h =
       let none : to - k ≡ 0 = omega arith in
@@ -147,9 +147,10 @@ module _ {main supplementary program : List ℕ} {l : Layout} {x : Tables} {inli
     first-left : unitsFrom main k to ≡ unitHere main p ∷ unitsFrom main (k + 1) to
     first-left =
         let n : to - k ≡ suc (to - (k + 1)) = omega arith in
+        let m : k + 1 ≡ suc k = omega arith in
         let b = I .within in
         let is = place-inside (I .tables) k p (omega arith) e .1 in
-        rw (n, from-at (units main) k (unitHere main p) is (omega (arith, units-many (I .tables))))
+        rw (n, m, from-at (units main) k (unitHere main p) is (omega (arith, units-many (I .tables))))
 
     module _ {w′ t′ f′ u′ : List ℕ} {st′ : ImportState}
         (A : Grows (importUnit (dwarfOf main supplementary) (unitHere main p) program inlines callSites) main supplementary (besideTables l (length w)) w t f u st w′ t′ f′ u′ st′) where

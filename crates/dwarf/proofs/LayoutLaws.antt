@@ -138,6 +138,7 @@ laid-out {main} {supplementary} {program} {m} {s} A B M S =
       few = files-fit M S;
       small = room-small M S A B;
       lines = omega arith;
+      front = omega arith;
       text = lines-fit (linesAt m s) program M;
       spans = λ q any. times-most (textAt m s x) 16 _ (m .text) (omega (arith, text-few main q any, M .text));
       room-main = map-main M S;

@@ -37,7 +37,7 @@ cut-same : (a n size : ℕ) (xs : List ℕ) → length xs ≡ size → take (min
 cut-same a n size xs e =
     ⊎-elim
     (λ (h : size ≤ a).
-    let none : drop a xs ≡ [] = drop-of-length-le xs (omega arith) in
+    let none : drop a xs ≡ [] = drop-of-length-le xs {i = a} (omega arith) in
     let x : min a size ≡ size = omega arith in
     let y : min (a + n) size - size ≡ 0 = omega arith in
     rw (x, y, none, take-nil n))
@@ -76,7 +76,8 @@ module _ {s : List ℕ} {place : ℕ} (A : Accepted s) (U : UnitIn s place) wher
       within = omega arith;
       is = λ program l.
           let none-is : unitHere s place .part ≡ none = part-is ∙ ap (mapOption partOf) (first-none s (place + 21) partTag r own e) in
-          rw none-is (rw (sym l) (take-length program));
+          let z : size - 0 ≡ length program = omega arith in
+          rw (none-is, z) (take-length program);
     }
 
     module _ {start len next : ℕ} (e : r ≡ Own.Field start len next) where

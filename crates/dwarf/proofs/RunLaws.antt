@@ -4,7 +4,7 @@ use mathlib.Core.Bool.{Bool, true, false, cond, not}
 use mathlib.Core.Logic.{inl}
 use mathlib.Core.List.{List, [], _∷_, _++_}
 use mathlib.Core.Option.{Option, none, some}
-use Prim.Native.Nat.{ℕ, _+_, _-_, _*_, _≤_, _<_}
+use Prim.Native.Nat.{ℕ, zero, suc, _+_, _-_, _*_, _≤_, _<_}
 use native.Mathlib.Omega.{arith}
 use lib.Dec.{ltb}
 use lib.ListN.{length, take, drop, drop-of-length-le}
@@ -13,6 +13,7 @@ use Rattle.tlv.specs.Outcome.{Outcome, refused, done, _>>=_}
 use Rattle.tlv.specs.Lists.{at}
 use Rattle.tlv.specs.Buffer.{top, Put}
 use Rattle.tlv.specs.Limits.{workOfProgramByte, joinedLimit}
+use Rattle.tlv.specs.Grammar.{checkInput}
 use Rattle.tlv.specs.Model.{CompilationUnit, units}
 use Rattle.tlv.specs.Output.{FileEntry, filesBytes}
 use Rattle.tlv.proofs.BufferLaws.{put-as}
@@ -60,7 +61,7 @@ module _ (o : Options) (count : ℕ) where
   chooses-all {r} e a b = record {
     order = omega arith;
     within = omega arith;
-    is = λ us l. rw (e, a, b) (take-all count us (omega arith));
+    is = λ us l. let z : r .to - r .from ≡ count = omega arith in rw (e, z, a) (take-all count us (omega arith));
   }
 
   module _ (one : o .all ≡ false) where
@@ -68,13 +69,13 @@ module _ (o : Options) (count : ℕ) where
     at-past : (us : List CompilationUnit) (k : ℕ) → length us ≤ k → at us k ≡ none
     unfolding at
     at-past [] k h = refl
-    at-past (u ∷ us) 0 h = absurd (omega arith)
+    at-past (u ∷ us) zero h = absurd (omega arith)
     at-past (u ∷ us) (suc k) h = at-past us k (omega arith)
 
     at-one : (us : List CompilationUnit) (k : ℕ) → k < length us → take 1 (drop k us) ≡ listed (at us k)
     unfolding at
     at-one [] k h = absurd (omega arith)
-    at-one (u ∷ us) 0 h = refl
+    at-one (u ∷ us) zero h = refl
     at-one (u ∷ us) (suc k) h = at-one us k (omega arith)
 
     pub chooses-none : {r : Chosen} → count ≤ o .ordinal → r .from ≡ 0 → r .to ≡ 0 → Chooses o count r
@@ -82,7 +83,7 @@ module _ (o : Options) (count : ℕ) where
     chooses-none {r} h a b = record {
       order = omega arith;
       within = omega arith;
-      is = λ us l. rw (one, a, b, at-past us (o .ordinal) (omega arith));
+      is = λ us l. let z : r .to - r .from ≡ 0 = omega arith in rw (one, z, at-past us (o .ordinal) (omega arith));
     }
 
     pub chooses-one : {r : Chosen} → o .ordinal < count → r .from ≡ o .ordinal → r .to ≡ r .from + 1 → Chooses o count r
@@ -95,12 +96,12 @@ module _ (o : Options) (count : ℕ) where
 
 -- ---- the import by its inputs
 
-either-way : (b : Bool) {A : Type 0} {x y : A} → cond b x y ≡ cond (not b) y x
-either-way true = refl
-either-way false = refl
+either-way : {A : Type 0} (b : Bool) (x y : A) → cond b x y ≡ cond (not b) y x
+either-way true x y = refl
+either-way false x y = refl
 
 chosen-is : (i : Inputs) (n : ℕ) (x : Option CompilationUnit) → importChosen i n x ≡ cond (missingUnit (i .main) (i .ordinal) x) (refused 4) (importWorked i n (listed x))
-chosen-is i n none = either-way (isBare i)
+chosen-is i n none = either-way (isBare i) (importWorked i n []) (refused 4)
 chosen-is i n (some u) = refl
 
 module _ (o : Options) (i : Inputs) (asked : i .ordinal ≡ o .ordinal) where
@@ -114,7 +115,7 @@ module _ (o : Options) (i : Inputs) (asked : i .ordinal ≡ o .ordinal) where
 
 module _ (i : Inputs) (rest : ℕ → Outcome State) {b : Bool} (e : b ≡ oversizeOf (i .main) (i .supplementary) (i .program)) where
   abbrev fieldsFirst : Outcome State
-  fieldsFirst = answer.checkInput (length (i .program)) (i .main) >>= λ m. answer.checkInput (length (i .program)) (i .supplementary) >>= λ s. rest (m + s)
+  fieldsFirst = checkInput (length (i .program)) (i .main) >>= λ m. checkInput (length (i .program)) (i .supplementary) >>= λ s. rest (m + s)
 
   by-size : checked i rest ≡ cond b (refused 1) fieldsFirst
   unfolding checked answer.oversize
@@ -180,12 +181,11 @@ module _ {main supplementary program w : List ℕ} {l : Layout} (A : Accepted ma
   pub all-room : l .keys + keysRoom main supplementary ≤ length w
   all-room = let a = L .within (A .number) (B .number) (A .is) (B .is) in let b = W .long (A .number) (B .number) (A .is) (B .is) in omega arith
 
-  module _ (front : l .lines ≤ l .«main_units») where
-    pub files-room : 0 + (l .room * 45 + joinedLimit) ≤ length w
-    files-room = let a = L .lines in let b = main-behind L in let c = keys-behind L in let d = all-room in omega arith
+  pub files-room : 0 + (l .room * 45 + joinedLimit) ≤ length w
+  files-room = let a = L .lines in let b = L .front in let c = main-behind L in let d = keys-behind L in let e = all-room in omega arith
 
 module _ {main supplementary program : List ℕ} {l : Layout} {first : ℕ} {w w₁ w₂ : List ℕ} {table : StoredFiles} {x : Tables} {stats : ConversionStats}
-    (front : l .lines ≤ l .«main_units») (L : LaidOut main supplementary program l) (E : Empty main supplementary w w₁ 0 (l .room) first 0 table)
+    (L : LaidOut main supplementary program l) (E : Empty main supplementary w w₁ 0 (l .room) first 0 table)
     (X : IndexesInputs main supplementary program w₁ w₂ l x) (size : length w₂ ≡ length w₁)
     (none : stats ≡ record { functions = 0; «line_rows» = 0; «inline_nodes» = 0; «rejected_ranges» = 0 }) where
   abbrev begun : ImportState
@@ -195,7 +195,7 @@ module _ {main supplementary program : List ℕ} {l : Layout} {first : ℕ} {w w
   below = let a = E .base-is in let b = E .room-is in let c = L .lines in omega arith
 
   clear : table .base + extent table ≤ l .«main_units»
-  clear = let a = below in omega arith
+  clear = let a = below in let b = L .front in omega arith
 
   pub ready-first : Ready main supplementary w₂ l begun
   ready-first = record {
@@ -219,7 +219,7 @@ module _ {main supplementary program : List ℕ} {l : Layout} {first : ℕ} {w w
     stats = statsOf (sym none k);
   }
 
-  module _ {o : Options} {count : ℕ} {c : Chosen} (K : Chooses o count c) (many : length (units main) ≡ count) {inlines callSites : Bool} {over : List (ℕ × ℕ)}
+  module _ {o : Options} {count : ℕ} {c : Chosen} (K : Chooses o count c) (many : length (units main) ≡ count) (inlines callSites : Bool) {over : List (ℕ × ℕ)}
       {t f u w₃ t₃ f₃ u₃ : List ℕ} {st : ImportState} {r : Ran} (R : LengthsOf st r)
       (G : Grows (importUnits (dwarfOf main supplementary) (take (c .to - c .from) (drop (c .from) (units main))) program inlines callSites) main supplementary over w₂ t f u begun w₃ t₃ f₃ u₃ st) where
     abbrev outcome : Outcome State

@@ -71,7 +71,7 @@ index-rest p m I a b c = kept-one p m (I .rest) (here a (omega arith), (here (om
 
 -- ---- both inputs' tables are written
 
-module _ {main supplementary program w : List ℕ} {l : Layout} (L : LaidOut main supplementary program l) (room : l .keys + keysRoom main supplementary ≤ length w) where
+module _ {main supplementary program : List ℕ} (w : List ℕ) {l : Layout} (L : LaidOut main supplementary program l) (room : l .keys + keysRoom main supplementary ≤ length w) where
   pub main-room : l .«main_entries» + 16 * entryCount main ≤ length w
   main-room = let a = main-inside L in let b = supplementary-behind L in let c = keys-behind L in omega arith
 

@@ -50,6 +50,10 @@ part-room : (main : List ℕ) (place : ℕ) (part program : List ℕ) → length
 unfolding linesExtent
 part-room main place part program h = omega arith
 
+-- a part of a program is no longer than it
+pub part-short : (a n : ℕ) (program : List ℕ) → length (take n (drop a program)) ≤ length program
+part-short a n program = rw (length-take, length-drop) (omega arith)
+
 module _ {main supplementary program w : List ℕ} {l : Layout} {x : Tables} {place : ℕ} {st : ImportState} (U : UnitIn main place)
     (T : TablesIn main supplementary program w l x) (R : Ready main supplementary w l st) where
   module _ (part : List ℕ) (short : length part ≤ length program) where

@@ -43,6 +43,7 @@ pub record LaidOut (main supplementary program : List ℕ) (l : Layout) : Type 0
   pub few : length (possibleFiles main supplementary) < l .room
   pub small : l .room < 2 ^ 32
   pub lines : l .room * 45 + joinedLimit ≤ l .lines
+  pub front : l .lines ≤ l .«main_units»
   pub text : (q : ℕ) → UnitOf main q → l .lines + linesExtent main q program ≤ l .text
   pub spans : (q : ℕ) → UnitOf main q → l .text + 16 * length (unitHere main q .text) ≤ l .spans
   pub room-main : (q : ℕ) → UnitOf main q → mapExtent main q ≤ l .«span_room»

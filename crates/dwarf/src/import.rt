@@ -2,6 +2,7 @@
 // the pass that says how long their output buffers must be. No content and no length is ruled out. After every call work holds only 0, and after a refusal
 // so do the three output buffers.
 ghost use mathlib.Core.List.{[]};
+ghost use Prim.Native.Nat.{_<_, _^_};
 ghost use Rattle.dwarf.specs.Runs.{inputsOf, inputsBy};
 ghost use Rattle.dwarf.specs.Answers.{ImportsBy, ImportsUnit, ImportsDwarf, MeasuresBy, MeasuresUnit, MeasuresDwarf};
 use crate::model::Imported;
@@ -21,9 +22,10 @@ fn import_by<'a>(
     files: &mut [u8],
     warnings: &mut [u8],
 ) -> Imported
-    ensures { λ r. ⌜
+    requires { ⌜ options .«first_file» < 2 ^ 32 ⌝ }
+    ensures { λ r. ⌜ (
         let i = inputsBy (now (main .entry)) (now (supplementary .entry)) (now (program .entry)) options (now (work .entry)) (now (records .entry)) (now (files .entry)) (now (warnings .entry)) in
-        ImportsBy (options .all) i (now (work .exit)) (now (records .exit)) (now (files .exit)) (now (warnings .exit)) r ⌝ }
+        ImportsBy (options .all) i (now (work .exit)) (now (records .exit)) (now (files .exit)) (now (warnings .exit)) r) ⌝ }
 {
     let r = run_cleared(
         main,
@@ -65,9 +67,9 @@ pub fn import_unit<'a>(
     files: &mut [u8],
     warnings: &mut [u8],
 ) -> Imported
-    ensures { λ r. ⌜
+    ensures { λ r. ⌜ (
         let i = inputsOf (now (main .entry)) (now (supplementary .entry)) (now (program .entry)) ordinal inlines «call_sites» «first_file» (now (work .entry)) (now (records .entry)) (now (files .entry)) (now (warnings .entry)) in
-        ImportsUnit i (now (work .exit)) (now (records .exit)) (now (files .exit)) (now (warnings .exit)) r ⌝ }
+        ImportsUnit i (now (work .exit)) (now (records .exit)) (now (files .exit)) (now (warnings .exit)) r) ⌝ }
 {
     let options = Options {
         all: false,
@@ -101,9 +103,9 @@ pub fn import_dwarf<'a>(
     files: &mut [u8],
     warnings: &mut [u8],
 ) -> Imported
-    ensures { λ r. ⌜
+    ensures { λ r. ⌜ (
         let i = inputsOf (now (main .entry)) (now (supplementary .entry)) (now (program .entry)) 0 inlines «call_sites» «first_file» (now (work .entry)) (now (records .entry)) (now (files .entry)) (now (warnings .entry)) in
-        ImportsDwarf i (now (work .exit)) (now (records .exit)) (now (files .exit)) (now (warnings .exit)) r ⌝ }
+        ImportsDwarf i (now (work .exit)) (now (records .exit)) (now (files .exit)) (now (warnings .exit)) r) ⌝ }
 {
     let options = Options {
         all: true,
@@ -133,9 +135,9 @@ fn measure_by<'a>(
     options: Options,
     work: &mut [u8],
 ) -> Imported
-    ensures { λ r. ⌜
+    ensures { λ r. ⌜ (
         let i = inputsBy (now (main .entry)) (now (supplementary .entry)) (now (program .entry)) options (now (work .entry)) [] [] [] in
-        MeasuresBy (options .all) i (now (work .exit)) r ⌝ }
+        MeasuresBy (options .all) i (now (work .exit)) r) ⌝ }
 {
     let mut records = [0u8; 1];
     let mut files = [0u8; 1];
@@ -173,9 +175,9 @@ pub fn measure_unit<'a>(
     first_file: u32,
     work: &mut [u8],
 ) -> Imported
-    ensures { λ r. ⌜
+    ensures { λ r. ⌜ (
         let i = inputsOf (now (main .entry)) (now (supplementary .entry)) (now (program .entry)) ordinal inlines «call_sites» «first_file» (now (work .entry)) [] [] [] in
-        MeasuresUnit i (now (work .exit)) r ⌝ }
+        MeasuresUnit i (now (work .exit)) r) ⌝ }
 {
     let options = Options {
         all: false,
@@ -203,9 +205,9 @@ pub fn measure_dwarf<'a>(
     first_file: u32,
     work: &mut [u8],
 ) -> Imported
-    ensures { λ r. ⌜
+    ensures { λ r. ⌜ (
         let i = inputsOf (now (main .entry)) (now (supplementary .entry)) (now (program .entry)) 0 inlines «call_sites» «first_file» (now (work .entry)) [] [] [] in
-        MeasuresDwarf i (now (work .exit)) r ⌝ }
+        MeasuresDwarf i (now (work .exit)) r) ⌝ }
 {
     let options = Options {
         all: true,

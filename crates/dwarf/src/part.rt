@@ -49,12 +49,12 @@ pub fn program_part(main: &[u8], place: usize, size: usize) -> Part
             end: size,
         },
         Own::Field {
-            start,
+            start: from,
             len: _,
             next: _,
         } => cut_part(
-            tlv::bytes::read_u64(main, start),
-            tlv::bytes::read_u64(main, start + PART_LENGTH),
+            tlv::bytes::read_u64(main, from),
+            tlv::bytes::read_u64(main, from + PART_LENGTH),
             size,
         ),
     }

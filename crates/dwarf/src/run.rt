@@ -101,11 +101,11 @@ fn import_worked<'a>(
     requires { ⌜ (Accepted (now main)) × (Accepted (now supplementary)) ⌝ }
     requires { ⌜ NotOversize (now main) (now supplementary) (now program) ⌝ }
     requires { ⌜ WorkEnough (now main) (now supplementary) (now program) (now work) ⌝ }
-    ensures { λ r. ⌜
+    ensures { λ r. ⌜ (
         let us = chosenUnits options (units (now (main .entry))) in
         let d = dwarfOf (now (main .entry)) (now (supplementary .entry)) in
         Writes (importUnits d us (now (program .entry)) (options .inlines) (options .«call_sites») (startState (options .«first_file»)))
-            (now (records .entry)) (now (files .entry)) (now (warnings .entry)) (now (records .exit)) (now (files .exit)) (now (warnings .exit)) r ⌝ }
+            (now (records .entry)) (now (files .entry)) (now (warnings .entry)) (now (records .exit)) (now (files .exit)) (now (warnings .exit)) r) ⌝ }
 {
     let l = lay_out(main, supplementary, program);
     let empty = new_files(main, supplementary, work, 0, l.room, options.first_file, 0);
@@ -150,10 +150,10 @@ fn import_accepted<'a>(
 ) -> Ran
     requires { ⌜ BothAccepted (now main) (now supplementary) (length (now program)) number ⌝ }
     requires { ⌜ NotOversize (now main) (now supplementary) (now program) ⌝ }
-    ensures { λ r. ⌜
+    ensures { λ r. ⌜ (
         let i = inputsBy (now (main .entry)) (now (supplementary .entry)) (now (program .entry)) options (now (work .entry)) (now (records .entry)) (now (files .entry)) (now (warnings .entry)) in
         Writes (importAccepted options i number)
-            (now (records .entry)) (now (files .entry)) (now (warnings .entry)) (now (records .exit)) (now (files .exit)) (now (warnings .exit)) r ⌝ }
+            (now (records .entry)) (now (files .entry)) (now (warnings .entry)) (now (records .exit)) (now (files .exit)) (now (warnings .exit)) r) ⌝ }
 {
     if is_missing(main, options) {
         return refused(4);
@@ -184,10 +184,10 @@ fn run_import<'a>(
     files: &mut [u8],
     warnings: &mut [u8],
 ) -> Ran
-    ensures { λ r. ⌜
+    ensures { λ r. ⌜ (
         let i = inputsBy (now (main .entry)) (now (supplementary .entry)) (now (program .entry)) options (now (work .entry)) (now (records .entry)) (now (files .entry)) (now (warnings .entry)) in
         Writes (importAll (options .all) i)
-            (now (records .entry)) (now (files .entry)) (now (warnings .entry)) (now (records .exit)) (now (files .exit)) (now (warnings .exit)) r ⌝ }
+            (now (records .entry)) (now (files .entry)) (now (warnings .entry)) (now (records .exit)) (now (files .exit)) (now (warnings .exit)) r) ⌝ }
 {
     if is_oversize(main, supplementary, program) {
         return refused(1);
@@ -219,11 +219,11 @@ pub fn run_cleared<'a>(
     files: &mut [u8],
     warnings: &mut [u8],
 ) -> Ran
-    ensures { λ r. ⌜
+    ensures { λ r. ⌜ (
         let i = inputsBy (now (main .entry)) (now (supplementary .entry)) (now (program .entry)) options (now (work .entry)) (now (records .entry)) (now (files .entry)) (now (warnings .entry)) in
         (Writes (importAll (options .all) i)
             (now (records .entry)) (now (files .entry)) (now (warnings .entry)) (now (records .exit)) (now (files .exit)) (now (warnings .exit)) r)
-        × (now (work .exit) ≡ replicate (length (now (work .entry))) 0) ⌝ }
+        × (now (work .exit) ≡ replicate (length (now (work .entry))) 0)) ⌝ }
 {
     let r = run_import(
         main,

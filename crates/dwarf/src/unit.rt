@@ -80,11 +80,11 @@ fn import_at<'a>(
     requires { ⌜ UnitIn (now main) place ⌝ }
     requires { ⌜ TablesIn (now main) (now supplementary) (now program) (now work) l tables ⌝ }
     requires { ⌜ Ready (now main) (now supplementary) (now work) l st ⌝ }
-    ensures { λ r. ⌜
+    ensures { λ r. ⌜ (
         let F = importUnit (dwarfOf (now (main .entry)) (now (supplementary .entry))) (unitHere (now (main .entry)) place) (now (program .entry)) (options .inlines) (options .«call_sites») in
         Grows F (now (main .entry)) (now (supplementary .entry)) (besideTables l (length (now (work .entry))))
             (now (work .entry)) (now (records .entry)) (now (files .entry)) (now (warnings .entry)) st
-            (now (work .exit)) (now (records .exit)) (now (files .exit)) (now (warnings .exit)) r ⌝ }
+            (now (work .exit)) (now (records .exit)) (now (files .exit)) (now (warnings .exit)) r) ⌝ }
 {
     let part = program_part(main, place, program.len());
     let from = part.start;
@@ -166,12 +166,12 @@ pub fn import_each<'a>(
     requires { ⌜ (from ≤ to) × (to ≤ tables .main .«unit_count») ⌝ }
     requires { ⌜ TablesIn (now main) (now supplementary) (now program) (now work) l tables ⌝ }
     requires { ⌜ Ready (now main) (now supplementary) (now work) l st ⌝ }
-    ensures { λ r. ⌜
+    ensures { λ r. ⌜ (
         let us = take (to - from) (drop from (units (now (main .entry)))) in
         let F = importUnits (dwarfOf (now (main .entry)) (now (supplementary .entry))) us (now (program .entry)) (options .inlines) (options .«call_sites») in
         Grows F (now (main .entry)) (now (supplementary .entry)) (besideTables l (length (now (work .entry))))
             (now (work .entry)) (now (records .entry)) (now (files .entry)) (now (warnings .entry)) st
-            (now (work .exit)) (now (records .exit)) (now (files .exit)) (now (warnings .exit)) r ⌝ }
+            (now (work .exit)) (now (records .exit)) (now (files .exit)) (now (warnings .exit)) r) ⌝ }
 {
     let index = tables.main;
     let units = index.units;

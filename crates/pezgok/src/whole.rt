@@ -18,10 +18,10 @@ pub extern "C" fn pezgok_import_dwarf<'a>(
     warnings: &mut [u8],
     values: &mut [u64; 7],
 ) -> u8
-    ensures { λ r. ⌜
+    ensures { λ r. ⌜ (
         let i = inputsOf (now (main .entry)) (now (supplementary .entry)) (now (program .entry)) 0 inlines «call_sites» «first_file»
             (now (work .entry)) (now (records .entry)) (now (files .entry)) (now (warnings .entry)) in
-        ExportsDwarf i (now (work .exit)) (now (records .exit)) (now (files .exit)) (now (warnings .exit)) (now (values .exit)) r ⌝ }
+        ExportsDwarf i (now (work .exit)) (now (records .exit)) (now (files .exit)) (now (warnings .exit)) (now (values .exit)) r) ⌝ }
 {
     let answer = dwarf::import::import_dwarf(
         main,
@@ -50,9 +50,9 @@ pub extern "C" fn pezgok_measure_dwarf<'a>(
     work: &mut [u8],
     values: &mut [u64; 7],
 ) -> u8
-    ensures { λ r. ⌜
+    ensures { λ r. ⌜ (
         let i = inputsOf (now (main .entry)) (now (supplementary .entry)) (now (program .entry)) 0 inlines «call_sites» «first_file» (now (work .entry)) [] [] [] in
-        ExportsMeasureDwarf i (now (work .exit)) (now (values .exit)) r ⌝ }
+        ExportsMeasureDwarf i (now (work .exit)) (now (values .exit)) r) ⌝ }
 {
     let answer = dwarf::import::measure_dwarf(
         main,

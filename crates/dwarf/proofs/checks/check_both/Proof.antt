@@ -1,6 +1,6 @@
 -- `checks::check_both` meets its contract: what the checks of both inputs say together. Assumes nothing.
-use native.Mathlib.Omega.{arith}
 use borrow.Author.Needs.{needs}
+use native.Mathlib.Omega.{arith}
 use Rattle.dwarf.proofs.CheckLaws.{both-misshapen, both-limited, second-misshapen, second-limited, checked-few, both-done}
 use Rattle.dwarf.proofs.checks.check_both.Statement.{statement}
 use Rattle.dwarf.proofs.checks.check_both.Tie as tie
@@ -29,8 +29,8 @@ enum-told-4 c = search needs
 enum-known-s : tie.Need-enum-known-s
 enum-known-s c = search needs
 
-add-t9 : tie.Need-add-t9
-add-t9 c = omega (arith, checked-few _ (c .before .before .before .before .before .before .before .check-input .ensures) (c .before .before .before .before .before .m .given .1), checked-few _ (c .before .before .before .check-input2 .ensures) (c .before .s .given .1))
+add-t10 : tie.Need-add-t10
+add-t10 c = omega (arith, checked-few _ _ (c .before .before .before .before .before .before .before .check-input .ensures) (c .before .before .before .before .before .m .given .1), checked-few _ _ (c .before .before .before .check-input2 .ensures) (c .before .s .given .1))
 
 returns : tie.Need-returns
 returns c = both-misshapen (c .before .before .check-input .ensures) (c .enum-told .given .1)
@@ -59,7 +59,7 @@ check-both-spec =
     enum-told-3
     enum-told-4
     enum-known-s
-    add-t9
+    add-t10
     returns
     returns-2
     returns-3
