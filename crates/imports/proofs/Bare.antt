@@ -1,9 +1,9 @@
 -- A package without debug data: what the import and the pass answer (`AllBare`). Assumes nothing.
 use mathlib.Core.Path.{_≡_, refl, sym, ap, _∙_}
-use mathlib.Core.Bool.{Bool, true, false, cond, _&&_}
-use mathlib.Core.List.{List, [], _∷_}
-use mathlib.Core.Option.{Option, none}
-use Prim.Native.Nat.{ℕ, _+_, _-_, _≤_, _<_}
+use mathlib.Core.Bool.{Bool, true, cond, _&&_}
+use mathlib.Core.List.{[]}
+use mathlib.Core.Option.{none}
+use Prim.Native.Nat.{ℕ, _+_, _-_}
 use native.Mathlib.Omega.{arith}
 use lib.ListN.{length, replicate}
 use lib.Dec.{ltb, eqb}
@@ -13,13 +13,13 @@ use Rattle.tlv.specs.Lists.{at, isEmpty}
 use Rattle.tlv.specs.Limits.{workBesides}
 use Rattle.tlv.specs.Fields.{grouped, fieldsFrom, wholeFields}
 use Rattle.tlv.specs.Grammar.{checkFrom, checkInput}
-use Rattle.tlv.specs.Model.{CompilationUnit, units}
+use Rattle.tlv.specs.Model.{units}
 use Rattle.tlv.specs.Output.{eachOf, recordsBytes, filesBytes, warningsBytes}
 use Rattle.imports.specs.Import.{State, importUnits}
-use Rattle.imports.specs.Answer.{Inputs, oversize, workOfUnits, workNeeded, initialState, importWorked, isBare, importChosen, checked, importOf, importDwarfOf}
-use Rattle.imports.specs.Answer.{Written, written, fitting, outcomeOf, answerOf, bufferAfter, afterwards, after, afterDwarf}
+use Rattle.imports.specs.Answer.{Inputs, oversize, workOfUnits, workNeeded, initialState, importWorked, isBare, importChosen, checked, importOf}
+use Rattle.imports.specs.Answer.{importDwarfOf, Written, written, fitting, outcomeOf, answerOf, bufferAfter, afterwards, after, afterDwarf}
 use Rattle.imports.specs.Sizes.{measured, measuring, measure, measureDwarf}
-use Rattle.imports.specs.Bare.{nothingDone, untouched, Tested, Bare, AllBare}
+use Rattle.imports.specs.Bare.{nothingDone, untouched, Tested, AllBare}
 use Rattle.imports.specs.Joined.{NoUnits}
 
 -- an empty sheet is accepted, and has no unit

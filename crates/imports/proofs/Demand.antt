@@ -9,7 +9,7 @@ use lib.ListN.{length, take, drop}
 use lib.Dec.{ltb, eqb}
 use borrow.Author.Tests.{eqb-true}
 use lib.Seq.{take-at}
-use Rattle.tlv.specs.Outcome.{Outcome, refused, done, _>>=_}
+use Rattle.tlv.specs.Outcome.{Outcome, refused, done}
 use Rattle.tlv.specs.Lists.{All, at, isEmpty}
 use Rattle.tlv.specs.Grammar.{checkInput}
 use Rattle.tlv.specs.Model.{CompilationUnit, units}
@@ -25,8 +25,8 @@ use Rattle.tlv.proofs.AcceptedUnits.{accepting}
 use Rattle.lines.proofs.RowLaws.{rows-agree}
 use Rattle.lines.proofs.LineBounds.{sorted-lines}
 use Rattle.imports.specs.Import.{State, importUnit, importUnits}
-use Rattle.imports.specs.Answer.{Inputs, oversize, workNeeded, initialState, dwarfOf, importWorked, isBare, importChosen, checked, importOf, importDwarfOf}
-use Rattle.imports.specs.Answer.{Written, written, fitting, outcomeOf, Answer, answerOf, bufferAfter, afterwards, after, afterDwarf}
+use Rattle.imports.specs.Answer.{Inputs, oversize, workNeeded, initialState, dwarfOf, importWorked, isBare, importChosen, checked, importOf}
+use Rattle.imports.specs.Answer.{importDwarfOf, Written, written, fitting, outcomeOf, Answer, answerOf, bufferAfter, afterwards, after, afterDwarf}
 use Rattle.imports.specs.Demand.{ChosenAgrees, UnitsAgree, Units, Lent, StateFits, Finished, Demand, DwarfDemand}
 use Rattle.imports.proofs.Refusals.{refuses-import, refuses-dwarf, refuses-outcome}
 use Rattle.imports.proofs.ImportBounds.{producing, dwarf-producing}

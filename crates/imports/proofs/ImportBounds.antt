@@ -33,7 +33,8 @@ use Rattle.references.proofs.NameBounds.{DwarfAccepted, attribute-accepted, abs
 use Rattle.references.proofs.DeclarationBounds.{FoundFits, DeclaringFits, gives-declaration}
 use Rattle.imports.specs.Tree.{Descendants}
 use Rattle.imports.specs.Import.{State, ImportContext, sequenceIf, statementSequenceOffset, isLiveRange, isTombstone, rejected, sequenceWarning, declarationIf, linesWith, rooted, detailContext, addFunction, importRange, importRanges, importByFailure, importSubprogram, isSubprogram, descendantsOf, importUnitDetails, importUnit, importUnits}
-use Rattle.imports.specs.Answer.{Inputs, oversize, workNeeded, initialState, dwarfOf, importWorked, isBare, importChosen, checked, importOf, importDwarfOf}
+use Rattle.imports.specs.Answer.{Inputs, oversize, workNeeded, initialState, dwarfOf, importWorked, isBare, importChosen, checked, importOf}
+use Rattle.imports.specs.Answer.{importDwarfOf}
 use Rattle.imports.specs.Demand.{Lent, Producing, DwarfProducing}
 use Rattle.imports.proofs.Subjects.{live-range}
 use Rattle.imports.proofs.NodeBounds.{rooted-fits}
@@ -198,18 +199,21 @@ module _ (i : Inputs) (lent : Lent i) where
     chosen-fits n none h = gives-cond (isBare i) (λ e. worked-fits n [] tt) (λ e. gives-none)
     chosen-fits n (some u) h = worked-fits n (u ∷ []) (h, tt)
 
-  checked-fits : (rest : ℕ → Outcome State) → ((n : ℕ) → DwarfAccepted (dwarfOf i) → length (i .program) ≤ programLimit → Gives ImportFits (rest n)) → Gives ImportFits (checked i rest)
+  checked-fits : (rest : ℕ → Outcome State)
+      → ((n : ℕ) → DwarfAccepted (dwarfOf i) → length (i .program) ≤ programLimit → Gives ImportFits (rest n)) → Gives ImportFits (checked i rest)
   unfolding checked dwarfOf
   checked-fits rest h =
       let l = length (i .program) in
       gives-cond (oversize i) (λ e. gives-none) λ e.
       gives-bind (gives-of (checkInput l (i .main)) λ m k. accepting (i .main) m (lent .main) (record { program = l; passes = k })) λ m main.
-      gives-bind (gives-of (checkInput l (i .supplementary)) λ s k. accepting (i .supplementary) s (lent .supplementary) (record { program = l; passes = k })) λ s supplementary.
+      gives-bind (gives-of (checkInput l (i .supplementary))
+      λ s k. accepting (i .supplementary) s (lent .supplementary) (record { program = l; passes = k })) λ s supplementary.
       h (m + s) (record { main = main; supplementary = supplementary }) (program-short i e)
 
   gives-fitting : Gives ImportFits (importOf i)
   unfolding importOf dwarfOf
-  gives-fitting = checked-fits _ (λ n dwarf short. chosen-fits dwarf short n (at (units (i .main)) (i .ordinal)) (all-at UnitAccepted (units (i .main)) (i .ordinal) (dwarf .main)))
+  gives-fitting = checked-fits _ (λ n dwarf short.
+      chosen-fits dwarf short n (at (units (i .main)) (i .ordinal)) (all-at UnitAccepted (units (i .main)) (i .ordinal) (dwarf .main)))
 
   dwarf-fitting : Gives ImportFits (importDwarfOf i)
   unfolding importDwarfOf dwarfOf

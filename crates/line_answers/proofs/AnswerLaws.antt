@@ -9,11 +9,10 @@ use native.Mathlib.Omega.{arith}
 use lib.ListN.{length}
 use Rattle.tlv.specs.declared.access.Place.{Place}
 use Rattle.tlv.specs.declared.model.AddressRange.{AddressRange}
-use Rattle.tlv.specs.Outcome.{done}
 use Rattle.tlv.specs.Lists.{Any, at}
 use Rattle.tlv.specs.Fields.{fields, fieldsFrom, wholeFields, payloads}
 use Rattle.tlv.specs.Access.{placeOf}
-use Rattle.tlv.specs.Grammar.{checkInput}
+use Rattle.tlv.specs.Checked.{Accepts}
 use Rattle.tlv.specs.Limits.{joinedLimit}
 use Rattle.tlv.specs.Places.{unitHere, unitPlaces}
 use Rattle.files.specs.declared.store.StoredFiles.{StoredFiles}
@@ -52,7 +51,7 @@ none-empty : countOf 0x15 [] + countOf 0x1c [] ≡ 0
 unfolding fieldsFrom wholeFields payloads
 none-empty = refl
 
-pub possible-room : (s : List ℕ) (n : ℕ) → checkInput s ≡ done n → length (possibleFiles s []) < n + 1
+pub possible-room : (s : List ℕ) (n : ℕ) → Accepts s n → length (possibleFiles s []) < n + 1
 possible-room s n e = omega (arith, possible-few s [], none-empty, tags-few s n e)
 
 pub room-yes : {main program n work : ℕ} {r : Bool} → HasRoom main program n work r → r ≡ true → Room main program n work
@@ -70,7 +69,7 @@ room-table R = omega (arith, R .within)
 pub empty-holds : {s supplementary w w′ : List ℕ} {base room first written : ℕ} {t : StoredFiles} → Empty s supplementary w w′ base room first written t → FilesIn s supplementary w′ t
 empty-holds E = E .holds
 
-pub lines-room : {s w w′ program : List ℕ} {n p : ℕ} {t : StoredFiles} → checkInput s ≡ done n → UnitIn s p → Room (length s) (length program) n (length w)
+pub lines-room : {s w w′ program : List ℕ} {n p : ℕ} {t : StoredFiles} → Accepts s n → UnitIn s p → Room (length s) (length program) n (length w)
     → Empty s [] w w′ 0 (n + 1) 1 0 t → length w′ ≡ length w → LinesRoom s w′ program t p ((n + 1) * 45 + joinedLimit)
 unfolding linesExtent
 lines-room {s} {w} {w′} {program} {n} {p} {t} e U R E same =

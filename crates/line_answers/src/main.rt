@@ -1,9 +1,7 @@
 // Reads calls of the lines layer from standard input and writes what its functions answer (oracle/README.md says how both stand).
-ghost use mathlib.Core.Path.{_≡_};
 ghost use Prim.Native.Nat.{_+_, _*_, _≤_};
 ghost use lib.ListN.{length};
-ghost use Rattle.tlv.specs.Outcome.{done};
-ghost use Rattle.tlv.specs.Grammar.{checkInput};
+ghost use Rattle.tlv.specs.Checked.{Accepts};
 ghost use Rattle.rows.specs.Sizes.{entrySize};
 ghost use Rattle.rows.specs.Selects.{RowsIn};
 ghost use Rattle.collect.specs.Collects.{UnitIn};
@@ -188,7 +186,7 @@ fn collect_case(
 ) -> CollectedLines
     ensures { λ r. ⌜ CollectedRows (now (work .exit)) r ⌝ }
 {
-    match tlv::grammar::check_input(main) {
+    match tlv::grammar::check_input(main, program.len()) {
         tlv::grammar::Checked::Accepted(n) => collect_accepted(
             main,
             program,
@@ -211,7 +209,7 @@ fn collect_accepted(
     files: &mut [u8],
     warnings: &mut [u8],
 ) -> CollectedLines
-    requires { ⌜ checkInput (now main) ≡ done n ⌝ }
+    requires { ⌜ Accepts (now main) n ⌝ }
     ensures { λ r. ⌜ CollectedRows (now (work .exit)) r ⌝ }
 {
     match tlv::access::unit_by_ordinal(main, 0) {
@@ -236,7 +234,7 @@ fn collect_placed(
     files: &mut [u8],
     warnings: &mut [u8],
 ) -> CollectedLines
-    requires { ⌜ checkInput (now main) ≡ done n ⌝ }
+    requires { ⌜ Accepts (now main) n ⌝ }
     requires { ⌜ UnitIn (now main) place ⌝ }
     requires { ⌜ Room (length (now main)) (length (now program)) n (length (now work)) ⌝ }
     ensures { λ r. ⌜ CollectedRows (now (work .exit)) r ⌝ }

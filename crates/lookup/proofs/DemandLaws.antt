@@ -24,7 +24,7 @@ use Rattle.imports.specs.Ranges.{Holds}
 use Rattle.imports.specs.Import.{rooted}
 use Rattle.imports.specs.Answer.{Inputs, dwarfOf, after}
 use Rattle.imports.specs.Agree.{TreeNode, treeEntries, treeNode, rootOf, Fits, against, entry, TreeAgrees}
-use Rattle.imports.specs.Demand.{Subject, subjects, RecordAgrees, Pointwise, ChosenAgrees, Finished}
+use Rattle.imports.specs.Demand.{Subject, subjects, RecordAgrees, Pointwise, ChosenAgrees, UnitFinished}
 use Rattle.imports.proofs.Demand.{demand}
 use Rattle.lookup.specs.Tray.{GroupAt, group, functionsAt, nodesAt, functionRange, node, functionsOf}
 use Rattle.lookup.specs.Lookup.{holds, nodeHolds, chainFrom, chain, Frames, framesOf, qualifying, lookUp}
@@ -188,7 +188,7 @@ module _ (i : Inputs) (u : CompilationUnit) (s : ℕ) (f : GroupAt) (a : ℕ) (n
 
 module _ (i : Inputs) (tray : List ℕ) (w : WrittenBy i tray) where
   -- the import's records are what the tray's functions say
-  pub records-are : (f : Finished i) → f .state .records ≡ map (λ g. functionOf (group g)) (functionsAt tray)
+  pub records-are : (f : UnitFinished i (after i)) → f .state .records ≡ map (λ g. functionOf (group g)) (functionsAt tray)
   records-are f = go (recordsForm 0 0 (fields tray)) (sym (reads-functions tray) ∙ ap readRecords (w .tray-is) ∙ f .records)
     where
       go : (b : Bool) → cond b (some (map (λ g. functionOf (group g)) (functionsAt tray))) none ≡ some (f .state .records)
@@ -197,13 +197,13 @@ module _ (i : Inputs) (tray : List ℕ) (w : WrittenBy i tray) where
       go false e = absurd (Option·none-ne-some _ e)
 
   -- the unit that was asked for, whose subjects the records answer for
-  pub record Asked (f : Finished i) : Type 0 where
+  pub record Asked (f : UnitFinished i (after i)) : Type 0 where
     pub unit : CompilationUnit
     pub chosen : at (units (i .main)) (i .ordinal) ≡ some unit
     pub agree : Pointwise (RecordAgrees (dwarfOf i) unit true) (subjects (dwarfOf i) unit) (f .state .records)
 
   -- there is one, or the package has no debug data and there is no record
-  pub asked : (f : Finished i) → Asked f ⊎ ((at (units (i .main)) (i .ordinal) ≡ none) × (f .state .records ≡ []))
+  pub asked : (f : UnitFinished i (after i)) → Asked f ⊎ ((at (units (i .main)) (i .ordinal) ≡ none) × (f .state .records ≡ []))
   asked f = go (at (units (i .main)) (i .ordinal)) refl (f .agree)
     where
       go : (o : Option CompilationUnit) → at (units (i .main)) (i .ordinal) ≡ o → ChosenAgrees i o (f .state .records)
@@ -225,12 +225,12 @@ module _ (i : Inputs) (tray : List ℕ) (w : WrittenBy i tray) where
 
 module _ (i : Inputs) (tray : List ℕ) (a : ℕ) (x : Frames) (w : WrittenBy i tray) where
   -- record k of the import is what the function at number k says
-  told : (f : Finished i) (g : GroupAt) (k : ℕ) → at (functionsAt tray) k ≡ some g → at (f .state .records) k ≡ some (functionOf (group g))
+  told : (f : UnitFinished i (after i)) (g : GroupAt) (k : ℕ) → at (functionsAt tray) k ≡ some g → at (f .state .records) k ≡ some (functionOf (group g))
   told f g k e =
       subst (λ (l : List Function). at l k ≡ some (functionOf (group g))) (sym (records-are i tray w f))
       (at-map (λ h. functionOf (group h)) (functionsAt tray) k g e)
 
-  by-unit : (f : Finished i) (u : Asked i tray w f) (g : GroupAt) (k : ℕ) → at (functionsAt tray) k ≡ some g → framesOf a g ≡ x → Explained i tray a x
+  by-unit : (f : UnitFinished i (after i)) (u : Asked i tray w f) (g : GroupAt) (k : ℕ) → at (functionsAt tray) k ≡ some g → framesOf a g ≡ x → Explained i tray a x
   unfolding framesOf chain
   by-unit f u g k e q =
       let s = pointwise-at (RecordAgrees (dwarfOf i) (u .unit) true) (subjects (dwarfOf i) (u .unit)) (f .state .records) k (functionOf (group g)) (u .agree)
@@ -257,7 +257,7 @@ module _ (i : Inputs) (tray : List ℕ) (a : ℕ) (x : Frames) (w : WrittenBy i 
   unfolding at
   explained g k e q = let f = demand i (w .lent) (w .finished) in go f (asked i tray w f)
     where
-      go : (f : Finished i) → Asked i tray w f ⊎ ((at (units (i .main)) (i .ordinal) ≡ none) × (f .state .records ≡ [])) → Explained i tray a x
+      go : (f : UnitFinished i (after i)) → Asked i tray w f ⊎ ((at (units (i .main)) (i .ordinal) ≡ none) × (f .state .records ≡ [])) → Explained i tray a x
       go f (inl u) = by-unit f u g k e q
       go f (inr h) = absurd (Option·none-ne-some _ (subst (λ (l : List Function). at l k ≡ some (functionOf (group g))) (h .1) (told f g k e)))
 

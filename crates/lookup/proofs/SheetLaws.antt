@@ -20,7 +20,7 @@ use Rattle.imports.specs.Ranges.{Holds}
 use Rattle.imports.specs.Import.{rooted}
 use Rattle.imports.specs.Answer.{Inputs, dwarfOf, after}
 use Rattle.imports.specs.Agree.{TreeEntry, treeEntries, treeNode, NodeOf, root, TreeAgrees}
-use Rattle.imports.specs.Demand.{Subject, subjects, RecordAgrees, Pointwise, Finished}
+use Rattle.imports.specs.Demand.{Subject, subjects, RecordAgrees, Pointwise, UnitFinished}
 use Rattle.imports.proofs.Demand.{demand}
 use Rattle.lookup.specs.Tray.{GroupAt, group, functionsAt, nodesAt, functionRange, node, functionsOf}
 use Rattle.lookup.specs.Lookup.{holds, rowInForce, chainFrom, chain, Frames, framesOf, qualifying, lookUp}
@@ -108,7 +108,7 @@ module _ (g : GroupAt) (r : AddressRange) (name : List ℕ) (us : List TreeEntry
 
 -- ---- the whole
 
-module _ (i : Inputs) (tray : List ℕ) (a : ℕ) (w : WrittenBy i tray) (f : Finished i) (asks : Asked i tray w f) where
+module _ (i : Inputs) (tray : List ℕ) (a : ℕ) (w : WrittenBy i tray) (f : UnitFinished i (after i)) (asks : Asked i tray w f) where
   abbrev told : List Subject
   told = subjects (dwarfOf i) (asks .unit)
 
@@ -188,7 +188,7 @@ map-empty : (xs : List GroupAt) → map (λ g. functionOf (group g)) xs ≡ [] �
 map-empty [] e = refl
 map-empty (x ∷ xs) e = absurd (cons≢nil e)
 
-module _ (i : Inputs) (tray : List ℕ) (a : ℕ) (w : WrittenBy i tray) (f : Finished i) where
+module _ (i : Inputs) (tray : List ℕ) (a : ℕ) (w : WrittenBy i tray) (f : UnitFinished i (after i)) where
   -- the tray is in document 01's form
   formed : recordsForm 0 0 (fields tray) ≡ true
   formed = go (recordsForm 0 0 (fields tray)) (sym (reads-functions tray) ∙ ap readRecords (w .tray-is) ∙ f .records)

@@ -11,7 +11,6 @@ use lib.Dec.{eqb}
 use lib.ListN.{length}
 use borrow.Author.Tests.{eq-eqb, eqb-true}
 use Rattle.tlv.specs.declared.model.DebugSource.{DebugSource}
-use Rattle.tlv.specs.Outcome.{done}
 use Rattle.tlv.specs.Lists.{Any, All, exists, first}
 use Rattle.tlv.specs.Bytes.{leAt}
 use Rattle.tlv.specs.Fields.{fields}

@@ -11,7 +11,6 @@ use lib.ListN.{length}
 use borrow.Author.Tests.{eq-eqb, ne-eqb, leb-true}
 use Rattle.tlv.specs.declared.access.Place.{Place}
 use Rattle.tlv.specs.declared.index.Found.{Found}
-use Rattle.tlv.specs.Outcome.{done}
 use Rattle.tlv.specs.Lists.{Any, first, mapOption}
 use Rattle.tlv.specs.Fields.{fields}
 use Rattle.tlv.specs.Checked.{Accepts}

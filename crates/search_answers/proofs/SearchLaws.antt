@@ -6,9 +6,9 @@ use mathlib.Core.List.{List}
 use Prim.Native.Nat.{ℕ, _+_, _*_, _≤_}
 use native.Mathlib.Omega.{arith}
 use lib.ListN.{length}
-use Rattle.tlv.specs.Outcome.{Outcome, done}
+use Rattle.tlv.specs.Outcome.{Outcome}
 use Rattle.tlv.specs.Fields.{fields, wholeFields, payloads}
-use Rattle.tlv.specs.Grammar.{checkInput}
+use Rattle.tlv.specs.Checked.{Accepts}
 use Rattle.tlv.specs.Places.{unitPlaces}
 use Rattle.tlv.specs.Lists.{Any}
 use Rattle.tlv.specs.Table.{Kept, KeptBut, Clear}
@@ -39,13 +39,13 @@ room-yes {main} {supplementary} {n} {m} {work} {r} H e = let Y : HasRoom main su
 
 -- ---- the tables of a sheet
 
-pub units-fit : (s : List ℕ) (n base w : ℕ) → checkInput s ≡ done n → base + n * 40 ≤ w → base + 24 * length (unitPlaces 0 (fields s)) ≤ w
+pub units-fit : (s : List ℕ) (n base w : ℕ) → Accepts s n → base + n * 40 ≤ w → base + 24 * length (unitPlaces 0 (fields s)) ≤ w
 units-fit s n base w e h = omega (arith, unit-places-length 0 (fields s), tags-few s n e)
 
-pub entries-fit : (s : List ℕ) (n base w w′ : ℕ) → checkInput s ≡ done n → base + n * 40 ≤ w → w′ ≡ w → base + n * 24 + 16 * length (payloads 0x17 (wholeFields (fields s))) ≤ w′
+pub entries-fit : (s : List ℕ) (n base w w′ : ℕ) → Accepts s n → base + n * 40 ≤ w → w′ ≡ w → base + n * 24 + 16 * length (payloads 0x17 (wholeFields (fields s))) ≤ w′
 entries-fit s n base w w′ e h same = omega (arith, tags-few s n e)
 
-pub sheet-indexed : {s w w₁ w₂ : List ℕ} {base n a b : ℕ} → checkInput s ≡ done n → base + n * 40 ≤ length w → IndexedUnits s w w₁ base a → Indexed s w₁ w₂ (base + n * 24) b
+pub sheet-indexed : {s w w₁ w₂ : List ℕ} {base n a b : ℕ} → Accepts s n → base + n * 40 ≤ length w → IndexedUnits s w w₁ base a → Indexed s w₁ w₂ (base + n * 24) b
     → IndexedSheet s w w₂ base n (record { units = base; «unit_count» = a; entries = base + n * 24; «entry_count» = b })
 sheet-indexed {s} {w} {w₁} {w₂} {base} {n} {a} {b} e h A B =
     let units-few : a ≤ n = omega (arith, A .count, unit-places-length 0 (fields s), tags-few s n e) in
@@ -87,11 +87,11 @@ index-kept : {s w w′ : List ℕ} {x : Index} {p m : ℕ} → IndexIn s w x →
 index-kept I K below-units below-entries size = index-but I (but-one K) (inl (omega arith), tt) (inl (omega arith), tt) size
 
 -- a unit's directories and files are no more than the fields of its sheet
-map-fits : (s : List ℕ) (n k : ℕ) → checkInput s ≡ done n → n ≤ k → (q : ℕ) → Any (λ p. p ≡ q) (unitPlaces 0 (fields s)) → mapExtent s q ≤ k * 8 + 5
+map-fits : (s : List ℕ) (n k : ℕ) → Accepts s n → n ≤ k → (q : ℕ) → Any (λ p. p ≡ q) (unitPlaces 0 (fields s)) → mapExtent s q ≤ k * 8 + 5
 map-fits s n k e few q any = omega (arith, directories-few s q any, files-few-in s q any, tags-few s n e)
 
 -- one sheet's behind the other's, and the followed targets behind them
-pub tables-built : {s t w w₁ w₂ : List ℕ} {n m : ℕ} {a b : Index} → checkInput s ≡ done n → checkInput t ≡ done m → Room (length s) (length t) n m (length w)
+pub tables-built : {s t w w₁ w₂ : List ℕ} {n m : ℕ} {a b : Index} → Accepts s n → Accepts t m → Room (length s) (length t) n m (length w)
     → IndexedSheet s w w₁ ((n + m) * 45 + (joinedLimit + 45) + ((n + m) * 8 + 5)) n a → IndexedSheet t w₁ w₂ ((n + m) * 45 + (joinedLimit + 45) + ((n + m) * 8 + 5) + n * 40) m b
     → SearchesIn s t w₂
     (record {

@@ -1,9 +1,7 @@
 // Reads calls of the searches from standard input and writes what they answer, with how many entries each read (oracle/README.md says how both stand).
-ghost use mathlib.Core.Path.{_≡_};
 ghost use Prim.Native.Nat.{_+_, _*_, _^_, _≤_, _<_};
 ghost use lib.ListN.{length};
-ghost use Rattle.tlv.specs.Outcome.{done};
-ghost use Rattle.tlv.specs.Grammar.{checkInput};
+ghost use Rattle.tlv.specs.Checked.{Accepts};
 ghost use Rattle.references.specs.Tables.{EntryKnown};
 ghost use Rattle.search_answers.specs.Searches.{Room, HasRoom, IndexedSheet, SearchesIn};
 use files::index::StoredIndices;
@@ -137,7 +135,7 @@ fn has_room(main: usize, supplementary: usize, n: usize, m: usize, work: usize) 
 
 // Writes the tables of a sheet of n fields, the entries behind the units.
 fn index_sheet(s: &[u8], n: usize, work: &mut [u8], base: usize) -> Index
-    requires { ⌜ checkInput (now s) ≡ done n ⌝ }
+    requires { ⌜ Accepts (now s) n ⌝ }
     requires { ⌜ length (now s) < 2 ^ 32 ⌝ }
     requires { ⌜ base + n * 40 ≤ length (now work) ⌝ }
     ensures { λ r. ⌜ IndexedSheet (now (s .entry)) (now (work .entry)) (now (work .exit)) base n r ⌝ }
@@ -156,8 +154,8 @@ fn index_sheet(s: &[u8], n: usize, work: &mut [u8], base: usize) -> Index
 // Writes the tables of both sheets, which have n and m fields. Below them is room for a file table of n + m + 1 files and for a unit's directories and map, above
 // them for the followed targets. No files of the unit where a search starts are known.
 fn build_tables(main: &[u8], supplementary: &[u8], n: usize, m: usize, work: &mut [u8]) -> Places
-    requires { ⌜ checkInput (now main) ≡ done n ⌝ }
-    requires { ⌜ checkInput (now supplementary) ≡ done m ⌝ }
+    requires { ⌜ Accepts (now main) n ⌝ }
+    requires { ⌜ Accepts (now supplementary) m ⌝ }
     requires { ⌜ Room (length (now main)) (length (now supplementary)) n m (length (now work)) ⌝ }
     ensures { λ r. ⌜ SearchesIn (now (main .entry)) (now (supplementary .entry)) (now (work .exit)) r (n + m + 1) ⌝ }
 {
@@ -347,8 +345,8 @@ fn answer_accepted<'a>(
     queries: &[u8],
     work: &mut [u8],
 ) -> bool
-    requires { ⌜ checkInput (now main) ≡ done n ⌝ }
-    requires { ⌜ checkInput (now supplementary) ≡ done m ⌝ }
+    requires { ⌜ Accepts (now main) n ⌝ }
+    requires { ⌜ Accepts (now supplementary) m ⌝ }
 {
     if has_room(main.len(), supplementary.len(), n, m, work.len()) {
         let d = build_tables(main, supplementary, n, m, work);
@@ -372,9 +370,9 @@ fn answer_main<'a>(
     queries: &[u8],
     work: &mut [u8],
 ) -> bool
-    requires { ⌜ checkInput (now main) ≡ done n ⌝ }
+    requires { ⌜ Accepts (now main) n ⌝ }
 {
-    match tlv::grammar::check_input(supplementary) {
+    match tlv::grammar::check_input(supplementary, 0) {
         tlv::grammar::Checked::Accepted(m) => answer_accepted(
             main,
             supplementary,
@@ -394,7 +392,7 @@ fn answer_sheets<'a>(
     queries: &[u8],
     work: &mut [u8],
 ) -> bool {
-    match tlv::grammar::check_input(main) {
+    match tlv::grammar::check_input(main, 0) {
         tlv::grammar::Checked::Accepted(n) => answer_main(
             main,
             supplementary,

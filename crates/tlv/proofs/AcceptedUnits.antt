@@ -12,7 +12,6 @@ use Rattle.tlv.specs.Bytes.{leAt}
 use Rattle.tlv.specs.Fields.{Field, Group, Groups, grouped, fields, wholeFields, payloads, payloadOf}
 use Rattle.tlv.specs.declared.grammar.Context.{Context}
 use Rattle.tlv.specs.Grammar.{start, next, checkInput}
-use Rattle.tlv.specs.Checked.{Accepts}
 use Rattle.tlv.specs.Model.{rangeOf, directoryOf, fileOf, rowOf, attributeOf, entryRangeOf, failureOf, entryOf, unitOf, units}
 use Rattle.tlv.specs.Accepted.{Small, String, AttributeAccepted, FailureAccepted, RowAccepted, EntryAccepted, Ordered, UnitAccepted, Accepting}
 use Rattle.tlv.proofs.ListLaws.{all-map, all-image, given-image}

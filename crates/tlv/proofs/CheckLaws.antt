@@ -138,7 +138,8 @@ module _ (s : List ℕ) (start len : ℕ) (fits : start + len ≤ length s) (c :
       omega arith
 
   pub next-unit : (o n : ℕ) → t ≡ 0x10 → o ≡ leAt 8 s start → n ≡ leAt 8 s (start + 8)
-      → record { previous = t; count = c .count + 1; units = c .units + 1; end = o + n; length = n; offset = 0; depth = 0; program = c .program } ≡ next c (fieldIn s t start len)
+      → record { previous = t; count = c .count + 1; units = c .units + 1; end = o + n; length = n; offset = 0; depth = 0; program = c .program }
+      ≡ next c (fieldIn s t start len)
   unfolding next
   next-unit o n e eo en =
       let l = unit-here e in
@@ -153,8 +154,16 @@ module _ (s : List ℕ) (start len : ℕ) (fits : start + len ≤ length s) (c :
       rw (e, number-first s start len 8 o (omega arith) eo, number-at s start len 2 8 d (omega arith) ed)
 
 pub next-other : (c : Context) (t : ℕ) (p : List ℕ) → (t ≡ 0x10 → ⊥) → (t ≡ 0x17 → ⊥)
-    → record { previous = t; count = c .count + 1; units = c .units; end = c .end; length = c .length; offset = c .offset; depth = c .depth; program = c .program }
-    ≡ next c (record { tag = t; payload = p })
+    → record {
+      previous = t;
+      count = c .count + 1;
+      units = c .units;
+      end = c .end;
+      length = c .length;
+      offset = c .offset;
+      depth = c .depth;
+      program = c .program;
+    } ≡ next c (record { tag = t; payload = p })
 unfolding next
 next-other c t p h k = rw (ne-eqb t 0x10 h, ne-eqb t 0x17 k)
 

@@ -9,7 +9,6 @@ use lib.Dec.{eqb}
 use lib.ListN.{length, take, drop, length-append}
 use borrow.Author.Tests.{eq-eqb, ne-eqb, eqb-true}
 use Rattle.tlv.specs.declared.fields.Step.{Step}
-use Rattle.tlv.specs.Outcome.{done}
 use Rattle.tlv.specs.Bytes.{leAt}
 use Rattle.tlv.specs.Fields.{Field, FieldList, end, cut, more, fields, wholeFields, payloads}
 use Rattle.tlv.specs.Grammar.{shaped, limited, next, checkFrom}

@@ -115,7 +115,9 @@ lookup-offset x (d ∷ es) e found =
 module _ (s : List ℕ) (n : ℕ) (accepted : Accepts s n) where
   pub index-placed : All (EntryPlaced s (unitPlaces 0 (fields s))) (entryIndex 0 0 0 (fields s))
   unfolding checkInput
-  index-placed = placing s (unitPlaces 0 (fields s)) 0 (start (accepted .program)) n 0 0 (accepted .passes) (λ h. absurd (omega arith)) (each-among (unitPlaces 0 (fields s)))
+  index-placed =
+      let places = unitPlaces 0 (fields s) in
+      placing s places 0 (start (accepted .program)) n 0 0 (accepted .passes) (λ h. absurd (omega arith)) (each-among places)
 
   -- what is found in it
   module _ (x : ℕ) (e : IndexedEntry) (found : lookup x (entryIndex 0 0 0 (fields s)) ≡ some e) where

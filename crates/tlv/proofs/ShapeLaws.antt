@@ -102,7 +102,12 @@ module _ (s : List ℕ) (start len : ℕ) (fits : start + len ≤ length s) wher
   module _ (c : Context) (a n : ℕ) (h : len ≡ partFieldSize) (ea : a ≡ leAt 8 s start) (en : n ≡ leAt 8 s (start + partLengthAt)) where
     part-as : partShaped c (take len (drop start s)) ≡ leb (a + n) (c .program)
     unfolding partShaped
-    part-as = rw (part-length s start len fits, eq-eqb len partFieldSize h, number-first s start len 8 a (omega arith) ea, number-at s start len 8 partLengthAt n (omega arith) en)
+    part-as = rw (
+      part-length s start len fits,
+      eq-eqb len partFieldSize h,
+      number-first s start len 8 a (omega arith) ea,
+      number-at s start len 8 partLengthAt n (omega arith) en,
+    )
 
     pub part-past : c .program < a → false ≡ partShaped c (take len (drop start s))
     part-past k = sym (part-as ∙ lt-leb (a + n) (c .program) (omega arith))

@@ -130,7 +130,8 @@ module _ (s : List ℕ) (n : ℕ) (accepted : Accepts s n) (x : ℕ) where
   pub only-containing : (q : ℕ) → Any (λ y. y ≡ q) (unitPlaces 0 (fields s)) → unitHere s q .offset ≤ x → x < unitHere s q .offset + unitHere s q .length
       → containing x (map (indexedUnit s) (unitPlaces 0 (fields s))) ≡ some q
   unfolding checkInput
-  only-containing q any low high = containing-places s x (unitPlaces 0 (fields s)) ∙ only s x q low high 0 (start (accepted .program)) n (accepted .passes) any .1
+  only-containing q any low high =
+      containing-places s x (unitPlaces 0 (fields s)) ∙ only s x q low high 0 (start (accepted .program)) n (accepted .passes) any .1
 
   -- the unit of the entry at x is the one that is found
   pub entry-containing : (e : IndexedEntry) → lookup x (entryIndex 0 0 0 (fields s)) ≡ some e

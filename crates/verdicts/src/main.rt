@@ -26,8 +26,9 @@ fn write_name(buffer: &mut [u8]) -> bool {
     true
 }
 
-fn write_verdict(input: &[u8]) {
-    match tlv::grammar::check_input(input) {
+// The verdict on a sheet that is lent with a line program of so many bytes.
+fn write_verdict(input: &[u8], program: usize) {
+    match tlv::grammar::check_input(input, program) {
         tlv::grammar::Checked::Accepted(n) => {
             io::write_all(1, b"accepted ");
             io::print_decimal(1, n);
@@ -49,7 +50,7 @@ fn judge(buffer: &mut [u8]) -> bool {
         return false;
     }
     io::read_full(0, &mut buffer[..n]);
-    write_verdict(&buffer[..n]);
+    write_verdict(&buffer[..n], 0);
     true
 }
 
