@@ -57,8 +57,12 @@ module _ (main supplementary program : List ℕ) where
 
 pub both-few : {main supplementary : List ℕ} {size n : ℕ} → BothAccepted main supplementary size n → n ≤ fieldLimit + fieldLimit
 both-few {main} {supplementary} {size} B =
-    omega (arith, B .sum, accepted-few main (B .main-fields) (record { program = size; passes = B .main-accepted }),
-    accepted-few supplementary (B .supplementary-fields) (record { program = size; passes = B .supplementary-accepted }))
+    omega (
+      arith,
+      B .sum,
+      accepted-few main (B .main-fields) (record { program = size; passes = B .main-accepted }),
+      accepted-few supplementary (B .supplementary-fields) (record { program = size; passes = B .supplementary-accepted }),
+    )
 
 module _ {main supplementary : List ℕ} {size : ℕ} where
   refused-first : {n : ℕ} → (n ≡ 0 → ⊥) → checkInput size main ≡ refused n → ChecksBoth main supplementary size (BothChecked.Refused n)

@@ -4,7 +4,6 @@ pub mod TallyLaws
 pub mod CheckLaws
 pub mod IndexingLaws
 pub mod TablesLaws
-pub mod PartFacts
 pub mod PartLaws
 pub mod GrowsLaws
 pub mod UnitStepLaws

@@ -19,8 +19,10 @@ use Rattle.tlv.specs.Model.{partOf, programOf}
 use Rattle.tlv.specs.Places.{ownFields, unitHere}
 use Rattle.tlv.proofs.OwnLaws.{own-within, own-field}
 use Rattle.tlv.proofs.PlaceFacts.{placed-start}
+use Rattle.tlv.proofs.PlacePromises.{placed-part}
 use Rattle.tlv.proofs.ShapeLaws.{number-at, number-first}
 use Rattle.tlv.proofs.TableLaws.{le-or-lt}
+use Rattle.tlv.proofs.UnitFacts.{unit-part}
 use Rattle.files.specs.Pieces.{UnitPlaced}
 use Rattle.files.proofs.UnitLaws.{first-none, first-found, unit-next, unit-within}
 use Rattle.collect.specs.Collects.{UnitIn}
@@ -28,7 +30,6 @@ use Rattle.collect.proofs.HeaderPlaces.{unit-stands}
 use Rattle.dies.specs.DetailState.{Accepted}
 use Rattle.dwarf.specs.declared.part.Part.{Part}
 use Rattle.dwarf.specs.Part.{PartOf}
-use Rattle.dwarf.proofs.PartFacts.{unit-part, placed-part}
 
 -- ---- a part that is cut off at the end
 

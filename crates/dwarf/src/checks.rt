@@ -10,6 +10,7 @@ use tlv::grammar::Checked;
 
 // The longest input, and the longest line program.
 const INPUT_LIMIT: usize = 16777216;
+
 const PROGRAM_LIMIT: usize = 4194304;
 
 // The work length that document 01 asks for: bytes for each field of both inputs, ..

@@ -186,13 +186,7 @@ pub fn measure_unit<'a>(
         call_sites: call_sites,
         first_file: first_file,
     };
-    measure_by(
-        main,
-        supplementary,
-        program,
-        options,
-        work,
-    )
+    measure_by(main, supplementary, program, options, work)
 }
 
 // The same of the import of all units.
@@ -216,11 +210,5 @@ pub fn measure_dwarf<'a>(
         call_sites: call_sites,
         first_file: first_file,
     };
-    measure_by(
-        main,
-        supplementary,
-        program,
-        options,
-        work,
-    )
+    measure_by(main, supplementary, program, options, work)
 }

@@ -69,16 +69,10 @@ fn chosen_units(options: Options, count: usize) -> Chosen
     ensures { λ r. ⌜ Chooses options count r ⌝ }
 {
     if options.all {
-        return Chosen {
-            from: 0,
-            to: count,
-        };
+        return Chosen { from: 0, to: count };
     }
     if (count as u64) <= options.ordinal {
-        return Chosen {
-            from: 0,
-            to: 0,
-        };
+        return Chosen { from: 0, to: 0 };
     }
     let from = options.ordinal as usize;
     Chosen {
@@ -105,7 +99,7 @@ fn import_worked<'a>(
         let us = chosenUnits options (units (now (main .entry))) in
         let d = dwarfOf (now (main .entry)) (now (supplementary .entry)) in
         Writes (importUnits d us (now (program .entry)) (options .inlines) (options .«call_sites») (startState (options .«first_file»)))
-            (now (records .entry)) (now (files .entry)) (now (warnings .entry)) (now (records .exit)) (now (files .exit)) (now (warnings .exit)) r) ⌝ }
+        (now (records .entry)) (now (files .entry)) (now (warnings .entry)) (now (records .exit)) (now (files .exit)) (now (warnings .exit)) r) ⌝ }
 {
     let l = lay_out(main, supplementary, program);
     let empty = new_files(main, supplementary, work, 0, l.room, options.first_file, 0);
@@ -153,7 +147,7 @@ fn import_accepted<'a>(
     ensures { λ r. ⌜ (
         let i = inputsBy (now (main .entry)) (now (supplementary .entry)) (now (program .entry)) options (now (work .entry)) (now (records .entry)) (now (files .entry)) (now (warnings .entry)) in
         Writes (importAccepted options i number)
-            (now (records .entry)) (now (files .entry)) (now (warnings .entry)) (now (records .exit)) (now (files .exit)) (now (warnings .exit)) r) ⌝ }
+        (now (records .entry)) (now (files .entry)) (now (warnings .entry)) (now (records .exit)) (now (files .exit)) (now (warnings .exit)) r) ⌝ }
 {
     if is_missing(main, options) {
         return refused(4);
@@ -187,7 +181,7 @@ fn run_import<'a>(
     ensures { λ r. ⌜ (
         let i = inputsBy (now (main .entry)) (now (supplementary .entry)) (now (program .entry)) options (now (work .entry)) (now (records .entry)) (now (files .entry)) (now (warnings .entry)) in
         Writes (importAll (options .all) i)
-            (now (records .entry)) (now (files .entry)) (now (warnings .entry)) (now (records .exit)) (now (files .exit)) (now (warnings .exit)) r) ⌝ }
+        (now (records .entry)) (now (files .entry)) (now (warnings .entry)) (now (records .exit)) (now (files .exit)) (now (warnings .exit)) r) ⌝ }
 {
     if is_oversize(main, supplementary, program) {
         return refused(1);
@@ -222,7 +216,7 @@ pub fn run_cleared<'a>(
     ensures { λ r. ⌜ (
         let i = inputsBy (now (main .entry)) (now (supplementary .entry)) (now (program .entry)) options (now (work .entry)) (now (records .entry)) (now (files .entry)) (now (warnings .entry)) in
         (Writes (importAll (options .all) i)
-            (now (records .entry)) (now (files .entry)) (now (warnings .entry)) (now (records .exit)) (now (files .exit)) (now (warnings .exit)) r)
+        (now (records .entry)) (now (files .entry)) (now (warnings .entry)) (now (records .exit)) (now (files .exit)) (now (warnings .exit)) r)
         × (now (work .exit) ≡ replicate (length (now (work .entry))) 0)) ⌝ }
 {
     let r = run_import(

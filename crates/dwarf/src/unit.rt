@@ -21,6 +21,7 @@ use subprograms::model::ImportState;
 
 // A record of the table of units, and where in it the unit's place stands.
 const UNIT_RECORD: usize = 24;
+
 const UNIT_PLACE: usize = 16;
 
 // What is the same for every subprogram of a unit whose lines were collected.
@@ -83,8 +84,8 @@ fn import_at<'a>(
     ensures { λ r. ⌜ (
         let F = importUnit (dwarfOf (now (main .entry)) (now (supplementary .entry))) (unitHere (now (main .entry)) place) (now (program .entry)) (options .inlines) (options .«call_sites») in
         Grows F (now (main .entry)) (now (supplementary .entry)) (besideTables l (length (now (work .entry))))
-            (now (work .entry)) (now (records .entry)) (now (files .entry)) (now (warnings .entry)) st
-            (now (work .exit)) (now (records .exit)) (now (files .exit)) (now (warnings .exit)) r) ⌝ }
+        (now (work .entry)) (now (records .entry)) (now (files .entry)) (now (warnings .entry)) st
+        (now (work .exit)) (now (records .exit)) (now (files .exit)) (now (warnings .exit)) r) ⌝ }
 {
     let part = program_part(main, place, program.len());
     let from = part.start;
@@ -170,8 +171,8 @@ pub fn import_each<'a>(
         let us = take (to - from) (drop from (units (now (main .entry)))) in
         let F = importUnits (dwarfOf (now (main .entry)) (now (supplementary .entry))) us (now (program .entry)) (options .inlines) (options .«call_sites») in
         Grows F (now (main .entry)) (now (supplementary .entry)) (besideTables l (length (now (work .entry))))
-            (now (work .entry)) (now (records .entry)) (now (files .entry)) (now (warnings .entry)) st
-            (now (work .exit)) (now (records .exit)) (now (files .exit)) (now (warnings .exit)) r) ⌝ }
+        (now (work .entry)) (now (records .entry)) (now (files .entry)) (now (warnings .entry)) st
+        (now (work .exit)) (now (records .exit)) (now (files .exit)) (now (warnings .exit)) r) ⌝ }
 {
     let index = tables.main;
     let units = index.units;

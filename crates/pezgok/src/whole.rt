@@ -20,7 +20,7 @@ pub extern "C" fn pezgok_import_dwarf<'a>(
 ) -> u8
     ensures { λ r. ⌜ (
         let i = inputsOf (now (main .entry)) (now (supplementary .entry)) (now (program .entry)) 0 inlines «call_sites» «first_file»
-            (now (work .entry)) (now (records .entry)) (now (files .entry)) (now (warnings .entry)) in
+        (now (work .entry)) (now (records .entry)) (now (files .entry)) (now (warnings .entry)) in
         ExportsDwarf i (now (work .exit)) (now (records .exit)) (now (files .exit)) (now (warnings .exit)) (now (values .exit)) r) ⌝ }
 {
     let answer = dwarf::import::import_dwarf(

@@ -4,8 +4,8 @@
 ghost use mathlib.Core.Path.{_≡_};
 ghost use Prim.Native.Nat.{_≤_};
 ghost use lib.ListN.{length};
-use subprograms::model::ConversionStats;
 use dwarf::model::Imported;
+use subprograms::model::ConversionStats;
 
 // What stands in the output buffers and in work before a call.
 const FILLED: u8 = 0xa5;
