@@ -39,7 +39,12 @@ const ITEMS: &[(&str, &[&str])] = &[
 ];
 
 /// The oracle's own texts in which a fault may be planted too, and what says that one is.
-const OWN: &[(&str, &str)] = &[("requests.rs", "faulty_requests"), ("lookup.rs", "faulty_lookup")];
+const OWN: &[(&str, &str)] = &[
+    ("requests.rs", "faulty_requests"),
+    ("lookup.rs", "faulty_lookup"),
+    ("answer.rs", "faulty_answer"),
+    ("grammar.rs", "faulty_grammar"),
+];
 
 /// A block of amendments.txt or faults.txt.
 struct Block {

@@ -1,10 +1,11 @@
 //! From a unit to its sheets: the unit, and the units that its references reach.
 
 use std::collections::{BTreeSet, HashSet};
+use std::ops::Range;
 
 use gimli::{ColumnType, LineProgramHeader, UnitOffset};
 
-use crate::fields::{self, Part, Fields};
+use crate::fields::{self, Fields, Part};
 use crate::unit::{self, Decoded, Entry, Slice, Source, Value};
 
 const SUBPROGRAM: u16 = gimli::DW_TAG_subprogram.0;
@@ -36,23 +37,49 @@ pub struct Input<'a> {
 impl<'a> Input<'a> {
     /// The sheets of one unit, or why it has none.
     pub fn dump(&self, asked: usize) -> Result<Dump, String> {
-        let decoded = self.main.unit(asked)?;
-        if decoded.unit.dwo_id.is_some() {
-            return Err("a unit of split DWARF".into());
-        }
-        let lines = decoded.unit.line_program.clone().map(Lines::run);
+        let lines = self.lines(asked)?;
         let program = lines.as_ref().map_or(&[][..], |lines| lines.program);
         if program.len() > fields::PROGRAM_LIMIT {
             return Err("a line program of more than 4,194,304 bytes".into());
         }
-        let reached = self.reach(asked)?;
-        let mut main = Fields::default();
-        for &index in &reached.main {
-            let own = (index == asked).then_some(Own {
+        let reached = self.reach(asked..asked + 1)?;
+        let (main, supplementary) = self.write(&reached, |index| {
+            (index == asked).then_some(Own {
                 text: self.text,
                 lines: lines.as_ref(),
-            });
-            write(&mut main, &self.main, index, own, |entry| {
+                part: None,
+            })
+        })?;
+        Ok(Dump {
+            ordinal: reached.main.range(..asked).count(),
+            main,
+            supplementary,
+            program: program.to_vec(),
+        })
+    }
+
+    /// The line program of a unit that is imported, run to its end, if there is one.
+    pub fn lines(&self, index: usize) -> Result<Option<Lines<'a>>, String> {
+        let decoded = self.main.unit(index)?;
+        if decoded.unit.dwo_id.is_some() {
+            return Err("a unit of split DWARF".into());
+        }
+        Ok(decoded.unit.line_program.clone().map(Lines::run))
+    }
+
+    /// The main and the supplementary sheet of the units that are reached; `own` is what only
+    /// those have that are imported.
+    pub fn write<'b>(
+        &self,
+        reached: &Reached,
+        own: impl Fn(usize) -> Option<Own<'a, 'b>>,
+    ) -> Result<(Fields, Fields), String>
+    where
+        'a: 'b,
+    {
+        let mut main = Fields::default();
+        for &index in &reached.main {
+            write(&mut main, &self.main, index, own(index), |entry| {
                 reached.entries.contains(&(false, index, entry.offset))
             })?;
         }
@@ -64,23 +91,20 @@ impl<'a> Input<'a> {
                 })?;
             }
         }
-        Ok(Dump {
-            ordinal: reached.main.range(..asked).count(),
-            main,
-            supplementary,
-            program: program.to_vec(),
-        })
+        Ok((main, supplementary))
     }
 
-    /// The units that are reached from a unit, and the entries whose attributes can be read.
-    fn reach(&self, asked: usize) -> Result<Reached, String> {
+    /// The units that are reached from some units, and the entries whose attributes can be read.
+    pub fn reach(&self, asked: Range<usize>) -> Result<Reached, String> {
         let mut reached = Reached::default();
-        reached.main.insert(asked);
         let mut open = Vec::new();
-        for entry in &self.main.unit(asked)?.entries {
-            if matches!(entry.tag, SUBPROGRAM | INLINED | CALL_SITE) {
-                reached.entries.insert((false, asked, entry.offset));
-                open.push((false, asked, entry));
+        for asked in asked {
+            reached.main.insert(asked);
+            for entry in &self.main.unit(asked)?.entries {
+                if matches!(entry.tag, SUBPROGRAM | INLINED | CALL_SITE) {
+                    reached.entries.insert((false, asked, entry.offset));
+                    open.push((false, asked, entry));
+                }
             }
         }
         while let Some((supplementary, index, entry)) = open.pop() {
@@ -136,7 +160,7 @@ impl<'a> Input<'a> {
 }
 
 #[derive(Default)]
-struct Reached {
+pub struct Reached {
     main: BTreeSet<usize>,
     supplementary: BTreeSet<usize>,
     /// Whether it is of the supplementary file, its unit, its offset there.
@@ -144,9 +168,9 @@ struct Reached {
 }
 
 /// A unit's line program, run to its end.
-struct Lines<'a> {
-    header: LineProgramHeader<Slice<'a>>,
-    program: &'a [u8],
+pub struct Lines<'a> {
+    pub header: LineProgramHeader<Slice<'a>>,
+    pub program: &'a [u8],
     rows: Vec<Row>,
 }
 
@@ -199,12 +223,14 @@ impl<'a> Lines<'a> {
     }
 }
 
-/// What only the unit that is asked for has, beside the ranges of its entries: the import reads
+/// What only a unit that is imported has, beside the ranges of its entries: the import reads
 /// them of no other.
 #[derive(Clone, Copy)]
-struct Own<'a, 'b> {
-    text: &'b [(u64, u64)],
-    lines: Option<&'b Lines<'a>>,
+pub struct Own<'a, 'b> {
+    pub text: &'b [(u64, u64)],
+    pub lines: Option<&'b Lines<'a>>,
+    /// Start and length of its part, where the program is that of several units.
+    pub part: Option<(u64, u64)>,
 }
 
 fn write<'a>(
@@ -234,9 +260,10 @@ fn write<'a>(
         fields.field(fields::TEXT, &[Part::U64(*start), Part::U64(*end)])?;
     }
     if let Some(lines) = own.and_then(|own| own.lines) {
-        write_lines(fields, source, decoded, &lines.header, &lines.rows)?;
+        let part = own.and_then(|own| own.part);
+        write_lines(fields, source, decoded, &lines.header, part, &lines.rows)?;
     } else if let Some(program) = &unit.line_program {
-        write_lines(fields, source, decoded, program.header(), &[])?;
+        write_lines(fields, source, decoded, program.header(), None, &[])?;
     }
     for entry in &decoded.entries {
         fields.entry(entry.offset, entry.depth, entry.tag)?;
@@ -255,6 +282,7 @@ fn write_lines<'a>(
     source: &Source<'a>,
     decoded: &Decoded<'a>,
     header: &LineProgramHeader<Slice<'a>>,
+    part: Option<(u64, u64)>,
     rows: &[Row],
 ) -> Result<(), String> {
     fields.field(
@@ -268,6 +296,10 @@ fn write_lines<'a>(
             Part::Bytes(header.standard_opcode_lengths().slice()),
         ],
     )?;
+    if let Some((start, length)) = part {
+        let parts = [Part::U64(start), Part::U64(length)];
+        fields.field(fields::PROGRAM_PART, &parts)?;
+    }
     let text = |value| unit::text(source.dwarf, &decoded.unit, value);
     for directory in header.include_directories() {
         let path = text(*directory);

@@ -24,6 +24,7 @@ pub const ATTRIBUTE: u8 = 0x18;
 pub const RANGE: u8 = 0x19;
 pub const RANGE_FAILURE: u8 = 0x1a;
 pub const FILE_ZERO: u8 = 0x1c;
+pub const PROGRAM_PART: u8 = 0x1e;
 
 /// One value of a payload.
 pub enum Part<'a> {

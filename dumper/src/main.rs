@@ -1,11 +1,13 @@
-//! Dumps the units of DWARF in ELF files as the sheets that an import of one unit reads.
+//! Dumps the units of DWARF in ELF files as the sheets that an import of one unit reads, or of all
+//! units of a file.
 
 mod dump;
 mod elf;
-mod output;
 mod fields;
+mod output;
 mod symbols;
 mod unit;
+mod whole;
 
 use std::collections::BTreeMap;
 use std::path::{Path, PathBuf};
@@ -21,7 +23,8 @@ use unit::{Decoded, Source};
 
 const USAGE: &str = "\
 usage: dumper dump OBJECT OUTDIR [--supplementary FILE]
-       dumper cases OBJECT.. --out CASES [--append] [--list LIST] [--supplementary FILE]";
+       dumper whole OBJECT OUTDIR [--supplementary FILE]
+       dumper cases OBJECT.. --out CASES [--whole] [--append] [--list LIST] [--supplementary FILE]";
 
 fn main() -> ExitCode {
     let arguments = std::env::args_os().skip(1).map(PathBuf::from).collect();
@@ -34,9 +37,11 @@ fn main() -> ExitCode {
     }
 }
 
-/// Bad input. An object without debug data is none, and has a status of its own.
+/// Bad input. An object without debug data is none, and has a status of its own; so has one whose
+/// units are not to be had in one sheet.
 const FAULT: u8 = 1;
 const NO_DEBUG_DATA: u8 = 3;
+const NOT_WHOLE: u8 = 4;
 
 /// What a run ends with where it gives no output.
 struct Stop {
@@ -66,6 +71,7 @@ struct Options {
     list: Option<PathBuf>,
     supplementary: Option<PathBuf>,
     append: bool,
+    whole: bool,
 }
 
 fn run(arguments: Vec<PathBuf>) -> Result<(), Stop> {
@@ -81,6 +87,10 @@ fn run(arguments: Vec<PathBuf>) -> Result<(), Stop> {
                 options.append = true;
                 continue;
             }
+            Some("--whole") => {
+                options.whole = true;
+                continue;
+            }
             Some(other) if other.starts_with("--") => {
                 return Err(format!("{other}?\n{USAGE}").into())
             }
@@ -92,8 +102,15 @@ fn run(arguments: Vec<PathBuf>) -> Result<(), Stop> {
         *place = Some(arguments.next().ok_or(USAGE)?);
     }
     match (command.to_str(), &*options.plain, &options.out) {
-        (Some("dump"), [object, folder], None) if options.list.is_none() && !options.append => {
-            dump(object, folder, options.supplementary.as_deref())
+        (Some(word @ ("dump" | "whole")), [object, folder], None)
+            if options.list.is_none() && !options.append && !options.whole =>
+        {
+            let supplementary = options.supplementary.as_deref();
+            if word == "whole" {
+                whole::whole(object, folder, supplementary)
+            } else {
+                dump(object, folder, supplementary)
+            }
         }
         (Some("cases"), [_, ..], Some(out)) => cases(&options, out),
         _ => Err(USAGE.into()),
@@ -156,7 +173,7 @@ fn printable(bytes: &[u8]) -> String {
     }
 }
 
-/// Units and skipped units of one or more files.
+/// Units and skipped units of one or more files, or files and skipped files.
 #[derive(Default)]
 struct Summary {
     dumped: usize,
@@ -167,9 +184,9 @@ struct Summary {
 }
 
 impl Summary {
-    fn print(&self) {
+    fn print(&self, what: &str) {
         let skipped: usize = self.skipped.values().sum();
-        println!("{} units dumped, {skipped} skipped", self.dumped);
+        println!("{} {what} dumped, {skipped} skipped", self.dumped);
         for (reason, count) in &self.skipped {
             println!("  {count} skipped: {reason}");
         }
@@ -182,12 +199,12 @@ impl Summary {
     }
 }
 
-/// Hands every unit of a file that has sheets to `keep`.
-fn each_unit(
+/// Hands the units of a file to `take`.
+fn with_units(
     object: &Path,
     supplementary: Option<&Path>,
     summary: &mut Summary,
-    mut keep: impl FnMut(About, Dump) -> Result<(), String>,
+    take: impl FnOnce(&Input, &mut Summary) -> Result<(), Stop>,
 ) -> Result<(), Stop> {
     let mut file = elf::read(object).map_err(|what| fault(object, what))?;
     let second = read_supplementary(object, &file, supplementary)?;
@@ -217,28 +234,46 @@ fn each_unit(
             status: NO_DEBUG_DATA,
         });
     }
-    for number in 0..input.main.len() {
-        let mut about = About::new(number, input.main.place(number).0);
-        if let Ok(decoded) = input.main.unit(number) {
-            about.describe(&input.main, decoded);
-        }
-        match input.dump(number) {
-            Ok(dump) => {
-                summary.dumped += 1;
-                keep(about, dump)?;
-            }
-            Err(reason) => {
-                eprintln!(
-                    "{}: unit {number} at {:#x} ({}) skipped: {reason}",
-                    object.display(),
-                    about.offset,
-                    about.name
-                );
-                *summary.skipped.entry(reason).or_default() += 1;
-            }
-        }
+    take(&input, summary)
+}
+
+/// What is told of a unit of the main file.
+fn about(input: &Input, number: usize) -> About {
+    let mut about = About::new(number, input.main.place(number).0);
+    if let Ok(decoded) = input.main.unit(number) {
+        about.describe(&input.main, decoded);
     }
-    Ok(())
+    about
+}
+
+/// Hands every unit of a file that has sheets to `keep`.
+fn each_unit(
+    object: &Path,
+    supplementary: Option<&Path>,
+    summary: &mut Summary,
+    mut keep: impl FnMut(About, Dump) -> Result<(), String>,
+) -> Result<(), Stop> {
+    with_units(object, supplementary, summary, |input, summary| {
+        for number in 0..input.main.len() {
+            let about = about(input, number);
+            match input.dump(number) {
+                Ok(dump) => {
+                    summary.dumped += 1;
+                    keep(about, dump)?;
+                }
+                Err(reason) => {
+                    eprintln!(
+                        "{}: unit {number} at {:#x} ({}) skipped: {reason}",
+                        object.display(),
+                        about.offset,
+                        about.name
+                    );
+                    *summary.skipped.entry(reason).or_default() += 1;
+                }
+            }
+        }
+        Ok(())
+    })
 }
 
 /// The supplementary file that was given, else the one that the object names, if it is there.
@@ -318,29 +353,34 @@ fn dump(object: &Path, place: &Path, supplementary: Option<&Path>) -> Result<(),
     std::fs::write(folder.join("index"), index).map_err(|error| fault(place, error))?;
     std::fs::write(folder.join("symbols"), &symbols.bytes).map_err(|error| fault(place, error))?;
     pending.finish()?;
-    summary.print();
+    summary.print("units");
     symbols.print();
     ended
 }
 
+/// The switches of a case.
 const INLINES: u8 = 1;
 const CALL_SITES: u8 = 2;
+const ALL_UNITS: u8 = 4;
 const FIRST_FILE: u32 = 1;
+/// How long each output buffer of a case is, of a unit and of all units.
 const BUFFER: u32 = 1 << 20;
+const LARGE_BUFFER: u32 = 1 << 22;
 
 /// A case: the lengths, what the caller gives beside the inputs, and the inputs.
-fn case(dump: &Dump) -> Vec<u8> {
+fn case(dump: &Dump, switches: u8) -> Vec<u8> {
     let inputs = [&dump.main.bytes, &dump.supplementary.bytes, &dump.program];
     let mut bytes = Vec::new();
     for input in inputs {
         bytes.extend((input.len() as u32).to_le_bytes());
     }
     bytes.extend((dump.ordinal as u64).to_le_bytes());
-    bytes.push(INLINES | CALL_SITES);
+    bytes.push(switches);
     bytes.extend(FIRST_FILE.to_le_bytes());
     let work = fields::work_length(&dump.main, &dump.supplementary, &dump.program);
     bytes.extend(work.to_le_bytes());
-    for buffer in [BUFFER; 3] {
+    let all = switches & ALL_UNITS != 0;
+    for buffer in [if all { LARGE_BUFFER } else { BUFFER }; 3] {
         bytes.extend(buffer.to_le_bytes());
     }
     for input in inputs {
@@ -356,33 +396,36 @@ fn cases(options: &Options, out: &Path) -> Result<(), Stop> {
         let before = std::fs::read(out).map_err(|error| fault(out, error))?;
         output::write(&mut file, out, &before)?;
     }
-    let mut list = String::from(
-        "object\tunit\tordinal\tversion\tlanguage\tmain\tsupplementary\tline\tfields\tname\tproducer\n",
-    );
+    let mut list = String::from(if options.whole {
+        "object\tunits\tmain\tsupplementary\tline\tfields\n"
+    } else {
+        "object\tunit\tordinal\tversion\tlanguage\tmain\tsupplementary\tline\tfields\tname\tproducer\n"
+    });
     let mut summary = Summary::default();
     for object in &options.plain {
-        each_unit(
-            object,
-            options.supplementary.as_deref(),
-            &mut summary,
-            |about, dump| {
-                list += &format!(
-                    "{}\t{}\t{}\t{}\t{}\t{}\t{}\t{}\t{}\t{}\t{}\n",
-                    object.display(),
-                    about.number,
-                    dump.ordinal,
-                    about.version,
-                    about.language,
-                    dump.main.bytes.len(),
-                    dump.supplementary.bytes.len(),
-                    dump.program.len(),
-                    dump.main.fields + dump.supplementary.fields,
-                    about.name,
-                    about.producer
-                );
-                output::write(&mut file, out, &case(&dump))
-            },
-        )?;
+        let supplementary = options.supplementary.as_deref();
+        if options.whole {
+            let bytes = whole::case(object, supplementary, &mut summary, &mut list)?;
+            output::write(&mut file, out, &bytes)?;
+            continue;
+        }
+        each_unit(object, supplementary, &mut summary, |about, dump| {
+            list += &format!(
+                "{}\t{}\t{}\t{}\t{}\t{}\t{}\t{}\t{}\t{}\t{}\n",
+                object.display(),
+                about.number,
+                dump.ordinal,
+                about.version,
+                about.language,
+                dump.main.bytes.len(),
+                dump.supplementary.bytes.len(),
+                dump.program.len(),
+                dump.main.fields + dump.supplementary.fields,
+                about.name,
+                about.producer
+            );
+            output::write(&mut file, out, &case(&dump, INLINES | CALL_SITES))
+        })?;
     }
     output::flush(file, out)?;
     if let Some(path) = &options.list {
@@ -393,6 +436,6 @@ fn cases(options: &Options, out: &Path) -> Result<(), Stop> {
         pending.finish()?;
     }
     pending.finish()?;
-    summary.print();
+    summary.print(if options.whole { "objects" } else { "units" });
     Ok(())
 }

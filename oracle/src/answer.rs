@@ -1,7 +1,9 @@
-//! The answer of an import (document 01, "The answer of an import").
+//! The answer of an import (document 01, "The answer of an import"), of a unit or, as E11 asks, of all units.
+
+use std::ops::Range;
 
 use crate::case::{Answer, Case};
-use crate::convert::dwarf::{Imported, import};
+use crate::convert::dwarf::Imported;
 use crate::error::refusal;
 use crate::grammar::parse;
 use crate::output;
@@ -24,24 +26,30 @@ pub fn answer_in(case: &Case, lengths: [u32; 3]) -> Answer {
         return crate::requests::of_bare(case);
     }
     inputs(case)
-        .and_then(|(dwarf, ordinal)| finished(case, &dwarf, ordinal))
+        .and_then(|(dwarf, units)| finished(case, &dwarf, units))
         .and_then(|imported| fitting(output::written(&imported, case.first_file), lengths))
         .unwrap_or_else(|refusal| Answer { refusal, ..Answer::default() })
 }
 
-/// The parsed inputs and the unit's number, or refusals 1 to 5.
-pub fn inputs(case: &Case) -> Result<(Dwarf<Slice<'_>>, usize), u8> {
+/// The parsed inputs and the numbers of the units that are imported, or refusals 1 to 5.
+pub fn inputs(case: &Case) -> Result<(Dwarf<Slice<'_>>, Range<usize>), u8> {
     if is_oversize(case) {
         return Err(1);
     }
     let main = parse(&case.main, &case.program, false)?;
-    let supplementary = parse(&case.supplementary, &[], true)?;
-    let ordinal = usize::try_from(case.ordinal).ok().filter(|&ordinal| ordinal < main.units.len()).ok_or(4)?;
+    let supplementary = parse(&case.supplementary, &case.program, true)?;
+    let units = if case.all { 0..main.units.len() } else { unit(case.ordinal, main.units.len())? };
     if case.work < work_needed(main.fields + supplementary.fields, case.program.len()) {
         return Err(5);
     }
     let sup = (!case.supplementary.is_empty()).then(|| Box::new(Dwarf::new(supplementary.units, None)));
-    Ok((Dwarf::new(main.units, sup), ordinal))
+    Ok((Dwarf::new(main.units, sup), units))
+}
+
+/// The unit that an ordinal names.
+fn unit(ordinal: u64, units: usize) -> Result<Range<usize>, u8> {
+    let ordinal = usize::try_from(ordinal).ok().filter(|&ordinal| ordinal < units).ok_or(4)?;
+    Ok(ordinal..ordinal + 1)
 }
 
 pub fn is_oversize(case: &Case) -> bool {
@@ -52,19 +60,26 @@ pub fn work_needed(fields: usize, program: usize) -> u64 {
     64 * fields as u64 + 4 * program as u64 + WORK_BESIDES
 }
 
-/// What the Rust leaves behind, or refusals 6 to 15.
-pub fn finished(case: &Case, dwarf: &Dwarf<Slice<'_>>, ordinal: usize) -> Result<Imported, u8> {
-    let imported = import(dwarf, ordinal, case.inlines, case.call_sites);
+/// What the Rust leaves behind after these units, or refusals 6 to 15. "The result is the unit imports one after another, each beginning with
+/// the file table the last one left", and "the first refused unit refuses all".
+pub fn finished(case: &Case, dwarf: &Dwarf<Slice<'_>>, units: Range<usize>) -> Result<Imported, u8> {
+    let mut imported = Imported::new();
+    for unit in units {
+        add(case, dwarf, unit, &mut imported)?;
+    }
+    Ok(imported)
+}
+
+/// The import of one more unit, over the same builder.
+pub fn add(case: &Case, dwarf: &Dwarf<Slice<'_>>, unit: usize, imported: &mut Imported) -> Result<(), u8> {
+    let result = imported.add(dwarf, unit, case.inlines, case.call_sites);
     // The Rust numbers files from 1 and finds room for more. Its file past the caller's last number
     // came before whatever stopped it later.
     let room = (1_u64 << 32) - u64::from(case.first_file);
     if output::files(&imported.builder).len() as u64 > room {
         return Err(15);
     }
-    match &imported.result {
-        Ok(()) => Ok(imported),
-        Err(error) => Err(refusal(error)),
-    }
+    result.map_err(|error| refusal(&error))
 }
 
 /// Refusals 16 to 18 come when everything else is done, lowest first.

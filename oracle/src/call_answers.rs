@@ -19,8 +19,8 @@ pub fn lines(call: &Call) -> String {
 fn finished(call: &Call) -> std::result::Result<String, u8> {
     match call {
         Call::Rows { case, queries } => {
-            let (dwarf, ordinal) = inputs(case)?;
-            let collected = Collected::new(&dwarf, ordinal).map_err(|error| refusal(&error))?;
+            let (dwarf, units) = inputs(case)?;
+            let collected = Collected::new(&dwarf, units.start).map_err(|error| refusal(&error))?;
             Ok(queries.iter().fold(listed(&collected), |text, query| format!("{text}\n{}", rows(query, &collected))))
         }
         _ => called(call).map_err(|error| refusal(&error)),

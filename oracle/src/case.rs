@@ -6,6 +6,8 @@ pub struct Case {
     pub main: Vec<u8>,
     pub supplementary: Vec<u8>,
     pub program: Vec<u8>,
+    /// All units of the main input are imported (E11), and the ordinal is not read.
+    pub all: bool,
     pub ordinal: u64,
     pub inlines: bool,
     pub call_sites: bool,
@@ -23,6 +25,7 @@ impl Case {
             main,
             supplementary,
             program,
+            all: false,
             ordinal: 0,
             inlines: true,
             call_sites: true,

@@ -76,6 +76,11 @@ impl Fields {
         self.field(0x13, &[&offset.to_le_bytes(), &length.to_le_bytes(), &[version, word, base], lengths])
     }
 
+    /// The unit's part of the program (E11).
+    pub fn part(&mut self, start: u64, length: u64) -> &mut Self {
+        self.field(0x1e, &[&start.to_le_bytes(), &length.to_le_bytes()])
+    }
+
     pub fn directory(&mut self, failed: u8, path: &[u8]) -> &mut Self {
         self.field(0x14, &[&[failed], path])
     }

@@ -116,45 +116,54 @@ pub mod dwarf {
 
     use super::ConversionWarning;
     use super::elf::ConversionStats;
-    use crate::model::{AddressRange, Function, LineEntry};
+    use crate::model::{AddressRange, FileEntry, Function, LineEntry};
     use crate::stand_in::gimli;
     use crate::{Error, GsymBuilder, Result};
     use gimli::{AttributeValue, DebuggingInformationEntry, Dwarf, Reader, Slice, Unit};
 
     text!("convert/dwarf.rs");
 
-    /// What an import leaves behind, finished or not.
+    /// What imports leave behind, of one unit or of several, one after the other.
     pub struct Imported {
-        pub result: Result<()>,
         pub builder: GsymBuilder,
         pub stats: ConversionStats,
         pub warnings: Vec<ConversionWarning>,
     }
 
-    /// import_unit at a unit of the main input.
-    pub fn import(dwarf: &Dwarf<Slice<'_>>, ordinal: usize, include_inlines: bool, include_call_sites: bool) -> Imported {
-        let data = &dwarf.units[ordinal];
-        let text: Vec<AddressRange> = data.text.iter().map(|range| AddressRange::new(range.begin, range.end)).collect();
-        let (mut builder, mut stats, mut warnings) = (GsymBuilder::new(), ConversionStats::default(), Vec::new());
-        let mut context = ImportContext {
-            executable_ranges: &text,
-            builder: &mut builder,
-            include_inlines,
-            include_call_sites,
-            stats: &mut stats,
-            warnings: &mut warnings,
-        };
-        let result = import_unit(dwarf, &Unit::of(data.clone()), &mut context);
-        Imported { result, builder, stats, warnings }
+    impl Imported {
+        pub fn new() -> Self {
+            Self { builder: GsymBuilder::new(), stats: ConversionStats::default(), warnings: Vec::new() }
+        }
+
+        /// import_unit at a unit of the main input, over the builder that is there, as the Rust's import_dwarf calls it.
+        pub fn add(&mut self, dwarf: &Dwarf<Slice<'_>>, ordinal: usize, include_inlines: bool, include_call_sites: bool) -> Result<()> {
+            let data = &dwarf.units[ordinal];
+            let text: Vec<AddressRange> = data.text.iter().map(|range| AddressRange::new(range.begin, range.end)).collect();
+            let mut context = ImportContext {
+                executable_ranges: &text,
+                builder: &mut self.builder,
+                include_inlines,
+                include_call_sites,
+                stats: &mut self.stats,
+                warnings: &mut self.warnings,
+            };
+            import_unit(dwarf, &Unit::of(data.clone()), &mut context)
+        }
     }
 
     /// A row or a range, and the offset of its statement sequence.
     pub type Sequenced<T> = (T, Option<u64>);
 
-    /// The unit's sorted rows and its sequences, for the coverage table.
-    pub fn table(dwarf: &Dwarf<Slice<'_>>, ordinal: usize) -> Option<(Vec<Sequenced<LineEntry>>, Vec<Sequenced<AddressRange>>)> {
+    /// The unit's sorted rows and its sequences, for the coverage table; `before` are the files that units before it brought.
+    pub fn table(
+        dwarf: &Dwarf<Slice<'_>>,
+        ordinal: usize,
+        before: &[FileEntry],
+    ) -> Option<(Vec<Sequenced<LineEntry>>, Vec<Sequenced<AddressRange>>)> {
         let unit = Unit::of(dwarf.units[ordinal].clone());
-        let lines = collect_lines(dwarf, &unit, &mut GsymBuilder::new(), &mut Vec::new()).ok()?;
+        let mut builder = GsymBuilder::new();
+        before.iter().try_for_each(|file| builder.add_file(file.clone()).map(drop)).ok()?;
+        let lines = collect_lines(dwarf, &unit, &mut builder, &mut Vec::new()).ok()?;
         Some((
             lines.entries.iter().map(|row| (row.entry, row.statement_sequence)).collect(),
             lines.sequences.iter().map(|sequence| (sequence.range, sequence.statement_sequence)).collect(),

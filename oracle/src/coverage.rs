@@ -3,7 +3,7 @@
 
 use std::path::Path;
 
-use crate::answer::{finished, inputs};
+use crate::answer::{add, inputs};
 use crate::case::Case;
 use crate::compose::*;
 use crate::convert::dwarf::{Imported, Sequenced, table};
@@ -18,6 +18,7 @@ use crate::stand_in::gimli::{
 use crate::trace::{Event, traced};
 
 mod requests;
+mod whole;
 
 macro_rules! rules {
     ($($rule:ident: $text:literal,)+) => {
@@ -66,6 +67,47 @@ rules! {
     LargestColumn: "E7: column 65,535",
     DeclarationColumn: "E7: a declaration row has column 0",
     DeclarationsColumn: "E7: a declaration row has column 0, its entry another",
+    PartDone: "E11: a unit's part of the program",
+    PartOfOne: "E11: the import of one unit reads its part",
+    WholeProgram: "E11: a unit without 1e reads the whole program, another one a part",
+    PartsTile: "E11: parts that tile the program",
+    PartsOverlap: "E11: parts that overlap",
+    PartToTheEnd: "E11: a part that ends at the program's end",
+    EmptyPart: "E11: an empty part",
+    EmptyPartAtTheEnd: "E11: an empty part at the program's end",
+    PartThere: "E11: a part in the supplementary input",
+    PartPast: "E11: a part that ends a byte past the program refused with 2",
+    EmptyPartPast: "E11: an empty part that begins a byte past the program refused with 2",
+    PartWraps: "E11: a part that ends past 2^64 - 1 refused with 2",
+    PartPastThere: "E11: a part past the program in the supplementary input refused with 2",
+    PartPastUnasked: "E11: a part past the program of a unit that is not imported refused with 2",
+    PartPastLast: "E11: a part past the program, as field 65,537, refused with 2",
+    PartPastFields: "E11: a part inside the program, as field 65,537, refused with 3",
+    PartTwice: "E11: a second part of a unit refused with 2",
+    PartLate: "E11: a part behind a directory, a file or a row refused with 2",
+    PartWithoutHeader: "E11: a part without a line header refused with 2",
+    PartSize: "E11: a part of another size than 16 bytes refused with 2",
+    AllDone: "E11: two units or more with functions, all imported",
+    OrdinalNotRead: "E11: all imported, the ordinal being past them",
+    FileAgain: "E11: a file of an earlier unit keeps its number",
+    FileBehind: "E11: a later unit's file numbered behind those of the earlier",
+    AcrossUnits: "E11: a reference into another unit that is imported",
+    WarningsJoined: "E11: warnings of two units joined",
+    StatisticsAdded: "E11: rejected ranges of two units added",
+    FilesFull: "E11: refused with 15, though each unit's own files have numbers",
+    RefusedFirst: "E11: the first of three units or more refused, the others sound",
+    RefusedBetween: "E11: an inner unit refused, the others sound",
+    RefusedLast: "E11: the last of three units or more refused, the others sound",
+    FirstOfTwo: "E11: two units refused with other numbers, the first one's given",
+    RefusedBeforeShort: "E11: a later unit refused, the buffers having no byte",
+    ShortRecords: "E11: refused with 16, the buffer holding the records of all units but the last",
+    ShortFiles: "E11: refused with 17, the buffer holding the files of all units but the last",
+    ShortWarnings: "E11: refused with 18, the buffer holding the warnings of all units but the last",
+    AllWork: "E11: refused with 5, work being a byte short of the whole program's and enough for each part's",
+    AllBareDone: "E11: no unit, done, the ordinal not being 0",
+    AllBareMisshapen: "E11: no unit, refused with 2 for the supplementary input",
+    AllBarePastLimit: "E11: no unit, refused with 3 for the supplementary input",
+    AllBareWork: "E11: no unit, refused with 5",
     LongestString: "E12: a string of 6,113 bytes in the main input",
     LongestStringThere: "E12: a string of 6,113 bytes in the supplementary input",
     LongerString: "E12: a string of 6,114 bytes in the main input refused with 3",
@@ -172,22 +214,53 @@ fn examine(case: &Case, counts: &mut Counts, reached: &mut Reached) -> Result<()
         rest = after;
     }
     counts.warnings.iter_mut().zip(kinds).for_each(|(count, kind)| *count += kind);
+    reached.hit(Rule::MissingFile, kinds[6] == 1);
     requests::limits(case, &answer, reached);
+    whole::parts(case, &answer, reached);
     if case.main.is_empty() {
-        requests::bare(case, answer.refusal, reached);
+        let bare = if case.all { whole::bare } else { requests::bare };
+        bare(case, answer.refusal, reached);
         return Ok(());
     }
-    let Ok((dwarf, ordinal)) = inputs(case) else {
+    if case.all && answer.refusal == 5 {
+        whole::short_work(case, reached);
+    }
+    let Ok((dwarf, units)) = inputs(case) else {
         return Ok(());
     };
-    let (result, events) = traced(|| finished(case, &dwarf, ordinal));
-    let unit = &dwarf.units[ordinal];
-    if let Some(header) = &unit.lines {
-        requests::advance_line(header, answer.refusal, reached);
+    let mut imported = Imported::new();
+    let mut marks = vec![whole::mark(&imported)];
+    for unit in units {
+        if !examine_unit(case, &dwarf, unit, &mut imported, reached)? {
+            break;
+        }
+        marks.push(whole::mark(&imported));
     }
-    searches(&dwarf, &events, reached);
-    let (Ok(imported), Some(rows)) = (result, table(&dwarf, ordinal)) else {
-        return Ok(());
+    match answer.refusal {
+        _ if !case.all => {}
+        0 => whole::joined(case, &marks, reached),
+        refusal => whole::refused(case, &dwarf, refusal, reached),
+    }
+    Ok(())
+}
+
+/// Imports a unit behind those before it; false where it is refused.
+fn examine_unit(
+    case: &Case,
+    dwarf: &Dwarf<Slice<'_>>,
+    number: usize,
+    imported: &mut Imported,
+    reached: &mut Reached,
+) -> Result<bool, String> {
+    let (before, known) = (whole::mark(imported), files(&imported.builder).to_vec());
+    let (result, events) = traced(|| add(case, dwarf, number, imported));
+    let unit = &dwarf.units[number];
+    if let Some(header) = &unit.lines {
+        requests::advance_line(header, result.err().unwrap_or(0), reached);
+    }
+    searches(dwarf, &events, reached);
+    let (Ok(()), Some(rows)) = (result, table(dwarf, number, &known)) else {
+        return Ok(false);
     };
     if let Some(header) = &unit.lines {
         skipping(header, reached);
@@ -195,9 +268,13 @@ fn examine(case: &Case, counts: &mut Counts, reached: &mut Reached) -> Result<()
         requests::exact_neighbours(unit, &rows.0, reached);
         requests::windows_paths(unit, header, files(&imported.builder), reached);
     }
-    reached.hit(Rule::MissingFile, kinds[6] == 1);
     tombstones(unit, &events, reached);
-    records(case, unit, &imported, &events, &rows, reached)
+    let functions = before.functions(imported);
+    if case.all {
+        whole::unit(number, &events, functions, before.files, reached);
+    }
+    records(case, unit, functions, &events, &rows, reached)?;
+    Ok(true)
 }
 
 /// A program that the Rust accepted, instruction by instruction.
@@ -430,7 +507,14 @@ fn function_rows(
 // ---- records
 
 /// Judges each record by document 01's words, and counts its nodes against the Rust's.
-fn records(case: &Case, unit: &Data<'_>, imported: &Imported, events: &[Event], rows: &Rows, reached: &mut Reached) -> Result<(), String> {
+fn records(
+    case: &Case,
+    unit: &Data<'_>,
+    functions: &[Function],
+    events: &[Event],
+    rows: &Rows,
+    reached: &mut Reached,
+) -> Result<(), String> {
     // The subprogram of each record, and the named inlined entries below it. Without details nothing is walked.
     let mut walks: Vec<(usize, Vec<usize>)> = Vec::new();
     for event in events {
@@ -440,7 +524,6 @@ fn records(case: &Case, unit: &Data<'_>, imported: &Imported, events: &[Event], 
             _ => {}
         }
     }
-    let functions = imported.builder.functions();
     let mut last = None;
     for ((root, named), function) in walks.iter().zip(functions) {
         function_rows(unit, &unit.entries[*root], function, rows, reached)?;

@@ -6,6 +6,11 @@ use std::path::{Path, PathBuf};
 
 use crate::case::{Answer, Case};
 
+/// The switches of a case.
+const INLINES: u8 = 1;
+const CALL_SITES: u8 = 2;
+const ALL_UNITS: u8 = 4;
+
 /// Reads values one after the other from a file.
 pub struct Source {
     path: PathBuf,
@@ -45,13 +50,15 @@ impl Source {
         let lengths = [self.number(4)?, self.number(4)?, self.number(4)?];
         let ordinal = self.number(8)?;
         let flags = self.number(1)?;
-        if flags > 3 {
+        if flags > (INLINES | CALL_SITES | ALL_UNITS).into() {
             return Err(format!("{}: no case has the flags {flags}", self.path.display()));
         }
+        let has = |switch: u8| flags & u64::from(switch) != 0;
         Ok(Some(Case {
             ordinal,
-            inlines: flags & 1 != 0,
-            call_sites: flags & 2 != 0,
+            inlines: has(INLINES),
+            call_sites: has(CALL_SITES),
+            all: has(ALL_UNITS),
             first_file: self.number(4)? as u32,
             work: self.number(8)?,
             records: self.number(4)? as u32,
@@ -103,7 +110,8 @@ impl Target {
 
     pub fn case(&mut self, case: &Case) -> Result<(), String> {
         let lengths = [&case.main, &case.supplementary, &case.program].map(|bytes| (bytes.len() as u32).to_le_bytes());
-        let flags = u8::from(case.inlines) | u8::from(case.call_sites) << 1;
+        let switch = |switch: u8, on: bool| if on { switch } else { 0 };
+        let flags = switch(INLINES, case.inlines) | switch(CALL_SITES, case.call_sites) | switch(ALL_UNITS, case.all);
         let buffers = [case.records, case.files, case.warnings].map(u32::to_le_bytes);
         self.write(&[
             &lengths.concat(),

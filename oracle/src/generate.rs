@@ -27,7 +27,7 @@ pub fn case(seed: u64, number: u64) -> Case {
 
 /// Gives a case its buffers: as long as needed or a little longer, at times one byte short.
 fn fit(random: &mut Random, case: &mut Case) {
-    let fields = |bytes: &[u8]| parse(bytes, &[], false).map_or(0, |input| input.fields);
+    let fields = |bytes: &[u8]| parse(bytes, &case.program, false).map_or(0, |input| input.fields);
     let work = work_needed(fields(&case.main) + fields(&case.supplementary), case.program.len());
     (case.work, case.records, case.files, case.warnings) = (work, u32::MAX, u32::MAX, u32::MAX);
     let full = answer(case);
@@ -59,7 +59,7 @@ fn bare(random: &mut Random) -> Case {
     let main = if random.chance(5) { vec![0x10] } else { Vec::new() };
     let mut case = Case { main, supplementary: other.main, program, ..other };
     case.ordinal = random.pick(&[0, 0, 0, 0, 1, LAST]);
-    let needed = work_needed(parse(&case.supplementary, &[], true).map_or(0, |input| input.fields), case.program.len());
+    let needed = work_needed(parse(&case.supplementary, &case.program, true).map_or(0, |input| input.fields), case.program.len());
     case.work = random.pick(&[needed, needed, needed, needed + 4096, needed - 1, 0]);
     [case.records, case.files, case.warnings] = [(); 3].map(|()| random.pick(&[0, 0, 1, 40]));
     case
@@ -68,7 +68,7 @@ fn bare(random: &mut Random) -> Case {
 // ---- sound inputs
 
 /// What is settled of a unit before its fields are written, so that references can point to it.
-struct Unit {
+pub struct Unit {
     offset: u64,
     length: u64,
     entries: Vec<Entry>,
@@ -109,9 +109,14 @@ fn sound(random: &mut Random) -> Case {
 }
 
 fn units(random: &mut Random, odd: u64) -> Vec<Unit> {
+    units_of(random, odd, |random| random.pick(&[1, 1, 2, 2, 3]))
+}
+
+/// So many units, fewer at the end of the offsets.
+pub fn units_of(random: &mut Random, odd: u64, count: fn(&mut Random) -> u64) -> Vec<Unit> {
     let mut offset = if random.chance(odd) { LAST - random.pick(&[1000, 300]) } else { random.pick(&[0, 0, 0, 11]) };
     let mut units: Vec<Unit> = Vec::new();
-    for _ in 0..random.pick(&[1, 1, 2, 2, 3]) {
+    for _ in 0..count(random) {
         let entries = entries(random, odd);
         let length = entries.last().map_or(0, |entry| entry.offset + random.pick(&[1, 4, 20]));
         if offset > LAST - length - 8 {
@@ -211,16 +216,16 @@ fn inner_ranges(random: &mut Random, entries: &[Entry], mut depth: u16) -> Vec<(
 
 // ---- the fields of a unit
 
-struct Writer<'w> {
-    random: &'w mut Random,
-    odd: u64,
-    own: &'w [Unit],
-    supplementary: &'w [Unit],
-    unit: &'w Unit,
+pub struct Writer<'w> {
+    pub random: &'w mut Random,
+    pub odd: u64,
+    pub own: &'w [Unit],
+    pub supplementary: &'w [Unit],
+    pub unit: &'w Unit,
 }
 
 impl Writer<'_> {
-    fn write(&mut self, fields: &mut Fields, lines: &Lines) {
+    pub fn write(&mut self, fields: &mut Fields, lines: &Lines) {
         let (random, odd) = (&mut *self.random, self.odd);
         fields.unit(self.unit.offset, self.unit.length, random.between(2, 5) as u8, random.pick(&[4, 8]));
         if random.chance(70) {
@@ -314,9 +319,9 @@ impl Writer<'_> {
 
 /// A line header with its files and rows, its program, and where the program's sequences begin.
 #[derive(Default)]
-struct Lines {
-    fields: Fields,
-    program: Vec<u8>,
+pub struct Lines {
+    pub fields: Fields,
+    pub program: Vec<u8>,
     sequences: Vec<u64>,
     first_file: u64,
     files: u64,
@@ -381,7 +386,7 @@ const WINDOWS: [&[u8]; 20] = [
     b"\\\\",
 ];
 
-fn lines(random: &mut Random, odd: u64, windows: bool) -> Lines {
+pub fn lines(random: &mut Random, odd: u64, windows: bool) -> Lines {
     let mut lines = Lines::default();
     let (version, word) = (random.between(2, 5) as u8, random.pick(&[4, 8]));
     let (mut offset, length) = (random.pick(&[0, 0, 0, 100]), random.pick(&[32, 32, 60]));
@@ -545,7 +550,7 @@ pub fn rows_case(random: &mut Random) -> (Case, Vec<u64>) {
 
 // ---- damaged inputs
 
-fn damage(random: &mut Random, case: &mut Case) {
+pub fn damage(random: &mut Random, case: &mut Case) {
     for _ in 0..random.pick(&[1, 1, 1, 2]) {
         let bytes = match random.below(10) {
             0 => &mut case.program,
@@ -573,12 +578,24 @@ fn damage_bytes(random: &mut Random, bytes: &mut Vec<u8>) {
     }
 }
 
-fn damage_fields(random: &mut Random, bytes: &mut Vec<u8>) {
-    let (mut fields, mut rest) = (Vec::new(), &bytes[..]);
+/// The tag and the payload of each field, as far as they are whole.
+pub fn split(bytes: &[u8]) -> Vec<(u8, Vec<u8>)> {
+    let (mut fields, mut rest) = (Vec::new(), bytes);
     while let Some((tag, payload, after)) = grammar::field(rest) {
         fields.push((tag, payload.to_vec()));
         rest = after;
     }
+    fields
+}
+
+pub fn joined(fields: &[(u8, Vec<u8>)]) -> Vec<u8> {
+    let mut bytes = Vec::new();
+    fields.iter().for_each(|(tag, payload)| field(&mut bytes, *tag, &[payload]));
+    bytes
+}
+
+fn damage_fields(random: &mut Random, bytes: &mut Vec<u8>) {
+    let mut fields = split(bytes);
     if fields.is_empty() {
         return;
     }
@@ -599,6 +616,5 @@ fn damage_fields(random: &mut Random, bytes: &mut Vec<u8>) {
             }
         }
     }
-    bytes.clear();
-    fields.iter().for_each(|(tag, payload)| field(bytes, *tag, &[payload]));
+    *bytes = joined(&fields);
 }

@@ -23,7 +23,7 @@ pub struct Input<'a> {
     pub units: Vec<Rc<UnitData<Slice<'a>>>>,
 }
 
-/// The units of an input, or the refusal that its first bad field gives.
+/// The units of an input, or the refusal that its first bad field gives. A unit's program is the one that is lent, or its part of it.
 pub fn parse<'a>(bytes: &'a [u8], program: &'a [u8], supplementary: bool) -> Result<Input<'a>, u8> {
     let mut parser = Parser { units: Vec::new(), program, supplementary, previous: 0 };
     let (mut rest, mut fields) = (bytes, 0);
@@ -50,7 +50,9 @@ fn followers(tag: u8) -> &'static [u8] {
     match tag {
         0x10 => &[0x10, 0x11, 0x12, 0x13, 0x17],
         0x11 | 0x12 => &[0x10, 0x12, 0x13, 0x17],
-        0x13 | 0x14 => &[0x10, 0x14, 0x1c, 0x15, 0x16, 0x17],
+        // "A field 1e hex after a line header" (E11), behind it and before all else.
+        0x13 => &[0x10, 0x1e, 0x14, 0x1c, 0x15, 0x16, 0x17],
+        0x1e | 0x14 => &[0x10, 0x14, 0x1c, 0x15, 0x16, 0x17],
         0x1c | 0x15 => &[0x10, 0x15, 0x16, 0x17],
         0x16 => &[0x10, 0x16, 0x17],
         0x17 | 0x18 => &[0x10, 0x17, 0x18, 0x19, 0x1a],
@@ -137,6 +139,7 @@ impl<'a> Parser<'a> {
             0x10 => self.unit(&mut payload)?,
             0x11..=0x13 | 0x16 => self.of_unit(tag, &mut payload)?,
             0x14 | 0x15 | 0x1c => self.file(tag, &mut payload)?,
+            0x1e => self.part(&mut payload)?,
             0x17 => self.entry(&mut payload)?,
             _ => self.of_entry(tag, &mut payload)?,
         };
@@ -200,6 +203,19 @@ impl<'a> Parser<'a> {
                 unit.rows.push(LineRow { address, file, line, column, kind });
             }
         }
+        Ok(true)
+    }
+
+    /// E11: the field "names the unit's part of the lent program by start and length; a part past the program is misshapen". The two are
+    /// added as numbers without a limit.
+    fn part(&mut self, payload: &mut Payload<'a>) -> Result<bool, u8> {
+        let (start, length) = (payload.number(8)?, payload.number(8)?);
+        let (end, program) = (u128::from(start) + u128::from(length), self.program);
+        if end > program.len() as u128 {
+            return Err(MISSHAPEN);
+        }
+        let header = self.last()?.lines.as_mut().ok_or(MISSHAPEN)?;
+        header.program = Slice(&program[start as usize..end as usize]);
         Ok(true)
     }
 

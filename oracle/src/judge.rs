@@ -7,7 +7,7 @@ use crate::calls::{lines, searches};
 use crate::case::{Answer, Case};
 use crate::files::Source;
 use crate::requests::{REQUESTS, is_padded, set_apart, windows_root};
-use crate::{answer, answer_in, call_answers, grammar, output};
+use crate::{answer, answer_in, call_answers, generate, grammar, output};
 
 /// The oracle's answer, of which the plain Rust has been asked; else what is wrong.
 pub fn judged(case: &Case) -> Result<Answer, String> {
@@ -101,7 +101,12 @@ pub fn shares(path: &Path) -> Result<bool, String> {
     let (mut cases, mut judged) = (0_u64, 0_u64);
     // Of each request, how many it sets apart, and how many of those the plain Rust answers otherwise.
     let mut apart = [(0_u64, 0_u64); REQUESTS.len()];
+    // Those of all units, and those with a part of the program, which E11 brought.
+    let mut of_parts = [0_u64; 2];
     while let Some(case) = source.case()? {
+        let has_part = |input: &[u8]| generate::split(input).iter().any(|field| field.0 == 0x1e);
+        of_parts[0] += u64::from(case.all);
+        of_parts[1] += u64::from(has_part(&case.main) || has_part(&case.supplementary));
         let shared = match judge(&case, &answer(&case)) {
             Ok(shared) => shared,
             Err(message) => {
@@ -121,6 +126,8 @@ pub fn shares(path: &Path) -> Result<bool, String> {
     for ((request, _), (count, otherwise)) in REQUESTS.iter().zip(apart) {
         println!("{count} ({}) set apart by {request}; {otherwise} of them the plain Rust answers otherwise", share(count));
     }
+    let [all, parts] = of_parts.map(|count| format!("{count} ({})", share(count)));
+    println!("{all} are of all units, {parts} have parts of the program (E11): the plain Rust is run over them in the same way");
     let most = 4 * judged >= 3 * cases;
     if !most {
         println!("fewer than three in four are judged by the plain Rust");

@@ -1,5 +1,5 @@
-//! The oracle: imports of one unit of DWARF answered by the Rust importer's own text, which the build takes in. Around it stand
-//! the input's grammar, the refusals, the buffers and the listing of document 01, the paper that asks for them.
+//! The oracle: imports of one unit of DWARF, or of all units, answered by the Rust importer's own text, which the build takes in. Around it
+//! stand the input's grammar, the refusals, the buffers and the listing of document 01, the paper that asks for them.
 //!
 //! Two packages are built from these sources. In `plain` the text is as it stands. In `oracle` it carries the amendments of the
 //! change requests, and `plain` judges its answers wherever no request applies.
@@ -51,8 +51,10 @@ use stand_in::{validation, writer};
 
 // ---- around it, in both packages
 
+#[cfg(not(faulty_answer))]
 mod answer;
 pub mod call_answers;
+#[cfg(not(faulty_grammar))]
 mod grammar;
 mod output;
 mod trace;
@@ -87,6 +89,8 @@ pub mod front_cases;
 #[cfg(not(feature = "plain"))]
 pub mod generate;
 #[cfg(not(feature = "plain"))]
+pub mod joined;
+#[cfg(not(feature = "plain"))]
 pub mod judge;
 #[cfg(not(feature = "plain"))]
 pub mod limits;
@@ -114,6 +118,10 @@ pub mod symbol_cases;
 pub mod symbols;
 #[cfg(all(test, not(feature = "plain")))]
 mod tests;
+#[cfg(not(feature = "plain"))]
+pub mod whole_cases;
+#[cfg(not(feature = "plain"))]
+mod whole_shown;
 
 // The build's copies, with the fault that is planted in one.
 #[cfg(faulty_requests)]
@@ -123,6 +131,14 @@ mod requests {
 #[cfg(faulty_lookup)]
 pub mod lookup {
     text!("lookup.rs");
+}
+#[cfg(faulty_answer)]
+mod answer {
+    text!("answer.rs");
+}
+#[cfg(faulty_grammar)]
+mod grammar {
+    text!("grammar.rs");
 }
 
 #[cfg(not(feature = "plain"))]

@@ -31,7 +31,50 @@ pub fn large() -> Vec<Case> {
         Case { ordinal: 7, ..Case::new(Vec::new(), vec![0x10; 16_777_217], Vec::new()) },
         Case::new(Vec::new(), Vec::new(), vec![0; 4_194_305]),
         Case { work: 4 * 4_194_304 + 32_768, ..Case::new(Vec::new(), Vec::new(), vec![0; 4_194_304]) },
+        // E11: the sizes of an import of all units, none among them; a part as the field past the limit; 256 units of 256 fields.
+        Case { all: true, ..Case::new(Vec::new(), Vec::new(), vec![0; 4_194_305]) },
+        last_part(1),
+        last_part(0),
+        halves(),
+        many(256, 256),
     ]
+}
+
+/// 65,536 fields, and behind them a part of an empty program that begins at so many bytes.
+fn last_part(start: u64) -> Case {
+    let mut main = Fields::default();
+    main.unit(0, 100, 5, 4);
+    (1..65_534).for_each(|_| _ = main.text(0x1000, 0x2000));
+    main.unit(100, 100, 5, 4).header(0, 32, 5, 4, 13, &OPCODE_LENGTHS).part(start, 0);
+    Case { all: true, work: 1 << 23, ..Case::new(main.take(), Vec::new(), Vec::new()) }
+}
+
+/// Two units, each with one half of the longest program.
+fn halves() -> Case {
+    const HALF: u64 = 2_097_152;
+    let mut main = Fields::default();
+    for half in 0..2 {
+        main.unit(100 * half, 100, 5, 4).header(0, 32, 5, 4, 13, &OPCODE_LENGTHS).part(HALF * half, HALF);
+    }
+    Case { all: true, work: 1 << 25, ..Case::new(main.take(), Vec::new(), [0, 1, 1, 1].repeat(1_048_576)) }
+}
+
+/// So many units of so many fields each, a function in each, of one file or another.
+fn many(units: u64, fields: u64) -> Case {
+    let mut main = Fields::default();
+    for unit in 0..units {
+        let start = 0x1000 * (1 + unit);
+        main.unit(1000 * unit, 1000, 5, 4).text(0x1000, 1 << 32).header(0, 32, 5, 4, 13, &OPCODE_LENGTHS).part(3 * unit, 3);
+        main.file(0, 0, format!("{}.c", unit % 100).as_bytes());
+        let rows = fields - 10;
+        (0..rows).for_each(|row| _ = main.row(start + 4 * row, 0, 10 + row % 9, 0, PLAIN));
+        main.row(start + 4 * rows, 0, 0, 0, END);
+        main.entry(11, 0, COMPILE_UNIT).entry(20, 1, SUBPROGRAM).string(NAME, b"dim").range(start, start + 4 * rows, 0);
+    }
+    let program = [0, 1, 1].repeat(units as usize);
+    let work = work_needed((units * fields) as usize, program.len());
+    let buffer = 1 << 21;
+    Case { all: true, work, records: buffer, files: buffer, warnings: buffer, ..Case::new(main.take(), Vec::new(), program) }
 }
 
 pub fn case(random: &mut Random) -> Case {

@@ -7,7 +7,7 @@ use std::{env, fs};
 
 use oracle::files::{Source, Target};
 use oracle::listing::{INPUT_LIMIT, PROGRAM_LIMIT, listing};
-use oracle::{Case, answer, coverage, document, front_cases, generate, judge, judged, limits, line_cases, look_cases, search_cases};
+use oracle::{Case, answer, coverage, document, front_cases, generate, judge, judged, limits, line_cases, look_cases, search_cases, whole_cases};
 
 const USAGE: &str = "
 oracle one DIR                              the listing of unit.main, unit.sup and unit.line in DIR
@@ -17,6 +17,7 @@ oracle list CASES NUMBER                    the listing of one case, counted fro
 oracle unpack CASES NUMBER DIR              writes one case's unit.main, unit.sup and unit.line to DIR
 oracle generate SEED COUNT CASES            writes cases by seed
 oracle generate --below SIZE SEED COUNT CASES    the same, of those with fewer input bytes
+oracle wholes SEED COUNT CASES              writes cases of all units and of parts of the program, those by hand first
 oracle large CASES                          writes the cases over 64 KiB, the same for every seed
 oracle document CASES                       writes document 01's own cases
 oracle coverage CASES                       counts what the cases reach; fails if something is missing
@@ -51,6 +52,7 @@ fn run(arguments: &[&str]) -> Result<bool, String> {
         ["unpack", cases, number, folder] => unpack(&chosen(Path::new(cases), number)?, Path::new(folder)),
         ["generate", seed, count, cases] => write(cases, generated(u64::MAX, seed, count)?),
         ["generate", "--below", size, seed, count, cases] => write(cases, generated(number(size)?, seed, count)?),
+        ["wholes", seed, count, cases] => write(cases, whole_cases::cases(number(seed)?).take(number(count)? as usize)),
         ["large", cases] => write(cases, limits::large().into_iter()),
         ["document", cases] => write(cases, document::cases().into_iter().map(|(_, case, _)| case)),
         ["coverage", cases] => coverage::coverage(Path::new(cases)),

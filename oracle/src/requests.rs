@@ -1,6 +1,8 @@
 //! What the change requests ask, written from their own words and from the Standard, for the amendments of the Rust's text to call;
 //! and which cases they set apart from the Rust's text as it stands.
 
+use std::ops::Range;
+
 use crate::answer::{inputs, is_oversize, work_needed};
 use crate::case::{Answer, Case};
 use crate::error::{Error, Result};
@@ -11,21 +13,21 @@ use crate::stand_in::gimli::{AttributeValue, Dwarf, Slice};
 /// What a request is about.
 #[derive(Clone, Copy)]
 pub enum Concerns {
-    /// What an import of the unit of this number reads.
-    Unit(fn(&Dwarf<Slice<'_>>, usize) -> bool),
+    /// What an import of the units of these numbers reads.
+    Units(fn(&Dwarf<Slice<'_>>, Range<usize>) -> bool),
     /// A call whose ordinal names no unit.
     NoUnit(fn(&Case) -> bool),
 }
 
 /// The requests that set cases apart.
 pub const REQUESTS: [(&str, Concerns); 3] =
-    [("E2", Concerns::Unit(pads_advance)), ("E3", Concerns::Unit(has_windows_path)), ("E4", Concerns::NoUnit(is_bare))];
+    [("E2", Concerns::Units(pads_advance)), ("E3", Concerns::Units(has_windows_path)), ("E4", Concerns::NoUnit(is_bare))];
 
 /// For each request whether it sets a case apart. An input that the grammar refuses is none's.
 pub fn set_apart(case: &Case) -> [bool; REQUESTS.len()] {
     let read = inputs(case);
     REQUESTS.map(|(_, concerns)| match (concerns, &read) {
-        (Concerns::Unit(concerns), Ok((dwarf, ordinal))) => concerns(dwarf, *ordinal),
+        (Concerns::Units(concerns), Ok((dwarf, units))) => concerns(dwarf, units.clone()),
         (Concerns::NoUnit(concerns), Err(4)) => concerns(case),
         _ => false,
     })
@@ -96,9 +98,9 @@ pub fn is_padded(program: &[u8], lengths: &[u8], base: u8) -> bool {
     advances(program, lengths, base).last().is_some_and(Advance::is_padded)
 }
 
-fn pads_advance(dwarf: &Dwarf<Slice<'_>>, ordinal: usize) -> bool {
-    let header = dwarf.units[ordinal].lines.as_ref();
-    header.is_some_and(|header| is_padded(header.program.0, header.opcode_lengths.0, header.opcode_base))
+fn pads_advance(dwarf: &Dwarf<Slice<'_>>, units: Range<usize>) -> bool {
+    let mut headers = dwarf.units[units].iter().filter_map(|unit| unit.lines.as_ref());
+    headers.any(|header| is_padded(header.program.0, header.opcode_lengths.0, header.opcode_base))
 }
 
 /// What follows the first instruction (document 01, "Rules that bite"), if there is one and it is sound.
@@ -157,7 +159,7 @@ pub fn split_windows(path: &[u8]) -> Option<(&[u8], &[u8])> {
 }
 
 /// Whether a file of any unit has such a path. A failed one has no path.
-fn has_windows_path(dwarf: &Dwarf<Slice<'_>>, _: usize) -> bool {
+fn has_windows_path(dwarf: &Dwarf<Slice<'_>>, _: Range<usize>) -> bool {
     let units = dwarf.units.iter().chain(dwarf.sup().into_iter().flat_map(|sup| &sup.units));
     let mut files = units.filter_map(|unit| unit.lines.as_ref()).flat_map(|header| header.file_zero.iter().chain(&header.files));
     files.any(|file| matches!(file.path, AttributeValue::String(path) if windows_root(path.0).is_some()))
@@ -165,15 +167,15 @@ fn has_windows_path(dwarf: &Dwarf<Slice<'_>>, _: usize) -> bool {
 
 // ---- E4: a package without debug data
 
-/// "With an empty main sheet and ordinal 0".
+/// "With an empty main sheet and ordinal 0". Of all units no ordinal is asked, and where there is none, that is this answer too (E11).
 pub fn is_bare(case: &Case) -> bool {
-    case.main.is_empty() && case.ordinal == 0
+    case.main.is_empty() && (case.all || case.ordinal == 0)
 }
 
 /// "The import is done, lengths and statistics are zero, and the line program is not read. Sizes, the supplementary sheet and the work
 /// length are still tested", in document 01's order.
 pub fn of_bare(case: &Case) -> Answer {
-    let refusal = match parse(&case.supplementary, &[], true) {
+    let refusal = match parse(&case.supplementary, &case.program, true) {
         _ if is_oversize(case) => 1,
         Err(refusal) => refusal,
         Ok(supplementary) if case.work < work_needed(supplementary.fields, case.program.len()) => 5,
