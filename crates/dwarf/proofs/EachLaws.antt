@@ -94,6 +94,7 @@ unitsFrom main k to = take (to - k) (drop k (units main))
 -- what was done so far, and that the whole is this and then the units that are left
 pub record ImportingUnits (main supplementary program : List ℕ) (l : Layout) (x : Tables) (inlines callSites : Bool) (from to : ℕ) (w₀ t₀ f₀ u₀ : List ℕ) (st₀ : ImportState)
     (w t f u : List ℕ) (st : ImportState) (k : ℕ) : Type 0 where
+  pub begun : from ≤ k
   pub few : k ≤ to
   pub within : to ≤ x .main .«unit_count»
   pub tables : TablesIn main supplementary program w l x
@@ -111,6 +112,7 @@ pub units-start : {main supplementary program : List ℕ} {l : Layout} {x : Tabl
     → TablesIn main supplementary program w l x → Ready main supplementary w l st → length t < top → length f < top → length u < top
     → ImportingUnits main supplementary program l x inlines callSites from to w t f u st w t f u st from
 units-start {main} {supplementary} {program} inlines callSites {from} {to} a b T R small tiny few = record {
+  begun = omega arith;
   few = a;
   within = b;
   tables = T;
@@ -174,6 +176,7 @@ module _ {main supplementary program : List ℕ} {l : Layout} {x : Tables} {inli
       pub units-turn : st′ .status ≡ 0 → length w′ ≡ length w → length t′ ≡ length t → length f′ ≡ length f → length u′ ≡ length u
           → ImportingUnits main supplementary program l x inlines callSites from to w₀ t₀ f₀ u₀ st₀ w′ t′ f′ u′ st′ (k + 1)
       units-turn z lw lt lf lu = record {
+        begun = let b = I .begun in omega arith;
         few = omega arith;
         within = I .within;
         tables = tables-kept (I .tables) (A .kept z) lw;

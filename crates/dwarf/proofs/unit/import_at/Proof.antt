@@ -1,6 +1,5 @@
 -- `unit::import_at` meets its contract: the unit's lines, its context, its subprograms. Assumes nothing.
 use borrow.Author.Needs.{needs}
-use Prim.Native.Nat.{_-_}
 use mathlib.Core.Path.{refl, _∙_}
 use native.Mathlib.Omega.{arith}
 use Rattle.tlv.proofs.PlaceFacts.{placed-start}
@@ -29,7 +28,7 @@ collect-lines-requires : tie.Need-collect-lines-requires
 collect-lines-requires c κs =
     let P = c .before .before .before .before .before .before .before .before .before .before .before .before .before .pre in
     let T = P .1 .0 in
-    let A = accepted-main T in (placed-start _ (A .number) (A .is), (P .0, (P .1 .1 .files, lines-room (P .0) T (P .1 .1) _ (part-short (c .before .before .before .before .before .program-part .result .start) (c .before .before .before .before .before .program-part .result .end - c .before .before .before .before .before .program-part .result .start) (c .before .before .before .before .before .before .before .before .before .before .before .before .before .args .program .now)))))
+    let A = accepted-main T in (placed-start _ (A .number) (A .is), (P .0, (P .1 .1 .files, lines-room (P .0) T (P .1 .1) _ (search part-short))))
 
 enum-known-n : tie.Need-enum-known-n
 enum-known-n c = search needs
@@ -41,13 +40,13 @@ unit-context-requires : tie.Need-unit-context-requires
 unit-context-requires c κs =
     let P = c .before .before .before .before .before .before .before .before .before .before .before .before .before .before .before .before .before .before .before .before .before .before .before .before .pre in
     let T = P .1 .0 in
-    let K = c .before .before .before .before .before .before .before .before .before .before .collect-lines .ensures in (P .0, (tables-kept T (collected-low (P .0) T (P .1 .1) _ (part-short (c .before .before .before .before .before .before .before .before .before .before .before .before .before .before .before .before .program-part .result .start) (c .before .before .before .before .before .before .before .before .before .before .before .before .before .before .before .before .program-part .result .end - c .before .before .before .before .before .before .before .before .before .before .before .before .before .before .before .before .program-part .result .start) (c .before .before .before .before .before .before .before .before .before .before .before .before .before .before .before .before .before .before .before .before .before .before .before .before .args .program .now)) K) (c .before .before .before .before .before .before .before .before .before .before .collect-lines .kept .1 .1 .1 .1 .0), lines-laid (P .0) T (P .1 .1) _ (part-short (c .before .before .before .before .before .before .before .before .before .before .before .before .before .before .before .before .program-part .result .start) (c .before .before .before .before .before .before .before .before .before .before .before .before .before .before .before .before .program-part .result .end - c .before .before .before .before .before .before .before .before .before .before .before .before .before .before .before .before .program-part .result .start) (c .before .before .before .before .before .before .before .before .before .before .before .before .before .before .before .before .before .before .before .before .before .before .before .before .args .program .now)) K (c .before .before .lines .given .1)))
+    let K = c .before .before .before .before .before .before .before .before .before .before .collect-lines .ensures in (P .0, (tables-kept T (collected-low (P .0) T (P .1 .1) _ (search part-short) K) (c .before .before .before .before .before .before .before .before .before .before .collect-lines .kept .1 .1 .1 .1 .0), lines-laid (P .0) T (P .1 .1) _ (search part-short) K (c .before .before .lines .given .1)))
 
 import-unit-details-requires : tie.Need-import-unit-details-requires
 import-unit-details-requires c κs =
     let P = c .before .before .before .before .before .before .before .before .before .before .before .before .before .before .before .before .before .before .before .before .before .before .before .before .before .before .before .before .before .before .before .before .pre in
     let T = P .1 .0 in
-    let K = c .before .before .before .before .before .before .before .before .before .before .before .before .before .before .before .before .before .before .collect-lines .ensures in (context-stands (P .0) T (P .1 .1) _ (part-short (c .before .before .before .before .before .before .before .before .before .before .before .before .before .before .before .before .before .before .before .before .before .before .before .before .program-part .result .start) (c .before .before .before .before .before .before .before .before .before .before .before .before .before .before .before .before .before .before .before .before .before .before .before .before .program-part .result .end - c .before .before .before .before .before .before .before .before .before .before .before .before .before .before .before .before .before .before .before .before .before .before .before .before .program-part .result .start) (c .before .before .before .before .before .before .before .before .before .before .before .before .before .before .before .before .before .before .before .before .before .before .before .before .before .before .before .before .before .before .before .before .args .program .now)) K (c .before .before .before .before .before .before .before .before .before .before .lines .given .1) (c .before .before .before .before .before .before .before .unit-context .ensures), (refl, P .1 .1 .at, warned-fits (P .0) T (P .1 .1) _ (part-short (c .before .before .before .before .before .before .before .before .before .before .before .before .before .before .before .before .before .before .before .before .before .before .before .before .program-part .result .start) (c .before .before .before .before .before .before .before .before .before .before .before .before .before .before .before .before .before .before .before .before .before .before .before .before .program-part .result .end - c .before .before .before .before .before .before .before .before .before .before .before .before .before .before .before .before .before .before .before .before .before .before .before .before .program-part .result .start) (c .before .before .before .before .before .before .before .before .before .before .before .before .before .before .before .before .before .before .before .before .before .before .before .before .before .before .before .before .before .before .before .before .args .program .now)) K (c .before .before .before .before .before .before .before .before .before .before .lines .given .1)))
+    let K = c .before .before .before .before .before .before .before .before .before .before .before .before .before .before .before .before .before .before .collect-lines .ensures in (context-stands (P .0) T (P .1 .1) _ (search part-short) K (c .before .before .before .before .before .before .before .before .before .before .lines .given .1) (c .before .before .before .before .before .before .before .unit-context .ensures), (refl, P .1 .1 .at, warned-fits (P .0) T (P .1 .1) _ (search part-short) K (c .before .before .before .before .before .before .before .before .before .before .lines .given .1)))
 
 same-length : tie.Need-same-length
 same-length c = search needs
@@ -61,7 +60,7 @@ same-length-3 c = search needs
 returns : tie.Need-returns
 returns c =
     let P = c .before .before .before .before .before .before .before .before .before .before .before .before .before .before .before .before .before .before .before .before .before .before .before .pre in
-    let K = c .before .before .before .before .before .before .before .before .before .collect-lines .ensures in unit-refused (P .0) (P .1 .0) (P .1 .1) _ (part-short (c .before .before .before .before .before .before .before .before .before .before .before .before .before .before .before .program-part .result .start) (c .before .before .before .before .before .before .before .before .before .before .before .before .before .before .before .program-part .result .end - c .before .before .before .before .before .before .before .before .before .before .before .before .before .before .before .program-part .result .start) (c .before .before .before .before .before .before .before .before .before .before .before .before .before .before .before .before .before .before .before .before .before .before .before .args .program .now)) K (c .before .n .given .1) (c .before .before .before .before .before .before .before .before .before .before .before .before .before .before .before .program-part .ensures .is _ refl) (c .before .before .before .before .before .before .before .before .before .before .before .before .before .before .before .before .before .before .before .before .before .before .before .args .options .inlines) (c .before .before .before .before .before .before .before .before .before .before .before .before .before .before .before .before .before .before .before .before .before .before .before .args .options .«call_sites») refl
+    let K = c .before .before .before .before .before .before .before .before .before .collect-lines .ensures in unit-refused (P .0) (P .1 .0) (P .1 .1) _ (search part-short) K (c .before .n .given .1) (c .before .before .before .before .before .before .before .before .before .before .before .before .before .before .before .program-part .ensures .is _ refl) (c .before .before .before .before .before .before .before .before .before .before .before .before .before .before .before .before .before .before .before .before .before .before .before .args .options .inlines) (c .before .before .before .before .before .before .before .before .before .before .before .before .before .before .before .before .before .before .before .before .before .before .before .args .options .«call_sites») refl
 
 same-length-4 : tie.Need-same-length-4
 same-length-4 c = c .before .before .before .before .before .before .before .before .import-unit-details .kept .1 .1 .0 ∙ c .before .before .before .before .before .before .before .before .before .before .before .before .before .before .before .before .unit-context .kept .1 .1 .1 .0 ∙ c .before .before .before .before .before .before .before .before .before .before .before .before .before .before .before .before .before .before .before .before .before .before .before .before .before .before .before .collect-lines .kept .1 .1 .1 .1 .0
@@ -78,7 +77,7 @@ same-length-7 c = c .before .before .before .before .before .before .before .bef
 returns-2 : tie.Need-returns-2
 returns-2 c =
     let P = c .before .before .before .before .before .before .before .before .before .before .before .before .before .before .before .before .before .before .before .before .before .before .before .before .before .before .before .before .before .before .before .before .before .before .before .before .before .before .before .before .before .pre in
-    let K = c .before .before .before .before .before .before .before .before .before .before .before .before .before .before .before .before .before .before .before .before .before .before .before .before .before .before .before .collect-lines .ensures in unit-grows (P .0) (P .1 .0) (P .1 .1) _ (part-short (c .before .before .before .before .before .before .before .before .before .before .before .before .before .before .before .before .before .before .before .before .before .before .before .before .before .before .before .before .before .before .before .before .before .program-part .result .start) (c .before .before .before .before .before .before .before .before .before .before .before .before .before .before .before .before .before .before .before .before .before .before .before .before .before .before .before .before .before .before .before .before .before .program-part .result .end - c .before .before .before .before .before .before .before .before .before .before .before .before .before .before .before .before .before .before .before .before .before .before .before .before .before .before .before .before .before .before .before .before .before .program-part .result .start) (c .before .before .before .before .before .before .before .before .before .before .before .before .before .before .before .before .before .before .before .before .before .before .before .before .before .before .before .before .before .before .before .before .before .before .before .before .before .before .before .before .before .args .program .now)) K (c .before .before .before .before .before .before .before .before .before .before .before .before .before .before .before .before .before .before .before .lines .given .1) (c .before .before .before .before .before .before .before .before .before .before .before .before .before .before .before .before .unit-context .ensures) (c .before .before .before .before .before .before .before .before .before .before .before .before .before .before .before .before .before .before .before .before .before .before .before .before .before .before .before .before .before .before .before .before .before .program-part .ensures .is _ refl) (c .before .before .before .before .before .before .before .before .before .before .before .before .before .before .before .before .before .before .before .before .before .before .before .before .before .before .before .collect-lines .kept .1 .1 .1 .1 .0) (c .before .before .before .before .before .before .before .before .before .before .before .before .before .before .before .before .unit-context .kept .1 .1 .1 .0) (c .before .before .before .before .before .before .before .before .import-unit-details .ensures)
+    let K = c .before .before .before .before .before .before .before .before .before .before .before .before .before .before .before .before .before .before .before .before .before .before .before .before .before .before .before .collect-lines .ensures in unit-grows (P .0) (P .1 .0) (P .1 .1) _ (search part-short) K (c .before .before .before .before .before .before .before .before .before .before .before .before .before .before .before .before .before .before .before .lines .given .1) (c .before .before .before .before .before .before .before .before .before .before .before .before .before .before .before .before .unit-context .ensures) (c .before .before .before .before .before .before .before .before .before .before .before .before .before .before .before .before .before .before .before .before .before .before .before .before .before .before .before .before .before .before .before .before .before .program-part .ensures .is _ refl) (c .before .before .before .before .before .before .before .before .before .before .before .before .before .before .before .before .before .before .before .before .before .before .before .before .before .before .before .collect-lines .kept .1 .1 .1 .1 .0) (c .before .before .before .before .before .before .before .before .before .before .before .before .before .before .before .before .unit-context .kept .1 .1 .1 .0) (c .before .before .before .before .before .before .before .before .import-unit-details .ensures)
 
 pub import-at-spec : {M : Type 1} → statement M
 import-at-spec =
