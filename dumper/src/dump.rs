@@ -5,6 +5,7 @@ use std::collections::{BTreeSet, HashSet};
 use gimli::{ColumnType, LineProgramHeader, UnitOffset};
 
 use crate::fields::{self, Part, Fields};
+use crate::lean;
 use crate::unit::{self, Decoded, Entry, Slice, Source, Value};
 
 const SUBPROGRAM: u16 = gimli::DW_TAG_subprogram.0;
@@ -31,6 +32,8 @@ pub struct Input<'a> {
     pub main: Source<'a>,
     pub supplementary: Option<Source<'a>>,
     pub text: &'a [(u64, u64)],
+    /// Whether sheets leave out the entries that no import reads.
+    pub lean: bool,
 }
 
 impl<'a> Input<'a> {
@@ -52,14 +55,14 @@ impl<'a> Input<'a> {
                 text: self.text,
                 lines: lines.as_ref(),
             });
-            write(&mut main, &self.main, index, own, |entry| {
+            write(&mut main, &self.main, index, own, self.lean, |entry| {
                 reached.entries.contains(&(false, index, entry.offset))
             })?;
         }
         let mut supplementary = Fields::default();
         if let Some(source) = &self.supplementary {
             for &index in &reached.supplementary {
-                write(&mut supplementary, source, index, None, |entry| {
+                write(&mut supplementary, source, index, None, self.lean, |entry| {
                     reached.entries.contains(&(true, index, entry.offset))
                 })?;
             }
@@ -212,6 +215,7 @@ fn write<'a>(
     source: &Source<'a>,
     index: usize,
     own: Option<Own<'a, '_>>,
+    lean: bool,
     readable: impl Fn(&Entry) -> bool,
 ) -> Result<(), String> {
     let decoded = source.unit(index)?;
@@ -238,7 +242,11 @@ fn write<'a>(
     } else if let Some(program) = &unit.line_program {
         write_lines(fields, source, decoded, program.header(), &[])?;
     }
-    for entry in &decoded.entries {
+    let kept = lean.then(|| lean::kept(&decoded.entries, &readable));
+    for (place, entry) in decoded.entries.iter().enumerate() {
+        if kept.as_ref().is_some_and(|kept| !kept[place]) {
+            continue;
+        }
         fields.entry(entry.offset, entry.depth, entry.tag)?;
         if readable(entry) {
             write_attributes(fields, entry)?;

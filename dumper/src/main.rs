@@ -4,6 +4,9 @@ mod dump;
 mod elf;
 mod output;
 mod fields;
+mod lean;
+mod separate;
+mod stream;
 mod symbols;
 mod unit;
 
@@ -21,7 +24,8 @@ use unit::{Decoded, Source};
 
 const USAGE: &str = "\
 usage: dumper dump OBJECT OUTDIR [--supplementary FILE]
-       dumper cases OBJECT.. --out CASES [--append] [--list LIST] [--supplementary FILE]";
+       dumper cases OBJECT.. --out CASES [--append] [--list LIST] [--supplementary FILE]
+       dumper stream OBJECT [--supplementary FILE] [--addresses] [--whole]";
 
 fn main() -> ExitCode {
     let arguments = std::env::args_os().skip(1).map(PathBuf::from).collect();
@@ -72,6 +76,9 @@ fn run(arguments: Vec<PathBuf>) -> Result<(), Stop> {
     let mut options = Options::default();
     let mut arguments = arguments.into_iter();
     let command = arguments.next().ok_or(USAGE)?;
+    if command.to_str() == Some("stream") {
+        return stream::run(arguments);
+    }
     while let Some(argument) = arguments.next() {
         let place = match argument.to_str() {
             Some("--out") => &mut options.out,
@@ -210,6 +217,7 @@ fn each_unit(
             .transpose()
             .map_err(|what| fault(object, format!("supplementary file: {what}")))?,
         text: &file.text,
+        lean: false,
     };
     if input.main.len() == 0 {
         return Err(Stop {

@@ -106,6 +106,11 @@ impl<'a> Source<'a> {
         (offset - start < length).then_some(index)
     }
 
+    /// A unit's root alone, with nothing below it decoded.
+    pub fn root(&self, index: usize) -> gimli::Result<Unit<Slice<'a>>> {
+        self.dwarf.unit(self.headers[index])
+    }
+
     pub fn unit(&self, index: usize) -> Result<&Decoded<'a>, String> {
         let decode = || decode(self.dwarf, &self.headers[index]);
         self.decoded[index]
