@@ -1,5 +1,6 @@
 //! The picture of a tree over addresses: a row for each depth, a box for each range of a node, addresses from left to right.
 
+use std::collections::BTreeSet;
 use std::fmt::Write;
 use std::ops::Range;
 
@@ -20,6 +21,10 @@ const LETTER: f64 = 6.7;
 /// No box is thinner, so that each range can be seen.
 const THINNEST: f64 = 0.8;
 const TICKS: u64 = 6;
+/// A name's coloured square below the picture, and the lines of names there.
+const SQUARE: f64 = 14.0;
+const LEGEND_ROW: f64 = 16.0;
+const LEGEND_ROWS: f64 = 12.0;
 
 /// One picture of all functions of a name, one below the other.
 pub fn picture(functions: &[Function<'_>]) -> String {
@@ -71,7 +76,46 @@ fn panel(function: &Function<'_>, top: f64, out: &mut String) -> f64 {
     }
     let bottom = rows + depths as f64 * ROW;
     axis(&range, bottom, out);
-    bottom + AXIS
+    legend(&nodes, &range, bottom + AXIS, out)
+}
+
+/// Whether a name stands in a box of such a width.
+fn fits(name: &str, width: f64) -> bool {
+    name.chars().count() as f64 * LETTER <= width - 6.0
+}
+
+/// Below the addresses, in their colours, the first of the names that fit no box; gives the height below them.
+fn legend(nodes: &[Node<'_>], range: &Range<u64>, top: f64, out: &mut String) -> f64 {
+    let mut shown = BTreeSet::new();
+    for node in nodes {
+        let width = node.ranges.iter().map(|part| across(part.end, range) - across(part.start, range)).fold(0.0, f64::max);
+        if fits(&readable(node.name), width) {
+            shown.insert(node.name);
+        }
+    }
+    let (mut x, mut y) = (LEFT, top + 4.0);
+    let mut left_over = 0;
+    for node in nodes {
+        if !shown.insert(node.name) {
+            continue;
+        }
+        let name = cut(&readable(node.name), WIDTH - LEFT - RIGHT - SQUARE, LETTER);
+        let width = name.chars().count() as f64 * LETTER + SQUARE + 14.0;
+        if x + width > WIDTH - RIGHT && x > LEFT {
+            (x, y) = (LEFT, y + LEGEND_ROW);
+        }
+        if y > top + 4.0 + LEGEND_ROWS * LEGEND_ROW {
+            left_over += 1;
+            continue;
+        }
+        put(out, format_args!("<rect x=\"{x:.2}\" y=\"{y}\" width=\"10\" height=\"10\" fill=\"{}\"/>", colour(node)));
+        put(out, format_args!("<text x=\"{:.2}\" y=\"{}\">{}</text>", x + SQUARE, y + 9.0, escape(&name)));
+        x += width;
+    }
+    if left_over > 0 {
+        put(out, format_args!("<text x=\"{LEFT}\" y=\"{}\" fill=\"#777777\">and {left_over} more names</text>", y + 9.0));
+    }
+    if x > LEFT || left_over > 0 { y + LEGEND_ROW } else { y }
 }
 
 /// Where an address stands.
@@ -87,8 +131,7 @@ fn draw(node: &Node<'_>, part: &Range<u64>, range: &Range<u64>, y: f64, out: &mu
     let edge = if width > 3.0 { " stroke=\"#00000055\" stroke-width=\"0.6\"" } else { "" };
     put(out, format_args!("<g><title>{}</title>", escape(&format!("{name} {:x}-{:x}\nall:{}", part.start, part.end, about(node)))));
     put(out, format_args!("<rect x=\"{x:.2}\" y=\"{y}\" width=\"{width:.2}\" height=\"{BOX}\" fill=\"{}\"{edge}/>", colour(node)));
-    let room = width - 6.0;
-    if name.chars().count() as f64 * LETTER <= room {
+    if fits(&name, width) {
         put(out, format_args!("<text x=\"{:.2}\" y=\"{}\">{}</text>", x + 3.0, y + 13.5, escape(&name)));
     }
     out.push_str("</g>\n");
@@ -99,8 +142,9 @@ fn colour(node: &Node<'_>) -> String {
     if node.depth == 0 {
         return "#d5d9e0".into();
     }
-    let sum = node.name.iter().fold(17_u32, |sum, &byte| sum.wrapping_mul(31).wrapping_add(byte.into()));
-    format!("hsl({}, {}%, {}%)", sum % 360, 52 + sum / 360 % 3 * 10, 70 + sum / 1080 % 3 * 5)
+    // Names that differ little must have colours that differ much.
+    let sum = node.name.iter().fold(17_u32, |sum, &byte| (sum ^ u32::from(byte)).wrapping_mul(0x9e37_79b1).rotate_left(13));
+    format!("hsl({}, {}%, {}%)", sum % 360, 50 + sum / 360 % 3 * 12, 68 + sum / 1080 % 4 * 4)
 }
 
 /// Addresses below the boxes.
