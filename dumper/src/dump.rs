@@ -5,11 +5,11 @@ use std::collections::{BTreeSet, HashSet};
 use gimli::{ColumnType, LineProgramHeader, UnitOffset};
 
 use crate::fields::{self, Part, Fields};
-use crate::lean;
+use crate::parts::{self, Part as UnitPart};
 use crate::unit::{self, Decoded, Entry, Slice, Source, Value};
 
-const SUBPROGRAM: u16 = gimli::DW_TAG_subprogram.0;
-const INLINED: u16 = gimli::DW_TAG_inlined_subroutine.0;
+pub const SUBPROGRAM: u16 = gimli::DW_TAG_subprogram.0;
+pub const INLINED: u16 = gimli::DW_TAG_inlined_subroutine.0;
 const CALL_SITE: u16 = gimli::DW_TAG_call_site.0;
 
 /// The attributes by which the import goes from one entry to another.
@@ -32,13 +32,16 @@ pub struct Input<'a> {
     pub main: Source<'a>,
     pub supplementary: Option<Source<'a>>,
     pub text: &'a [(u64, u64)],
-    /// Whether sheets leave out the entries that no import reads.
-    pub lean: bool,
 }
 
 impl<'a> Input<'a> {
     /// The sheets of one unit, or why it has none.
     pub fn dump(&self, asked: usize) -> Result<Dump, String> {
+        self.dump_part(asked, None)
+    }
+
+    /// Those of a part of a unit, which are lean; of the whole unit, with all entries, where none is given.
+    pub fn dump_part(&self, asked: usize, part: Option<&UnitPart>) -> Result<Dump, String> {
         let decoded = self.main.unit(asked)?;
         if decoded.unit.dwo_id.is_some() {
             return Err("a unit of split DWARF".into());
@@ -48,21 +51,22 @@ impl<'a> Input<'a> {
         if program.len() > fields::PROGRAM_LIMIT {
             return Err("a line program of more than 4,194,304 bytes".into());
         }
-        let reached = self.reach(asked)?;
+        let reached = self.reach(asked, part)?;
         let mut main = Fields::default();
         for &index in &reached.main {
             let own = (index == asked).then_some(Own {
                 text: self.text,
                 lines: lines.as_ref(),
+                part,
             });
-            write(&mut main, &self.main, index, own, self.lean, |entry| {
+            write(&mut main, &self.main, index, own, part.is_some(), |entry| {
                 reached.entries.contains(&(false, index, entry.offset))
             })?;
         }
         let mut supplementary = Fields::default();
         if let Some(source) = &self.supplementary {
             for &index in &reached.supplementary {
-                write(&mut supplementary, source, index, None, self.lean, |entry| {
+                write(&mut supplementary, source, index, None, part.is_some(), |entry| {
                     reached.entries.contains(&(true, index, entry.offset))
                 })?;
             }
@@ -76,12 +80,13 @@ impl<'a> Input<'a> {
     }
 
     /// The units that are reached from a unit, and the entries whose attributes can be read.
-    fn reach(&self, asked: usize) -> Result<Reached, String> {
+    fn reach(&self, asked: usize, part: Option<&UnitPart>) -> Result<Reached, String> {
         let mut reached = Reached::default();
         reached.main.insert(asked);
         let mut open = Vec::new();
-        for entry in &self.main.unit(asked)?.entries {
-            if matches!(entry.tag, SUBPROGRAM | INLINED | CALL_SITE) {
+        for (place, entry) in self.main.unit(asked)?.entries.iter().enumerate() {
+            let all = matches!(entry.tag, SUBPROGRAM | INLINED | CALL_SITE);
+            if part.map_or(all, |part| part.owns(place)) {
                 reached.entries.insert((false, asked, entry.offset));
                 open.push((false, asked, entry));
             }
@@ -153,15 +158,18 @@ struct Lines<'a> {
     rows: Vec<Row>,
 }
 
-struct Row {
-    address: u64,
-    file: u64,
+pub struct Row {
+    pub address: u64,
+    pub file: u64,
     line: u64,
     /// 0 for the left edge; a column that does not fit is the largest.
     column: u16,
     /// 0 plain, 1 end of sequence, 2 failed here.
-    kind: u8,
+    pub kind: u8,
 }
+
+/// The kind of a row that neither ends a sequence nor failed.
+pub const PLAIN: u8 = 0;
 
 impl<'a> Lines<'a> {
     fn run(program: gimli::IncompleteLineProgram<Slice<'a>>) -> Self {
@@ -208,6 +216,7 @@ impl<'a> Lines<'a> {
 struct Own<'a, 'b> {
     text: &'b [(u64, u64)],
     lines: Option<&'b Lines<'a>>,
+    part: Option<&'b UnitPart>,
 }
 
 fn write<'a>(
@@ -238,11 +247,13 @@ fn write<'a>(
         fields.field(fields::TEXT, &[Part::U64(*start), Part::U64(*end)])?;
     }
     if let Some(lines) = own.and_then(|own| own.lines) {
-        write_lines(fields, source, decoded, &lines.header, &lines.rows)?;
+        let part = own.and_then(|own| own.part);
+        write_lines(fields, source, decoded, &lines.header, &lines.rows, part)?;
     } else if let Some(program) = &unit.line_program {
-        write_lines(fields, source, decoded, program.header(), &[])?;
+        write_lines(fields, source, decoded, program.header(), &[], None)?;
     }
-    let kept = lean.then(|| lean::kept(&decoded.entries, &readable));
+    let kept = lean.then(|| parts::kept(&decoded.entries, &readable));
+    let part = own.and_then(|own| own.part);
     for (place, entry) in decoded.entries.iter().enumerate() {
         if kept.as_ref().is_some_and(|kept| !kept[place]) {
             continue;
@@ -251,7 +262,8 @@ fn write<'a>(
         if readable(entry) {
             write_attributes(fields, entry)?;
         }
-        if own.is_some() && matches!(entry.tag, SUBPROGRAM | INLINED) {
+        let ranged = matches!(entry.tag, SUBPROGRAM | INLINED);
+        if own.is_some() && ranged && part.map_or(true, |part| part.owns(place)) {
             write_ranges(fields, source, decoded, entry)?;
         }
     }
@@ -264,6 +276,7 @@ fn write_lines<'a>(
     decoded: &Decoded<'a>,
     header: &LineProgramHeader<Slice<'a>>,
     rows: &[Row],
+    part: Option<&UnitPart>,
 ) -> Result<(), String> {
     fields.field(
         fields::LINE_HEADER,
@@ -304,7 +317,11 @@ fn write_lines<'a>(
     for each in header.file_names() {
         file(fields::FILE, each)?;
     }
-    for row in rows {
+    let kept = part.map(|part| part.keeps(rows, header.version()));
+    for (place, row) in rows.iter().enumerate() {
+        if kept.as_ref().is_some_and(|kept| !kept[place]) {
+            continue;
+        }
         fields.field(
             fields::ROW,
             &[

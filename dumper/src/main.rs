@@ -1,10 +1,11 @@
 //! Dumps the units of DWARF in ELF files as the sheets that an import of one unit reads.
 
+mod coverage;
 mod dump;
 mod elf;
 mod output;
 mod fields;
-mod lean;
+mod parts;
 mod separate;
 mod stream;
 mod symbols;
@@ -25,7 +26,7 @@ use unit::{Decoded, Source};
 const USAGE: &str = "\
 usage: dumper dump OBJECT OUTDIR [--supplementary FILE]
        dumper cases OBJECT.. --out CASES [--append] [--list LIST] [--supplementary FILE]
-       dumper stream OBJECT [--supplementary FILE] [--addresses] [--whole]";
+       dumper stream OBJECT [--supplementary FILE] [--addresses] [--whole | --most FIELDS]";
 
 fn main() -> ExitCode {
     let arguments = std::env::args_os().skip(1).map(PathBuf::from).collect();
@@ -217,7 +218,6 @@ fn each_unit(
             .transpose()
             .map_err(|what| fault(object, format!("supplementary file: {what}")))?,
         text: &file.text,
-        lean: false,
     };
     if input.main.len() == 0 {
         return Err(Stop {

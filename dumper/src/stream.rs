@@ -6,14 +6,18 @@
 //! its length (8 bytes) and its bytes. All numbers are little-endian.
 
 use std::io::{self, BufWriter, Read, Write};
+use std::ops::Range;
 use std::path::{Path, PathBuf};
 use std::sync::Arc;
 
 use gimli::EndianSlice;
 
-use crate::dump::Input;
+use crate::coverage::Coverage;
+use crate::dump::{Dump, Input};
 use crate::elf;
+use crate::fields;
 use crate::output::fault;
+use crate::parts::{self, Part};
 use crate::unit::Source;
 use crate::{printable, read_supplementary, separate, Stop, FAULT};
 
@@ -21,8 +25,8 @@ const MARK: &[u8] = b"pezgok-units-1\n";
 const END: u8 = 0;
 /// Numbers: how many units are to come.
 const COUNT: u8 = 1;
-/// Numbers: unit, ordinal, fields of both sheets, then the ranges. Parts: name, main sheet,
-/// supplementary sheet, line program.
+/// A unit or a part of one. Numbers: unit, ordinal, fields of both sheets, then the ranges. Parts:
+/// name, main sheet, supplementary sheet, line program.
 const UNIT: u8 = 2;
 /// Numbers: unit, then the ranges. Parts: name, why it has no sheets.
 const SKIPPED: u8 = 3;
@@ -30,15 +34,17 @@ const SKIPPED: u8 = 3;
 const SYMBOLS: u8 = 4;
 
 const USAGE: &str = "\
-usage: dumper stream OBJECT [--supplementary FILE] [--addresses] [--whole]
+usage: dumper stream OBJECT [--supplementary FILE] [--addresses] [--whole | --most FIELDS]
            the units that hold code, to standard output; with --addresses, those that can hold
-           one of the addresses on standard input, 8 bytes each; with --whole, all their entries";
+           one of the addresses on standard input, 8 bytes each; with --whole, all their entries;
+           with --most, in parts of so many fields";
 
 #[derive(Default)]
 struct Options {
     supplementary: Option<PathBuf>,
     addresses: bool,
     whole: bool,
+    most: Option<usize>,
 }
 
 pub fn run(mut arguments: impl Iterator<Item = PathBuf>) -> Result<(), Stop> {
@@ -51,6 +57,14 @@ pub fn run(mut arguments: impl Iterator<Item = PathBuf>) -> Result<(), Stop> {
             }
             Some("--addresses") => options.addresses = true,
             Some("--whole") => options.whole = true,
+            Some("--most") => {
+                let most = arguments.next().ok_or(USAGE)?;
+                options.most = Some(
+                    most.to_str()
+                        .and_then(|most| most.parse().ok())
+                        .ok_or(USAGE)?,
+                );
+            }
             Some(other) if other.starts_with("--") => {
                 return Err(format!("{other}?\n{USAGE}").into())
             }
@@ -113,7 +127,6 @@ fn stream(
             .transpose()
             .map_err(|what| fault(&place, format!("supplementary file: {what}")))?,
         text: &file.text,
-        lean: !options.whole,
     };
     let wanted: Vec<(usize, Coverage)> = (0..input.main.len())
         .map(|number| (number, Coverage::of(&input.main, number)))
@@ -126,20 +139,17 @@ fn stream(
             Ok(unit) => printable(unit.name.map_or(&[][..], |name| name.slice())),
             Err(_) => "-".into(),
         };
-        let mut numbers = vec![number as u64];
-        match input.dump(number) {
-            Ok(dump) => {
-                let fields = dump.main.fields + dump.supplementary.fields;
-                numbers.extend([dump.ordinal as u64, fields as u64]);
-                numbers.extend(coverage.ranges.iter().flat_map(|range| [range.0, range.1]));
-                let sheets = [&dump.main.bytes, &dump.supplementary.bytes, &dump.program];
-                let [main, second, program] = sheets.map(|bytes| bytes.as_slice());
-                out.block(UNIT, &numbers, &[name.as_bytes(), main, second, program])?;
-            }
-            Err(reason) => {
-                numbers.extend(coverage.ranges.iter().flat_map(|range| [range.0, range.1]));
-                out.block(SKIPPED, &numbers, &[name.as_bytes(), reason.as_bytes()])?;
-            }
+        let unit = Unit {
+            input: &input,
+            number,
+            name: name.as_bytes(),
+            ranges: &coverage.ranges,
+            most: options.most.unwrap_or(usize::MAX),
+        };
+        if options.whole {
+            unit.write(input.dump(number), unit.ranges, out)?;
+        } else {
+            unit.write_lean(out)?;
         }
     }
     out.block(SYMBOLS, &[], &[&symbols])?;
@@ -147,74 +157,73 @@ fn stream(
     out.0.flush().map_err(stopped)
 }
 
-/// Where a unit's code lies.
-struct Coverage {
-    ranges: Vec<(u64, u64)>,
-    /// False where a range can't be read: the unit may hold any address.
-    known: bool,
+/// A unit of the stream.
+struct Unit<'a, 'b> {
+    input: &'b Input<'a>,
+    number: usize,
+    name: &'b [u8],
+    ranges: &'b [(u64, u64)],
+    most: usize,
 }
 
-impl Coverage {
-    /// The ranges of the unit's root or, where it has none, those of its subprograms.
-    fn of(source: &Source, number: usize) -> Self {
-        let mut coverage = Coverage {
-            ranges: Vec::new(),
-            known: true,
-        };
-        let Ok(unit) = source.root(number) else {
-            coverage.known = false;
-            return coverage;
-        };
-        coverage.add(source.dwarf.unit_ranges(&unit));
-        if !coverage.known || !coverage.ranges.is_empty() {
-            return coverage;
-        }
-        let mut entries = unit.entries();
-        loop {
-            match entries.next_dfs() {
-                Ok(Some((_, entry))) if entry.tag() == gimli::DW_TAG_subprogram => {
-                    coverage.add(source.dwarf.die_ranges(&unit, entry));
-                }
-                Ok(Some(_)) => (),
-                Ok(None) => return coverage,
-                Err(_) => {
-                    coverage.known = false;
-                    return coverage;
-                }
+impl Unit<'_, '_> {
+    /// Writes the sheets, or why there are none of the code in these ranges.
+    fn write(
+        &self,
+        dump: Result<Dump, String>,
+        ranges: &[(u64, u64)],
+        out: &mut Blocks<impl Write>,
+    ) -> Result<(), Stop> {
+        let ranges = ranges.iter().flat_map(|range| [range.0, range.1]);
+        let mut numbers = vec![self.number as u64];
+        match dump {
+            Ok(dump) => {
+                let fields = dump.main.fields + dump.supplementary.fields;
+                numbers.extend([dump.ordinal as u64, fields as u64]);
+                numbers.extend(ranges);
+                let sheets = [&dump.main.bytes, &dump.supplementary.bytes, &dump.program];
+                let [main, second, program] = sheets.map(|bytes| bytes.as_slice());
+                out.block(UNIT, &numbers, &[self.name, main, second, program])
+            }
+            Err(reason) => {
+                numbers.extend(ranges);
+                out.block(SKIPPED, &numbers, &[self.name, reason.as_bytes()])
             }
         }
     }
 
-    fn add<'a>(&mut self, ranges: gimli::Result<gimli::RangeIter<crate::unit::Slice<'a>>>) {
-        let Ok(mut ranges) = ranges else {
-            self.known = false;
-            return;
-        };
-        loop {
-            match ranges.next() {
-                Ok(Some(range)) if range.begin < range.end => {
-                    self.ranges.push((range.begin, range.end));
-                }
-                Ok(Some(_)) => (),
-                Ok(None) => return,
-                Err(_) => {
-                    self.known = false;
-                    return;
-                }
-            }
+    /// Writes lean sheets of the unit, in parts where it passes a limit.
+    fn write_lean(&self, out: &mut Blocks<impl Write>) -> Result<(), Stop> {
+        match self.input.main.unit(self.number) {
+            Ok(decoded) => self.write_parts(&parts::subprograms(decoded), true, out),
+            Err(reason) => self.write(Err(reason), self.ranges, out),
         }
     }
 
-    /// Whether some of the addresses, which ascend, may lie here; any, where none are given.
-    fn may_hold(&self, asked: Option<&[u64]>) -> bool {
-        let Some(asked) = asked else {
-            return !self.known || !self.ranges.is_empty();
+    fn write_parts(
+        &self,
+        subprograms: &[Range<usize>],
+        all: bool,
+        out: &mut Blocks<impl Write>,
+    ) -> Result<(), Stop> {
+        let source = &self.input.main;
+        let decoded = source.unit(self.number)?;
+        let part = Part::new(source, decoded, subprograms, all);
+        let dump = if subprograms.len() > 1 && part.least_fields(decoded) > fields::FIELD_LIMIT {
+            Err(fields::SIZE_LIMITS[0].into())
+        } else {
+            self.input.dump_part(self.number, Some(&part))
         };
-        let holds = |&(start, end): &(u64, u64)| {
-            let next = asked.partition_point(|address| *address < start);
-            asked.get(next).is_some_and(|address| *address < end)
+        let passed = match &dump {
+            Ok(dump) => dump.main.fields > self.most,
+            Err(reason) => fields::SIZE_LIMITS.contains(&reason.as_str()),
         };
-        !self.known || self.ranges.iter().any(holds)
+        if passed && subprograms.len() > 1 {
+            let (first, second) = subprograms.split_at(subprograms.len() / 2);
+            self.write_parts(first, false, out)?;
+            return self.write_parts(second, false, out);
+        }
+        self.write(dump, if all { self.ranges } else { part.ranges() }, out)
     }
 }
 

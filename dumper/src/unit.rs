@@ -51,6 +51,8 @@ pub struct Entry {
     pub offset: u64,
     pub depth: u64,
     pub tag: u16,
+    /// Whether it has a range, of any form.
+    pub has_code: bool,
     pub attributes: Vec<Attribute>,
 }
 
@@ -142,8 +144,10 @@ fn decode<'a>(
             return Err("not one tree of entries".into());
         }
         let mut attributes = Vec::new();
+        let mut has_code = false;
         let mut all = entry.attrs();
         while let Some(attribute) = all.next().map_err(fault)? {
+            has_code |= matches!(attribute.name(), gimli::DW_AT_low_pc | gimli::DW_AT_ranges);
             if READ.contains(&attribute.name()) {
                 attributes.push(Attribute {
                     name: attribute.name().0,
@@ -155,6 +159,7 @@ fn decode<'a>(
             offset: entry.offset().0 as u64,
             depth: depth as u64,
             tag: entry.tag().0,
+            has_code,
             attributes,
         });
     }

@@ -1,8 +1,10 @@
 //! Records in two trays: the functions that share no address with another, and the others.
 //!
 //! A look-up in a tray is a binary search only where no two of its functions overlap. So those that do are kept apart: an address of one of the first
-//! is held by no other, and of the others the first in the order of the units answers, as in one tray of all.
+//! is held by no other, and of the others the first in the order of the units answers, as in one tray of all. A function that has the addresses of an
+//! earlier one, as each unit that uses a template has it, never answers, and is left out.
 
+use std::collections::HashSet;
 use std::ops::Range;
 
 use crate::Refusal;
@@ -45,9 +47,12 @@ struct Part {
 
 /// The two layers of a tray. Both keep its order.
 pub(crate) fn split(records: Vec<u8>, by_symbol: usize) -> Result<[Layer; 2], Error> {
-    let parts = parts(&records);
+    let mut parts = parts(&records);
+    let all = parts.len();
+    let mut known = HashSet::new();
+    parts.retain(|part| known.insert((part.start, part.end)));
     let overlaps = overlapping(&parts);
-    if !overlaps.contains(&true) {
+    if parts.len() == all && !overlaps.contains(&true) {
         return Ok([Layer::new(records, by_symbol).map_err(Error::Records)?, Layer::default()]);
     }
     let layer = |kept: bool| {

@@ -23,8 +23,8 @@ const MOST: u32 = 1 << 28;
 pub enum Event<'a> {
     /// How many units are to come.
     Units(u64),
-    /// A unit is imported.
-    Imported,
+    /// A unit, or a part of one, is imported.
+    Imported { unit: u64 },
     /// A unit passes a limit, or its import is refused.
     NotImported(&'a NotImported),
 }
@@ -42,7 +42,7 @@ pub fn read_units(input: impl Read, builder: &mut Builder, mut told: impl FnMut(
             (UNIT, [unit, ordinal, fields, ranges @ ..], [name, main, supplementary, program]) => {
                 let inputs = Inputs { main, supplementary, program };
                 match builder.import(Unit { inputs, ordinal: *ordinal, fields: *fields as usize }) {
-                    Ok(_) => told(Event::Imported),
+                    Ok(_) => told(Event::Imported { unit: *unit }),
                     Err(refusal) => {
                         let reason = format!("refused {}, {refusal}", refusal.number());
                         leave_out(builder, *unit, name, reason, ranges, &mut told);

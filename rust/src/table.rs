@@ -121,7 +121,7 @@ impl Table {
         Some(File { directory: field.payload.get(2..2 + split)?, basename: field.text(2 + split) })
     }
 
-    /// The functions, those known only by symbol among them.
+    /// The functions, those known only by symbol among them; of those that have the same addresses the first.
     pub fn functions(&self) -> impl Iterator<Item = Function<'_>> {
         self.layers.iter().flat_map(move |layer| {
             let heads = Fields::new(&layer.records).filter(|field| field.tag == FUNCTION);

@@ -16,11 +16,10 @@ fn table() -> Table {
     let [main, program] = unit();
     let mut builder = Builder::new();
     let inputs = Inputs { main: &main, supplementary: &[], program: &program };
-    // Twice, so that both trays of functions have some.
-    for _ in 0..2 {
-        builder.import(Unit::uncounted(inputs, 0)).expect("it is finished");
-    }
+    builder.import(Unit::uncounted(inputs, 0)).expect("it is finished");
     builder.add_symbols(SYMBOL);
+    // One that runs into it, so that both trays of functions have some.
+    builder.add_symbols(b"\x50\x14\x00\xfc\x1f\x00\x00\x00\x00\x00\x00\x08\x00\x00\x00\x00\x00\x00\x00slow");
     let ranges = vec![0x3000..0x3010, 0x5000..0x5001];
     builder.leave_out(NotImported { unit: 7, name: "big.c".into(), reason: "more than 65,536 fields".into(), ranges });
     builder.finish().expect("a table")
@@ -129,11 +128,11 @@ fn a_stream_is_read() {
     let mut told = Vec::new();
     let told_of = |event: Event<'_>| match event {
         Event::Units(count) => told.push(format!("{count} units")),
-        Event::Imported => told.push("imported".into()),
+        Event::Imported { unit } => told.push(format!("{unit} is imported")),
         Event::NotImported(unit) => told.push(format!("{} {}: {}", unit.unit, unit.name, unit.reason)),
     };
     read_units(&stream()[..], &mut builder, told_of).expect("it is sound");
-    assert_eq!(told, ["3 units", "imported", "1 big.c: more than 65,536 fields", "2 bad.c: refused 2, misshapen"]);
+    assert_eq!(told, ["3 units", "0 is imported", "1 big.c: more than 65,536 fields", "2 bad.c: refused 2, misshapen"]);
     let table = builder.finish().expect("a table");
     assert!(matches!(table.look_up(0x1005), Answer::Frames(frames) if frames.len() == 2));
     assert!(matches!(table.look_up(0x2000), Answer::Frames(frames) if frames.len() == 1));

@@ -45,12 +45,20 @@ pub fn of_object(object: &Path, given: &[OsString], asked: Option<&[u64]>, progr
         let _ = input.write_all(&bytes);
     }
     let mut builder = Builder::new();
+    let mut last = None;
     let read = child.stdout.take().map(|output| {
         read_units(BufReader::with_capacity(1 << 20, output), &mut builder, |event| match event {
             Event::Units(count) => progress.stage("units imported", count),
-            Event::Imported => progress.step(),
+            Event::Imported { unit } => {
+                // A large unit comes in parts.
+                if last.replace(unit) != Some(unit) {
+                    progress.step();
+                }
+            }
             Event::NotImported(unit) => {
-                progress.step();
+                if last.replace(unit.unit) != Some(unit.unit) {
+                    progress.step();
+                }
                 eprintln!("{program}: unit {} ({}) is not imported: {}", unit.unit, unit.name, unit.reason);
             }
         })
