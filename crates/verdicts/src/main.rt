@@ -45,12 +45,13 @@ fn write_verdict(input: &[u8], program: usize) {
 
 // The verdict on the next sheet; false where it is longer than the buffer.
 fn judge(buffer: &mut [u8]) -> bool {
+    let program = next_u32() as usize;
     let n = next_u32() as usize;
     if buffer.len() < n {
         return false;
     }
     io::read_full(0, &mut buffer[..n]);
-    write_verdict(&buffer[..n], 0);
+    write_verdict(&buffer[..n], program);
     true
 }
 
