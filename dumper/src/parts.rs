@@ -10,8 +10,10 @@ use crate::unit::{Decoded, Entry, Source};
 pub struct Part {
     /// Of each entry of the unit, whether it is read for itself and not for a reference to it: subprograms that have code, inlined entries below these.
     owned: Vec<bool>,
-    /// Where the subprograms lie, ascending; none where all rows are kept.
-    ranges: Option<Vec<(u64, u64)>>,
+    /// Where the subprograms lie, ascending, as far as that can be read.
+    ranges: Vec<(u64, u64)>,
+    /// Whether they are all that the unit has.
+    all: bool,
 }
 
 /// The places of the entries of each subprogram that has code and is below no other such.
@@ -56,10 +58,7 @@ impl Part {
             }
         }
         ranges.sort_unstable();
-        Part {
-            owned,
-            ranges: (!all).then_some(ranges),
-        }
+        Part { owned, ranges, all }
     }
 
     pub fn owns(&self, place: usize) -> bool {
@@ -76,17 +75,17 @@ impl Part {
             .sum()
     }
 
-    /// Where its subprograms lie, for a part that is not a whole unit.
     pub fn ranges(&self) -> &[(u64, u64)] {
-        self.ranges.as_deref().unwrap_or(&[])
+        &self.ranges
     }
 
     /// Which rows the subprograms can take: those inside them, and the one before each start. The first row of each sequence and its end stay, so that
     /// the sequences do; and, before version 5, rows of file 0, by which the import learns of it.
     pub fn keeps(&self, rows: &[Row], version: u16) -> Vec<bool> {
-        let Some(ranges) = &self.ranges else {
+        if self.all {
             return vec![true; rows.len()];
-        };
+        }
+        let ranges = &self.ranges;
         let mut first = true;
         let mut kept = Vec::with_capacity(rows.len());
         // The largest end of the ranges up to each, since ranges may overlap.

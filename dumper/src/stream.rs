@@ -134,6 +134,8 @@ fn stream(
         .collect();
     out.0.write_all(MARK).map_err(stopped)?;
     out.block(COUNT, &[wanted.len() as u64], &[])?;
+    // Each unit by itself. An import of several units in one call would be fed from here, with a
+    // block of several units' sheets in one main sheet.
     for (number, coverage) in wanted {
         let name = match input.main.root(number) {
             Ok(unit) => printable(unit.name.map_or(&[][..], |name| name.slice())),
@@ -223,7 +225,8 @@ impl Unit<'_, '_> {
             self.write_parts(first, false, out)?;
             return self.write_parts(second, false, out);
         }
-        self.write(dump, if all { self.ranges } else { part.ranges() }, out)
+        let stated = all && !self.ranges.is_empty();
+        self.write(dump, if stated { self.ranges } else { part.ranges() }, out)
     }
 }
 

@@ -27,6 +27,8 @@ impl<'a> Unit<'a> {
 const RECORDS_ROOM: usize = 1 << 20;
 const FILES_ROOM: usize = 1 << 18;
 const WARNINGS_ROOM: usize = 1 << 16;
+/// Inputs of more are refused, whatever the work slice.
+const MOST_FIELDS: usize = 2 * 65_536;
 const SHORT_TRAYS: std::ops::RangeInclusive<u8> = 16..=18;
 
 /// Imports units one behind the other, and makes a [`Table`] of them. It owns all buffers, and uses them again for each unit.
@@ -85,7 +87,7 @@ impl Builder {
     /// Imports a unit. Its records follow those of the units before, its files have the next free numbers. After a refusal the table is as it was.
     pub fn import(&mut self, unit: Unit<'_>) -> Result<Finished, Refusal> {
         // A group of units whose sheets stand in one main input would be imported here by one call, which shares the file table among them.
-        let length = work_length(unit.fields, unit.inputs.program.len());
+        let length = work_length(unit.fields.min(MOST_FIELDS), unit.inputs.program.len());
         if self.work.len() < length {
             self.work.resize(length, 0);
         }

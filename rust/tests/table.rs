@@ -118,6 +118,8 @@ fn a_refused_unit_changes_nothing() {
     let inputs = Inputs { main: &main, supplementary: &[], program: &program };
     assert_eq!(builder.import(Unit::uncounted(inputs, 1)).map_err(Refusal::number), Err(4));
     assert_eq!(builder.import(Unit { inputs, ordinal: 0, fields: 0 }).map_err(Refusal::number), Err(5));
+    // A number of fields that is too large changes nothing.
+    assert!(Builder::new().import(Unit { inputs, ordinal: 0, fields: usize::MAX }).is_ok());
     let table = builder.finish().expect("a table");
     assert_eq!((table.functions().count(), table.file(2)), (1, None));
 }
