@@ -1,4 +1,23 @@
-/* The proved import of one DWARF unit, or of all units, for C. Link libpezgok.a, which `rt staticlib pezgok` writes to target/staticlib. */
+/* The proved import of one DWARF unit, or of all units, for C. Link libpezgok.a, which `rt staticlib pezgok` writes to target/staticlib.
+ *
+ * From a unit and an address to the calls that are running there, in this order (interfaces/frames.c is a whole program of it, the error paths too):
+ *
+ *     uint64_t values[PEZGOK_VALUES];
+ *     size_t found[PEZGOK_FOUND], chain[PEZGOK_CHAIN];
+ *     struct pezgok_frame frame;
+ *     struct pezgok_path path;
+ *
+ *     pezgok_measure(main, main_len, ..., work, work_len, values);      how long the three buffers must be
+ *     uint8_t *records = malloc(values[PEZGOK_RECORDS_LENGTH]);         and files and warnings likewise
+ *     pezgok_import(main, main_len, ..., records, records_len, ...);    fills them
+ *     pezgok_look_up(records, records_len, address, found, chain);      finds the places of function, row and inlined calls
+ *     for (size_t k = 0; pezgok_frame_at(records, records_len, found, chain, k, &frame); k++)   innermost first
+ *         if (pezgok_path_of(files, files_len, first_file, frame.file, &path))
+ *             printf("%.*s at %.*s/%.*s:%u\n", ...);
+ *
+ * With symbols of functions that have no DWARF: pezgok_join_symbols, and look up in its result. For many addresses: pezgok_make_index once, then
+ * pezgok_look_up_in. For all units of an input at once: pezgok_measure_dwarf and pezgok_import_dwarf. Records of several units, one behind the other, are
+ * records too: import each with the next free file number as first_file, and put the files one behind the other likewise. */
 #ifndef PEZGOK_H
 #define PEZGOK_H
 
@@ -136,6 +155,94 @@ uint8_t pezgok_join_symbols(
     uint8_t *result, size_t result_len,
     uint8_t *work, size_t work_len,
     size_t *length);
+
+/* ---- Reading what a look-up found: no call of the library. A field is a tag (1 byte), a length (2) and a payload; numbers are little-endian. */
+
+/* A call that is running: the function, and where in it. */
+struct pezgok_frame {
+    const uint8_t *function; /* its name, in the records; no byte 0 ends it */
+    size_t function_len;
+    uint32_t file; /* a file's number, 0 where it is not known */
+    uint32_t line; /* 0 where it is not known */
+    uint32_t column; /* 0 where it is not known, as of every call that is not the innermost */
+    bool inlined; /* whether it was inlined into the next frame's function */
+};
+
+/* A source file, in the files buffer. Directory and basename are joined by a separator. */
+struct pezgok_path {
+    const uint8_t *directory;
+    size_t directory_len;
+    const uint8_t *basename;
+    size_t basename_len;
+};
+
+/* A number of so many bytes. */
+static inline uint64_t pezgok_number(const uint8_t *bytes, size_t size) {
+    uint64_t value = 0;
+    while (size > 0)
+        value = value << 8 | bytes[--size];
+    return value;
+}
+
+/* The payload of the field at a place, and its length; null where there is no whole field of the tag and of the least length. */
+static inline const uint8_t *pezgok_payload(const uint8_t *tray, size_t tray_len, size_t place, uint8_t tag, size_t least, size_t *length) {
+    if (place >= tray_len || tray_len - place < 3 || tray[place] != tag)
+        return NULL;
+    *length = (size_t)pezgok_number(tray + place + 1, 2);
+    return *length <= tray_len - place - 3 && *length >= least ? tray + place + 3 : NULL;
+}
+
+/* Frame k of what a look-up found, 0 the innermost; false where there is none. The innermost frame's line is that of the row in force, each other's
+ * the line that calls the one before it. */
+static inline bool pezgok_frame_at(
+    const uint8_t *records, size_t records_len, const size_t found[PEZGOK_FOUND], const size_t chain[PEZGOK_CHAIN], size_t k,
+    struct pezgok_frame *frame) {
+    enum { FUNCTION_TAG = 0x41, ROW_TAG = 0x42, NODE_TAG = 0x43, FUNCTION_NAME = 16, ROW_LENGTH = 18, NODE_NAME = 10 };
+    /* A function without inlined calls has no node, and is one frame. */
+    size_t frames = found[PEZGOK_NODES] ? found[PEZGOK_NODES] : 1, length;
+    if (k >= frames)
+        return false;
+    size_t depth = frames - 1 - k, name = depth ? NODE_NAME : FUNCTION_NAME;
+    const uint8_t *bytes =
+        pezgok_payload(records, records_len, depth ? chain[depth] : found[PEZGOK_FUNCTION], depth ? NODE_TAG : FUNCTION_TAG, name, &length);
+    if (!bytes)
+        return false;
+    frame->function = bytes + name;
+    frame->function_len = length - name;
+    frame->inlined = depth > 0;
+    frame->file = frame->line = frame->column = 0;
+    if (k > 0 && (bytes = pezgok_payload(records, records_len, chain[depth + 1], NODE_TAG, NODE_NAME, &length))) {
+        frame->file = (uint32_t)pezgok_number(bytes + 2, 4);
+        frame->line = (uint32_t)pezgok_number(bytes + 6, 4);
+    }
+    if (k == 0 && found[PEZGOK_HAS_ROW] && (bytes = pezgok_payload(records, records_len, found[PEZGOK_ROW], ROW_TAG, ROW_LENGTH, &length))) {
+        frame->file = (uint32_t)pezgok_number(bytes + 8, 4);
+        frame->line = (uint32_t)pezgok_number(bytes + 12, 4);
+        frame->column = (uint32_t)pezgok_number(bytes + 16, 2);
+    }
+    return true;
+}
+
+/* The file of a number, in a files buffer whose first file has the number first_file; false where there is none. It is a walk over the buffer: who asks
+ * often keeps the places. */
+static inline bool pezgok_path_of(const uint8_t *files, size_t files_len, uint32_t first_file, uint32_t number, struct pezgok_path *path) {
+    enum { FILE_TAG = 0x40 };
+    size_t place = 0, length;
+    const uint8_t *bytes;
+    for (uint32_t file = first_file; (bytes = pezgok_payload(files, files_len, place, FILE_TAG, 2, &length)); file++, place += 3 + length) {
+        size_t directory = (size_t)pezgok_number(bytes, 2);
+        if (file != number || number == 0)
+            continue;
+        if (directory > length - 2)
+            return false;
+        path->directory = bytes + 2;
+        path->directory_len = directory;
+        path->basename = bytes + 2 + directory;
+        path->basename_len = length - 2 - directory;
+        return true;
+    }
+    return false;
+}
 
 /* Writes the word for a refusal's number to name, as far as it fits, and returns its whole length; 0 if it is no refusal's. No byte 0 is added. */
 size_t pezgok_refusal_name(uint8_t refusal, uint8_t *name, size_t name_len);

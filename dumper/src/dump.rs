@@ -6,10 +6,11 @@ use std::ops::Range;
 use gimli::{ColumnType, LineProgramHeader, UnitOffset};
 
 use crate::fields::{self, Fields, Part};
+use crate::parts::{self, Part as UnitPart};
 use crate::unit::{self, Decoded, Entry, Slice, Source, Value};
 
-const SUBPROGRAM: u16 = gimli::DW_TAG_subprogram.0;
-const INLINED: u16 = gimli::DW_TAG_inlined_subroutine.0;
+pub const SUBPROGRAM: u16 = gimli::DW_TAG_subprogram.0;
+pub const INLINED: u16 = gimli::DW_TAG_inlined_subroutine.0;
 const CALL_SITE: u16 = gimli::DW_TAG_call_site.0;
 
 /// The attributes by which the import goes from one entry to another.
@@ -37,17 +38,23 @@ pub struct Input<'a> {
 impl<'a> Input<'a> {
     /// The sheets of one unit, or why it has none.
     pub fn dump(&self, asked: usize) -> Result<Dump, String> {
+        self.dump_part(asked, None)
+    }
+
+    /// Those of a part of a unit, which are lean; of the whole unit, with all entries, where none is given.
+    pub fn dump_part(&self, asked: usize, part: Option<&UnitPart>) -> Result<Dump, String> {
         let lines = self.lines(asked)?;
         let program = lines.as_ref().map_or(&[][..], |lines| lines.program);
         if program.len() > fields::PROGRAM_LIMIT {
             return Err("a line program of more than 4,194,304 bytes".into());
         }
-        let reached = self.reach(asked..asked + 1)?;
-        let (main, supplementary) = self.write(&reached, |index| {
+        let reached = self.reach(asked..asked + 1, part)?;
+        let (main, supplementary) = self.write(&reached, part.is_some(), |index| {
             (index == asked).then_some(Own {
                 text: self.text,
                 lines: lines.as_ref(),
-                part: None,
+                program: None,
+                part,
             })
         })?;
         Ok(Dump {
@@ -67,11 +74,12 @@ impl<'a> Input<'a> {
         Ok(decoded.unit.line_program.clone().map(Lines::run))
     }
 
-    /// The main and the supplementary sheet of the units that are reached; `own` is what only
-    /// those have that are imported.
+    /// The main and the supplementary sheet of the units that are reached, lean or with all entries;
+    /// `own` is what only those have that are imported.
     pub fn write<'b>(
         &self,
         reached: &Reached,
+        lean: bool,
         own: impl Fn(usize) -> Option<Own<'a, 'b>>,
     ) -> Result<(Fields, Fields), String>
     where
@@ -79,14 +87,14 @@ impl<'a> Input<'a> {
     {
         let mut main = Fields::default();
         for &index in &reached.main {
-            write(&mut main, &self.main, index, own(index), |entry| {
+            write(&mut main, &self.main, index, own(index), lean, |entry| {
                 reached.entries.contains(&(false, index, entry.offset))
             })?;
         }
         let mut supplementary = Fields::default();
         if let Some(source) = &self.supplementary {
             for &index in &reached.supplementary {
-                write(&mut supplementary, source, index, None, |entry| {
+                write(&mut supplementary, source, index, None, lean, |entry| {
                     reached.entries.contains(&(true, index, entry.offset))
                 })?;
             }
@@ -94,14 +102,16 @@ impl<'a> Input<'a> {
         Ok((main, supplementary))
     }
 
-    /// The units that are reached from some units, and the entries whose attributes can be read.
-    pub fn reach(&self, asked: Range<usize>) -> Result<Reached, String> {
+    /// The units that are reached from some units, or from a part of one, and the entries whose
+    /// attributes can be read.
+    pub fn reach(&self, asked: Range<usize>, part: Option<&UnitPart>) -> Result<Reached, String> {
         let mut reached = Reached::default();
         let mut open = Vec::new();
         for asked in asked {
             reached.main.insert(asked);
-            for entry in &self.main.unit(asked)?.entries {
-                if matches!(entry.tag, SUBPROGRAM | INLINED | CALL_SITE) {
+            for (place, entry) in self.main.unit(asked)?.entries.iter().enumerate() {
+                let all = matches!(entry.tag, SUBPROGRAM | INLINED | CALL_SITE);
+                if part.map_or(all, |part| part.owns(place)) {
                     reached.entries.insert((false, asked, entry.offset));
                     open.push((false, asked, entry));
                 }
@@ -174,15 +184,18 @@ pub struct Lines<'a> {
     rows: Vec<Row>,
 }
 
-struct Row {
-    address: u64,
-    file: u64,
+pub struct Row {
+    pub address: u64,
+    pub file: u64,
     line: u64,
     /// 0 for the left edge; a column that does not fit is the largest.
     column: u16,
     /// 0 plain, 1 end of sequence, 2 failed here.
-    kind: u8,
+    pub kind: u8,
 }
+
+/// The kind of a row that neither ends a sequence nor failed.
+pub const PLAIN: u8 = 0;
 
 impl<'a> Lines<'a> {
     fn run(program: gimli::IncompleteLineProgram<Slice<'a>>) -> Self {
@@ -229,8 +242,10 @@ impl<'a> Lines<'a> {
 pub struct Own<'a, 'b> {
     pub text: &'b [(u64, u64)],
     pub lines: Option<&'b Lines<'a>>,
-    /// Start and length of its part, where the program is that of several units.
-    pub part: Option<(u64, u64)>,
+    /// Start and length of its part of the program, where that is the program of several units.
+    pub program: Option<(u64, u64)>,
+    /// The subprograms that are written, where not all are.
+    pub part: Option<&'b UnitPart>,
 }
 
 fn write<'a>(
@@ -238,6 +253,7 @@ fn write<'a>(
     source: &Source<'a>,
     index: usize,
     own: Option<Own<'a, '_>>,
+    lean: bool,
     readable: impl Fn(&Entry) -> bool,
 ) -> Result<(), String> {
     let decoded = source.unit(index)?;
@@ -261,16 +277,23 @@ fn write<'a>(
     }
     if let Some(lines) = own.and_then(|own| own.lines) {
         let part = own.and_then(|own| own.part);
-        write_lines(fields, source, decoded, &lines.header, part, &lines.rows)?;
+        let program = own.and_then(|own| own.program);
+        write_lines(fields, source, decoded, &lines.header, program, &lines.rows, part)?;
     } else if let Some(program) = &unit.line_program {
-        write_lines(fields, source, decoded, program.header(), None, &[])?;
+        write_lines(fields, source, decoded, program.header(), None, &[], None)?;
     }
-    for entry in &decoded.entries {
+    let kept = lean.then(|| parts::kept(&decoded.entries, &readable));
+    let part = own.and_then(|own| own.part);
+    for (place, entry) in decoded.entries.iter().enumerate() {
+        if kept.as_ref().is_some_and(|kept| !kept[place]) {
+            continue;
+        }
         fields.entry(entry.offset, entry.depth, entry.tag)?;
         if readable(entry) {
             write_attributes(fields, entry)?;
         }
-        if own.is_some() && matches!(entry.tag, SUBPROGRAM | INLINED) {
+        let ranged = matches!(entry.tag, SUBPROGRAM | INLINED);
+        if own.is_some() && ranged && part.map_or(true, |part| part.owns(place)) {
             write_ranges(fields, source, decoded, entry)?;
         }
     }
@@ -282,8 +305,9 @@ fn write_lines<'a>(
     source: &Source<'a>,
     decoded: &Decoded<'a>,
     header: &LineProgramHeader<Slice<'a>>,
-    part: Option<(u64, u64)>,
+    program: Option<(u64, u64)>,
     rows: &[Row],
+    part: Option<&UnitPart>,
 ) -> Result<(), String> {
     fields.field(
         fields::LINE_HEADER,
@@ -296,7 +320,7 @@ fn write_lines<'a>(
             Part::Bytes(header.standard_opcode_lengths().slice()),
         ],
     )?;
-    if let Some((start, length)) = part {
+    if let Some((start, length)) = program {
         let parts = [Part::U64(start), Part::U64(length)];
         fields.field(fields::PROGRAM_PART, &parts)?;
     }
@@ -328,7 +352,11 @@ fn write_lines<'a>(
     for each in header.file_names() {
         file(fields::FILE, each)?;
     }
-    for row in rows {
+    let kept = part.map(|part| part.keeps(rows, header.version()));
+    for (place, row) in rows.iter().enumerate() {
+        if kept.as_ref().is_some_and(|kept| !kept[place]) {
+            continue;
+        }
         fields.field(
             fields::ROW,
             &[

@@ -6,7 +6,7 @@ use std::path::{Path, PathBuf};
 use gimli::RunTimeEndian;
 use object::{
     File, Object, ObjectKind, ObjectSection, ObjectSymbol, RelocationKind, RelocationTarget,
-    Section, SectionIndex, SectionKind,
+    Section, SectionFlags, SectionIndex, SectionKind,
 };
 
 use crate::symbols::Symbols;
@@ -74,8 +74,7 @@ pub struct Layout {
 impl Layout {
     fn new(file: &File) -> Result<Self, String> {
         let relocatable = file.kind() == ObjectKind::Relocatable;
-        let is_text =
-            |section: &Section| section.kind() == SectionKind::Text && section.size() != 0;
+        let is_text = |section: &Section| is_code(section) && section.size() != 0;
         let end_of = |start: u64, section: &Section| {
             let end = start.checked_add(section.size());
             end.ok_or_else(|| format!("section {} ends past 2^64 - 1", name(section)))
@@ -123,6 +122,14 @@ impl Layout {
             )
         })
     }
+}
+
+/// Code, of which a separate debug file has the place and not the bytes.
+fn is_code(section: &Section) -> bool {
+    let SectionFlags::Elf { sh_flags } = section.flags() else {
+        return false;
+    };
+    section.kind() == SectionKind::Text || sh_flags & u64::from(object::elf::SHF_EXECINSTR) != 0
 }
 
 fn aligned(place: u64) -> Result<u64, String> {
@@ -235,7 +242,7 @@ fn links(file: &File) -> Result<Links, String> {
     })
 }
 
-fn bytes_path(bytes: &[u8]) -> PathBuf {
+pub fn bytes_path(bytes: &[u8]) -> PathBuf {
     use std::os::unix::ffi::OsStrExt;
     PathBuf::from(std::ffi::OsStr::from_bytes(bytes))
 }

@@ -4,11 +4,16 @@
 pub const SHEET_LIMIT: usize = 16_777_216;
 /// The largest line program, in bytes.
 pub const PROGRAM_LIMIT: usize = 4_194_304;
-const FIELD_LIMIT: usize = 65_536;
+pub const FIELD_LIMIT: usize = 65_536;
 const UNIT_LIMIT: usize = 256;
 const STRING_LIMIT: usize = 6_113;
 const REASON_LIMIT: usize = 4_096;
 const DEPTH_LIMIT: u64 = 1_024;
+const MANY_FIELDS: &str = "more than 65,536 fields";
+const MANY_UNITS: &str = "more than 256 units";
+const LONG_SHEET: &str = "a sheet of more than 16,777,216 bytes";
+/// The limits that a part of a unit may keep though the unit does not.
+pub const SIZE_LIMITS: [&str; 3] = [MANY_FIELDS, MANY_UNITS, LONG_SHEET];
 /// What work needs besides fields and program.
 const WORK_BESIDES: u64 = 32_768;
 
@@ -51,12 +56,12 @@ impl Fields {
     pub fn field(&mut self, tag: u8, parts: &[Part]) -> Result<(), &'static str> {
         self.fields += 1;
         if self.fields > FIELD_LIMIT {
-            return Err("more than 65,536 fields");
+            return Err(MANY_FIELDS);
         }
         if tag == UNIT {
             self.units += 1;
             if self.units > UNIT_LIMIT {
-                return Err("more than 256 units");
+                return Err(MANY_UNITS);
             }
         }
         let start = self.bytes.len();
@@ -80,7 +85,7 @@ impl Fields {
         let length = u16::try_from(length).map_err(|_| "a field of more than 65,535 bytes")?;
         self.bytes[start + 1..start + 3].copy_from_slice(&length.to_le_bytes());
         if self.bytes.len() > SHEET_LIMIT {
-            return Err("a sheet of more than 16,777,216 bytes");
+            return Err(LONG_SHEET);
         }
         Ok(())
     }

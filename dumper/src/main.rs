@@ -1,10 +1,14 @@
 //! Dumps the units of DWARF in ELF files as the sheets that an import of one unit reads, or of all
 //! units of a file.
 
+mod coverage;
 mod dump;
 mod elf;
 mod fields;
 mod output;
+mod parts;
+mod separate;
+mod stream;
 mod symbols;
 mod unit;
 mod whole;
@@ -24,7 +28,8 @@ use unit::{Decoded, Source};
 const USAGE: &str = "\
 usage: dumper dump OBJECT OUTDIR [--supplementary FILE]
        dumper whole OBJECT OUTDIR [--supplementary FILE]
-       dumper cases OBJECT.. --out CASES [--whole] [--append] [--list LIST] [--supplementary FILE]";
+       dumper cases OBJECT.. --out CASES [--whole] [--append] [--list LIST] [--supplementary FILE]
+       dumper stream OBJECT [--supplementary FILE] [--addresses] [--whole | --most FIELDS]";
 
 fn main() -> ExitCode {
     let arguments = std::env::args_os().skip(1).map(PathBuf::from).collect();
@@ -78,6 +83,9 @@ fn run(arguments: Vec<PathBuf>) -> Result<(), Stop> {
     let mut options = Options::default();
     let mut arguments = arguments.into_iter();
     let command = arguments.next().ok_or(USAGE)?;
+    if command.to_str() == Some("stream") {
+        return stream::run(arguments);
+    }
     while let Some(argument) = arguments.next() {
         let place = match argument.to_str() {
             Some("--out") => &mut options.out,

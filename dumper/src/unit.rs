@@ -51,6 +51,8 @@ pub struct Entry {
     pub offset: u64,
     pub depth: u64,
     pub tag: u16,
+    /// Whether it has a range, of any form.
+    pub has_code: bool,
     pub attributes: Vec<Attribute>,
 }
 
@@ -106,6 +108,11 @@ impl<'a> Source<'a> {
         (offset - start < length).then_some(index)
     }
 
+    /// A unit's root alone, with nothing below it decoded.
+    pub fn root(&self, index: usize) -> gimli::Result<Unit<Slice<'a>>> {
+        self.dwarf.unit(self.headers[index])
+    }
+
     pub fn unit(&self, index: usize) -> Result<&Decoded<'a>, String> {
         let decode = || decode(self.dwarf, &self.headers[index]);
         self.decoded[index]
@@ -137,8 +144,10 @@ fn decode<'a>(
             return Err("not one tree of entries".into());
         }
         let mut attributes = Vec::new();
+        let mut has_code = false;
         let mut all = entry.attrs();
         while let Some(attribute) = all.next().map_err(fault)? {
+            has_code |= matches!(attribute.name(), gimli::DW_AT_low_pc | gimli::DW_AT_ranges);
             if READ.contains(&attribute.name()) {
                 attributes.push(Attribute {
                     name: attribute.name().0,
@@ -150,6 +159,7 @@ fn decode<'a>(
             offset: entry.offset().0 as u64,
             depth: depth as u64,
             tag: entry.tag().0,
+            has_code,
             attributes,
         });
     }

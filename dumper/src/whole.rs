@@ -33,12 +33,13 @@ impl Input<'_> {
         if program.len() > fields::PROGRAM_LIMIT {
             return Err("line programs of more than 4,194,304 bytes".into());
         }
-        let reached = self.reach(0..self.main.len())?;
-        let (main, supplementary) = self.write(&reached, |index| {
+        let reached = self.reach(0..self.main.len(), None)?;
+        let (main, supplementary) = self.write(&reached, false, |index| {
             Some(Own {
                 text: self.text,
                 lines: lines[index].as_ref(),
-                part: parts[index],
+                program: parts[index],
+                part: None,
             })
         })?;
         let dump = Dump {

@@ -1,15 +1,33 @@
-//! Safe calls of the proved import: one unit of a main input, with a supplementary one and a line program, to records, files and warnings.
-//! [`measure`] says how long the buffers must be, [`import`] fills them; [`look`] asks the records what is running at an address;
-//! [`join_symbols`] adds the functions that only a symbol table knows.
+//! Safe calls of the proved import: one unit of a main input, or all units, with a supplementary one and a line program, to records, files and warnings.
+//!
+//! [`Builder`] owns all memory: it imports any number of units, joins the symbols of functions that have no DWARF, and gives a [`Table`], which answers
+//! what is running at an address with an iterator of [`Frame`]s and can be saved. [`read_units`] fills a builder from what the dumper writes.
+//!
+//! Below it are the raw functions, for who lends memory: [`measure`] says how long the buffers must be, [`import`] fills them; [`measure_dwarf`] and
+//! [`import_dwarf`] do so for all units at once; [`look`] asks the records what is running at an address; [`join_symbols`] adds the functions that only a
+//! symbol table knows.
 
 use std::fmt;
 
+mod builder;
+mod error;
+pub mod fields;
+mod frames;
+mod layers;
 pub mod look;
+mod saved;
+mod stream;
 mod symbols;
+mod table;
+mod whole;
+
+pub use builder::{Builder, Unit};
+pub use error::Error;
+pub use frames::{File, Frame, Frames, Kind, Location, readable};
+pub use stream::{Event, read_units};
+pub use table::{Answer, Function, Node, NotImported, Table};
 
 pub use symbols::{join_symbols, join_symbols_with, symbols_work_length};
-
-mod whole;
 pub use whole::{import_dwarf, measure_dwarf};
 
 mod sys {

@@ -96,6 +96,11 @@ impl<'a> Index<'a> {
         answered(refusal, Self { bytes, functions, rising })
     }
 
+    /// The index that was made in these bytes, with the two values that were told then. Any others are taken too, and look-ups then find less.
+    pub fn of(bytes: &'a [u8], functions: usize, rising: bool) -> Self {
+        Self { bytes, functions, rising }
+    }
+
     /// How many functions it has.
     pub fn functions(&self) -> usize {
         self.functions

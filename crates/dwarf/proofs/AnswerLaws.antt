@@ -1,29 +1,28 @@
 -- The answer of an import: refusals 16 to 18, the output buffers, and demand 3. Assumes nothing.
-use mathlib.Core.Path.{_≡_, refl, sym, ap, _∙_}
+use mathlib.Core.Path.{_≡_, refl, sym, subst, ap, _∙_}
 use mathlib.Core.Bool.{Bool, true, false, cond}
 use mathlib.Core.List.{List, _++_}
 use Prim.Native.Nat.{ℕ, suc, _≤_, _<_}
 use native.Mathlib.Omega.{arith}
 use lib.Dec.{ltb, eqb}
-use lib.ListN.{length, take, drop, replicate}
+use lib.ListN.{length, drop, replicate}
 use borrow.Author.Tests.{ltb-false, lt-ltb, le-ltb, eq-eqb, ne-eqb, eqb-true, eqb-false}
 use Rattle.tlv.specs.Outcome.{Outcome, refused, done, _>>=_}
 use Rattle.tlv.specs.Buffer.{Put}
 use Rattle.tlv.specs.Output.{recordsBytes, filesBytes, warningsBytes}
-use Rattle.tlv.specs.Reader.{readRecords, readFiles, readWarnings}
 use Rattle.tlv.proofs.TestLaws.{by-less}
 use Rattle.tlv.proofs.BufferLaws.{put-length, put-fits, put-whole, put-lost}
 use Rattle.imports.specs.Import.{State}
 use Rattle.imports.specs.Answer as answer
-use Rattle.imports.specs.Answer.{Inputs, After, importOf, written, outcomeOf, answerOf, bufferAfter, after}
-use Rattle.imports.specs.Demand.{Lent}
-use Rattle.imports.proofs.Refusals.{refusals}
-use Rattle.imports.proofs.Demand.{demand}
+use Rattle.imports.specs.Answer.{Inputs, After, written, outcomeOf, answerOf, bufferAfter, afterwards, after, afterDwarf}
+use Rattle.imports.specs.Demand.{Lent, Finished}
+use Rattle.imports.proofs.Refusals.{refusals, dwarf-refusals}
+use Rattle.imports.proofs.Demand.{demand, dwarf-demand}
 use Rattle.dwarf.specs.declared.model.Refusal.{Refusal}
 use Rattle.dwarf.specs.declared.model.Imported.{Imported}
-use Rattle.dwarf.specs.declared.import.Ran.{Ran}
-use Rattle.dwarf.specs.Runs.{Written, Writes, fitStatus}
-use Rattle.dwarf.specs.Answers.{refusalNumber, answerGiven, Finished, ImportsUnit}
+use Rattle.dwarf.specs.declared.run.Ran.{Ran}
+use Rattle.dwarf.specs.Runs.{importAll, Written, Writes, fitStatus}
+use Rattle.dwarf.specs.Answers.{refusalNumber, answerGiven, left, AgreeAll, ImportsBy, ImportsUnit, ImportsDwarf}
 
 -- ---- a refusal's number
 
@@ -95,17 +94,18 @@ by-none false true c z = absurd (omega arith)
 by-none false false true z = absurd (omega arith)
 by-none false false false z = (refl, refl, refl)
 
-module _ (i : Inputs) {t f u : List ℕ} {r : Ran} (W : Writes (importOf i) (i .records) (i .files) (i .warnings) t f u r) {n : ℕ} (e : n ≡ fitStatus r (length t) (length f) (length u)) where
+module _ (i : Inputs) (o : Outcome State) {t f u : List ℕ} {r : Ran} (W : Writes o (i .records) (i .files) (i .warnings) t f u r) {n : ℕ}
+    (e : n ≡ fitStatus r (length t) (length f) (length u)) where
   -- the three tests, of a state that was written
-  abbrev tests : Written (importOf i) (i .records) (i .files) (i .warnings) t f u r → ℕ
+  abbrev tests : Written o (i .records) (i .files) (i .warnings) t f u r → ℕ
   tests S = numberBy (overRecords i (S .state)) (overFiles i (S .state)) (overWarnings i (S .state))
 
-  tested : r .status ≡ 0 → (S : Written (importOf i) (i .records) (i .files) (i .warnings) t f u r) → n ≡ tests S
+  tested : r .status ≡ 0 → (S : Written o (i .records) (i .files) (i .warnings) t f u r) → n ≡ tests S
   unfolding fitStatus
   tested z S = e ∙ rw (eq-eqb (r .status) 0 z, longer-is (S .records), longer-is (S .files), longer-is (S .warnings))
 
-  outcome-is : (S : Written (importOf i) (i .records) (i .files) (i .warnings) t f u r)
-      → outcomeOf i ≡ outcomeBy (overRecords i (S .state)) (overFiles i (S .state)) (overWarnings i (S .state)) (written (S .state))
+  outcome-is : (S : Written o (i .records) (i .files) (i .warnings) t f u r)
+      → outcomeOf i o ≡ outcomeBy (overRecords i (S .state)) (overFiles i (S .state)) (overWarnings i (S .state)) (written (S .state))
   unfolding outcomeOf _>>=_ answer.fitting written
   outcome-is S = rw (S .is)
 
@@ -113,11 +113,11 @@ module _ (i : Inputs) {t f u : List ℕ} {r : Ran} (W : Writes (importOf i) (i .
   unfolding fitStatus
   status-is h = e ∙ rw (ne-eqb (r .status) 0 h)
 
-  pub outcome-refused : (n ≡ 0 → ⊥) → outcomeOf i ≡ refused n
+  pub outcome-refused : (n ≡ 0 → ⊥) → outcomeOf i o ≡ refused n
   unfolding outcomeOf _>>=_
   outcome-refused h = go (eqb (r .status) 0) refl
     where
-      go : (b : Bool) → eqb (r .status) 0 ≡ b → outcomeOf i ≡ refused n
+      go : (b : Bool) → eqb (r .status) 0 ≡ b → outcomeOf i o ≡ refused n
       go true is =
           let z = eqb-true (r .status) 0 is in
           let S = W .ok z in
@@ -125,10 +125,6 @@ module _ (i : Inputs) {t f u : List ℕ} {r : Ran} (W : Writes (importOf i) (i .
       go false is =
           let z = eqb-false (r .status) 0 is in
           rw (W .no z) (ap refused (sym (status-is z)))
-
-  -- a refusal has one of document 01's numbers
-  pub refusal-within : (n ≡ 0 → ⊥) → (1 ≤ n) × (n ≤ 18)
-  refusal-within h = refusals i n (outcome-refused h)
 
   finished-status : n ≡ 0 → r .status ≡ 0
   finished-status z = go (eqb (r .status) 0) refl
@@ -139,83 +135,103 @@ module _ (i : Inputs) {t f u : List ℕ} {r : Ran} (W : Writes (importOf i) (i .
 
 -- ---- what is there after the call
 
-module _ (i : Inputs) where
+module _ (i : Inputs) (o : Outcome State) where
   -- what is so of an outcome
   abbrev afterOf : Outcome answer.Written → After
-  afterOf o = record {
-    answer = answerOf o;
-    records = bufferAfter (λ w. w .records) (i .records) o;
-    files = bufferAfter (λ w. w .files) (i .files) o;
-    warnings = bufferAfter (λ w. w .warnings) (i .warnings) o;
+  afterOf x = record {
+    answer = answerOf x;
+    records = bufferAfter (λ w. w .records) (i .records) x;
+    files = bufferAfter (λ w. w .files) (i .files) x;
+    warnings = bufferAfter (λ w. w .warnings) (i .warnings) x;
     work = replicate (length (i .work)) 0;
   }
 
-  after-is : {o : Outcome answer.Written} → outcomeOf i ≡ o → after i ≡ afterOf o
-  unfolding after
+  after-is : {x : Outcome answer.Written} → outcomeOf i o ≡ x → afterwards i o ≡ afterOf x
+  unfolding afterwards
   after-is e = ap afterOf e
-
-  -- demand 3 of what stands in the buffers
-  demanded : Lent i → {w t f u : List ℕ} (r : Imported) → record { answer = answerGiven r; records = t; files = f; warnings = u; work = w } ≡ after i
-      → answerGiven r .refusal ≡ 0 → Finished i (answerGiven r) t f u
-  demanded l r e z =
-      let D = demand i l (ap (λ (a : After). a .answer .refusal) (sym e) ∙ z) in
-      record {
-        state = D .state;
-        imported = D .imported;
-        records = ap (λ (a : After). readRecords (take (a .answer .records) (a .records))) e ∙ D .records;
-        files = ap (λ (a : After). readFiles (take (a .answer .files) (a .files))) e ∙ D .files;
-        warnings = ap (λ (a : After). readWarnings (take (a .answer .warnings) (a .warnings))) e ∙ D .warnings;
-        agree = D .agree;
-      }
 
 -- what was cleared is as long as before
 pub cleared : {w : List ℕ} {n : ℕ} (w₀ : List ℕ) → n ≡ length w₀ → w ≡ replicate n 0 → w ≡ replicate (length w₀) 0
 cleared w₀ l e = e ∙ ap (λ (k : ℕ). replicate k 0) l
 
-module _ (i : Inputs) (l : Lent i) where
-  pub answers-refused : {w t f u : List ℕ} {n : ℕ} {x : Refusal} → outcomeOf i ≡ refused n → refusalNumber x ≡ n
-      → w ≡ replicate (length (i .work)) 0 → t ≡ replicate (length (i .records)) 0 → f ≡ replicate (length (i .files)) 0 → u ≡ replicate (length (i .warnings)) 0
-      → ImportsUnit i w t f u (Imported.Refused x)
-  unfolding answerOf bufferAfter
-  answers-refused {w} {t} {f} {u} {n} {x} e ex ew et ef eu =
-      let is : record { answer = answerGiven (Imported.Refused x); records = t; files = f; warnings = u; work = w } ≡ after i =
-      (λ k. record { answer = record { refusal = ex k; records = 0; files = 0; warnings = 0; stats = answer.noStats }; records = et k; files = ef k; warnings = eu k; work = ew k })
-      ∙ sym (after-is i e) in
-      record { is = is; demand = demanded i l (Imported.Refused x) is }
+-- all that was written fits
+written-place : {out t t′ : List ℕ} {k : ℕ} → Put 0 out t t′ k → length out ≤ length t → k ≡ length out
+written-place P h = omega (arith, P .place, P .small)
 
-  -- all that was written fits
-  written-place : {out t t′ : List ℕ} {k : ℕ} → Put 0 out t t′ k → length out ≤ length t → k ≡ length out
-  written-place P h = omega (arith, P .place, P .small)
+written-whole : {out t t′ : List ℕ} {k : ℕ} → Put 0 out t t′ k → length out ≤ length t → t′ ≡ out ++ drop (length out) t
+written-whole P h = put-whole P (omega (arith, written-place P h, put-length P))
 
-  written-whole : {out t t′ : List ℕ} {k : ℕ} → Put 0 out t t′ k → length out ≤ length t → t′ ≡ out ++ drop (length out) t
-  written-whole P h = put-whole P (omega (arith, written-place P h, put-length P))
+-- ---- of a unit or of all
 
-  pub answers-done : {w t f u : List ℕ} {n : ℕ} {r : Ran} → Writes (importOf i) (i .records) (i .files) (i .warnings) t f u r
-      → n ≡ fitStatus r (length t) (length f) (length u) → n ≡ 0 → w ≡ replicate (length (i .work)) 0
-      → ImportsUnit i w t f u (Imported.Finished (r .records) (r .files) (r .warnings) (r .stats))
-  unfolding answerOf bufferAfter written
-  answers-done {w} {t} {f} {u} {n} {r} W e z ew =
-      let y = finished-status i W e z in
-      let S = W .ok y in
-      let none = by-none (overRecords i (S .state)) (overFiles i (S .state)) (overWarnings i (S .state)) (sym (tested i W e y S) ∙ z) in
-      let fits-records = ltb-false _ _ (none .0) in
-      let fits-files = ltb-false _ _ (none .1) in
-      let fits-warnings = ltb-false _ _ (none .2) in
-      let o : outcomeOf i ≡ done (written (S .state)) =
-      outcome-is i W e S ∙ (λ k. outcomeBy (none .0 k) (none .1 k) (none .2 k) (written (S .state))) in
-      let is : record { answer = answerGiven (Imported.Finished (r .records) (r .files) (r .warnings) (r .stats)); records = t; files = f; warnings = u; work = w } ≡ after i =
-      (λ k. record {
-        answer = record {
-          refusal = 0;
-          records = written-place (S .records) fits-records k;
-          files = written-place (S .files) fits-files k;
-          warnings = written-place (S .warnings) fits-warnings k;
-          stats = S .stats k;
-        };
-        records = written-whole (S .records) fits-records k;
-        files = written-whole (S .files) fits-files k;
-        warnings = written-whole (S .warnings) fits-warnings k;
-        work = ew k;
-      })
-      ∙ sym (after-is i o) in
-      record { is = is; demand = demanded i l (Imported.Finished (r .records) (r .files) (r .warnings) (r .stats)) is }
+module _ (all : Bool) (i : Inputs) where
+  -- a refusal has one of document 01's numbers
+  refused-within : (b : Bool) (n : ℕ) → outcomeOf i (importAll b i) ≡ refused n → (1 ≤ n) × (n ≤ 18)
+  refused-within true n e = dwarf-refusals i n e
+  refused-within false n e = refusals i n e
+
+  pub refusal-within : {t f u : List ℕ} {r : Ran} → Writes (importAll all i) (i .records) (i .files) (i .warnings) t f u r → {n : ℕ} → n ≡ fitStatus r (length t) (length f) (length u)
+      → (n ≡ 0 → ⊥) → (1 ≤ n) × (n ≤ 18)
+  refusal-within W {n} e h = refused-within all n (outcome-refused i (importAll all i) W e h)
+
+  module _ (l : Lent i) where
+    -- demand 3
+    finished : (b : Bool) → afterwards i (importAll b i) .answer .refusal ≡ 0 → Finished (importAll b i) (AgreeAll b i) (afterwards i (importAll b i))
+    unfolding after afterDwarf
+    finished true z = dwarf-demand i l z
+    finished false z = demand i l z
+
+    imports-by : {w t f u : List ℕ} (r : Imported) → left w t f u r ≡ afterwards i (importAll all i) → ImportsBy all i w t f u r
+    imports-by r e = record {
+      is = e;
+      demand = λ z. subst (Finished (importAll all i) (AgreeAll all i)) (sym e) (finished all (ap (λ (a : After). a .answer .refusal) (sym e) ∙ z));
+    }
+
+    pub answers-refused : {w t f u t₁ f₁ u₁ : List ℕ} {n : ℕ} {r : Ran} {x : Refusal} → Writes (importAll all i) (i .records) (i .files) (i .warnings) t₁ f₁ u₁ r
+        → n ≡ fitStatus r (length t₁) (length f₁) (length u₁) → (n ≡ 0 → ⊥) → refusalNumber x ≡ n
+        → w ≡ replicate (length (i .work)) 0 → t ≡ replicate (length (i .records)) 0 → f ≡ replicate (length (i .files)) 0 → u ≡ replicate (length (i .warnings)) 0
+        → ImportsBy all i w t f u (Imported.Refused x)
+    unfolding answerOf bufferAfter
+    answers-refused {w} {t} {f} {u} {n = n} {x = x} W en h ex ew et ef eu =
+        imports-by (Imported.Refused x)
+        ((λ k. record { answer = record { refusal = ex k; records = 0; files = 0; warnings = 0; stats = answer.noStats }; records = et k; files = ef k; warnings = eu k; work = ew k })
+        ∙ sym (after-is i (importAll all i) (outcome-refused i (importAll all i) W en h)))
+
+    pub answers-done : {w t f u : List ℕ} {n : ℕ} {r : Ran} → Writes (importAll all i) (i .records) (i .files) (i .warnings) t f u r
+        → n ≡ fitStatus r (length t) (length f) (length u) → n ≡ 0 → w ≡ replicate (length (i .work)) 0
+        → ImportsBy all i w t f u (Imported.Finished (r .records) (r .files) (r .warnings) (r .stats))
+    unfolding answerOf bufferAfter written
+    answers-done {w} {t} {f} {u} {n} {r} W e z ew =
+        let o : Outcome State = importAll all i in
+        let y = finished-status i o W e z in
+        let S = W .ok y in
+        let none = by-none (overRecords i (S .state)) (overFiles i (S .state)) (overWarnings i (S .state)) (sym (tested i o W e y S) ∙ z) in
+        let fits-records = ltb-false _ _ (none .0) in
+        let fits-files = ltb-false _ _ (none .1) in
+        let fits-warnings = ltb-false _ _ (none .2) in
+        let d : outcomeOf i o ≡ done (written (S .state)) =
+        outcome-is i o W e S ∙ (λ k. outcomeBy (none .0 k) (none .1 k) (none .2 k) (written (S .state))) in
+        imports-by (Imported.Finished (r .records) (r .files) (r .warnings) (r .stats))
+        ((λ k. record {
+          answer = record {
+            refusal = 0;
+            records = written-place (S .records) fits-records k;
+            files = written-place (S .files) fits-files k;
+            warnings = written-place (S .warnings) fits-warnings k;
+            stats = S .stats k;
+          };
+          records = written-whole (S .records) fits-records k;
+          files = written-whole (S .files) fits-files k;
+          warnings = written-whole (S .warnings) fits-warnings k;
+          work = ew k;
+        })
+        ∙ sym (after-is i o d))
+
+-- ---- the entry points
+
+pub of-unit : {i : Inputs} {w t f u : List ℕ} {r : Imported} → ImportsBy false i w t f u r → ImportsUnit i w t f u r
+unfolding after
+of-unit I = record { is = I .is; demand = I .demand }
+
+pub of-all : {i : Inputs} {w t f u : List ℕ} {r : Imported} → ImportsBy true i w t f u r → ImportsDwarf i w t f u r
+unfolding afterDwarf
+of-all I = record { is = I .is; demand = I .demand }

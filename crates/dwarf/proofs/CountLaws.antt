@@ -11,6 +11,7 @@ use Rattle.tlv.specs.Limits.{fieldLimit}
 use Rattle.tlv.specs.Outcome.{done}
 use Rattle.tlv.specs.Fields.{Field, FieldList, end, cut, more, fields, wholeFields}
 use Rattle.tlv.specs.declared.grammar.Context.{Context}
+use Rattle.tlv.specs.Checked.{Accepts}
 use Rattle.tlv.specs.Grammar.{start, shaped, payloadLimited, limited, next, checkFrom, checkInput}
 use Rattle.tlv.specs.Model.{unitOf}
 use Rattle.tlv.specs.Places.{unitHere}
@@ -22,7 +23,8 @@ use Rattle.tlv.proofs.PlaceFacts.{accepted-count}
 use Rattle.files.proofs.FewLaws.{Rising, amounts-few, grouped-few, unit-few}
 use Rattle.dies.specs.DetailState.{Accepted}
 use Rattle.dwarf.specs.declared.layout.Counts.{Counts}
-use Rattle.dwarf.specs.Layout.{countOf, Sized, UnitOf}
+use Rattle.subprograms.specs.Contexts.{UnitOf}
+use Rattle.dwarf.specs.Layout.{countOf, Sized}
 
 -- ---- an accepted input has few fields
 
@@ -38,9 +40,9 @@ few-from c (more f fs) n e h =
     let both = passed-both (shaped c f) (limited c f) (checkFrom (next c f) fs) n e in
     few-from (next c f) fs n (both .2) (omega (arith, next-count c f, field-limited c f (both .1)))
 
-pub accepted-few : (s : List ℕ) (n : ℕ) → checkInput s ≡ done n → n ≤ fieldLimit
+pub accepted-few : (s : List ℕ) (n : ℕ) → Accepts s n → n ≤ fieldLimit
 unfolding checkInput
-accepted-few s n e = few-from start (fields s) n e (omega arith)
+accepted-few s n e = few-from (start (e .program)) (fields s) n (e .passes) (omega arith)
 
 -- ---- all tags that have tables
 
@@ -54,7 +56,7 @@ tabled-rise = (omega arith, (omega arith, (omega arith, (omega arith, (omega ari
 abbrev pub totalOf : Counts → ℕ
 totalOf c = c .units + c .text + c .directories + c .files + c .zeros + c .rows + c .entries + c .attributes + c .ranges
 
-pub total-few : {s : List ℕ} {c : Counts} (n : ℕ) → Sized s c → checkInput s ≡ done n → totalOf c ≤ n
+pub total-few : {s : List ℕ} {c : Counts} (n : ℕ) → Sized s c → Accepts s n → totalOf c ≤ n
 total-few {s} {c} n S e = omega (arith, accepted-count s n e, amounts-few tabled (wholeFields (fields s)) tabled-rise)
 
 pub total-small : {s : List ℕ} {c : Counts} → Accepted s → Sized s c → totalOf c ≤ fieldLimit

@@ -15,7 +15,7 @@ use Rattle.tlv.proofs.TableLaws.{but-of, but-trans, here, there}
 use Rattle.tlv.proofs.RecordLaws.{records-kept}
 use Rattle.dies.specs.Details.{entryCount}
 use Rattle.dies.specs.DetailState.{Accepted}
-use Rattle.dwarf.specs.Runs.{IndexesInput}
+use Rattle.dwarf.specs.Tables.{IndexesInput}
 
 module _ {s w w₁ w₂ : List ℕ} {units entries n m : ℕ} (A : Accepted s) (below : units + 24 * length (unitPlaces 0 (fields s)) ≤ entries)
     (room : entries + 16 * entryCount s ≤ length w) (U : IndexedUnits s w w₁ units n) (E : Indexed s w₁ w₂ entries m) where
@@ -33,17 +33,19 @@ module _ {s w w₁ w₂ : List ℕ} {units entries n m : ℕ} (A : Accepted s) (
 
   pub indexes-input : IndexesInput s w w₂ units entries (record { units = units; «unit_count» = n; entries = entries; «entry_count» = m })
   indexes-input = record {
-    index = record {
-      number = A .number;
-      accepted = A .is;
-      units = records-kept unitOf24 24 units n (E .rest) (inl (omega (arith, units-are))) ∙ U .table;
-      entries = E .table;
-      units-within = omega (arith, units-are, size);
-      entries-within = omega (arith, entries-are, size);
+    here = record {
+      index = record {
+        number = A .number;
+        accepted = A .is;
+        units = records-kept unitOf24 24 units n (E .rest) (inl (omega (arith, units-are))) ∙ U .table;
+        entries = E .table;
+        units-within = omega (arith, units-are, size);
+        entries-within = omega (arith, entries-are, size);
+      };
+      units-at = λ i. units;
+      entries-at = λ i. entries;
+      unit-count = units-are;
+      entry-count = entries-are;
     };
-    units-at = λ i. units;
-    entries-at = λ i. entries;
-    unit-count = units-are;
-    entry-count = entries-are;
     rest = rest;
   }

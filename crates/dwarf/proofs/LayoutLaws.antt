@@ -16,7 +16,8 @@ use Rattle.references.proofs.FewKeys.{keys-few}
 use Rattle.dies.specs.DetailState.{Accepted}
 use Rattle.dwarf.specs.declared.layout.Counts.{Counts}
 use Rattle.dwarf.specs.declared.layout.Layout.{Layout}
-use Rattle.dwarf.specs.Layout.{countOf, Sized, UnitOf, mapExtent, LaidOut}
+use Rattle.subprograms.specs.Contexts.{UnitOf, mapExtent}
+use Rattle.dwarf.specs.Layout.{countOf, Sized, LaidOut}
 use Rattle.rows.specs.Sizes.{entrySize, rowRoom}
 use Rattle.dwarf.proofs.CountLaws.{totalOf, total-few, total-small, text-few}
 
@@ -137,6 +138,7 @@ laid-out {main} {supplementary} {program} {m} {s} A B M S =
       few = files-fit M S;
       small = room-small M S A B;
       lines = omega arith;
+      front = omega arith;
       text = lines-fit (linesAt m s) program M;
       spans = λ q any. times-most (textAt m s x) 16 _ (m .text) (omega (arith, text-few main q any, M .text));
       room-main = map-main M S;

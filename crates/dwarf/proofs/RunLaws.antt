@@ -1,241 +1,247 @@
--- An import up to refusal 15: refusals 1 to 5, and the unit that is chosen. Assumes nothing.
-use mathlib.Core.Path.{_≡_, refl, sym, ap, _∙_}
-use mathlib.Core.Bool.{Bool, true, false, cond, _||_, true≢false}
-use mathlib.Core.List.{List, [], _∷_}
-use Prim.Native.Nat.{ℕ, _+_, _*_, _≤_, _<_}
+-- An import up to refusal 15: refusals 1 to 5, and the units that are asked for. Assumes nothing.
+use mathlib.Core.Path.{_≡_, refl, sym, subst, ap, _∙_}
+use mathlib.Core.Bool.{Bool, true, false, cond, not}
+use mathlib.Core.Logic.{inl}
+use mathlib.Core.List.{List, [], _∷_, _++_}
+use mathlib.Core.Option.{Option, none, some}
+use Prim.Native.Nat.{ℕ, zero, suc, _+_, _-_, _*_, _≤_, _<_}
 use native.Mathlib.Omega.{arith}
 use lib.Dec.{ltb}
-use lib.ListN.{length}
-use borrow.Author.Tests.{ltb-false, lt-ltb, le-ltb, eq-eqb, ne-eqb}
-use Rattle.tlv.specs.declared.grammar.Checked.{Checked}
-use Rattle.tlv.specs.declared.access.Place.{Place}
+use lib.ListN.{length, take, drop, drop-of-length-le}
+use lib.Seq.{take-all, take-nil}
 use Rattle.tlv.specs.Outcome.{Outcome, refused, done, _>>=_}
-use Rattle.tlv.specs.Lists.{at, mapOption, isEmpty}
-use Rattle.tlv.specs.Limits.{inputLimit, programLimit, fieldLimit, workOfField, workOfProgramByte, workBesides}
-use Rattle.tlv.specs.Fields.{fields}
-use Rattle.tlv.specs.Grammar.{checkInput}
-use Rattle.tlv.specs.Checked.{checkedOf}
+use Rattle.tlv.specs.Lists.{at}
 use Rattle.tlv.specs.Buffer.{top, Put}
-use Rattle.tlv.specs.Model.{units}
-use Rattle.tlv.specs.Output.{eachOf, recordsBytes, filesBytes, warningsBytes}
-use Rattle.tlv.specs.Places.{unitHere, unitPlaces}
-use Rattle.tlv.specs.Access.{placeOf}
-use Rattle.tlv.proofs.OutcomeLaws.{done-is}
-use Rattle.tlv.proofs.UnitFacts.{unit-of-place}
-use Rattle.collect.specs.Collects.{UnitIn}
+use Rattle.tlv.specs.Limits.{workOfProgramByte, joinedLimit}
+use Rattle.tlv.specs.Grammar.{checkInput}
+use Rattle.tlv.specs.Model.{CompilationUnit, units}
+use Rattle.tlv.specs.Output.{FileEntry, filesBytes}
+use Rattle.tlv.proofs.BufferLaws.{put-as}
+use Rattle.tlv.proofs.TableLaws.{but-one}
+use Rattle.files.specs.declared.store.StoredFiles.{StoredFiles}
+use Rattle.files.specs.Store.{extent, entriesOf, tableOf, Empty}
+use Rattle.files.proofs.GrownLaws.{entries-kept, table-kept, files-kept}
+use Rattle.references.specs.declared.tables.Tables.{Tables}
 use Rattle.references.specs.Names.{dwarfOf}
 use Rattle.dies.specs.DetailState.{Accepted}
-use Rattle.imports.specs.Import.{State, importUnit}
+use Rattle.imports.specs.Import.{State, importUnits}
 use Rattle.imports.specs.Answer as answer
-use Rattle.imports.specs.Answer.{Inputs, isBare, workNeeded, initialState, importChosen, importOf}
-use Rattle.dwarf.specs.Stats.{statsOf}
-use Rattle.dwarf.specs.declared.import.Ran.{Ran}
-use Rattle.dwarf.specs.declared.import.BothChecked.{BothChecked}
-use Rattle.dwarf.specs.Runs.{oversizeOf, Writes, BothAccepted, NotOversize, CheckedAs, ChecksBoth, WorkEnough, startState, shortOf, nothingRan, bareStatus}
-use Rattle.dwarf.proofs.CountLaws.{accepted-few}
+use Rattle.imports.specs.Answer.{Inputs, isBare, workOfUnit, workOfUnits, workNeeded, initialState, importWorked, importChosen, checked, importOf, importDwarfOf}
+use Rattle.subprograms.specs.declared.model.ConversionStats.{ConversionStats}
+use Rattle.subprograms.specs.declared.model.ImportState.{ImportState}
+use Rattle.subprograms.specs.Stats.{statsOf}
+use Rattle.subprograms.specs.Steps.{stateOf}
+use Rattle.dwarf.specs.declared.layout.Layout.{Layout}
+use Rattle.dwarf.specs.declared.model.Options.{Options}
+use Rattle.dwarf.specs.declared.checks.BothChecked.{BothChecked}
+use Rattle.dwarf.specs.declared.run.Ran.{Ran}
+use Rattle.dwarf.specs.declared.run.Chosen.{Chosen}
+use Rattle.dwarf.specs.Layout.{keysRoom, LaidOut}
+use Rattle.dwarf.specs.Checks.{oversizeOf, CheckedAs, ChecksBoth, missingOf, missingUnit, shortOf, WorkEnough}
+use Rattle.dwarf.specs.Tables.{TablesIn, IndexesInputs}
+use Rattle.dwarf.specs.Units.{Ready, besideTables, Grows}
+use Rattle.dwarf.specs.Runs.{importAll, listed, chosenUnits, Chooses, importAccepted, startState, LengthsOf, Writes}
+use Rattle.dwarf.proofs.CheckLaws.{both-accepted}
+use Rattle.dwarf.proofs.TablesLaws.{keys-behind, main-behind}
 
 -- ---- an outcome that is another's, or a refusal
 
 module _ {o : Outcome State} {t f u t′ f′ u′ : List ℕ} {r : Ran} where
-  pub writes-refused : {n : ℕ} → r .status ≡ n → (n ≡ 0 → ⊥) → o ≡ refused n → Writes o t f u t′ f′ u′ r
+  writes-refused : {n : ℕ} → r .status ≡ n → (n ≡ 0 → ⊥) → o ≡ refused n → Writes o t f u t′ f′ u′ r
   writes-refused e h eo = record { ok = λ z. absurd (h (sym e ∙ z)); no = λ _. eo ∙ ap refused (sym e) }
 
-  pub writes-as : {x : Outcome State} → o ≡ x → Writes x t f u t′ f′ u′ r → Writes o t f u t′ f′ u′ r
+  writes-as : {x : Outcome State} → o ≡ x → Writes x t f u t′ f′ u′ r → Writes o t f u t′ f′ u′ r
   writes-as e W = rw e W
 
--- nothing was laid
-none-put : {t t′ : List ℕ} {k : ℕ} → t′ ≡ t → length t < top → k ≡ 0 → Put 0 [] t t′ k
-none-put e l z = record { buffer = e; place = omega arith; small = l }
+-- ---- which units
 
--- ---- refusal 1
+module _ (o : Options) (count : ℕ) where
+  pub chooses-all : {r : Chosen} → o .all ≡ true → r .from ≡ 0 → r .to ≡ count → Chooses o count r
+  unfolding chosenUnits
+  chooses-all {r} e a b = record {
+    order = omega arith;
+    within = omega arith;
+    is = λ us l. let z : r .to - r .from ≡ count = omega arith in rw (e, z, a) (take-all count us (omega arith));
+  }
 
-neither : (a b c : Bool) → (a || b || c) ≡ false → (a ≡ false) × (b ≡ false) × (c ≡ false)
-neither true b c e = absurd (true≢false e)
-neither false true c e = absurd (true≢false e)
-neither false false true e = absurd (true≢false e)
-neither false false false e = (refl, refl, refl)
+  module _ (one : o .all ≡ false) where
+    -- past the last there is none
+    at-past : (us : List CompilationUnit) (k : ℕ) → length us ≤ k → at us k ≡ none
+    unfolding at
+    at-past [] k h = refl
+    at-past (u ∷ us) zero h = absurd (omega arith)
+    at-past (u ∷ us) (suc k) h = at-past us k (omega arith)
 
-module _ (main supplementary program : List ℕ) where
-  pub oversize-main : inputLimit < length main → true ≡ oversizeOf main supplementary program
-  oversize-main h = sym (rw (lt-ltb inputLimit (length main) h))
+    at-one : (us : List CompilationUnit) (k : ℕ) → k < length us → take 1 (drop k us) ≡ listed (at us k)
+    unfolding at
+    at-one [] k h = absurd (omega arith)
+    at-one (u ∷ us) zero h = refl
+    at-one (u ∷ us) (suc k) h = at-one us k (omega arith)
 
-  module _ (h : length main ≤ inputLimit) where
-    pub oversize-supplementary : inputLimit < length supplementary → true ≡ oversizeOf main supplementary program
-    oversize-supplementary k = sym (rw (le-ltb inputLimit (length main) h, lt-ltb inputLimit (length supplementary) k))
+    pub chooses-none : {r : Chosen} → count ≤ o .ordinal → r .from ≡ 0 → r .to ≡ 0 → Chooses o count r
+    unfolding chosenUnits
+    chooses-none {r} h a b = record {
+      order = omega arith;
+      within = omega arith;
+      is = λ us l. let z : r .to - r .from ≡ 0 = omega arith in rw (one, z, at-past us (o .ordinal) (omega arith));
+    }
 
-    pub oversize-program : length supplementary ≤ inputLimit → ltb programLimit (length program) ≡ oversizeOf main supplementary program
-    oversize-program k = sym (rw (le-ltb inputLimit (length main) h, le-ltb inputLimit (length supplementary) k))
-
-  pub not-oversize : {b : Bool} → b ≡ oversizeOf main supplementary program → b ≡ false → NotOversize main supplementary program
-  not-oversize e is =
-      let n = neither (ltb inputLimit (length main)) (ltb inputLimit (length supplementary)) (ltb programLimit (length program)) (sym e ∙ is) in
-      record {
-        main-within = ltb-false inputLimit (length main) (n .0);
-        supplementary-within = ltb-false inputLimit (length supplementary) (n .1);
-        program-within = ltb-false programLimit (length program) (n .2);
-      }
-
--- ---- refusals 2 and 3
-
-pub both-few : {main supplementary : List ℕ} {n : ℕ} → BothAccepted main supplementary n → n ≤ fieldLimit + fieldLimit
-both-few {main} {supplementary} B =
-    omega (arith, B .sum, accepted-few main (B .main-fields) (B .main-accepted), accepted-few supplementary (B .supplementary-fields) (B .supplementary-accepted))
-
-module _ {main supplementary : List ℕ} where
-  refused-first : {n : ℕ} → (n ≡ 0 → ⊥) → checkInput main ≡ refused n → ChecksBoth main supplementary (BothChecked.Refused n)
-  unfolding _>>=_
-  refused-first h e = record { is = (h, λ f. rw e) }
-
-  refused-second : {m n : ℕ} → (n ≡ 0 → ⊥) → checkInput main ≡ done m → checkInput supplementary ≡ refused n → ChecksBoth main supplementary (BothChecked.Refused n)
-  unfolding _>>=_
-  refused-second h em e = record { is = (h, λ f. rw (em, e)) }
-
-  module _ {a : Checked} (ea : checkedOf a ≡ checkInput main) where
-    pub both-misshapen : a ≡ Checked.Misshapen → ChecksBoth main supplementary (BothChecked.Refused 2)
-    both-misshapen is = refused-first (λ z. omega arith) (sym ea ∙ ap checkedOf is)
-
-    pub both-limited : a ≡ Checked.PastLimit → ChecksBoth main supplementary (BothChecked.Refused 3)
-    both-limited is = refused-first (λ z. omega arith) (sym ea ∙ ap checkedOf is)
-
-    module _ {m : ℕ} (is : a ≡ Checked.Accepted m) {b : Checked} (eb : checkedOf b ≡ checkInput supplementary) where
-      pub second-misshapen : b ≡ Checked.Misshapen → ChecksBoth main supplementary (BothChecked.Refused 2)
-      second-misshapen k = refused-second (λ z. omega arith) (sym ea ∙ ap checkedOf is) (sym eb ∙ ap checkedOf k)
-
-      pub second-limited : b ≡ Checked.PastLimit → ChecksBoth main supplementary (BothChecked.Refused 3)
-      second-limited k = refused-second (λ z. omega arith) (sym ea ∙ ap checkedOf is) (sym eb ∙ ap checkedOf k)
-
-      pub both-done : {n : ℕ} → b ≡ Checked.Accepted n → ChecksBoth main supplementary (BothChecked.Accepted (m + n))
-      both-done {n} k = record {
-        is = record {
-          main-fields = m;
-          supplementary-fields = n;
-          main-accepted = sym ea ∙ ap checkedOf is;
-          supplementary-accepted = sym eb ∙ ap checkedOf k;
-          sum = refl;
-        };
-      }
-
-pub checked-few : (s : List ℕ) {a : Checked} {n : ℕ} → checkedOf a ≡ checkInput s → a ≡ Checked.Accepted n → n ≤ fieldLimit
-checked-few s {a} {n} e is = accepted-few s n (sym e ∙ ap checkedOf is)
-
-pub both-accepted : {main supplementary : List ℕ} {x : BothChecked} {n : ℕ} → ChecksBoth main supplementary x → x ≡ BothChecked.Accepted n → BothAccepted main supplementary n
-both-accepted C e = rw e at (C .is)
+    pub chooses-one : {r : Chosen} → o .ordinal < count → r .from ≡ o .ordinal → r .to ≡ r .from + 1 → Chooses o count r
+    unfolding chosenUnits
+    chooses-one {r} h a b = record {
+      order = omega arith;
+      within = omega arith;
+      is = λ us l. let n : r .to - r .from ≡ 1 = omega arith in rw (one, n, a) (at-one us (o .ordinal) (omega arith));
+    }
 
 -- ---- the import by its inputs
 
-module _ (i : Inputs) where
-  abbrev rest : Outcome State
-  rest = checkInput (i .main) >>= λ m. checkInput (i .supplementary) >>= λ s. importChosen i (m + s) (at (units (i .main)) (i .ordinal))
+either-way : {A : Type 0} (b : Bool) (x y : A) → cond b x y ≡ cond (not b) y x
+either-way true x y = refl
+either-way false x y = refl
 
-  by-size : {b : Bool} → b ≡ oversizeOf (i .main) (i .supplementary) (i .program) → importOf i ≡ cond b (refused 1) rest
-  unfolding importOf answer.oversize
-  by-size e = ap (λ (b : Bool). cond b (refused 1) rest) (sym e)
+chosen-is : (i : Inputs) (n : ℕ) (x : Option CompilationUnit) → importChosen i n x ≡ cond (missingUnit (i .main) (i .ordinal) x) (refused 4) (importWorked i n (listed x))
+chosen-is i n none = either-way (isBare i) (importWorked i n []) (refused 4)
+chosen-is i n (some u) = refl
 
-  checked : {b : Bool} → b ≡ oversizeOf (i .main) (i .supplementary) (i .program) → b ≡ false → importOf i ≡ rest
-  checked e is = by-size e ∙ ap (λ (b : Bool). cond b (refused 1) rest) is
+module _ (o : Options) (i : Inputs) (asked : i .ordinal ≡ o .ordinal) where
+  pub by-tests : importAll (o .all) i ≡ checked i (importAccepted o i)
+  unfolding importOf importDwarfOf missingOf chosenUnits
+  by-tests = go (o .all) refl
+    where
+      go : (b : Bool) → o .all ≡ b → importAll b i ≡ checked i (importAccepted o i)
+      go true e = rw e
+      go false e = rw (e, ← asked) (λ k. checked i (λ n. chosen-is i n (at (units (i .main)) (i .ordinal)) k))
 
-module _ (i : Inputs) {t f u t′ f′ u′ : List ℕ} {r : Ran} where
-  pub run-oversize : {b : Bool} → b ≡ oversizeOf (i .main) (i .supplementary) (i .program) → b ≡ true → r .status ≡ 1 → Writes (importOf i) t f u t′ f′ u′ r
-  run-oversize e is z = writes-refused z (λ y. omega arith) (by-size i e ∙ ap (λ (b : Bool). cond b (refused 1) (rest i)) is)
+module _ (i : Inputs) (rest : ℕ → Outcome State) {b : Bool} (e : b ≡ oversizeOf (i .main) (i .supplementary) (i .program)) where
+  abbrev fieldsFirst : Outcome State
+  fieldsFirst = checkInput (length (i .program)) (i .main) >>= λ m. checkInput (length (i .program)) (i .supplementary) >>= λ s. rest (m + s)
 
-  module _ {b : Bool} (e : b ≡ oversizeOf (i .main) (i .supplementary) (i .program)) (is : b ≡ false) {x : BothChecked} (C : ChecksBoth (i .main) (i .supplementary) x) where
-    pub run-refused : {n : ℕ} → x ≡ BothChecked.Refused n → r .status ≡ n → Writes (importOf i) t f u t′ f′ u′ r
-    run-refused {n} ex z =
-        let no : CheckedAs (i .main) (i .supplementary) (BothChecked.Refused n) = rw ex at (C .is) in
-        writes-refused z (no .0) (checked i e is ∙ no .1 (λ m s. importChosen i (m + s) (at (units (i .main)) (i .ordinal))))
+  by-size : checked i rest ≡ cond b (refused 1) fieldsFirst
+  unfolding checked answer.oversize
+  by-size = ap (λ (a : Bool). cond a (refused 1) fieldsFirst) (sym e)
 
-    pub run-accepted : {n : ℕ} → x ≡ BothChecked.Accepted n → Writes (importChosen i n (at (units (i .main)) (i .ordinal))) t f u t′ f′ u′ r → Writes (importOf i) t f u t′ f′ u′ r
+  checked-oversize : b ≡ true → checked i rest ≡ refused 1
+  checked-oversize is = by-size ∙ ap (λ (a : Bool). cond a (refused 1) fieldsFirst) is
+
+  module _ (is : b ≡ false) {x : BothChecked} (C : ChecksBoth (i .main) (i .supplementary) (length (i .program)) x) where
+    sized : checked i rest ≡ fieldsFirst
+    sized = by-size ∙ ap (λ (a : Bool). cond a (refused 1) fieldsFirst) is
+
+    checked-refused : {n : ℕ} → x ≡ BothChecked.Refused n → (n ≡ 0 → ⊥) × (checked i rest ≡ refused n)
+    checked-refused {n} ex =
+        let no : CheckedAs (i .main) (i .supplementary) (length (i .program)) (BothChecked.Refused n) = rw ex at (C .is) in
+        (no .0, sized ∙ no .1 (λ m s. rest (m + s)))
+
+    checked-accepted : {n : ℕ} → x ≡ BothChecked.Accepted n → checked i rest ≡ rest n
     unfolding _>>=_
-    run-accepted {n} ex W =
+    checked-accepted {n} ex =
         let B = both-accepted C ex in
-        writes-as (checked i e is ∙ rw (B .main-accepted, B .supplementary-accepted, ← B .sum)) W
+        sized ∙ rw (B .main-accepted, B .supplementary-accepted, ← B .sum)
+
+module _ (o : Options) (i : Inputs) (asked : i .ordinal ≡ o .ordinal) {t f u t′ f′ u′ : List ℕ} {r : Ran} {b : Bool}
+    (e : b ≡ oversizeOf (i .main) (i .supplementary) (i .program)) where
+  pub run-oversize : b ≡ true → r .status ≡ 1 → Writes (importAll (o .all) i) t f u t′ f′ u′ r
+  run-oversize is z = writes-refused z (λ y. omega arith) (by-tests o i asked ∙ checked-oversize i (importAccepted o i) e is)
+
+  module _ (is : b ≡ false) {x : BothChecked} (C : ChecksBoth (i .main) (i .supplementary) (length (i .program)) x) where
+    pub run-refused : {n : ℕ} → x ≡ BothChecked.Refused n → r .status ≡ n → Writes (importAll (o .all) i) t f u t′ f′ u′ r
+    run-refused ex z = let no = checked-refused i (importAccepted o i) e is C ex in writes-refused z (no .0) (by-tests o i asked ∙ no .1)
+
+    pub run-accepted : {n : ℕ} → x ≡ BothChecked.Accepted n → Writes (importAccepted o i n) t f u t′ f′ u′ r → Writes (importAll (o .all) i) t f u t′ f′ u′ r
+    run-accepted ex W = writes-as (by-tests o i asked ∙ checked-accepted i (importAccepted o i) e is C ex) W
 
 -- ---- refusals 4 and 5
 
-pub chosen-in : (s : List ℕ) (k : ℕ) {p : Place} {q : ℕ} → placeOf p ≡ at (unitPlaces 0 (fields s)) k → p ≡ Place.At q → UnitIn s q
-chosen-in s k e is = record { number = k; is = sym e ∙ ap placeOf is }
+-- every unit asks for the same
+units-work : (i : Inputs) (us : List CompilationUnit) → workOfUnits i us ≡ workOfProgramByte * length (i .program)
+unfolding workOfUnits workOfUnit
+units-work i [] = refl
+units-work i (u ∷ us) = let e = units-work i us in omega arith
 
-module _ (i : Inputs) (n : ℕ) (p : Place) (e : placeOf p ≡ at (unitPlaces 0 (fields (i .main))) (i .ordinal)) where
-  -- what is chosen is the unit at the place
-  chosen : importChosen i n (at (units (i .main)) (i .ordinal)) ≡ importChosen i n (mapOption (unitHere (i .main)) (placeOf p))
-  chosen = ap (importChosen i n) (unit-of-place (i .main) (i .ordinal) p e)
+module _ (o : Options) (i : Inputs) (n : ℕ) {t f u t′ f′ u′ : List ℕ} {r : Ran} {a : Bool} (ea : a ≡ missingOf (i .main) o) where
+  pub accepted-missing : a ≡ true → r .status ≡ 4 → Writes (importAccepted o i n) t f u t′ f′ u′ r
+  accepted-missing is z = writes-refused z (λ y. omega arith) (rw (sym ea ∙ is))
 
-module _ (i : Inputs) (n : ℕ) {p : Place} (e : placeOf p ≡ at (unitPlaces 0 (fields (i .main))) (i .ordinal)) {t f u t′ f′ u′ : List ℕ} {r : Ran} where
-  pub chosen-missing : p ≡ Place.Missing → t′ ≡ t → f′ ≡ f → u′ ≡ u → length t < top → length f < top → length u < top
-      → r ≡ nothingRan (bareStatus (i .main) (i .program) (i .ordinal) n (i .work))
-      → Writes (importChosen i n (at (units (i .main)) (i .ordinal))) t f u t′ f′ u′ r
-  unfolding mapOption answer.workNeeded bareStatus initialState recordsBytes filesBytes warningsBytes eachOf
-  chosen-missing is et ef eu lt lf lu er =
-      writes-as (chosen i n p e ∙ ap (λ (x : Place). importChosen i n (mapOption (unitHere (i .main)) (placeOf x))) is)
-      (by-status (isBare i) (ltb (length (i .work)) (workNeeded i n)) er)
-    where
-      by-status : (a b : Bool) → r ≡ nothingRan (cond a (cond b 5 0) 4) → Writes (cond a (cond b (refused 5) (done (initialState i))) (refused 4)) t f u t′ f′ u′ r
-      by-status true true x = writes-refused (ap (λ (y : Ran). y .status) x) (λ y. omega arith) refl
-      by-status true false x = record {
-        ok = λ z. record {
-          state = initialState i;
-          is = refl;
-          records = none-put et lt (ap (λ (y : Ran). y .records) x);
-          files = none-put ef lf (ap (λ (y : Ran). y .files) x);
-          warnings = none-put eu lu (ap (λ (y : Ran). y .warnings) x);
-          stats = ap (λ (y : Ran). statsOf (y .stats)) x;
-        };
-        no = λ z. absurd (z (ap (λ (y : Ran). y .status) x));
-      }
-      by-status false b x = writes-refused (ap (λ (y : Ran). y .status) x) (λ y. omega arith) refl
+  module _ (there : a ≡ false) {b : Bool} (eb : b ≡ shortOf (i .work) n (i .program)) where
+    pub accepted-short : b ≡ true → r .status ≡ 5 → Writes (importAccepted o i n) t f u t′ f′ u′ r
+    unfolding workNeeded
+    accepted-short is z = writes-refused z (λ y. omega arith) (rw (sym ea ∙ there, units-work i (chosenUnits o (units (i .main))), sym eb ∙ is))
 
-  module _ {q : ℕ} (is : p ≡ Place.At q) {b : Bool} (tested : b ≡ shortOf (i .work) n (i .program)) where
-    pub chosen-short : b ≡ true → r .status ≡ 5 → Writes (importChosen i n (at (units (i .main)) (i .ordinal))) t f u t′ f′ u′ r
-    unfolding answer.workNeeded mapOption
-    chosen-short h z =
-        writes-refused z (λ y. omega arith)
-        (chosen i n p e ∙ ap (λ (x : Place). importChosen i n (mapOption (unitHere (i .main)) (placeOf x))) is ∙ rw (sym tested ∙ h))
+    pub accepted-long : b ≡ false
+        → Writes (importUnits (dwarfOf (i .main) (i .supplementary)) (chosenUnits o (units (i .main))) (i .program) (i .inlines) (i .callSites) (startState (i .firstFile))) t f u t′ f′ u′ r
+        → Writes (importAccepted o i n) t f u t′ f′ u′ r
+    unfolding workNeeded answer.dwarfOf initialState
+    accepted-long is W = writes-as (rw (sym ea ∙ there, units-work i (chosenUnits o (units (i .main))), sym eb ∙ is)) W
 
-    pub chosen-long : b ≡ false
-        → Writes (importUnit (dwarfOf (i .main) (i .supplementary)) (unitHere (i .main) q) (i .program) (i .inlines) (i .callSites) (startState (i .firstFile))) t f u t′ f′ u′ r
-        → Writes (importChosen i n (at (units (i .main)) (i .ordinal))) t f u t′ f′ u′ r
-    unfolding answer.workNeeded answer.dwarfOf answer.initialState mapOption
-    chosen-long h W =
-        writes-as
-        (chosen i n p e ∙ ap (λ (x : Place). importChosen i n (mapOption (unitHere (i .main)) (placeOf x))) is ∙ rw (sym tested ∙ h)) W
+-- ---- the units
 
-module _ {main supplementary : List ℕ} {n : ℕ} (B : BothAccepted main supplementary n) where
-  pub accepted-both : (Accepted main) × (Accepted supplementary)
-  accepted-both = (record { number = B .main-fields; is = B .main-accepted }, record { number = B .supplementary-fields; is = B .supplementary-accepted })
+module _ {main supplementary program w : List ℕ} {l : Layout} (A : Accepted main) (B : Accepted supplementary) (W : WorkEnough main supplementary program w)
+    (L : LaidOut main supplementary program l) where
+  pub all-room : l .keys + keysRoom main supplementary ≤ length w
+  all-room = let a = L .within (A .number) (B .number) (A .is) (B .is) in let b = W .long (A .number) (B .number) (A .is) (B .is) in omega arith
 
-  pub work-enough : (program w : List ℕ) {b : Bool} → b ≡ shortOf w n program → b ≡ false → WorkEnough main supplementary program w
-  work-enough program w tested h = record {
-    long = λ m k em ek.
-        let a : B .main-fields ≡ m = done-is (sym (B .main-accepted) ∙ em) in
-        let b : B .supplementary-fields ≡ k = done-is (sym (B .supplementary-accepted) ∙ ek) in
-        omega (arith, B .sum, ltb-false (length w) (workOfField * n + workOfProgramByte * length program + workBesides) (sym tested ∙ h));
+  pub files-room : 0 + (l .room * 45 + joinedLimit) ≤ length w
+  files-room = let a = L .lines in let b = L .front in let c = main-behind L in let d = keys-behind L in let e = all-room in omega arith
+
+module _ {main supplementary program : List ℕ} {l : Layout} {first : ℕ} {w w₁ w₂ : List ℕ} {table : StoredFiles} {x : Tables} {stats : ConversionStats}
+    (L : LaidOut main supplementary program l) (E : Empty main supplementary w w₁ 0 (l .room) first 0 table)
+    (X : IndexesInputs main supplementary program w₁ w₂ l x) (size : length w₂ ≡ length w₁)
+    (none : stats ≡ record { functions = 0; «line_rows» = 0; «inline_nodes» = 0; «rejected_ranges» = 0 }) where
+  abbrev begun : ImportState
+  begun = record { table = table; at = 0; warned = 0; stats = stats; status = 0 }
+
+  below : table .base + extent table ≤ l .lines
+  below = let a = E .base-is in let b = E .room-is in let c = L .lines in omega arith
+
+  clear : table .base + extent table ≤ l .«main_units»
+  clear = let a = below in let b = L .front in omega arith
+
+  pub ready-first : Ready main supplementary w₂ l begun
+  ready-first = record {
+    files = files-kept (E .holds) (but-one (X .rest)) (inl clear, tt) size;
+    below = below;
+    status = refl;
+    at = omega arith;
+    warned = omega arith;
   }
 
--- ---- without a unit
+  entries-none : entriesOf main supplementary w₂ table ≡ []
+  entries-none = entries-kept (E .holds) (but-one (X .rest)) (inl clear, tt) ∙ E .entries
 
-empty-length : (xs : List ℕ) → length xs ≡ 0 → isEmpty xs ≡ true
-empty-length [] e = refl
-empty-length (x ∷ xs) e = absurd (omega arith)
+  -- the definition's state before any unit
+  started : startState first ≡ stateOf main supplementary w₂ begun [] []
+  unfolding tableOf
+  started = λ k. record {
+    table = record { first = sym (E .first-is) k; entries = sym entries-none k };
+    records = [];
+    warnings = [];
+    stats = statsOf (sym none k);
+  }
 
-filled-length : (xs : List ℕ) → (length xs ≡ 0 → ⊥) → isEmpty xs ≡ false
-filled-length [] h = absurd (h refl)
-filled-length (x ∷ xs) h = refl
+  module _ {o : Options} {count : ℕ} {c : Chosen} (K : Chooses o count c) (many : length (units main) ≡ count) (inlines callSites : Bool) {over : List (ℕ × ℕ)}
+      {t f u w₃ t₃ f₃ u₃ : List ℕ} {st : ImportState} {r : Ran} (R : LengthsOf st r)
+      (G : Grows (importUnits (dwarfOf main supplementary) (take (c .to - c .from) (drop (c .from) (units main))) program inlines callSites) main supplementary over w₂ t f u begun w₃ t₃ f₃ u₃ st) where
+    abbrev outcome : Outcome State
+    outcome = importUnits (dwarfOf main supplementary) (chosenUnits o (units main)) program inlines callSites (startState first)
 
-module _ (main program : List ℕ) (ordinal n : ℕ) (work : List ℕ) where
-  pub bare-filled : (length main ≡ 0 → ⊥) → 4 ≡ bareStatus main program ordinal n work
-  unfolding bareStatus
-  bare-filled h = sym (rw (filled-length main h))
+    told : outcome ≡ importUnits (dwarfOf main supplementary) (take (c .to - c .from) (drop (c .from) (units main))) program inlines callSites (stateOf main supplementary w₂ begun [] [])
+    told = λ k. importUnits (dwarfOf main supplementary) (sym (K .is (units main) many) k) program inlines callSites (started k)
 
-  module _ (z : length main ≡ 0) where
-    pub bare-other : (ordinal ≡ 0 → ⊥) → 4 ≡ bareStatus main program ordinal n work
-    unfolding bareStatus
-    bare-other h = sym (rw (empty-length main z, ne-eqb ordinal 0 h))
-
-    module _ (o : ordinal ≡ 0) {b : Bool} (e : b ≡ shortOf work n program) where
-      pub bare-short : b ≡ true → 5 ≡ bareStatus main program ordinal n work
-      unfolding bareStatus
-      bare-short is = sym (rw (empty-length main z, eq-eqb ordinal 0 o, sym e ∙ is))
-
-      pub bare-long : b ≡ false → 0 ≡ bareStatus main program ordinal n work
-      unfolding bareStatus
-      bare-long is = sym (rw (empty-length main z, eq-eqb ordinal 0 o, sym e ∙ is))
+    pub writes-units : Writes outcome t f u t₃ f₃ u₃ r
+    unfolding tableOf
+    writes-units = record {
+      ok = λ e.
+          let z : st .status ≡ 0 = sym (R .status) ∙ e in
+          let D = G .grown z in
+          record {
+            state = stateOf main supplementary w₃ st (G .records) (G .new);
+            is = told ∙ G .ok z [] [];
+            records = rw (R .records) (G .laid z);
+            files = rw (R .files) (put-as (ap filesBytes (D .entries ∙ ap (λ (es : List FileEntry). es ++ D .new) entries-none))
+                (subst (λ (p : ℕ). Put p (filesBytes (D .new)) f f₃ (st .table .written)) (E .written-is) (D .put)));
+            warnings = rw (R .warnings) (G .warned z);
+            stats = ap statsOf (R .stats);
+          };
+      no = λ e. told ∙ G .no (λ z. e (R .status ∙ z)) [] [] ∙ ap refused (sym (R .status));
+    }

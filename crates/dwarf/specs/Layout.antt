@@ -3,16 +3,15 @@ use mathlib.Core.Path.{_≡_}
 use mathlib.Core.List.{List}
 use Prim.Native.Nat.{ℕ, _+_, _*_, _≤_, _<_, _^_}
 use lib.ListN.{length, getD}
-use Rattle.tlv.specs.Outcome.{done}
-use Rattle.tlv.specs.Lists.{Any}
 use Rattle.tlv.specs.Limits.{workOfField, workOfProgramByte, workBesides, joinedLimit}
 use Rattle.tlv.specs.Fields.{fields, payloads, wholeFields}
-use Rattle.tlv.specs.Grammar.{checkInput}
+use Rattle.tlv.specs.Checked.{Accepts}
 use Rattle.tlv.specs.Places.{unitHere, unitPlaces}
 use Rattle.files.specs.Possible.{possibleFiles}
 use Rattle.collect.specs.Collects.{linesExtent}
 use Rattle.references.specs.Keys.{possibleKeys}
 use Rattle.dies.specs.Details.{rangeCount, entryCount}
+use Rattle.subprograms.specs.Contexts.{UnitOf, mapExtent}
 use Rattle.dwarf.specs.declared.layout.Layout.{Layout}
 use Rattle.dwarf.specs.declared.layout.Counts.{Counts}
 
@@ -35,14 +34,6 @@ pub record Sized (s : List ℕ) (c : Counts) : Type 0 where
   pub attributes : c .attributes ≡ countOf 0x18 s
   pub ranges : c .ranges ≡ countOf 0x19 s
 
--- a unit stands at q
-abbrev pub UnitOf : List ℕ → ℕ → Type 0
-UnitOf s q = Any (λ p. p ≡ q) (unitPlaces 0 (fields s))
-
--- what the directories and the map of a unit need
-abbrev pub mapExtent : List ℕ → ℕ → ℕ
-mapExtent s q = 8 * length (unitHere s q .directories) + 5 * (1 + length (unitHere s q .files))
-
 -- what the targets that a search can follow need, with a chain's head for each entry and one more
 abbrev pub keysRoom : List ℕ → List ℕ → ℕ
 keysRoom main supplementary = (entryCount main + entryCount supplementary + 1) * 4 + 13 * length (possibleKeys main supplementary)
@@ -52,6 +43,7 @@ pub record LaidOut (main supplementary program : List ℕ) (l : Layout) : Type 0
   pub few : length (possibleFiles main supplementary) < l .room
   pub small : l .room < 2 ^ 32
   pub lines : l .room * 45 + joinedLimit ≤ l .lines
+  pub front : l .lines ≤ l .«main_units»
   pub text : (q : ℕ) → UnitOf main q → l .lines + linesExtent main q program ≤ l .text
   pub spans : (q : ℕ) → UnitOf main q → l .text + 16 * length (unitHere main q .text) ≤ l .spans
   pub room-main : (q : ℕ) → UnitOf main q → mapExtent main q ≤ l .«span_room»
@@ -64,5 +56,5 @@ pub record LaidOut (main supplementary program : List ℕ) (l : Layout) : Type 0
   pub stack : l .ranges + 16 * (1 + rangeCount main) ≤ l .stack
   pub sites : l .stack + 14 * entryCount main ≤ l .sites
   pub keys : l .sites + 12 * entryCount main ≤ l .keys
-  pub within : (m n : ℕ) → checkInput main ≡ done m → checkInput supplementary ≡ done n
+  pub within : (m n : ℕ) → Accepts main m → Accepts supplementary n
       → l .keys + keysRoom main supplementary ≤ workOfField * (m + n) + workOfProgramByte * length program + workBesides

@@ -1,8 +1,7 @@
-pub mod Stats
-pub mod Text
 pub mod Layout
-pub mod Contexts
-pub mod Entries
-pub mod Steps
+pub mod Checks
+pub mod Tables
+pub mod Part
+pub mod Units
 pub mod Runs
 pub mod Answers

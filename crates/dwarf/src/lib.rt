@@ -1,7 +1,9 @@
-// The import of a unit (the Rust's convert/dwarf.rs).
-pub mod functions;
+// The import of a unit and of all units (the Rust's convert/dwarf.rs).
+pub mod checks;
 pub mod import;
 pub mod layout;
 pub mod model;
-pub mod text;
-pub mod units;
+pub mod part;
+pub mod run;
+pub mod tables;
+pub mod unit;

@@ -1,6 +1,6 @@
 // Document 01's listing program: imports unit 0 of unit.main, with unit.sup and unit.line, and prints what the import gives.
-use dwarf::model::ConversionStats;
 use dwarf::model::Imported;
+use subprograms::model::ConversionStats;
 use tlv::fields::Step;
 
 // The longest sheet that is imported. Its buffer has a byte more, so that a longer file shows.

@@ -230,7 +230,8 @@ module _ (i : Inputs) (tray : List ℕ) (a : ℕ) (x : Frames) (w : WrittenBy i 
       subst (λ (l : List Function). at l k ≡ some (functionOf (group g))) (sym (records-are i tray w f))
       (at-map (λ h. functionOf (group h)) (functionsAt tray) k g e)
 
-  by-unit : (f : UnitFinished i (after i)) (u : Asked i tray w f) (g : GroupAt) (k : ℕ) → at (functionsAt tray) k ≡ some g → framesOf a g ≡ x → Explained i tray a x
+  by-unit : (f : UnitFinished i (after i)) (u : Asked i tray w f) (g : GroupAt) (k : ℕ) → at (functionsAt tray) k ≡ some g → framesOf a g ≡ x
+      → Explained i tray a x
   unfolding framesOf chain
   by-unit f u g k e q =
       let s = pointwise-at (RecordAgrees (dwarfOf i) (u .unit) true) (subjects (dwarfOf i) (u .unit)) (f .state .records) k (functionOf (group g)) (u .agree)

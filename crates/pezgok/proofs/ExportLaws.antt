@@ -4,11 +4,12 @@ use mathlib.Core.List.{List, [], _∷_}
 use Prim.Native.Nat.{ℕ, suc, _<_}
 use native.Mathlib.Omega.{arith}
 use Rattle.imports.specs.Answer.{Inputs, Answer, noStats}
-use Rattle.dwarf.specs.declared.model.ConversionStats.{ConversionStats}
+use Rattle.imports.specs.Demand.{UnitFinished, DwarfFinished}
+use Rattle.subprograms.specs.declared.model.ConversionStats.{ConversionStats}
 use Rattle.dwarf.specs.declared.model.Refusal.{Refusal}
 use Rattle.dwarf.specs.declared.model.Imported.{Imported}
-use Rattle.dwarf.specs.Answers.{refusalNumber, answerGiven, Finished, ImportsUnit, MeasuresUnit}
-use Rattle.pezgok.specs.Exported.{answerIn, Exports, ExportsMeasure, refusalWord}
+use Rattle.dwarf.specs.Answers.{refusalNumber, answerGiven, left, ImportsUnit, ImportsDwarf, MeasuresUnit, MeasuresDwarf}
+use Rattle.pezgok.specs.Exported.{answerIn, leftIn, Exports, ExportsDwarf, ExportsMeasure, ExportsMeasureDwarf, refusalWord}
 
 -- ---- the answer as numbers
 
@@ -23,13 +24,20 @@ module _ {x : Imported} where
   -- the numbers stand for the answer
   module _ {i : Inputs} {w vs : List ℕ} {n : ℕ} (e : answerGiven x ≡ answerIn n vs) where
     pub exports : {t f u : List ℕ} → ImportsUnit i w t f u x → Exports i w t f u vs n
-    exports {t} {f} {u} I = record {
-      is = ap (λ (a : Answer). record { answer = a; records = t; files = f; warnings = u; work = w }) (sym e) ∙ I .is;
-      demand = λ z. subst (λ (a : Answer). Finished i a t f u) e (I .demand (ap (λ (a : Answer). a .refusal) e ∙ z));
-    }
+    exports {t} {f} {u} I =
+        let same : left w t f u x ≡ leftIn w t f u vs n = ap (λ (a : Answer). record { answer = a; records = t; files = f; warnings = u; work = w }) e in
+        record { is = sym same ∙ I .is; demand = λ z. subst (UnitFinished i) same (I .demand (ap (λ (a : Answer). a .refusal) e ∙ z)) }
+
+    pub exports-dwarf : {t f u : List ℕ} → ImportsDwarf i w t f u x → ExportsDwarf i w t f u vs n
+    exports-dwarf {t} {f} {u} I =
+        let same : left w t f u x ≡ leftIn w t f u vs n = ap (λ (a : Answer). record { answer = a; records = t; files = f; warnings = u; work = w }) e in
+        record { is = sym same ∙ I .is; demand = λ z. subst (DwarfFinished i) same (I .demand (ap (λ (a : Answer). a .refusal) e ∙ z)) }
 
     pub exports-measure : MeasuresUnit i w x → ExportsMeasure i w vs n
     exports-measure M = record { is = ap (λ (a : Answer). record { answer = a; work = w }) (sym e) ∙ M .is }
+
+    pub exports-measure-dwarf : MeasuresDwarf i w x → ExportsMeasureDwarf i w vs n
+    exports-measure-dwarf M = record { is = ap (λ (a : Answer). record { answer = a; work = w }) (sym e) ∙ M .is }
 
 -- ---- numbers that are no refusal's
 

@@ -3,17 +3,19 @@ ghost use mathlib.Core.Path.{_≡_};
 ghost use mathlib.Core.List.{[]};
 ghost use Prim.Native.Nat.{_≤_, _<_};
 ghost use Rattle.tlv.specs.Buffer.{Put};
-ghost use Rattle.dwarf.specs.Answers.{answerGiven, inputsOf};
+ghost use Rattle.dwarf.specs.Runs.{inputsOf};
+ghost use Rattle.dwarf.specs.Answers.{answerGiven};
 ghost use Rattle.pezgok.specs.Exported.{answerIn, Exports, ExportsMeasure, refusalWord};
 use dwarf::model::Imported;
 
 pub mod index;
 pub mod joins;
 pub mod look;
+pub mod whole;
 
 // An answer as numbers: returns the refusal's, 0 for none. `values` then has the lengths of records, files and warnings, then functions, line rows,
 // inline nodes, rejected ranges; all 0 after a refusal.
-fn tell(answer: Imported, values: &mut [u64; 7]) -> u8
+pub fn tell(answer: Imported, values: &mut [u64; 7]) -> u8
     ensures { λ r. ⌜ answerGiven answer ≡ answerIn r (now (values .exit)) ⌝ }
 {
     match answer {

@@ -4,18 +4,19 @@
 ghost use mathlib.Core.Path.{_≡_};
 ghost use Prim.Native.Nat.{_≤_};
 ghost use lib.ListN.{length};
-use dwarf::model::ConversionStats;
 use dwarf::model::Imported;
+use subprograms::model::ConversionStats;
 
 // What stands in the output buffers and in work before a call.
 const FILLED: u8 = 0xa5;
 
-// What a case asks besides its inputs' bytes; the lengths are those of the inputs, of work and of the output buffers.
+// What a case asks besides its inputs' bytes: all units or that of the ordinal; the lengths are those of the inputs, of work and of the output buffers.
 struct Case {
     main: u32,
     supplementary: u32,
     program: u32,
     ordinal: u64,
+    all: bool,
     inlines: bool,
     call_sites: bool,
     first_file: u32,
@@ -110,6 +111,7 @@ fn case_of(head: &[u8; 45]) -> Case {
         supplementary: tlv::bytes::read_u32(head, 4),
         program: tlv::bytes::read_u32(head, 8),
         ordinal: tlv::bytes::read_u64(head, 12),
+        all: switches / 4 % 2 == 1,
         inlines: switches % 2 == 1,
         call_sites: switches / 2 % 2 == 1,
         first_file: tlv::bytes::read_u32(head, 21),
@@ -298,6 +300,77 @@ fn judge_pass(a: Answer, r: Imported, work: &[u8], lent: [usize; 3]) -> bool {
     }
 }
 
+// The pass of a case.
+fn measure_case<'a>(
+    c: Case,
+    main: &'a [u8],
+    supplementary: &'a [u8],
+    program: &[u8],
+    work: &mut [u8],
+) -> Imported {
+    if c.all {
+        return dwarf::import::measure_dwarf(
+            main,
+            supplementary,
+            program,
+            c.inlines,
+            c.call_sites,
+            c.first_file,
+            work,
+        );
+    }
+    dwarf::import::measure_unit(
+        main,
+        supplementary,
+        program,
+        c.ordinal,
+        c.inlines,
+        c.call_sites,
+        c.first_file,
+        work,
+    )
+}
+
+// The import of a case.
+fn import_case<'a>(
+    c: Case,
+    main: &'a [u8],
+    supplementary: &'a [u8],
+    program: &[u8],
+    work: &mut [u8],
+    records: &mut [u8],
+    files: &mut [u8],
+    warnings: &mut [u8],
+) -> Imported {
+    if c.all {
+        return dwarf::import::import_dwarf(
+            main,
+            supplementary,
+            program,
+            c.inlines,
+            c.call_sites,
+            c.first_file,
+            work,
+            records,
+            files,
+            warnings,
+        );
+    }
+    dwarf::import::import_unit(
+        main,
+        supplementary,
+        program,
+        c.ordinal,
+        c.inlines,
+        c.call_sites,
+        c.first_file,
+        work,
+        records,
+        files,
+        warnings,
+    )
+}
+
 // A case over its inputs and over buffers of its lengths: the pass, then the import.
 fn run_both<'a>(
     answers: i32,
@@ -313,28 +386,16 @@ fn run_both<'a>(
     warnings: &mut [u8],
 ) -> Verdict {
     fill_buffers(work, records, files, warnings);
-    let said = dwarf::import::measure_unit(
-        main,
-        supplementary,
-        program,
-        c.ordinal,
-        c.inlines,
-        c.call_sites,
-        c.first_file,
-        work,
-    );
+    let said = measure_case(c, main, supplementary, program, work);
     if !judge_pass(a, said, work, [records.len(), files.len(), warnings.len()]) {
         return Verdict::Pass;
     }
     fill(work, FILLED);
-    let r = dwarf::import::import_unit(
+    let r = import_case(
+        c,
         main,
         supplementary,
         program,
-        c.ordinal,
-        c.inlines,
-        c.call_sites,
-        c.first_file,
         work,
         records,
         files,
@@ -548,4 +609,6 @@ fn main() {
     replay(b"document", b"document.cases", b"document.answers");
     replay(b"generated", b"generated.cases", b"generated.answers");
     replay(b"units", b"units.cases", b"units.answers");
+    replay(b"wholes", b"wholes.cases", b"wholes.answers");
+    replay(b"objects", b"objects.cases", b"objects.answers");
 }

@@ -6,7 +6,7 @@ use Prim.Native.Nat.{ℕ, _≤_}
 use lib.ListN.{length}
 use borrow.Author.Tests.{leb-true, eqb-true}
 use Rattle.tlv.specs.declared.grammar.Context.{Context}
-use Rattle.tlv.specs.Grammar.{payloadShaped, unitShaped, textShaped, headerShaped, directoryShaped, fileShaped, rowShaped, entryShaped, attributeShaped, rangeShaped, failureShaped, rowFieldSize}
+use Rattle.tlv.specs.Grammar.{payloadShaped, unitShaped, textShaped, headerShaped, partShaped, directoryShaped, fileShaped, rowShaped, entryShaped, attributeShaped, rangeShaped, failureShaped, partTag, partFieldSize, rowFieldSize}
 use Rattle.tlv.proofs.TestLaws.{and-left}
 
 module _ (c : Context) (p : List ℕ) where
@@ -21,6 +21,10 @@ module _ (c : Context) (p : List ℕ) where
   pub header-long : payloadShaped c 0x13 p ≡ true → 19 ≤ length p
   unfolding payloadShaped headerShaped
   header-long s = leb-true _ _ (search and-left)
+
+  pub part-long : payloadShaped c partTag p ≡ true → length p ≡ partFieldSize
+  unfolding payloadShaped partShaped
+  part-long s = eqb-true _ _ (search and-left)
 
   pub directory-long : payloadShaped c 0x14 p ≡ true → 1 ≤ length p
   unfolding payloadShaped directoryShaped

@@ -11,14 +11,14 @@ use Rattle.tlv.specs.declared.fields.Step.{Step}
 use Rattle.tlv.specs.Bytes.{leAt}
 use Rattle.tlv.specs.Limits.{fieldLimit, stringLimit, reasonLimit, depthLimit}
 use Rattle.tlv.specs.Cursor.{stepAt}
-use Rattle.tlv.specs.Grammar.{mayFollow, rowShaped, valueShaped, attributeShaped, payloadShaped, payloadLimited, shaped, limited, rowFieldSize, rowKindAt}
+use Rattle.tlv.specs.Grammar.{mayFollow, rowShaped, valueShaped, attributeShaped, payloadShaped, payloadLimited, shaped, limited, partTag, partFieldSize, rowFieldSize, rowKindAt}
 use Rattle.tlv.specs.Checked.{Placed}
 use Rattle.tlv.proofs.TestLaws.{by-test, and-left, and-right}
 use Rattle.tlv.proofs.CursorLaws.{payload-within, payload-length}
 use Rattle.tlv.proofs.AcceptedFields.{entry-depth}
 use Rattle.tlv.proofs.ShapeLaws.{number-at}
 use Rattle.tlv.proofs.CheckLaws.{unit-fits}
-use Rattle.tlv.proofs.PayloadFacts.{unit-long, text-long, header-long, directory-long, file-long, file-zero-long, row-long, entry-long, attribute-long, range-long, failure-long}
+use Rattle.tlv.proofs.PayloadFacts.{unit-long, text-long, header-long, part-long, directory-long, file-long, file-zero-long, row-long, entry-long, attribute-long, range-long, failure-long}
 use Rattle.tlv.proofs.PlaceFacts.{placed-shaped, placed-limited}
 
 -- the least length of the payload of a field of a tag
@@ -60,6 +60,9 @@ module _ (s : List ℕ) (p : ℕ) (r : Step) (t start len past : ℕ) (h : Place
 
   pub placed-header : t ≡ 0x13 → 19 ≤ len
   placed-header is = by-length (λ n. 19 ≤ n) (header-long _ _ (rw is at shape))
+
+  pub placed-part : t ≡ partTag → len ≡ partFieldSize
+  placed-part is = by-length (λ n. n ≡ partFieldSize) (part-long _ _ (rw is at shape))
 
   pub placed-directory : t ≡ 0x14 → 1 ≤ len
   placed-directory is = by-length (λ n. 1 ≤ n) (directory-long _ _ (rw is at shape))

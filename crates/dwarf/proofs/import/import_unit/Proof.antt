@@ -1,31 +1,11 @@
--- `import::import_unit` meets its contract: the answer and the buffers are the definition's, with what was written where all of it fits, else cleared. Assumes nothing.
+-- `import::import_unit` meets its contract: what `import_by` promises of one unit. Assumes nothing.
 use borrow.Author.Needs.{needs}
-use Rattle.tlv.proofs.PlaceFacts.{slice-bytes}
-use Rattle.dwarf.specs.Answers.{inputsOf}
-use Rattle.dwarf.proofs.AnswerLaws.{outcome-refused, refusal-within, cleared, answers-refused, answers-done}
+use Rattle.dwarf.proofs.AnswerLaws.{of-unit}
 use Rattle.dwarf.proofs.import.import_unit.Statement.{statement}
 use Rattle.dwarf.proofs.import.import_unit.Tie as tie
 
-run-cleared-requires : tie.Need-run-cleared-requires
-run-cleared-requires c κs = search needs
-
-fitting-requires : tie.Need-fitting-requires
-fitting-requires c κs = search needs
-
-clear-requires : tie.Need-clear-requires
-clear-requires c κs = search needs
-
-clear-requires-2 : tie.Need-clear-requires-2
-clear-requires-2 c κs = search needs
-
-clear-requires-3 : tie.Need-clear-requires-3
-clear-requires-3 c κs = search needs
-
-refusal-of-requires : tie.Need-refusal-of-requires
-refusal-of-requires c κs =
-    let s = c .before .before .before .before .before .before .before .before .before .before .before .before .before .before .before .before .before .before .before .before .before .before .before .before .before .before .before .before .before .before .before .before .before .before in
-    let i = inputsOf (s .args .main .now) (s .args .supplementary .now) (s .args .program .now) (s .args .ordinal) (s .args .inlines) (s .args .call-sites) (s .args .first-file) (s .args .work .now) (s .args .records .now) (s .args .files .now) (s .args .warnings .now) in
-    refusal-within i (c .before .before .before .before .before .before .before .before .before .before .before .before .before .before .before .before .before .before .before .before .before .before .run-cleared .ensures .0) (c .before .before .before .before .before .before .before .before .before .before .before .before .before .fitting .ensures) (c .before .before .before .before .before .before .before .before .before .before .before .before .if1 .taken)
+import-by-requires : tie.Need-import-by-requires
+import-by-requires c κs = c .before .before .before .before .before .before .before .before .before .before .before .fits .first-file .fits
 
 same-length : tie.Need-same-length
 same-length c = search needs
@@ -40,55 +20,15 @@ same-length-4 : tie.Need-same-length-4
 same-length-4 c = search needs
 
 returns : tie.Need-returns
-returns c =
-    let s = c .before .before .before .before .before .before .before .before .before .before .before .before .before .before .before .before .before .before .before .before .before .before .before .before .before .before .before .before .before .before .before .before .before .before .before in
-    let i = inputsOf (s .args .main .now) (s .args .supplementary .now) (s .args .program .now) (s .args .ordinal) (s .args .inlines) (s .args .call-sites) (s .args .first-file) (s .args .work .now) (s .args .records .now) (s .args .files .now) (s .args .warnings .now) in
-    let R = c .before .before .before .before .before .before .before .before .before .before .before .before .before .before .before .before .before .before .before .before .before .before .before .run-cleared in
-    answers-refused i (record { main = slice-bytes (s .args .main .now) (c .before .before .before .before .before .before .before .before .before .before .before .before .before .before .before .before .before .before .before .before .before .before .before .before .before .before .before .before .before .before .before .before .before .before .shared-slice-known .given); supplementary = slice-bytes (s .args .supplementary .now) (c .before .before .before .before .before .before .before .before .before .before .before .before .before .before .before .before .before .before .before .before .before .before .before .before .before .before .before .before .before .before .before .before .before .shared-slice-known2 .given); firstFile = s .fits .first-file .fits })
-    (outcome-refused i (R .ensures .0) (c .before .before .before .before .before .before .before .before .before .before .before .before .before .before .fitting .ensures) (c .before .before .before .before .before .before .before .before .before .before .before .before .before .if1 .taken))
-    (c .refusal-of .ensures)
-    (R .ensures .1)
-    (cleared (s .args .records .now) (R .kept .1 .1 .1 .1 .1 .1 .1 .1 .0) (c .before .before .before .before .before .before .before .before .before .before .before .clear .ensures))
-    (cleared (s .args .files .now) (R .kept .1 .1 .1 .1 .1 .1 .1 .1 .1 .0) (c .before .before .before .before .before .before .before .clear2 .ensures))
-    (cleared (s .args .warnings .now) (R .kept .1 .1 .1 .1 .1 .1 .1 .1 .1 .1 .0) (c .before .before .before .clear3 .ensures))
-
-same-length-5 : tie.Need-same-length-5
-same-length-5 c = search needs
-
-same-length-6 : tie.Need-same-length-6
-same-length-6 c = search needs
-
-same-length-7 : tie.Need-same-length-7
-same-length-7 c = search needs
-
-same-length-8 : tie.Need-same-length-8
-same-length-8 c = search needs
-
-returns-2 : tie.Need-returns-2
-returns-2 c =
-    let s = c .before .before .before .before .before .before .before .before .before .before .before .before .before .before .before .before .before .before .before .before .before .before .before in
-    let i = inputsOf (s .args .main .now) (s .args .supplementary .now) (s .args .program .now) (s .args .ordinal) (s .args .inlines) (s .args .call-sites) (s .args .first-file) (s .args .work .now) (s .args .records .now) (s .args .files .now) (s .args .warnings .now) in
-    let R = c .before .before .before .before .before .before .before .before .before .before .before .run-cleared in
-    answers-done i (record { main = slice-bytes (s .args .main .now) (c .before .before .before .before .before .before .before .before .before .before .before .before .before .before .before .before .before .before .before .before .before .before .shared-slice-known .given); supplementary = slice-bytes (s .args .supplementary .now) (c .before .before .before .before .before .before .before .before .before .before .before .before .before .before .before .before .before .before .before .before .before .shared-slice-known2 .given); firstFile = s .fits .first-file .fits })
-    (R .ensures .0) (c .before .before .fitting .ensures) (c .before .if1 .left) (R .ensures .1)
+returns c = of-unit (c .before .before .before .before .before .before .before .before .import-by .ensures)
 
 pub import-unit-spec : {M : Type 1} → statement M
 import-unit-spec =
     tie.close
     (tie.spec
-    run-cleared-requires
-    fitting-requires
-    clear-requires
-    clear-requires-2
-    clear-requires-3
-    refusal-of-requires
+    import-by-requires
     same-length
     same-length-2
     same-length-3
     same-length-4
-    returns
-    same-length-5
-    same-length-6
-    same-length-7
-    same-length-8
-    returns-2)
+    returns)

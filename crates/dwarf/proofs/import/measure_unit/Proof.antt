@@ -1,59 +1,22 @@
--- `import::measure_unit` meets its contract: the import on buffers of one byte, whose figures do not depend on them. Assumes nothing.
-use mathlib.Core.List.{[]}
+-- `import::measure_unit` meets its contract: what `measure_by` promises of one unit. Assumes nothing.
 use borrow.Author.Needs.{needs}
-use Rattle.dwarf.specs.Answers.{inputsOf}
-use Rattle.dwarf.proofs.MeasureLaws.{refusal-in, measures-refused, measures-done}
+use Rattle.dwarf.proofs.MeasureLaws.{of-unit}
 use Rattle.dwarf.proofs.import.measure_unit.Statement.{statement}
 use Rattle.dwarf.proofs.import.measure_unit.Tie as tie
 
-slice-aggregate-run-cleared : tie.Need-slice-aggregate-run-cleared
-slice-aggregate-run-cleared c = search needs
-
-slice-aggregate-run-cleared-2 : tie.Need-slice-aggregate-run-cleared-2
-slice-aggregate-run-cleared-2 c = search needs
-
-slice-aggregate-run-cleared-3 : tie.Need-slice-aggregate-run-cleared-3
-slice-aggregate-run-cleared-3 c = search needs
-
-run-cleared-requires : tie.Need-run-cleared-requires
-run-cleared-requires c κs = search needs
-
-refusal-of-requires : tie.Need-refusal-of-requires
-refusal-of-requires c κs =
-    let s = c .before .before .before .before .before .before .before .before .before .before .before .before .before .before .before .before in
-    let i = inputsOf (s .args .main .now) (s .args .supplementary .now) (s .args .program .now) (s .args .ordinal) (s .args .inlines) (s .args .call-sites) (s .args .first-file) (s .args .work .now) [] [] [] in
-    refusal-in i (c .before .before .before .before .before .before .before .run-cleared .ensures .0) (c .if1 .taken)
+measure-by-requires : tie.Need-measure-by-requires
+measure-by-requires c κs = search needs
 
 same-length : tie.Need-same-length
 same-length c = search needs
 
 returns : tie.Need-returns
-returns c =
-    let s = c .before .before .before .before .before .before .before .before .before .before .before .before .before .before .before .before .before in
-    let i = inputsOf (s .args .main .now) (s .args .supplementary .now) (s .args .program .now) (s .args .ordinal) (s .args .inlines) (s .args .call-sites) (s .args .first-file) (s .args .work .now) [] [] [] in
-    let R = c .before .before .before .before .before .before .before .before .run-cleared in
-    measures-refused i (R .ensures .0) (c .before .if1 .taken) (c .refusal-of .ensures) (R .ensures .1)
-
-same-length-2 : tie.Need-same-length-2
-same-length-2 c = search needs
-
-returns-2 : tie.Need-returns-2
-returns-2 c =
-    let s = c .before .before .before .before .before .before .before .before .before .before .before .before .before .before .before .before .before in
-    let i = inputsOf (s .args .main .now) (s .args .supplementary .now) (s .args .program .now) (s .args .ordinal) (s .args .inlines) (s .args .call-sites) (s .args .first-file) (s .args .work .now) [] [] [] in
-    let R = c .before .before .before .before .before .before .before .before .run-cleared in
-    measures-done i (R .ensures .0) (c .before .if1 .left) (R .ensures .1)
+returns c = of-unit (c .before .before .measure-by .ensures)
 
 pub measure-unit-spec : {M : Type 1} → statement M
 measure-unit-spec =
     tie.close
     (tie.spec
-    slice-aggregate-run-cleared
-    slice-aggregate-run-cleared-2
-    slice-aggregate-run-cleared-3
-    run-cleared-requires
-    refusal-of-requires
+    measure-by-requires
     same-length
-    returns
-    same-length-2
-    returns-2)
+    returns)

@@ -1,0 +1,210 @@
+-- The import of a unit from a state: its lines are collected, its context is made, its subprograms are imported. Assumes nothing.
+use mathlib.Core.Path.{_≡_, refl, sym, ap, _∙_}
+use mathlib.Core.Bool.{Bool}
+use mathlib.Core.Logic.{inl}
+use mathlib.Core.List.{List, [], _∷_, _++_, append-assoc}
+use Prim.Native.Nat.{ℕ, _+_, _-_, _*_, _≤_}
+use native.Mathlib.Omega.{arith}
+use lib.ListN.{length, take, drop, length-take, length-drop}
+use Rattle.tlv.specs.Outcome.{refused, done, _>>=_}
+use Rattle.tlv.specs.Buffer.{top}
+use Rattle.tlv.specs.Table.{Kept, KeptBut}
+use Rattle.tlv.specs.Model.{programOf}
+use Rattle.tlv.specs.Places.{unitHere}
+use Rattle.tlv.specs.Output.{Function, Warning}
+use Rattle.tlv.proofs.BufferLaws.{_then_, put-as}
+use Rattle.tlv.proofs.RefusalLaws.{refusal-number}
+use Rattle.tlv.proofs.RecordLaws.{records-kept}
+use Rattle.tlv.proofs.TableLaws.{but-one, but-of, but-trans, here, there}
+use Rattle.lines.specs.Lines.{collectLines}
+use Rattle.lines.proofs.Refusals.{refuses-lines}
+use Rattle.files.specs.declared.index.StoredIndices.{StoredIndices}
+use Rattle.files.specs.declared.store.StoredFiles.{StoredFiles}
+use Rattle.files.specs.Indices.{indexOf, indicesOf}
+use Rattle.files.specs.Store.{extent, tableOf, Grown}
+use Rattle.files.proofs.GrownLaws.{table-kept, grown-kept, grown-trans}
+use Rattle.rows.specs.declared.«unit_lines».StoredLines.{StoredLines}
+use Rattle.rows.proofs.StoredLaws.{lines-kept, ranges-kept}
+use Rattle.collect.specs.declared.collect.CollectedLines.{CollectedLines}
+use Rattle.collect.specs.Collects.{UnitIn, linesIn, linesExtent, LinesRoom, CollectedIn, CollectsLines}
+use Rattle.collect.proofs.FrameLaws.{but-wide}
+use Rattle.references.specs.declared.tables.Tables.{Tables}
+use Rattle.references.specs.Names.{dwarfOf}
+use Rattle.dies.proofs.NodeStepLaws.{warnings-append}
+use Rattle.imports.specs.Import.{importUnitDetails, importUnit}
+use Rattle.subprograms.specs.declared.model.ImportContext.{ImportContext}
+use Rattle.subprograms.specs.declared.model.ImportState.{ImportState}
+use Rattle.subprograms.specs.Stats.{statsOf}
+use Rattle.subprograms.specs.Contexts.{contextOf, ContextIn, touched}
+use Rattle.subprograms.specs.Steps.{Imports, stateOf}
+use Rattle.subprograms.proofs.ContextLaws.{unit-of}
+use Rattle.dwarf.specs.declared.layout.Layout.{Layout}
+use Rattle.dwarf.specs.declared.part.Part.{Part}
+use Rattle.dwarf.specs.Tables.{TablesIn, LinesLaid, MakesContext}
+use Rattle.dwarf.specs.Part.{PartOf}
+use Rattle.dwarf.specs.Units.{Ready, besideTables, Grows}
+use Rattle.dwarf.proofs.TablesLaws.{keys-behind, main-behind, spans-behind, text-behind}
+
+-- a shorter program's lines have room where the whole one's have
+part-room : (main : List ℕ) (place : ℕ) (part program : List ℕ) → length part ≤ length program → linesExtent main place part ≤ linesExtent main place program
+unfolding linesExtent
+part-room main place part program h = omega arith
+
+-- a part of a program is no longer than it
+pub part-short : (a n : ℕ) (program : List ℕ) → length (take n (drop a program)) ≤ length program
+part-short a n program = rw (length-take, length-drop) (omega arith)
+
+module _ {main supplementary program w : List ℕ} {l : Layout} {x : Tables} {place : ℕ} {st : ImportState} (U : UnitIn main place)
+    (T : TablesIn main supplementary program w l x) (R : Ready main supplementary w l st) where
+  module _ (part : List ℕ) (short : length part ≤ length program) where
+    -- the lines of the part end below the executable ranges
+    lines-end : l .lines + linesExtent main place part ≤ l .text
+    lines-end = let a = T .laid .text place (unit-of U) in let b = part-room main place part program short in omega arith
+
+    text-within : l .text ≤ l .«main_units»
+    text-within = let a = text-behind (T .laid) U in let b = spans-behind (T .laid) in omega arith
+
+    pub lines-room : LinesRoom main w part (st .table) place (l .lines)
+    lines-room = record {
+      table = R .below;
+      room = let a = lines-end in let b = text-within in let c = main-behind (T .laid) in let d = keys-behind (T .laid) in let e = T .room in omega arith;
+    }
+
+    module _ {w₁ f f₁ u u₁ : List ℕ} {c : CollectedLines} (K : CollectsLines main supplementary part w w₁ f f₁ u u₁ place (st .table) (st .warned) (l .lines) c) where
+      -- below the tables of units and entries
+      low : KeptBut w w₁ (besideTables l (length w))
+      low =
+          let a = lines-end in
+          let b = text-within in
+          let d = R .below in
+          but-wide (besideTables l (length w)) (K .rest) (here (omega arith) (omega arith), (here (omega arith) (omega arith), tt))
+
+      pub collected-low : KeptBut w w₁ (besideTables l (length w))
+      collected-low = low
+
+      module _ {lines : StoredLines} {indices : StoredIndices} {t₁ : StoredFiles} {warned : ℕ} (is : c ≡ CollectedLines.Lines lines indices t₁ warned) where
+        C : CollectedIn main supplementary part w w₁ f f₁ u u₁ place (st .table) (st .warned) (l .lines) lines indices t₁ warned
+        C = rw is at (K .is)
+
+        grown-below : t₁ .base + extent t₁ ≤ l .lines
+        grown-below = let a = C .grown .base in let b = C .grown .room in let c = R .below in omega arith
+
+        pub lines-laid : LinesLaid w₁ l lines indices
+        lines-laid = record {
+          rows = C .rows;
+          from = C .from;
+          map = C .indices;
+          sequences = C .sequences;
+          within = let a = C .within in let b = lines-end in omega arith;
+        }
+
+        pub warned-fits : warned ≤ top
+        warned-fits = let a = C .put .place in omega arith
+
+        module _ {w₂ : List ℕ} {inlines callSites : Bool} {q : ImportContext} (M : MakesContext main supplementary w₁ w₂ l place lines indices inlines callSites q) where
+          pub context-stands : ContextIn main supplementary w₂ q t₁
+          context-stands = M .context t₁ grown-below (C .grown .holds)
+
+          -- all of the lines stands below the text
+          lines-same : linesIn w₂ lines indices ≡ linesIn w₁ lines indices
+          unfolding linesIn indicesOf
+          lines-same =
+              let a = C .within in
+              let b = lines-end in
+              let d = C .rows .lines in
+              let e = C .rows .sequences in
+              let g = C .indices in
+              λ i. record {
+                entries = lines-kept (lines .lines) (lines .«line_count») (M .rest) (inl (omega arith)) i;
+                files = records-kept indexOf 5 (indices .base) (indices .count) (M .rest) (inl (omega arith)) i;
+                sequences = ranges-kept (lines .sequences) (lines .«sequence_count») (M .rest) (inl (omega arith)) i;
+              }
+
+          lines-are : linesIn w₂ (q .lines) (q .places .indices) ≡ linesIn w₁ lines indices
+          lines-are = (λ i. linesIn w₂ (M .lines-is i) (M .indices-is i)) ∙ lines-same
+
+          -- the file table stands below the lines
+          table-clear : t₁ .base + extent t₁ ≤ l .text
+          table-clear = let a = lines-end in let b = grown-below in omega arith
+
+          table-same : tableOf main supplementary w₂ t₁ ≡ tableOf main supplementary w₁ t₁
+          table-same = table-kept (C .grown .holds) (but-one (M .rest)) (inl table-clear, tt)
+
+          module _ (same-part : part ≡ programOf (unitHere main place) program) where
+            -- the definition goes on from the context that was made
+            imported : (rs : List Function) (ws : List Warning)
+                → importUnit (dwarfOf main supplementary) (unitHere main place) program inlines callSites (stateOf main supplementary w st rs ws)
+                ≡ importUnitDetails (contextOf main supplementary w₂ q) (unitHere main (q .unit) .entries)
+                (record { table = tableOf main supplementary w₂ t₁; records = rs; warnings = ws ++ C .new; stats = statsOf (st .stats) })
+            unfolding importUnit _>>=_
+            imported rs ws =
+                rw (sym same-part, C .collected)
+                (sym (λ i. importUnitDetails
+                (record {
+                  dwarf = dwarfOf main supplementary;
+                  unit = unitHere main (M .unit-is i);
+                  lines = lines-are i;
+                  includeInlines = M .inlines-is i;
+                  includeCallSites = M .call-sites-is i;
+                })
+                (unitHere main (M .unit-is i) .entries)
+                (record { table = table-same i; records = rs; warnings = ws ++ C .new; stats = statsOf (st .stats) })))
+
+            module _ {w₃ t t₃ f₃ u₃ : List ℕ} {r : ImportState} (size₁ : length w₁ ≡ length w) (size₂ : length w₂ ≡ length w₁)
+                (I : Imports (importUnitDetails (contextOf main supplementary w₂ q) (unitHere main (q .unit) .entries)) main supplementary q w₂ t f₁ u₁
+                (record { table = t₁; at = st .at; warned = warned; stats = st .stats; status = 0 }) w₃ t₃ f₃ u₃ r) where
+              -- what the subprograms' import writes lies beside the tables
+              beside : KeptBut w₂ w₃ (touched main supplementary q t₁) → KeptBut w₂ w₃ (besideTables l (length w))
+              beside k =
+                  let O = context-stands .ordered in
+                  let a = grown-below in
+                  let b = table-clear in
+                  let d = text-within in
+                  let e = O .buffer in
+                  let g = O .text in
+                  let h = spans-behind (T .laid) in
+                  let p = M .spans-is in
+                  let o = M .room-is in
+                  let v = M .ranges-is in
+                  let z = context-stands .tables .keys .room in
+                  let y = O .ranges in
+                  let y₂ = O .stack in
+                  let y₃ = O .sites in
+                  but-wide (besideTables l (length w)) k
+                  (here (omega arith) (omega arith), (here (omega arith) (omega arith), (here (omega arith) (omega arith), (there (here (omega arith) (omega arith)), tt))))
+
+              pub unit-grows : Grows (importUnit (dwarfOf main supplementary) (unitHere main place) program inlines callSites) main supplementary (besideTables l (length w))
+                  w t f u st w₃ t₃ f₃ u₃ r
+              unit-grows = record {
+                records = I .records;
+                new = C .new ++ I .new;
+                laid = I .laid;
+                warned = λ e. put-as (warnings-append (C .new) (I .new)) (C .put then I .warned e);
+                grown = λ e. grown-trans (grown-kept (C .grown) (but-one (M .rest)) (inl table-clear, tt) size₂) (I .grown e);
+                kept = λ e. but-trans low (but-trans (let a = text-behind (T .laid) U in let b = spans-behind (T .laid) in but-of (M .rest) (here (omega arith) (omega arith))) (beside (I .kept e)));
+                ok = λ e rs ws. imported rs ws ∙ I .ok e rs (ws ++ C .new) ∙ rw (append-assoc ws (C .new) (I .new));
+                no = λ e rs ws. imported rs ws ∙ I .no e rs (ws ++ C .new);
+              }
+
+      -- ---- its lines are refused
+
+      module _ {n : ℕ} (is : c ≡ CollectedLines.Refused n) (same-part : part ≡ programOf (unitHere main place) program) where
+        refusing : collectLines (unitHere main place) part (tableOf main supplementary w (st .table)) ≡ refused n
+        refusing = rw is at (K .is)
+
+        pub unit-refused : (inlines callSites : Bool) {t t₃ f₃ u₃ w₃ : List ℕ} {r : ImportState} → r .status ≡ n
+            → Grows (importUnit (dwarfOf main supplementary) (unitHere main place) program inlines callSites) main supplementary (besideTables l (length w)) w t f u st w₃ t₃ f₃ u₃ r
+        unfolding importUnit _>>=_
+        unit-refused inlines callSites {r = r} s =
+            let number = refusal-number (refuses-lines (unitHere main place) part (tableOf main supplementary w (st .table))) refusing in
+            let none : r .status ≡ 0 → ⊥ = λ e. omega (arith, number) in
+            record {
+              records = [];
+              new = [];
+              laid = λ e. absurd (none e);
+              warned = λ e. absurd (none e);
+              grown = λ e. absurd (none e);
+              kept = λ e. absurd (none e);
+              ok = λ e. absurd (none e);
+              no = λ e rs ws. rw (sym same-part, refusing, s);
+            }

@@ -1,0 +1,73 @@
+-- `run::import_worked` meets its contract: the file table and the tables of both inputs stand before the first unit. Assumes nothing.
+use borrow.Author.Needs.{needs}
+use mathlib.Core.Path.{_∙_}
+use native.Mathlib.Omega.{arith}
+use Rattle.dwarf.proofs.EachLaws.{units-many}
+use Rattle.dwarf.proofs.RunLaws.{all-room, files-room, ready-first, writes-units}
+use Rattle.dwarf.proofs.run.import_worked.Statement.{statement}
+use Rattle.dwarf.proofs.run.import_worked.Tie as tie
+
+lay-out-requires : tie.Need-lay-out-requires
+lay-out-requires c κs =
+    let P = c .before .before .before .before .before .before .before .pre in (P .0 .0, (P .0 .1, P .1 .0 .program-within))
+
+new-files-requires : tie.Need-new-files-requires
+new-files-requires c κs =
+    let P = c .before .before .before .before .before .before .before .before .before .pre in
+    let L = c .before .lay-out .ensures in
+    let main-small = P .1 .0 .main-within in
+    let supplementary-small = P .1 .0 .supplementary-within in (L .few, (L .small, (files-room (P .0 .0) (P .0 .1) (P .1 .1) L, (omega arith, omega arith))))
+
+index-inputs-requires : tie.Need-index-inputs-requires
+index-inputs-requires c κs =
+    let P = c .before .before .before .before .before .before .before .before .before .before .before .before .before .pre in
+    let L = c .before .before .before .before .before .lay-out .ensures in
+    let room = all-room (P .0 .0) (P .0 .1) (P .1 .1) L in
+    let size = c .before .before .before .new-files .kept .1 .1 .0 in (P .0, ((P .1 .0 .main-within, P .1 .0 .supplementary-within), (L, omega arith)))
+
+chosen-units-requires : tie.Need-chosen-units-requires
+chosen-units-requires c κs = search needs
+
+no-stats-requires : tie.Need-no-stats-requires
+no-stats-requires c κs = search needs
+
+import-each-requires : tie.Need-import-each-requires
+import-each-requires c κs =
+    let K = c .before .before .before .before .before .chosen-units .ensures in
+    let X = c .before .before .before .before .before .before .before .before .before .index-inputs .ensures in ((K .order, K .within), (X .tables, ready-first (c .before .before .before .before .before .before .before .before .before .before .before .before .before .before .before .lay-out .ensures) (c .before .before .before .before .before .before .before .before .before .before .before .before .before .new-files .ensures) X (c .before .before .before .before .before .before .before .before .before .index-inputs .kept .1 .1 .1 .0) (c .before .before .before .before .no-stats .ensures)))
+
+lengths-of-requires : tie.Need-lengths-of-requires
+lengths-of-requires c κs = search needs
+
+same-length : tie.Need-same-length
+same-length c = c .before .before .before .before .before .before .before .before .before .import-each .kept .1 .1 .1 .1 .1 .1 .1 .1 .0 ∙ c .before .before .before .before .before .before .before .before .before .before .before .before .before .before .before .before .before .before .before .index-inputs .kept .1 .1 .1 .0 ∙ c .before .before .before .before .before .before .before .before .before .before .before .before .before .before .before .before .before .before .before .before .before .before .before .new-files .kept .1 .1 .0
+
+same-length-2 : tie.Need-same-length-2
+same-length-2 c = search needs
+
+same-length-3 : tie.Need-same-length-3
+same-length-3 c = search needs
+
+same-length-4 : tie.Need-same-length-4
+same-length-4 c = search needs
+
+returns : tie.Need-returns
+returns c =
+    let X = c .before .before .before .before .before .before .before .before .before .before .before .before .before .before .before .before .before .before .before .index-inputs .ensures in writes-units (c .before .before .before .before .before .before .before .before .before .before .before .before .before .before .before .before .before .before .before .before .before .before .before .before .before .lay-out .ensures) (c .before .before .before .before .before .before .before .before .before .before .before .before .before .before .before .before .before .before .before .before .before .before .before .new-files .ensures) X (c .before .before .before .before .before .before .before .before .before .before .before .before .before .before .before .before .before .before .before .index-inputs .kept .1 .1 .1 .0) (c .before .before .before .before .before .before .before .before .before .before .before .before .before .before .no-stats .ensures) (c .before .before .before .before .before .before .before .before .before .before .before .before .before .before .before .chosen-units .ensures) (units-many (X .tables)) (c .before .before .before .before .before .before .before .before .before .before .before .before .before .before .before .before .before .before .before .before .before .before .before .before .before .before .before .before .before .before .before .before .before .args .options .inlines) (c .before .before .before .before .before .before .before .before .before .before .before .before .before .before .before .before .before .before .before .before .before .before .before .before .before .before .before .before .before .before .before .before .before .args .options .«call_sites») (c .lengths-of .ensures) (c .before .before .before .before .before .before .before .before .before .import-each .ensures)
+
+pub import-worked-spec : {M : Type 1} → statement M
+import-worked-spec =
+    tie.close
+    (tie.spec
+    lay-out-requires
+    new-files-requires
+    index-inputs-requires
+    chosen-units-requires
+    no-stats-requires
+    import-each-requires
+    lengths-of-requires
+    same-length
+    same-length-2
+    same-length-3
+    same-length-4
+    returns)

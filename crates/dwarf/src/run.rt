@@ -1,0 +1,253 @@
+// An import up to refusal 15: what is written to the output buffers is cut off at their ends.
+ghost use mathlib.Core.Path.{_≡_};
+ghost use Prim.Native.Nat.{ℕ};
+ghost use lib.ListN.{length, replicate};
+ghost use Rattle.tlv.specs.Model.{units};
+ghost use Rattle.references.specs.Names.{dwarfOf};
+ghost use Rattle.dies.specs.DetailState.{Accepted};
+ghost use Rattle.imports.specs.Import.{importUnits};
+ghost use Rattle.dwarf.specs.Checks.{BothAccepted, NotOversize, WorkEnough};
+ghost use Rattle.dwarf.specs.Runs.{inputsBy, importAll, chosenUnits, Chooses, importAccepted, startState, LengthsOf, Writes, fitStatus};
+use crate::checks::BothChecked;
+use crate::checks::check_both;
+use crate::checks::is_missing;
+use crate::checks::is_oversize;
+use crate::checks::is_short;
+use crate::layout::lay_out;
+use crate::model::Options;
+use crate::tables::index_inputs;
+use crate::unit::import_each;
+use files::store::new_files;
+use subprograms::model::ConversionStats;
+use subprograms::model::ImportState;
+use subprograms::model::no_stats;
+
+// The full lengths of what an import writes, the statistics, and the refusal, 0 for none.
+pub struct Ran {
+    pub records: usize,
+    pub files: usize,
+    pub warnings: usize,
+    pub stats: ConversionStats,
+    pub status: u8,
+}
+
+// The units from number `from` to below `to`.
+pub struct Chosen {
+    pub from: usize,
+    pub to: usize,
+}
+
+fn refused(n: u8) -> Ran
+    ensures { λ r. ⌜ r .status ≡ n ⌝ }
+{
+    Ran {
+        records: 0,
+        files: 0,
+        warnings: 0,
+        stats: no_stats(),
+        status: n,
+    }
+}
+
+// The lengths and statistics of a state.
+fn lengths_of(st: ImportState) -> Ran
+    ensures { λ r. ⌜ LengthsOf st r ⌝ }
+{
+    let table = st.table;
+    let stats = st.stats;
+    Ran {
+        records: st.at,
+        files: table.written,
+        warnings: st.warned,
+        stats: stats,
+        status: st.status,
+    }
+}
+
+// Which of so many units are asked for: a package without debug data has none.
+fn chosen_units(options: Options, count: usize) -> Chosen
+    ensures { λ r. ⌜ Chooses options count r ⌝ }
+{
+    if options.all {
+        return Chosen { from: 0, to: count };
+    }
+    if (count as u64) <= options.ordinal {
+        return Chosen { from: 0, to: 0 };
+    }
+    let from = options.ordinal as usize;
+    Chosen {
+        from: from,
+        to: from + 1,
+    }
+}
+
+// The import of the units that are asked for, with work enough: the file table is begun and the tables of both inputs are made once for all.
+fn import_worked<'a>(
+    main: &'a [u8],
+    supplementary: &'a [u8],
+    program: &[u8],
+    options: Options,
+    work: &mut [u8],
+    records: &mut [u8],
+    files: &mut [u8],
+    warnings: &mut [u8],
+) -> Ran
+    requires { ⌜ (Accepted (now main)) × (Accepted (now supplementary)) ⌝ }
+    requires { ⌜ NotOversize (now main) (now supplementary) (now program) ⌝ }
+    requires { ⌜ WorkEnough (now main) (now supplementary) (now program) (now work) ⌝ }
+    ensures { λ r. ⌜ (
+        let us = chosenUnits options (units (now (main .entry))) in
+        let d = dwarfOf (now (main .entry)) (now (supplementary .entry)) in
+        Writes (importUnits d us (now (program .entry)) (options .inlines) (options .«call_sites») (startState (options .«first_file»)))
+        (now (records .entry)) (now (files .entry)) (now (warnings .entry)) (now (records .exit)) (now (files .exit)) (now (warnings .exit)) r) ⌝ }
+{
+    let l = lay_out(main, supplementary, program);
+    let empty = new_files(main, supplementary, work, 0, l.room, options.first_file, 0);
+    let tables = index_inputs(main, supplementary, program, work, l);
+    let index = tables.main;
+    let chosen = chosen_units(options, index.unit_count);
+    let begun = ImportState {
+        table: empty,
+        at: 0,
+        warned: 0,
+        stats: no_stats(),
+        status: 0,
+    };
+    lengths_of(import_each(
+        main,
+        supplementary,
+        program,
+        chosen.from,
+        chosen.to,
+        l,
+        tables,
+        options,
+        work,
+        records,
+        files,
+        warnings,
+        begun,
+    ))
+}
+
+// Refusals 4 and 5, and the import of two accepted inputs with so many fields.
+fn import_accepted<'a>(
+    main: &'a [u8],
+    supplementary: &'a [u8],
+    program: &[u8],
+    options: Options,
+    number: usize,
+    work: &mut [u8],
+    records: &mut [u8],
+    files: &mut [u8],
+    warnings: &mut [u8],
+) -> Ran
+    requires { ⌜ BothAccepted (now main) (now supplementary) (length (now program)) number ⌝ }
+    requires { ⌜ NotOversize (now main) (now supplementary) (now program) ⌝ }
+    ensures { λ r. ⌜ (
+        let i = inputsBy (now (main .entry)) (now (supplementary .entry)) (now (program .entry)) options (now (work .entry)) (now (records .entry)) (now (files .entry)) (now (warnings .entry)) in
+        Writes (importAccepted options i number)
+        (now (records .entry)) (now (files .entry)) (now (warnings .entry)) (now (records .exit)) (now (files .exit)) (now (warnings .exit)) r) ⌝ }
+{
+    if is_missing(main, options) {
+        return refused(4);
+    }
+    if is_short(work, number, program) {
+        return refused(5);
+    }
+    import_worked(
+        main,
+        supplementary,
+        program,
+        options,
+        work,
+        records,
+        files,
+        warnings,
+    )
+}
+
+// The import up to refusal 15.
+fn run_import<'a>(
+    main: &'a [u8],
+    supplementary: &'a [u8],
+    program: &[u8],
+    options: Options,
+    work: &mut [u8],
+    records: &mut [u8],
+    files: &mut [u8],
+    warnings: &mut [u8],
+) -> Ran
+    ensures { λ r. ⌜ (
+        let i = inputsBy (now (main .entry)) (now (supplementary .entry)) (now (program .entry)) options (now (work .entry)) (now (records .entry)) (now (files .entry)) (now (warnings .entry)) in
+        Writes (importAll (options .all) i)
+        (now (records .entry)) (now (files .entry)) (now (warnings .entry)) (now (records .exit)) (now (files .exit)) (now (warnings .exit)) r) ⌝ }
+{
+    if is_oversize(main, supplementary, program) {
+        return refused(1);
+    }
+    match check_both(main, supplementary, program.len()) {
+        BothChecked::Refused(n) => refused(n),
+        BothChecked::Accepted(number) => import_accepted(
+            main,
+            supplementary,
+            program,
+            options,
+            number,
+            work,
+            records,
+            files,
+            warnings,
+        ),
+    }
+}
+
+// The same, after which work holds only 0.
+pub fn run_cleared<'a>(
+    main: &'a [u8],
+    supplementary: &'a [u8],
+    program: &[u8],
+    options: Options,
+    work: &mut [u8],
+    records: &mut [u8],
+    files: &mut [u8],
+    warnings: &mut [u8],
+) -> Ran
+    ensures { λ r. ⌜ (
+        let i = inputsBy (now (main .entry)) (now (supplementary .entry)) (now (program .entry)) options (now (work .entry)) (now (records .entry)) (now (files .entry)) (now (warnings .entry)) in
+        (Writes (importAll (options .all) i)
+        (now (records .entry)) (now (files .entry)) (now (warnings .entry)) (now (records .exit)) (now (files .exit)) (now (warnings .exit)) r)
+        × (now (work .exit) ≡ replicate (length (now (work .entry))) 0)) ⌝ }
+{
+    let r = run_import(
+        main,
+        supplementary,
+        program,
+        options,
+        work,
+        records,
+        files,
+        warnings,
+    );
+    tlv::table::clear(work);
+    r
+}
+
+// Refusals 16 to 18, where there is no other: the lowest of an output buffer that is shorter than what was to be written to it.
+pub fn fitting(r: Ran, records: usize, files: usize, warnings: usize) -> u8
+    ensures { λ n. ⌜ n ≡ fitStatus r records files warnings ⌝ }
+{
+    if r.status != 0 {
+        return r.status;
+    }
+    if records < r.records {
+        return 16;
+    }
+    if files < r.files {
+        return 17;
+    }
+    if warnings < r.warnings {
+        return 18;
+    }
+    0
+}

@@ -1,0 +1,56 @@
+// The tables of both inputs' units and entries in the work slice.
+ghost use Prim.Native.Nat.{_+_, _*_, _≤_};
+ghost use lib.ListN.{length};
+ghost use Rattle.tlv.specs.Limits.{inputLimit};
+ghost use Rattle.tlv.specs.Fields.{fields, payloads, wholeFields};
+ghost use Rattle.tlv.specs.Places.{unitPlaces};
+ghost use Rattle.dies.specs.DetailState.{Accepted};
+ghost use Rattle.dwarf.specs.Layout.{LaidOut, keysRoom};
+ghost use Rattle.dwarf.specs.Tables.{IndexesInput, IndexesInputs};
+use crate::layout::Layout;
+use references::tables::Index;
+use references::tables::Tables;
+
+// The units and the entries of an input, in tables of the work slice.
+fn index_input(s: &[u8], work: &mut [u8], units: usize, entries: usize) -> Index
+    requires { ⌜ Accepted (now s) ⌝ }
+    requires { ⌜ length (now s) ≤ inputLimit ⌝ }
+    requires { ⌜ units + 24 * length (unitPlaces 0 (fields (now s))) ≤ entries ⌝ }
+    requires { ⌜ entries + 16 * length (payloads 0x17 (wholeFields (fields (now s)))) ≤ length (now work) ⌝ }
+    ensures { λ r. ⌜ IndexesInput (now (s .entry)) (now (work .entry)) (now (work .exit)) units entries r ⌝ }
+{
+    Index {
+        units: units,
+        unit_count: tlv::units::index_units(s, work, units),
+        entries: entries,
+        entry_count: tlv::index::index_entries(s, work, entries),
+    }
+}
+
+// The tables of both inputs, once for all units of an import.
+pub fn index_inputs(
+    main: &[u8],
+    supplementary: &[u8],
+    program: &[u8],
+    work: &mut [u8],
+    l: Layout,
+) -> Tables
+    requires { ⌜ (Accepted (now main)) × (Accepted (now supplementary)) ⌝ }
+    requires { ⌜ (length (now main) ≤ inputLimit) × (length (now supplementary) ≤ inputLimit) ⌝ }
+    requires { ⌜ LaidOut (now main) (now supplementary) (now program) l ⌝ }
+    requires { ⌜ l .keys + keysRoom (now main) (now supplementary) ≤ length (now work) ⌝ }
+    ensures { λ r. ⌜ IndexesInputs (now (main .entry)) (now (supplementary .entry)) (now (program .entry)) (now (work .entry)) (now (work .exit)) l r ⌝ }
+{
+    let m = index_input(main, work, l.main_units, l.main_entries);
+    let s = index_input(
+        supplementary,
+        work,
+        l.supplementary_units,
+        l.supplementary_entries,
+    );
+    Tables {
+        main: m,
+        supplementary: s,
+        keys: l.keys,
+    }
+}

@@ -1,0 +1,13 @@
+pub mod ContextLaws
+pub mod StepLaws
+pub mod SequenceLaws
+pub mod DeclaredLineLaws
+pub mod FunctionLineLaws
+pub mod NextEntryLaws
+pub mod DetailStepLaws
+pub mod RangeStepLaws
+pub mod CandidateLaws
+pub mod RangesLaws
+pub mod EntryStepLaws
+pub mod UnitLaws
+pub mod TextLaws

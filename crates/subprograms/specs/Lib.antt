@@ -1,0 +1,5 @@
+pub mod Stats
+pub mod Text
+pub mod Contexts
+pub mod Entries
+pub mod Steps

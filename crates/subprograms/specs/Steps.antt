@@ -1,0 +1,151 @@
+-- What each step of the import of a unit promises, in terms of the definition's step. Assumes nothing.
+use mathlib.Core.Path.{_≡_}
+use mathlib.Core.Bool.{Bool, cond}
+use mathlib.Core.List.{List, [], _∷_, _++_}
+use mathlib.Core.Option.{Option}
+use Prim.Native.Nat.{ℕ, _+_}
+use lib.ListN.{length}
+use Rattle.tlv.specs.declared.model.AddressRange.{AddressRange}
+use Rattle.tlv.specs.declared.model.LineEntry.{LineEntry}
+use Rattle.tlv.specs.Outcome.{Outcome, refused, done, _>>=_}
+use Rattle.tlv.specs.Buffer.{Put}
+use Rattle.tlv.specs.Fields.{encode}
+use Rattle.tlv.specs.Table.{Kept, KeptBut}
+use Rattle.tlv.specs.Model.{Entry, EntryRange}
+use Rattle.tlv.specs.Places.{entryHere, unitHere}
+use Rattle.tlv.specs.Output.{Function, Warning, eachOf, rowPayload, recordsBytes, warningsBytes, about, rejectedRange}
+use Rattle.lines.specs.Files.{FileTable}
+use Rattle.lines.specs.Rows.{forRange}
+use Rattle.files.specs.Store.{tableOf, Grown}
+use Rattle.references.specs.Search.{resolveDeclarationLine}
+use Rattle.imports.specs.Tree.{Descendants}
+use Rattle.imports.specs.Import.{State, ImportContext, statementSequenceOffset, sequenceWarning, declarationIf, linesWith, isTombstone, isLiveRange, rejected, importRange, importSubprogram, isSubprogram, descendantsOf}
+use Rattle.dies.specs.declared.dies.Details.{Details}
+use Rattle.dies.specs.declared.dies.Warned.{Warned}
+use Rattle.dies.specs.Details.{entriesFrom, detailBytes}
+use Rattle.subprograms.specs.declared.model.ImportState.{ImportState}
+use Rattle.subprograms.specs.declared.model.ImportContext.{ImportContext as Context}
+use Rattle.subprograms.specs.declared.functions.FoundLines.{FoundLines}
+use Rattle.subprograms.specs.Stats.{statsOf, withFunction, withRejected}
+use Rattle.subprograms.specs.Contexts.{touched, walkExtent}
+
+-- ---- the rows of a record
+
+-- rows as fields 42
+abbrev pub linesBytes : List LineEntry → List ℕ
+linesBytes ls = eachOf (λ l. encode 0x42 (rowPayload l)) ls
+
+-- a record's rows, and the file table and the warnings after they were found
+pub record FunctionLines : Type 0 where
+  pub rows : List LineEntry
+  pub table : FileTable
+  pub warnings : List Warning
+
+-- the declaration of an entry as the only row
+unfoldable pub declaredLine : ImportContext → Entry → ℕ → FileTable → List Warning → Outcome FunctionLines
+declaredLine q e start table ws =
+    resolveDeclarationLine (q .dwarf) (q .unit) e (q .lines .files) table ws >>= λ d.
+    done (record { rows = linesWith (record { start = start; end = start }) (d .found) []; table = d .table; warnings = d .warnings })
+
+-- what importRange does first: the rows of a range of an entry, else its declaration
+unfoldable pub functionLines : ImportContext → Entry → AddressRange → FileTable → List Warning → Outcome FunctionLines
+functionLines q e r table ws =
+    let requested = statementSequenceOffset (q .unit) e in
+    let own = forRange (q .lines) r requested in
+    sequenceWarning (q .unit) e requested (own .invalid) >>= λ new.
+    declarationIf q e table (ws ++ new) (own .rows) >>= λ d.
+    done (record { rows = linesWith r (d .found) (own .rows); table = d .table; warnings = d .warnings })
+
+-- the warning of an invalid statement sequence was laid, or it is refused
+pub record SequenceWarned (main : List ℕ) (unit p : ℕ) (requested : Option ℕ) (invalid : Bool) (at : ℕ) (u u′ : List ℕ) (r : Warned) : Type 0 where
+  pub new : List Warning
+  pub ok : r .status ≡ 0 → sequenceWarning (unitHere main unit) (entryHere main p) requested invalid ≡ done new
+  pub laid : r .status ≡ 0 → Put at (warningsBytes new) u u′ (r .at)
+  pub no : (r .status ≡ 0 → ⊥) → sequenceWarning (unitHere main unit) (entryHere main p) requested invalid ≡ refused (r .status)
+
+-- what the definition does by F is done in memory: rows, files and warnings are laid, and the file table stands in w′; or it is refused
+pub record FindsLines (F : FileTable → List Warning → Outcome FunctionLines) (main supplementary : List ℕ) (q : Context)
+    (w t f u : List ℕ) (st : ImportState) (w′ t′ f′ u′ : List ℕ) (r : FoundLines) : Type 0 where
+  pub rows : List LineEntry
+  pub new : List Warning
+  pub count : r .status ≡ 0 → r .count ≡ length rows
+  pub laid : r .status ≡ 0 → Put (st .at) (linesBytes rows) t t′ (r .at)
+  pub warned : r .status ≡ 0 → Put (st .warned) (warningsBytes new) u u′ (r .warned)
+  pub grown : r .status ≡ 0 → Grown main supplementary w w′ f f′ (st .table) (r .table)
+  pub kept : r .status ≡ 0 → KeptBut w w′ (touched main supplementary q (st .table))
+  pub ok : r .status ≡ 0 → (ws : List Warning)
+      → F (tableOf main supplementary w (st .table)) ws ≡ done (record { rows = rows; table = tableOf main supplementary w′ (r .table); warnings = ws ++ new })
+  pub no : (r .status ≡ 0 → ⊥) → (ws : List Warning) → F (tableOf main supplementary w (st .table)) ws ≡ refused (r .status)
+
+-- ---- nodes and call sites of a record
+
+abbrev pub detailsOf : Context → AddressRange → Details
+detailsOf q r = record {
+  tables = q .places .tables;
+  unit = q .unit;
+  indices = q .places .indices;
+  range = r;
+  «include_inlines» = q .«include_inlines»;
+  «include_call_sites» = q .«include_call_sites»;
+  ranges = q .ranges;
+  stack = q .stack;
+  sites = q .sites;
+}
+
+-- the outcome o of the walk below a subprogram is laid, and its record with so many rows is counted; or it is refused
+pub record ImportsDetails (o : Outcome Descendants) (main supplementary : List ℕ) (q : Context) (name : List ℕ) (range : AddressRange) (rows : ℕ)
+    (w t u : List ℕ) (st : ImportState) (w′ t′ u′ : List ℕ) (r : ImportState) : Type 0 where
+  pub table : r .table ≡ st .table
+  pub rest : Kept w w′ (q .ranges) (walkExtent main supplementary q)
+  pub descendants : Descendants
+  pub ok : r .status ≡ 0 → o ≡ done descendants
+  pub laid : r .status ≡ 0 → Put (st .at) (detailBytes name range descendants) t t′ (r .at)
+  pub warned : r .status ≡ 0 → Put (st .warned) (warningsBytes (descendants .warnings)) u u′ (r .warned)
+  pub counted : r .status ≡ 0 → statsOf (r .stats) ≡ withFunction rows (length (descendants .inlines)) (statsOf (st .stats))
+  pub no : (r .status ≡ 0 → ⊥) → o ≡ refused (r .status)
+
+-- ---- steps from a state to a state
+
+-- the definition's state that stands in w, with the records and warnings that were laid
+abbrev pub stateOf : List ℕ → List ℕ → List ℕ → ImportState → List Function → List Warning → State
+stateOf main supplementary w st rs ws = record {
+  table = tableOf main supplementary w (st .table);
+  records = rs;
+  warnings = ws;
+  stats = statsOf (st .stats);
+}
+
+-- what the definition does by F is done in memory: new records, files and warnings are laid, and the rest of the state stands in w′; or it is refused
+pub record Imports (F : State → Outcome State) (main supplementary : List ℕ) (q : Context) (w t f u : List ℕ) (st : ImportState) (w′ t′ f′ u′ : List ℕ) (r : ImportState) : Type 0 where
+  pub records : List Function
+  pub new : List Warning
+  pub laid : r .status ≡ 0 → Put (st .at) (recordsBytes records) t t′ (r .at)
+  pub warned : r .status ≡ 0 → Put (st .warned) (warningsBytes new) u u′ (r .warned)
+  pub grown : r .status ≡ 0 → Grown main supplementary w w′ f f′ (st .table) (r .table)
+  pub kept : r .status ≡ 0 → KeptBut w w′ (touched main supplementary q (st .table))
+  pub ok : r .status ≡ 0 → (rs : List Function) (ws : List Warning)
+      → F (stateOf main supplementary w st rs ws) ≡ done (stateOf main supplementary w′ r (rs ++ records) (ws ++ new))
+  pub no : (r .status ≡ 0 → ⊥) → (rs : List Function) (ws : List Warning) → F (stateOf main supplementary w st rs ws) ≡ refused (r .status)
+
+-- a range was rejected; the warnings go on at `warned`
+pub record Rejects (st : ImportState) (warned : ℕ) (r : ImportState) : Type 0 where
+  pub table : r .table ≡ st .table
+  pub at : r .at ≡ st .at
+  pub warned-is : r .warned ≡ warned
+  pub status : r .status ≡ st .status
+  pub counted : statsOf (r .stats) ≡ withRejected (statsOf (st .stats))
+
+-- the entries below the one at place p
+abbrev pub belowEntry : List ℕ → ℕ → List Entry
+belowEntry main p = descendantsOf (entryHere main p .depth) (entriesFrom main (p + 15))
+
+-- one range of importRanges
+unfoldable pub importOne : ImportContext → Entry → List Entry → List ℕ → EntryRange → State → Outcome State
+importOne q e below name r s =
+    cond (isTombstone (q .unit .text) r) (done (rejected [] s))
+    (cond (isLiveRange (q .unit .text) (r .range)) (importRange q e below name (r .range) s)
+    (done (rejected (about rejectedRange (r .range .start) (r .range .end) ∷ []) s)))
+
+-- one entry of importUnitDetails
+unfoldable pub importEntry : ImportContext → Entry → List Entry → State → Outcome State
+importEntry q e below s = cond (isSubprogram e) (importSubprogram q e below s) (done s)

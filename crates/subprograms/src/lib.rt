@@ -1,0 +1,5 @@
+// The subprograms of a unit: their ranges, rows and records (the Rust's import_unit_details).
+pub mod functions;
+pub mod model;
+pub mod text;
+pub mod units;

@@ -1,0 +1,366 @@
+// The subprograms of a unit and their ranges (the Rust's import_unit_details).
+ghost use mathlib.Core.Path.{_≡_};
+ghost use mathlib.Core.Bool.{_&&_};
+ghost use Prim.Native.Nat.{ℕ, _+_, _≤_, _<_};
+ghost use lib.Dec.{eqb};
+ghost use lib.ListN.{length};
+ghost use Rattle.tlv.specs.Bytes.{leAt};
+ghost use Rattle.tlv.specs.Buffer.{top};
+ghost use Rattle.tlv.specs.Checked.{Placed};
+ghost use Rattle.tlv.specs.Places.{entryHere, unitHere};
+ghost use Rattle.tlv.specs.Model.{dieRanges};
+ghost use Rattle.references.specs.Tables.{EntryKnown};
+ghost use Rattle.dies.specs.Details.{EntriesKnown};
+ghost use Rattle.imports.specs.Import.{importRanges, importByFailure, importUnitDetails};
+ghost use Rattle.subprograms.specs.Contexts.{ContextIn, contextOf};
+ghost use Rattle.subprograms.specs.Entries.{BeginsAt};
+ghost use Rattle.subprograms.specs.Steps.{Rejects, belowEntry, importOne, importEntry, Imports};
+use crate::model::ImportContext;
+use crate::model::ImportState;
+use references::names::FoundName;
+use references::names::found_name;
+use tlv::access::Own;
+use tlv::fields::Step;
+use tlv::model::AddressRange;
+
+// The state after a rejected range, with the place in the warnings.
+fn reject(st: ImportState, warned: usize) -> ImportState
+    ensures { λ r. ⌜ Rejects st warned r ⌝ }
+{
+    let table = st.table;
+    let stats = st.stats;
+    ImportState {
+        table: table,
+        at: st.at,
+        warned: warned,
+        stats: crate::model::count_rejected(stats),
+        status: st.status,
+    }
+}
+
+// The place of the next entry or unit from place p on, or the end.
+fn next_entry(s: &[u8], p: usize) -> usize
+    requires { ⌜ Placed (now s) p ⌝ }
+    ensures { λ r. ⌜ ((unit : ℕ) → EntriesKnown (now (s .entry)) unit p → BeginsAt (now (s .entry)) unit p r) ⌝ }
+{
+    let mut at = p;
+    loop {
+        match tlv::fields::field_at(s, at) {
+            Step::End => {
+                return at;
+            }
+            Step::Cut => {
+                return at;
+            }
+            Step::Field {
+                tag,
+                start: _,
+                len: _,
+                next,
+            } => {
+                if tag == 0x10 {
+                    return at;
+                }
+                if tag == 0x17 {
+                    return at;
+                }
+                at = next;
+            }
+        }
+    }
+}
+
+// One range of the subprogram of a name at place p; the entries below it begin at `below`.
+fn import_candidate<'a>(
+    main: &'a [u8],
+    supplementary: &'a [u8],
+    work: &mut [u8],
+    records: &mut [u8],
+    files: &mut [u8],
+    warnings: &mut [u8],
+    q: ImportContext,
+    name: &[u8],
+    p: usize,
+    below: usize,
+    range: AddressRange,
+    flag: u8,
+    st: ImportState,
+) -> ImportState
+    requires { ⌜ ContextIn (now main) (now supplementary) (now work) q (st .table) ⌝ }
+    requires { ⌜ EntryKnown (now main) (q .unit) p ⌝ }
+    requires { ⌜ BeginsAt (now main) (q .unit) (p + 15) below ⌝ }
+    requires { ⌜ 16 + length (now name) < 65536 ⌝ }
+    requires { ⌜ (st .status ≡ 0) × (st .at ≤ top) × (st .warned ≤ top) ⌝ }
+    ensures { λ r. ⌜ Imports (importOne (contextOf (now (main .entry)) (now (supplementary .entry)) (now (work .entry)) q) (entryHere (now (main .entry)) p) (belowEntry (now (main .entry)) p) (now (name .entry)) (record { range = range; tombstone = eqb flag 1 })) (now (main .entry)) (now (supplementary .entry)) q (now (work .entry)) (now (records .entry)) (now (files .entry)) (now (warnings .entry)) st (now (work .exit)) (now (records .exit)) (now (files .exit)) (now (warnings .exit)) r ⌝ }
+{
+    if crate::text::is_tombstone(work, q.text, q.text_count, range, flag) {
+        return reject(st, st.warned);
+    }
+    if crate::text::is_live_range(work, q.text, q.text_count, range) {
+        return crate::functions::import_range(
+            main,
+            supplementary,
+            work,
+            records,
+            files,
+            warnings,
+            q,
+            name,
+            p,
+            below,
+            range,
+            st,
+        );
+    }
+    let warned = tlv::output::put_warning(warnings, st.warned, 3, range.start, range.end);
+    reject(st, warned)
+}
+
+// The ranges of the subprogram of a name at place p. Where the entries below it begin is looked for at its first range, and is known at the others.
+fn import_ranges<'a>(
+    main: &'a [u8],
+    supplementary: &'a [u8],
+    work: &mut [u8],
+    records: &mut [u8],
+    files: &mut [u8],
+    warnings: &mut [u8],
+    q: ImportContext,
+    name: &[u8],
+    p: usize,
+    st: ImportState,
+) -> ImportState
+    requires { ⌜ ContextIn (now main) (now supplementary) (now work) q (st .table) ⌝ }
+    requires { ⌜ EntryKnown (now main) (q .unit) p ⌝ }
+    requires { ⌜ (Placed (now main) (p + 15)) × EntriesKnown (now main) (q .unit) (p + 15) ⌝ }
+    requires { ⌜ 16 + length (now name) < 65536 ⌝ }
+    requires { ⌜ (st .status ≡ 0) × (st .at ≤ top) × (st .warned ≤ top) ⌝ }
+    ensures { λ r. ⌜ Imports (importRanges (contextOf (now (main .entry)) (now (supplementary .entry)) (now (work .entry)) q) (entryHere (now (main .entry)) p) (belowEntry (now (main .entry)) p) (now (name .entry)) (dieRanges (entryHere (now (main .entry)) p) .given)) (now (main .entry)) (now (supplementary .entry)) q (now (work .entry)) (now (records .entry)) (now (files .entry)) (now (warnings .entry)) st (now (work .exit)) (now (records .exit)) (now (files .exit)) (now (warnings .exit)) r ⌝ }
+{
+    let mut r = st;
+    let mut at = p + 15;
+    let mut below = at;
+    loop {
+        match tlv::access::next_own(main, at, 0x19) {
+            Own::Missing => {
+                return r;
+            }
+            Own::Field {
+                start,
+                len: _,
+                next,
+            } => {
+                let range = dies::ranges::range_at(main, start);
+                let flag = tlv::bytes::read_u8(main, start + 16);
+                below = next_entry(main, below);
+                r = import_candidate(
+                    main,
+                    supplementary,
+                    work,
+                    records,
+                    files,
+                    warnings,
+                    q,
+                    name,
+                    p,
+                    below,
+                    range,
+                    flag,
+                    r,
+                );
+                if r.status != 0 {
+                    return r;
+                }
+                at = next;
+            }
+        }
+    }
+}
+
+// The ranges of a named subprogram, and their failure: before any range it leaves none, after them it warns when they are done.
+fn import_named<'a>(
+    main: &'a [u8],
+    supplementary: &'a [u8],
+    work: &mut [u8],
+    records: &mut [u8],
+    files: &mut [u8],
+    warnings: &mut [u8],
+    q: ImportContext,
+    name: &[u8],
+    p: usize,
+    st: ImportState,
+) -> ImportState
+    requires { ⌜ ContextIn (now main) (now supplementary) (now work) q (st .table) ⌝ }
+    requires { ⌜ EntryKnown (now main) (q .unit) p ⌝ }
+    requires { ⌜ (Placed (now main) (p + 15)) × EntriesKnown (now main) (q .unit) (p + 15) ⌝ }
+    requires { ⌜ 16 + length (now name) < 65536 ⌝ }
+    requires { ⌜ (st .status ≡ 0) × (st .at ≤ top) × (st .warned ≤ top) ⌝ }
+    ensures { λ r. ⌜ Imports (importByFailure (contextOf (now (main .entry)) (now (supplementary .entry)) (now (work .entry)) q) (entryHere (now (main .entry)) p) (belowEntry (now (main .entry)) p) (now (name .entry)) (dieRanges (entryHere (now (main .entry)) p) .failure)) (now (main .entry)) (now (supplementary .entry)) q (now (work .entry)) (now (records .entry)) (now (files .entry)) (now (warnings .entry)) st (now (work .exit)) (now (records .exit)) (now (files .exit)) (now (warnings .exit)) r ⌝ }
+{
+    match tlv::access::next_own(main, p + 15, 0x1a) {
+        Own::Missing => {
+            return import_ranges(
+                main,
+                supplementary,
+                work,
+                records,
+                files,
+                warnings,
+                q,
+                name,
+                p,
+                st,
+            );
+        }
+        Own::Field {
+            start,
+            len,
+            next: _,
+        } => {
+            let end = start + len;
+            let reason = &main[start + 1..end];
+            if tlv::bytes::read_u8(main, start) == 0 {
+                let warned = tlv::output::put_malformed_ranges(warnings, st.warned, false, reason);
+                return reject(st, warned);
+            }
+            let r = import_ranges(
+                main,
+                supplementary,
+                work,
+                records,
+                files,
+                warnings,
+                q,
+                name,
+                p,
+                st,
+            );
+            if r.status != 0 {
+                return r;
+            }
+            let warned = tlv::output::put_malformed_ranges(warnings, r.warned, true, reason);
+            return reject(r, warned);
+        }
+    }
+}
+
+// The subprogram at place p: where it has a name it gives records.
+fn import_entry<'a>(
+    main: &'a [u8],
+    supplementary: &'a [u8],
+    work: &mut [u8],
+    records: &mut [u8],
+    files: &mut [u8],
+    warnings: &mut [u8],
+    q: ImportContext,
+    p: usize,
+    st: ImportState,
+) -> ImportState
+    requires { ⌜ ContextIn (now main) (now supplementary) (now work) q (st .table) ⌝ }
+    requires { ⌜ EntryKnown (now main) (q .unit) p ⌝ }
+    requires { ⌜ (Placed (now main) (p + 15)) × EntriesKnown (now main) (q .unit) (p + 15) ⌝ }
+    requires { ⌜ leAt 2 (now main) (p + 13) ≡ 0x2e ⌝ }
+    requires { ⌜ (st .status ≡ 0) × (st .at ≤ top) × (st .warned ≤ top) ⌝ }
+    ensures { λ r. ⌜ Imports (importEntry (contextOf (now (main .entry)) (now (supplementary .entry)) (now (work .entry)) q) (entryHere (now (main .entry)) p) (belowEntry (now (main .entry)) p)) (now (main .entry)) (now (supplementary .entry)) q (now (work .entry)) (now (records .entry)) (now (files .entry)) (now (warnings .entry)) st (now (work .exit)) (now (records .exit)) (now (files .exit)) (now (warnings .exit)) r ⌝ }
+{
+    let places = q.places;
+    let tables = places.tables;
+    let mut status: u8 = 0;
+    let name = references::names::resolve_name(
+        main,
+        supplementary,
+        work,
+        &mut status,
+        tables,
+        q.unit,
+        p,
+    );
+    if status != 0 {
+        let mut r = st;
+        r.status = status;
+        return r;
+    }
+    let FoundName::Found(_) = found_name(name) else {
+        return st;
+    };
+    import_named(
+        main,
+        supplementary,
+        work,
+        records,
+        files,
+        warnings,
+        q,
+        name,
+        p,
+        st,
+    )
+}
+
+// Whether the field of this tag at place p is the entry of a subprogram.
+fn is_subprogram(main: &[u8], tag: u8, p: usize) -> bool
+    requires { ⌜ (tag ≡ 0x17 → p + 15 ≤ length (now main)) ⌝ }
+    ensures { λ r. ⌜ r ≡ (eqb tag 0x17 && eqb (leAt 2 (now (main .entry)) (p + 13)) 0x2e) ⌝ }
+{
+    if tag == 0x17 {
+        return tlv::bytes::read_u16(main, p + 13) == 0x2e;
+    }
+    false
+}
+
+// The subprograms of the unit.
+pub fn import_unit_details<'a>(
+    main: &'a [u8],
+    supplementary: &'a [u8],
+    work: &mut [u8],
+    records: &mut [u8],
+    files: &mut [u8],
+    warnings: &mut [u8],
+    q: ImportContext,
+    st: ImportState,
+) -> ImportState
+    requires { ⌜ ContextIn (now main) (now supplementary) (now work) q (st .table) ⌝ }
+    requires { ⌜ (st .status ≡ 0) × (st .at ≤ top) × (st .warned ≤ top) ⌝ }
+    ensures { λ r. ⌜ Imports (importUnitDetails (contextOf (now (main .entry)) (now (supplementary .entry)) (now (work .entry)) q) (unitHere (now (main .entry)) (q .unit) .entries)) (now (main .entry)) (now (supplementary .entry)) q (now (work .entry)) (now (records .entry)) (now (files .entry)) (now (warnings .entry)) st (now (work .exit)) (now (records .exit)) (now (files .exit)) (now (warnings .exit)) r ⌝ }
+{
+    let mut r = st;
+    let mut at = q.unit + 21;
+    loop {
+        match tlv::fields::field_at(main, at) {
+            Step::End => {
+                return r;
+            }
+            Step::Cut => {
+                return r;
+            }
+            Step::Field {
+                tag,
+                start: _,
+                len: _,
+                next,
+            } => {
+                if tag == 0x10 {
+                    return r;
+                }
+                if is_subprogram(main, tag, at) {
+                    r = import_entry(
+                        main,
+                        supplementary,
+                        work,
+                        records,
+                        files,
+                        warnings,
+                        q,
+                        at,
+                        r,
+                    );
+                    if r.status != 0 {
+                        return r;
+                    }
+                    at = next;
+                } else {
+                    at = next;
+                }
+            }
+        }
+    }
+}
