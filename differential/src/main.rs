@@ -1,5 +1,6 @@
-//! The proved import against the Rust importer, call by call: refusal, lengths, statistics, bytes written, bytes past each length, bytes past each
+//! The proved import, of a unit or of all units, against the Rust importer, call by call: refusal, lengths, statistics, bytes written, bytes past each length, bytes past each
 //! buffer, zeros after a refusal, work all zero. Before each call the pass that writes no buffer is asked, and what it says is held to the same answer.
+//! An import of all units is also held to the proved imports of each unit alone.
 //! The Rust's text has the change requests' amendments; as it stands, it judges where none applies.
 
 use std::path::{Path, PathBuf};
@@ -8,15 +9,17 @@ use std::{env, fs};
 
 use oracle::compose::field_count;
 use oracle::files::Source;
-use oracle::{Answer, Case, answer, generate, judged, limits, work_needed};
+use oracle::{Answer, Case, answer, generate, judged, limits, whole_cases, work_needed};
 
 mod joins;
 mod look;
 mod pass;
+mod units;
 mod wrong;
 
 const USAGE: &str = "
 differential generated SEED COUNT [OPTIONS]     generated cases, each as it is, then with other switches and with buffers at their limits
+differential wholes SEED COUNT [OPTIONS]        cases of all units and of parts of the program, in the same way; each unit alone, too
 differential cases CASES [OPTIONS]              the cases of a file, in the same way
 differential replay CASES ANSWERS [OPTIONS]     the cases of a file as they are, held to recorded answers
 differential large [OPTIONS]                    the cases over 64 KiB
@@ -34,6 +37,8 @@ const BEHIND: usize = 16;
 struct Counts {
     calls: u64,
     believed: u64,
+    /// Imports of one unit, to hold an import of all to.
+    alone: u64,
     refusals: [u64; 19],
     warnings: [u64; 12],
 }
@@ -62,6 +67,9 @@ fn run(arguments: &[String]) -> Result<bool, String> {
         ["generated", seed, count, ref rest @ ..] => {
             let (seed, count) = (number(seed)?, number(count)?);
             compare((0..count).map(move |k| Ok(generate::case(seed, k))), &options(rest)?)
+        }
+        ["wholes", seed, count, ref rest @ ..] => {
+            compare(whole_cases::cases(number(seed)?).take(number(count)? as usize).map(Ok), &options(rest)?)
         }
         ["cases", path, ref rest @ ..] => {
             let mut source = Source::open(Path::new(path))?;
@@ -122,6 +130,11 @@ fn compare(cases: impl Iterator<Item = Result<Case, String>>, options: &Options)
                     return Ok(false);
                 }
             }
+        }
+        if let Some(what) = if case.all { units::difference(&case, options.wrong, &mut counts.alone)? } else { None } {
+            println!("case {place}, its units alone, differs: {what}");
+            write_inputs(&options.out, &case)?;
+            return Ok(false);
         }
     }
     print(&counts);
@@ -199,16 +212,27 @@ pub struct Got {
     pub buffers: [Vec<u8>; 3],
 }
 
+/// What the proved import is given of a case.
+fn inputs(case: &Case) -> pezgok::Inputs<'_> {
+    pezgok::Inputs { main: &case.main, supplementary: &case.supplementary, program: &case.program }
+}
+
+fn asked(case: &Case) -> pezgok::Options {
+    pezgok::Options { ordinal: case.ordinal, inlines: case.inlines, call_sites: case.call_sites, first_file: case.first_file }
+}
+
 fn ours(case: &Case, wrong: Option<wrong::Wrong>) -> Got {
     let lent = |length: u64| vec![FILLED; length as usize + BEHIND];
     let mut work = lent(case.work);
     let [mut records, mut files, mut warnings] =
         [case.records, case.files, case.warnings].map(|length| lent(u64::from(length.min(1 << 22))));
-    let result = pezgok::import(
-        pezgok::Inputs { main: &case.main, supplementary: &case.supplementary, program: &case.program },
-        pezgok::Options { ordinal: case.ordinal, inlines: case.inlines, call_sites: case.call_sites, first_file: case.first_file },
-        pezgok::Buffers { work: slice(&mut work), records: slice(&mut records), files: slice(&mut files), warnings: slice(&mut warnings) },
-    );
+    let buffers =
+        pezgok::Buffers { work: slice(&mut work), records: slice(&mut records), files: slice(&mut files), warnings: slice(&mut warnings) };
+    let result = match wrong {
+        Some(wrong::Wrong::Units(import)) if case.all => import(inputs(case), asked(case), buffers),
+        _ if case.all => pezgok::import_dwarf(inputs(case), asked(case), buffers),
+        _ => pezgok::import(inputs(case), asked(case), buffers),
+    };
     let mut got = Got { refusal: 0, lengths: [0; 3], statistics: [0; 4], work, buffers: [records, files, warnings] };
     match result {
         Ok(done) => {
@@ -274,6 +298,9 @@ fn count(counts: &mut Counts, expected: &Answer) {
 
 fn print(counts: &Counts) {
     println!("{} calls, 0 differences; {} of them with buffers as long as the pass says, or a byte shorter", counts.calls, counts.believed);
+    if counts.alone > 0 {
+        println!("{} imports of one unit, which imports of all units are held to", counts.alone);
+    }
     println!("finished {}", counts.refusals[0]);
     for (number, count) in counts.refusals.iter().enumerate().skip(1) {
         println!("refused {number}: {count}");
@@ -305,7 +332,8 @@ fn write_difference(folder: &Path, case: &Case, expected: &Answer, got: &Got) ->
         put(folder, &format!("{name}.got"), &buffer[..buffer.len() - BEHIND])?;
     }
     let asked = format!(
-        "ordinal {}, inlines {}, call sites {}, first file {}, work {}, records {}, files {}, warnings {}\nexpected: refusal {}, statistics {:?}\ngot: refusal {}, lengths {:?}, statistics {:?}\n",
+        "all units {}, ordinal {}, inlines {}, call sites {}, first file {}, work {}, records {}, files {}, warnings {}\nexpected: refusal {}, statistics {:?}\ngot: refusal {}, lengths {:?}, statistics {:?}\n",
+        case.all,
         case.ordinal,
         case.inlines,
         case.call_sites,

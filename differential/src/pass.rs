@@ -3,7 +3,7 @@
 use oracle::{Answer, Case, answer};
 
 use crate::wrong::Wrong;
-use crate::{BEHIND, FILLED, slice};
+use crate::{BEHIND, FILLED, inputs, slice};
 
 /// What the pass said, and the work slice after it.
 pub struct Said {
@@ -15,11 +15,8 @@ pub struct Said {
 
 pub fn asked(case: &Case, wrong: Option<Wrong>) -> Said {
     let mut work = vec![FILLED; case.work as usize + BEHIND];
-    let result = pezgok::measure(
-        pezgok::Inputs { main: &case.main, supplementary: &case.supplementary, program: &case.program },
-        pezgok::Options { ordinal: case.ordinal, inlines: case.inlines, call_sites: case.call_sites, first_file: case.first_file },
-        slice(&mut work),
-    );
+    let measure = if case.all { pezgok::measure_dwarf } else { pezgok::measure };
+    let result = measure(inputs(case), crate::asked(case), slice(&mut work));
     let mut said = Said { refusal: 0, lengths: [0; 3], statistics: [0; 4], work };
     match result {
         Ok(done) => {

@@ -1,4 +1,7 @@
-//! Wrong imports, a wrong pass and a wrong join that the comparison has to report: each alters what the proved one left behind.
+//! Wrong imports, a wrong pass and a wrong join that the comparison has to report: each alters what the proved one left behind, or calls another in its
+//! place.
+
+use pezgok::{Buffers, Finished, Inputs, Options, Refusal};
 
 use crate::Got;
 use crate::joins;
@@ -7,6 +10,8 @@ use crate::pass::Said;
 #[derive(Clone, Copy)]
 pub enum Wrong {
     Import(fn(&mut Got)),
+    /// In place of the import of all units.
+    Units(fn(Inputs<'_>, Options, Buffers<'_>) -> Result<Finished, Refusal>),
     Pass(fn(&mut Said)),
     Join(fn(&mut joins::Got)),
 }
@@ -19,6 +24,8 @@ pub fn named(name: &str) -> Result<Wrong, String> {
         "copies-the-first" => Wrong::Import(copies_the_first),
         "forgets-columns" => Wrong::Import(forgets_columns),
         "invents-statistics" => Wrong::Import(invents_statistics),
+        "imports-the-first" => Wrong::Units(imports_the_first),
+        "passes-over-a-unit" => Wrong::Units(passes_over_a_unit),
         "forgets-a-byte" => Wrong::Pass(forgets_a_byte),
         "renames-a-symbol" => Wrong::Join(renames_a_symbol),
         _ => return Err(format!("{name} is no wrong import, no wrong pass and no wrong join")),
@@ -82,6 +89,21 @@ fn invents_statistics(got: &mut Got) {
     if got.refusal == 0 {
         got.statistics[1] += 1;
     }
+}
+
+/// The first unit alone, where all are asked for.
+fn imports_the_first(inputs: Inputs<'_>, options: Options, buffers: Buffers<'_>) -> Result<Finished, Refusal> {
+    pezgok::import(inputs, Options { ordinal: 0, ..options }, buffers)
+}
+
+/// An import of all units that finishes with the first one where a later one is refused.
+fn passes_over_a_unit(inputs: Inputs<'_>, options: Options, buffers: Buffers<'_>) -> Result<Finished, Refusal> {
+    let Buffers { work, records, files, warnings } = buffers;
+    let first = Options { ordinal: 0, ..options };
+    if pezgok::measure_dwarf(inputs, options, work).is_err() && pezgok::measure(inputs, first, work).is_ok() {
+        return pezgok::import(inputs, first, Buffers { work, records, files, warnings });
+    }
+    pezgok::import_dwarf(inputs, options, Buffers { work, records, files, warnings })
 }
 
 /// A records buffer that is a byte too short.
