@@ -1,4 +1,4 @@
-/* The proved import of one DWARF unit, for C. Link libpezgok.a, which `rt staticlib pezgok` writes to target/staticlib.
+/* The proved import of one DWARF unit, or of all units, for C. Link libpezgok.a, which `rt staticlib pezgok` writes to target/staticlib.
  *
  * From a unit and an address to the calls that are running there, in this order (interfaces/frames.c is a whole program of it, the error paths too):
  *
@@ -16,8 +16,8 @@
  *             printf("%.*s at %.*s/%.*s:%u\n", ...);
  *
  * With symbols of functions that have no DWARF: pezgok_join_symbols, and look up in its result. For many addresses: pezgok_make_index once, then
- * pezgok_look_up_in. Records of several units, one behind the other, are records too: import each with the next free file number as first_file, and
- * put the files one behind the other likewise. */
+ * pezgok_look_up_in. For all units of an input at once: pezgok_measure_dwarf and pezgok_import_dwarf. Records of several units, one behind the other, are
+ * records too: import each with the next free file number as first_file, and put the files one behind the other likewise. */
 #ifndef PEZGOK_H
 #define PEZGOK_H
 
@@ -70,6 +70,30 @@ uint8_t pezgok_measure(
     const uint8_t *supplementary, size_t supplementary_len,
     const uint8_t *program, size_t program_len,
     uint64_t ordinal, bool inlines, bool call_sites, uint32_t first_file,
+    uint8_t *work, size_t work_len,
+    uint64_t values[PEZGOK_VALUES]);
+
+/* Imports all units of the main input, in order, into one records buffer, with one table of files: a file that an earlier unit brought keeps its number
+ * and is written once. Each buffer has what the imports of the units write one after another, and the statistics are added. The first unit that is
+ * refused refuses all. An input without units is a package without debug data. The units' line programs stand in one program: a unit's part of it is named
+ * by field 1e hex behind its line header, without which it is the whole. All else is as of pezgok_import; work has the same length. */
+uint8_t pezgok_import_dwarf(
+    const uint8_t *main, size_t main_len,
+    const uint8_t *supplementary, size_t supplementary_len,
+    const uint8_t *program, size_t program_len,
+    bool inlines, bool call_sites, uint32_t first_file,
+    uint8_t *work, size_t work_len,
+    uint8_t *records, size_t records_len,
+    uint8_t *files, size_t files_len,
+    uint8_t *warnings, size_t warnings_len,
+    uint64_t values[PEZGOK_VALUES]);
+
+/* How long the three output buffers of such an import must be, and its statistics, as pezgok_measure says it of pezgok_import. */
+uint8_t pezgok_measure_dwarf(
+    const uint8_t *main, size_t main_len,
+    const uint8_t *supplementary, size_t supplementary_len,
+    const uint8_t *program, size_t program_len,
+    bool inlines, bool call_sites, uint32_t first_file,
     uint8_t *work, size_t work_len,
     uint64_t values[PEZGOK_VALUES]);
 

@@ -1,6 +1,7 @@
-/* Imports unit 0 of unit.main, unit.sup and unit.line of a folder into buffers as long as it needs, and says what came of it. */
+/* Imports unit 0 of unit.main, unit.sup and unit.line of a folder, or with --all all units, into buffers as long as it needs, and says what came of it. */
 #include <stdio.h>
 #include <stdlib.h>
+#include <string.h>
 
 #include "pezgok.h"
 
@@ -43,8 +44,9 @@ static int refused(uint8_t refusal) {
 }
 
 int main(int count, char **words) {
-    if (count != 2) {
-        fprintf(stderr, "import FOLDER: a folder with unit.main, and unit.sup and unit.line if there are any\n");
+    bool all = count == 3 && strcmp(words[2], "--all") == 0;
+    if (count != 2 && !all) {
+        fprintf(stderr, "import FOLDER [--all]: a folder with unit.main, and unit.sup and unit.line if there are any\n");
         return 2;
     }
     static uint8_t input[LARGEST], supplementary[LARGEST], program[LARGEST];
@@ -55,13 +57,21 @@ int main(int count, char **words) {
     size_t work_len = PEZGOK_WORK((input_len + supplementary_len) / 3, program_len);
     uint8_t *work = buffer(work_len);
     uint64_t values[PEZGOK_VALUES];
-    uint8_t refusal = pezgok_measure(input, input_len, supplementary, supplementary_len, program, program_len, 0, true, true, 1, work, work_len, values);
+    uint8_t refusal;
+    if (all)
+        refusal = pezgok_measure_dwarf(input, input_len, supplementary, supplementary_len, program, program_len, true, true, 1, work, work_len, values);
+    else
+        refusal = pezgok_measure(input, input_len, supplementary, supplementary_len, program, program_len, 0, true, true, 1, work, work_len, values);
     if (refusal)
         return refused(refusal);
     size_t records_len = values[PEZGOK_RECORDS_LENGTH], files_len = values[PEZGOK_FILES_LENGTH], warnings_len = values[PEZGOK_WARNINGS_LENGTH];
     uint8_t *records = buffer(records_len), *files = buffer(files_len), *warnings = buffer(warnings_len);
-    refusal = pezgok_import(input, input_len, supplementary, supplementary_len, program, program_len, 0, true, true, 1, work, work_len,
-                            records, records_len, files, files_len, warnings, warnings_len, values);
+    if (all)
+        refusal = pezgok_import_dwarf(input, input_len, supplementary, supplementary_len, program, program_len, true, true, 1, work, work_len,
+                                      records, records_len, files, files_len, warnings, warnings_len, values);
+    else
+        refusal = pezgok_import(input, input_len, supplementary, supplementary_len, program, program_len, 0, true, true, 1, work, work_len,
+                                records, records_len, files, files_len, warnings, warnings_len, values);
     if (refusal)
         return refused(refusal);
     printf("%llu functions, %llu line rows, %llu inline nodes, %llu rejected ranges; %llu bytes of records, %llu of files, %llu of warnings\n",

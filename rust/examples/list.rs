@@ -1,18 +1,22 @@
-//! Lists the units of a folder that `dumper dump` wrote: for each a heading, then what the import gives, in the words of the listing program. With
+//! Lists the units of a folder that `dumper dump` wrote: for each a heading, then what the import gives, in the words of the listing program. Of a
+//! folder that `dumper whole` wrote, the headings of all units, then what one import of all gives; where it is refused, the status is 4. With
 //! `--symbols`, behind the units, the functions that are known only by symbol.
 
 use std::io::{self, BufWriter, IsTerminal, Write};
 use std::path::Path;
 use std::{env, fs, process};
 
-use pezgok::{Buffers, Finished, Inputs, Options, Refusal, import, join_symbols, measure, work_length};
+use pezgok::{Buffers, Finished, Inputs, Options, Refusal, import, import_dwarf, join_symbols, measure, measure_dwarf, work_length};
+
+/// The status where a unit is refused, and so all are.
+const REFUSED: i32 = 4;
 
 fn main() {
     let words: Vec<_> = env::args_os().skip(1).collect();
     let (folder, with_symbols) = match &words[..] {
         [folder] => (folder, false),
         [folder, word] if word == "--symbols" => (folder, true),
-        _ => fail("list FOLDER [--symbols]: a folder that `dumper dump` wrote"),
+        _ => fail("list FOLDER [--symbols]: a folder that `dumper dump` or `dumper whole` wrote"),
     };
     let folder = Path::new(folder);
     let index = fs::read_to_string(folder.join("index")).unwrap_or_else(|error| fail(&format!("{}: {error}", folder.display())));
@@ -20,7 +24,11 @@ fn main() {
     let mut out = BufWriter::new(io::stdout().lock());
     let shown = io::stderr().is_terminal() || rows.len() > 100;
     let mut all = Vec::new();
-    for (place, row) in rows.iter().enumerate() {
+    let whole = folder.join("whole.main").exists();
+    if whole {
+        all = list_whole(folder, &rows, &mut out).unwrap_or_else(|error| stop(&error));
+    }
+    for (place, row) in rows.iter().enumerate().take(if whole { 0 } else { rows.len() }) {
         let [unit, ordinal, .., name] = row[..] else { fail("the folder's index is cut off") };
         let Ok(ordinal) = ordinal.parse() else { fail("the folder's index has no ordinal") };
         if shown && place % 100 == 99 {
@@ -53,23 +61,56 @@ fn fail(message: &str) -> ! {
 
 /// Lists a unit and gives its records; none where it is refused.
 fn list(folder: &Path, unit: &str, ordinal: u64, name: &str, out: &mut impl Write) -> io::Result<Vec<u8>> {
-    let read = |ending: &str| fs::read(folder.join(format!("{unit}.{ending}"))).unwrap_or_default();
-    let (main, supplementary, program) = (fs::read(folder.join(format!("{unit}.main")))?, read("sup"), read("line"));
     writeln!(out, "unit {unit} {name}")?;
+    match imported(folder, unit, Some(ordinal))? {
+        Ok(imported) => imported.list(out).map(|()| imported.records),
+        Err(refusal) => refused(refusal, out).map(|()| Vec::new()),
+    }
+}
+
+/// Lists all units of one import and gives their records.
+fn list_whole(folder: &Path, rows: &[Vec<&str>], out: &mut impl Write) -> io::Result<Vec<u8>> {
+    let imported = imported(folder, "whole", None)?.unwrap_or_else(|refusal| {
+        eprintln!("list: a unit is refused, and so all are: refused {} {refusal}", refusal.number());
+        process::exit(REFUSED)
+    });
+    for row in rows {
+        let [unit, .., name] = row[..] else { fail("the folder's index is cut off") };
+        writeln!(out, "unit {unit} {name}")?;
+    }
+    imported.list(out).map(|()| imported.records)
+}
+
+/// What an import gives.
+struct Imported {
+    done: Finished,
+    records: Vec<u8>,
+    files: Vec<u8>,
+    warnings: Vec<u8>,
+}
+
+impl Imported {
+    fn list(&self, out: &mut impl Write) -> io::Result<()> {
+        finished(self.done, &self.records, &self.files, &self.warnings, out)
+    }
+}
+
+/// Imports the unit of an ordinal, or all units, from three files of the folder, into buffers that are as long as needed.
+fn imported(folder: &Path, name: &str, ordinal: Option<u64>) -> io::Result<Result<Imported, Refusal>> {
+    let read = |ending: &str| fs::read(folder.join(format!("{name}.{ending}"))).unwrap_or_default();
+    let (main, supplementary, program) = (fs::read(folder.join(format!("{name}.main")))?, read("sup"), read("line"));
     // A field has three bytes at least.
     let mut work = vec![0; work_length((main.len() + supplementary.len()) / 3, program.len())];
     let inputs = Inputs { main: &main, supplementary: &supplementary, program: &program };
-    let options = Options { ordinal, ..Options::default() };
-    let needed = match measure(inputs, options, &mut work) {
-        Ok(needed) => needed,
-        Err(refusal) => return refused(refusal, out).map(|()| Vec::new()),
-    };
-    let [mut records, mut files, mut warnings] = [needed.records, needed.files, needed.warnings].map(buffer);
-    let buffers = Buffers { work: &mut work, records: &mut records, files: &mut files, warnings: &mut warnings };
-    match import(inputs, options, buffers) {
-        Ok(done) => finished(done, &records, &files, &warnings, out).map(|()| records),
-        Err(refusal) => refused(refusal, out).map(|()| Vec::new()),
-    }
+    let options = Options { ordinal: ordinal.unwrap_or(0), ..Options::default() };
+    let measure = if ordinal.is_some() { measure } else { measure_dwarf };
+    let import = if ordinal.is_some() { import } else { import_dwarf };
+    Ok(measure(inputs, options, &mut work).and_then(|needed| {
+        let [mut records, mut files, mut warnings] = [needed.records, needed.files, needed.warnings].map(buffer);
+        let buffers = Buffers { work: &mut work, records: &mut records, files: &mut files, warnings: &mut warnings };
+        let done = import(inputs, options, buffers)?;
+        Ok(Imported { done, records, files, warnings })
+    }))
 }
 
 /// The functions that the symbol tables add to the records of all units. Records of several units, one behind the other, are a records tray too.

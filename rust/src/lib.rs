@@ -1,10 +1,11 @@
-//! Safe calls of the proved import: one unit of a main input, with a supplementary one and a line program, to records, files and warnings.
+//! Safe calls of the proved import: one unit of a main input, or all units, with a supplementary one and a line program, to records, files and warnings.
 //!
 //! [`Builder`] owns all memory: it imports any number of units, joins the symbols of functions that have no DWARF, and gives a [`Table`], which answers
 //! what is running at an address with an iterator of [`Frame`]s and can be saved. [`read_units`] fills a builder from what the dumper writes.
 //!
-//! Below it are the raw functions, for who lends memory: [`measure`] says how long the buffers must be, [`import`] fills them; [`look`] asks the
-//! records what is running at an address; [`join_symbols`] adds the functions that only a symbol table knows.
+//! Below it are the raw functions, for who lends memory: [`measure`] says how long the buffers must be, [`import`] fills them; [`measure_dwarf`] and
+//! [`import_dwarf`] do so for all units at once; [`look`] asks the records what is running at an address; [`join_symbols`] adds the functions that only a
+//! symbol table knows.
 
 use std::fmt;
 
@@ -18,6 +19,7 @@ mod saved;
 mod stream;
 mod symbols;
 mod table;
+mod whole;
 
 pub use builder::{Builder, Unit};
 pub use error::Error;
@@ -26,6 +28,7 @@ pub use stream::{Event, read_units};
 pub use table::{Answer, Function, Node, NotImported, Table};
 
 pub use symbols::{join_symbols, join_symbols_with, symbols_work_length};
+pub use whole::{import_dwarf, measure_dwarf};
 
 mod sys {
     unsafe extern "C" {
@@ -82,7 +85,7 @@ pub struct Inputs<'a> {
 /// What is asked.
 #[derive(Clone, Copy, Debug)]
 pub struct Options {
-    /// The unit's number in the main input, from 0.
+    /// The unit's number in the main input, from 0. Not read where all units are imported.
     pub ordinal: u64,
     pub inlines: bool,
     pub call_sites: bool,
