@@ -4,6 +4,7 @@ pub mod TallyLaws
 pub mod CheckLaws
 pub mod IndexingLaws
 pub mod TablesLaws
+pub mod UnitContextLaws
 pub mod PartLaws
 pub mod GrowsLaws
 pub mod UnitStepLaws

@@ -1,6 +1,5 @@
--- The tables of both inputs, and the context of a unit beside them: they lie apart, so each stays while the next is written. Assumes nothing.
+-- The tables of both inputs: they lie apart, and stay while other parts of work are written. Assumes nothing.
 use mathlib.Core.Path.{_≡_, refl, sym, _∙_}
-use mathlib.Core.Bool.{Bool}
 use mathlib.Core.Logic.{inl, inr}
 use mathlib.Core.List.{List, [], _∷_}
 use Prim.Native.Nat.{ℕ, _+_, _-_, _*_, _≤_}
@@ -12,14 +11,7 @@ use Rattle.tlv.specs.Units.{unitOf24}
 use Rattle.tlv.specs.Places.{unitHere, unitPlaces}
 use Rattle.tlv.specs.Table.{Kept, Clear, KeptBut}
 use Rattle.tlv.proofs.RecordLaws.{records-but}
-use Rattle.tlv.proofs.TableLaws.{kept-trans, kept-wide, but-one, but-of, here}
-use Rattle.files.specs.declared.index.StoredIndices.{StoredIndices}
-use Rattle.files.specs.declared.store.StoredFiles.{StoredFiles}
-use Rattle.files.specs.Store.{extent}
-use Rattle.files.proofs.GrownLaws.{files-kept}
-use Rattle.rows.specs.declared.«unit_lines».StoredLines.{StoredLines}
-use Rattle.rows.specs.Selects.{RowsIn}
-use Rattle.rows.proofs.StoredLaws.{lines-kept}
+use Rattle.tlv.proofs.TableLaws.{kept-trans, kept-wide, here}
 use Rattle.collect.specs.Collects.{UnitIn}
 use Rattle.collect.proofs.FrameLaws.{kept-one}
 use Rattle.references.specs.declared.tables.Index.{Index}
@@ -30,13 +22,10 @@ use Rattle.references.proofs.KeyLaws.{keys-in-none}
 use Rattle.references.proofs.FollowLaws.{index-kept}
 use Rattle.dies.specs.Details.{entryCount}
 use Rattle.dies.specs.DetailState.{Accepted}
-use Rattle.subprograms.specs.declared.model.ImportContext.{ImportContext}
-use Rattle.subprograms.specs.Text.{TextIndexed}
-use Rattle.subprograms.specs.Contexts.{Ordered}
 use Rattle.subprograms.proofs.ContextLaws.{unit-of}
 use Rattle.dwarf.specs.declared.layout.Layout.{Layout}
 use Rattle.dwarf.specs.Layout.{keysRoom, LaidOut}
-use Rattle.dwarf.specs.Tables.{IndexedAt, IndexesInput, TablesIn, IndexesInputs, LinesLaid, MakesContext}
+use Rattle.dwarf.specs.Tables.{IndexedAt, IndexesInput, TablesIn, IndexesInputs}
 use Rattle.dwarf.specs.Units.{besideTables}
 
 -- ---- where the tables stand
@@ -148,7 +137,7 @@ module _ {main supplementary program w : List ℕ} {l : Layout} {x : Tables} (T 
       let c = supplementary-behind (T .laid) in
       (H .units-at, omega (arith, H .units-at, H .unit-count))
 
-  entries-below : (l .«main_units» ≤ x .main .entries) × (x .main .entries + 16 * x .main .«entry_count» ≤ l .ranges)
+  pub entries-below : (l .«main_units» ≤ x .main .entries) × (x .main .entries + 16 * x .main .«entry_count» ≤ l .ranges)
   entries-below =
       let H = T .of-main in
       let a = T .laid .main-entries in
@@ -156,7 +145,7 @@ module _ {main supplementary program w : List ℕ} {l : Layout} {x : Tables} (T 
       let c = supplementary-behind (T .laid) in
       (omega (arith, H .entries-at), omega (arith, H .entries-at, H .entry-count))
 
-  other-units-below : (l .«main_units» ≤ x .supplementary .units) × (x .supplementary .units + 24 * x .supplementary .«unit_count» ≤ l .ranges)
+  pub other-units-below : (l .«main_units» ≤ x .supplementary .units) × (x .supplementary .units + 24 * x .supplementary .«unit_count» ≤ l .ranges)
   other-units-below =
       let H = T .of-supplementary in
       let a = T .laid .supplementary-entries in
@@ -164,7 +153,7 @@ module _ {main supplementary program w : List ℕ} {l : Layout} {x : Tables} (T 
       let c = main-before (T .laid) in
       (omega (arith, H .units-at), omega (arith, H .units-at, H .unit-count))
 
-  other-entries-below : (l .«main_units» ≤ x .supplementary .entries) × (x .supplementary .entries + 16 * x .supplementary .«entry_count» ≤ l .ranges)
+  pub other-entries-below : (l .«main_units» ≤ x .supplementary .entries) × (x .supplementary .entries + 16 * x .supplementary .«entry_count» ≤ l .ranges)
   other-entries-below =
       let H = T .of-supplementary in
       let a = T .laid .supplementary-entries in
@@ -219,102 +208,3 @@ module _ {main supplementary program w : List ℕ} {l : Layout} {x : Tables} (T 
       let d = keys-behind (T .laid) in
       let e = T .room in
       omega arith
-
--- ---- the context
-
-abbrev pub contextMade : Layout → Tables → ℕ → StoredLines → StoredIndices → Bool → Bool → ℕ → ImportContext
-contextMade l x unit lines indices inlines callSites count = record {
-  places = record { tables = x; indices = indices; spans = l .spans; room = l .«span_room» };
-  unit = unit;
-  lines = lines;
-  text = l .text;
-  «text_count» = count;
-  ranges = l .ranges;
-  stack = l .stack;
-  sites = l .sites;
-  «include_inlines» = inlines;
-  «include_call_sites» = callSites;
-}
-
-module _ {main supplementary program w w₁ : List ℕ} {l : Layout} {x : Tables} {unit : ℕ} {lines : StoredLines} {indices : StoredIndices} {count : ℕ} (U : UnitIn main unit)
-    (T : TablesIn main supplementary program w l x) (L : LinesLaid w l lines indices) (X : TextIndexed main w w₁ unit (l .text) count) (size : length w₁ ≡ length w) where
-  text-end : l .text + count * 16 ≤ l .spans
-  text-end = let a = text-behind (T .laid) U in let b = X .count in omega arith
-
-  made-rest : Kept w w₁ (l .text) (l .spans - l .text)
-  made-rest = let a = text-end in kept-wide (l .text) (l .spans - l .text) (X .rest) (omega arith) (omega arith)
-
-  made-tables : TablesIn main supplementary program w₁ l x
-  made-tables =
-      let a = text-end in
-      let b = spans-behind (T .laid) in
-      tables-kept T (but-of made-rest (here (omega arith) (omega arith))) size
-
-  made-rows : RowsIn w₁ lines
-  made-rows =
-      let R = L .rows in
-      let a = L .within in
-      let b = R .lines in
-      record {
-        lines = b;
-        sequences = R .sequences;
-        buffer = omega (arith, R .buffer);
-        sorted = rw (lines-kept (lines .lines) (lines .«line_count») made-rest (inl (omega arith))) (R .sorted);
-      }
-
-  -- the file table stands below the lines
-  table-apart : (t : StoredFiles) → t .base + extent t ≤ l .lines → t .base + extent t ≤ l .text
-  table-apart t h = let a = L .from in let b = L .map in let c = L .rows .lines in let d = L .within in omega arith
-
-  module _ (inlines callSites : Bool) where
-    made-ordered : {t : StoredFiles} → t .base + extent t ≤ l .lines → Ordered main supplementary (contextMade l x unit lines indices inlines callSites count) t
-    made-ordered h =
-        let a = L .from in
-        let b = spans-behind (T .laid) in
-        let c = units-below T in
-        let d = entries-below T in
-        let e = other-units-below T in
-        let g = other-entries-below T in
-        let k = T .keys in
-        record {
-          table = omega arith;
-          indices = L .map;
-          lines = L .sequences;
-          sequences = L .rows .sequences;
-          buffer = L .within;
-          text = text-end;
-          spans-main-units = omega (arith, c .0);
-          spans-main-entries = omega (arith, d .0);
-          spans-supplementary-units = omega (arith, e .0);
-          spans-supplementary-entries = omega (arith, g .0);
-          main-units = c .1;
-          main-entries = d .1;
-          supplementary-units = e .1;
-          supplementary-entries = g .1;
-          ranges = T .laid .stack;
-          stack = T .laid .sites;
-          sites = omega (arith, T .laid .keys);
-          room-main = T .laid .room-main;
-          room-supplementary = T .laid .room-supplementary;
-        }
-
-    pub makes-context : MakesContext main supplementary w w₁ l unit lines indices inlines callSites (contextMade l x unit lines indices inlines callSites count)
-    makes-context = record {
-      context = λ t h F. record {
-        unit = U;
-        tables = search-in made-tables;
-        rows = made-rows;
-        text = X .table;
-        files = files-kept F (but-one made-rest) (inl (table-apart t h), tt) size;
-        ordered = made-ordered {t = t} h;
-      };
-      unit-is = refl;
-      lines-is = refl;
-      indices-is = refl;
-      inlines-is = refl;
-      call-sites-is = refl;
-      spans-is = refl;
-      room-is = refl;
-      ranges-is = refl;
-      rest = made-rest;
-    }

@@ -24,7 +24,8 @@ fn import_by<'a>(
 ) -> Imported
     requires { ⌜ options .«first_file» < 2 ^ 32 ⌝ }
     ensures { λ r. ⌜ (
-        let i = inputsBy (now (main .entry)) (now (supplementary .entry)) (now (program .entry)) options (now (work .entry)) (now (records .entry)) (now (files .entry)) (now (warnings .entry)) in
+        let i = inputsBy (now (main .entry)) (now (supplementary .entry)) (now (program .entry)) options
+        (now (work .entry)) (now (records .entry)) (now (files .entry)) (now (warnings .entry)) in
         ImportsBy (options .all) i (now (work .exit)) (now (records .exit)) (now (files .exit)) (now (warnings .exit)) r) ⌝ }
 {
     let r = run_cleared(
@@ -68,7 +69,8 @@ pub fn import_unit<'a>(
     warnings: &mut [u8],
 ) -> Imported
     ensures { λ r. ⌜ (
-        let i = inputsOf (now (main .entry)) (now (supplementary .entry)) (now (program .entry)) ordinal inlines «call_sites» «first_file» (now (work .entry)) (now (records .entry)) (now (files .entry)) (now (warnings .entry)) in
+        let i = inputsOf (now (main .entry)) (now (supplementary .entry)) (now (program .entry)) ordinal inlines «call_sites» «first_file»
+        (now (work .entry)) (now (records .entry)) (now (files .entry)) (now (warnings .entry)) in
         ImportsUnit i (now (work .exit)) (now (records .exit)) (now (files .exit)) (now (warnings .exit)) r) ⌝ }
 {
     let options = Options {
@@ -104,7 +106,8 @@ pub fn import_dwarf<'a>(
     warnings: &mut [u8],
 ) -> Imported
     ensures { λ r. ⌜ (
-        let i = inputsOf (now (main .entry)) (now (supplementary .entry)) (now (program .entry)) 0 inlines «call_sites» «first_file» (now (work .entry)) (now (records .entry)) (now (files .entry)) (now (warnings .entry)) in
+        let i = inputsOf (now (main .entry)) (now (supplementary .entry)) (now (program .entry)) 0 inlines «call_sites» «first_file»
+        (now (work .entry)) (now (records .entry)) (now (files .entry)) (now (warnings .entry)) in
         ImportsDwarf i (now (work .exit)) (now (records .exit)) (now (files .exit)) (now (warnings .exit)) r) ⌝ }
 {
     let options = Options {
@@ -176,7 +179,8 @@ pub fn measure_unit<'a>(
     work: &mut [u8],
 ) -> Imported
     ensures { λ r. ⌜ (
-        let i = inputsOf (now (main .entry)) (now (supplementary .entry)) (now (program .entry)) ordinal inlines «call_sites» «first_file» (now (work .entry)) [] [] [] in
+        let i = inputsOf (now (main .entry)) (now (supplementary .entry)) (now (program .entry)) ordinal inlines «call_sites» «first_file»
+        (now (work .entry)) [] [] [] in
         MeasuresUnit i (now (work .exit)) r) ⌝ }
 {
     let options = Options {
@@ -200,7 +204,8 @@ pub fn measure_dwarf<'a>(
     work: &mut [u8],
 ) -> Imported
     ensures { λ r. ⌜ (
-        let i = inputsOf (now (main .entry)) (now (supplementary .entry)) (now (program .entry)) 0 inlines «call_sites» «first_file» (now (work .entry)) [] [] [] in
+        let i = inputsOf (now (main .entry)) (now (supplementary .entry)) (now (program .entry)) 0 inlines «call_sites» «first_file»
+        (now (work .entry)) [] [] [] in
         MeasuresDwarf i (now (work .exit)) r) ⌝ }
 {
     let options = Options {

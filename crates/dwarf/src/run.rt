@@ -145,7 +145,8 @@ fn import_accepted<'a>(
     requires { ⌜ BothAccepted (now main) (now supplementary) (length (now program)) number ⌝ }
     requires { ⌜ NotOversize (now main) (now supplementary) (now program) ⌝ }
     ensures { λ r. ⌜ (
-        let i = inputsBy (now (main .entry)) (now (supplementary .entry)) (now (program .entry)) options (now (work .entry)) (now (records .entry)) (now (files .entry)) (now (warnings .entry)) in
+        let i = inputsBy (now (main .entry)) (now (supplementary .entry)) (now (program .entry)) options
+        (now (work .entry)) (now (records .entry)) (now (files .entry)) (now (warnings .entry)) in
         Writes (importAccepted options i number)
         (now (records .entry)) (now (files .entry)) (now (warnings .entry)) (now (records .exit)) (now (files .exit)) (now (warnings .exit)) r) ⌝ }
 {
@@ -179,7 +180,8 @@ fn run_import<'a>(
     warnings: &mut [u8],
 ) -> Ran
     ensures { λ r. ⌜ (
-        let i = inputsBy (now (main .entry)) (now (supplementary .entry)) (now (program .entry)) options (now (work .entry)) (now (records .entry)) (now (files .entry)) (now (warnings .entry)) in
+        let i = inputsBy (now (main .entry)) (now (supplementary .entry)) (now (program .entry)) options
+        (now (work .entry)) (now (records .entry)) (now (files .entry)) (now (warnings .entry)) in
         Writes (importAll (options .all) i)
         (now (records .entry)) (now (files .entry)) (now (warnings .entry)) (now (records .exit)) (now (files .exit)) (now (warnings .exit)) r) ⌝ }
 {
@@ -214,7 +216,8 @@ pub fn run_cleared<'a>(
     warnings: &mut [u8],
 ) -> Ran
     ensures { λ r. ⌜ (
-        let i = inputsBy (now (main .entry)) (now (supplementary .entry)) (now (program .entry)) options (now (work .entry)) (now (records .entry)) (now (files .entry)) (now (warnings .entry)) in
+        let i = inputsBy (now (main .entry)) (now (supplementary .entry)) (now (program .entry)) options
+        (now (work .entry)) (now (records .entry)) (now (files .entry)) (now (warnings .entry)) in
         (Writes (importAll (options .all) i)
         (now (records .entry)) (now (files .entry)) (now (warnings .entry)) (now (records .exit)) (now (files .exit)) (now (warnings .exit)) r)
         × (now (work .exit) ≡ replicate (length (now (work .entry))) 0)) ⌝ }

@@ -40,7 +40,8 @@ fn unit_context(
     requires { ⌜ UnitIn (now main) unit ⌝ }
     requires { ⌜ TablesIn (now main) (now supplementary) (now program) (now work) l tables ⌝ }
     requires { ⌜ LinesLaid (now work) l lines indices ⌝ }
-    ensures { λ r. ⌜ MakesContext (now (main .entry)) (now (supplementary .entry)) (now (work .entry)) (now (work .exit)) l unit lines indices (options .inlines) (options .«call_sites») r ⌝ }
+    ensures { λ r. ⌜ MakesContext (now (main .entry)) (now (supplementary .entry)) (now (work .entry)) (now (work .exit)) l
+        unit lines indices (options .inlines) (options .«call_sites») r ⌝ }
 {
     let text_count = subprograms::text::index_text(main, unit, work, l.text);
     let places = Places {
@@ -82,7 +83,8 @@ fn import_at<'a>(
     requires { ⌜ TablesIn (now main) (now supplementary) (now program) (now work) l tables ⌝ }
     requires { ⌜ Ready (now main) (now supplementary) (now work) l st ⌝ }
     ensures { λ r. ⌜ (
-        let F = importUnit (dwarfOf (now (main .entry)) (now (supplementary .entry))) (unitHere (now (main .entry)) place) (now (program .entry)) (options .inlines) (options .«call_sites») in
+        let F = importUnit (dwarfOf (now (main .entry)) (now (supplementary .entry))) (unitHere (now (main .entry)) place)
+        (now (program .entry)) (options .inlines) (options .«call_sites») in
         Grows F (now (main .entry)) (now (supplementary .entry)) (besideTables l (length (now (work .entry))))
         (now (work .entry)) (now (records .entry)) (now (files .entry)) (now (warnings .entry)) st
         (now (work .exit)) (now (records .exit)) (now (files .exit)) (now (warnings .exit)) r) ⌝ }

@@ -51,7 +51,8 @@ pub extern "C" fn pezgok_measure_dwarf<'a>(
     values: &mut [u64; 7],
 ) -> u8
     ensures { λ r. ⌜ (
-        let i = inputsOf (now (main .entry)) (now (supplementary .entry)) (now (program .entry)) 0 inlines «call_sites» «first_file» (now (work .entry)) [] [] [] in
+        let i = inputsOf (now (main .entry)) (now (supplementary .entry)) (now (program .entry)) 0 inlines «call_sites» «first_file»
+        (now (work .entry)) [] [] [] in
         ExportsMeasureDwarf i (now (work .exit)) (now (values .exit)) r) ⌝ }
 {
     let answer = dwarf::import::measure_dwarf(

@@ -1,5 +1,6 @@
 //! Looks addresses of an object up: the functions that are running there, inlined ones among them, with files and lines.
 
+mod answers;
 mod print;
 #[path = "../shared/progress.rs"]
 mod progress;
@@ -7,13 +8,14 @@ mod progress;
 mod source;
 mod words;
 
-use std::io::{self, BufRead, BufReader, BufWriter, Write};
+use std::io::{self, BufRead, BufReader, Write};
 use std::path::Path;
 use std::process::ExitCode;
 use std::{env, fs, process};
 
 use pezgok::{Node, Table};
 
+use answers::{BATCH, Output};
 use progress::Progress;
 use source::Stop;
 use words::{Command, HELP, Look, address};
@@ -63,41 +65,38 @@ fn run(look: &Look) -> Result<bool, Stop> {
     };
     let deepest = look.deepest.then(|| deepest(&table)).flatten();
     progress.stage("addresses looked up", 0);
-    let mut out = Output { table: &table, json: look.json, out: BufWriter::with_capacity(1 << 16, io::stdout().lock()), answered: true };
-    let written = if look.deepest {
-        deepest.map_or_else(|| Err(io::Error::other("the object has no function")), |address| out.answer(address, &progress))
-    } else if is_index && look.addresses.is_empty() {
+    let mut out = Output::new(&table, look.json, io::stdout().lock());
+    if is_index && look.addresses.is_empty() && !look.deepest {
         return stream(out, &progress);
-    } else {
-        given.iter().try_for_each(|&address| out.answer(address, &progress))
+    }
+    let deepest = deepest.map(|address| [address]);
+    let asked = match &deepest {
+        Some(address) => &address[..],
+        None if look.deepest => return Err(Stop(Some(format!("{}: it has no function", look.object.display())))),
+        None => given,
     };
-    written.and_then(|()| out.out.flush()).map_err(|error| closed(&error))?;
+    out.answer(asked, &progress).and_then(|()| out.flush()).map_err(|error| closed(&error))?;
     Ok(out.answered)
 }
 
-/// Answers each address as soon as it is read, so that another program can ask and wait.
+/// Answers what has been read so far before it waits for more, so that another program can ask and wait.
 fn stream<W: Write>(mut out: Output<'_, W>, progress: &Progress) -> Result<bool, Stop> {
-    let mut input = BufReader::new(io::stdin().lock());
-    let (mut line, mut number) = (String::new(), 0);
+    let mut input = BufReader::with_capacity(1 << 16, io::stdin().lock());
+    let (mut line, mut number, mut asked) = (String::new(), 0, Vec::new());
     loop {
-        if input.buffer().is_empty() {
-            out.out.flush().map_err(|error| closed(&error))?;
+        if input.buffer().is_empty() || asked.len() >= BATCH {
+            out.answer(&asked, progress).and_then(|()| out.flush()).map_err(|error| closed(&error))?;
+            asked.clear();
         }
         line.clear();
         number += 1;
-        if read_line(&mut input, &mut line)? == 0 {
-            out.out.flush().map_err(|error| closed(&error))?;
-            return Ok(out.answered);
-        }
-        for word in line.split_whitespace() {
-            let asked = match address(word) {
-                Some(asked) => asked,
-                None => {
-                    out.out.flush().map_err(|error| closed(&error))?;
-                    return Err(bad_line(number, word));
-                }
-            };
-            out.answer(asked, progress).map_err(|error| closed(&error))?;
+        progress.rest(true);
+        let ended = read_line(&mut input, &mut line)? == 0;
+        progress.rest(false);
+        let bad = line.split_whitespace().find(|word| address(word).map(|address| asked.push(address)).is_none());
+        if ended || bad.is_some() {
+            out.answer(&asked, progress).and_then(|()| out.flush()).map_err(|error| closed(&error))?;
+            return bad.map_or(Ok(out.answered), |word| Err(bad_line(number, word)));
         }
     }
 }
@@ -132,22 +131,6 @@ fn closed(error: &io::Error) -> Stop {
         process::exit(0);
     }
     Stop(Some(error.to_string()))
-}
-
-struct Output<'a, W: Write> {
-    table: &'a Table,
-    json: bool,
-    out: BufWriter<W>,
-    answered: bool,
-}
-
-impl<W: Write> Output<'_, W> {
-    fn answer(&mut self, address: u64, progress: &Progress) -> io::Result<()> {
-        progress.step();
-        let answer = self.table.look_up(address);
-        self.answered &= if self.json { print::json(address, answer, &mut self.out)? } else { print::text(answer, &mut self.out)? };
-        Ok(())
-    }
 }
 
 /// The first address of the deepest inlined call; of any function, where nothing is inlined.

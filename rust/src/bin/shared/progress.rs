@@ -1,6 +1,6 @@
-//! Words on standard error while work takes long: the first after two seconds, then every two.
+//! Words on standard error while work takes long: the first after two seconds, then every two where something has changed.
 
-use std::sync::atomic::{AtomicU64, Ordering};
+use std::sync::atomic::{AtomicBool, AtomicU64, Ordering};
 use std::sync::mpsc::{self, RecvTimeoutError, Sender};
 use std::sync::{Arc, Mutex};
 use std::thread::{self, JoinHandle};
@@ -14,6 +14,8 @@ struct State {
     done: AtomicU64,
     /// 0 where it is not known.
     all: AtomicU64,
+    /// Whether nothing is being done.
+    resting: AtomicBool,
 }
 
 /// What is being done, and how far it is. Nothing is said after it is dropped.
@@ -30,12 +32,17 @@ impl Progress {
         let (ended, end) = mpsc::channel();
         let seen = Arc::clone(&state);
         let thread = thread::spawn(move || {
+            let mut said = String::new();
             while end.recv_timeout(INTERVAL) == Err(RecvTimeoutError::Timeout) {
                 let stage = seen.stage.lock().map_or_else(|_| String::new(), |stage| stage.clone());
-                match (seen.done.load(Ordering::Relaxed), seen.all.load(Ordering::Relaxed)) {
-                    (0, 0) => eprintln!("{program}: {stage}"),
-                    (done, 0) => eprintln!("{program}: {stage}: {done}"),
-                    (done, all) => eprintln!("{program}: {stage}: {done} of {all}"),
+                let words = match (seen.done.load(Ordering::Relaxed), seen.all.load(Ordering::Relaxed)) {
+                    (0, 0) => stage,
+                    (done, 0) => format!("{stage}: {done}"),
+                    (done, all) => format!("{stage}: {done} of {all}"),
+                };
+                if words != said && !seen.resting.load(Ordering::Relaxed) {
+                    eprintln!("{program}: {words}");
+                    said = words;
                 }
             }
         });
@@ -51,8 +58,14 @@ impl Progress {
         self.state.all.store(all, Ordering::Relaxed);
     }
 
-    pub fn step(&self) {
-        self.state.done.fetch_add(1, Ordering::Relaxed);
+    /// Nothing is said while it waits for others.
+    #[allow(dead_code)] // Of two programs one waits.
+    pub fn rest(&self, resting: bool) {
+        self.state.resting.store(resting, Ordering::Relaxed);
+    }
+
+    pub fn steps(&self, count: u64) {
+        self.state.done.fetch_add(count, Ordering::Relaxed);
     }
 }
 

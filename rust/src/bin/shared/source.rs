@@ -52,12 +52,12 @@ pub fn of_object(object: &Path, given: &[OsString], asked: Option<&[u64]>, progr
             Event::Imported { unit } => {
                 // A large unit comes in parts.
                 if last.replace(unit) != Some(unit) {
-                    progress.step();
+                    progress.steps(1);
                 }
             }
             Event::NotImported(unit) => {
                 if last.replace(unit.unit) != Some(unit.unit) {
-                    progress.step();
+                    progress.steps(1);
                 }
                 eprintln!("{program}: unit {} ({}) is not imported: {}", unit.unit, unit.name, unit.reason);
             }

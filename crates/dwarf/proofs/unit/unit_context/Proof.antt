@@ -1,7 +1,8 @@
 -- `unit::unit_context` meets its contract: the executable ranges are written between the lines and the tables. Assumes nothing.
 use borrow.Author.Needs.{needs}
 use Rattle.tlv.proofs.PlaceFacts.{placed-start}
-use Rattle.dwarf.proofs.TablesLaws.{accepted-main, text-room, makes-context}
+use Rattle.dwarf.proofs.TablesLaws.{accepted-main, text-room}
+use Rattle.dwarf.proofs.UnitContextLaws.{makes-context}
 use Rattle.dwarf.proofs.unit.unit_context.Statement.{statement}
 use Rattle.dwarf.proofs.unit.unit_context.Tie as tie
 
