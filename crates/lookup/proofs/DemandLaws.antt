@@ -90,12 +90,12 @@ loosen a P rs h = any-map {P = λ r. RangeHolds r a × P r} rs (λ r x. x .0) h
 -- ---- the chain's nodes
 
 -- p is the place of node number m from `from` on, and it holds the address
-record Held (a : ℕ) (ns : List GroupAt) (from p : ℕ) : Type 0 where
-  number : ℕ
-  one : GroupAt
-  numbered : at (drop from ns) number ≡ some one
-  here : one .place ≡ p
-  holding : nodeHolds a one ≡ true
+pub record Held (a : ℕ) (ns : List GroupAt) (from p : ℕ) : Type 0 where
+  pub number : ℕ
+  pub one : GroupAt
+  pub numbered : at (drop from ns) number ≡ some one
+  pub here : one .place ≡ p
+  pub holding : nodeHolds a one ≡ true
 
 module _ (a : ℕ) where
   all-held : (depth : ℕ) (ns : List GroupAt) → All (Held a ns 0) (chainFrom a depth ns)
@@ -117,7 +117,7 @@ module _ (a : ℕ) where
       go false false e x y = all-map (chainFrom a depth ns) later y
 
   -- but for the first, they stand behind the first node
-  rest-held : (depth : ℕ) (ns : List GroupAt) → All (Held a ns 1) (drop 1 (chainFrom a depth ns))
+  pub rest-held : (depth : ℕ) (ns : List GroupAt) → All (Held a ns 1) (drop 1 (chainFrom a depth ns))
   unfolding chainFrom at
   rest-held depth [] = tt
   rest-held depth (n ∷ ns) = go (ltb (node n .depth) depth) (eqb (node n .depth) depth && nodeHolds a n) (rest-held depth ns)
@@ -140,7 +140,7 @@ module _ (a : ℕ) where
 module _ (i : Inputs) (u : CompilationUnit) (s : ℕ) (f : GroupAt) (a : ℕ) (ns : List InlineNode)
     (inline : functionOf (group f) .inline ≡ rooted (functionOf (group f) .name) (functionOf (group f) .range) ns)
     (tree : TreeAgrees (functionOf (group f) .range) (treeEntries (dwarfOf i) u) s (map treeNode ns)) where
-  abbrev Kept-here : ℕ → Type 0
+  abbrev pub Kept-here : ℕ → Type 0
   Kept-here p = KeptHere (treeEntries (dwarfOf i) u) s f (tree .merged) (tree .entryOf) (length ns) a p
 
   -- the nodes below the root, by number
@@ -154,7 +154,7 @@ module _ (i : Inputs) (u : CompilationUnit) (s : ℕ) (f : GroupAt) (a : ℕ) (n
   at-tail [] k y e = e
   at-tail (m ∷ ms) k y e = e
 
-  kept-here : (p : ℕ) → Held a (nodesAt f) 1 p → Kept-here p
+  pub kept-here : (p : ℕ) → Held a (nodesAt f) 1 p → Kept-here p
   unfolding mapOption
   kept-here p h =
       let stands = at-tail (nodesAt f) (h .number) (h .one) (h .numbered) in
@@ -215,13 +215,14 @@ module _ (i : Inputs) (tray : List ℕ) (w : WrittenBy i tray) where
         agree = subst (λ (b : Bool). Pointwise (RecordAgrees (dwarfOf i) u b) (subjects (dwarfOf i) u) (f .state .records)) (w .inlines) c;
       })
 
-  pub found-one : (fs : List GroupAt) → functionsOf tray ≡ done fs → fs ≡ functionsAt tray
-  unfolding functionsOf
-  found-one fs = go (recordsForm 0 0 (fields tray))
-    where
-      go : (b : Bool) → cond b (done (functionsAt tray)) (refused 19) ≡ done fs → fs ≡ functionsAt tray
-      go true e = sym (done-is e)
-      go false e = refused-not e
+-- the functions that a look-up goes through
+pub found-in : (tray : List ℕ) (fs : List GroupAt) → functionsOf tray ≡ done fs → fs ≡ functionsAt tray
+unfolding functionsOf
+found-in tray fs = go (recordsForm 0 0 (fields tray))
+  where
+    go : (b : Bool) → cond b (done (functionsAt tray)) (refused 19) ≡ done fs → fs ≡ functionsAt tray
+    go true e = sym (done-is e)
+    go false e = refused-not e
 
 module _ (i : Inputs) (tray : List ℕ) (a : ℕ) (x : Frames) (w : WrittenBy i tray) where
   -- record k of the import is what the function at number k says
@@ -271,4 +272,4 @@ unfolding lookUp
 explaining i tray a x w e =
     with-done (functionsOf tray) _ e λ fs q r.
     by-first i tray a x w _ refl
-    (subst (λ (l : List GroupAt). qualifying (framesOf a) (first (λ f. holds a (functionRange f)) l) ≡ done x) (found-one i tray w fs q) r)
+    (subst (λ (l : List GroupAt). qualifying (framesOf a) (first (λ f. holds a (functionRange f)) l) ≡ done x) (found-in tray fs q) r)

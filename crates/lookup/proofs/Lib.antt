@@ -2,6 +2,7 @@ pub mod ReadLaws
 pub mod WindowLaws
 pub mod NearestLaws
 pub mod DemandLaws
+pub mod DemandAllLaws
 pub mod ChainLaws
 pub mod FormLaws
 pub mod PlaceLaws

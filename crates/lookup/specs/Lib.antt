@@ -4,6 +4,7 @@ pub mod Window
 pub mod Form
 pub mod Means
 pub mod Demand
+pub mod DemandAll
 pub mod Sheet
 pub mod Answers
 pub mod Walk
