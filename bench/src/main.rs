@@ -20,6 +20,7 @@ const USAGE: &str = "
 bench corpus CASES [TURNS]          the cases of a file, each by itself and all together
 bench scaled [TURNS]                each family, from 1,024 fields to 65,536
 bench worst [TURNS [PART]]          the worst that the limits allow, or those of them that have PART in their name
+bench wholes [TURNS]                65,536 fields in 1 to 256 units, all imported at once
 bench pass CASES [TURNS]            the pass that writes no buffer beside the import: the cases of a file, each family at 65,536 fields, the worst
 bench joins [TURNS]                 joins of symbols to trays of 65,536 fields to a million
 bench looks CASES [TURNS]           look-ups in the records of the cases, joined to megabytes: by the records alone, and by an index of them
@@ -95,6 +96,7 @@ fn run(arguments: &[String]) -> Result<(), String> {
         ["scaled", ref turns @ ..] => scaled(self::turns(turns, 9)?),
         ["worst", turns, part] => worst(self::turns(&[turns], 3)?, part),
         ["worst", ref turns @ ..] => worst(self::turns(turns, 3)?, ""),
+        ["wholes", ref turns @ ..] => wholes(self::turns(turns, 9)?),
         ["pass", cases, ref turns @ ..] => pass(&read(cases)?, self::turns(turns, 9)?),
         ["joins", ref turns @ ..] => joins::joins(self::turns(turns, 9)?),
         ["looks", cases, ref turns @ ..] => looks::looks(&read(cases)?, self::turns(turns, 9)?),
@@ -153,20 +155,22 @@ fn buffers(case: &Case) -> Result<Buffers, String> {
 
 fn ours(case: &Case, buffers: &mut Buffers) -> Result<pezgok::Finished, pezgok::Refusal> {
     let [records, files, warnings] = &mut buffers.outputs;
-    pezgok::import(
-        pezgok::Inputs { main: &case.main, supplementary: &case.supplementary, program: &case.program },
-        pezgok::Options { ordinal: case.ordinal, inlines: case.inlines, call_sites: case.call_sites, first_file: case.first_file },
-        pezgok::Buffers { work: &mut buffers.work, records, files, warnings },
-    )
+    let import = if case.all { pezgok::import_dwarf } else { pezgok::import };
+    import(given(case), asked(case), pezgok::Buffers { work: &mut buffers.work, records, files, warnings })
+}
+
+fn given(case: &Case) -> pezgok::Inputs<'_> {
+    pezgok::Inputs { main: &case.main, supplementary: &case.supplementary, program: &case.program }
+}
+
+fn asked(case: &Case) -> pezgok::Options {
+    pezgok::Options { ordinal: case.ordinal, inlines: case.inlines, call_sites: case.call_sites, first_file: case.first_file }
 }
 
 /// What the pass that writes no buffer says of such an import.
 fn said(case: &Case, buffers: &mut Buffers) -> Result<pezgok::Finished, pezgok::Refusal> {
-    pezgok::measure(
-        pezgok::Inputs { main: &case.main, supplementary: &case.supplementary, program: &case.program },
-        pezgok::Options { ordinal: case.ordinal, inlines: case.inlines, call_sites: case.call_sites, first_file: case.first_file },
-        &mut buffers.work,
-    )
+    let measure = if case.all { pezgok::measure_dwarf } else { pezgok::measure };
+    measure(given(case), asked(case), &mut buffers.work)
 }
 
 fn clear(buffers: &mut Buffers) {
@@ -187,9 +191,9 @@ fn turn(case: &Case, buffers: &mut Buffers) -> Times {
     clear(buffers);
     let (parse, parsed) = timed(|| inputs(black_box(case)));
     let (mut import, mut write) = (Duration::ZERO, Duration::ZERO);
-    if let Ok((dwarf, ordinal)) = &parsed {
+    if let Ok((dwarf, units)) = &parsed {
         let imported;
-        (import, imported) = timed(|| finished(black_box(case), dwarf, *ordinal));
+        (import, imported) = timed(|| finished(black_box(case), dwarf, units.clone()));
         if let Ok(imported) = imported {
             write = timed(|| written(&imported, case.first_file)).0;
         }
@@ -220,8 +224,8 @@ fn alone(side: &str, cases: &[Case], turns: u32) -> Result<(), String> {
             match side {
                 "ours" => _ = black_box(ours(black_box(case), &mut buffers)),
                 "rust" => {
-                    if let Ok((dwarf, ordinal)) = inputs(black_box(case)) {
-                        let _ = black_box(finished(black_box(case), &dwarf, ordinal));
+                    if let Ok((dwarf, units)) = inputs(black_box(case)) {
+                        let _ = black_box(finished(black_box(case), &dwarf, units));
                     }
                 }
                 _ => return Err(format!("{side} is no side")),
@@ -300,6 +304,23 @@ fn scaled(turns: u32) -> Result<(), String> {
             (before, sum) = (Some(times), sum.plus(times));
         }
         println!("| all | {} | - | - |", columns(sum));
+    }
+    Ok(())
+}
+
+/// The same number of fields, in more and more units. The last column is how long one unit of that size takes by itself, the other units being there.
+fn wholes(turns: u32) -> Result<(), String> {
+    head("units", " | growth, ours | growth, the Rust's | the first unit alone");
+    let mut before: Option<Times> = None;
+    for doubling in 0..9 {
+        let case = sheets::units(1 << doubling, sheets::LIMIT >> doubling);
+        let times = measured(&case, &mut buffers(&case)?, turns);
+        let alone = Case { all: false, ..case.clone() };
+        let alone = measured(&alone, &mut buffers(&alone)?, turns);
+        let growth = |of: fn(Times) -> Duration| before.map_or_else(|| "-".to_owned(), |before| ratio(of(times), of(before)));
+        let grown = [growth(|times| times.ours), growth(Times::together)].join(" | ");
+        println!("| {} | {} | {grown} | {} |", 1 << doubling, columns(times), micros(alone.ours));
+        before = Some(times);
     }
     Ok(())
 }

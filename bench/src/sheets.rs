@@ -114,6 +114,34 @@ fn functions(count: u64, order: fn(u64, u64) -> u64) -> Case {
     case(main, Fields::default(), program)
 }
 
+/// So many units of so many fields, all to be imported: functions of five rows each, of which every second has its name from the unit before; each
+/// unit has its part of the program, and sixteen files are shared.
+pub fn units(count: u64, fields: u64) -> Case {
+    const SECTION: u64 = 1 << 20;
+    let (mut main, mut program) = (Fields::default(), Vec::new());
+    let functions = (fields - 8) / 8;
+    for unit in 0..count {
+        let text = START + 40 * functions * unit;
+        let own = [vec![0x4b; 5 * functions as usize], vec![0, 1, 1]].concat();
+        main.unit(SECTION * unit, SECTION, 5, 4).text(START, 1 << 40).header(0, 32, 5, 4, 13, &OPCODE_LENGTHS);
+        main.part(program.len() as u64, own.len() as u64).directory(0, b"/rig/src").file(0, 0, format!("part{}.c", unit % 16).as_bytes());
+        (0..5 * functions).for_each(|row| _ = main.row(text + 8 * row, 0, 10 + row % 40, column(row), PLAIN));
+        main.row(text + 40 * functions, 0, 0, 0, END).entry(0, 0, COMPILE_UNIT);
+        for place in 0..functions {
+            let start = text + 40 * place;
+            main.entry(1 + 8 * place, 1, SUBPROGRAM);
+            if unit > 0 && place % 2 == 1 {
+                main.attribute(ORIGIN, SECTION_REF, SECTION * (unit - 1) + 1 + 8 * (place - 1));
+            } else {
+                main.string(NAME, format!("function{place}").as_bytes());
+            }
+            main.range(start, start + 40, 0);
+        }
+        program.extend(own);
+    }
+    Case { all: true, ..case(main, Fields::default(), program) }
+}
+
 /// Definitions that refer to declarations, which have the name, the file and the line; half of the references are by section.
 fn references(count: u64) -> Case {
     let mut main = unit();

@@ -3,7 +3,7 @@
 use oracle::{Answer, Case, joined};
 
 use crate::wrong::Wrong;
-use crate::{Got, ours};
+use crate::{Got, ours, pass};
 
 /// What differs in the proved import of all units, with its buffers as they are, from its units alone; these are counted.
 pub fn difference(case: &Case, wrong: Option<Wrong>, count: &mut u64) -> Result<Option<String>, String> {
@@ -11,7 +11,10 @@ pub fn difference(case: &Case, wrong: Option<Wrong>, count: &mut u64) -> Result<
     let mut faulty = None;
     let what = joined::difference(case, &whole, |alone| {
         *count += 1;
-        answered(ours(alone, None)).unwrap_or_else(|message| {
+        // Buffers that are as long as the pass says, not as long as can be.
+        let [records, files, warnings] = pass::asked(alone, None).lengths.map(|length| length as u32);
+        let exact = Case { records, files, warnings, ..alone.clone() };
+        answered(ours(&exact, None)).unwrap_or_else(|message| {
             faulty = Some(message);
             Answer::default()
         })
