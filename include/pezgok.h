@@ -45,8 +45,16 @@ enum {
  * strings had 4,096 bytes at most: what is shorter is refused with 5. */
 #define PEZGOK_WORK(fields, program_len) (64 * (size_t)(fields) + 4 * (size_t)(program_len) + 32768)
 
-/* Imports the unit of an ordinal, from 0, of the main input. Returns 0, or the refusal's number, 1 to 18. An empty main input with ordinal 0 is a
- * package without debug data: the import is finished, all values are 0 and the line program is not read.
+/* The same for an import of a unit that takes its rows from its line program, in place of row fields: field 1d hex, the line encoding, stands behind its
+ * line header. Of all units one that has it decides. It is enough for every import. */
+#define PEZGOK_WORK_ENCODED(fields, program_len) (64 * (size_t)(fields) + 64 * (size_t)(program_len) + 32768)
+
+/* Refusals of a line program that is run for its rows: a line range of 0 or other operations per instruction than 1; an address that falls within a
+ * sequence or passes 2^64 - 1. Its operands are refused with 7 to 12. Such a unit can still be imported with row fields. */
+enum { PEZGOK_LINE_ENCODING = 21, PEZGOK_LINE_ADDRESS = 22 };
+
+/* Imports the unit of an ordinal, from 0, of the main input. Returns 0, or the refusal's number, 1 to 18, 21 or 22. An empty main input with ordinal 0
+ * is a package without debug data: the import is finished, all values are 0 and the line program is not read.
  *
  * Any content and any length is taken. No two of the slices may overlap, but for two that are only read, nor may values overlap any; a pointer is not null, also where
  * its length is 0. After every call work holds only 0. After a refusal the three output buffers hold only 0, and so do the values; else each
@@ -63,8 +71,8 @@ uint8_t pezgok_import(
     uint64_t values[PEZGOK_VALUES]);
 
 /* How long the three output buffers of such an import must be, and its statistics: values then has what pezgok_import gives on buffers of those
- * lengths or more, and no shorter ones would do. Returns 0, or the import's own refusal, 1 to 15; then all values are 0. The same is owed of slices
- * and pointers, work has the same length, and after every call it holds only 0. It takes about as long as the import. */
+ * lengths or more, and no shorter ones would do. Returns 0, or the import's own refusal, 1 to 15, 21 or 22; then all values are 0. The same is owed of
+ * slices and pointers, work has the same length, and after every call it holds only 0. It takes about as long as the import. */
 uint8_t pezgok_measure(
     const uint8_t *main, size_t main_len,
     const uint8_t *supplementary, size_t supplementary_len,
@@ -76,7 +84,8 @@ uint8_t pezgok_measure(
 /* Imports all units of the main input, in order, into one records buffer, with one table of files: a file that an earlier unit brought keeps its number
  * and is written once. Each buffer has what the imports of the units write one after another, and the statistics are added. The first unit that is
  * refused refuses all. An input without units is a package without debug data. The units' line programs stand in one program: a unit's part of it is named
- * by field 1e hex behind its line header, without which it is the whole. All else is as of pezgok_import; work has the same length. */
+ * by field 1e hex behind its line header and its field 1d, if it has one; without it that is the whole. All else is as of pezgok_import; work has the
+ * length that the unit which needs most asks for. */
 uint8_t pezgok_import_dwarf(
     const uint8_t *main, size_t main_len,
     const uint8_t *supplementary, size_t supplementary_len,

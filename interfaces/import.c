@@ -26,6 +26,15 @@ static size_t read_file(const char *folder, const char *name, uint8_t *bytes) {
     return length;
 }
 
+/* Whether a unit takes its rows from its line program: some field of the input, of a one-byte tag and a two-byte length, is a line encoding. */
+static bool is_encoded(const uint8_t *input, size_t length) {
+    enum { HEAD = 3, LINE_ENCODING = 0x1d };
+    for (size_t at = 0; at + HEAD <= length; at += HEAD + input[at + 1] + ((size_t)input[at + 2] << 8))
+        if (input[at] == LINE_ENCODING)
+            return true;
+    return false;
+}
+
 /* A buffer, of one byte at least: a pointer is not null. */
 static uint8_t *buffer(uint64_t length) {
     uint8_t *bytes = length < SIZE_MAX ? malloc(length ? length : 1) : NULL;
@@ -54,7 +63,8 @@ int main(int count, char **words) {
     size_t supplementary_len = read_file(words[1], "unit.sup", supplementary);
     size_t program_len = read_file(words[1], "unit.line", program);
     /* A field has three bytes at least. */
-    size_t work_len = PEZGOK_WORK((input_len + supplementary_len) / 3, program_len);
+    size_t fields = (input_len + supplementary_len) / 3;
+    size_t work_len = is_encoded(input, input_len) ? PEZGOK_WORK_ENCODED(fields, program_len) : PEZGOK_WORK(fields, program_len);
     uint8_t *work = buffer(work_len);
     uint64_t values[PEZGOK_VALUES];
     uint8_t refusal;

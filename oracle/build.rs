@@ -44,6 +44,7 @@ const OWN: &[(&str, &str)] = &[
     ("lookup.rs", "faulty_lookup"),
     ("answer.rs", "faulty_answer"),
     ("grammar.rs", "faulty_grammar"),
+    ("machine.rs", "faulty_machine"),
 ];
 
 /// A block of amendments.txt or faults.txt.

@@ -14,6 +14,7 @@ use oracle::{Case, judged};
 
 mod joins;
 mod looks;
+mod programs;
 mod sheets;
 
 const USAGE: &str = "
@@ -22,6 +23,8 @@ bench scaled [TURNS]                each family, from 1,024 fields to 65,536
 bench worst [TURNS [PART]]          the worst that the limits allow, or those of them that have PART in their name
 bench wholes [TURNS]                65,536 fields in 1 to 256 units, all imported at once
 bench pass CASES [TURNS]            the pass that writes no buffer beside the import: the cases of a file, each family at 65,536 fields, the worst
+bench programs [CASES CASES TIMES] [TURNS]  imports with rows as fields beside imports with rows from the line program: the units of two files, in both
+                                    forms, with how long the decoder runs each program; families with many rows, the longest program
 bench joins [TURNS]                 joins of symbols to trays of 65,536 fields to a million
 bench looks CASES [TURNS]           look-ups in the records of the cases, joined to megabytes: by the records alone, and by an index of them
 bench run ours|rust FAMILY FIELDS TURNS     one of them alone, for a profiler; FAMILY may be one of the worst, FIELDS is then not read
@@ -98,6 +101,10 @@ fn run(arguments: &[String]) -> Result<(), String> {
         ["worst", ref turns @ ..] => worst(self::turns(turns, 3)?, ""),
         ["wholes", ref turns @ ..] => wholes(self::turns(turns, 9)?),
         ["pass", cases, ref turns @ ..] => pass(&read(cases)?, self::turns(turns, 9)?),
+        ["programs", rows, programs, times, ref turns @ ..] => {
+            programs::programs(&read(rows)?, &read(programs)?, &programs::nanoseconds(times)?, self::turns(turns, 9)?)
+        }
+        ["programs", ref turns @ ..] => programs::programs(&[], &[], &[], self::turns(turns, 9)?),
         ["joins", ref turns @ ..] => joins::joins(self::turns(turns, 9)?),
         ["looks", cases, ref turns @ ..] => looks::looks(&read(cases)?, self::turns(turns, 9)?),
         ["run", side, "corpus", cases, ref turns @ ..] => alone(side, &read(cases)?, self::turns(turns, 1)?),
@@ -124,7 +131,7 @@ fn read(path: &str) -> Result<Vec<Case>, String> {
     let mut source = Source::open(Path::new(path))?;
     let mut cases = Vec::new();
     while let Some(mut case) = source.case()? {
-        case.work = oracle::work_needed(field_count(&case.main) + field_count(&case.supplementary), case.program.len());
+        case.work = oracle::work_of(&case);
         (case.records, case.files, case.warnings) = (u32::MAX, u32::MAX, u32::MAX);
         cases.push(case);
     }

@@ -50,7 +50,7 @@ pub const WORST: [(&str, fn() -> Case); 26] = [
 
 fn case(main: Fields, supplementary: Fields, program: Vec<u8>) -> Case {
     let mut case = Case::new(main.0, supplementary.0, program);
-    case.work = oracle::work_needed(field_count(&case.main) + field_count(&case.supplementary), case.program.len());
+    case.work = oracle::work_of(&case);
     (case.records, case.files, case.warnings) = (u32::MAX, u32::MAX, u32::MAX);
     case
 }

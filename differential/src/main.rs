@@ -7,9 +7,8 @@ use std::path::{Path, PathBuf};
 use std::process::ExitCode;
 use std::{env, fs};
 
-use oracle::compose::field_count;
-use oracle::files::Source;
-use oracle::{Answer, Case, answer, generate, judged, limits, whole_cases, work_needed};
+use oracle::files::{Source, Target};
+use oracle::{Answer, Case, answer, generate, judged, limits, program_cases, whole_cases, work_of};
 
 mod joins;
 mod look;
@@ -20,7 +19,9 @@ mod wrong;
 const USAGE: &str = "
 differential generated SEED COUNT [OPTIONS]     generated cases, each as it is, then with other switches and with buffers at their limits
 differential wholes SEED COUNT [OPTIONS]        cases of all units and of parts of the program, in the same way; each unit alone, too
+differential programs SEED COUNT [OPTIONS]      cases of rows from line programs, in the same way
 differential cases CASES [OPTIONS]              the cases of a file, in the same way
+differential answer CASES ANSWERS               the library's answers to the cases of a file, as they are
 differential replay CASES ANSWERS [OPTIONS]     the cases of a file as they are, held to recorded answers
 differential large [OPTIONS]                    the cases over 64 KiB
 differential joins SEED COUNT [OPTIONS]         joins of symbols, each with work slices of several lengths
@@ -32,6 +33,9 @@ OPTIONS: --out DIR where a difference is written; --wrong NAME calls a wrong imp
 const FILLED: u8 = 0xa5;
 const BEHIND: usize = 16;
 
+/// One more than the largest refusal of an import.
+const REFUSALS: usize = 23;
+
 /// Refusals are few, kinds of warnings too.
 #[derive(Default)]
 struct Counts {
@@ -39,7 +43,7 @@ struct Counts {
     believed: u64,
     /// Imports of one unit, to hold an import of all to.
     alone: u64,
-    refusals: [u64; 19],
+    refusals: [u64; REFUSALS],
     warnings: [u64; 12],
 }
 
@@ -71,6 +75,10 @@ fn run(arguments: &[String]) -> Result<bool, String> {
         ["wholes", seed, count, ref rest @ ..] => {
             compare(whole_cases::cases(number(seed)?).take(number(count)? as usize).map(Ok), &options(rest)?)
         }
+        ["programs", seed, count, ref rest @ ..] => {
+            compare(program_cases::cases(number(seed)?).take(number(count)? as usize).map(Ok), &options(rest)?)
+        }
+        ["answer", cases, answers] => answers_of(Path::new(cases), Path::new(answers)),
         ["cases", path, ref rest @ ..] => {
             let mut source = Source::open(Path::new(path))?;
             compare(std::iter::from_fn(move || source.case().transpose()), &options(rest)?)
@@ -165,6 +173,15 @@ fn replay(cases: &Path, answers: &Path, options: &Options) -> Result<bool, Strin
     Ok(true)
 }
 
+/// Writes the library's answers to the cases of a file.
+fn answers_of(cases: &Path, answers: &Path) -> Result<bool, String> {
+    let (mut source, mut target) = (Source::open(cases)?, Target::create(answers)?);
+    while let Some(case) = source.case()? {
+        target.answer(&units::answered(ours(&case, None))?)?;
+    }
+    target.finish()
+}
+
 /// How many of the forms of a case differ in its switches alone.
 const SWITCHED: usize = 5;
 
@@ -194,7 +211,7 @@ fn forms(case: &Case, place: u64) -> Vec<Case> {
         form.warnings = around(full.warnings.len(), turn + place / 9);
         forms.push(form);
     }
-    let needed = work_needed(field_count(&case.main) + field_count(&case.supplementary), case.program.len());
+    let needed = work_of(case);
     for work in [needed - 1, needed, needed + 1] {
         let mut form = case.clone();
         form.work = work;
@@ -302,7 +319,8 @@ fn print(counts: &Counts) {
         println!("{} imports of one unit, which imports of all units are held to", counts.alone);
     }
     println!("finished {}", counts.refusals[0]);
-    for (number, count) in counts.refusals.iter().enumerate().skip(1) {
+    // 19 and 20 are none of an import's.
+    for (number, count) in counts.refusals.iter().enumerate().skip(1).filter(|refusal| !matches!(refusal.0, 19 | 20)) {
         println!("refused {number}: {count}");
     }
     for (kind, count) in counts.warnings.iter().enumerate().skip(1) {

@@ -33,7 +33,12 @@ pub fn asked(case: &Case, wrong: Option<Wrong>) -> Said {
 
 /// The oracle's answer with buffers of any length; it is asked again where one was short.
 pub fn whole(case: &Case, expected: &Answer) -> Answer {
-    if expected.refusal < 16 { expected.clone() } else { answer(&ample(case)) }
+    if is_short(expected) { answer(&ample(case)) } else { expected.clone() }
+}
+
+/// Whether a buffer was short.
+fn is_short(answer: &Answer) -> bool {
+    matches!(answer.refusal, 16..=18)
 }
 
 /// The same call with buffers of any length.
@@ -66,7 +71,7 @@ pub fn difference(whole: &Answer, said: &Said) -> Option<String> {
 /// The same against a recorded answer: where a buffer was short, all that is known is that the pass finishes and that it is the first of which
 /// it says more.
 pub fn recorded_difference(case: &Case, expected: &Answer, said: &Said) -> Option<String> {
-    if expected.refusal < 16 {
+    if !is_short(expected) {
         return difference(expected, said);
     }
     let lent = [case.records, case.files, case.warnings].map(u64::from);

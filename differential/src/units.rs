@@ -23,7 +23,7 @@ pub fn difference(case: &Case, wrong: Option<Wrong>, count: &mut u64) -> Result<
 }
 
 /// What an import left behind, as an answer.
-fn answered(got: Got) -> Result<Answer, String> {
+pub fn answered(got: Got) -> Result<Answer, String> {
     let Got { refusal, lengths, statistics, buffers, .. } = got;
     let part = |place: usize| buffers[place].get(..lengths[place] as usize).map(<[u8]>::to_vec);
     let [Some(records), Some(files), Some(warnings)] = [part(0), part(1), part(2)] else {

@@ -26,6 +26,8 @@ pub struct Dump {
     pub main: Fields,
     pub supplementary: Fields,
     pub program: Vec<u8>,
+    /// Whether a unit that is imported takes its rows from the program.
+    pub encoded: bool,
 }
 
 /// The main file's units, the supplementary one's, and where code lies.
@@ -33,6 +35,8 @@ pub struct Input<'a> {
     pub main: Source<'a>,
     pub supplementary: Option<Source<'a>>,
     pub text: &'a [(u64, u64)],
+    /// Whether rows are left to the line programs: the encoding stands in their place.
+    pub programs: bool,
 }
 
 impl<'a> Input<'a> {
@@ -62,6 +66,7 @@ impl<'a> Input<'a> {
             main,
             supplementary,
             program: program.to_vec(),
+            encoded: self.programs && lines.is_some(),
         })
     }
 
@@ -71,7 +76,8 @@ impl<'a> Input<'a> {
         if decoded.unit.dwo_id.is_some() {
             return Err("a unit of split DWARF".into());
         }
-        Ok(decoded.unit.line_program.clone().map(Lines::run))
+        let program = decoded.unit.line_program.clone();
+        Ok(program.map(|program| Lines::run(program, self.programs)))
     }
 
     /// The main and the supplementary sheet of the units that are reached, lean or with all entries;
@@ -181,6 +187,8 @@ pub struct Reached {
 pub struct Lines<'a> {
     pub header: LineProgramHeader<Slice<'a>>,
     pub program: &'a [u8],
+    /// What field 1d says of the header, where rows are left to the program.
+    encoding: Option<[u8; 5]>,
     rows: Vec<Row>,
 }
 
@@ -198,7 +206,7 @@ pub struct Row {
 pub const PLAIN: u8 = 0;
 
 impl<'a> Lines<'a> {
-    fn run(program: gimli::IncompleteLineProgram<Slice<'a>>) -> Self {
+    fn run(program: gimli::IncompleteLineProgram<Slice<'a>>, programs: bool) -> Self {
         let bytes = program.header().raw_program_buf().slice();
         let mut decoder = program.rows();
         let mut rows = Vec::new();
@@ -228,12 +236,30 @@ impl<'a> Lines<'a> {
             }
         }
         // The program may have added files, so the header is taken after it.
+        let header = decoder.header().clone();
+        if programs {
+            rows.clear();
+        }
         Lines {
-            header: decoder.header().clone(),
+            encoding: programs.then(|| encoding(&header)),
+            header,
             program: bytes,
             rows,
         }
     }
+}
+
+/// Minimum instruction length, operations per instruction (1 before version 4), default statement
+/// flag, line base, line range.
+fn encoding(header: &LineProgramHeader<Slice>) -> [u8; 5] {
+    let encoding = header.line_encoding();
+    [
+        encoding.minimum_instruction_length,
+        encoding.maximum_operations_per_instruction,
+        encoding.default_is_stmt.into(),
+        encoding.line_base as u8,
+        encoding.line_range,
+    ]
 }
 
 /// What only a unit that is imported has, beside the ranges of its entries: the import reads
@@ -275,12 +301,10 @@ fn write<'a>(
     for (start, end) in own.map_or(&[][..], |own| own.text) {
         fields.field(fields::TEXT, &[Part::U64(*start), Part::U64(*end)])?;
     }
-    if let Some(lines) = own.and_then(|own| own.lines) {
-        let part = own.and_then(|own| own.part);
-        let program = own.and_then(|own| own.program);
-        write_lines(fields, source, decoded, &lines.header, program, &lines.rows, part)?;
-    } else if let Some(program) = &unit.line_program {
-        write_lines(fields, source, decoded, program.header(), None, &[], None)?;
+    let ran = own.and_then(|own| own.lines).map(|lines| &lines.header);
+    let given = unit.line_program.as_ref().map(|program| program.header());
+    if let Some(header) = ran.or(given) {
+        write_lines(fields, source, decoded, header, own)?;
     }
     let kept = lean.then(|| parts::kept(&decoded.entries, &readable));
     let part = own.and_then(|own| own.part);
@@ -305,9 +329,7 @@ fn write_lines<'a>(
     source: &Source<'a>,
     decoded: &Decoded<'a>,
     header: &LineProgramHeader<Slice<'a>>,
-    program: Option<(u64, u64)>,
-    rows: &[Row],
-    part: Option<&UnitPart>,
+    own: Option<Own<'a, '_>>,
 ) -> Result<(), String> {
     fields.field(
         fields::LINE_HEADER,
@@ -320,7 +342,11 @@ fn write_lines<'a>(
             Part::Bytes(header.standard_opcode_lengths().slice()),
         ],
     )?;
-    if let Some((start, length)) = program {
+    let lines = own.and_then(|own| own.lines);
+    if let Some(encoding) = lines.and_then(|lines| lines.encoding) {
+        fields.field(fields::LINE_ENCODING, &[Part::Bytes(&encoding)])?;
+    }
+    if let Some((start, length)) = own.and_then(|own| own.program) {
         let parts = [Part::U64(start), Part::U64(length)];
         fields.field(fields::PROGRAM_PART, &parts)?;
     }
@@ -352,6 +378,8 @@ fn write_lines<'a>(
     for each in header.file_names() {
         file(fields::FILE, each)?;
     }
+    let rows = lines.map_or(&[][..], |lines| &lines.rows);
+    let part = own.and_then(|own| own.part);
     let kept = part.map(|part| part.keeps(rows, header.version()));
     for (place, row) in rows.iter().enumerate() {
         if kept.as_ref().is_some_and(|kept| !kept[place]) {

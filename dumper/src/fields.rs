@@ -29,6 +29,7 @@ pub const ATTRIBUTE: u8 = 0x18;
 pub const RANGE: u8 = 0x19;
 pub const RANGE_FAILURE: u8 = 0x1a;
 pub const FILE_ZERO: u8 = 0x1c;
+pub const LINE_ENCODING: u8 = 0x1d;
 pub const PROGRAM_PART: u8 = 0x1e;
 
 /// One value of a payload.
@@ -102,8 +103,10 @@ impl Fields {
     }
 }
 
-/// The work length that an import of these inputs needs, and no byte more.
-pub fn work_length(main: &Fields, supplementary: &Fields, program: &[u8]) -> u64 {
+/// The work length that an import of these inputs needs, and no byte more: a byte of the program
+/// counts for more where rows are taken from it.
+pub fn work_length(main: &Fields, supplementary: &Fields, program: &[u8], encoded: bool) -> u64 {
     let fields = (main.fields + supplementary.fields) as u64;
-    64 * fields + 4 * program.len() as u64 + WORK_BESIDES
+    let bytes = if encoded { 64 } else { 4 };
+    64 * fields + bytes * program.len() as u64 + WORK_BESIDES
 }

@@ -2,6 +2,7 @@
 //! units of a file.
 
 mod coverage;
+mod decoder;
 mod dump;
 mod elf;
 mod fields;
@@ -26,9 +27,10 @@ use symbols::Symbols;
 use unit::{Decoded, Source};
 
 const USAGE: &str = "\
-usage: dumper dump OBJECT OUTDIR [--supplementary FILE]
-       dumper whole OBJECT OUTDIR [--supplementary FILE]
-       dumper cases OBJECT.. --out CASES [--whole] [--append] [--list LIST] [--supplementary FILE]
+usage: dumper dump OBJECT OUTDIR [--programs] [--supplementary FILE]
+       dumper whole OBJECT OUTDIR [--programs] [--supplementary FILE]
+       dumper cases OBJECT.. --out CASES [--whole] [--programs] [--append] [--list LIST]
+                    [--times TIMES] [--supplementary FILE]
        dumper stream OBJECT [--supplementary FILE] [--addresses] [--whole | --most FIELDS]";
 
 fn main() -> ExitCode {
@@ -74,9 +76,30 @@ struct Options {
     plain: Vec<PathBuf>,
     out: Option<PathBuf>,
     list: Option<PathBuf>,
+    times: Option<PathBuf>,
     supplementary: Option<PathBuf>,
     append: bool,
     whole: bool,
+    programs: bool,
+}
+
+impl Options {
+    fn asked(&self) -> Asked<'_> {
+        Asked {
+            supplementary: self.supplementary.as_deref(),
+            programs: self.programs,
+            timed: self.times.is_some(),
+        }
+    }
+}
+
+/// What is asked of a file: its supplementary one, if one was given, whether rows are left to the
+/// line programs, and whether the decoder is timed on these.
+#[derive(Clone, Copy)]
+struct Asked<'a> {
+    supplementary: Option<&'a Path>,
+    programs: bool,
+    timed: bool,
 }
 
 fn run(arguments: Vec<PathBuf>) -> Result<(), Stop> {
@@ -90,6 +113,7 @@ fn run(arguments: Vec<PathBuf>) -> Result<(), Stop> {
         let place = match argument.to_str() {
             Some("--out") => &mut options.out,
             Some("--list") => &mut options.list,
+            Some("--times") => &mut options.times,
             Some("--supplementary") => &mut options.supplementary,
             Some("--append") => {
                 options.append = true;
@@ -97,6 +121,10 @@ fn run(arguments: Vec<PathBuf>) -> Result<(), Stop> {
             }
             Some("--whole") => {
                 options.whole = true;
+                continue;
+            }
+            Some("--programs") => {
+                options.programs = true;
                 continue;
             }
             Some(other) if other.starts_with("--") => {
@@ -111,16 +139,20 @@ fn run(arguments: Vec<PathBuf>) -> Result<(), Stop> {
     }
     match (command.to_str(), &*options.plain, &options.out) {
         (Some(word @ ("dump" | "whole")), [object, folder], None)
-            if options.list.is_none() && !options.append && !options.whole =>
+            if options.list.is_none()
+                && options.times.is_none()
+                && !options.append
+                && !options.whole =>
         {
-            let supplementary = options.supplementary.as_deref();
             if word == "whole" {
-                whole::whole(object, folder, supplementary)
+                whole::whole(object, folder, options.asked())
             } else {
-                dump(object, folder, supplementary)
+                dump(object, folder, options.asked())
             }
         }
-        (Some("cases"), [_, ..], Some(out)) => cases(&options, out),
+        (Some("cases"), [_, ..], Some(out)) if !(options.whole && options.times.is_some()) => {
+            cases(&options, out)
+        }
         _ => Err(USAGE.into()),
     }
 }
@@ -133,6 +165,8 @@ struct About {
     language: String,
     name: String,
     producer: String,
+    /// How long the decoder runs the line program, in nanoseconds; 0 where that is not asked.
+    decoding: u64,
 }
 
 impl About {
@@ -144,6 +178,7 @@ impl About {
             language: "-".into(),
             name: "-".into(),
             producer: "-".into(),
+            decoding: 0,
         }
     }
 
@@ -210,12 +245,12 @@ impl Summary {
 /// Hands the units of a file to `take`.
 fn with_units(
     object: &Path,
-    supplementary: Option<&Path>,
+    asked: Asked,
     summary: &mut Summary,
     take: impl FnOnce(&Input, &mut Summary) -> Result<(), Stop>,
 ) -> Result<(), Stop> {
     let mut file = elf::read(object).map_err(|what| fault(object, what))?;
-    let second = read_supplementary(object, &file, supplementary)?;
+    let second = read_supplementary(object, &file, asked.supplementary)?;
     summary.unapplied += file.unapplied;
     summary.symbols = std::mem::take(&mut file.symbols);
     let mut dwarf = file
@@ -235,6 +270,7 @@ fn with_units(
             .transpose()
             .map_err(|what| fault(object, format!("supplementary file: {what}")))?,
         text: &file.text,
+        programs: asked.programs,
     };
     if input.main.len() == 0 {
         return Err(Stop {
@@ -257,13 +293,16 @@ fn about(input: &Input, number: usize) -> About {
 /// Hands every unit of a file that has sheets to `keep`.
 fn each_unit(
     object: &Path,
-    supplementary: Option<&Path>,
+    asked: Asked,
     summary: &mut Summary,
     mut keep: impl FnMut(About, Dump) -> Result<(), String>,
 ) -> Result<(), Stop> {
-    with_units(object, supplementary, summary, |input, summary| {
+    with_units(object, asked, summary, |input, summary| {
         for number in 0..input.main.len() {
-            let about = about(input, number);
+            let mut about = about(input, number);
+            if asked.timed {
+                about.decoding = decoder::nanoseconds(input, number);
+            }
             match input.dump(number) {
                 Ok(dump) => {
                     summary.dumped += 1;
@@ -321,13 +360,13 @@ fn read_supplementary(
     }
 }
 
-fn dump(object: &Path, place: &Path, supplementary: Option<&Path>) -> Result<(), Stop> {
+fn dump(object: &Path, place: &Path, asked: Asked) -> Result<(), Stop> {
     let pending = Pending::new(place)?;
     let folder = pending.folder()?;
     let mut index =
         String::from("unit\tordinal\toffset\tversion\tmain\tsupplementary\tline\tfields\tname\n");
     let mut summary = Summary::default();
-    let ended = each_unit(object, supplementary, &mut summary, |about, dump| {
+    let ended = each_unit(object, asked, &mut summary, |about, dump| {
         let parts = [
             ("main", &dump.main.bytes),
             ("sup", &dump.supplementary.bytes),
@@ -385,7 +424,8 @@ fn case(dump: &Dump, switches: u8) -> Vec<u8> {
     bytes.extend((dump.ordinal as u64).to_le_bytes());
     bytes.push(switches);
     bytes.extend(FIRST_FILE.to_le_bytes());
-    let work = fields::work_length(&dump.main, &dump.supplementary, &dump.program);
+    let (main, supplementary) = (&dump.main, &dump.supplementary);
+    let work = fields::work_length(main, supplementary, &dump.program, dump.encoded);
     bytes.extend(work.to_le_bytes());
     let all = switches & ALL_UNITS != 0;
     for buffer in [if all { LARGE_BUFFER } else { BUFFER }; 3] {
@@ -409,15 +449,15 @@ fn cases(options: &Options, out: &Path) -> Result<(), Stop> {
     } else {
         "object\tunit\tordinal\tversion\tlanguage\tmain\tsupplementary\tline\tfields\tname\tproducer\n"
     });
+    let mut times = String::new();
     let mut summary = Summary::default();
     for object in &options.plain {
-        let supplementary = options.supplementary.as_deref();
         if options.whole {
-            let bytes = whole::case(object, supplementary, &mut summary, &mut list)?;
+            let bytes = whole::case(object, options.asked(), &mut summary, &mut list)?;
             output::write(&mut file, out, &bytes)?;
             continue;
         }
-        each_unit(object, supplementary, &mut summary, |about, dump| {
+        each_unit(object, options.asked(), &mut summary, |about, dump| {
             list += &format!(
                 "{}\t{}\t{}\t{}\t{}\t{}\t{}\t{}\t{}\t{}\t{}\n",
                 object.display(),
@@ -432,14 +472,16 @@ fn cases(options: &Options, out: &Path) -> Result<(), Stop> {
                 about.name,
                 about.producer
             );
+            times += &format!("{}\n", about.decoding);
             output::write(&mut file, out, &case(&dump, INLINES | CALL_SITES))
         })?;
     }
     output::flush(file, out)?;
-    if let Some(path) = &options.list {
+    for (path, text) in [(&options.list, &list), (&options.times, &times)] {
+        let Some(path) = path else { continue };
         let pending = Pending::new(path)?;
         let mut file = pending.file()?;
-        output::write(&mut file, path, list.as_bytes())?;
+        output::write(&mut file, path, text.as_bytes())?;
         output::flush(file, path)?;
         pending.finish()?;
     }

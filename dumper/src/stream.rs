@@ -127,6 +127,7 @@ fn stream(
             .transpose()
             .map_err(|what| fault(&place, format!("supplementary file: {what}")))?,
         text: &file.text,
+        programs: false,
     };
     let wanted: Vec<(usize, Coverage)> = (0..input.main.len())
         .map(|number| (number, Coverage::of(&input.main, number)))

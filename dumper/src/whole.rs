@@ -6,7 +6,7 @@ use std::path::Path;
 
 use crate::dump::{Dump, Input, Own};
 use crate::output::{fault, Pending};
-use crate::{about, fields, with_units, Stop, Summary};
+use crate::{about, fields, with_units, Asked, Stop, Summary};
 use crate::{ALL_UNITS, CALL_SITES, INLINES, NOT_WHOLE};
 
 /// A unit's part of the joined programs, if it has a line program.
@@ -47,17 +47,18 @@ impl Input<'_> {
             main,
             supplementary,
             program,
+            encoded: self.programs && parts.iter().any(Option::is_some),
         };
         Ok((dump, parts))
     }
 }
 
 /// Writes the sheets of all units of a file to a folder.
-pub fn whole(object: &Path, place: &Path, supplementary: Option<&Path>) -> Result<(), Stop> {
+pub fn whole(object: &Path, place: &Path, asked: Asked) -> Result<(), Stop> {
     let pending = Pending::new(place)?;
     let folder = pending.folder()?;
     let mut summary = Summary::default();
-    with_units(object, supplementary, &mut summary, |input, summary| {
+    with_units(object, asked, &mut summary, |input, summary| {
         let (dump, parts) = input.whole().map_err(|reason| Stop {
             message: fault(object, format!("not all units in one sheet: {reason}")),
             status: NOT_WHOLE,
@@ -95,12 +96,12 @@ pub fn whole(object: &Path, place: &Path, supplementary: Option<&Path>) -> Resul
 /// in one sheet, which is said and counted.
 pub fn case(
     object: &Path,
-    supplementary: Option<&Path>,
+    asked: Asked,
     summary: &mut Summary,
     list: &mut String,
 ) -> Result<Vec<u8>, Stop> {
     let mut bytes = Vec::new();
-    with_units(object, supplementary, summary, |input, summary| {
+    with_units(object, asked, summary, |input, summary| {
         match input.whole() {
             Ok((dump, parts)) => {
                 summary.dumped += 1;

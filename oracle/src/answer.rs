@@ -39,7 +39,8 @@ pub fn inputs(case: &Case) -> Result<(Dwarf<Slice<'_>>, Range<usize>), u8> {
     let main = parse(&case.main, &case.program, false)?;
     let supplementary = parse(&case.supplementary, &case.program, true)?;
     let units = if case.all { 0..main.units.len() } else { unit(case.ordinal, main.units.len())? };
-    if case.work < work_needed(main.fields + supplementary.fields, case.program.len()) {
+    let encoded = main.units[units.clone()].iter().any(|unit| unit.encoding.is_some());
+    if case.work < work_needed(main.fields + supplementary.fields, case.program.len(), encoded) {
         return Err(5);
     }
     let sup = (!case.supplementary.is_empty()).then(|| Box::new(Dwarf::new(supplementary.units, None)));
@@ -56,8 +57,20 @@ pub fn is_oversize(case: &Case) -> bool {
     case.main.len() > INPUT_LIMIT || case.supplementary.len() > INPUT_LIMIT || case.program.len() > PROGRAM_LIMIT
 }
 
-pub fn work_needed(fields: usize, program: usize) -> u64 {
-    64 * fields as u64 + 4 * program as u64 + WORK_BESIDES
+/// Of an import that has a unit with field 1d among those that it imports, "64 × program bytes in place of 4 ×" (E8), the unit that needs most
+/// deciding (E11).
+pub fn work_needed(fields: usize, program: usize, encoded: bool) -> u64 {
+    64 * fields as u64 + if encoded { 64 } else { 4 } * program as u64 + WORK_BESIDES
+}
+
+/// The work that a call needs; an input that is refused counts as one without fields.
+pub fn work_of(case: &Case) -> u64 {
+    let [main, supplementary] =
+        [(&case.main, false), (&case.supplementary, true)].map(|(bytes, there)| parse(bytes, &case.program, there).ok());
+    let fields = [&main, &supplementary].into_iter().flatten().map(|input| input.fields).sum();
+    let asked = |number: usize| case.all || number as u64 == case.ordinal;
+    let encoded = main.is_some_and(|main| main.units.iter().any(|unit| unit.encoding.is_some() && asked(unit.number)));
+    work_needed(fields, case.program.len(), encoded)
 }
 
 /// What the Rust leaves behind after these units, or refusals 6 to 15. "The result is the unit imports one after another, each beginning with

@@ -76,6 +76,11 @@ impl Fields {
         self.field(0x13, &[&offset.to_le_bytes(), &length.to_le_bytes(), &[version, word, base], lengths])
     }
 
+    /// Minimum instruction length, operations per instruction, default statement flag, line base, line range (E8).
+    pub fn encoding(&mut self, values: [u8; 5]) -> &mut Self {
+        self.field(0x1d, &[&values])
+    }
+
     /// The unit's part of the program (E11).
     pub fn part(&mut self, start: u64, length: u64) -> &mut Self {
         self.field(0x1e, &[&start.to_le_bytes(), &length.to_le_bytes()])

@@ -17,159 +17,23 @@ use crate::stand_in::gimli::{
 };
 use crate::trace::{Event, traced};
 
+mod encodings;
+mod programs;
 mod requests;
+mod rules;
 mod whole;
 
-macro_rules! rules {
-    ($($rule:ident: $text:literal,)+) => {
-        #[derive(Clone, Copy, Debug)]
-        enum Rule { $($rule),+ }
-        const RULES: &[&str] = &[$($text),+];
-    };
-}
+use rules::{RULES, Rule};
 
-rules! {
-    FixedOpcode: "skipping: opcode 1, 6, 7, 8, 10 or 11 takes nothing, its length not being 0",
-    FixedAdvance: "skipping: opcode 9 takes two bytes, its length not being 1",
-    Declared: "skipping: another opcode skips the operands that its length says",
-    Negative: "skipping: opcode 3's operand is negative",
-    AdvanceOfNone: "E2: opcode 3 with no operand declared takes nothing",
-    AdvanceOfTwo: "E2: opcode 3 with two operands or more, a tenth byte of 01 passed by the old rule",
-    AdvanceOfTwoRefused: "E2: opcode 3 with two operands or more, a tenth byte of 7f refused with 10 by the old rule",
-    PaddedWith00: "E2: a tenth byte of 00 passed",
-    PaddedWith7f: "E2: a tenth byte of 7f passed",
-    PaddedWith01: "E2: a tenth byte of 01 refused with 10",
-    PaddedWith40: "E2: a tenth byte of 40 refused with 10",
-    PaddedWith81: "E2: a tenth byte of 81 refused with 10",
-    PaddedWith80: "E2: a tenth byte of 80 refused with 11",
-    PaddedWithFf: "E2: a tenth byte of ff refused with 11",
-    DriveKept: "E3: the separator that closes the drive kept",
-    BackslashesKept: "E3: the leading two backslashes kept",
-    SeparatorDropped: "E3: the separator before the basename dropped",
-    NoFile: "E3: a Windows path that ends in a separator is no file",
-    BelowCompilation: "E3: a Windows path below the compilation directory",
-    OneNumber: "E3: two Windows paths with one number",
-    NoLetter: "E3: a colon behind no letter, left as before",
-    BareDone: "E4: a package without debug data done",
-    BareProgram: "E4: done, with a program that begins with a cut instruction",
-    BareSupplementary: "E4: done, with a supplementary input",
-    BareBuffers: "E4: done, with buffers of no byte",
-    BareOversize: "E4: refused with 1, the ordinal being another",
-    BareMisshapen: "E4: refused with 2 for the supplementary input, the ordinal being another and work short",
-    BarePastLimit: "E4: refused with 3 for the supplementary input, work being short",
-    BareOther: "E4: another ordinal refused with 4, work being short",
-    BareWork: "E4: refused with 5, work being a byte short",
-    ColumnsDropped: "E7: exact neighbours with other columns drop, the first is left",
-    FirstMoved: "E7: of exact neighbours with other columns the first is moved to the start",
-    ColumnsMerged: "E7: neighbours of one file and line merge, whatever their columns",
-    ColumnMoved: "E7: a row moved to the start brings its column",
-    LineTwice: "E7: one line twice, other columns, another line between",
-    LargestColumn: "E7: column 65,535",
-    DeclarationColumn: "E7: a declaration row has column 0",
-    DeclarationsColumn: "E7: a declaration row has column 0, its entry another",
-    PartDone: "E11: a unit's part of the program",
-    PartOfOne: "E11: the import of one unit reads its part",
-    WholeProgram: "E11: a unit without 1e reads the whole program, another one a part",
-    PartsTile: "E11: parts that tile the program",
-    PartsOverlap: "E11: parts that overlap",
-    PartToTheEnd: "E11: a part that ends at the program's end",
-    EmptyPart: "E11: an empty part",
-    EmptyPartAtTheEnd: "E11: an empty part at the program's end",
-    PartThere: "E11: a part in the supplementary input",
-    PartPast: "E11: a part that ends a byte past the program refused with 2",
-    EmptyPartPast: "E11: an empty part that begins a byte past the program refused with 2",
-    PartWraps: "E11: a part that ends past 2^64 - 1 refused with 2",
-    PartPastThere: "E11: a part past the program in the supplementary input refused with 2",
-    PartPastUnasked: "E11: a part past the program of a unit that is not imported refused with 2",
-    PartPastLast: "E11: a part past the program, as field 65,537, refused with 2",
-    PartPastFields: "E11: a part inside the program, as field 65,537, refused with 3",
-    PartTwice: "E11: a second part of a unit refused with 2",
-    PartLate: "E11: a part behind a directory, a file or a row refused with 2",
-    PartWithoutHeader: "E11: a part without a line header refused with 2",
-    PartSize: "E11: a part of another size than 16 bytes refused with 2",
-    AllDone: "E11: two units or more with functions, all imported",
-    OrdinalNotRead: "E11: all imported, the ordinal being past them",
-    FileAgain: "E11: a file of an earlier unit keeps its number",
-    FileBehind: "E11: a later unit's file numbered behind those of the earlier",
-    AcrossUnits: "E11: a reference into another unit that is imported",
-    WarningsJoined: "E11: warnings of two units joined",
-    StatisticsAdded: "E11: rejected ranges of two units added",
-    FilesFull: "E11: refused with 15, though each unit's own files have numbers",
-    RefusedFirst: "E11: the first of three units or more refused, the others sound",
-    RefusedBetween: "E11: an inner unit refused, the others sound",
-    RefusedLast: "E11: the last of three units or more refused, the others sound",
-    FirstOfTwo: "E11: two units refused with other numbers, the first one's given",
-    RefusedBeforeShort: "E11: a later unit refused, the buffers having no byte",
-    ShortRecords: "E11: refused with 16, the buffer holding the records of all units but the last",
-    ShortFiles: "E11: refused with 17, the buffer holding the files of all units but the last",
-    ShortWarnings: "E11: refused with 18, the buffer holding the warnings of all units but the last",
-    AllWork: "E11: refused with 5, work being a byte short of the whole program's and enough for each part's",
-    AllBareDone: "E11: no unit, done, the ordinal not being 0",
-    AllBareMisshapen: "E11: no unit, refused with 2 for the supplementary input",
-    AllBarePastLimit: "E11: no unit, refused with 3 for the supplementary input",
-    AllBareWork: "E11: no unit, refused with 5",
-    LongestString: "E12: a string of 6,113 bytes in the main input",
-    LongestStringThere: "E12: a string of 6,113 bytes in the supplementary input",
-    LongerString: "E12: a string of 6,114 bytes in the main input refused with 3",
-    LongerStringThere: "E12: a string of 6,114 bytes in the supplementary input refused with 3",
-    LongestReason: "E12: a reason of 4,096 bytes in the main input",
-    LongestReasonThere: "E12: a reason of 4,096 bytes in the supplementary input",
-    LongerReason: "E12: a reason of 4,097 bytes in the main input refused with 3",
-    LongerReasonThere: "E12: a reason of 4,097 bytes in the supplementary input refused with 3",
-    LongestFunction: "E12: a function's name of 6,113 bytes",
-    LongestNode: "E12: an inlined call's name of 6,113 bytes",
-    LongestSite: "E12: a call site's name of 6,113 bytes",
-    LongestPath: "E12: a file joined of three strings of 6,113 bytes, its name the third",
-    LongestDirectory: "E12: a file joined of three strings of 6,113 bytes, its name the last byte",
-    Sorted: "rows: sorted by address",
-    Stable: "rows: of one address in their order, not by line",
-    ExactNeighbours: "rows: exact neighbours drop",
-    Moved: "rows: an earlier row is put first, moved to the start",
-    MovedBefore: "rows: an earlier row is put before the function's own",
-    MovedOfAny: "rows: an earlier row of any sequence",
-    Compacted: "rows: one repeating its neighbour's file and line drops",
-    CompactedLast: "rows: one repeating the moved row drops",
-    SequenceSelects: "a statement sequence leaves out rows of others",
-    MissingSequence: "a statement sequence that does not exist selects all rows and warns",
-    MissingSequenceSilent: "a statement sequence that does not exist, without rows, does not warn",
-    MissingFile: "a missing file warns",
-    EmptyPath: "a file with an empty path drops its row silently",
-    LinkageName: "names: linkage",
-    MipsName: "names: MIPS linkage",
-    PlainName: "names: plain",
-    EmptyName: "names: an empty one passed over",
-    Origin: "names: by abstract origin",
-    Specification: "names: by specification",
-    MainName: "names: a part of the main input",
-    SupplementaryName: "names: a part of the supplementary input",
-    Once: "searches: a target not followed a second time",
-    LastTarget: "searches: a 64th target read, yielding nothing",
-    LastTargetFiles: "searches: a 64th target's files read",
-    SectionThere: "searches: a section reference in the supplementary input looks there",
-    RememberedAsMain: "searches: a section reference in the supplementary input taken for a main one",
-    SupplementaryThere: "searches: a supplementary reference in the supplementary input",
-    ByItself: "records: two of one subprogram with different nodes",
-    Nameless: "inlined: without a name, with a fitting range",
-    Outside: "inlined: with ranges, none inside",
-    SomeInside: "inlined: some of its ranges inside",
-    EmptyRange: "inlined: an empty range beside a fitting one",
-    BelowPassedOver: "inlined: kept below one that is not",
-    NestedSubprogram: "inlined: kept below a nested subprogram",
-    AcrossTwo: "inlined: a range across two merged ranges is not inside",
-    InsideMerged: "inlined: a range inside ranges that only merging joined",
-    Innermost: "call sites: an inner one comes first",
-    Touching: "merging: touching ranges",
-    Overlapping: "merging: overlapping ranges",
-    Apart: "merging: ranges that stay apart",
-    ZeroOutside: "tombstones: a range from 0 outside all text",
-    TombstoneOutside: "tombstones: a flagged range outside all text",
-    TombstoneInText: "tombstones: a flagged range, or one from 0, live in text",
-    InlinedTombstone: "tombstones: a flagged range of an inlined entry kept",
-}
+/// As many rows as a sheet has fields. What is asked of rows takes the square of their number, so a longer program's are passed over.
+const MOST_ROWS: usize = 65_536;
+
+/// One more than the largest refusal; 19 and 20 are none of an import's.
+const REFUSALS: usize = 23;
 
 /// How many cases reach each thing.
 struct Counts {
-    refusals: [u64; 19],
+    refusals: [u64; REFUSALS],
     warnings: [u64; 12],
     rules: [u64; RULES.len()],
 }
@@ -177,7 +41,7 @@ struct Counts {
 /// Prints the table; false if something is missing.
 pub fn coverage(path: &Path) -> Result<bool, String> {
     let mut source = Source::open(path)?;
-    let (mut counts, mut cases) = (Counts { refusals: [0; 19], warnings: [0; 12], rules: [0; RULES.len()] }, 0);
+    let (mut counts, mut cases) = (Counts { refusals: [0; REFUSALS], warnings: [0; 12], rules: [0; RULES.len()] }, 0);
     while let Some(case) = source.case()? {
         let mut reached = Reached([false; RULES.len()]);
         examine(&case, &mut counts, &mut reached).map_err(|message| format!("case {cases}: {message}"))?;
@@ -190,7 +54,7 @@ pub fn coverage(path: &Path) -> Result<bool, String> {
         println!("{count:>9}  {what}{}", if count == 0 { ": MISSING" } else { "" });
     };
     row("finished".to_owned(), counts.refusals[0]);
-    (1..19).for_each(|number| row(format!("refusal {number}"), counts.refusals[number]));
+    (1..19).chain(21..REFUSALS).for_each(|number| row(format!("refusal {number}"), counts.refusals[number]));
     (1..12).for_each(|kind| row(format!("warning {kind}"), counts.warnings[kind]));
     RULES.iter().zip(counts.rules).for_each(|(rule, count)| row((*rule).to_owned(), count));
     println!("{cases} cases, {missing} missing");
@@ -217,6 +81,7 @@ fn examine(case: &Case, counts: &mut Counts, reached: &mut Reached) -> Result<()
     reached.hit(Rule::MissingFile, kinds[6] == 1);
     requests::limits(case, &answer, reached);
     whole::parts(case, &answer, reached);
+    encodings::fields(case, &answer, reached);
     if case.main.is_empty() {
         let bare = if case.all { whole::bare } else { requests::bare };
         bare(case, answer.refusal, reached);
@@ -238,7 +103,10 @@ fn examine(case: &Case, counts: &mut Counts, reached: &mut Reached) -> Result<()
     }
     match answer.refusal {
         _ if !case.all => {}
-        0 => whole::joined(case, &marks, reached),
+        0 => {
+            whole::joined(case, &marks, reached);
+            programs::all(&dwarf, reached);
+        }
         refusal => whole::refused(case, &dwarf, refusal, reached),
     }
     Ok(())
@@ -258,16 +126,18 @@ fn examine_unit(
     if let Some(header) = &unit.lines {
         requests::advance_line(header, result.err().unwrap_or(0), reached);
     }
+    programs::unit(unit, result.err().unwrap_or(0), &before.warnings(imported), reached);
     searches(dwarf, &events, reached);
     let (Ok(()), Some(rows)) = (result, table(dwarf, number, &known)) else {
         return Ok(false);
     };
-    if let Some(header) = &unit.lines {
+    if let Some(header) = unit.lines.as_ref().filter(|_| unit.rows().len() <= MOST_ROWS) {
         skipping(header, reached);
         sorting(unit, header, &rows.0, reached);
         requests::exact_neighbours(unit, &rows.0, reached);
         requests::windows_paths(unit, header, files(&imported.builder), reached);
     }
+    programs::part(unit, &case.program, reached);
     tombstones(unit, &events, reached);
     let functions = before.functions(imported);
     if case.all {
@@ -439,8 +309,8 @@ fn tombstones(unit: &Data<'_>, events: &[Event], reached: &mut Reached) {
 type Rows = (Vec<Sequenced<LineEntry>>, Vec<Sequenced<AddressRange>>);
 
 fn sorting(unit: &Data<'_>, header: &LineProgramHeader<Slice<'_>>, rows: &[Sequenced<LineEntry>], reached: &mut Reached) {
-    let ended = unit.rows.iter().rposition(|row| row.kind == RowKind::End).unwrap_or(0);
-    let plain: Vec<_> = unit.rows[..ended].iter().filter(|row| row.kind == RowKind::Plain).collect();
+    let ended = unit.rows().iter().rposition(|row| row.kind == RowKind::End).unwrap_or(0);
+    let plain: Vec<_> = unit.rows()[..ended].iter().filter(|row| row.kind == RowKind::Plain).collect();
     let there = |address: u64, line: u64| rows.iter().any(|(row, _)| row.address == address && u64::from(row.line) == line);
     for pair in plain.windows(2) {
         let [a, b] = [pair[0], pair[1]].map(|row| (row.address, row.file, row.line));
@@ -483,7 +353,9 @@ fn function_rows(
     let chosen = |offset: Option<u64>| selected.is_none() || selected == offset;
     let inside = rows.iter().filter(|row| range.contains(row.0.address));
     let own: Vec<&LineEntry> = inside.clone().filter(|row| chosen(row.1)).map(|row| &row.0).collect();
-    reached.hit(Rule::SequenceSelects, own.len() < inside.count());
+    let left_out = own.len() < inside.count();
+    reached.hit(Rule::SequenceSelects, left_out);
+    reached.hit(Rule::ProgramSequence, left_out && unit.encoding.is_some());
     let same = |a: &LineEntry, b: &LineEntry| (a.file, a.line) == (b.file, b.line);
     reached.hit(Rule::Compacted, own.windows(2).any(|pair| same(pair[0], pair[1])));
     let mut moved = None;

@@ -1,12 +1,39 @@
 //! The cases of document 01's "Operands, paths and a printed import", each as an import, with the listing that
 //! it must print; that of a Windows path is request E3's, and the columns, all 0, are E7's. Behind them those of request E4, a package
-//! without debug data.
+//! without debug data, and some of request E8, rows from a line program.
 
 use crate::case::Case;
 use crate::compose::*;
+use crate::program_shown;
 
 /// What a case shows, the case, and its listing.
 type Shown = (&'static str, Case, String);
+
+/// Those of request E8's cases by hand that are recorded, by their names.
+const PROGRAMS: [&str; 22] = [
+    "document 01's printed import by its program",
+    "every opcode",
+    "line range 0",
+    "four operations",
+    "of nine, the last 1",
+    "past it by advance pc",
+    "by an advance that is multiplied",
+    "by fixed advance",
+    "by constant add",
+    "by a special opcode",
+    "a fall without a row",
+    "a fault before the offset's 12",
+    "a line that wraps",
+    "column 65,536",
+    "extended opcodes that do nothing",
+    "opcode 2 declared 0: no sequence for the scan",
+    "the one with rows",
+    "both",
+    "64 bytes for a byte of program",
+    "one less",
+    "the machine runs over the part",
+    "rows beside 1d",
+];
 
 pub fn cases() -> Vec<Shown> {
     let nine = [0x80; 9].as_slice();
@@ -40,6 +67,7 @@ pub fn cases() -> Vec<Shown> {
     }
     cases.push(("4-8, 8-10, 20-30 merge to 4-10, 20-30", merged(), MERGED.to_owned()));
     cases.extend(bare());
+    cases.extend(program_shown::cases().into_iter().filter(|case| PROGRAMS.contains(&case.0)));
     cases
 }
 
@@ -158,5 +186,11 @@ mod tests {
             let printed = String::from_utf8(listing::listing(&answer(&case), case.first_file)).unwrap();
             assert_eq!(printed, expected, "{name}");
         }
+    }
+
+    #[test]
+    fn every_named_case_is_there() {
+        let cases = super::cases();
+        super::PROGRAMS.iter().for_each(|name| assert!(cases.iter().any(|case| case.0 == *name), "{name}"));
     }
 }

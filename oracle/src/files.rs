@@ -80,7 +80,7 @@ impl Source {
             *number = self.number(8)?;
         }
         let [records, files, warnings, statistics @ ..] = numbers;
-        if refusal > 18 || refusal > 0 && numbers != [0; 7] {
+        if !matches!(refusal, 0..=18 | 21 | 22) || refusal > 0 && numbers != [0; 7] {
             return Err(format!("{}: no answer has the refusal {refusal} and the numbers {numbers:?}", self.path.display()));
         }
         let (records, files, warnings) = (self.bytes(records)?, self.bytes(files)?, self.bytes(warnings)?);

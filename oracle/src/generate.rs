@@ -1,6 +1,6 @@
 //! Cases by seed: rich sound inputs, damaged ones, and cases at the limits.
 
-use crate::answer::{answer, work_needed};
+use crate::answer::{answer, work_needed, work_of};
 use crate::case::Case;
 use crate::compose::*;
 use crate::grammar::{self, parse};
@@ -27,8 +27,7 @@ pub fn case(seed: u64, number: u64) -> Case {
 
 /// Gives a case its buffers: as long as needed or a little longer, at times one byte short.
 fn fit(random: &mut Random, case: &mut Case) {
-    let fields = |bytes: &[u8]| parse(bytes, &case.program, false).map_or(0, |input| input.fields);
-    let work = work_needed(fields(&case.main) + fields(&case.supplementary), case.program.len());
+    let work = work_of(case);
     (case.work, case.records, case.files, case.warnings) = (work, u32::MAX, u32::MAX, u32::MAX);
     let full = answer(case);
     case.work = work + random.pick(&[0, 0, 1, 4096]);
@@ -59,7 +58,7 @@ fn bare(random: &mut Random) -> Case {
     let main = if random.chance(5) { vec![0x10] } else { Vec::new() };
     let mut case = Case { main, supplementary: other.main, program, ..other };
     case.ordinal = random.pick(&[0, 0, 0, 0, 1, LAST]);
-    let needed = work_needed(parse(&case.supplementary, &case.program, true).map_or(0, |input| input.fields), case.program.len());
+    let needed = work_needed(parse(&case.supplementary, &case.program, true).map_or(0, |input| input.fields), case.program.len(), false);
     case.work = random.pick(&[needed, needed, needed, needed + 4096, needed - 1, 0]);
     [case.records, case.files, case.warnings] = [(); 3].map(|()| random.pick(&[0, 0, 1, 40]));
     case
@@ -82,6 +81,13 @@ struct Entry {
 }
 
 fn sound(random: &mut Random) -> Case {
+    sound_with(random, lines)
+}
+
+/// What draws the lines of a unit, by how often odd things stand in them and whether files have Windows paths.
+pub type DrawLines = fn(&mut Random, u64, bool) -> Lines;
+
+pub fn sound_with(random: &mut Random, lines: DrawLines) -> Case {
     // How often odd things stand in it: tidy inputs reach deep, odd ones wide.
     let odd = random.pick(&[0, 1, 1, 4, 10]);
     let windows = windows(random);
@@ -322,9 +328,9 @@ impl Writer<'_> {
 pub struct Lines {
     pub fields: Fields,
     pub program: Vec<u8>,
-    sequences: Vec<u64>,
-    first_file: u64,
-    files: u64,
+    pub sequences: Vec<u64>,
+    pub first_file: u64,
+    pub files: u64,
 }
 
 fn directory(random: &mut Random) -> &'static [u8] {
@@ -403,6 +409,17 @@ pub fn lines(random: &mut Random, odd: u64, windows: bool) -> Lines {
     lengths.truncate(random.pick(&[12, 12, 12, 12, 9, 3, 0]));
     let fields = &mut lines.fields;
     fields.header(offset, length, version, word, random.pick(&[13, 13, 13, 13, 10, 4, 1, 0, 14, 255]), &lengths);
+    tables(random, odd, windows, version, &mut lines);
+    let ends = rows(random, odd, &mut lines);
+    let ends = if random.chance(12) { random.below(4) } else { ends };
+    let start = offset.wrapping_add(length).wrapping_add(before_header_end(version, word));
+    program(random, odd, ends, start, &mut lines);
+    lines
+}
+
+/// The directories and files of a header.
+pub fn tables(random: &mut Random, odd: u64, windows: bool, version: u8, lines: &mut Lines) {
+    let fields = &mut lines.fields;
     let failed = |random: &mut Random| u8::from(random.chance(odd / 2));
     for _ in 0..random.below(4) {
         fields.directory(failed(random), directory(random));
@@ -416,11 +433,6 @@ pub fn lines(random: &mut Random, odd: u64, windows: bool) -> Lines {
     for _ in 0..lines.files {
         fields.file(failed(random), number(random), path(random, windows));
     }
-    let ends = rows(random, odd, &mut lines);
-    let ends = if random.chance(12) { random.below(4) } else { ends };
-    let start = offset.wrapping_add(length).wrapping_add(before_header_end(version, word));
-    program(random, odd, ends, start, &mut lines);
-    lines
 }
 
 /// The bytes from a line header's start to where its own length counts from.

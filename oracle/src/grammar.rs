@@ -1,8 +1,9 @@
 //! The grammar of an input ("sheet" in document 01) and refusals 2 and 3.
 
-use std::cell::Cell;
+use std::cell::{Cell, OnceCell};
 use std::rc::Rc;
 
+use crate::machine::LineEncoding;
 use crate::stand_in::gimli::{
     AttributeValue, DebugInfoOffset, DebugLineOffset, DwAt, DwTag, Encoding, EntryData, FileEntry, Format, LineProgramHeader, LineRow,
     Range, RowKind, Slice, UnitData, UnitOffset,
@@ -50,8 +51,9 @@ fn followers(tag: u8) -> &'static [u8] {
     match tag {
         0x10 => &[0x10, 0x11, 0x12, 0x13, 0x17],
         0x11 | 0x12 => &[0x10, 0x12, 0x13, 0x17],
-        // "A field 1e hex after a line header" (E11), behind it and before all else.
-        0x13 => &[0x10, 0x1e, 0x14, 0x1c, 0x15, 0x16, 0x17],
+        // "A new field, 1d hex, after the line header" (E8), and "a field 1e hex after a line header (and its 1d)" (E11): behind it, before all else.
+        0x13 => &[0x10, 0x1d, 0x1e, 0x14, 0x1c, 0x15, 0x16, 0x17],
+        0x1d => &[0x10, 0x1e, 0x14, 0x1c, 0x15, 0x16, 0x17],
         0x1e | 0x14 => &[0x10, 0x14, 0x1c, 0x15, 0x16, 0x17],
         0x1c | 0x15 => &[0x10, 0x15, 0x16, 0x17],
         0x16 => &[0x10, 0x16, 0x17],
@@ -139,6 +141,7 @@ impl<'a> Parser<'a> {
             0x10 => self.unit(&mut payload)?,
             0x11..=0x13 | 0x16 => self.of_unit(tag, &mut payload)?,
             0x14 | 0x15 | 0x1c => self.file(tag, &mut payload)?,
+            0x1d => self.line_encoding(&mut payload)?,
             0x1e => self.part(&mut payload)?,
             0x17 => self.entry(&mut payload)?,
             _ => self.of_entry(tag, &mut payload)?,
@@ -166,7 +169,9 @@ impl<'a> Parser<'a> {
             directory: None,
             text: Vec::new(),
             lines: None,
-            rows: Vec::new(),
+            given: Vec::new(),
+            encoding: None,
+            ran: OnceCell::new(),
             entries: Vec::new(),
             tombstone: Cell::new(false),
         });
@@ -196,13 +201,28 @@ impl<'a> Parser<'a> {
                     files: Vec::new(),
                 });
             }
+            // "With it present, the unit's row fields are misshapen" (E8).
+            _ if unit.encoding.is_some() => return Err(MISSHAPEN),
             _ => {
                 let (address, file, line) = (payload.number(8)?, payload.number(8)?, payload.number(8)?);
                 let column = payload.number(2)? as u16;
                 let kind = [RowKind::Plain, RowKind::End, RowKind::Failed][usize::from(payload.byte(0, 2)?)];
-                unit.rows.push(LineRow { address, file, line, column, kind });
+                unit.given.push(LineRow { address, file, line, column, kind });
             }
         }
+        Ok(true)
+    }
+
+    /// E8: "minimum instruction length (1 byte), operations per instruction (1), default statement flag (1, 0 or 1), line base (1, signed) and
+    /// line range (1)".
+    fn line_encoding(&mut self, payload: &mut Payload<'a>) -> Result<bool, u8> {
+        self.last()?.encoding = Some(LineEncoding {
+            minimum_length: payload.byte(0, 255)?,
+            operations: payload.byte(0, 255)?,
+            default_is_stmt: payload.flag()?,
+            line_base: payload.byte(0, 255)? as i8,
+            line_range: payload.byte(0, 255)?,
+        });
         Ok(true)
     }
 

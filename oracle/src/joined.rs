@@ -22,9 +22,13 @@ pub fn difference(case: &Case, whole: &Answer, mut import: impl FnMut(&Case) -> 
         refusal @ (1..=3 | 5) => Some(refusal),
         _ if case.main.is_empty() => None,
         _ => {
-            let others = fields(&case.main).filter(|field| field.0 == UNIT).count();
-            let mut answers = std::iter::once(first).chain((1..others).map(&mut alone));
-            answers.find_map(|answer| joined.add(&answer).err())
+            let units = fields(&case.main).filter(|field| field.0 == UNIT).count();
+            let answers: Vec<Answer> = std::iter::once(first).chain((1..units).map(&mut alone)).collect();
+            // Work is tested before all units, for the one that needs most (E8).
+            match answers.iter().find(|answer| answer.refusal == 5) {
+                Some(_) => Some(5),
+                None => answers.iter().find_map(|answer| joined.add(answer).err()),
+            }
         }
     };
     let expected = match refused {

@@ -1,13 +1,15 @@
 //! Who judges the oracle's answers. They come from the Rust's text with the amendments of the change requests. The Rust's text as it
 //! stands, the package `plain`, answers every call too, and wherever no request sets the call apart both must answer alike.
 
+use std::ops::Range;
 use std::path::Path;
 
 use crate::calls::{lines, searches};
 use crate::case::{Answer, Case};
 use crate::files::Source;
 use crate::requests::{REQUESTS, is_padded, set_apart, windows_root};
-use crate::{answer, answer_in, call_answers, generate, grammar, output};
+use crate::stand_in::gimli::{Dwarf, Slice};
+use crate::{answer, answer_in, call_answers, generate, grammar, inputs, output};
 
 /// The oracle's answer, of which the plain Rust has been asked; else what is wrong.
 pub fn judged(case: &Case) -> Result<Answer, String> {
@@ -101,12 +103,14 @@ pub fn shares(path: &Path) -> Result<bool, String> {
     let (mut cases, mut judged) = (0_u64, 0_u64);
     // Of each request, how many it sets apart, and how many of those the plain Rust answers otherwise.
     let mut apart = [(0_u64, 0_u64); REQUESTS.len()];
-    // Those of all units, and those with a part of the program, which E11 brought.
-    let mut of_parts = [0_u64; 2];
+    // Those of all units, and those with a part of the program, which E11 brought; those that import a unit with field 1d, which E8 brought.
+    let (mut of_parts, mut of_programs) = ([0_u64; 2], 0_u64);
     while let Some(case) = source.case()? {
         let has_part = |input: &[u8]| generate::split(input).iter().any(|field| field.0 == 0x1e);
         of_parts[0] += u64::from(case.all);
         of_parts[1] += u64::from(has_part(&case.main) || has_part(&case.supplementary));
+        let is_encoded = |(dwarf, units): (Dwarf<Slice<'_>>, Range<usize>)| dwarf.units[units].iter().any(|unit| unit.encoding.is_some());
+        of_programs += u64::from(inputs(&case).is_ok_and(is_encoded));
         let shared = match judge(&case, &answer(&case)) {
             Ok(shared) => shared,
             Err(message) => {
@@ -128,6 +132,10 @@ pub fn shares(path: &Path) -> Result<bool, String> {
     }
     let [all, parts] = of_parts.map(|count| format!("{count} ({})", share(count)));
     println!("{all} are of all units, {parts} have parts of the program (E11): the plain Rust is run over them in the same way");
+    let programs = share(of_programs);
+    println!(
+        "{of_programs} ({programs}) import a unit with field 1d (E8): both take its rows from the row machine, which the plain Rust can't judge"
+    );
     let most = 4 * judged >= 3 * cases;
     if !most {
         println!("fewer than three in four are judged by the plain Rust");

@@ -56,12 +56,14 @@ mod answer;
 pub mod call_answers;
 #[cfg(not(faulty_grammar))]
 mod grammar;
+#[cfg(not(faulty_machine))]
+mod machine;
 mod output;
 mod trace;
 
-pub use answer::{answer, answer_in, finished, inputs, work_needed};
+pub use answer::{answer, answer_in, finished, inputs, work_needed, work_of};
 pub use case::{Answer, Case};
-pub use output::written;
+pub use output::{field, written};
 
 // What is asked and what is answered have one type in both packages: `plain` makes it.
 #[cfg(feature = "plain")]
@@ -102,8 +104,18 @@ pub mod listing;
 pub mod look_cases;
 #[cfg(not(any(feature = "plain", faulty_lookup)))]
 pub mod lookup;
+#[cfg(not(feature = "plain"))]
+pub mod machine_cases;
+#[cfg(all(test, not(feature = "plain")))]
+mod machine_tests;
 #[cfg(all(test, not(feature = "plain")))]
 mod merging;
+#[cfg(not(feature = "plain"))]
+pub mod program_cases;
+#[cfg(not(feature = "plain"))]
+mod program_shown;
+#[cfg(not(feature = "plain"))]
+mod programs;
 #[cfg(not(feature = "plain"))]
 pub mod random;
 #[cfg(not(any(feature = "plain", faulty_requests)))]
@@ -139,6 +151,10 @@ mod answer {
 #[cfg(faulty_grammar)]
 mod grammar {
     text!("grammar.rs");
+}
+#[cfg(faulty_machine)]
+mod machine {
+    text!("machine.rs");
 }
 
 #[cfg(not(feature = "plain"))]

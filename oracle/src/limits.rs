@@ -1,6 +1,6 @@
 //! Cases at the limits of document 01 and of request E12, one step below and above them.
 
-use crate::answer::work_needed;
+use crate::answer::{work_needed, work_of};
 use crate::case::Case;
 use crate::compose::*;
 use crate::generate::{bad_instruction, before_header_end, column, padded_advance, windows};
@@ -13,7 +13,7 @@ pub fn large() -> Vec<Case> {
         let mut main = Fields::default();
         main.unit(0, 100, 5, 4).header(0, 32, 5, 4, 13, &OPCODE_LENGTHS);
         (2..fields).for_each(|_| _ = main.directory(0, b""));
-        Case { work: work_needed(fields as usize, 0), ..Case::new(main.take(), Vec::new(), Vec::new()) }
+        Case { work: work_needed(fields as usize, 0, false), ..Case::new(main.take(), Vec::new(), Vec::new()) }
     };
     let mut unit = Fields::default();
     unit.unit(0, 100, 5, 4).header(0, 32, 5, 4, 13, &OPCODE_LENGTHS);
@@ -37,7 +37,37 @@ pub fn large() -> Vec<Case> {
         last_part(0),
         halves(),
         many(256, 256),
+        // E8: a row beside a 1d and a sound 1d as the field past the limit; the longest program, a row in each byte.
+        last_encoding(true),
+        last_encoding(false),
+        longest_program(),
     ]
+}
+
+/// 65,536 fields, and behind them a row of a unit that has field 1d, or such a field.
+fn last_encoding(row: bool) -> Case {
+    const GCC: [u8; 5] = [1, 1, 1, 0xf6, 242];
+    let mut main = Fields::default();
+    main.unit(0, 100, 5, 4);
+    (if row { 1..65_533 } else { 1..65_534 }).for_each(|_| _ = main.text(0x1000, 0x2000));
+    main.unit(100, 100, 5, 4).header(0, 32, 5, 4, 13, &OPCODE_LENGTHS).encoding(GCC);
+    if row {
+        main.row(0x1000, 0, 1, 0, PLAIN);
+    }
+    Case { work: 1 << 23, ..Case::new(main.take(), Vec::new(), Vec::new()) }
+}
+
+/// A program of as many bytes as there may be, each but the last three a row.
+pub fn longest_program() -> Case {
+    let mut main = Fields::default();
+    main.unit(0, 100, 5, 4).text(0x1000, 1 << 32).header(0, 32, 5, 4, 13, &OPCODE_LENGTHS).encoding([1, 1, 1, 0xfb, 14]);
+    main.file(0, 0, b"a.c").file(0, 0, b"b.c").entry(0, 0, COMPILE_UNIT);
+    main.entry(1, 1, SUBPROGRAM).string(NAME, b"dim").range(0x1_0000, 0x1_1000, 0);
+    let mut program = [0x2e, 0x20, 0x21, 0x2d].repeat(1_048_576);
+    program.truncate(4_194_304 - 3);
+    program.extend([0, 1, 1]);
+    let case = Case::new(main.take(), Vec::new(), program);
+    Case { work: work_of(&case), ..case }
 }
 
 /// 65,536 fields, and behind them a part of an empty program that begins at so many bytes.
@@ -72,7 +102,7 @@ fn many(units: u64, fields: u64) -> Case {
         main.entry(11, 0, COMPILE_UNIT).entry(20, 1, SUBPROGRAM).string(NAME, b"dim").range(start, start + 4 * rows, 0);
     }
     let program = [0, 1, 1].repeat(units as usize);
-    let work = work_needed((units * fields) as usize, program.len());
+    let work = work_needed((units * fields) as usize, program.len(), false);
     let buffer = 1 << 21;
     Case { all: true, work, records: buffer, files: buffer, warnings: buffer, ..Case::new(main.take(), Vec::new(), program) }
 }

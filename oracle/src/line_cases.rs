@@ -389,7 +389,7 @@ mod tests {
         for call in rows_calls(1).take(300) {
             let Call::Rows { case, queries } = &call else { unreachable!("calls for rows") };
             let (Ok((dwarf, _)), answer) = (inputs(case), lines(&call)) else { continue };
-            let sheet = &dwarf.units[0].rows;
+            let sheet = dwarf.units[0].rows();
             for (query, line) in queries.iter().zip(answer.lines().skip(1)) {
                 let rows: Vec<Vec<&str>> = line.split(' ').skip(2).map(|row| row.split(':').collect()).collect();
                 assert!(rows.iter().all(|row| row.len() == 4), "{line}");

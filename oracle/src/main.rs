@@ -7,25 +7,33 @@ use std::{env, fs};
 
 use oracle::files::{Source, Target};
 use oracle::listing::{INPUT_LIMIT, PROGRAM_LIMIT, listing};
-use oracle::{Case, answer, coverage, document, front_cases, generate, judge, judged, limits, line_cases, look_cases, search_cases, whole_cases};
+use oracle::{
+    Case, answer, coverage, document, front_cases, generate, judge, judged, limits, line_cases, look_cases, machine_cases, program_cases,
+    search_cases, whole_cases,
+};
 
 const USAGE: &str = "
 oracle one DIR                              the listing of unit.main, unit.sup and unit.line in DIR
 oracle answer CASES ANSWERS                 answers a file of cases
 oracle compare CASES ANSWERS                answers the cases again, up to the first answer that differs
+oracle rows CASES ROWS                      the rows of the imported units of each case, as fields have them or as a program gives them
 oracle list CASES NUMBER                    the listing of one case, counted from 0
 oracle unpack CASES NUMBER DIR              writes one case's unit.main, unit.sup and unit.line to DIR
 oracle generate SEED COUNT CASES            writes cases by seed
 oracle generate --below SIZE SEED COUNT CASES    the same, of those with fewer input bytes
 oracle wholes SEED COUNT CASES              writes cases of all units and of parts of the program, those by hand first
+oracle programs SEED COUNT CASES            writes cases of rows from line programs, those by hand first
 oracle large CASES                          writes the cases over 64 KiB, the same for every seed
 oracle document CASES                       writes document 01's own cases
 oracle coverage CASES                       counts what the cases reach; fails if something is missing
 oracle judge CASES                          counts the cases that the plain Rust judges; fails if it answers otherwise, or if they are few
-oracle lines SEED COUNT ROWS FRONTS STDIN STDOUT    writes calls of operands, sequences and paths, then calls for the rows of units,
-                                            then calls for rows from the front of tables, and their answers as text
+oracle lines SEED COUNT ROWS FRONTS PROGRAMS STDIN STDOUT    writes calls of operands, sequences and paths, then calls for the rows of units,
+                                            then for rows from the front of tables, then for the rows of programs, and their answers as text
 oracle searches SEED COUNT STDIN STDOUT     writes calls of the searches, and their answers as text
 oracle looks SEED COUNT STDIN STDOUT        writes calls of the look-ups, and their answers as text";
+
+/// How many counts of calls `lines` takes.
+const LINE_CALLS: usize = 4;
 
 const INPUTS: [&str; 3] = ["unit.main", "unit.sup", "unit.line"];
 
@@ -48,17 +56,20 @@ fn run(arguments: &[&str]) -> Result<bool, String> {
         ["one", folder] => one(Path::new(folder)),
         ["answer", cases, answers] => answer_all(Path::new(cases), Path::new(answers)),
         ["compare", cases, answers] => compare(Path::new(cases), Path::new(answers)),
+        ["rows", cases, rows] => rows_of(Path::new(cases), Path::new(rows)),
         ["list", cases, number] => print(&chosen(Path::new(cases), number)?),
         ["unpack", cases, number, folder] => unpack(&chosen(Path::new(cases), number)?, Path::new(folder)),
         ["generate", seed, count, cases] => write(cases, generated(u64::MAX, seed, count)?),
         ["generate", "--below", size, seed, count, cases] => write(cases, generated(number(size)?, seed, count)?),
         ["wholes", seed, count, cases] => write(cases, whole_cases::cases(number(seed)?).take(number(count)? as usize)),
+        ["programs", seed, count, cases] => write(cases, program_cases::cases(number(seed)?).take(number(count)? as usize)),
         ["large", cases] => write(cases, limits::large().into_iter()),
         ["document", cases] => write(cases, document::cases().into_iter().map(|(_, case, _)| case)),
         ["coverage", cases] => coverage::coverage(Path::new(cases)),
         ["judge", cases] => judge::shares(Path::new(cases)),
-        ["lines", seed, count, rows, fronts, stdin, stdout] => {
-            lines(number(seed)?, [number(count)?, number(rows)?, number(fronts)?], Path::new(stdin), Path::new(stdout))
+        ["lines", seed, ref counts @ .., stdin, stdout] if counts.len() == LINE_CALLS => {
+            let counts: Vec<u64> = counts.iter().map(|count| number(count)).collect::<Result<_, _>>()?;
+            lines(number(seed)?, counts.try_into().expect("so many were given"), Path::new(stdin), Path::new(stdout))
         }
         ["searches", seed, count, stdin, stdout] => searches(number(seed)?, number(count)?, Path::new(stdin), Path::new(stdout)),
         ["looks", seed, count, stdin, stdout] => looks(number(seed)?, number(count)?, Path::new(stdin), Path::new(stdout)),
@@ -118,6 +129,15 @@ fn compare(cases: &Path, answers: &Path) -> Result<bool, String> {
     Ok(true)
 }
 
+/// A line for each case: the rows of its imported units, before what refuses them, or the refusal of the inputs.
+fn rows_of(cases: &Path, rows: &Path) -> Result<bool, String> {
+    let (mut source, mut target) = (Source::open(cases)?, Target::create(rows)?);
+    while let Some(case) = source.case()? {
+        target.write(&[machine_cases::rows(&case).as_bytes(), b"\n"])?;
+    }
+    target.finish()
+}
+
 fn chosen(cases: &Path, text: &str) -> Result<Case, String> {
     let (mut source, place) = (Source::open(cases)?, number(text)?);
     for _ in 0..place {
@@ -150,18 +170,19 @@ fn write(path: &str, cases: impl Iterator<Item = Case>) -> Result<bool, String> 
     target.finish()
 }
 
-/// So many calls of operands, programs and paths, so many for the rows of units and so many for rows from the front of tables, behind their
-/// number, and the lines of each answer.
-fn lines(seed: u64, counts: [u64; 3], stdin: &Path, stdout: &Path) -> Result<bool, String> {
+/// So many calls of operands, programs and paths, so many for the rows of units, for rows from the front of tables and for the rows of programs,
+/// behind their number, and the lines of each answer.
+fn lines(seed: u64, counts: [u64; LINE_CALLS], stdin: &Path, stdout: &Path) -> Result<bool, String> {
     let all = counts.into_iter().try_fold(0u64, u64::checked_add).and_then(|all| u32::try_from(all).ok());
     let all = all.ok_or(format!("{counts:?} calls are too many"))?;
-    let [count, rows, fronts] = counts.map(|count| count as usize);
+    let [count, rows, fronts, programs] = counts.map(|count| count as usize);
     let (mut cases, mut answers) = (Target::create(stdin)?, Target::create(stdout)?);
     cases.write(&[&all.to_le_bytes()])?;
     let calls = line_cases::calls(seed).take(count).chain(line_cases::rows_calls(seed).take(rows));
     let judged = calls.map(|call| Ok((call.bytes(), judge::judged_lines(&call)?)));
     let fronts = front_cases::calls(seed).take(fronts).map(|call| Ok((call.bytes(), call.answer())));
-    for (number, call) in judged.chain(fronts).enumerate() {
+    let programs = machine_cases::calls(seed).take(programs).map(|call| Ok((call.bytes(), call.answer())));
+    for (number, call) in judged.chain(fronts).chain(programs).enumerate() {
         let (call, answer) = call.map_err(|message: String| format!("call {number}: {message}"))?;
         cases.write(&[&call])?;
         answers.write(&[answer.as_bytes(), b"\n"])?;

@@ -178,7 +178,7 @@ pub fn of_bare(case: &Case) -> Answer {
     let refusal = match parse(&case.supplementary, &case.program, true) {
         _ if is_oversize(case) => 1,
         Err(refusal) => refusal,
-        Ok(supplementary) if case.work < work_needed(supplementary.fields, case.program.len()) => 5,
+        Ok(supplementary) if case.work < work_needed(supplementary.fields, case.program.len(), false) => 5,
         Ok(_) => 0,
     };
     Answer { refusal, ..Answer::default() }

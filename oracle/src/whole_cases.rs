@@ -2,10 +2,10 @@
 //! seed: rich units and simple ones, parts that tile the program and others, units that are refused at every place, files up to the last
 //! number, fields 1e where none may stand.
 
-use crate::answer::{answer, finished, inputs, work_needed};
+use crate::answer::{answer, finished, inputs, work_needed, work_of};
 use crate::case::Case;
 use crate::compose::*;
-use crate::generate::{self, Lines, Unit, Writer};
+use crate::generate::{self, DrawLines, Lines, Unit, Writer};
 use crate::grammar::parse;
 use crate::output::written;
 use crate::random::Random;
@@ -26,7 +26,7 @@ fn case(seed: u64, number: u64) -> Case {
     let random = &mut random;
     let kind = random.below(20);
     let mut case = match kind {
-        0..10 => rich(random),
+        0..10 => rich(random, generate::lines),
         10..18 => simple(random),
         _ => bare(random),
     };
@@ -43,11 +43,12 @@ fn case(seed: u64, number: u64) -> Case {
 }
 
 /// Gives a case its buffers: most often as long as needed or a little longer. At times one holds all units but the last, or is a byte short, or all
-/// are empty; at times work is a byte short, or as long as would do for the longest part.
-fn fit(random: &mut Random, case: &mut Case) {
+/// are empty; at times work is a byte short, or as long as would do for the longest part, or without a field 1d.
+pub fn fit(random: &mut Random, case: &mut Case) {
     let fields = |bytes: &[u8]| parse(bytes, &case.program, false).map_or(0, |input| input.fields);
-    let fields = fields(&case.main) + fields(&case.supplementary);
-    case.work = work_needed(fields, case.program.len());
+    let (fields, program) = (fields(&case.main) + fields(&case.supplementary), case.program.len());
+    let rows = work_needed(fields, program, false);
+    case.work = work_of(case);
     [case.records, case.files, case.warnings] = [u32::MAX; 3];
     let full = answer(case);
     let lengths = |answer: &crate::Answer| [&answer.records, &answer.files, &answer.warnings].map(|bytes| bytes.len() as u32);
@@ -63,8 +64,12 @@ fn fit(random: &mut Random, case: &mut Case) {
         6 => fitted[place] = lengths(&full)[place].saturating_sub(1),
         7..9 => fitted = [0; 3],
         9 => case.work -= 1,
-        10 => case.work = work_needed(fields, parts(&case.main).map(|part| part.1 as usize).max().unwrap_or(0).min(case.program.len())),
+        10 => {
+            let longest = parts(&case.main).map(|part| part.1 as usize).max().unwrap_or(0).min(program);
+            case.work = work_needed(fields, longest, case.work > rows);
+        }
         11 => case.work += 4096,
+        12 => case.work = rows,
         _ => {}
     }
     [case.records, case.files, case.warnings] = fitted;
@@ -80,13 +85,13 @@ fn parts(input: &[u8]) -> impl Iterator<Item = (u64, u64)> {
 // ---- rich units
 
 /// Two to six units as other generated cases have them, with references into each other.
-fn rich(random: &mut Random) -> Case {
+pub fn rich(random: &mut Random, draw: DrawLines) -> Case {
     let odd = random.pick(&[0, 0, 0, 1, 1, 4]);
     let windows = random.below(16) == 0;
     let supplementary = if random.chance(40) { generate::units_of(random, odd, |random| random.between(1, 2)) } else { Vec::new() };
     let main = generate::units_of(random, odd, |random| random.pick(&[2, 2, 2, 3, 3, 4, 5, 6]));
     let lines = |random: &mut Random, units: &[Unit]| -> Vec<Lines> {
-        let one = |random: &mut Random| if random.chance(85) { generate::lines(random, odd, windows) } else { Lines::default() };
+        let one = |random: &mut Random| if random.chance(85) { draw(random, odd, windows) } else { Lines::default() };
         units.iter().map(|_| one(random)).collect()
     };
     let mut all = [lines(random, &main), lines(random, &supplementary)];
@@ -112,11 +117,12 @@ fn rich(random: &mut Random) -> Case {
     case
 }
 
-/// A part behind the header, if there is one.
+/// A part behind the header, if there is one, and its 1d.
 fn put(lines: &mut Lines, part: Option<(u64, u64)>) {
     let mut fields = generate::split(&lines.fields.0);
     if let (Some((start, length)), false) = (part, fields.is_empty()) {
-        fields.insert(1, field_1e(start, length));
+        let encoded = fields.get(1).is_some_and(|field| field.0 == 0x1d);
+        fields.insert(1 + usize::from(encoded), field_1e(start, length));
         lines.fields.0 = generate::joined(&fields);
     }
 }

@@ -6,7 +6,11 @@ use std::io::{self, BufWriter, IsTerminal, Write};
 use std::path::Path;
 use std::{env, fs, process};
 
-use pezgok::{Buffers, Finished, Inputs, Options, Refusal, import, import_dwarf, join_symbols, measure, measure_dwarf, work_length};
+use pezgok::fields::{Fields, LINE_ENCODING};
+use pezgok::{
+    Buffers, Finished, Inputs, Options, Refusal, import, import_dwarf, join_symbols, measure, measure_dwarf, work_length,
+    work_length_encoded,
+};
 
 /// The status where a unit is refused, and so all are.
 const REFUSED: i32 = 4;
@@ -99,8 +103,10 @@ impl Imported {
 fn imported(folder: &Path, name: &str, ordinal: Option<u64>) -> io::Result<Result<Imported, Refusal>> {
     let read = |ending: &str| fs::read(folder.join(format!("{name}.{ending}"))).unwrap_or_default();
     let (main, supplementary, program) = (fs::read(folder.join(format!("{name}.main")))?, read("sup"), read("line"));
-    // A field has three bytes at least.
-    let mut work = vec![0; work_length((main.len() + supplementary.len()) / 3, program.len())];
+    // A field has three bytes at least. Where a unit's rows come from its line program, its bytes take more.
+    let encoded = Fields::new(&main).any(|field| field.tag == LINE_ENCODING);
+    let work = if encoded { work_length_encoded } else { work_length };
+    let mut work = vec![0; work((main.len() + supplementary.len()) / 3, program.len())];
     let inputs = Inputs { main: &main, supplementary: &supplementary, program: &program };
     let options = Options { ordinal: ordinal.unwrap_or(0), ..Options::default() };
     let measure = if ordinal.is_some() { measure } else { measure_dwarf };

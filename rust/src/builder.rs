@@ -4,7 +4,7 @@ use crate::error::Error;
 use crate::fields::Fields;
 use crate::symbols::{join_symbols_with, symbols_work_length};
 use crate::table::{NotImported, Table};
-use crate::{Buffers, Finished, Inputs, Options, Refusal, import, measure, work_length};
+use crate::{Buffers, Finished, Inputs, Options, Refusal, import, measure, work_length, work_length_encoded};
 
 /// A unit to import.
 #[derive(Clone, Copy, Debug)]
@@ -30,6 +30,7 @@ const WARNINGS_ROOM: usize = 1 << 16;
 /// Inputs of more are refused, whatever the work slice.
 const MOST_FIELDS: usize = 2 * 65_536;
 const SHORT_TRAYS: std::ops::RangeInclusive<u8> = 16..=18;
+const SHORT_WORK: u8 = 5;
 
 /// Imports units one behind the other, and makes a [`Table`] of them. It owns all buffers, and uses them again for each unit.
 ///
@@ -87,13 +88,16 @@ impl Builder {
     /// Imports a unit. Its records follow those of the units before, its files have the next free numbers. After a refusal the table is as it was.
     pub fn import(&mut self, unit: Unit<'_>) -> Result<Finished, Refusal> {
         // A group of units whose sheets stand in one main input would be imported here by one call, which shares the file table among them.
-        let length = work_length(unit.fields.min(MOST_FIELDS), unit.inputs.program.len());
-        if self.work.len() < length {
-            self.work.resize(length, 0);
-        }
+        let (fields, program) = (unit.fields.min(MOST_FIELDS), unit.inputs.program.len());
+        let mut length = work_length(fields, program);
         // Call sites are of no use for frames.
         let options = Options { ordinal: unit.ordinal, inlines: true, call_sites: false, first_file: self.next_file };
         let mut result = self.import_with(unit.inputs, options, length);
+        // A unit whose rows come from its line program needs more.
+        if result.is_err_and(|refusal| refusal.number() == SHORT_WORK) {
+            length = work_length_encoded(fields, program);
+            result = self.import_with(unit.inputs, options, length);
+        }
         if result.is_err_and(|refusal| SHORT_TRAYS.contains(&refusal.number())) {
             let needed = measure(unit.inputs, options, &mut self.work[..length])?;
             for (tray, needed) in self.tray.iter_mut().zip([needed.records, needed.files, needed.warnings]) {
@@ -113,6 +117,9 @@ impl Builder {
     }
 
     fn import_with(&mut self, inputs: Inputs<'_>, options: Options, work: usize) -> Result<Finished, Refusal> {
+        if self.work.len() < work {
+            self.work.resize(work, 0);
+        }
         let [records, files, warnings] = &mut self.tray;
         import(inputs, options, Buffers { work: &mut self.work[..work], records, files, warnings })
     }

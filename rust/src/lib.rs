@@ -119,11 +119,16 @@ pub struct Finished {
     pub rejected_ranges: u64,
 }
 
-/// Why a call was refused: a number from 1 to 18 of an import, whose three output buffers then hold only 0; 5, 16, 19 or 20 of a look-up.
+/// Why a call was refused: a number from 1 to 18, 21 or 22 of an import, whose three output buffers then hold only 0; 5, 16, 19 or 20 of a look-up.
 #[derive(Clone, Copy, Debug, Eq, PartialEq)]
 pub struct Refusal(u8);
 
 impl Refusal {
+    /// A line program can't be run for its rows: its line range is 0, or its operations per instruction are other than 1.
+    pub const LINE_ENCODING: Self = Self(21);
+    /// An address falls within a sequence of a line program, or passes 2^64 - 1.
+    pub const LINE_ADDRESS: Self = Self(22);
+
     pub fn number(self) -> u8 {
         self.0
     }
@@ -144,6 +149,12 @@ impl std::error::Error for Refusal {}
 /// had 4,096 bytes at most.
 pub const fn work_length(fields: usize, program: usize) -> usize {
     64 * fields + 4 * program + 32_768
+}
+
+/// The same where a unit that is imported takes its rows from its line program: where field 1d, the line encoding, stands behind its line header. It is
+/// enough for every import.
+pub const fn work_length_encoded(fields: usize, program: usize) -> usize {
+    64 * fields + 64 * program + 32_768
 }
 
 /// Imports a unit. Any content and any length is taken.
@@ -177,7 +188,7 @@ pub fn import(inputs: Inputs<'_>, options: Options, buffers: Buffers<'_>) -> Res
 }
 
 /// How long the buffers of such an import must be, and its statistics: what [`import`] gives on buffers of those lengths or more. It is refused
-/// as the import is, with a number from 1 to 15. Work has the same length and holds only 0 after every call.
+/// as the import is, with a number from 1 to 15, 21 or 22. Work has the same length and holds only 0 after every call.
 pub fn measure(inputs: Inputs<'_>, options: Options, work: &mut [u8]) -> Result<Finished, Refusal> {
     let mut values = [0; 7];
     // SAFETY: every pointer and length are those of a slice; the borrows keep the written one apart from all others.

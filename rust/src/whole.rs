@@ -44,7 +44,7 @@ mod sys {
 /// Imports all units of the main input, in order, with one table of files; the ordinal of the options is not read. The buffers have what the units'
 /// imports write one after another, a file once, and the statistics are added. The first unit that is refused refuses all. Where a unit's line program
 /// stands in the one that is lent, field 1e behind its line header says; without it, the unit reads all of it. An input without units is a package
-/// without debug data. Work has the same length as for one unit.
+/// without debug data. Work has the same length as for one unit, the one that needs most.
 pub fn import_dwarf(inputs: Inputs<'_>, options: Options, buffers: Buffers<'_>) -> Result<Finished, Refusal> {
     let mut values = [0; 7];
     // SAFETY: every pointer and length are those of a slice; the borrows keep the written ones apart from all others.

@@ -9,7 +9,7 @@ use Rattle.tlv.specs.Outcome.{Outcome, refused, done}
 use Rattle.tlv.specs.Bytes.{le}
 use Rattle.tlv.specs.Checked.{Placed}
 use Rattle.tlv.specs.Table.{KeptBut}
-use Rattle.tlv.specs.Model.{headerOf}
+use Rattle.tlv.specs.Model.{LineRow, headerOf}
 use Rattle.tlv.specs.Places.{unitHere}
 use Rattle.tlv.proofs.TableLaws.{here, there, but-of, but-one, but-trans}
 use Rattle.tlv.proofs.RecordLaws.{records-length, records-but}
@@ -17,7 +17,9 @@ use Rattle.lines.specs.declared.lines.Scan.{Scan}
 use Rattle.lines.specs.Program.{lineSequenceOffsets}
 use Rattle.lines.specs.Scan.{CountWithin, Scanned, offsets}
 use Rattle.lines.specs.Files.{Indexed, internHeaderFiles}
-use Rattle.lines.specs.Lines.{Run, runRows, Collected, collectLines}
+use Rattle.lines.specs.Lines.{Run, runRows, Collected}
+use Rattle.machine.specs.LineRows.{lineRows, rowsMost, collectLines}
+use Rattle.machine.proofs.UnitLines.{rows-few}
 use Rattle.files.specs.declared.index.StoredIndices.{StoredIndices}
 use Rattle.files.specs.declared.pieces.FileUnit.{FileUnit}
 use Rattle.files.specs.declared.store.StoredFiles.{StoredFiles}
@@ -30,26 +32,36 @@ use Rattle.files.proofs.GrownLaws.{files-kept, table-kept, grown-trans, grown-a
 use Rattle.collect.specs.declared.collect.CollectedLines.{CollectedLines}
 use Rattle.collect.specs.declared.collect.InternedUnit.{InternedUnit}
 use Rattle.collect.specs.declared.convert.Conversion.{Conversion}
-use Rattle.collect.specs.Passes.{rowsFrom, countRows, offsetsAt}
+use Rattle.collect.specs.declared.source.RowSource.{RowSource}
+use Rattle.collect.specs.Passes.{RowsCounted, offsetsAt}
+use Rattle.collect.specs.Sources.{sourceList, SourceReady}
 use Rattle.collect.specs.Converts.{ConversionIn}
 use Rattle.collect.specs.Collects.{linesExtent, CollectsBy, CollectsLines}
 use Rattle.collect.specs.Stages.{UnitCounted, unitExtent, UnitRoom, UnitInterned, InternsUnit, ConversionOf, finishFrom, FinishesBy, FinishesLines}
 use Rattle.rows.specs.Sizes.{entrySize, rowRoom}
 use Rattle.collect.proofs.RunLaws.{RunCounted, count-done}
 use Rattle.collect.proofs.FrameLaws.{but-wide}
-use Rattle.collect.proofs.HeaderPlaces.{header-is, unit-stands, unit-listed, rows-here}
+use Rattle.collect.proofs.HeaderPlaces.{header-is, unit-stands, unit-listed}
 use Rattle.collect.proofs.CollectSteps.{header-there, collects-program-refused, collects-files-refused, collects-end}
 use Rattle.collect.proofs.UnitInternLaws.{indices-length}
 
-module _ {main supplementary program w : List ℕ} {p start len n m free : ℕ} {t : StoredFiles} (B : UnitCounted main supplementary program w t p start len n m free) where
+module _ {main supplementary program w : List ℕ} {p start len : ℕ} {source : RowSource} {n m free : ℕ} {t : StoredFiles}
+    (B : UnitCounted main supplementary program w t p start len source n m free) where
   stands : UnitPlaced main p
   stands = unit-stands (B .placed) (B .unit)
 
-  run-counted : RunCounted (rowsFrom main (p + 21)) (record { lines = n; sequences = m })
-  run-counted = count-done (rowsFrom main (p + 21)) (record { lines = n; sequences = m }) (B .counted)
+  abbrev rows : List LineRow
+  rows = sourceList main program (p + 21) source
 
-  run-is : runRows (unitHere main p .rows) 0 [] ≡ done (run-counted .run)
-  run-is = rw (rows-here stands) (run-counted .is)
+  run-counted : RunCounted rows (record { lines = n; sequences = m })
+  run-counted = count-done rows (record { lines = n; sequences = m }) (B .counted .is)
+
+  rows-are : lineRows (unitHere main p) (headerHere main p) program ≡ done rows
+  rows-are = sym (B .source-is) ∙ B .ready .reads
+
+  -- they have room
+  rows-most : length rows ≤ rowsMost (unitHere main p) program
+  rows-most = rows-few (unitHere main p) (headerHere main p) program rows rows-are
 
   -- its program's sequences have room
   pub scan-room : free + length program / 3 * 8 ≤ length w
@@ -71,7 +83,7 @@ module _ {main supplementary program w : List ℕ} {p start len n m free : ℕ} 
     collected-fault {f = f} e =
         let o : lineSequenceOffsets (headerHere main p) program ≡ refused f = rw (header-is (B .header)) (sym (rw e at (S .is))) in
         record {
-          is = collects-program-refused (unitHere main p) program (tableOf main supplementary w t) (headerHere main p) (header-there (B .header)) (run-counted .run) run-is f o;
+          is = collects-program-refused (unitHere main p) program (tableOf main supplementary w t) (headerHere main p) (header-there (B .header)) rows rows-are (run-counted .run) (run-counted .is) f o;
           rest = scanned-rest;
         }
 
@@ -117,7 +129,7 @@ module _ {main supplementary program w : List ℕ} {p start len n m free : ℕ} 
         collected-unnumbered {f = f} is =
             let i : internHeaderFiles (unitHere main p) (headerHere main p) (tableOf main supplementary w t) ≡ refused f = rw (← table-scanned) (sym (rw is at (I .is))) in
             record {
-              is = collects-files-refused (unitHere main p) program (tableOf main supplementary w t) (headerHere main p) (header-there (B .header)) (run-counted .run) run-is (offsetsAt w₁ free k) offsets-are f i;
+              is = collects-files-refused (unitHere main p) program (tableOf main supplementary w t) (headerHere main p) (header-there (B .header)) rows rows-are (run-counted .run) (run-counted .is) (offsetsAt w₁ free k) offsets-are f i;
               rest = interned-rest;
             }
 
@@ -131,14 +143,14 @@ module _ {main supplementary program w : List ℕ} {p start len n m free : ℕ} 
           pub interned-placed : Placed main (u .place + 21)
           interned-placed = rw (interned .place) (unit-next stands)
 
-          interned-room : is .base + is .count * 5 + rowRoom * length (rowsFrom main (p + 21)) + entrySize ≤ free + linesExtent main p program
+          interned-room : is .base + is .count * 5 + rowRoom * length rows + entrySize ≤ free + linesExtent main p program
           unfolding linesExtent
           interned-room =
               let a = offsets-few in
               let b = interned .map in
               let c = interned .count in
               let d = interned .few in
-              let g : length (unitHere main p .rows) ≡ length (rowsFrom main (p + 21)) = ap length (rows-here stands) in
+              let g = rows-most in
               omega arith
 
           pub interned-fits : is .base + is .count * 5 ≤ length w
@@ -185,10 +197,14 @@ module _ {main supplementary program w : List ℕ} {p start len n m free : ℕ} 
             unfolding made
             conversion-in warned last = subst (λ (x : Conversion). ConversionIn main supplementary w₂ x (record { table = t′; count = 0; warned = warned })) (sym (M .is)) (conversion-made warned last)
 
-            pub conversion-counted : countRows (rowsFrom main (cv .unit .place + 21)) 0 0 0 ≡ done (record { lines = n; sequences = m })
+            pub conversion-ready : SourceReady main program (cv .unit .place + 21) source
+            conversion-ready = rw place-is (B .ready)
+
+            pub conversion-counted : RowsCounted (sourceList main program (cv .unit .place + 21) source) n m
             conversion-counted = rw place-is (B .counted)
 
-            pub conversion-fits : length w₂ ≡ length w → cv .lines + rowRoom * length (rowsFrom main (cv .unit .place + 21)) + entrySize ≤ length w₂
+            pub conversion-fits : length w₂ ≡ length w
+                → cv .lines + rowRoom * length (sourceList main program (cv .unit .place + 21) source) + entrySize ≤ length w₂
             conversion-fits last =
                 let l : cv .lines ≡ is .base + is .count * 5 = ap (λ (x : Conversion). x .lines) (M .is) in
                 let all = interned-room in
@@ -198,15 +214,15 @@ module _ {main supplementary program w : List ℕ} {p start len n m free : ℕ} 
             offsets-kept : offsetsAt w₂ free k ≡ offsetsAt w₁ free k
             offsets-kept = let below = B .room .table in records-but le 8 free k (I .rest) (inr (omega arith), (inl (omega arith), tt))
 
-            end-is : (x : Outcome Collected) → ((run : Run) → runRows (rowsFrom main (u .place + 21)) 0 [] ≡ done run → finishFrom main supplementary w₂ made t′ run ≡ x)
+            end-is : (x : Outcome Collected) → ((run : Run) → runRows (sourceList main program (u .place + 21) source) 0 [] ≡ done run → finishFrom main supplementary w₂ made t′ run ≡ x)
                 → collectLines (unitHere main p) program (tableOf main supplementary w t) ≡ x
             unfolding made
             end-is x f =
-                collects-end (unitHere main p) program (tableOf main supplementary w t) (headerHere main p) (header-there (B .header)) (run-counted .run) run-is (offsetsAt w₁ free k) offsets-are
+                collects-end (unitHere main p) program (tableOf main supplementary w t) (headerHere main p) (header-there (B .header)) rows rows-are (run-counted .run) (run-counted .is) (offsetsAt w₁ free k) offsets-are
                 (record { table = tableOf main supplementary w₂ t′; indices = indicesIn w₂ is }) files-are x
                 (rw (interned .place, offsets-kept) at (f (run-counted .run) (rw (interned .place) (run-counted .is))))
 
-            end-rest : {w₃ files₂ warnings warnings′ : List ℕ} {warned : ℕ} {r₃ : CollectedLines} → FinishesLines main supplementary w₂ w₃ files₁ files₂ warnings warnings′ made t′ warned r₃
+            end-rest : {w₃ files₂ warnings warnings′ : List ℕ} {warned : ℕ} {r₃ : CollectedLines} → FinishesLines (sourceList main program (u .place + 21) source) main supplementary w₂ w₃ files₁ files₂ warnings warnings′ made t′ warned r₃
                 → KeptBut w w₃ ((t .base, extent t) ∷ (free, linesExtent main p program) ∷ [])
             unfolding made
             end-rest E =
@@ -216,7 +232,7 @@ module _ {main supplementary program w : List ℕ} {p start len n m free : ℕ} 
                 let map = interned .map in
                 but-trans interned-rest (but-wide _ (rw (interned .place) at (E .rest)) (here (omega arith) (omega arith), (there (here (omega arith) (omega arith)), (there (here (omega arith) (omega arith)), tt))))
 
-            by-end : (w₃ files₂ warnings warnings′ : List ℕ) (warned : ℕ) (r₃ : CollectedLines) → FinishesBy main supplementary w₂ w₃ files₁ files₂ warnings warnings′ made t′ warned r₃
+            by-end : (w₃ files₂ warnings warnings′ : List ℕ) (warned : ℕ) (r₃ : CollectedLines) → FinishesBy (sourceList main program (u .place + 21) source) main supplementary w₂ w₃ files₁ files₂ warnings warnings′ made t′ warned r₃
                 → KeptBut w w₃ ((t .base, extent t) ∷ (free, linesExtent main p program) ∷ [])
                 → CollectsBy main supplementary program w w₃ files files₂ warnings warnings′ p t warned free r₃
             unfolding made
@@ -241,10 +257,10 @@ module _ {main supplementary program w : List ℕ} {p start len n m free : ℕ} 
                   rest = K;
                 }
 
-            pub collected-end : {w₃ files₂ warnings warnings′ : List ℕ} {warned : ℕ} {r₃ : CollectedLines} → FinishesLines main supplementary w₂ w₃ files₁ files₂ warnings warnings′ cv t′ warned r₃
+            pub collected-end : {w₃ files₂ warnings warnings′ : List ℕ} {warned : ℕ} {r₃ : CollectedLines} → FinishesLines (sourceList main program (cv .unit .place + 21) source) main supplementary w₂ w₃ files₁ files₂ warnings warnings′ cv t′ warned r₃
                 → CollectsLines main supplementary program w w₃ files files₂ warnings warnings′ p t warned free r₃
             unfolding made
             collected-end {w₃} {files₂} {warnings} {warnings′} {warned} {r₃} E =
-                let L = subst (λ (x : Conversion). FinishesLines main supplementary w₂ w₃ files₁ files₂ warnings warnings′ x t′ warned r₃) (M .is) E in
+                let L = subst (λ (x : Conversion). FinishesLines (sourceList main program (x .unit .place + 21) source) main supplementary w₂ w₃ files₁ files₂ warnings warnings′ x t′ warned r₃) (M .is) E in
                 let K = end-rest L in
                 record { is = by-end w₃ files₂ warnings warnings′ warned r₃ (L .is) K; rest = K }

@@ -1,5 +1,5 @@
 -- collect_lines by its steps, a unit without a header, and one whose rows can't be read. Assumes nothing.
-use mathlib.Core.Path.{_≡_, sym, ap, _∙_}
+use mathlib.Core.Path.{_≡_, refl, sym, ap, _∙_}
 use mathlib.Core.List.{List, []}
 use mathlib.Core.Option.{none, some}
 use Prim.Native.Nat.{ℕ, _+_, _≤_, _<_}
@@ -10,13 +10,15 @@ use Rattle.tlv.specs.Outcome.{Outcome, refused, done, _>>=_}
 use Rattle.tlv.specs.Buffer.{top}
 use Rattle.tlv.specs.Checked.{Placed}
 use Rattle.tlv.specs.Access.{NextOwn}
-use Rattle.tlv.specs.Model.{CompilationUnit, LineHeader, lineRows}
+use Rattle.tlv.specs.Model.{CompilationUnit, LineHeader, LineRow}
 use Rattle.tlv.specs.Places.{unitHere}
+use Rattle.tlv.proofs.OutcomeLaws.{refused-not}
 use Rattle.tlv.proofs.TableLaws.{but-refl}
 use Rattle.tlv.proofs.RecordLaws.{records-nil}
 use Rattle.lines.specs.Program.{lineSequenceOffsets}
 use Rattle.lines.specs.Files.{FileTable, Indexed, internHeaderFiles}
-use Rattle.lines.specs.Lines.{Run, runRows, Collected, collectHeader, collectFrom, collectLines}
+use Rattle.lines.specs.Lines.{Run, runRows, Collected, collectHeader}
+use Rattle.machine.specs.LineRows.{lineRows, collectFrom, collectLines}
 use Rattle.rows.proofs.StoredLaws.{lines-nil, ranges-nil}
 use Rattle.files.specs.declared.store.StoredFiles.{StoredFiles}
 use Rattle.files.specs.Pieces.{headerHere}
@@ -26,12 +28,14 @@ use Rattle.files.proofs.UnitLaws.{unit-next, unit-within}
 use Rattle.files.proofs.GrownLaws.{grown-none}
 use Rattle.collect.specs.declared.collect.CollectedLines.{CollectedLines}
 use Rattle.collect.specs.declared.passes.CountedRows.{CountedRows}
-use Rattle.collect.specs.Passes.{rowsFrom, countRows, countedOf}
+use Rattle.collect.specs.declared.source.RowSource.{RowSource}
+use Rattle.collect.specs.Passes.{countAll, RowsCounted, countedOf}
+use Rattle.collect.specs.Sources.{sourceRows, sourceList, SourceReady, SourceFound}
 use Rattle.collect.specs.Collects.{linesIn, linesExtent, UnitIn, LinesRoom, CollectsLines}
 use Rattle.collect.specs.Stages.{HeaderIn, finishRun}
 use Rattle.collect.proofs.RunLaws.{count-refused}
 use Rattle.collect.proofs.LineLaws.{none-put}
-use Rattle.collect.proofs.HeaderPlaces.{header-is, unit-stands, rows-here, header-none}
+use Rattle.collect.proofs.HeaderPlaces.{header-is, unit-stands, rows-here, encoding-here, header-none}
 
 -- ---- the definition by its steps
 
@@ -41,27 +45,32 @@ module _ (u : CompilationUnit) (program : List ℕ) (t : FileTable) where
   collects-none e = rw e
 
   module _ (h : LineHeader) (e : u .header ≡ some h) where
-    headed : collectLines u program t ≡ collectHeader u h program t
+    headed : collectLines u program t ≡ (lineRows u h program >>= λ rows. collectHeader u h program rows t)
     unfolding collectLines
     headed = ap (collectFrom u program t) e
 
-    pub collects-rows-refused : (n : ℕ) → runRows (u .rows) 0 [] ≡ refused n → collectLines u program t ≡ refused n
-    unfolding collectHeader lineRows _>>=_
-    collects-rows-refused n r = headed ∙ rw r
+    -- the rows are refused, or their count
+    pub collects-rows-refused : (n : ℕ) → countAll (lineRows u h program) ≡ refused n → collectLines u program t ≡ refused n
+    unfolding collectHeader _>>=_
+    collects-rows-refused n r = headed ∙ go (lineRows u h program) r
+      where
+        go : (x : Outcome (List LineRow)) → countAll x ≡ refused n → (x >>= λ rows. collectHeader u h program rows t) ≡ refused n
+        go (refused m) k = cc
+        go (done rows) k = rw (count-refused rows n k)
 
-    module _ (run : Run) (r : runRows (u .rows) 0 [] ≡ done run) where
+    module _ (rows : List LineRow) (l : lineRows u h program ≡ done rows) (run : Run) (r : runRows rows 0 [] ≡ done run) where
       pub collects-program-refused : (n : ℕ) → lineSequenceOffsets h program ≡ refused n → collectLines u program t ≡ refused n
-      unfolding collectHeader lineRows _>>=_
-      collects-program-refused n o = headed ∙ rw (r, o)
+      unfolding collectHeader _>>=_
+      collects-program-refused n o = headed ∙ rw (l, r, o)
 
       module _ (os : List ℕ) (o : lineSequenceOffsets h program ≡ done os) where
         pub collects-files-refused : (n : ℕ) → internHeaderFiles u h t ≡ refused n → collectLines u program t ≡ refused n
-        unfolding collectHeader lineRows _>>=_
-        collects-files-refused n f = headed ∙ rw (r, o, f)
+        unfolding collectHeader _>>=_
+        collects-files-refused n f = headed ∙ rw (l, r, o, f)
 
         pub collects-end : (i : Indexed) → internHeaderFiles u h t ≡ done i → (x : Outcome Collected) → finishRun u h os (i .table) (i .indices) run ≡ x → collectLines u program t ≡ x
-        unfolding collectHeader lineRows _>>=_
-        collects-end i f x k = headed ∙ rw (r, o, f) k
+        unfolding collectHeader _>>=_
+        collects-end i f x k = headed ∙ rw (l, r, o, f) k
 
 -- ---- a unit without a header
 
@@ -109,13 +118,34 @@ module _ {main : List ℕ} {p : ℕ} (h : Placed main 0) (U : UnitIn main p) whe
   rows-placed = unit-next (unit-stands h U)
 
   module _ {start len : ℕ} (H : HeaderIn main p start len) where
-    -- its rows can't be read
-    pub collected-failed : {supplementary program w files files′ warnings warnings′ : List ℕ} {t : StoredFiles} {warned free : ℕ} {r : CountedRows}
-        → countedOf r ≡ countRows (rowsFrom main (p + 21)) 0 0 0 → r ≡ CountedRows.Failed
-        → CollectsLines main supplementary program w w files files′ warnings warnings′ p t warned free (CollectedLines.Refused 6)
-    collected-failed {supplementary} {program} {w} {t = t} counted e =
-        let k : countRows (rowsFrom main (p + 21)) 0 0 0 ≡ refused 6 = sym (rw e at counted) in
-        record {
-          is = collects-rows-refused (unitHere main p) program (tableOf main supplementary w t) (headerHere main p) (header-there H) 6 (rw (rows-here (unit-stands h U)) (count-refused (rowsFrom main (p + 21)) 6 k));
-          rest = but-refl w _;
-        }
+    module _ {source : RowSource} (F : SourceFound main (p + 21) start len source) where
+      -- the source that was found is that of its rows
+      pub source-here : (program : List ℕ) → sourceRows main program (p + 21) source ≡ lineRows (unitHere main p) (headerHere main p) program
+      source-here program =
+          F .is (unitHere main p) program (encoding-here (unit-stands h U)) (rows-here (unit-stands h U))
+          ∙ ap (λ (x : LineHeader). lineRows (unitHere main p) x program) (sym (header-is H))
+
+      -- its rows can't be read
+      pub collected-failed : {supplementary program w files files′ warnings warnings′ : List ℕ} {t : StoredFiles} {warned free f : ℕ} {r : CountedRows}
+          → countedOf r ≡ countAll (sourceRows main program (p + 21) source) → r ≡ CountedRows.Fault f
+          → CollectsLines main supplementary program w w files files′ warnings warnings′ p t warned free (CollectedLines.Refused f)
+      collected-failed {supplementary} {program} {w} {t = t} {f = f} counted e =
+          let k : countAll (sourceRows main program (p + 21) source) ≡ refused f = sym (rw e at counted) in
+          record {
+            is = collects-rows-refused (unitHere main p) program (tableOf main supplementary w t) (headerHere main p) (header-there H) f
+                (rw (source-here program) at k);
+            rest = but-refl w _;
+          }
+
+      -- they are counted
+      pub source-ready : {program : List ℕ} {k m : ℕ} {r : CountedRows} → countedOf r ≡ countAll (sourceRows main program (p + 21) source)
+          → r ≡ CountedRows.Rows k m
+          → SourceReady main program (p + 21) source × RowsCounted (sourceList main program (p + 21) source) k m
+      unfolding _>>=_
+      source-ready {program} {k} {m} counted e = go (sourceRows main program (p + 21) source) refl (sym (rw e at counted))
+        where
+          go : (x : Outcome (List LineRow)) → sourceRows main program (p + 21) source ≡ x
+              → countAll x ≡ done (record { lines = k; sequences = m })
+              → SourceReady main program (p + 21) source × RowsCounted (sourceList main program (p + 21) source) k m
+          go (refused f) is c = refused-not c
+          go (done rows) is c = (record { placed = rows-placed; within = F .within; reads = rw is }, record { is = rw is c })

@@ -1,222 +1,111 @@
--- The loop that converts a unit's rows: its start, its turns and its ends. Assumes nothing.
-use mathlib.Core.Path.{_≡_, refl, _∙_}
-use mathlib.Core.Bool.{cond}
-use mathlib.Core.Logic.{inl, inr, ⊎-elim}
-use mathlib.Core.List.{List, [], _∷_, _++_, append-nil}
-use Prim.Native.Nat.{ℕ, zero, suc, _+_, _-_, _*_, _≤_, _<_}
+-- The loop that converts a unit's row fields: its start, its turns and its ends. Assumes nothing.
+use mathlib.Core.Path.{_≡_, sym, _∙_}
+use mathlib.Core.List.{List, _∷_}
+use Prim.Native.Nat.{ℕ, _+_, _-_, _*_, _≤_, _<_}
 use native.Mathlib.Omega.{arith}
-use lib.Dec.{eqb}
 use lib.ListN.{length, take, drop}
-use borrow.Author.Tests.{eq-eqb, ne-eqb}
 use Rattle.tlv.specs.declared.access.Own.{Own}
 use Rattle.tlv.specs.Grammar.{rowFieldSize, rowKindAt}
-use Rattle.tlv.specs.Outcome.{refused, done, _>>=_}
 use Rattle.tlv.specs.Bytes.{leAt}
-use Rattle.tlv.specs.Buffer.{top, Put}
+use Rattle.tlv.specs.Buffer.{top}
 use Rattle.tlv.specs.Checked.{Placed}
 use Rattle.tlv.specs.Access.{NextOwn}
-use Rattle.tlv.specs.Table.{chunk, KeptBut}
-use Rattle.tlv.specs.Model.{CompilationUnit, LineHeader, LineRow, rowOf}
-use Rattle.tlv.specs.Output.{Warning, warningsBytes}
-use Rattle.tlv.proofs.BufferLaws.{_then_, put-as}
+use Rattle.tlv.specs.Table.{chunk}
+use Rattle.tlv.specs.Model.{rowOf}
 use Rattle.tlv.proofs.OwnLaws.{own-within, own-placed}
-use Rattle.tlv.proofs.TableLaws.{but-refl, but-trans}
-use Rattle.lines.specs.Lines.{rawLine, Converted, convertRow}
-use Rattle.files.specs.Store.{Grown}
-use Rattle.files.proofs.GrownLaws.{grown-none, grown-trans}
+use Rattle.lines.specs.Lines.{rawLine}
 use Rattle.files.proofs.UnitLaws.{unit-next}
 use Rattle.collect.specs.declared.convert.Conversion.{Conversion}
 use Rattle.collect.specs.declared.convert.Converting.{Converting}
 use Rattle.collect.specs.declared.convert.ConvertedRow.{ConvertedRow}
 use Rattle.collect.specs.declared.convert.Row.{Row}
-use Rattle.collect.specs.Passes.{rowsFrom, convertFrom}
-use Rattle.collect.specs.Converts.{unitAt, headerIn, offsetsOf, convertedIn, ConversionIn, rawOf, KnownConverted, RowConverted, RowConverts, RowsConvert}
+use Rattle.collect.specs.Passes.{rowsFrom}
+use Rattle.collect.specs.Converts.{ConversionIn, rawOf, KnownConverted, RowConverts, RowsConvert}
 use Rattle.rows.specs.Sizes.{lineSize}
 use Rattle.collect.proofs.RowsFromLaws.{rows-end, rows-next, row-long, row-kind}
-use Rattle.collect.proofs.PrefixLaws.{convert-row-prefix, convert-row-prefix-refused}
-use Rattle.collect.proofs.LineLaws.{none-put, warnings-append}
-use Rattle.collect.proofs.ConvertLaws.{written, offsets-kept, row-appended}
+use Rattle.collect.proofs.ConvertingList.{ConvertingList, list-start, list-same, list-full, list-over, list-ended, list-refused, list-more, list-known}
 
--- ---- one row, on the definitions
-
-module _ (u : CompilationUnit) (h : LineHeader) (offsets : List ℕ) (n : ℕ) (c : Converted) where
-  from-none : (left : ℕ) → convertFrom u h offsets [] n left c ≡ done c
-  unfolding convertFrom
-  from-none zero = refl
-  from-none (suc left) = refl
-
-  from-row : (r : LineRow) (rs : List LineRow) (left : ℕ) → (left ≡ 0 → ⊥)
-      → convertFrom u h offsets (r ∷ rs) n left c ≡ cond (eqb (r .kind) 1) (convertFrom u h offsets rs (n + 1) left c) (convertRow u h offsets (rawLine r n) c >>= convertFrom u h offsets rs n (left - 1))
-  unfolding convertFrom
-  from-row r rs zero e = absurd (e refl)
-  from-row r rs (suc left) e = let less : suc left - 1 ≡ left = omega arith in rw less
-
--- ---- the loop: the rows from `at` on, `more` of them, with what the others have become, give what was asked
-
-pub record ConvertingRows (main supplementary w₀ w files₀ files warnings₀ warnings : List ℕ) (c : Conversion) (st₀ st : Converting) (left at n more : ℕ) : Type 0 where
+-- the rows from `at` on are left
+pub record ConvertingRows (main supplementary w₀ w files₀ files warnings₀ warnings : List ℕ) (c : Conversion) (st₀ st : Converting) (left at n more : ℕ)
+    : Type 0 where
   pub placed : Placed main at
-  pub new : List Warning
-  pub same : convertFrom (unitAt main c) (headerIn main c) (offsetsOf w₀ c) (rowsFrom main (c .unit .place + 21)) 0 left (convertedIn main supplementary w₀ c st₀ [])
-      ≡ convertFrom (unitAt main c) (headerIn main c) (offsetsOf w₀ c) (rowsFrom main at) n more (convertedIn main supplementary w c st new)
-  pub grown : Grown main supplementary w₀ w files₀ files (st₀ .table) (st .table)
-  pub put : Put (st₀ .warned) (warningsBytes new) warnings₀ warnings (st .warned)
-  pub start : ConversionIn main supplementary w₀ c st₀
-  pub holds : ConversionIn main supplementary w c st
-  pub least : st₀ .count ≤ st .count
-  pub most : st .count + more ≤ st₀ .count + left
+  pub list : ConvertingList main supplementary w₀ w files₀ files warnings₀ warnings c st₀ st (rowsFrom main (c .unit .place + 21))
+      (rowsFrom main at) left n more
   pub small : n ≤ at
-  pub rest : KeptBut w₀ w (written c st₀ (left * lineSize))
-  pub room : c .lines + st₀ .count * lineSize + left * lineSize ≤ length w
-  pub size : length w ≡ length w₀
-  pub files-size : length files ≡ length files₀
-  pub warnings-size : length warnings ≡ length warnings₀
 
 pub converting-start : {main supplementary w files warnings : List ℕ} {c : Conversion} {st : Converting} {left : ℕ} → ConversionIn main supplementary w c st
     → c .lines + st .count * lineSize + left * lineSize ≤ length w → length files < top → st .warned ≤ top → length warnings < top
     → ConvertingRows main supplementary w w files files warnings warnings c st st left (c .unit .place + 21) 0 left
-converting-start {w = w} C room small fits small′ = record {
+converting-start {main} {c = c} C room small fits small′ = record {
   placed = unit-next (C .placed);
-  new = [];
-  same = refl;
-  grown = grown-none (C .files) small;
-  put = none-put fits small′;
-  start = C;
-  holds = C;
-  least = omega arith;
-  most = omega arith;
+  list = list-start (rowsFrom main (c .unit .place + 21)) C room small fits small′;
   small = omega arith;
-  rest = but-refl w _;
-  room = room;
-  size = refl;
-  files-size = refl;
-  warnings-size = refl;
 }
 
 module _ {main supplementary w₀ w files₀ files warnings₀ warnings : List ℕ} {c : Conversion} {st₀ st : Converting} {left at n more : ℕ}
     (J : ConvertingRows main supplementary w₀ w files₀ files warnings₀ warnings c st₀ st left at n more) where
   -- nothing was written
   pub converting-same : {w′ : List ℕ} → w′ ≡ w → ConvertingRows main supplementary w₀ w′ files₀ files warnings₀ warnings c st₀ st left at n more
-  converting-same same = rw same J
-
-  finished : convertFrom (unitAt main c) (headerIn main c) (offsetsOf w₀ c) (rowsFrom main at) n more (convertedIn main supplementary w c st (J .new)) ≡ done (convertedIn main supplementary w c st (J .new))
-      → RowsConvert main supplementary w₀ w files₀ files warnings₀ warnings c st₀ left (ConvertedRow.Next st)
-  finished e =
-      let most = J .most in
-      record { is = record { new = J .new; is = J .same ∙ e; grown = J .grown; put = J .put; holds = J .holds; more = omega arith }; rest = J .rest }
+  converting-same same = record { placed = J .placed; list = list-same (J .list) same; small = J .small }
 
   -- enough rows
-  pub converting-full : more ≡ 0 → RowsConvert main supplementary w₀ w files₀ files warnings₀ warnings c st₀ left (ConvertedRow.Next st)
-  unfolding convertFrom
-  converting-full e = finished (rw e)
+  pub converting-full : more ≡ 0
+      → RowsConvert (rowsFrom main (c .unit .place + 21)) main supplementary w₀ w files₀ files warnings₀ warnings c st₀ left (ConvertedRow.Next st)
+  converting-full e = list-full (J .list) e
 
   module _ {r : Own} (own : NextOwn main at 0x16 r) where
     -- no more rows
-    pub converting-over : r ≡ Own.Missing → RowsConvert main supplementary w₀ w files₀ files warnings₀ warnings c st₀ left (ConvertedRow.Next st)
-    converting-over e = finished (rw (rows-end main at r own e) (from-none (unitAt main c) (headerIn main c) (offsetsOf w₀ c) n (convertedIn main supplementary w c st (J .new)) more))
+    pub converting-over : r ≡ Own.Missing
+        → RowsConvert (rowsFrom main (c .unit .place + 21)) main supplementary w₀ w files₀ files warnings₀ warnings c st₀ left (ConvertedRow.Next st)
+    converting-over e = list-over (J .list) (rows-end main at r own e)
 
     module _ {start len next : ℕ} (e : r ≡ Own.Field start len next) (some-left : more ≡ 0 → ⊥) (kind : ℕ)
         (read : kind ≡ leAt 1 main (start + rowKindAt)) where
-      turn : convertFrom (unitAt main c) (headerIn main c) (offsetsOf w₀ c) (rowsFrom main at) n more (convertedIn main supplementary w c st (J .new))
-          ≡ cond (eqb kind 1) (convertFrom (unitAt main c) (headerIn main c) (offsetsOf w₀ c) (rowsFrom main next) (n + 1) more (convertedIn main supplementary w c st (J .new)))
-          (convertRow (unitAt main c) (headerIn main c) (offsetsOf w₀ c) (rawLine (rowOf (take len (drop start main))) n) (convertedIn main supplementary w c st (J .new))
-          >>= convertFrom (unitAt main c) (headerIn main c) (offsetsOf w₀ c) (rowsFrom main next) n (more - 1))
-      turn =
-          rw (
-            rows-next main at r own start len next e,
-            from-row (unitAt main c) (headerIn main c) (offsetsOf w₀ c) n (convertedIn main supplementary w c st (J .new)) _ _ more some-left,
-            row-kind main at r own start len next e (J .placed) kind read,
-          )
+      here : rowsFrom main at ≡ rowOf (take len (drop start main)) ∷ rowsFrom main next
+      here = rows-next main at r own start len next e
+
+      kind-is : rowOf (take len (drop start main)) .kind ≡ kind
+      kind-is = row-kind main at r own start len next e (J .placed) kind read
 
       placed-next : Placed main next
       placed-next = own-placed main at 0x16 r start len next own e (J .placed)
 
+      small-next : n + 1 ≤ next
+      small-next = let x = own-within main at 0x16 r start len next own e in let small = J .small in omega arith
+
       -- an end of sequence
       pub converting-ended : kind ≡ 1 → ConvertingRows main supplementary w₀ w files₀ files warnings₀ warnings c st₀ st left next (n + 1) more
-      converting-ended one =
-          let x = own-within main at 0x16 r start len next own e in
-          let small = J .small in
-          record {
-            placed = placed-next;
-            new = J .new;
-            same = J .same ∙ turn ∙ rw (eq-eqb kind 1 one);
-            grown = J .grown;
-            put = J .put;
-            start = J .start;
-            holds = J .holds;
-            least = J .least;
-            most = J .most;
-            small = omega arith;
-            rest = J .rest;
-            room = J .room;
-            size = J .size;
-            files-size = J .files-size;
-            warnings-size = J .warnings-size;
-          }
+      converting-ended one = record { placed = placed-next; list = list-ended (J .list) here some-left (kind-is ∙ one); small = small-next }
 
       module _ (plain : kind ≡ 1 → ⊥) {row : Row} (is-row : rawOf row ≡ rawLine (rowOf (chunk main start rowFieldSize)) n) where
-        converted-row : convertFrom (unitAt main c) (headerIn main c) (offsetsOf w₀ c) (rowsFrom main at) n more (convertedIn main supplementary w c st (J .new))
-            ≡ (convertRow (unitAt main c) (headerIn main c) (offsetsOf w c) (rawOf row) (convertedIn main supplementary w c st (J .new))
-            >>= convertFrom (unitAt main c) (headerIn main c) (offsetsOf w₀ c) (rowsFrom main next) n (more - 1))
+        no-end : rowOf (take len (drop start main)) .kind ≡ 1 → ⊥
+        no-end one = plain (sym kind-is ∙ one)
+
+        row-is : rawOf row ≡ rawLine (rowOf (take len (drop start main))) n
         unfolding chunk
-        converted-row = turn ∙ rw (ne-eqb kind 1 plain, is-row, row-long main at r own start len next e (J .placed), offsets-kept (J .start) (left * lineSize) (J .rest))
+        row-is = is-row ∙ rw (row-long main at r own start len next e (J .placed))
 
         module _ {w′ files′ warnings′ : List ℕ} {q : ConvertedRow} (A : RowConverts main supplementary w w′ files files′ warnings warnings′ c st row q) where
-          -- what the row may write, the rows may
-          rows-rest : KeptBut w₀ w′ (written c st₀ (left * lineSize))
-          rows-rest =
-              let gb = J .grown .base in
-              let gr = J .grown .room in
-              let least = J .least in
-              let most = J .most in
-              but-trans (J .rest) (record { same = λ a k z. A .rest .same a k (rw (gb, gr) (z .0), (z .1 .0, (⊎-elim (λ l. inl (omega arith)) (λ l. inr (omega arith)) (z .1 .1 .0), tt))) })
+          pub converting-refused : {k : ℕ} → q ≡ ConvertedRow.Refused k
+              → RowsConvert (rowsFrom main (c .unit .place + 21)) main supplementary w₀ w′ files₀ files′ warnings₀ warnings′ c st₀ left
+              (ConvertedRow.Refused k)
+          converting-refused eq = list-refused (J .list) here some-left no-end row-is A eq
 
-          pub converting-refused : {k : ℕ} → q ≡ ConvertedRow.Refused k → RowsConvert main supplementary w₀ w′ files₀ files′ warnings₀ warnings′ c st₀ left (ConvertedRow.Refused k)
-          unfolding convertedIn _>>=_
-          converting-refused {k} eq =
-              let no : convertRow (unitAt main c) (headerIn main c) (offsetsOf w c) (rawOf row) (convertedIn main supplementary w c st []) ≡ refused k = rw eq at (A .is) in
-              let all = rw append-nil at (convert-row-prefix-refused (unitAt main c) (headerIn main c) (offsetsOf w c) (rawOf row) (J .new) (convertedIn main supplementary w c st []) k no) in
-              record { is = J .same ∙ converted-row ∙ rw all; rest = rows-rest }
-
-          pub converting-more : {st′ : Converting} → q ≡ ConvertedRow.Next st′ → length w′ ≡ length w → length files′ ≡ length files → length warnings′ ≡ length warnings
+          pub converting-more : {st′ : Converting} → q ≡ ConvertedRow.Next st′ → length w′ ≡ length w → length files′ ≡ length files
+              → length warnings′ ≡ length warnings
               → ConvertingRows main supplementary w₀ w′ files₀ files′ warnings₀ warnings′ c st₀ st′ left next n (more - 1)
-          unfolding convertedIn _>>=_
-          converting-more {st′} eq size files-size warnings-size =
-              let R : RowConverted main supplementary w w′ files files′ warnings warnings′ c st row st′ = rw eq at (A .is) in
-              let all = rw append-nil at (convert-row-prefix (unitAt main c) (headerIn main c) (offsetsOf w c) (rawOf row) (J .new) (convertedIn main supplementary w c st []) (convertedIn main supplementary w′ c st′ (R .new)) (R .is)) in
-              let x = own-within main at 0x16 r start len next own e in
-              let least = J .least in
-              let most = J .most in
-              let small = J .small in
-              let grows = R .more in
-              let up = grows .0 in
-              let one = grows .1 in
-              record {
-                placed = placed-next;
-                new = J .new ++ R .new;
-                same = J .same ∙ converted-row ∙ rw all;
-                grown = grown-trans (J .grown) (R .grown);
-                put = put-as (warnings-append (J .new) (R .new)) (J .put then R .put);
-                start = J .start;
-                holds = R .holds;
-                least = omega arith;
-                most = omega arith;
-                small = omega arith;
-                rest = rows-rest;
-                room = rw size (J .room);
-                size = size ∙ J .size;
-                files-size = files-size ∙ J .files-size;
-                warnings-size = warnings-size ∙ J .warnings-size;
-              }
+          converting-more eq size files-size warnings-size = record {
+            placed = placed-next;
+            list = list-more (J .list) here some-left no-end row-is A eq size files-size warnings-size;
+            small = let x = small-next in omega arith;
+          }
 
         -- its line is appended
         pub converting-known : {w′ : List ℕ} → KnownConverted w w′ c row (st .count) → length w′ ≡ length w
-            → ConvertingRows main supplementary w₀ w′ files₀ files warnings₀ warnings c st₀ (record { table = st .table; count = st .count + 1; warned = st .warned }) left next n (more - 1)
-        converting-known K size =
-            let most = J .most in
-            let room = J .room in
-            let warned = J .put .place in
-            let small = J .put .small in
-            let same = J .warnings-size in
-            let files-small = J .grown .put .small in
-            let files-same = J .files-size in
-            converting-more (row-appended (J .holds) row (omega arith) (omega arith) (omega arith) (omega arith) K size) refl size refl refl
+            → ConvertingRows main supplementary w₀ w′ files₀ files warnings₀ warnings c st₀
+            (record { table = st .table; count = st .count + 1; warned = st .warned }) left next n (more - 1)
+        converting-known K size = record {
+          placed = placed-next;
+          list = list-known (J .list) here some-left no-end row-is K size;
+          small = let x = small-next in omega arith;
+        }

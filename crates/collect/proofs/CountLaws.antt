@@ -1,4 +1,4 @@
--- The loop that counts the rows of a unit: its start, its turns and its ends. Assumes nothing.
+-- The loop that counts the row fields of a unit: its start, its turns and its ends. Assumes nothing.
 use mathlib.Core.Path.{_≡_, refl, _∙_}
 use mathlib.Core.List.{List}
 use Prim.Native.Nat.{ℕ, _+_, _≤_}
@@ -29,7 +29,7 @@ module _ (s : List ℕ) (p at lines opened n : ℕ) (r : Own) (inv : CountingRow
   counting-done e = rw (inv .same, rows-end s at r own e)
 
   module _ (start len next : ℕ) (e : r ≡ Own.Field start len next) (kind : ℕ) (read : kind ≡ leAt 1 s (start + rowKindAt)) where
-    pub counting-failed : kind ≡ 2 → countedOf CountedRows.Failed ≡ countRows (rowsFrom s p) 0 0 0
+    pub counting-failed : kind ≡ 2 → countedOf (CountedRows.Fault 6) ≡ countRows (rowsFrom s p) 0 0 0
     unfolding countRows
     counting-failed two = rw (inv .same, rows-next s at r own start len next e, row-kind s at r own start len next e (inv .placed) kind read, eq-eqb kind 2 two)
 

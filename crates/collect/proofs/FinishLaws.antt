@@ -12,7 +12,7 @@ use Rattle.tlv.specs.Bytes.{le, bytesOf}
 use Rattle.tlv.specs.Buffer.{top, Put}
 use Rattle.tlv.specs.Fields.{encode}
 use Rattle.tlv.specs.Table.{KeptBut}
-use Rattle.tlv.specs.Checked.{Placed}
+use Rattle.tlv.specs.Model.{LineRow}
 use Rattle.tlv.specs.Output.{Warning, lineSequenceMismatch, kindNumber, warningsBytes}
 use Rattle.tlv.proofs.OutcomeLaws.{done-is}
 use Rattle.tlv.proofs.BufferLaws.{_then_, put-as}
@@ -26,16 +26,15 @@ use Rattle.rows.proofs.StoredLaws.{lines-nil}
 use Rattle.files.specs.declared.store.StoredFiles.{StoredFiles}
 use Rattle.files.specs.Store.{extent, tableOf}
 use Rattle.files.specs.Indices.{indexOf, indicesOf, indicesIn}
-use Rattle.files.proofs.UnitLaws.{unit-next}
 use Rattle.files.proofs.GrownLaws.{table-kept, grown-kept}
 use Rattle.collect.specs.declared.collect.CollectedLines.{CollectedLines}
 use Rattle.collect.specs.declared.convert.Conversion.{Conversion}
 use Rattle.collect.specs.declared.convert.Converting.{Converting}
 use Rattle.collect.specs.declared.convert.ConvertedRow.{ConvertedRow}
-use Rattle.collect.specs.Passes.{rowsFrom, countRows, sequencesFrom, withOffset, convertFrom}
+use Rattle.collect.specs.Passes.{RowsCounted, sequencesFrom, withOffset, convertFrom}
 use Rattle.collect.specs.Converts.{unitAt, headerIn, offsetsOf, convertedIn, ConversionIn, RowsConverted, RowsConvert}
 use Rattle.collect.specs.Collects.{linesIn}
-use Rattle.collect.specs.Stages.{rowsOf, finishFrom, StoresLines, FinishesLines}
+use Rattle.collect.specs.Stages.{finishFrom, StoresLines, FinishesLines}
 use Rattle.collect.proofs.RunLaws.{RunCounted, count-done, convert-from}
 use Rattle.collect.proofs.PrefixLaws.{convert-rows-prefix, convert-rows-prefix-refused}
 use Rattle.collect.proofs.FrameLaws.{but-wide}
@@ -57,10 +56,10 @@ a-mismatch sequences offsets e f = rw (ne-eqb offsets sequences e) (about-put li
 
 -- ---- the rows
 
-module _ {main supplementary w : List ℕ} {c : Conversion} {t : StoredFiles} {warned n m : ℕ} (C : ConversionIn main supplementary w c (record { table = t; count = 0; warned = warned }))
-    (K : countRows (rowsFrom main (c .unit .place + 21)) 0 0 0 ≡ done (record { lines = n; sequences = m })) where
-  rows-counted : RunCounted (rowsFrom main (c .unit .place + 21)) (record { lines = n; sequences = m })
-  rows-counted = count-done (rowsFrom main (c .unit .place + 21)) (record { lines = n; sequences = m }) K
+module _ {rows : List LineRow} {main supplementary w : List ℕ} {c : Conversion} {t : StoredFiles} {warned n m : ℕ}
+    (C : ConversionIn main supplementary w c (record { table = t; count = 0; warned = warned })) (K : RowsCounted rows n m) where
+  rows-counted : RunCounted rows (record { lines = n; sequences = m })
+  rows-counted = count-done rows (record { lines = n; sequences = m }) (K .is)
 
   pub begun-conversion : (noted : ℕ) → ConversionIn main supplementary w c (record { table = t; count = 0; warned = noted })
   begun-conversion noted = record {
@@ -78,7 +77,7 @@ module _ {main supplementary w : List ℕ} {c : Conversion} {t : StoredFiles} {w
     lines = C .lines;
   }
 
-  pub conversion-room : c .lines + rowRoom * rowsOf main c + entrySize ≤ length w → c .lines + 0 * lineSize + n * lineSize ≤ length w
+  pub conversion-room : c .lines + rowRoom * length rows + entrySize ≤ length w → c .lines + 0 * lineSize + n * lineSize ≤ length w
   conversion-room h = let a = rows-counted .all in omega arith
 
   start : Converted
@@ -95,20 +94,20 @@ module _ {main supplementary w : List ℕ} {c : Conversion} {t : StoredFiles} {w
       λ i. mismatch (s i) (k i)
 
   rows-are : (noted : ℕ) (x : Outcome Converted)
-      → convertFrom (unitAt main c) (headerIn main c) (offsetsOf w c) (rowsFrom main (c .unit .place + 21)) 0 n (convertedIn main supplementary w c (record { table = t; count = 0; warned = noted }) []) ≡ x
+      → convertFrom (unitAt main c) (headerIn main c) (offsetsOf w c) rows 0 n (convertedIn main supplementary w c (record { table = t; count = 0; warned = noted }) []) ≡ x
       → convertRows (unitAt main c) (headerIn main c) (offsetsOf w c) (rows-counted .run .lines) start ≡ x
   unfolding convertedIn start
   rows-are noted x e =
-      sym (convert-from (unitAt main c) (headerIn main c) (offsetsOf w c) (rowsFrom main (c .unit .place + 21)) (rows-counted .run) start (rows-counted .is))
+      sym (convert-from (unitAt main c) (headerIn main c) (offsetsOf w c) rows (rows-counted .run) start (rows-counted .is))
       ∙ rw (rows-counted .lines) (rw (lines-nil w (c .lines)) at e)
 
   -- the run is the one that was counted
   of-run : (x : Outcome _) → finishFrom main supplementary w c t (rows-counted .run) ≡ x
-      → (run : Run) → runRows (rowsFrom main (c .unit .place + 21)) 0 [] ≡ done run → finishFrom main supplementary w c t run ≡ x
+      → (run : Run) → runRows rows 0 [] ≡ done run → finishFrom main supplementary w c t run ≡ x
   of-run x e run is = subst (λ (r : Run). finishFrom main supplementary w c t r ≡ x) (done-is (sym (rows-counted .is) ∙ is)) e
 
   module _ {w₁ files files₁ warnings₁ warnings₂ : List ℕ} {noted : ℕ} {r : ConvertedRow}
-      (R : RowsConvert main supplementary w w₁ files files₁ warnings₁ warnings₂ c (record { table = t; count = 0; warned = noted }) n r) where
+      (R : RowsConvert rows main supplementary w w₁ files files₁ warnings₁ warnings₂ c (record { table = t; count = 0; warned = noted }) n r) where
     finish-refused : (e : ℕ) → r ≡ ConvertedRow.Refused e → finishFrom main supplementary w c t (rows-counted .run) ≡ refused e
     unfolding _>>=_ start notes
     finish-refused e is =
@@ -116,37 +115,34 @@ module _ {main supplementary w : List ℕ} {c : Conversion} {t : StoredFiles} {w
         let p = rw (append-nil notes) at (convert-rows-prefix-refused (unitAt main c) (headerIn main c) (offsetsOf w c) (rows-counted .run .lines) notes start e h) in
         rw p
 
-    rows-rest : KeptBut w w₁ ((t .base, extent t) ∷ (c .indices .base, c .indices .count * 5) ∷ (c .lines, rowRoom * rowsOf main c + entrySize) ∷ [])
+    rows-rest : KeptBut w w₁ ((t .base, extent t) ∷ (c .indices .base, c .indices .count * 5) ∷ (c .lines, rowRoom * length rows + entrySize) ∷ [])
     rows-rest =
         let k = rows-counted .all in
         but-wide _ (R .rest) (here (omega arith) (omega arith), (there (here (omega arith) (omega arith)), (there (there (here (omega arith) (omega arith))), tt)))
 
     pub finishes-refused : {files′ warnings warnings′ : List ℕ} {e : ℕ} → r ≡ ConvertedRow.Refused e
-        → FinishesLines main supplementary w w₁ files files′ warnings warnings′ c t warned (CollectedLines.Refused e)
+        → FinishesLines rows main supplementary w w₁ files files′ warnings warnings′ c t warned (CollectedLines.Refused e)
     finishes-refused {e = e} is = record { is = of-run (refused e) (finish-refused e is); rest = rows-rest }
 
     module _ {st : Converting} (is : r ≡ ConvertedRow.Next st) where
-      rows-converted : RowsConverted main supplementary w w₁ files files₁ warnings₁ warnings₂ c (record { table = t; count = 0; warned = noted }) n st
+      rows-converted : RowsConverted rows main supplementary w w₁ files files₁ warnings₁ warnings₂ c (record { table = t; count = 0; warned = noted }) n st
       rows-converted = rw is at (R .is)
 
-      pub store-placed : Placed main (c .unit .place + 21)
-      store-placed = unit-next (C .placed)
-
-      sequences-few : length (sequencesFrom (rowsFrom main (c .unit .place + 21)) 0 none) ≤ m
+      sequences-few : length (sequencesFrom rows 0 none) ≤ m
       sequences-few = rw (rows-counted .sequences) at (rows-counted .few)
 
-      store-small : st .count * rowRoom + rangeSize * length (sequencesFrom (rowsFrom main (c .unit .place + 21)) 0 none) + entrySize
-          ≤ rowRoom * rowsOf main c + entrySize
+      store-small : st .count * rowRoom + rangeSize * length (sequencesFrom rows 0 none) + entrySize
+          ≤ rowRoom * length rows + entrySize
       store-small =
           let a = rows-counted .all in
           let b = rows-converted .more in
           let f = sequences-few in
           omega arith
 
-      pub store-room : c .lines + rowRoom * rowsOf main c + entrySize ≤ length w₁ → c .lines + st .count * rowRoom + rangeSize * length (sequencesFrom (rowsFrom main (c .unit .place + 21)) 0 none) + entrySize ≤ length w₁
+      pub store-room : c .lines + rowRoom * length rows + entrySize ≤ length w₁ → c .lines + st .count * rowRoom + rangeSize * length (sequencesFrom rows 0 none) + entrySize ≤ length w₁
       store-room h = let a = store-small in omega arith
 
-      module _ {w₂ : List ℕ} {l : StoredLines} (S : StoresLines main w₁ w₂ (c .unit .place + 21) (c .offsets) (c .«offset_count») (c .lines) (st .count) l) where
+      module _ {w₂ : List ℕ} {l : StoredLines} (S : StoresLines rows w₁ w₂ (c .offsets) (c .«offset_count») (c .lines) (st .count) l) where
         table-below : st .table .base + extent (st .table) ≤ c .lines
         table-below =
             let H = rows-converted .holds in
@@ -166,7 +162,7 @@ module _ {main supplementary w : List ℕ} {c : Conversion} {t : StoredFiles} {w
         sequences-same : map (withOffset (offsetsOf w c)) (rows-counted .run .sequences) ≡ rangesOf w₂ (l .sequences) (l .«sequence_count»)
         sequences-same =
             ap (map (withOffset (offsetsOf w c))) (rows-counted .sequences)
-            ∙ ap (λ (o : List ℕ). map (withOffset o) (sequencesFrom (rowsFrom main (c .unit .place + 21)) 0 none))
+            ∙ ap (λ (o : List ℕ). map (withOffset o) (sequencesFrom rows 0 none))
             (sym (offsets-kept C (n * lineSize) (R .rest)))
             ∙ sym (S .ranges)
 
@@ -184,7 +180,7 @@ module _ {main supplementary w : List ℕ} {c : Conversion} {t : StoredFiles} {w
             }))
 
         pub finishes-done : {warnings : List ℕ} → Put warned (warningsBytes (mismatch m (c .«offset_count»))) warnings warnings₁ noted → length w₂ ≡ length w₁
-            → FinishesLines main supplementary w w₂ files files₁ warnings warnings₂ c t warned (CollectedLines.Lines l (c .indices) (st .table) (st .warned))
+            → FinishesLines rows main supplementary w w₂ files files₁ warnings warnings₂ c t warned (CollectedLines.Lines l (c .indices) (st .table) (st .warned))
         finishes-done W size =
             let small = store-small in
             let b = S .within in

@@ -11,8 +11,9 @@ use Rattle.tlv.specs.declared.access.Place.{Place}
 use Rattle.tlv.specs.Bytes.{leAt}
 use Rattle.tlv.specs.Lists.{at, mapOption}
 use Rattle.tlv.specs.Fields.{payloadOf, fields}
+use Rattle.tlv.specs.Grammar.{encodingTag}
 use Rattle.tlv.specs.Places.{unitHere, ownFields}
-use Rattle.tlv.specs.Model.{headerOf, units}
+use Rattle.tlv.specs.Model.{headerOf, encodingOf, units}
 use Rattle.tlv.specs.Cursor.{stepAt}
 use Rattle.tlv.specs.Checked.{Placed}
 use Rattle.tlv.specs.Access.{NextOwn}
@@ -22,7 +23,7 @@ use Rattle.tlv.proofs.WidthLaws.{drop-part}
 use Rattle.tlv.proofs.PlacePromises.{placed-unit, placed-header}
 use Rattle.tlv.proofs.OwnLaws.{own-within, own-field}
 use Rattle.tlv.proofs.UnitPlaceLaws.{units-at}
-use Rattle.tlv.proofs.UnitFacts.{unit-placed, unit-header, unit-rows}
+use Rattle.tlv.proofs.UnitFacts.{unit-placed, unit-header, unit-encoding, unit-rows}
 use Rattle.lines.specs.declared.lines.Header.{Header}
 use Rattle.lines.specs.Scan.{headerWith}
 use Rattle.files.specs.Pieces.{headerHere, UnitPlaced}
@@ -63,6 +64,11 @@ module _ {s : List ℕ} {p : ℕ} (h : Placed s 0) (U : UnitIn s p) where
 pub rows-here : {s : List ℕ} {p : ℕ} → UnitPlaced s p → unitHere s p .rows ≡ rowsFrom s (p + 21)
 unfolding rowsFrom
 rows-here {s} {p} U = unit-rows s p (stepAt s p) 0x10 (p + 3) 18 (p + 21) refl (U .is)
+
+-- its encoding is the first field 1d behind its field
+pub encoding-here : {s : List ℕ} {p : ℕ} → UnitPlaced s p
+    → unitHere s p .encoding ≡ mapOption encodingOf (payloadOf encodingTag (ownFields (fields (drop (p + 21) s))))
+encoding-here {s} {p} U = unit-encoding s p (stepAt s p) 0x10 (p + 3) 18 (p + 21) refl (U .is)
 
 -- ---- its header
 

@@ -2,6 +2,7 @@ pub mod RunLaws
 pub mod PrefixLaws
 pub mod RowsFromLaws
 pub mod CountLaws
+pub mod SequencesList
 pub mod SequencesLaws
 pub mod FrameLaws
 pub mod HeaderPlaces
@@ -11,7 +12,13 @@ pub mod SoughtLaws
 pub mod LineLaws
 pub mod ConvertLaws
 pub mod ZeroRowLaws
+pub mod ConvertingList
 pub mod ConvertingLaws
+pub mod ProgramLaws
+pub mod ProgramCountLaws
+pub mod ProgramConvertLaws
+pub mod ProgramSequenceLaws
+pub mod SourceLaws
 pub mod FinishLaws
 pub mod CollectSteps
 pub mod CollectLaws

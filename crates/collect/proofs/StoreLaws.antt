@@ -7,6 +7,7 @@ use Prim.Native.Nat.{ℕ, _+_, _*_, _≤_}
 use native.Mathlib.Omega.{arith}
 use lib.ListN.{length, length-map}
 use Rattle.tlv.specs.Table.{Apart}
+use Rattle.tlv.specs.Model.{LineRow}
 use Rattle.tlv.proofs.TableLaws.{here, kept-wide, kept-trans}
 use Rattle.tlv.proofs.RecordLaws.{records-but}
 use Rattle.lines.specs.Lines.{sortRows, sameRow, dropNeighbours}
@@ -15,13 +16,13 @@ use Rattle.rows.specs.Stored.{linesOf, rangeOf, rangesOf}
 use Rattle.rows.specs.Sorts.{SortedRows, Deduped}
 use Rattle.rows.proofs.StoredLaws.{lines-kept, ranges-length, ranges-kept}
 use Rattle.rows.proofs.SortLaws.{sort-sorted, neighbours-sorted}
-use Rattle.collect.specs.Passes.{rowsFrom, sequencesFrom, offsetsAt, withOffset, SequencesIn}
+use Rattle.collect.specs.Passes.{sequencesFrom, offsetsAt, withOffset, SequencesIn}
 use Rattle.collect.specs.Stages.{StoresLines}
 use Rattle.collect.proofs.FrameLaws.{kept-one}
 
-module _ {main w w₁ : List ℕ} {p offsets n m : ℕ} (lines count : ℕ) (S : SequencesIn main w w₁ p offsets n (lines + count * lineSize) m) where
-  pub sequences-counted : m ≡ length (sequencesFrom (rowsFrom main p) 0 none)
-  sequences-counted = sym (ranges-length w₁ (lines + count * lineSize) m) ∙ ap length (S .is) ∙ length-map (sequencesFrom (rowsFrom main p) 0 none) (withOffset (offsetsAt w offsets n))
+module _ {rows : List LineRow} {w w₁ : List ℕ} {offsets n m : ℕ} (lines count : ℕ) (S : SequencesIn rows w w₁ offsets n (lines + count * lineSize) m) where
+  pub sequences-counted : m ≡ length (sequencesFrom rows 0 none)
+  sequences-counted = sym (ranges-length w₁ (lines + count * lineSize) m) ∙ ap length (S .is) ∙ length-map (sequencesFrom rows 0 none) (withOffset (offsetsAt w offsets n))
 
   pub buffer-apart : Apart lines (count * lineSize) (lines + count * lineSize + m * rangeSize) (count * lineSize)
   buffer-apart = inl (omega arith)
@@ -36,12 +37,12 @@ module _ {main w w₁ : List ℕ} {p offsets n m : ℕ} (lines count : ℕ) (S :
         ranges-kept (lines + count * lineSize) m (D .rest) (inr (omega arith))
         ∙ records-but rangeOf rangeSize (lines + count * lineSize) m (T .rest) (inr (omega arith), (inl (omega arith), tt))
 
-    pub stored-lines : lines + count * rowRoom + rangeSize * length (sequencesFrom (rowsFrom main p) 0 none) + entrySize ≤ length w → length w₃ ≡ length w
-        → StoresLines main w w₃ p offsets n lines count (record { lines = lines; «line_count» = r; sequences = lines + count * lineSize; «sequence_count» = m; buffer = lines + count * lineSize + m * rangeSize })
+    pub stored-lines : lines + count * rowRoom + rangeSize * length (sequencesFrom rows 0 none) + entrySize ≤ length w → length w₃ ≡ length w
+        → StoresLines rows w w₃ offsets n lines count (record { lines = lines; «line_count» = r; sequences = lines + count * lineSize; «sequence_count» = m; buffer = lines + count * lineSize + m * rangeSize })
     stored-lines room size =
         let k = sequences-counted in
         let few = D .within in
-        let all = count * rowRoom + rangeSize * length (sequencesFrom (rowsFrom main p) 0 none) + entrySize in
+        let all = count * rowRoom + rangeSize * length (sequencesFrom rows 0 none) + entrySize in
         record {
           from = refl;
           entries = entries-are;

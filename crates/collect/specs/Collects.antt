@@ -11,7 +11,8 @@ use Rattle.tlv.specs.Fields.{fields}
 use Rattle.tlv.specs.Table.{KeptBut}
 use Rattle.tlv.specs.Places.{unitHere, unitPlaces}
 use Rattle.tlv.specs.Output.{Warning, warningsBytes}
-use Rattle.lines.specs.Lines.{UnitLines, collectLines}
+use Rattle.lines.specs.Lines.{UnitLines}
+use Rattle.machine.specs.LineRows.{rowsMost, collectLines}
 use Rattle.rows.specs.declared.«unit_lines».StoredLines.{StoredLines}
 use Rattle.rows.specs.Sizes.{entrySize, lineSize, rowRoom}
 use Rattle.rows.specs.Stored.{linesOf, rangesOf}
@@ -39,7 +40,7 @@ linesIn w l is = record {
 unfoldable pub linesExtent : List ℕ → ℕ → List ℕ → ℕ
 linesExtent main p program =
     length program / 3 * 8 + 8 * length (unitHere main p .directories) + 5 * (1 + length (unitHere main p .files))
-    + rowRoom * length (unitHere main p .rows) + entrySize
+    + rowRoom * rowsMost (unitHere main p) program + entrySize
 
 -- the file table stands below the first free place, and the lines have room from there on
 pub record LinesRoom (main w program : List ℕ) (t : StoredFiles) (p free : ℕ) : Type 0 where

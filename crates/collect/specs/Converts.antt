@@ -13,7 +13,7 @@ use Rattle.tlv.specs.Outcome.{refused, done}
 use Rattle.tlv.specs.Buffer.{Put}
 use Rattle.tlv.specs.Table.{Kept, KeptBut}
 use Rattle.tlv.specs.Access.{NextOwn}
-use Rattle.tlv.specs.Model.{CompilationUnit, LineHeader, HeaderFile}
+use Rattle.tlv.specs.Model.{CompilationUnit, LineHeader, HeaderFile, LineRow}
 use Rattle.tlv.specs.Places.{unitHere}
 use Rattle.tlv.specs.Output.{Warning, warningsBytes}
 use Rattle.lines.specs.Paths.{fileEntry}
@@ -30,7 +30,7 @@ use Rattle.collect.specs.declared.convert.Converting.{Converting}
 use Rattle.collect.specs.declared.convert.ConvertedRow.{ConvertedRow}
 use Rattle.collect.specs.declared.convert.Row.{Row}
 use Rattle.collect.specs.declared.convert.SoughtFile.{SoughtFile}
-use Rattle.collect.specs.Passes.{rowsFrom, offsetsAt, convertFrom}
+use Rattle.collect.specs.Passes.{offsetsAt, convertFrom}
 
 abbrev pub unitAt : List ℕ → Conversion → CompilationUnit
 unitAt main c = unitHere main (c .unit .place)
@@ -70,7 +70,7 @@ pub record ConversionIn (main supplementary w : List ℕ) (c : Conversion) (st :
   pub indices : c .indices .base + c .indices .count * 5 ≤ c .lines
   pub lines : c .lines + st .count * lineSize ≤ length w
 
--- a row of the sheet, with the number of its sequence
+-- a row with the number of its sequence
 abbrev pub rawOf : Row → RawLine
 rawOf r = record { address = r .address; file = r .file .0; line = r .line; column = r .column; sequence = r .sequence }
 
@@ -141,23 +141,27 @@ pub record RowConverts (main supplementary w w′ files files′ warnings warnin
   pub rest : KeptBut w w′ ((st .table .base, extent (st .table)) ∷ (c .indices .base, c .indices .count * 5)
       ∷ (c .lines + st .count * lineSize, lineSize) ∷ [])
 
--- the same of `left` rows of the unit, from its first on
-pub record RowsConverted (main supplementary w w′ files files′ warnings warnings′ : List ℕ) (c : Conversion) (st : Converting) (left : ℕ) (st′ : Converting) : Type 0 where
+-- the same of `left` of the unit's rows, from the first on
+pub record RowsConverted (rows : List LineRow) (main supplementary w w′ files files′ warnings warnings′ : List ℕ) (c : Conversion) (st : Converting)
+    (left : ℕ) (st′ : Converting) : Type 0 where
   pub new : List Warning
-  pub is : convertFrom (unitAt main c) (headerIn main c) (offsetsOf w c) (rowsFrom main (c .unit .place + 21)) 0 left (convertedIn main supplementary w c st []) ≡ done (convertedIn main supplementary w′ c st′ new)
+  pub is : convertFrom (unitAt main c) (headerIn main c) (offsetsOf w c) rows 0 left (convertedIn main supplementary w c st [])
+      ≡ done (convertedIn main supplementary w′ c st′ new)
   pub grown : Grown main supplementary w w′ files files′ (st .table) (st′ .table)
   pub put : Put (st .warned) (warningsBytes new) warnings warnings′ (st′ .warned)
   pub holds : ConversionIn main supplementary w′ c st′
   pub more : st′ .count ≤ st .count + left
 
-abbrev pub ConvertsRows : List ℕ → List ℕ → List ℕ → List ℕ → List ℕ → List ℕ → List ℕ → List ℕ → Conversion → Converting → ℕ → ConvertedRow → Type 0
-ConvertsRows main supplementary w w′ files files′ warnings warnings′ c st left (ConvertedRow.Refused n) =
-    convertFrom (unitAt main c) (headerIn main c) (offsetsOf w c) (rowsFrom main (c .unit .place + 21)) 0 left (convertedIn main supplementary w c st []) ≡ refused n
-ConvertsRows main supplementary w w′ files files′ warnings warnings′ c st left (ConvertedRow.Next st′) =
-    RowsConverted main supplementary w w′ files files′ warnings warnings′ c st left st′
+abbrev pub ConvertsRows : List LineRow → List ℕ → List ℕ → List ℕ → List ℕ → List ℕ → List ℕ → List ℕ → List ℕ → Conversion → Converting → ℕ → ConvertedRow
+    → Type 0
+ConvertsRows rows main supplementary w w′ files files′ warnings warnings′ c st left (ConvertedRow.Refused n) =
+    convertFrom (unitAt main c) (headerIn main c) (offsetsOf w c) rows 0 left (convertedIn main supplementary w c st []) ≡ refused n
+ConvertsRows rows main supplementary w w′ files files′ warnings warnings′ c st left (ConvertedRow.Next st′) =
+    RowsConverted rows main supplementary w w′ files files′ warnings warnings′ c st left st′
 
 -- a refusal too keeps what lies outside the file table, the unit's map and the places of the next lines
-pub record RowsConvert (main supplementary w w′ files files′ warnings warnings′ : List ℕ) (c : Conversion) (st : Converting) (left : ℕ) (r : ConvertedRow) : Type 0 where
-  pub is : ConvertsRows main supplementary w w′ files files′ warnings warnings′ c st left r
+pub record RowsConvert (rows : List LineRow) (main supplementary w w′ files files′ warnings warnings′ : List ℕ) (c : Conversion) (st : Converting) (left : ℕ)
+    (r : ConvertedRow) : Type 0 where
+  pub is : ConvertsRows rows main supplementary w w′ files files′ warnings warnings′ c st left r
   pub rest : KeptBut w w′ ((st .table .base, extent (st .table)) ∷ (c .indices .base, c .indices .count * 5)
       ∷ (c .lines + st .count * lineSize, left * lineSize) ∷ [])

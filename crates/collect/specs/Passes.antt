@@ -18,7 +18,7 @@ use Rattle.rows.specs.Sizes.{rangeSize}
 use Rattle.rows.specs.Stored.{rangeAt, rangesOf}
 use Rattle.collect.specs.declared.passes.CountedRows.{CountedRows}
 
--- the rows of the unit whose fields follow place p
+-- the row fields of the unit whose fields follow place p
 unfoldable pub rowsFrom : List ℕ → ℕ → List LineRow
 rowsFrom s p = map rowOf (payloads 0x16 (ownFields (fields (drop p s))))
 
@@ -34,8 +34,19 @@ countRows (r ∷ rs) lines opened n =
     (cond (eqb (r .kind) 1) (countRows rs (lines + opened) 0 (n + 1))
     (countRows rs lines (opened + 1) n))
 
+abbrev pub countFrom : ℕ → ℕ → ℕ → List LineRow → Outcome Counted
+countFrom lines opened n rows = countRows rows lines opened n
+
+-- rows that may be refused
+abbrev pub countAll : Outcome (List LineRow) → Outcome Counted
+countAll x = x >>= countFrom 0 0 0
+
+-- there are so many rows in finished sequences, and so many of these
+pub record RowsCounted (rows : List LineRow) (n m : ℕ) : Type 0 where
+  pub is : countRows rows 0 0 0 ≡ done (record { lines = n; sequences = m })
+
 abbrev pub countedOf : CountedRows → Outcome Counted
-countedOf CountedRows.Failed = refused 6
+countedOf (CountedRows.Fault n) = refused n
 countedOf (CountedRows.Rows lines sequences) = done (record { lines = lines; sequences = sequences })
 
 abbrev pub startOr : Option ℕ → ℕ → ℕ
@@ -65,9 +76,9 @@ pub record SequencePut (w w′ : List ℕ) (p offsets n : ℕ) (q : RawSequence)
   pub is : rangeAt w′ p ≡ withOffset (offsetsAt w offsets n) q
   pub rest : Kept w w′ p rangeSize
 
--- the unit's sequences were written at base
-pub record SequencesIn (s w w′ : List ℕ) (p offsets n base r : ℕ) : Type 0 where
-  pub is : rangesOf w′ base r ≡ map (withOffset (offsetsAt w offsets n)) (sequencesFrom (rowsFrom s p) 0 none)
+-- the sequences of rows were written at base
+pub record SequencesIn (rows : List LineRow) (w w′ : List ℕ) (offsets n base r : ℕ) : Type 0 where
+  pub is : rangesOf w′ base r ≡ map (withOffset (offsetsAt w offsets n)) (sequencesFrom rows 0 none)
   pub rest : Kept w w′ base (r * rangeSize)
 
 -- `left` rows from here on, each by convertRow

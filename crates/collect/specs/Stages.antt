@@ -10,12 +10,13 @@ use Rattle.tlv.specs.Buffer.{Put}
 use Rattle.tlv.specs.Table.{Kept, KeptBut}
 use Rattle.tlv.specs.Checked.{Placed}
 use Rattle.tlv.specs.Access.{NextOwn}
-use Rattle.tlv.specs.Model.{CompilationUnit, LineHeader, headerOf}
+use Rattle.tlv.specs.Model.{CompilationUnit, LineHeader, LineRow, headerOf}
 use Rattle.tlv.specs.Places.{unitHere}
 use Rattle.tlv.specs.Output.{Warning, warningsBytes}
 use Rattle.lines.specs.declared.lines.Header.{Header}
 use Rattle.lines.specs.Files.{FileTable, FileIndices, Indexed, internHeaderFiles}
 use Rattle.lines.specs.Lines.{Run, runRows, convertRows, sortRows, sameRow, dropNeighbours, Collected, mismatch, unitLines}
+use Rattle.machine.specs.LineRows.{lineRows}
 use Rattle.rows.specs.declared.«unit_lines».StoredLines.{StoredLines}
 use Rattle.rows.specs.Sizes.{entrySize, lineSize, rangeSize, rowRoom}
 use Rattle.rows.specs.Stored.{linesOf, rangesOf}
@@ -29,7 +30,9 @@ use Rattle.files.specs.Indices.{indicesIn}
 use Rattle.collect.specs.declared.collect.CollectedLines.{CollectedLines}
 use Rattle.collect.specs.declared.collect.InternedUnit.{InternedUnit}
 use Rattle.collect.specs.declared.convert.Conversion.{Conversion}
-use Rattle.collect.specs.Passes.{rowsFrom, countRows, sequencesFrom, offsetsAt, withOffset}
+use Rattle.collect.specs.declared.source.RowSource.{RowSource}
+use Rattle.collect.specs.Passes.{RowsCounted, sequencesFrom, offsetsAt, withOffset}
+use Rattle.collect.specs.Sources.{sourceRows, sourceList, SourceReady}
 use Rattle.collect.specs.Converts.{unitAt, headerIn, offsetsOf}
 use Rattle.collect.specs.Collects.{UnitIn, LinesRoom, linesIn}
 
@@ -50,11 +53,13 @@ pub record HeaderIn (s : List ℕ) (p start len : ℕ) : Type 0 where
   pub within : start + len ≤ length s
 
 -- a unit with a header, whose rows were counted, the file table, and room for the unit's lines
-pub record UnitCounted (main supplementary program w : List ℕ) (t : StoredFiles) (p start len n m free : ℕ) : Type 0 where
+pub record UnitCounted (main supplementary program w : List ℕ) (t : StoredFiles) (p start len : ℕ) (source : RowSource) (n m free : ℕ) : Type 0 where
   pub placed : Placed main 0
   pub unit : UnitIn main p
   pub header : HeaderIn main p start len
-  pub counted : countRows (rowsFrom main (p + 21)) 0 0 0 ≡ done (record { lines = n; sequences = m })
+  pub source-is : sourceRows main program (p + 21) source ≡ lineRows (unitHere main p) (headerHere main p) program
+  pub ready : SourceReady main program (p + 21) source
+  pub counted : RowsCounted (sourceList main program (p + 21) source) n m
   pub files : FilesIn main supplementary w t
   pub room : LinesRoom main w program t p free
 
@@ -99,16 +104,16 @@ pub record ConversionOf (main : List ℕ) (unit : FileUnit) (indices : StoredInd
   pub is : r ≡ record { unit = unit; zero = r .zero; indices = indices; offsets = offsets; «offset_count» = count; lines = indices .base + indices .count * 5 }
   pub zero : NextOwn main (unit .place + 21) 0x1c (r .zero)
 
--- the sequences of the unit whose fields follow place p were written behind its `count` lines, and these sorted and freed of equal neighbours
-pub record StoresLines (main w w′ : List ℕ) (p offsets n lines count : ℕ) (r : StoredLines) : Type 0 where
+-- the sequences of a unit's rows were written behind its `count` lines, and these sorted and freed of equal neighbours
+pub record StoresLines (given : List LineRow) (w w′ : List ℕ) (offsets n lines count : ℕ) (r : StoredLines) : Type 0 where
   pub from : r .lines ≡ lines
   pub entries : linesOf w′ (r .lines) (r .«line_count») ≡ dropNeighbours sameRow (sortRows (linesOf w lines count))
-  pub ranges : rangesOf w′ (r .sequences) (r .«sequence_count») ≡ map (withOffset (offsetsAt w offsets n)) (sequencesFrom (rowsFrom main p) 0 none)
+  pub ranges : rangesOf w′ (r .sequences) (r .«sequence_count») ≡ map (withOffset (offsetsAt w offsets n)) (sequencesFrom given 0 none)
   pub rows : RowsIn w′ r
   pub sequences : r .lines + r .«line_count» * lineSize ≤ r .sequences
   pub within : r .buffer + entrySize + r .«line_count» * entrySize
-      ≤ lines + count * rowRoom + rangeSize * length (sequencesFrom (rowsFrom main p) 0 none) + entrySize
-  pub rest : Kept w w′ lines (count * rowRoom + rangeSize * length (sequencesFrom (rowsFrom main p) 0 none) + entrySize)
+      ≤ lines + count * rowRoom + rangeSize * length (sequencesFrom given 0 none) + entrySize
+  pub rest : Kept w w′ lines (count * rowRoom + rangeSize * length (sequencesFrom given 0 none) + entrySize)
 
 -- what collectHeader makes of a run, with the sequences' offsets, the file table and the unit's map
 abbrev pub finishRun : CompilationUnit → LineHeader → List ℕ → FileTable → FileIndices → Run → Outcome Collected
@@ -116,17 +121,13 @@ finishRun u h offsets table indices run =
     convertRows u h offsets (run .lines) (record { table = table; indices = indices; lines = []; warnings = mismatch (run .count) (length offsets) }) >>= λ c.
     done (record { table = c .table; lines = unitLines offsets run c; warnings = c .warnings })
 
--- the rows of a conversion's unit
-abbrev pub rowsOf : List ℕ → Conversion → ℕ
-rowsOf main c = length (rowsFrom main (c .unit .place + 21))
-
 abbrev pub finishFrom : List ℕ → List ℕ → List ℕ → Conversion → StoredFiles → Run → Outcome Collected
 finishFrom main supplementary w c t = finishRun (unitAt main c) (headerIn main c) (offsetsOf w c) (tableOf main supplementary w t) (indicesIn w (c .indices))
 
-pub record Finished (main supplementary w w′ files files′ warnings warnings′ : List ℕ) (c : Conversion) (t : StoredFiles) (warned : ℕ)
+pub record Finished (given : List LineRow) (main supplementary w w′ files files′ warnings warnings′ : List ℕ) (c : Conversion) (t : StoredFiles) (warned : ℕ)
     (l : StoredLines) (is : StoredIndices) (t′ : StoredFiles) (warned′ : ℕ) : Type 0 where
   pub new : List Warning
-  pub finished : (run : Run) → runRows (rowsFrom main (c .unit .place + 21)) 0 [] ≡ done run
+  pub finished : (run : Run) → runRows given 0 [] ≡ done run
       → finishFrom main supplementary w c t run ≡ done (record { table = tableOf main supplementary w′ t′; lines = linesIn w′ l is; warnings = new })
   pub grown : Grown main supplementary w w′ files files′ t t′
   pub put : Put warned (warningsBytes new) warnings warnings′ warned′
@@ -134,15 +135,16 @@ pub record Finished (main supplementary w w′ files files′ warnings warnings�
   pub map : is ≡ c .indices
   pub from : l .lines ≡ c .lines
   pub sequences : l .lines + l .«line_count» * lineSize ≤ l .sequences
-  pub within : l .buffer + entrySize + l .«line_count» * entrySize ≤ c .lines + rowRoom * rowsOf main c + entrySize
+  pub within : l .buffer + entrySize + l .«line_count» * entrySize ≤ c .lines + rowRoom * length given + entrySize
 
-abbrev pub FinishesBy : List ℕ → List ℕ → List ℕ → List ℕ → List ℕ → List ℕ → List ℕ → List ℕ → Conversion → StoredFiles → ℕ → CollectedLines → Type 0
-FinishesBy main supplementary w w′ files files′ warnings warnings′ c t warned (CollectedLines.Refused n) =
-    (run : Run) → runRows (rowsFrom main (c .unit .place + 21)) 0 [] ≡ done run → finishFrom main supplementary w c t run ≡ refused n
-FinishesBy main supplementary w w′ files files′ warnings warnings′ c t warned (CollectedLines.Lines l is t′ warned′) =
-    Finished main supplementary w w′ files files′ warnings warnings′ c t warned l is t′ warned′
+abbrev pub FinishesBy : List LineRow → List ℕ → List ℕ → List ℕ → List ℕ → List ℕ → List ℕ → List ℕ → List ℕ → Conversion → StoredFiles → ℕ → CollectedLines → Type 0
+FinishesBy given main supplementary w w′ files files′ warnings warnings′ c t warned (CollectedLines.Refused n) =
+    (run : Run) → runRows given 0 [] ≡ done run → finishFrom main supplementary w c t run ≡ refused n
+FinishesBy given main supplementary w w′ files files′ warnings warnings′ c t warned (CollectedLines.Lines l is t′ warned′) =
+    Finished given main supplementary w w′ files files′ warnings warnings′ c t warned l is t′ warned′
 
 -- the unit's rows were converted, and its lines and sequences stored; a refusal too keeps what lies outside the file table, the unit's map and the room behind it
-pub record FinishesLines (main supplementary w w′ files files′ warnings warnings′ : List ℕ) (c : Conversion) (t : StoredFiles) (warned : ℕ) (r : CollectedLines) : Type 0 where
-  pub is : FinishesBy main supplementary w w′ files files′ warnings warnings′ c t warned r
-  pub rest : KeptBut w w′ ((t .base, extent t) ∷ (c .indices .base, c .indices .count * 5) ∷ (c .lines, rowRoom * rowsOf main c + entrySize) ∷ [])
+pub record FinishesLines (given : List LineRow) (main supplementary w w′ files files′ warnings warnings′ : List ℕ) (c : Conversion) (t : StoredFiles)
+    (warned : ℕ) (r : CollectedLines) : Type 0 where
+  pub is : FinishesBy given main supplementary w w′ files files′ warnings warnings′ c t warned r
+  pub rest : KeptBut w w′ ((t .base, extent t) ∷ (c .indices .base, c .indices .count * 5) ∷ (c .lines, rowRoom * length given + entrySize) ∷ [])

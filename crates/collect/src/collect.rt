@@ -1,9 +1,7 @@
-// The lines of a unit (the Rust's collect_lines): failed rows before program faults before file paths.
-ghost use mathlib.Core.Path.{_≡_};
+// The lines of a unit (the Rust's collect_lines): failed rows, or the faults of a program that gives rows, before those of the scan before file paths.
 ghost use mathlib.Core.Option.{none};
 ghost use Prim.Native.Nat.{_+_, _*_, _/_, _≤_};
 ghost use lib.ListN.{length, take, drop};
-ghost use Rattle.tlv.specs.Outcome.{done};
 ghost use Rattle.tlv.specs.Checked.{Placed};
 ghost use Rattle.tlv.specs.Places.{unitHere};
 ghost use Rattle.tlv.specs.Model.{headerOf};
@@ -15,7 +13,8 @@ ghost use Rattle.lines.specs.Lines.{mismatch};
 ghost use Rattle.files.specs.Pieces.{headerHere, UnitPlaced};
 ghost use Rattle.files.specs.Store.{FilesIn};
 ghost use Rattle.files.specs.Interns.{Listed};
-ghost use Rattle.collect.specs.Passes.{rowsFrom, countRows, sequencesFrom};
+ghost use Rattle.collect.specs.Passes.{RowsCounted, sequencesFrom};
+ghost use Rattle.collect.specs.Sources.{sourceList, SourceReady};
 ghost use Rattle.collect.specs.Converts.{ConversionIn};
 ghost use Rattle.collect.specs.Stages.{HeaderRead, UnitCounted, UnitRoom, InternsUnit, ConversionOf, StoresLines, FinishesLines};
 ghost use Rattle.collect.specs.Collects.{UnitIn, LinesRoom, CollectsLines};
@@ -23,10 +22,12 @@ ghost use Rattle.rows.specs.Sizes.{entrySize, rangeSize, rowRoom};
 use crate::convert::Conversion;
 use crate::convert::ConvertedRow;
 use crate::convert::Converting;
-use crate::convert::convert_rows;
 use crate::passes::CountedRows;
-use crate::passes::collect_sequences;
-use crate::passes::count_rows;
+use crate::source::RowSource;
+use crate::source::collect_unit_sequences;
+use crate::source::convert_unit_rows;
+use crate::source::count_unit_rows;
+use crate::source::row_source;
 use files::index::StoredIndices;
 use files::intern::InternedFiles;
 use files::pieces::FileUnit;
@@ -172,20 +173,33 @@ fn warn_mismatch(warnings: &mut [u8], warned: usize, sequences: usize, offsets: 
 // Writes the unit's sequences behind its lines, sorts these and drops equal neighbours.
 fn store_lines(
     main: &[u8],
+    program: &[u8],
     p: usize,
+    source: RowSource,
     work: &mut [u8],
     offsets: usize,
     n: usize,
     lines: usize,
     count: usize,
 ) -> StoredLines
-    requires { ⌜ Placed (now main) p ⌝ }
+    requires { ⌜ SourceReady (now main) (now program) p source ⌝ }
     requires { ⌜ offsets + n * 8 ≤ lines ⌝ }
-    requires { ⌜ lines + count * rowRoom + rangeSize * length (sequencesFrom (rowsFrom (now main) p) 0 none) + entrySize ≤ length (now work) ⌝ }
-    ensures { λ r. ⌜ StoresLines (now (main .entry)) (now (work .entry)) (now (work .exit)) p offsets n lines count r ⌝ }
+    requires { ⌜ lines + count * rowRoom + rangeSize * length (sequencesFrom
+        (sourceList (now main) (now program) p source) 0 none) + entrySize ≤ length (now work) ⌝ }
+    ensures { λ r. ⌜ StoresLines (sourceList (now (main .entry)) (now (program .entry)) p source) (now (work .entry))
+        (now (work .exit)) offsets n lines count r ⌝ }
 {
     let sequences = lines + count * LINE_SIZE;
-    let sequence_count = collect_sequences(main, p, work, offsets, n, sequences);
+    let sequence_count = collect_unit_sequences(
+        main,
+        program,
+        p,
+        source,
+        work,
+        offsets,
+        n,
+        sequences,
+    );
     let buffer = sequences + sequence_count * RANGE_SIZE;
     rows::sort::sort_rows(work, lines, buffer, count);
     let line_count = rows::normalize::dedup_rows(work, lines, count);
@@ -202,6 +216,8 @@ fn store_lines(
 fn finish_lines(
     main: &[u8],
     supplementary: &[u8],
+    program: &[u8],
+    source: RowSource,
     c: Conversion,
     n: usize,
     m: usize,
@@ -212,9 +228,12 @@ fn finish_lines(
     warned: usize,
 ) -> CollectedLines
     requires { ⌜ ConversionIn (now main) (now supplementary) (now work) c (record { table = t; count = 0; warned = warned }) ⌝ }
-    requires { ⌜ countRows (rowsFrom (now main) (c .unit .place + 21)) 0 0 0 ≡ done (record { lines = n; sequences = m }) ⌝ }
-    requires { ⌜ c .lines + rowRoom * length (rowsFrom (now main) (c .unit .place + 21)) + entrySize ≤ length (now work) ⌝ }
-    ensures { λ r. ⌜ FinishesLines (now (main .entry)) (now (supplementary .entry)) (now (work .entry)) (now (work .exit)) (now (files .entry)) (now (files .exit)) (now (warnings .entry)) (now (warnings .exit)) c t warned r ⌝ }
+    requires { ⌜ SourceReady (now main) (now program) (c .unit .place + 21) source ⌝ }
+    requires { ⌜ RowsCounted (sourceList (now main) (now program) (c .unit .place + 21) source) n m ⌝ }
+    requires { ⌜ c .lines + rowRoom * length (sourceList (now main) (now program) (c .unit .place + 21) source) + entrySize ≤ length (now work) ⌝ }
+    ensures { λ r. ⌜ FinishesLines (sourceList (now (main .entry)) (now (program .entry)) (c .unit .place + 21) source) (now (main .entry))
+        (now (supplementary .entry)) (now (work .entry)) (now (work .exit)) (now (files .entry)) (now (files .exit)) (now (warnings .entry))
+        (now (warnings .exit)) c t warned r ⌝ }
 {
     let noted = warn_mismatch(warnings, warned, m, c.offset_count);
     let begun = Converting {
@@ -222,13 +241,34 @@ fn finish_lines(
         count: 0,
         warned: noted,
     };
-    match convert_rows(main, supplementary, c, n, work, files, warnings, begun) {
+    match convert_unit_rows(
+        main,
+        supplementary,
+        program,
+        source,
+        c,
+        n,
+        work,
+        files,
+        warnings,
+        begun,
+    ) {
         ConvertedRow::Refused(r) => {
             return CollectedLines::Refused(r);
         }
         ConvertedRow::Next(st) => {
             let p = c.unit.place + 21;
-            let stored = store_lines(main, p, work, c.offsets, c.offset_count, c.lines, st.count);
+            let stored = store_lines(
+                main,
+                program,
+                p,
+                source,
+                work,
+                c.offsets,
+                c.offset_count,
+                c.lines,
+                st.count,
+            );
             let indices = c.indices;
             let table = st.table;
             return CollectedLines::Lines {
@@ -249,6 +289,7 @@ fn collect_counted(
     place: usize,
     start: usize,
     len: usize,
+    source: RowSource,
     n: usize,
     m: usize,
     work: &mut [u8],
@@ -258,7 +299,7 @@ fn collect_counted(
     warned: usize,
     free: usize,
 ) -> CollectedLines
-    requires { ⌜ UnitCounted (now main) (now supplementary) (now program) (now work) t place start len n m free ⌝ }
+    requires { ⌜ UnitCounted (now main) (now supplementary) (now program) (now work) t place start len source n m free ⌝ }
     ensures { λ r. ⌜ CollectsLines (now (main .entry)) (now (supplementary .entry)) (now (program .entry)) (now (work .entry)) (now (work .exit)) (now (files .entry)) (now (files .exit)) (now (warnings .entry)) (now (warnings .exit)) place t warned free r ⌝ }
 {
     match scan_program(main, program, start, len, work, free) {
@@ -279,6 +320,8 @@ fn collect_counted(
                     return finish_lines(
                         main,
                         supplementary,
+                        program,
+                        source,
                         c,
                         n,
                         m,
@@ -337,9 +380,10 @@ pub fn collect_lines(
             len,
             next: _,
         } => {
-            match count_rows(main, p) {
-                CountedRows::Failed => {
-                    return CollectedLines::Refused(6);
+            let source = row_source(main, p, start, len);
+            match count_unit_rows(main, program, p, source) {
+                CountedRows::Fault(fault) => {
+                    return CollectedLines::Refused(fault);
                 }
                 CountedRows::Rows {
                     lines: n,
@@ -352,6 +396,7 @@ pub fn collect_lines(
                         place,
                         start,
                         len,
+                        source,
                         n,
                         m,
                         work,

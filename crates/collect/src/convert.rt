@@ -1,4 +1,4 @@
-// Rows of the sheet become lines of the unit: the file of each is found or interned; a row that has none, or too large a line, gives a warning.
+// Rows become lines of the unit: the file of each is found or interned; a row that has none, or too large a line, gives a warning.
 ghost use mathlib.Core.Path.{_≡_};
 ghost use mathlib.Core.Option.{none};
 ghost use Prim.Native.Nat.{_+_, _*_, _≤_, _<_};
@@ -9,7 +9,9 @@ ghost use Rattle.tlv.specs.Table.{chunk};
 ghost use Rattle.lines.specs.Files.{get};
 ghost use Rattle.lines.specs.Lines.{rawLine};
 ghost use Rattle.files.specs.Indices.{indicesIn};
-ghost use Rattle.collect.specs.Converts.{ConversionIn, rawOf, zeroOf, listedOf, soughtOf, LineAppended, LineConverted, ConvertsKnown, RowConverts, RowsConvert};
+ghost use Rattle.collect.specs.Passes.{rowsFrom};
+ghost use Rattle.collect.specs.Converts.{ConversionIn, rawOf, zeroOf, listedOf, soughtOf, LineAppended};
+ghost use Rattle.collect.specs.Converts.{LineConverted, ConvertsKnown, RowConverts, RowsConvert};
 ghost use Rattle.rows.specs.Sizes.{lineSize};
 use files::index::FileNumber;
 use files::index::FoundIndex;
@@ -42,7 +44,7 @@ pub struct Converting {
     pub warned: usize,
 }
 
-// A row of the sheet, with the number of its sequence.
+// A row with the number of its sequence.
 pub struct Row {
     pub address: u64,
     pub file: FileNumber,
@@ -308,7 +310,7 @@ fn convert_known(c: Conversion, row: Row, work: &mut [u8], count: usize) -> bool
     false
 }
 
-// Converts `left` rows of the unit, from its first on.
+// Converts `left` row fields of the unit, from its first on.
 pub fn convert_rows(
     main: &[u8],
     supplementary: &[u8],
@@ -321,7 +323,8 @@ pub fn convert_rows(
 ) -> ConvertedRow
     requires { ⌜ ConversionIn (now main) (now supplementary) (now work) c st ⌝ }
     requires { ⌜ c .lines + st .count * lineSize + left * lineSize ≤ length (now work) ⌝ }
-    ensures { λ r. ⌜ RowsConvert (now (main .entry)) (now (supplementary .entry)) (now (work .entry)) (now (work .exit)) (now (files .entry)) (now (files .exit)) (now (warnings .entry)) (now (warnings .exit)) c st left r ⌝ }
+    ensures { λ r. ⌜ RowsConvert (rowsFrom (now (main .entry)) (c .unit .place + 21)) (now (main .entry)) (now (supplementary .entry))
+        (now (work .entry)) (now (work .exit)) (now (files .entry)) (now (files .exit)) (now (warnings .entry)) (now (warnings .exit)) c st left r ⌝ }
 {
     let unit = c.unit;
     let mut at = unit.place + 21;

@@ -2,3 +2,5 @@
 pub mod collect;
 pub mod convert;
 pub mod passes;
+pub mod program;
+pub mod source;

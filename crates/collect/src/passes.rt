@@ -1,4 +1,4 @@
-// The walks over a unit's rows.
+// The walks over a unit's row fields.
 ghost use mathlib.Core.Path.{_≡_};
 ghost use mathlib.Core.Option.{none};
 ghost use Prim.Native.Nat.{_+_, _*_, _≤_};
@@ -12,13 +12,16 @@ use rows::line::RANGE_SIZE;
 use tlv::access::Own;
 use tlv::grammar::ROW_KIND;
 
-// How many rows stand in finished sequences, and how many sequences are finished; or that a row could not be read.
+// The refusal of a row that could not be read.
+const FAILED_ROW: u8 = 6;
+
+// How many rows stand in finished sequences, and how many sequences are finished; or the fault: 6 of a row that could not be read, or a program's.
 pub enum CountedRows {
-    Failed,
+    Fault(u8),
     Rows { lines: usize, sequences: usize },
 }
 
-// Counts the rows of the unit whose fields follow place p.
+// Counts the row fields of the unit whose fields follow place p.
 pub fn count_rows(s: &[u8], p: usize) -> CountedRows
     requires { ⌜ Placed (now s) p ⌝ }
     ensures { λ r. ⌜ countedOf r ≡ countRows (rowsFrom (now (s .entry)) p) 0 0 0 ⌝ }
@@ -42,7 +45,7 @@ pub fn count_rows(s: &[u8], p: usize) -> CountedRows
             } => {
                 let kind = tlv::bytes::read_u8(s, start + ROW_KIND);
                 if kind == 2 {
-                    return CountedRows::Failed;
+                    return CountedRows::Fault(FAILED_ROW);
                 }
                 if kind == 1 {
                     lines += opened;
@@ -75,7 +78,7 @@ pub fn sequence_offset(
 }
 
 // Writes at p the record of the sequence of a number, with its offset.
-fn put_sequence_record(
+pub fn put_sequence_record(
     work: &mut [u8],
     offsets: usize,
     n: usize,
@@ -96,7 +99,7 @@ fn put_sequence_record(
     rows::line::put_sequence_range(work, p, range, offset);
 }
 
-// Writes a record for each sequence of the unit whose fields follow place p, and returns their number.
+// Writes a record for each sequence of the row fields of the unit whose fields follow place p, and returns their number.
 pub fn collect_sequences(
     s: &[u8],
     p: usize,
@@ -108,7 +111,7 @@ pub fn collect_sequences(
     requires { ⌜ Placed (now s) p ⌝ }
     requires { ⌜ offsets + n * 8 ≤ base ⌝ }
     requires { ⌜ base + rangeSize * length (sequencesFrom (rowsFrom (now s) p) 0 none) ≤ length (now work) ⌝ }
-    ensures { λ r. ⌜ SequencesIn (now (s .entry)) (now (work .entry)) (now (work .exit)) p offsets n base r ⌝ }
+    ensures { λ r. ⌜ SequencesIn (rowsFrom (now (s .entry)) p) (now (work .entry)) (now (work .exit)) offsets n base r ⌝ }
 {
     let mut at = p;
     let mut k: usize = 0;

@@ -16,19 +16,11 @@ use Rattle.imports.specs.Import.{State}
 use Rattle.imports.specs.Answer as answer
 use Rattle.imports.specs.Answer.{Inputs, After, written, outcomeOf, answerOf, bufferAfter, afterwards, after, afterDwarf}
 use Rattle.imports.specs.Demand.{Lent, Finished}
-use Rattle.imports.proofs.Refusals.{refusals, dwarf-refusals}
 use Rattle.imports.proofs.Demand.{demand, dwarf-demand}
-use Rattle.dwarf.specs.declared.model.Refusal.{Refusal}
 use Rattle.dwarf.specs.declared.model.Imported.{Imported}
 use Rattle.dwarf.specs.declared.run.Ran.{Ran}
 use Rattle.dwarf.specs.Runs.{importAll, Written, Writes, fitStatus}
-use Rattle.dwarf.specs.Answers.{refusalNumber, answerGiven, left, AgreeAll, ImportsBy, ImportsUnit, ImportsDwarf}
-
--- ---- a refusal's number
-
--- a number from a on that is not a is above it
-pub above : (a n : ℕ) → a ≤ n → (n ≡ a → ⊥) → suc a ≤ n
-above a n h k = omega arith
+use Rattle.dwarf.specs.Answers.{answerGiven, left, AgreeAll, ImportsBy, ImportsUnit, ImportsDwarf}
 
 -- ---- the refusal by the lengths
 
@@ -164,15 +156,6 @@ written-whole P h = put-whole P (omega (arith, written-place P h, put-length P))
 -- ---- of a unit or of all
 
 module _ (all : Bool) (i : Inputs) where
-  -- a refusal has one of document 01's numbers
-  refused-within : (b : Bool) (n : ℕ) → outcomeOf i (importAll b i) ≡ refused n → (1 ≤ n) × (n ≤ 18)
-  refused-within true n e = dwarf-refusals i n e
-  refused-within false n e = refusals i n e
-
-  pub refusal-within : {t f u : List ℕ} {r : Ran} → Writes (importAll all i) (i .records) (i .files) (i .warnings) t f u r → {n : ℕ} → n ≡ fitStatus r (length t) (length f) (length u)
-      → (n ≡ 0 → ⊥) → (1 ≤ n) × (n ≤ 18)
-  refusal-within W {n} e h = refused-within all n (outcome-refused i (importAll all i) W e h)
-
   module _ (l : Lent i) where
     -- demand 3
     finished : (b : Bool) → afterwards i (importAll b i) .answer .refusal ≡ 0 → Finished (importAll b i) (AgreeAll b i) (afterwards i (importAll b i))
@@ -186,14 +169,14 @@ module _ (all : Bool) (i : Inputs) where
       demand = λ z. subst (Finished (importAll all i) (AgreeAll all i)) (sym e) (finished all (ap (λ (a : After). a .answer .refusal) (sym e) ∙ z));
     }
 
-    pub answers-refused : {w t f u t₁ f₁ u₁ : List ℕ} {n : ℕ} {r : Ran} {x : Refusal} → Writes (importAll all i) (i .records) (i .files) (i .warnings) t₁ f₁ u₁ r
-        → n ≡ fitStatus r (length t₁) (length f₁) (length u₁) → (n ≡ 0 → ⊥) → refusalNumber x ≡ n
+    pub answers-refused : {w t f u t₁ f₁ u₁ : List ℕ} {n : ℕ} {r : Ran} → Writes (importAll all i) (i .records) (i .files) (i .warnings) t₁ f₁ u₁ r
+        → n ≡ fitStatus r (length t₁) (length f₁) (length u₁) → (n ≡ 0 → ⊥)
         → w ≡ replicate (length (i .work)) 0 → t ≡ replicate (length (i .records)) 0 → f ≡ replicate (length (i .files)) 0 → u ≡ replicate (length (i .warnings)) 0
-        → ImportsBy all i w t f u (Imported.Refused x)
+        → ImportsBy all i w t f u (Imported.Refused n)
     unfolding answerOf bufferAfter
-    answers-refused {w} {t} {f} {u} {n = n} {x = x} W en h ex ew et ef eu =
-        imports-by (Imported.Refused x)
-        ((λ k. record { answer = record { refusal = ex k; records = 0; files = 0; warnings = 0; stats = answer.noStats }; records = et k; files = ef k; warnings = eu k; work = ew k })
+    answers-refused {w} {t} {f} {u} {n = n} W en h ew et ef eu =
+        imports-by (Imported.Refused n)
+        ((λ k. record { answer = record { refusal = n; records = 0; files = 0; warnings = 0; stats = answer.noStats }; records = et k; files = ef k; warnings = eu k; work = ew k })
         ∙ sym (after-is i (importAll all i) (outcome-refused i (importAll all i) W en h)))
 
     pub answers-done : {w t f u : List ℕ} {n : ℕ} {r : Ran} → Writes (importAll all i) (i .records) (i .files) (i .warnings) t f u r

@@ -11,7 +11,7 @@ use Rattle.tlv.specs.declared.grammar.Checked.{Checked}
 use Rattle.tlv.specs.declared.access.Place.{Place}
 use Rattle.tlv.specs.Outcome.{refused, done, _>>=_}
 use Rattle.tlv.specs.Lists.{at, mapOption, isEmpty}
-use Rattle.tlv.specs.Limits.{inputLimit, programLimit, fieldLimit, workOfField, workOfProgramByte, workBesides}
+use Rattle.tlv.specs.Limits.{inputLimit, programLimit, fieldLimit, workOfField, workOfEncodedByte, workBesides}
 use Rattle.tlv.specs.Fields.{fields}
 use Rattle.tlv.specs.Grammar.{checkInput}
 use Rattle.tlv.specs.Checked.{checkedOf}
@@ -22,7 +22,7 @@ use Rattle.tlv.proofs.UnitFacts.{unit-of-place}
 use Rattle.dies.specs.DetailState.{Accepted}
 use Rattle.dwarf.specs.declared.model.Options.{Options}
 use Rattle.dwarf.specs.declared.checks.BothChecked.{BothChecked}
-use Rattle.dwarf.specs.Checks.{oversizeOf, NotOversize, BothAccepted, ChecksBoth, missingOf, missingUnit, shortOf, WorkEnough}
+use Rattle.dwarf.specs.Checks.{oversizeOf, NotOversize, BothAccepted, ChecksBoth, missingOf, missingUnit, workOfProgram, shortOf, WorkEnough}
 use Rattle.dwarf.proofs.CountLaws.{accepted-few}
 
 -- ---- refusal 1
@@ -149,13 +149,17 @@ module _ (main : List ℕ) (o : Options) where
 
 -- ---- refusal 5
 
+pub program-work : (encoded : Bool) (size : ℕ) {n : ℕ} → n ≡ workOfProgram encoded size → n ≤ workOfEncodedByte * size
+program-work true size e = omega arith
+program-work false size e = omega arith
+
 module _ {main supplementary : List ℕ} {size n : ℕ} (B : BothAccepted main supplementary size n) where
-  pub work-enough : (program w : List ℕ) {b : Bool} → b ≡ shortOf w n program → b ≡ false → WorkEnough main supplementary program w
-  work-enough program w tested h = record {
+  pub work-enough : (program w : List ℕ) (encoded : Bool) {b : Bool} → b ≡ shortOf w n program encoded → b ≡ false → WorkEnough main supplementary program w encoded
+  work-enough program w encoded tested h = record {
     long = λ m k am ak.
         let a = accepted-count main m am in
         let b = accepted-count supplementary k ak in
         let c = accepted-count main (B .main-fields) (record { program = size; passes = B .main-accepted }) in
         let d = accepted-count supplementary (B .supplementary-fields) (record { program = size; passes = B .supplementary-accepted }) in
-        omega (arith, B .sum, ltb-false (length w) (workOfField * n + workOfProgramByte * length program + workBesides) (sym tested ∙ h));
+        omega (arith, B .sum, ltb-false (length w) (workOfField * n + workOfProgram encoded (length program) + workBesides) (sym tested ∙ h));
   }

@@ -24,7 +24,7 @@ use Rattle.files.proofs.FewLaws.{Rising, amounts-few, grouped-few, unit-few}
 use Rattle.dies.specs.DetailState.{Accepted}
 use Rattle.dwarf.specs.declared.layout.Counts.{Counts}
 use Rattle.subprograms.specs.Contexts.{UnitOf}
-use Rattle.dwarf.specs.Layout.{countOf, Sized}
+use Rattle.dwarf.specs.Layout.{countOf, Sized, totalOf}
 
 -- ---- an accepted input has few fields
 
@@ -47,14 +47,10 @@ accepted-few s n e = few-from (start (e .program)) (fields s) n (e .passes) (ome
 -- ---- all tags that have tables
 
 abbrev tabled : List ℕ
-tabled = 0x10 ∷ 0x12 ∷ 0x14 ∷ 0x15 ∷ 0x16 ∷ 0x17 ∷ 0x18 ∷ 0x19 ∷ 0x1c ∷ []
+tabled = 0x10 ∷ 0x12 ∷ 0x14 ∷ 0x15 ∷ 0x16 ∷ 0x17 ∷ 0x18 ∷ 0x19 ∷ 0x1c ∷ 0x1d ∷ []
 
 tabled-rise : Rising 0 tabled
-tabled-rise = (omega arith, (omega arith, (omega arith, (omega arith, (omega arith, (omega arith, (omega arith, (omega arith, (omega arith, tt)))))))))
-
--- how many fields the counts are of
-abbrev pub totalOf : Counts → ℕ
-totalOf c = c .units + c .text + c .directories + c .files + c .zeros + c .rows + c .entries + c .attributes + c .ranges
+tabled-rise = (omega arith, (omega arith, (omega arith, (omega arith, (omega arith, (omega arith, (omega arith, (omega arith, (omega arith, (omega arith, tt))))))))))
 
 pub total-few : {s : List ℕ} {c : Counts} (n : ℕ) → Sized s c → Accepts s n → totalOf c ≤ n
 total-few {s} {c} n S e = omega (arith, accepted-count s n e, amounts-few tabled (wholeFields (fields s)) tabled-rise)

@@ -7,7 +7,7 @@ use Prim.Native.Nat.{ℕ, zero, suc, _+_, _-_, _*_, _≤_, _<_}
 use native.Mathlib.Omega.{arith}
 use lib.ListN.{length, getD, take, drop, length-map}
 use Rattle.tlv.specs.Outcome.{Outcome, refused, done, _>>=_}
-use Rattle.tlv.specs.Lists.{at, mapOption}
+use Rattle.tlv.specs.Lists.{All, at, mapOption}
 use Rattle.tlv.specs.Bytes.{leAt}
 use Rattle.tlv.specs.Buffer.{top}
 use Rattle.tlv.specs.Fields.{fields}
@@ -26,6 +26,7 @@ use Rattle.references.specs.Names.{dwarfOf}
 use Rattle.imports.specs.Import.{State, importUnit, importUnits}
 use Rattle.subprograms.specs.declared.model.ImportState.{ImportState}
 use Rattle.dwarf.specs.declared.layout.Layout.{Layout}
+use Rattle.dwarf.specs.Layout.{RowsFit}
 use Rattle.dwarf.specs.Tables.{TablesIn}
 use Rattle.dwarf.specs.Units.{Ready, besideTables, Grows}
 use Rattle.dwarf.proofs.TablesLaws.{tables-kept, units-below, main-behind, keys-behind}
@@ -97,6 +98,7 @@ pub record ImportingUnits (main supplementary program : List ℕ) (l : Layout) (
   pub begun : from ≤ k
   pub few : k ≤ to
   pub within : to ≤ x .main .«unit_count»
+  pub fits : All (RowsFit l) (unitsFrom main k to)
   pub tables : TablesIn main supplementary program w l x
   pub ready : Ready main supplementary w l st
   pub size : length w ≡ length w₀
@@ -109,12 +111,13 @@ pub record ImportingUnits (main supplementary program : List ℕ) (l : Layout) (
       ≡ (before s >>= importUnits (dwarfOf main supplementary) (unitsFrom main k to) program inlines callSites)
 
 pub units-start : {main supplementary program : List ℕ} {l : Layout} {x : Tables} (inlines callSites : Bool) {from to : ℕ} {w t f u : List ℕ} {st : ImportState} → from ≤ to → to ≤ x .main .«unit_count»
-    → TablesIn main supplementary program w l x → Ready main supplementary w l st → length t < top → length f < top → length u < top
+    → All (RowsFit l) (unitsFrom main from to) → TablesIn main supplementary program w l x → Ready main supplementary w l st → length t < top → length f < top → length u < top
     → ImportingUnits main supplementary program l x inlines callSites from to w t f u st w t f u st from
-units-start {main} {supplementary} {program} inlines callSites {from} {to} a b T R small tiny few = record {
+units-start {main} {supplementary} {program} inlines callSites {from} {to} a b F T R small tiny few = record {
   begun = omega arith;
   few = a;
   within = b;
+  fits = F;
   tables = T;
   ready = R;
   size = refl;
@@ -154,6 +157,12 @@ module _ {main supplementary program : List ℕ} {l : Layout} {x : Tables} {inli
         let is = place-inside (I .tables) k p (omega arith) e .1 in
         rw (n, m, from-at (units main) k (unitHere main p) is (omega (arith, units-many (I .tables))))
 
+    all-fit : All (RowsFit l) (unitHere main p ∷ unitsFrom main (k + 1) to)
+    all-fit = rw first-left at (I .fits)
+
+    pub unit-fits : RowsFit l (unitHere main p)
+    unit-fits = all-fit .0
+
     module _ {w′ t′ f′ u′ : List ℕ} {st′ : ImportState}
         (A : Grows (importUnit (dwarfOf main supplementary) (unitHere main p) program inlines callSites) main supplementary (besideTables l (length w)) w t f u st w′ t′ f′ u′ st′) where
       abbrev through : State → Outcome State
@@ -179,6 +188,7 @@ module _ {main supplementary program : List ℕ} {l : Layout} {x : Tables} {inli
         begun = let b = I .begun in omega arith;
         few = omega arith;
         within = I .within;
+        fits = all-fit .1;
         tables = tables-kept (I .tables) (A .kept z) lw;
         ready = grows-ready z (I .ready) A;
         size = lw ∙ I .size;

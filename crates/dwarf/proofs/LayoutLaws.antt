@@ -1,15 +1,21 @@
 -- The places that are computed from the counts of fields leave room for each table, and fit the work slice. Assumes nothing.
-use mathlib.Core.Path.{_≡_}
+use mathlib.Core.Path.{_≡_, refl}
+use mathlib.Core.Bool.{Bool, true, false}
 use mathlib.Core.List.{List}
+use mathlib.Core.Option.{none}
 use Prim.Native.Nat.{ℕ, _+_, _*_, _/_, _≤_, _<_, _^_}
 use native.Mathlib.Nat.{mul-le-mul-left}
 use native.Mathlib.Omega.{arith}
 use lib.ListN.{length}
-use Rattle.tlv.specs.Limits.{workOfField, workOfProgramByte, workBesides, joinedLimit}
+use Rattle.tlv.specs.Limits.{workOfField, workBesides, joinedLimit}
 use Rattle.tlv.specs.Fields.{fields}
+use Rattle.tlv.specs.Model.{CompilationUnit}
+use Rattle.tlv.specs.Places.{unitHere}
 use Rattle.tlv.proofs.UnitsOrder.{unit-places-length}
 use Rattle.files.specs.Possible.{possibleFiles}
 use Rattle.files.proofs.FewLaws.{directories-few, files-few-in, rows-few, possible-few}
+use Rattle.machine.specs.LineRows.{rowsMost}
+use Rattle.machine.proofs.UnitLines.{most-few}
 use Rattle.collect.specs.Collects.{linesExtent}
 use Rattle.references.specs.Keys.{possibleKeys}
 use Rattle.references.proofs.FewKeys.{keys-few}
@@ -17,11 +23,12 @@ use Rattle.dies.specs.DetailState.{Accepted}
 use Rattle.dwarf.specs.declared.layout.Counts.{Counts}
 use Rattle.dwarf.specs.declared.layout.Layout.{Layout}
 use Rattle.subprograms.specs.Contexts.{UnitOf, mapExtent}
-use Rattle.dwarf.specs.Layout.{countOf, Sized, LaidOut}
+use Rattle.dwarf.specs.Layout.{countOf, Sized, totalOf, programRows, LaidOut, LaysOut}
+use Rattle.dwarf.specs.Checks.{workOfProgram}
 use Rattle.rows.specs.Sizes.{entrySize, rowRoom}
-use Rattle.dwarf.proofs.CountLaws.{totalOf, total-few, total-small, text-few}
+use Rattle.dwarf.proofs.CountLaws.{total-few, total-small, text-few}
 
--- ---- the places, from the counts m of the main input, s of the supplementary one, and x, a third of the program's length
+-- ---- the places, from the counts m of the main input, s of the supplementary one, a third x of the program's length, and the most rows y that it gives
 
 module _ (m s : Counts) where
   abbrev roomAt : ℕ
@@ -33,9 +40,9 @@ module _ (m s : Counts) where
   abbrev spanRoom : ℕ
   spanRoom = 8 * (m .directories + s .directories) + 5 * (1 + m .files + s .files)
 
-module _ (m s : Counts) (x : ℕ) where
+module _ (m s : Counts) (x y : ℕ) where
   abbrev textAt : ℕ
-  textAt = linesAt m s + x * 8 + 8 * m .directories + 5 * (1 + m .files) + rowRoom * m .rows + entrySize
+  textAt = linesAt m s + x * 8 + 8 * m .directories + 5 * (1 + m .files) + rowRoom * (m .rows + y) + entrySize
 
   abbrev spansAt : ℕ
   spansAt = textAt + 16 * m .text
@@ -64,8 +71,8 @@ module _ (m s : Counts) (x : ℕ) where
   abbrev keysAt : ℕ
   keysAt = sitesAt + 12 * m .entries
 
-  abbrev placesOf : Layout
-  placesOf = record {
+  abbrev placesOf : Bool → Layout
+  placesOf encoded = record {
     room = roomAt m s;
     lines = linesAt m s;
     text = textAt;
@@ -79,14 +86,24 @@ module _ (m s : Counts) (x : ℕ) where
     stack = stackAt;
     sites = sitesAt;
     keys = keysAt;
+    encoded = encoded;
   }
 
-  -- 64 bytes for each field cover what its tables take, with the followed targets
-  keys-within : (k n n′ length : ℕ) → totalOf m ≤ n → totalOf s ≤ n′ → k ≤ m .attributes + 2 * s .attributes → x * 3 ≤ length
-      → keysAt + ((m .entries + s .entries + 1) * 4 + 13 * k) ≤ workOfField * (n + n′) + workOfProgramByte * length + workBesides
-  keys-within k n n′ length a b c d = omega arith
+  -- 64 bytes for each field cover what its tables take, with the followed targets; b bytes cover what the program's rows and offsets take
+  keys-within : (k n n′ b : ℕ) → totalOf m ≤ n → totalOf s ≤ n′ → k ≤ m .attributes + 2 * s .attributes → rowRoom * y + x * 8 ≤ b
+      → keysAt + ((m .entries + s .entries + 1) * 4 + 13 * k) ≤ workOfField * (n + n′) + b + workBesides
+  keys-within k n n′ b h h′ c d = omega arith
 
--- ---- what a unit needs is no more than what its input can bring
+pub program-few : (size : ℕ) (encoded : Bool) {y : ℕ} → y ≡ programRows size encoded → y ≤ size
+program-few size true e = omega arith
+program-few size false e = omega arith
+
+-- the rows of a program, their sort buffer and the offsets of its sequences fit the bytes that it asks for
+program-room : (encoded : Bool) (size : ℕ) → rowRoom * programRows size encoded + size / 3 * 8 ≤ workOfProgram encoded size
+program-room true size = omega arith
+program-room false size = omega arith
+
+-- ---- what a unit needs is no more than what its input and the program can bring
 
 lines-most : (l x d f r d′ f′ r′ : ℕ) → d ≤ d′ → f ≤ f′ → r ≤ r′
     → l + (x * 8 + 8 * d + 5 * (1 + f) + rowRoom * r + entrySize) ≤ l + x * 8 + 8 * d′ + 5 * (1 + f′) + rowRoom * r′ + entrySize
@@ -112,12 +129,22 @@ module _ {main supplementary : List ℕ} {m s : Counts} (M : Sized main m) (S : 
       map-most _ _ (m .directories) (m .files) (s .directories) (s .files)
       (omega (arith, directories-few supplementary q any, S .directories)) (omega (arith, files-few-in supplementary q any, S .files))
 
-lines-fit : {main : List ℕ} {m : Counts} (l : ℕ) (program : List ℕ) → Sized main m → (q : ℕ) → UnitOf main q
-    → l + linesExtent main q program ≤ l + length program / 3 * 8 + 8 * m .directories + 5 * (1 + m .files) + rowRoom * m .rows + entrySize
+-- where its rows have room, the unit has no more than its fields and the program give
+rows-most : (u : CompilationUnit) (program : List ℕ) (encoded : Bool) → (encoded ≡ false → u .encoding ≡ none)
+    → rowsMost u program ≤ length (u .rows) + programRows (length program) encoded
+unfolding rowsMost
+rows-most u program true fit = most-few u program
+rows-most u program false fit = rw (fit refl) (omega arith)
+
+lines-fit : {main : List ℕ} {m : Counts} (l : ℕ) (program : List ℕ) (encoded : Bool) → Sized main m → (q : ℕ) → UnitOf main q
+    → (encoded ≡ false → unitHere main q .encoding ≡ none)
+    → l + linesExtent main q program
+    ≤ l + length program / 3 * 8 + 8 * m .directories + 5 * (1 + m .files) + rowRoom * (m .rows + programRows (length program) encoded) + entrySize
 unfolding linesExtent
-lines-fit {main} {m} l program M q any =
-    lines-most l (length program / 3) _ _ _ (m .directories) (m .files) (m .rows)
-    (omega (arith, directories-few main q any, M .directories)) (omega (arith, files-few-in main q any, M .files)) (omega (arith, rows-few main q any, M .rows))
+lines-fit {main} {m} l program encoded M q any fit =
+    lines-most l (length program / 3) _ _ _ (m .directories) (m .files) (m .rows + programRows (length program) encoded)
+    (omega (arith, directories-few main q any, M .directories)) (omega (arith, files-few-in main q any, M .files))
+    (omega (arith, rows-few main q any, M .rows, rows-most (unitHere main q) program encoded fit))
 
 times-most : (l k a b : ℕ) → a ≤ b → l + k * a ≤ l + k * b
 times-most l k a b h = omega (arith, mul-le-mul-left k h)
@@ -125,36 +152,40 @@ times-most l k a b h = omega (arith, mul-le-mul-left k h)
 times-as : (l k a b : ℕ) → a ≡ b → l + k * b ≤ l + k * a
 times-as l k a b e = times-most l k b a (omega arith)
 
-third : (n : ℕ) → n / 3 * 3 ≤ n
-third n = omega arith
-
 -- ---- all of it
 
-pub laid-out : {main supplementary program : List ℕ} {m s : Counts} → Accepted main → Accepted supplementary → Sized main m → Sized supplementary s
-    → LaidOut main supplementary program (placesOf m s (length program / 3))
-laid-out {main} {supplementary} {program} {m} {s} A B M S =
+laid-out : {main supplementary program : List ℕ} {m s : Counts} (encoded : Bool) → Accepted main → Accepted supplementary → Sized main m → Sized supplementary s
+    → LaidOut main supplementary program (placesOf m s (length program / 3) (programRows (length program) encoded) encoded)
+laid-out {main} {supplementary} {program} {m} {s} encoded A B M S =
     let x : ℕ = length program / 3 in
+    let y : ℕ = programRows (length program) encoded in
     record {
       few = files-fit M S;
       small = room-small M S A B;
       lines = omega arith;
       front = omega arith;
-      text = lines-fit (linesAt m s) program M;
-      spans = λ q any. times-most (textAt m s x) 16 _ (m .text) (omega (arith, text-few main q any, M .text));
+      text = lines-fit (linesAt m s) program encoded M;
+      spans = λ q any. times-most (textAt m s x y) 16 _ (m .text) (omega (arith, text-few main q any, M .text));
       room-main = map-main M S;
       room-supplementary = map-supplementary M S;
       main-units = omega arith;
-      main-entries = rw (unit-places-length 0 (fields main)) (times-as (mainUnitsAt m s x) 24 (m .units) _ (M .units));
-      supplementary-units = times-as (mainEntriesAt m s x) 16 (m .entries) _ (M .entries);
-      supplementary-entries = rw (unit-places-length 0 (fields supplementary)) (times-as (supplementaryUnitsAt m s x) 24 (s .units) _ (S .units));
-      ranges = times-as (supplementaryEntriesAt m s x) 16 (s .entries) _ (S .entries);
-      stack = times-as (rangesAt m s x) 16 (1 + m .ranges) (1 + countOf 0x19 main) (rw (M .ranges));
-      sites = times-as (stackAt m s x) 14 (m .entries) _ (M .entries);
-      keys = times-as (sitesAt m s x) 12 (m .entries) _ (M .entries);
+      main-entries = rw (unit-places-length 0 (fields main)) (times-as (mainUnitsAt m s x y) 24 (m .units) _ (M .units));
+      supplementary-units = times-as (mainEntriesAt m s x y) 16 (m .entries) _ (M .entries);
+      supplementary-entries = rw (unit-places-length 0 (fields supplementary)) (times-as (supplementaryUnitsAt m s x y) 24 (s .units) _ (S .units));
+      ranges = times-as (supplementaryEntriesAt m s x y) 16 (s .entries) _ (S .entries);
+      stack = times-as (rangesAt m s x y) 16 (1 + m .ranges) (1 + countOf 0x19 main) (rw (M .ranges));
+      sites = times-as (stackAt m s x y) 14 (m .entries) _ (M .entries);
+      keys = times-as (sitesAt m s x y) 12 (m .entries) _ (M .entries);
       within = λ n n′ e e′.
           let a = M .entries in
           let b = S .entries in
-          let c = keys-within m s x (length (possibleKeys main supplementary)) n n′ (length program) (total-few n M e) (total-few n′ S e′)
-          (omega (arith, keys-few main supplementary, M .attributes, S .attributes)) (third (length program)) in
+          let c = keys-within m s x y (length (possibleKeys main supplementary)) n n′ (workOfProgram encoded (length program)) (total-few n M e) (total-few n′ S e′)
+          (omega (arith, keys-few main supplementary, M .attributes, S .attributes)) (program-room encoded (length program)) in
           omega arith;
     }
+
+pub lays-out : (m s : Counts) (size y : ℕ) (encoded : Bool) → y ≡ programRows size encoded → LaysOut m s size encoded (placesOf m s (size / 3) y encoded)
+lays-out m s size y encoded e = record {
+  encoded-is = refl;
+  laid = λ main supplementary program A B M S same. rw (e, ← same) (laid-out encoded A B M S);
+}

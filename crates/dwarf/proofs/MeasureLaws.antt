@@ -1,5 +1,5 @@
 -- The pass that writes no output buffer: what the import would write is counted, whatever the buffers are. Assumes nothing.
-use mathlib.Core.Path.{_≡_, sym, ap, _∙_}
+use mathlib.Core.Path.{_≡_, refl, sym, ap, _∙_}
 use mathlib.Core.Bool.{Bool, true, false}
 use mathlib.Core.List.{List}
 use Prim.Native.Nat.{ℕ, _≤_}
@@ -7,17 +7,14 @@ use native.Mathlib.Omega.{arith}
 use lib.ListN.{length, replicate}
 use Rattle.tlv.specs.Outcome.{Outcome}
 use Rattle.tlv.specs.Buffer.{Put}
-use Rattle.tlv.proofs.RefusalLaws.{RefusesIn, refusal-number}
 use Rattle.imports.specs.Import.{State, saturated}
 use Rattle.imports.specs.Answer.{Inputs, Answer, noStats, written}
 use Rattle.imports.specs.Sizes.{measured, measuring, measure, measureDwarf, withTrays}
-use Rattle.imports.proofs.Refusals.{refuses-import, refuses-dwarf}
 use Rattle.imports.proofs.Sizing.{same-import, same-dwarf}
-use Rattle.dwarf.specs.declared.model.Refusal.{Refusal}
 use Rattle.dwarf.specs.declared.model.Imported.{Imported}
 use Rattle.dwarf.specs.declared.run.Ran.{Ran}
 use Rattle.dwarf.specs.Runs.{importAll, Writes}
-use Rattle.dwarf.specs.Answers.{refusalNumber, MeasuresBy, MeasuresUnit, MeasuresDwarf}
+use Rattle.dwarf.specs.Answers.{MeasuresBy, MeasuresUnit, MeasuresDwarf}
 
 -- the place behind an output is its length, up to the largest place
 counted : {out t t′ : List ℕ} {n : ℕ} → Put 0 out t t′ n → n ≡ saturated (length out)
@@ -29,23 +26,14 @@ trays-aside true i a b c = same-dwarf i a b c
 trays-aside false i a b c = same-import i a b c
 
 module _ (all : Bool) (i : Inputs) {a b c t f u : List ℕ} {r : Ran} (W : Writes (importAll all (withTrays i a b c)) a b c t f u r) where
-  within-15 : (x : Bool) → RefusesIn 1 15 (importAll x (withTrays i a b c))
-  within-15 true = refuses-dwarf (withTrays i a b c)
-  within-15 false = refuses-import (withTrays i a b c)
-
-  pub refusal-in : (r .status ≡ 0 → ⊥) → (1 ≤ r .status) × (r .status ≤ 18)
-  refusal-in h = let k = refusal-number (within-15 all) (W .no h) in (k .0, omega arith)
-
   measure-is : {o : Outcome State} {w : List ℕ} {x : Answer} → importAll all (withTrays i a b c) ≡ o → x ≡ measured o → w ≡ replicate (length (i .work)) 0
       → record { answer = x; work = w } ≡ measuring i (importAll all i)
   unfolding measuring
   measure-is e ex ew = λ k. record { answer = (ex ∙ ap measured (sym e ∙ trays-aside all i a b c)) k; work = ew k }
 
-  pub measures-refused : {w : List ℕ} {x : Refusal} → (r .status ≡ 0 → ⊥) → refusalNumber x ≡ r .status → w ≡ replicate (length (i .work)) 0
-      → MeasuresBy all i w (Imported.Refused x)
+  pub measures-refused : {w : List ℕ} → (r .status ≡ 0 → ⊥) → w ≡ replicate (length (i .work)) 0 → MeasuresBy all i w (Imported.Refused (r .status))
   unfolding measured
-  measures-refused h ex ew =
-      record { is = measure-is (W .no h) (λ k. record { refusal = ex k; records = 0; files = 0; warnings = 0; stats = noStats }) ew }
+  measures-refused h ew = record { is = measure-is (W .no h) refl ew }
 
   pub measures-done : {w : List ℕ} → r .status ≡ 0 → w ≡ replicate (length (i .work)) 0
       → MeasuresBy all i w (Imported.Finished (r .records) (r .files) (r .warnings) (r .stats))

@@ -4,17 +4,17 @@ use mathlib.Core.Bool.{Bool, true, false, cond, not}
 use mathlib.Core.Logic.{inl}
 use mathlib.Core.List.{List, [], _∷_, _++_}
 use mathlib.Core.Option.{Option, none, some}
-use Prim.Native.Nat.{ℕ, zero, suc, _+_, _-_, _*_, _≤_, _<_}
+use Prim.Native.Nat.{ℕ, zero, suc, _+_, _-_, _*_, _≤_, _<_, max}
 use native.Mathlib.Omega.{arith}
 use lib.Dec.{ltb}
 use lib.ListN.{length, take, drop, drop-of-length-le}
 use lib.Seq.{take-all, take-nil}
 use Rattle.tlv.specs.Outcome.{Outcome, refused, done, _>>=_}
-use Rattle.tlv.specs.Lists.{at}
+use Rattle.tlv.specs.Lists.{at, exists, isNone}
 use Rattle.tlv.specs.Buffer.{top, Put}
-use Rattle.tlv.specs.Limits.{workOfProgramByte, joinedLimit}
+use Rattle.tlv.specs.Limits.{joinedLimit}
 use Rattle.tlv.specs.Grammar.{checkInput}
-use Rattle.tlv.specs.Model.{CompilationUnit, units}
+use Rattle.tlv.specs.Model.{CompilationUnit, LineEncoding, units}
 use Rattle.tlv.specs.Output.{FileEntry, filesBytes}
 use Rattle.tlv.proofs.BufferLaws.{put-as}
 use Rattle.tlv.proofs.TableLaws.{but-one}
@@ -26,7 +26,7 @@ use Rattle.references.specs.Names.{dwarfOf}
 use Rattle.dies.specs.DetailState.{Accepted}
 use Rattle.imports.specs.Import.{State, importUnits}
 use Rattle.imports.specs.Answer as answer
-use Rattle.imports.specs.Answer.{Inputs, isBare, workOfUnit, workOfUnits, workNeeded, initialState, importWorked, importChosen, checked, importOf, importDwarfOf}
+use Rattle.imports.specs.Answer.{Inputs, isBare, workOfByte, workOfUnit, workOfUnits, workNeeded, initialState, importWorked, importChosen, checked, importOf, importDwarfOf}
 use Rattle.subprograms.specs.declared.model.ConversionStats.{ConversionStats}
 use Rattle.subprograms.specs.declared.model.ImportState.{ImportState}
 use Rattle.subprograms.specs.Stats.{statsOf}
@@ -37,7 +37,7 @@ use Rattle.dwarf.specs.declared.checks.BothChecked.{BothChecked}
 use Rattle.dwarf.specs.declared.run.Ran.{Ran}
 use Rattle.dwarf.specs.declared.run.Chosen.{Chosen}
 use Rattle.dwarf.specs.Layout.{keysRoom, LaidOut}
-use Rattle.dwarf.specs.Checks.{oversizeOf, CheckedAs, ChecksBoth, missingOf, missingUnit, shortOf, WorkEnough}
+use Rattle.dwarf.specs.Checks.{oversizeOf, CheckedAs, ChecksBoth, missingOf, missingUnit, isEncoded, encodedOf, workOfProgram, shortOf, WorkEnough}
 use Rattle.dwarf.specs.Tables.{TablesIn, IndexesInputs}
 use Rattle.dwarf.specs.Units.{Ready, besideTables, Grows}
 use Rattle.dwarf.specs.Runs.{importAll, listed, chosenUnits, Chooses, importAccepted, startState, LengthsOf, Writes}
@@ -153,30 +153,41 @@ module _ (o : Options) (i : Inputs) (asked : i .ordinal ≡ o .ordinal) {t f u t
 
 -- ---- refusals 4 and 5
 
--- every unit asks for the same
-units-work : (i : Inputs) (us : List CompilationUnit) → workOfUnits i us ≡ workOfProgramByte * length (i .program)
-unfolding workOfUnits workOfUnit
+-- the unit that needs most is one whose rows come from the program, where there is one
+units-work : (i : Inputs) (us : List CompilationUnit) → workOfUnits i us ≡ workOfProgram (encodedOf us) (length (i .program))
+unfolding workOfUnits workOfUnit encodedOf exists
 units-work i [] = refl
-units-work i (u ∷ us) = let e = units-work i us in omega arith
+units-work i (u ∷ us) = go (u .encoding) (exists isEncoded us) (units-work i us)
+  where
+    go : (o : Option LineEncoding) (b : Bool) {n : ℕ} → n ≡ workOfProgram b (length (i .program))
+        → max (workOfByte o * length (i .program)) n ≡ workOfProgram (cond (not (isNone o)) true b) (length (i .program))
+    go none true e = omega arith
+    go none false e = omega arith
+    go (some x) true e = omega arith
+    go (some x) false e = omega arith
 
 module _ (o : Options) (i : Inputs) (n : ℕ) {t f u t′ f′ u′ : List ℕ} {r : Ran} {a : Bool} (ea : a ≡ missingOf (i .main) o) where
   pub accepted-missing : a ≡ true → r .status ≡ 4 → Writes (importAccepted o i n) t f u t′ f′ u′ r
   accepted-missing is z = writes-refused z (λ y. omega arith) (rw (sym ea ∙ is))
 
-  module _ (there : a ≡ false) {b : Bool} (eb : b ≡ shortOf (i .work) n (i .program)) where
+  module _ (there : a ≡ false) {encoded b : Bool} (ee : encoded ≡ encodedOf (chosenUnits o (units (i .main)))) (eb : b ≡ shortOf (i .work) n (i .program) encoded) where
     pub accepted-short : b ≡ true → r .status ≡ 5 → Writes (importAccepted o i n) t f u t′ f′ u′ r
     unfolding workNeeded
-    accepted-short is z = writes-refused z (λ y. omega arith) (rw (sym ea ∙ there, units-work i (chosenUnits o (units (i .main))), sym eb ∙ is))
+    accepted-short is z = writes-refused z (λ y. omega arith) (rw (sym ea ∙ there, units-work i (chosenUnits o (units (i .main))), ← ee, sym eb ∙ is))
 
     pub accepted-long : b ≡ false
         → Writes (importUnits (dwarfOf (i .main) (i .supplementary)) (chosenUnits o (units (i .main))) (i .program) (i .inlines) (i .callSites) (startState (i .firstFile))) t f u t′ f′ u′ r
         → Writes (importAccepted o i n) t f u t′ f′ u′ r
     unfolding workNeeded answer.dwarfOf initialState
-    accepted-long is W = writes-as (rw (sym ea ∙ there, units-work i (chosenUnits o (units (i .main))), sym eb ∙ is)) W
+    accepted-long is W = writes-as (rw (sym ea ∙ there, units-work i (chosenUnits o (units (i .main))), ← ee, sym eb ∙ is)) W
 
 -- ---- the units
 
-module _ {main supplementary program w : List ℕ} {l : Layout} (A : Accepted main) (B : Accepted supplementary) (W : WorkEnough main supplementary program w)
+pub enough-laid : (l : Layout) {main supplementary program w : List ℕ} {encoded : Bool} → l .encoded ≡ encoded → WorkEnough main supplementary program w encoded
+    → WorkEnough main supplementary program w (l .encoded)
+enough-laid l e W = rw e W
+
+module _ {main supplementary program w : List ℕ} {l : Layout} (A : Accepted main) (B : Accepted supplementary) (W : WorkEnough main supplementary program w (l .encoded))
     (L : LaidOut main supplementary program l) where
   pub all-room : l .keys + keysRoom main supplementary ≤ length w
   all-room = let a = L .within (A .number) (B .number) (A .is) (B .is) in let b = W .long (A .number) (B .number) (A .is) (B .is) in omega arith

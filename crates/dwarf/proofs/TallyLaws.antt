@@ -74,6 +74,7 @@ pub sized : (s counts : List ℕ) → TagsCounted s counts → Sized s (record {
   directories = getD counts 0x14 0;
   files = getD counts 0x15 0;
   zeros = getD counts 0x1c 0;
+  encodings = getD counts 0x1d 0;
   rows = getD counts 0x16 0;
   entries = getD counts 0x17 0;
   attributes = getD counts 0x18 0;
@@ -85,6 +86,7 @@ sized s counts T = record {
   directories = T .is 0x14 (omega arith);
   files = T .is 0x15 (omega arith);
   zeros = T .is 0x1c (omega arith);
+  encodings = T .is 0x1d (omega arith);
   rows = T .is 0x16 (omega arith);
   entries = T .is 0x17 (omega arith);
   attributes = T .is 0x18 (omega arith);

@@ -1,23 +1,24 @@
 -- The import of a unit from a state: its lines are collected, its context is made, its subprograms are imported. Assumes nothing.
 use mathlib.Core.Path.{_≡_, refl, sym, ap, _∙_}
 use mathlib.Core.Bool.{Bool}
-use mathlib.Core.Logic.{inl}
+use mathlib.Core.Logic.{inl, inr}
 use mathlib.Core.List.{List, [], _∷_, _++_, append-assoc}
+use mathlib.Core.Option.{Option, none, some}
 use Prim.Native.Nat.{ℕ, _+_, _-_, _*_, _≤_}
 use native.Mathlib.Omega.{arith}
 use lib.ListN.{length, take, drop, length-take, length-drop}
 use Rattle.tlv.specs.Outcome.{refused, done, _>>=_}
 use Rattle.tlv.specs.Buffer.{top}
 use Rattle.tlv.specs.Table.{Kept, KeptBut}
-use Rattle.tlv.specs.Model.{programOf}
+use Rattle.tlv.specs.Model.{LineEncoding, programOf}
 use Rattle.tlv.specs.Places.{unitHere}
 use Rattle.tlv.specs.Output.{Function, Warning}
 use Rattle.tlv.proofs.BufferLaws.{_then_, put-as}
-use Rattle.tlv.proofs.RefusalLaws.{refusal-number}
 use Rattle.tlv.proofs.RecordLaws.{records-kept}
 use Rattle.tlv.proofs.TableLaws.{but-one, but-of, but-trans, here, there}
-use Rattle.lines.specs.Lines.{collectLines}
-use Rattle.lines.proofs.Refusals.{refuses-lines}
+use Rattle.machine.specs.LineRows.{mostBy, rowsMost, collectLines}
+use Rattle.machine.proofs.NumberLaws.{number-of}
+use Rattle.machine.proofs.UnitLines.{LineNumbers, refuses-lines}
 use Rattle.files.specs.declared.index.StoredIndices.{StoredIndices}
 use Rattle.files.specs.declared.store.StoredFiles.{StoredFiles}
 use Rattle.files.specs.Indices.{indexOf, indicesOf}
@@ -40,6 +41,7 @@ use Rattle.subprograms.specs.Steps.{Imports, stateOf}
 use Rattle.subprograms.proofs.ContextLaws.{unit-of}
 use Rattle.dwarf.specs.declared.layout.Layout.{Layout}
 use Rattle.dwarf.specs.declared.part.Part.{Part}
+use Rattle.dwarf.specs.Layout.{RowsFit}
 use Rattle.dwarf.specs.Tables.{TablesIn, LinesLaid, MakesContext}
 use Rattle.dwarf.specs.Part.{PartOf}
 use Rattle.dwarf.specs.Units.{Ready, besideTables, Grows}
@@ -47,19 +49,28 @@ use Rattle.dwarf.proofs.TablesLaws.{keys-behind, main-behind, spans-beh
 
 -- a shorter program's lines have room where the whole one's have
 part-room : (main : List ℕ) (place : ℕ) (part program : List ℕ) → length part ≤ length program → linesExtent main place part ≤ linesExtent main place program
-unfolding linesExtent
-part-room main place part program h = omega arith
+unfolding linesExtent rowsMost
+part-room main place part program h = let a = fewer (unitHere main place .encoding) in omega arith
+  where
+    fewer : (o : Option LineEncoding) → mostBy (unitHere main place) part o ≤ mostBy (unitHere main place) program o
+    fewer none = omega arith
+    fewer (some e) = h
 
 -- a part of a program is no longer than it
 pub part-short : (a n : ℕ) (program : List ℕ) → length (take n (drop a program)) ≤ length program
 part-short a n program = rw (length-take, length-drop) (omega arith)
 
-module _ {main supplementary program w : List ℕ} {l : Layout} {x : Tables} {place : ℕ} {st : ImportState} (U : UnitIn main place)
+-- no number of the lines' refusals is 0
+no-zero : (n : ℕ) → n ≡ 0 → LineNumbers n → ⊥
+no-zero n z (inl p) = omega (arith, p .0)
+no-zero n z (inr p) = omega (arith, p .0)
+
+module _ {main supplementary program w : List ℕ} {l : Layout} {x : Tables} {place : ℕ} {st : ImportState} (U : UnitIn main place) (F : RowsFit l (unitHere main place))
     (T : TablesIn main supplementary program w l x) (R : Ready main supplementary w l st) where
   module _ (part : List ℕ) (short : length part ≤ length program) where
     -- the lines of the part end below the executable ranges
     lines-end : l .lines + linesExtent main place part ≤ l .text
-    lines-end = let a = T .laid .text place (unit-of U) in let b = part-room main place part program short in omega arith
+    lines-end = let a = T .laid .text place (unit-of U) F in let b = part-room main place part program short in omega arith
 
     text-within : l .text ≤ l .«main_units»
     text-within = let a = text-behind (T .laid) U in let b = spans-behind (T .laid) in omega arith
@@ -196,15 +207,15 @@ module _ {main supplementary program w : List ℕ} {l : Layout} {x : Tables} {pl
             → Grows (importUnit (dwarfOf main supplementary) (unitHere main place) program inlines callSites) main supplementary (besideTables l (length w)) w t f u st w₃ t₃ f₃ u₃ r
         unfolding importUnit _>>=_
         unit-refused inlines callSites {r = r} s =
-            let number = refusal-number (refuses-lines (unitHere main place) part (tableOf main supplementary w (st .table))) refusing in
-            let none : r .status ≡ 0 → ⊥ = λ e. omega (arith, number) in
+            let number = number-of (refuses-lines (unitHere main place) part (tableOf main supplementary w (st .table))) refusing in
+            let not-zero : r .status ≡ 0 → ⊥ = λ e. no-zero n (sym s ∙ e) number in
             record {
               records = [];
               new = [];
-              laid = λ e. absurd (none e);
-              warned = λ e. absurd (none e);
-              grown = λ e. absurd (none e);
-              kept = λ e. absurd (none e);
-              ok = λ e. absurd (none e);
+              laid = λ e. absurd (not-zero e);
+              warned = λ e. absurd (not-zero e);
+              grown = λ e. absurd (not-zero e);
+              kept = λ e. absurd (not-zero e);
+              ok = λ e. absurd (not-zero e);
               no = λ e rs ws. rw (sym same-part, refusing, s);
             }

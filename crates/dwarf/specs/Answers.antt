@@ -10,35 +10,13 @@ use Rattle.imports.specs.Answer.{Inputs, Answer, After, noStats, dwarfOf, after
 use Rattle.imports.specs.Demand.{ChosenAgrees, UnitsAgree, Finished, UnitFinished, DwarfFinished}
 use Rattle.imports.specs.Sizes.{measuring, measure, measureDwarf}
 use Rattle.subprograms.specs.Stats.{statsOf}
-use Rattle.dwarf.specs.declared.model.Refusal.{Refusal}
 use Rattle.dwarf.specs.declared.model.Imported.{Imported}
 use Rattle.dwarf.specs.Runs.{importAll}
 
--- document 01's number of a refusal
-abbrev pub refusalNumber : Refusal → ℕ
-refusalNumber Refusal.Oversize = 1
-refusalNumber Refusal.Misshapen = 2
-refusalNumber Refusal.PastLimit = 3
-refusalNumber Refusal.NoUnit = 4
-refusalNumber Refusal.ShortWork = 5
-refusalNumber Refusal.Decoder = 6
-refusalNumber Refusal.Cut = 7
-refusalNumber Refusal.CutExtended = 8
-refusalNumber Refusal.ZeroExtended = 9
-refusalNumber Refusal.Overflowing = 10
-refusalNumber Refusal.Overlong = 11
-refusalNumber Refusal.Overflow = 12
-refusalNumber Refusal.NoEntry = 13
-refusalNumber Refusal.TooDeep = 14
-refusalNumber Refusal.FilesFull = 15
-refusalNumber Refusal.ShortRecords = 16
-refusalNumber Refusal.ShortFiles = 17
-refusalNumber Refusal.ShortWarnings = 18
-
--- document 01's number and values of an answer
+-- an answer: a refusal's number is the papers'
 abbrev pub answerGiven : Imported → Answer
 answerGiven (Imported.Finished records files warnings stats) = record { refusal = 0; records = records; files = files; warnings = warnings; stats = statsOf stats }
-answerGiven (Imported.Refused n) = record { refusal = refusalNumber n; records = 0; files = 0; warnings = 0; stats = noStats }
+answerGiven (Imported.Refused n) = record { refusal = n; records = 0; files = 0; warnings = 0; stats = noStats }
 
 -- what a call leaves behind: the answer r, the work slice w, the output buffers t, f and u
 abbrev pub left : List ℕ → List ℕ → List ℕ → List ℕ → Imported → After

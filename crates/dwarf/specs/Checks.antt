@@ -7,8 +7,8 @@ use Prim.Native.Nat.{ℕ, _+_, _*_, _≤_}
 use lib.Dec.{ltb, eqb}
 use lib.ListN.{length}
 use Rattle.tlv.specs.Outcome.{Outcome, refused, done, _>>=_}
-use Rattle.tlv.specs.Lists.{at, isEmpty}
-use Rattle.tlv.specs.Limits.{inputLimit, programLimit, workOfField, workOfProgramByte, workBesides}
+use Rattle.tlv.specs.Lists.{at, exists, isEmpty, isNone}
+use Rattle.tlv.specs.Limits.{inputLimit, programLimit, workOfField, workOfProgramByte, workOfEncodedByte, workBesides}
 use Rattle.tlv.specs.Grammar.{checkInput}
 use Rattle.tlv.specs.Checked.{Accepts}
 use Rattle.tlv.specs.Model.{CompilationUnit, units}
@@ -58,10 +58,22 @@ missingOf main o = cond (o .all) false (missingUnit main (o .ordinal) (at (units
 
 -- ---- 5
 
--- work is shorter than document 01 asks of two sheets with n fields
-abbrev pub shortOf : List ℕ → ℕ → List ℕ → Bool
-shortOf work n program = ltb (length work) (workOfField * n + workOfProgramByte * length program + workBesides)
+-- the unit's rows come from the line program (document 02, E8)
+abbrev pub isEncoded : CompilationUnit → Bool
+isEncoded u = not (isNone (u .encoding))
 
--- work is as long as document 01 asks
-pub record WorkEnough (main supplementary program w : List ℕ) : Type 0 where
-  pub long : (m n : ℕ) → Accepts main m → Accepts supplementary n → workOfField * (m + n) + workOfProgramByte * length program + workBesides ≤ length w
+-- one of the units' do
+unfoldable pub encodedOf : List CompilationUnit → Bool
+encodedOf us = exists isEncoded us
+
+-- the work that a program of so many bytes asks for
+abbrev pub workOfProgram : Bool → ℕ → ℕ
+workOfProgram encoded size = cond encoded workOfEncodedByte workOfProgramByte * size
+
+-- work is shorter than an import asks of two sheets with n fields
+abbrev pub shortOf : List ℕ → ℕ → List ℕ → Bool → Bool
+shortOf work n program encoded = ltb (length work) (workOfField * n + workOfProgram encoded (length program) + workBesides)
+
+-- work is as long as an import asks
+pub record WorkEnough (main supplementary program w : List ℕ) (encoded : Bool) : Type 0 where
+  pub long : (m n : ℕ) → Accepts main m → Accepts supplementary n → workOfField * (m + n) + workOfProgram encoded (length program) + workBesides ≤ length w

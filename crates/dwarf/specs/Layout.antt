@@ -1,19 +1,24 @@
 -- Where the tables of an import stand in the work slice, and that they fit document 01's length. Assumes nothing.
 use mathlib.Core.Path.{_≡_}
+use mathlib.Core.Bool.{Bool, false, cond}
 use mathlib.Core.List.{List}
+use mathlib.Core.Option.{none}
 use Prim.Native.Nat.{ℕ, _+_, _*_, _≤_, _<_, _^_}
 use lib.ListN.{length, getD}
-use Rattle.tlv.specs.Limits.{workOfField, workOfProgramByte, workBesides, joinedLimit}
+use Rattle.tlv.specs.Limits.{workOfField, workBesides, joinedLimit}
 use Rattle.tlv.specs.Fields.{fields, payloads, wholeFields}
 use Rattle.tlv.specs.Checked.{Accepts}
+use Rattle.tlv.specs.Model.{CompilationUnit}
 use Rattle.tlv.specs.Places.{unitHere, unitPlaces}
 use Rattle.files.specs.Possible.{possibleFiles}
 use Rattle.collect.specs.Collects.{linesExtent}
 use Rattle.references.specs.Keys.{possibleKeys}
 use Rattle.dies.specs.Details.{rangeCount, entryCount}
+use Rattle.dies.specs.DetailState.{Accepted}
 use Rattle.subprograms.specs.Contexts.{UnitOf, mapExtent}
 use Rattle.dwarf.specs.declared.layout.Layout.{Layout}
 use Rattle.dwarf.specs.declared.layout.Counts.{Counts}
+use Rattle.dwarf.specs.Checks.{workOfProgram}
 
 -- how many fields of a tag an input has
 abbrev pub countOf : ℕ → List ℕ → ℕ
@@ -29,14 +34,27 @@ pub record Sized (s : List ℕ) (c : Counts) : Type 0 where
   pub directories : c .directories ≡ countOf 0x14 s
   pub files : c .files ≡ countOf 0x15 s
   pub zeros : c .zeros ≡ countOf 0x1c s
+  pub encodings : c .encodings ≡ countOf 0x1d s
   pub rows : c .rows ≡ countOf 0x16 s
   pub entries : c .entries ≡ countOf 0x17 s
   pub attributes : c .attributes ≡ countOf 0x18 s
   pub ranges : c .ranges ≡ countOf 0x19 s
 
+-- how many fields the counts are of
+abbrev pub totalOf : Counts → ℕ
+totalOf c = c .units + c .text + c .directories + c .files + c .zeros + c .encodings + c .rows + c .entries + c .attributes + c .ranges
+
+-- the most rows that a program of so many bytes gives (document 02, E8): each takes a byte
+abbrev pub programRows : ℕ → Bool → ℕ
+programRows size encoded = cond encoded size 0
+
 -- what the targets that a search can follow need, with a chain's head for each entry and one more
 abbrev pub keysRoom : List ℕ → List ℕ → ℕ
 keysRoom main supplementary = (entryCount main + entryCount supplementary + 1) * 4 + 13 * length (possibleKeys main supplementary)
+
+-- the unit's rows have room: they are fields, or there is room for as many as the program can give
+abbrev pub RowsFit : Layout → CompilationUnit → Type 0
+RowsFit l u = l .encoded ≡ false → u .encoding ≡ none
 
 -- the tables stand one behind the other, each with room for what the inputs can bring
 pub record LaidOut (main supplementary program : List ℕ) (l : Layout) : Type 0 where
@@ -44,7 +62,7 @@ pub record LaidOut (main supplementary program : List ℕ) (l : Layout) : Type 0
   pub small : l .room < 2 ^ 32
   pub lines : l .room * 45 + joinedLimit ≤ l .lines
   pub front : l .lines ≤ l .«main_units»
-  pub text : (q : ℕ) → UnitOf main q → l .lines + linesExtent main q program ≤ l .text
+  pub text : (q : ℕ) → UnitOf main q → RowsFit l (unitHere main q) → l .lines + linesExtent main q program ≤ l .text
   pub spans : (q : ℕ) → UnitOf main q → l .text + 16 * length (unitHere main q .text) ≤ l .spans
   pub room-main : (q : ℕ) → UnitOf main q → mapExtent main q ≤ l .«span_room»
   pub room-supplementary : (q : ℕ) → UnitOf supplementary q → mapExtent supplementary q ≤ l .«span_room»
@@ -57,4 +75,10 @@ pub record LaidOut (main supplementary program : List ℕ) (l : Layout) : Type 0
   pub sites : l .stack + 14 * entryCount main ≤ l .sites
   pub keys : l .sites + 12 * entryCount main ≤ l .keys
   pub within : (m n : ℕ) → Accepts main m → Accepts supplementary n
-      → l .keys + keysRoom main supplementary ≤ workOfField * (m + n) + workOfProgramByte * length program + workBesides
+      → l .keys + keysRoom main supplementary ≤ workOfField * (m + n) + workOfProgram (l .encoded) (length program) + workBesides
+
+-- the places, from the counts m and s of any two accepted inputs and the size of any program
+pub record LaysOut (m s : Counts) (size : ℕ) (encoded : Bool) (l : Layout) : Type 0 where
+  pub encoded-is : l .encoded ≡ encoded
+  pub laid : (main supplementary program : List ℕ) → Accepted main → Accepted supplementary → Sized main m → Sized supplementary s → length program ≡ size
+      → LaidOut main supplementary program l

@@ -3,10 +3,20 @@ ghost use mathlib.Core.Path.{_≡_};
 ghost use Prim.Native.Nat.{_+_, _≤_};
 ghost use lib.ListN.{length};
 ghost use Rattle.tlv.specs.Limits.{programLimit, fieldLimit};
-ghost use Rattle.dwarf.specs.Checks.{oversizeOf, ChecksBoth, shortOf, missingOf};
+ghost use Rattle.tlv.specs.Grammar.{encodingTag};
+ghost use Rattle.tlv.specs.Model.{units};
+ghost use Rattle.tlv.specs.Places.{unitHere};
+ghost use Rattle.files.specs.Pieces.{UnitPlaced};
+ghost use Rattle.dies.specs.DetailState.{Accepted};
+ghost use Rattle.dwarf.specs.Checks.{oversizeOf, ChecksBoth, isEncoded, encodedOf, workOfProgram, shortOf, missingOf};
+ghost use Rattle.dwarf.specs.Layout.{countOf};
+ghost use Rattle.dwarf.specs.Runs.{chosenUnits};
 use crate::model::Options;
+use tlv::access::Own;
 use tlv::access::Place;
+use tlv::fields::Step;
 use tlv::grammar::Checked;
+use tlv::grammar::ENCODING_TAG;
 
 // The longest input, and the longest line program.
 const INPUT_LIMIT: usize = 16777216;
@@ -18,6 +28,9 @@ const WORK_OF_FIELD: usize = 64;
 
 // .. for each byte of the line program, ..
 const WORK_OF_PROGRAM_BYTE: usize = 4;
+
+// .. or of one that gives rows (document 02, E8), ..
+const WORK_OF_ENCODED_BYTE: usize = 64;
 
 // .. and besides.
 const WORK_BESIDES: usize = 32768;
@@ -74,11 +87,88 @@ pub fn is_missing(main: &[u8], options: Options) -> bool
     }
 }
 
+// Whether the rows of the unit at a place come from the line program (document 02, E8).
+fn has_encoding(main: &[u8], place: usize) -> bool
+    requires { ⌜ UnitPlaced (now main) place ⌝ }
+    ensures { λ r. ⌜ r ≡ isEncoded (unitHere (now (main .entry)) place) ⌝ }
+{
+    match tlv::access::next_before_rows(main, place + 21, ENCODING_TAG) {
+        Own::Missing => false,
+        Own::Field {
+            start: _,
+            len: _,
+            next: _,
+        } => true,
+    }
+}
+
+// Whether those of one of the units do.
+fn any_encoding(main: &[u8]) -> bool
+    requires { ⌜ Accepted (now main) ⌝ }
+    ensures { λ r. ⌜ r ≡ encodedOf (units (now (main .entry))) ⌝ }
+{
+    let mut p: usize = 0;
+    loop {
+        match tlv::fields::field_at(main, p) {
+            Step::End => {
+                return false;
+            }
+            Step::Cut => {
+                return false;
+            }
+            Step::Field {
+                tag,
+                start: _,
+                len: _,
+                next,
+            } => {
+                if tag == 0x10 {
+                    if has_encoding(main, p) {
+                        return true;
+                    }
+                    p = next;
+                } else {
+                    p = next;
+                }
+            }
+        }
+    }
+}
+
+// Whether those of one of the units that are asked for do, in an input with so many encodings.
+pub fn is_encoded(main: &[u8], options: Options, encodings: usize) -> bool
+    requires { ⌜ Accepted (now main) ⌝ }
+    requires { ⌜ encodings ≡ countOf encodingTag (now main) ⌝ }
+    ensures { λ r. ⌜ r ≡ encodedOf (chosenUnits options (units (now (main .entry)))) ⌝ }
+{
+    if encodings == 0 {
+        return false;
+    }
+    if options.all {
+        return any_encoding(main);
+    }
+    match tlv::access::unit_by_ordinal(main, options.ordinal) {
+        Place::Missing => false,
+        Place::At(place) => has_encoding(main, place),
+    }
+}
+
+// The work that a program of so many bytes asks for.
+fn work_of_program(encoded: bool, size: usize) -> usize
+    requires { ⌜ size ≤ programLimit ⌝ }
+    ensures { λ r. ⌜ r ≡ workOfProgram encoded size ⌝ }
+{
+    if encoded {
+        return WORK_OF_ENCODED_BYTE * size;
+    }
+    WORK_OF_PROGRAM_BYTE * size
+}
+
 // Refusal 5, of two inputs with so many fields.
-pub fn is_short(work: &[u8], number: usize, program: &[u8]) -> bool
+pub fn is_short(work: &[u8], number: usize, program: &[u8], encoded: bool) -> bool
     requires { ⌜ number ≤ fieldLimit + fieldLimit ⌝ }
     requires { ⌜ length (now program) ≤ programLimit ⌝ }
-    ensures { λ r. ⌜ r ≡ shortOf (now (work .entry)) number (now (program .entry)) ⌝ }
+    ensures { λ r. ⌜ r ≡ shortOf (now (work .entry)) number (now (program .entry)) encoded ⌝ }
 {
-    work.len() < WORK_OF_FIELD * number + WORK_OF_PROGRAM_BYTE * program.len() + WORK_BESIDES
+    work.len() < WORK_OF_FIELD * number + work_of_program(encoded, program.len()) + WORK_BESIDES
 }

@@ -7,7 +7,6 @@ ghost use Rattle.dwarf.specs.Runs.{inputsOf, inputsBy};
 ghost use Rattle.dwarf.specs.Answers.{ImportsBy, ImportsUnit, ImportsDwarf, MeasuresBy, MeasuresUnit, MeasuresDwarf};
 use crate::model::Imported;
 use crate::model::Options;
-use crate::model::refusal_of;
 use crate::run::fitting;
 use crate::run::run_cleared;
 
@@ -43,7 +42,7 @@ fn import_by<'a>(
         tlv::table::clear(records);
         tlv::table::clear(files);
         tlv::table::clear(warnings);
-        return Imported::Refused(refusal_of(status));
+        return Imported::Refused(status);
     }
     let stats = r.stats;
     Imported::Finished {
@@ -156,7 +155,7 @@ fn measure_by<'a>(
         &mut warnings,
     );
     if run.status != 0 {
-        return Imported::Refused(refusal_of(run.status));
+        return Imported::Refused(run.status);
     }
     let stats = run.stats;
     Imported::Finished {

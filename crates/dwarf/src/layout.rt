@@ -1,9 +1,8 @@
 // Where the tables of an import stand in the work slice: places computed from counts of fields.
+ghost use mathlib.Core.Path.{_≡_};
 ghost use Prim.Native.Nat.{_≤_};
-ghost use lib.ListN.{length};
-ghost use Rattle.tlv.specs.Limits.{programLimit};
-ghost use Rattle.dies.specs.DetailState.{Accepted};
-ghost use Rattle.dwarf.specs.Layout.{TagsCounted, Sized, LaidOut};
+ghost use Rattle.tlv.specs.Limits.{programLimit, fieldLimit};
+ghost use Rattle.dwarf.specs.Layout.{TagsCounted, Sized, totalOf, programRows, LaysOut};
 use files::store::JOINED_LIMIT;
 use rows::line::ENTRY_SIZE;
 use rows::line::ROW_ROOM;
@@ -25,6 +24,8 @@ pub struct Layout {
     pub stack: usize,
     pub sites: usize,
     pub keys: usize,
+    // Whether the lines have room for as many rows as the program has bytes, beside the row fields.
+    pub encoded: bool,
 }
 
 // For each tag that needs a table, how many fields of it the input has.
@@ -34,6 +35,7 @@ pub struct Counts {
     pub directories: usize,
     pub files: usize,
     pub zeros: usize,
+    pub encodings: usize,
     pub rows: usize,
     pub entries: usize,
     pub attributes: usize,
@@ -71,7 +73,7 @@ fn count_tags(s: &[u8]) -> [usize; 32]
 }
 
 // For each tag that needs a table, how many fields of it the input has.
-fn counts_of(s: &[u8]) -> Counts
+pub fn counts_of(s: &[u8]) -> Counts
     ensures { λ r. ⌜ Sized (now (s .entry)) r ⌝ }
 {
     let counts = count_tags(s);
@@ -81,6 +83,7 @@ fn counts_of(s: &[u8]) -> Counts
         directories: counts[0x14],
         files: counts[0x15],
         zeros: counts[0x1c],
+        encodings: counts[0x1d],
         rows: counts[0x16],
         entries: counts[0x17],
         attributes: counts[0x18],
@@ -88,22 +91,30 @@ fn counts_of(s: &[u8]) -> Counts
     }
 }
 
-// The places for two inputs and a program.
-pub fn lay_out(main: &[u8], supplementary: &[u8], program: &[u8]) -> Layout
-    requires { ⌜ Accepted (now main) ⌝ }
-    requires { ⌜ Accepted (now supplementary) ⌝ }
-    requires { ⌜ length (now program) ≤ programLimit ⌝ }
-    ensures { λ r. ⌜ LaidOut (now (main .entry)) (now (supplementary .entry)) (now (program .entry)) r ⌝ }
+// The most rows that a program of so many bytes gives.
+fn program_rows(size: usize, encoded: bool) -> usize
+    ensures { λ r. ⌜ r ≡ programRows size encoded ⌝ }
 {
-    let m = counts_of(main);
-    let s = counts_of(supplementary);
+    if encoded {
+        return size;
+    }
+    0
+}
+
+// The places for a main input with counts m, a supplementary one with counts s, and a program of so many bytes, which may give rows.
+pub fn lay_out(m: Counts, s: Counts, size: usize, encoded: bool) -> Layout
+    requires { ⌜ (totalOf m ≤ fieldLimit) × (totalOf s ≤ fieldLimit) ⌝ }
+    requires { ⌜ size ≤ programLimit ⌝ }
+    ensures { λ r. ⌜ LaysOut m s size encoded r ⌝ }
+{
     let room = m.files + m.zeros + s.files + s.zeros + 1;
     let lines = room * 45 + JOINED_LIMIT;
+    let rows = m.rows + program_rows(size, encoded);
     let text = lines
-        + program.len() / 3 * 8
+        + size / 3 * 8
         + 8 * m.directories
         + 5 * (1 + m.files)
-        + ROW_ROOM * m.rows
+        + ROW_ROOM * rows
         + ENTRY_SIZE;
     let spans = text + 16 * m.text;
     let span_room = 8 * (m.directories + s.directories) + 5 * (1 + m.files + s.files);
@@ -128,5 +139,6 @@ pub fn lay_out(main: &[u8], supplementary: &[u8], program: &[u8]) -> Layout
         stack: stack,
         sites: sites,
         keys: sites + 12 * m.entries,
+        encoded: encoded,
     }
 }

@@ -1,4 +1,4 @@
-// An import up to refusal 15: what is written to the output buffers is cut off at their ends.
+// An import up to the refusals of the output buffers' lengths: what is written to the output buffers is cut off at their ends.
 ghost use mathlib.Core.Path.{_≡_};
 ghost use Prim.Native.Nat.{ℕ};
 ghost use lib.ListN.{length, replicate};
@@ -6,13 +6,17 @@ ghost use Rattle.tlv.specs.Model.{units};
 ghost use Rattle.references.specs.Names.{dwarfOf};
 ghost use Rattle.dies.specs.DetailState.{Accepted};
 ghost use Rattle.imports.specs.Import.{importUnits};
-ghost use Rattle.dwarf.specs.Checks.{BothAccepted, NotOversize, WorkEnough};
+ghost use Rattle.dwarf.specs.Checks.{BothAccepted, NotOversize, encodedOf, WorkEnough};
+ghost use Rattle.dwarf.specs.Layout.{Sized};
 ghost use Rattle.dwarf.specs.Runs.{inputsBy, importAll, chosenUnits, Chooses, importAccepted, startState, LengthsOf, Writes, fitStatus};
 use crate::checks::BothChecked;
 use crate::checks::check_both;
+use crate::checks::is_encoded;
 use crate::checks::is_missing;
 use crate::checks::is_oversize;
 use crate::checks::is_short;
+use crate::layout::Counts;
+use crate::layout::counts_of;
 use crate::layout::lay_out;
 use crate::model::Options;
 use crate::tables::index_inputs;
@@ -87,6 +91,8 @@ fn import_worked<'a>(
     supplementary: &'a [u8],
     program: &[u8],
     options: Options,
+    counts: Counts,
+    encoded: bool,
     work: &mut [u8],
     records: &mut [u8],
     files: &mut [u8],
@@ -94,14 +100,17 @@ fn import_worked<'a>(
 ) -> Ran
     requires { ⌜ (Accepted (now main)) × (Accepted (now supplementary)) ⌝ }
     requires { ⌜ NotOversize (now main) (now supplementary) (now program) ⌝ }
-    requires { ⌜ WorkEnough (now main) (now supplementary) (now program) (now work) ⌝ }
+    requires { ⌜ Sized (now main) counts ⌝ }
+    requires { ⌜ encoded ≡ encodedOf (chosenUnits options (units (now main))) ⌝ }
+    requires { ⌜ WorkEnough (now main) (now supplementary) (now program) (now work) encoded ⌝ }
     ensures { λ r. ⌜ (
         let us = chosenUnits options (units (now (main .entry))) in
         let d = dwarfOf (now (main .entry)) (now (supplementary .entry)) in
         Writes (importUnits d us (now (program .entry)) (options .inlines) (options .«call_sites») (startState (options .«first_file»)))
         (now (records .entry)) (now (files .entry)) (now (warnings .entry)) (now (records .exit)) (now (files .exit)) (now (warnings .exit)) r) ⌝ }
 {
-    let l = lay_out(main, supplementary, program);
+    let others = counts_of(supplementary);
+    let l = lay_out(counts, others, program.len(), encoded);
     let empty = new_files(main, supplementary, work, 0, l.room, options.first_file, 0);
     let tables = index_inputs(main, supplementary, program, work, l);
     let index = tables.main;
@@ -153,7 +162,9 @@ fn import_accepted<'a>(
     if is_missing(main, options) {
         return refused(4);
     }
-    if is_short(work, number, program) {
+    let counts = counts_of(main);
+    let encoded = is_encoded(main, options, counts.encodings);
+    if is_short(work, number, program, encoded) {
         return refused(5);
     }
     import_worked(
@@ -161,6 +172,8 @@ fn import_accepted<'a>(
         supplementary,
         program,
         options,
+        counts,
+        encoded,
         work,
         records,
         files,
@@ -168,7 +181,7 @@ fn import_accepted<'a>(
     )
 }
 
-// The import up to refusal 15.
+// The import up to those refusals.
 fn run_import<'a>(
     main: &'a [u8],
     supplementary: &'a [u8],

@@ -1,11 +1,13 @@
 // The import of a unit from a state to a state (the Rust's import_unit), and of units one after another (its import_dwarf).
 ghost use Prim.Native.Nat.{_-_, _≤_};
 ghost use lib.ListN.{length, take, drop};
+ghost use Rattle.tlv.specs.Lists.{All};
 ghost use Rattle.tlv.specs.Model.{units};
 ghost use Rattle.tlv.specs.Places.{unitHere};
 ghost use Rattle.collect.specs.Collects.{UnitIn};
 ghost use Rattle.references.specs.Names.{dwarfOf};
 ghost use Rattle.imports.specs.Import.{importUnit, importUnits};
+ghost use Rattle.dwarf.specs.Layout.{RowsFit};
 ghost use Rattle.dwarf.specs.Tables.{TablesIn, LinesLaid, MakesContext};
 ghost use Rattle.dwarf.specs.Units.{Ready, besideTables, Grows};
 use crate::layout::Layout;
@@ -79,7 +81,7 @@ fn import_at<'a>(
     warnings: &mut [u8],
     st: ImportState,
 ) -> ImportState
-    requires { ⌜ UnitIn (now main) place ⌝ }
+    requires { ⌜ (UnitIn (now main) place) × (RowsFit l (unitHere (now main) place)) ⌝ }
     requires { ⌜ TablesIn (now main) (now supplementary) (now program) (now work) l tables ⌝ }
     requires { ⌜ Ready (now main) (now supplementary) (now work) l st ⌝ }
     ensures { λ r. ⌜ (
@@ -167,6 +169,7 @@ pub fn import_each<'a>(
     st: ImportState,
 ) -> ImportState
     requires { ⌜ (from ≤ to) × (to ≤ tables .main .«unit_count») ⌝ }
+    requires { ⌜ All (RowsFit l) (take (to - from) (drop from (units (now main)))) ⌝ }
     requires { ⌜ TablesIn (now main) (now supplementary) (now program) (now work) l tables ⌝ }
     requires { ⌜ Ready (now main) (now supplementary) (now work) l st ⌝ }
     ensures { λ r. ⌜ (

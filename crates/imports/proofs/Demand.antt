@@ -3,6 +3,7 @@ use mathlib.Core.Path.{_≡_, refl, sym, ap, _∙_}
 use mathlib.Core.Bool.{Bool, true, false, cond, false≢true}
 use mathlib.Core.List.{List, [], _∷_, _++_, append-nil, append-assoc}
 use mathlib.Core.Option.{Option, none, some}
+use mathlib.Core.Logic.{inl, inr}
 use Prim.Native.Nat.{ℕ, _+_}
 use native.Mathlib.Omega.{arith}
 use lib.ListN.{length, take, drop}
@@ -18,16 +19,17 @@ use Rattle.tlv.specs.Output.{Function}
 use Rattle.tlv.specs.Reader.{readRecords, readFiles, readWarnings}
 use Rattle.tlv.proofs.TestLaws.{and-left, and-right}
 use Rattle.tlv.proofs.ListLaws.{all-at}
-use Rattle.tlv.proofs.RefusalLaws.{RefusesIn, refusal-number}
 use Rattle.tlv.proofs.OutcomeLaws.{done-is, refused-not, with-done}
 use Rattle.tlv.proofs.ReadBack.{records-back, files-back, warnings-back}
 use Rattle.tlv.proofs.AcceptedUnits.{accepting}
 use Rattle.lines.proofs.RowLaws.{rows-agree}
-use Rattle.lines.proofs.LineBounds.{sorted-lines}
+use Rattle.machine.proofs.NumberLaws.{Refuses, number-of}
+use Rattle.machine.proofs.UnitLines.{sorted-lines}
 use Rattle.imports.specs.Import.{State, importUnit, importUnits}
 use Rattle.imports.specs.Answer.{Inputs, oversize, workNeeded, initialState, dwarfOf, importWorked, isBare, importChosen, checked, importOf}
 use Rattle.imports.specs.Answer.{importDwarfOf, Written, written, fitting, outcomeOf, Answer, answerOf, bufferAfter, afterwards, after, afterDwarf}
-use Rattle.imports.specs.Demand.{ChosenAgrees, UnitsAgree, Units, Lent, StateFits, Finished, Demand, DwarfDemand}
+use Rattle.imports.specs.Sizes.{EarlyNumber}
+use Rattle.imports.specs.Demand.{RefusalNumber, ChosenAgrees, UnitsAgree, Units, Lent, StateFits, Finished, Demand, DwarfDemand}
 use Rattle.imports.proofs.Refusals.{refuses-import, refuses-dwarf, refuses-outcome}
 use Rattle.imports.proofs.ImportBounds.{producing, dwarf-producing}
 use Rattle.imports.proofs.WalkMachine.{walk-tree, walk-treeless}
@@ -124,8 +126,12 @@ held : (part : Written → List ℕ) (size : Answer → ℕ) → ((w : Written) 
 unfolding bufferAfter
 held part size sizes buffer o w e = rw (e, sizes w) (take-at (part w) (drop (length (part w)) buffer) (length (part w)) refl)
 
+never-zero : (n : ℕ) → n ≡ 0 → RefusalNumber n → ⊥
+never-zero n z (inl p) = omega (arith, p .0)
+never-zero n z (inr p) = omega (arith, p .0)
+
 -- a call whose import comes to o
-module _ (i : Inputs) (o : Outcome State) (Agree : List Function → Type 0) (within : RefusesIn 1 15 o) where
+module _ (i : Inputs) (o : Outcome State) (Agree : List Function → Type 0) (early : Refuses EarlyNumber o) where
   module _ (fits : (s : State) → o ≡ done s → StateFits s) (agrees : (s : State) → o ≡ done s → Agree (s .records)) where
     read : (s : State) → o ≡ done s → outcomeOf i o ≡ done (written s) → Finished o Agree (afterwards i o)
     unfolding afterwards written answerOf
@@ -145,7 +151,7 @@ module _ (i : Inputs) (o : Outcome State) (Agree : List Function → Type 0) (wi
 
     by-outcome : (x : Outcome Written) → outcomeOf i o ≡ x → answerOf x .refusal ≡ 0 → Finished o Agree (afterwards i o)
     unfolding answerOf outcomeOf
-    by-outcome (refused n) e z = absurd (omega (arith, refusal-number (refuses-outcome i o within) e))
+    by-outcome (refused n) e z = absurd (never-zero n z (number-of (refuses-outcome i o early) e))
     by-outcome (done w) e z = with-done o (λ s. fitting i (written s)) e λ s q r. read s q (e ∙ sym (ap done (fits-is i (written s) w r)))
 
     finished : afterwards i o .answer .refusal ≡ 0 → Finished o Agree (afterwards i o)

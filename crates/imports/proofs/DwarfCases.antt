@@ -12,6 +12,7 @@ use Rattle.lines.specs.Paths
 use Rattle.lines.specs.Files
 use Rattle.lines.specs.Lines
 use Rattle.lines.specs.Rows
+use Rattle.machine.specs.LineRows
 use Rattle.references.specs.Search
 use Rattle.imports.specs.Ranges
 use Rattle.imports.specs.Tree
@@ -26,7 +27,7 @@ unfolding Outcome._>>=_ Lists.filter Lists.takeWhile Lists.dropWhile Lists.first
     Grammar.rowShaped Grammar.entryShaped Grammar.valueShaped Grammar.attributeShaped Grammar.rangeShaped Grammar.failureShaped Grammar.payloadShaped
     Grammar.shaped Grammar.payloadLimited Grammar.limited Grammar.next Grammar.checkFrom Grammar.checkInput Model.rangeOf Model.headerOf Model.partOf
     Model.directoryOf Model.fileOf Model.rowOf Model.attributeOf Model.entryRangeOf Model.failureOf Model.entryOf Model.unitOf Model.units Model.programOf
-    Model.lineRows Model.dieRanges Output.kindNumber Output.functionPayload Output.rowPayload Output.nodePayload Output.rangePayload Output.sitePayload
+    LineRows.lineRows Model.dieRanges Output.kindNumber Output.functionPayload Output.rowPayload Output.nodePayload Output.rangePayload Output.sitePayload
     Output.filePayload Output.warningPayload Output.eachOf Output.nodeBytes Output.functionBytes Output.recordsBytes Output.filesBytes Output.warningsBytes
     Program.ulebWithin Program.uleb Program.slebWithin Program.sleb Program.operandKinds Program.skipOperand Program.skipOperands Program.takeLineBytes
     Program.extendedBody Program.extended Program.skip Program.sequencesWithin Program.scanLineSequenceOffsets Program.initialLength Program.versionBytes
@@ -34,7 +35,7 @@ unfolding Outcome._>>=_ Lists.filter Lists.takeWhile Lists.dropWhile Lists.first
     Paths.rootLength Paths.baseStart Paths.basenameOf Paths.directoryName Paths.startsWith Paths.endsWith Paths.isDrive Paths.isShare Paths.isAbsolute
     Paths.appendPath Paths.namedDirectory Paths.needsCompilation Paths.joinedDirectory Paths.fileEntry Files.placeOf Files.appendFile Files.addFile
     Files.internFile Files.internFiles Files.internHeaderFiles Files.get Files.headerFile Lines.runRows Lines.convertLine Lines.convertRow Lines.convertRows
-    Lines.insertRow Lines.sortRows Lines.dropAfter Lines.dropNeighbours Lines.collectHeader Lines.collectLines Rows.contains Rows.compactLineRows Rows.ownRows
+    Lines.insertRow Lines.sortRows Lines.dropAfter Lines.dropNeighbours Lines.collectHeader LineRows.collectLines Rows.contains Rows.compactLineRows Rows.ownRows
     Rows.earlierRow Rows.selectedSequence Rows.rowsFor Rows.forRange Search.unitsIn Search.isVisited Search.attribute Search.unsignedAttribute
     Search.fileIndexAttribute Search.absoluteEntryOffset Search.entryAt Search.unitContaining Search.followAbsolute Search.followUnit Search.follow
     Search.ownName Search.referencedName Search.resolveNameInner Search.resolveNamed Search.resolveName Search.resolveReferenceName Search.warnDeclaration

@@ -51,6 +51,7 @@ unitOf entries = record {
   directory = none;
   text = from-to 0 100 ∷ [];
   header = none;
+  encoding = none;
   part = none;
   directories = [];
   fileZero = none;
@@ -120,7 +121,7 @@ example-three :
     ((from-to 10 20, node 0 65 (from-to 10 20) ∷ node 1 97 (from-to 11 12) ∷ node 1 98 (from-to 13 14) ∷ [])
     ∷ (from-to 13 16, node 0 66 (from-to 13 16) ∷ node 1 98 (from-to 13 14) ∷ [])
     ∷ (from-to 10 20, node 0 67 (from-to 10 20) ∷ node 1 99 (from-to 15 16) ∷ []) ∷ [])
-unfolding records Rattle.lines.specs.Lines.collectLines Rattle.lines.specs.Lines.dropNeighbours Rattle.references.specs.Search.resolveDeclarationLine
+unfolding records Rattle.machine.specs.LineRows.collectLines Rattle.lines.specs.Lines.dropNeighbours Rattle.references.specs.Search.resolveDeclarationLine
     Rattle.references.specs.Search.resolveDeclaration Rattle.references.specs.Search.ownDeclaration
     Rattle.references.specs.Search.referencedDeclaration Rattle.tlv.specs.Outcome._>>=_ Rattle.tlv.specs.Lists.filter Rattle.tlv.specs.Lists.takeWhile
     Rattle.tlv.specs.Lists.dropWhile Rattle.tlv.specs.Lists.first Rattle.tlv.specs.Lists.orElse Rattle.tlv.specs.Lists.last

@@ -26,7 +26,7 @@ use Rattle.tlv.proofs.AcceptedUnits.{accepting}
 use Rattle.lines.specs.Files.{FileTable}
 use Rattle.lines.specs.Rows.{forRange}
 use Rattle.lines.proofs.Bounds.{TableFits, LinesFit}
-use Rattle.lines.proofs.LineBounds.{gives-lines}
+use Rattle.machine.proofs.UnitLines.{gives-lines}
 use Rattle.lines.proofs.RowLaws.{rows-fit}
 use Rattle.references.specs.Search.{Dwarf, attribute}
 use Rattle.references.proofs.NameBounds.{DwarfAccepted, attribute-accepted, absolute-small, gives-name}

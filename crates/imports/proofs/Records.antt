@@ -18,7 +18,8 @@ use Rattle.tlv.proofs.TestLaws.{empty-filled}
 use Rattle.tlv.proofs.PlaceLaws.{front-among, front-is, front-next}
 use Rattle.tlv.proofs.OutcomeLaws.{with-done}
 use Rattle.lines.specs.Files.{FileTable}
-use Rattle.lines.specs.Lines.{UnitLines, Collected, collectLines}
+use Rattle.lines.specs.Lines.{UnitLines, Collected}
+use Rattle.machine.specs.LineRows.{collectLines}
 use Rattle.lines.specs.Rows.{forRange}
 use Rattle.lines.specs.RowsAgree.{RowsAgree}
 use Rattle.lines.proofs.Bounds.{Sorted}

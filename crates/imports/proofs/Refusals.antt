@@ -1,25 +1,32 @@
--- Every refusal of an import has one of document 01's numbers, 1 to 18, and by its stage: 2 and 3 the grammar, 6 to 15 a unit, 16 to 18 the trays. Assumes nothing.
+-- Every refusal of an import has one of document 01's numbers, 1 to 18, or document 02's 21 or 22 (E8), and by its stage: 2 and 3 the grammar, 6 to 15, 21 and 22
+-- a unit, 16 to 18 the trays. Assumes nothing.
 use mathlib.Core.Path.{_≡_}
-use Prim.Native.Nat.{ℕ, _≤_}
+use Prim.Native.Nat.{ℕ, _+_, _≤_}
+use native.Mathlib.Omega.{arith}
+use mathlib.Core.Logic.{inl, inr}
 use mathlib.Core.Bool.{Bool, true, false}
 use mathlib.Core.List.{List, [], _∷_}
 use mathlib.Core.Option.{Option, none, some}
 use Rattle.tlv.specs.declared.model.AddressRange.{AddressRange}
 use Rattle.tlv.specs.declared.model.FileIndex.{FileIndex}
 use Rattle.tlv.specs.declared.model.LineEntry.{LineEntry}
+use lib.ListN.{length}
+use lib.Dec.{ltb}
 use Rattle.tlv.specs.Outcome.{Outcome, refused}
 use Rattle.tlv.specs.Lists.{at}
-use Rattle.tlv.specs.Model.{CompilationUnit, Entry, EntryRange, Attribute, RangeFailure, units}
+use Rattle.tlv.specs.Model.{CompilationUnit, Entry, EntryRange, Attribute, RangeFailure, units, programOf}
 use Rattle.tlv.specs.Output.{Warning}
-use Rattle.tlv.proofs.RefusalLaws.{RefusesIn, never, refuses-wider, refusal-number, refusing, refuses-input}
+use Rattle.tlv.proofs.RefusalLaws.{RefusesIn, never, refuses-wider, refusing, refuses-input}
 use Rattle.lines.specs.Files.{FileTable, get}
-use Rattle.lines.proofs.Refusals.{refuses-lines}
+use Rattle.machine.proofs.NumberLaws.{Refuses, by-number, not-refused, number-cond, number-of, number-in, number-among, number-bind}
+use Rattle.machine.proofs.UnitLines.{LineNumbers, refuses-lines}
 use Rattle.references.specs.Search.{Dwarf, attribute, unsignedAttribute, fileIndexAttribute}
 use Rattle.references.proofs.Refusals.{refuses-offset, refuses-name, refuses-reference-name, refuses-declaration-line}
 use Rattle.imports.specs.Tree.{DetailContext, Descendants, siteWithOrigin, siteAt, makeCallSite, callFileFrom, callFileIf, callFileOf, callLineIf, callLineOf, pushInline, makeInlineNode, collectEntry, collectEntries, collectDescendants, extractSubprogramDetails}
 use Rattle.imports.specs.Import.{State, ImportContext, sequenceWarning, declarationIf, importRange, importRanges, importByFailure, importSubprogram, importUnitDetails, importUnit, importUnits}
-use Rattle.imports.specs.Answer.{Inputs, Written, importWorked, importChosen, checked, importOf, importDwarfOf, fitting, outcomeOf}
-use Rattle.imports.specs.Demand.{Refusals, DwarfRefusals}
+use Rattle.imports.specs.Answer.{Inputs, Written, written, oversize, workNeeded, initialState, dwarfOf, importWorked, isBare, importChosen, checked, importOf, importDwarfOf, fitting, outcomeOf}
+use Rattle.imports.specs.Sizes.{EarlyNumber}
+use Rattle.imports.specs.Demand.{RefusalNumber, Refusals, DwarfRefusals}
 
 -- ---- below a subprogram: 6 to 14
 
@@ -114,35 +121,56 @@ module _ (q : ImportContext) where
   refuses-unit-details [] s = never
   refuses-unit-details (e ∷ es) s = let later = refuses-unit-details es in search (refusing, refuses-subprogram)
 
+-- 6 to 15, and what its lines are refused with
 pub refuses-unit : (d : Dwarf) (u : CompilationUnit) (program : List ℕ) (inlines callSites : Bool) (s : State)
-    → RefusesIn 6 15 (importUnit d u program inlines callSites s)
+    → Refuses LineNumbers (importUnit d u program inlines callSites s)
 unfolding importUnit
-refuses-unit d u program inlines callSites s = search (refusing, refuses-lines, refuses-unit-details)
+refuses-unit d u program inlines callSites s =
+    number-bind (refuses-lines u (programOf u program) (s .table)) λ c. number-in 6 15 (λ n p q. inl (p, q)) (refuses-unit-details _ _ _)
 
--- ---- the whole: 1 to 15, then 16 to 18
+-- ---- the whole: 1 to 15, 21 and 22, then 16 to 18
+
+early : (lo hi : ℕ) → 1 ≤ lo → hi ≤ 15 → (n : ℕ) → lo ≤ n → n ≤ hi → EarlyNumber n
+early lo hi h k n p q = inl (omega arith, omega arith)
+
+line-early : (n : ℕ) → LineNumbers n → EarlyNumber n
+line-early n (inl p) = inl (omega (arith, p .0), p .1)
+line-early n (inr p) = inr p
+
+early-any : (n : ℕ) → EarlyNumber n → RefusalNumber n
+early-any n (inl p) = inl (p .0, omega (arith, p .1))
+early-any n (inr p) = inr p
 
 refuses-units : (d : Dwarf) (us : List CompilationUnit) (program : List ℕ) (inlines callSites : Bool) (s : State)
-    → RefusesIn 6 15 (importUnits d us program inlines callSites s)
+    → Refuses LineNumbers (importUnits d us program inlines callSites s)
 unfolding importUnits
-refuses-units d [] program inlines callSites s = never
-refuses-units d (u ∷ us) program inlines callSites s = let later = refuses-units d us program inlines callSites in search (refusing, refuses-unit)
+refuses-units d [] program inlines callSites s = not-refused
+refuses-units d (u ∷ us) program inlines callSites s =
+    number-bind (refuses-unit d u program inlines callSites s) (refuses-units d us program inlines callSites)
 
-refuses-worked : (i : Inputs) (n : ℕ) (us : List CompilationUnit) → RefusesIn 1 15 (importWorked i n us)
-refuses-worked i n us = search (refusing, refuses-wider 6 15, refuses-units)
+refuses-worked : (i : Inputs) (n : ℕ) (us : List CompilationUnit) → Refuses EarlyNumber (importWorked i n us)
+refuses-worked i n us =
+    number-cond (ltb (length (i .work)) (workNeeded i n us)) (by-number (inl (omega arith, omega arith)))
+    (number-among line-early (refuses-units (dwarfOf i) us (i .program) (i .inlines) (i .callSites) (initialState i)))
 
-refuses-checked : (i : Inputs) (rest : ℕ → Outcome State) → ((n : ℕ) → RefusesIn 1 15 (rest n)) → RefusesIn 1 15 (checked i rest)
+refuses-checked : (i : Inputs) (rest : ℕ → Outcome State) → ((n : ℕ) → Refuses EarlyNumber (rest n)) → Refuses EarlyNumber (checked i rest)
 unfolding checked
-refuses-checked i rest h = search (refusing, refuses-wider 2 3, refuses-input, h)
+refuses-checked i rest h =
+    let k = length (i .program) in
+    number-cond (oversize i) (by-number (inl (omega arith, omega arith)))
+    (number-bind (number-in 2 3 (early 2 3 (omega arith) (omega arith)) (refuses-input k (i .main))) λ m.
+    number-bind (number-in 2 3 (early 2 3 (omega arith) (omega arith)) (refuses-input k (i .supplementary))) λ s.
+    h (m + s))
 
-pub refuses-import : (i : Inputs) → RefusesIn 1 15 (importOf i)
+pub refuses-import : (i : Inputs) → Refuses EarlyNumber (importOf i)
 unfolding importOf
 refuses-import i = refuses-checked i _ (λ n. go n (at (units (i .main)) (i .ordinal)))
   where
-    go : (n : ℕ) (o : Option CompilationUnit) → RefusesIn 1 15 (importChosen i n o)
-    go n none = search (refusing, refuses-worked)
-    go n (some u) = search refuses-worked
+    go : (n : ℕ) (o : Option CompilationUnit) → Refuses EarlyNumber (importChosen i n o)
+    go n none = number-cond (isBare i) (refuses-worked i n []) (by-number (inl (omega arith, omega arith)))
+    go n (some u) = refuses-worked i n (u ∷ [])
 
-pub refuses-dwarf : (i : Inputs) → RefusesIn 1 15 (importDwarfOf i)
+pub refuses-dwarf : (i : Inputs) → Refuses EarlyNumber (importDwarfOf i)
 unfolding importDwarfOf
 refuses-dwarf i = refuses-checked i _ (λ n. refuses-worked i n (units (i .main)))
 
@@ -150,13 +178,15 @@ pub refuses-fitting : (i : Inputs) (w : Written) → RefusesIn 16 18 (fitting i 
 unfolding fitting
 refuses-fitting i w = search refusing
 
-pub refuses-outcome : (i : Inputs) (o : Outcome State) → RefusesIn 1 15 o → RefusesIn 1 18 (outcomeOf i o)
+pub refuses-outcome : (i : Inputs) (o : Outcome State) → Refuses EarlyNumber o → Refuses RefusalNumber (outcomeOf i o)
 unfolding outcomeOf
-refuses-outcome i o h = search (refusing, refuses-wider 1 15, h, refuses-wider 16 18, refuses-fitting)
+refuses-outcome i o h =
+    number-bind (number-among early-any h) λ s.
+    number-in 16 18 (λ n p q. inl (omega arith, q)) (refuses-fitting i (written s))
 
--- every refusal is one of document 01's numbers
+-- every refusal is one of these numbers
 pub refusals : Refusals
-refusals i n e = refusal-number (refuses-outcome i (importOf i) (refuses-import i)) e
+refusals i n e = number-of (refuses-outcome i (importOf i) (refuses-import i)) e
 
 pub dwarf-refusals : DwarfRefusals
-dwarf-refusals i n e = refusal-number (refuses-outcome i (importDwarfOf i) (refuses-dwarf i)) e
+dwarf-refusals i n e = number-of (refuses-outcome i (importDwarfOf i) (refuses-dwarf i)) e

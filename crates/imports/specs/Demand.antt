@@ -1,7 +1,7 @@
 -- Demand 3 whole, and that trays can be read back: what holds of every import that is done, for every input. Assumes nothing.
 use Prim.Native.Nat.{ℕ, suc, _-_, _^_, _≤_, _<_}
 use mathlib.Core.Path.{_≡_}
-use mathlib.Core.Logic.{_↔_, _≢_}
+use mathlib.Core.Logic.{_↔_, _⊎_, _≢_}
 use mathlib.Core.Bool.{Bool, true, false, cond, _&&_, not}
 use mathlib.Core.List.{List, [], _∷_, _++_, map}
 use mathlib.Core.Option.{Option, none, some}
@@ -156,13 +156,16 @@ Producing = (i : Inputs) (s : State) → Lent i → importOf i ≡ done s → St
 abbrev pub DwarfProducing : Type 0
 DwarfProducing = (i : Inputs) (s : State) → Lent i → importDwarfOf i ≡ done s → StateFits s
 
--- ---- every refusal is one of document 01's numbers
+-- ---- every refusal is one of document 01's numbers, or document 02's 21 or 22 (E8)
+
+abbrev pub RefusalNumber : ℕ → Type 0
+RefusalNumber n = ((1 ≤ n) × (n ≤ 18)) ⊎ ((21 ≤ n) × (n ≤ 22))
 
 abbrev pub Refusals : Type 0
-Refusals = (i : Inputs) (n : ℕ) → outcomeOf i (importOf i) ≡ refused n → (1 ≤ n) × (n ≤ 18)
+Refusals = (i : Inputs) (n : ℕ) → outcomeOf i (importOf i) ≡ refused n → RefusalNumber n
 
 abbrev pub DwarfRefusals : Type 0
-DwarfRefusals = (i : Inputs) (n : ℕ) → outcomeOf i (importDwarfOf i) ≡ refused n → (1 ≤ n) × (n ≤ 18)
+DwarfRefusals = (i : Inputs) (n : ℕ) → outcomeOf i (importDwarfOf i) ≡ refused n → RefusalNumber n
 
 -- ---- the whole demand, of what the trays hold after a call
 

@@ -12,7 +12,8 @@ use Rattle.tlv.specs.Lists.{takeWhile, exists, isEmpty}
 use Rattle.tlv.specs.Model.{CompilationUnit, Entry, EntryRange, Attribute, RangeFailure, programOf, dieRanges}
 use Rattle.tlv.specs.Output.{InlineNode, Function, Warning, malformedRanges, about, rejectedRange, invalidStatementSequence}
 use Rattle.lines.specs.Files.{FileTable, fileIndex}
-use Rattle.lines.specs.Lines.{UnitLines, collectLines}
+use Rattle.lines.specs.Lines.{UnitLines}
+use Rattle.machine.specs.LineRows.{collectLines}
 use Rattle.lines.specs.Rows.{contains, forRange}
 use Rattle.references.specs.Search.{Dwarf, Declaring, emptyTrail, attribute, absoluteEntryOffset, resolveName, resolveDeclarationLine}
 use Rattle.imports.specs.Tree.{DetailContext, extractSubprogramDetails, liesIn}

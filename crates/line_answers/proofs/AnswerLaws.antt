@@ -25,6 +25,7 @@ use Rattle.rows.specs.declared.«unit_lines».StoredLines.{StoredLines}
 use Rattle.rows.specs.declared.«unit_lines».FunctionRows.{FunctionRows}
 use Rattle.rows.specs.Selects.{RowsIn, ForRange}
 use Rattle.rows.proofs.StoredLaws.{lines-kept}
+use Rattle.machine.proofs.UnitLines.{most-few}
 use Rattle.collect.specs.declared.collect.CollectedLines.{CollectedLines}
 use Rattle.collect.specs.Collects.{UnitIn, linesExtent, LinesRoom, CollectsLines}
 use Rattle.line_answers.specs.Answers.{Room, HasRoom, CollectedRows}
@@ -76,7 +77,7 @@ lines-room {s} {w} {w′} {program} {n} {p} {t} e U R E same =
     let any = at-any p (U .number) (unitPlaces 0 (fields s)) (U .is) in
     record {
       table = omega (arith, E .base-is, E .room-is);
-      room = omega (arith, R .within, tags-few s n e, directories-few s p any, files-few-in s p any, rows-few s p any);
+      room = omega (arith, R .within, tags-few s n e, directories-few s p any, files-few-in s p any, rows-few s p any, most-few (unitHere s p) program);
     }
 
 pub collected-rows : {s supplementary program w w′ files files′ warnings warnings′ : List ℕ} {p : ℕ} {t : StoredFiles} {warned free : ℕ} (r : CollectedLines)

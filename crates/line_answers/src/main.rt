@@ -9,9 +9,13 @@ ghost use Rattle.line_answers.specs.Answers.{Room, HasRoom, CollectedRow
 use collect::collect::CollectedLines;
 use files::store::JOINED_LIMIT;
 use rows::line::ENTRY_SIZE;
+use rows::line::ROW_ROOM;
 use rows::unit_lines::StoredLines;
 
 mod front;
+
+// The room for a byte of a program that gives rows: at most a row, and an offset of eight bytes in three.
+const BYTE_ROOM: usize = ROW_ROOM + 3;
 
 // The number in the next 4 bytes.
 fn next_u32() -> u32 {
@@ -270,7 +274,7 @@ fn has_room(main: usize, program: usize, n: usize, work: usize) -> bool
     if work < need {
         return false;
     }
-    if (work - need) / 8 < program / 3 {
+    if (work - need) / BYTE_ROOM < program {
         return false;
     }
     true

@@ -8,19 +8,19 @@ use borrow.Author.Tests.{ltb-true}
 use lib.ListN.{length}
 use lib.Dec.{ltb, eqb}
 use Rattle.tlv.specs.declared.model.FileIndex.{FileIndex}
-use Rattle.tlv.specs.Outcome.{done, _>>=_}
+use Rattle.tlv.specs.Outcome.{done}
 use Rattle.tlv.specs.Lists.{All, at}
-use Rattle.tlv.specs.Model.{CompilationUnit, LineHeader, HeaderFile, lineRows}
+use Rattle.tlv.specs.Model.{CompilationUnit, LineHeader, HeaderFile, LineRow}
 use Rattle.tlv.specs.Output.{Warning, about, missingLineFile, unrepresentableLine}
-use Rattle.tlv.specs.Accepted.{Given, String, UnitAccepted}
+use Rattle.tlv.specs.Accepted.{Given, String, RowAccepted, UnitAccepted}
 use Rattle.tlv.specs.Fits.{LineFits, WarningFits}
 use Rattle.tlv.proofs.TestLaws.{by-test}
 use Rattle.tlv.proofs.ListLaws.{all-append, all-set}
 use Rattle.tlv.proofs.SortLaws.{all-sort}
-use Rattle.tlv.proofs.OutcomeLaws.{with-done, done-is, Gives, gives, gives-bind, given}
+use Rattle.tlv.proofs.OutcomeLaws.{with-done, done-is, Gives, gives, gives-bind}
 use Rattle.lines.specs.Program.{lineSequenceOffsets}
 use Rattle.lines.specs.Files.{FileTable, internHeaderFiles, get, insertIndex, headerFile}
-use Rattle.lines.specs.Lines.{RawLine, Run, runRows, SequencedLine, Converted, withWarning, withLine, convertLine, convertInterned, convertLookedUp, convertKnown, convertRow, convertRows, sortRows, sameRow, Collected, mismatch, unitLines, collectHeader, collectFrom, collectLines}
+use Rattle.lines.specs.Lines.{RawLine, Run, runRows, SequencedLine, Converted, withWarning, withLine, convertLine, convertInterned, convertLookedUp, convertKnown, convertRow, convertRows, sortRows, sameRow, Collected, mismatch, unitLines, collectHeader}
 use Rattle.lines.proofs.Bounds.{TableFits, IndexFits, IndicesFit, Sorted, LinesFit, CollectedFits}
 use Rattle.lines.proofs.OrderLaws.{all-drop-neighbours, ascending-drop-neighbours, sorting-rows, sort-sorted}
 use Rattle.lines.proofs.FileBounds.{intern-file-fits, intern-header-fits, get-fits, header-file-string}
@@ -92,47 +92,31 @@ unit-lines-fit offsets run c f = record {
   files = f .indices;
 }
 
-module _ (u : CompilationUnit) (program : List ℕ) (t : FileTable) (accepted : UnitAccepted u)
-    (rows-few : length (u .rows) < 2 ^ 64) (program-short : length program < 2 ^ 64) (fits : TableFits t) where
-  header-fits : (h : LineHeader) → Gives CollectedFits (collectHeader u h program t)
-  unfolding collectHeader lineRows _>>=_
-  header-fits h =
-      gives-bind (run-rows-fit (length (u .rows)) (u .rows) 0 [] (omega arith) (accepted .rows) tt) λ run k.
-      gives-bind (offsets-few h program) λ offsets l.
-      gives-bind (intern-header-fits u h t accepted fits) λ i f.
-      let warnings = mismatch-fits (run .count) (length offsets) (omega (arith, k .count)) (omega arith) in
-      gives-bind (convert-rows-fit u h offsets accepted (run .lines) _ (k .lines) (record { table = f .table; indices = f .indices; lines = tt; warnings = warnings })) λ d g.
-      gives (record { table = g .table; lines = unit-lines-fit offsets run d g; warnings = g .warnings })
+-- whatever rows were read, if they fit
+pub header-fits : (u : CompilationUnit) (h : LineHeader) (program : List ℕ) (rows : List LineRow) (t : FileTable) → UnitAccepted u → All RowAccepted rows
+    → length rows < 2 ^ 64 → length program < 2 ^ 64 → TableFits t → Gives CollectedFits (collectHeader u h program rows t)
+unfolding collectHeader
+header-fits u h program rows t accepted fit few short fits =
+    gives-bind (run-rows-fit (length rows) rows 0 [] (omega arith) fit tt) λ run k.
+    gives-bind (offsets-few h program) λ offsets l.
+    gives-bind (intern-header-fits u h t accepted fits) λ i f.
+    let warnings = mismatch-fits (run .count) (length offsets) (omega (arith, k .count)) (omega arith) in
+    gives-bind (convert-rows-fit u h offsets accepted (run .lines) _ (k .lines) (record {
+      table = f .table;
+      indices = f .indices;
+      lines = tt;
+      warnings = warnings;
+    })) λ d g.
+    gives (record { table = g .table; lines = unit-lines-fit offsets run d g; warnings = g .warnings })
 
-  pub gives-lines : Gives CollectedFits (collectLines u program t)
-  unfolding collectLines
-  gives-lines = from (u .header)
-    where
-      from : (o : Option LineHeader) → Gives CollectedFits (collectFrom u program t o)
-      from none = gives (record { table = fits; lines = record { entries = tt; sorted = tt; files = tt }; warnings = tt })
-      from (some h) = header-fits h
-
-pub collect-fits : (u : CompilationUnit) (program : List ℕ) (t : FileTable) (c : Collected)
-    → UnitAccepted u → length (u .rows) < 2 ^ 64 → length program < 2 ^ 64 → TableFits t → collectLines u program t ≡ done c → CollectedFits c
-collect-fits u program t c a k l f = given (gives-lines u program t a k l f)
-
--- ---- the table is sorted, whatever the unit
-
-module _ (u : CompilationUnit) (program : List ℕ) (t : FileTable) (c : Collected) where
-  header-sorted : (h : LineHeader) → collectHeader u h program t ≡ done c → Sorted 0 (c .lines .entries)
-  unfolding collectHeader
-  header-sorted h q =
-      with-done (lineRows u program) _ q λ rows _ q₁.
-      with-done (runRows rows 0 []) _ q₁ λ run _ q₂.
-      with-done (lineSequenceOffsets h program) _ q₂ λ offsets _ q₃.
-      with-done (internHeaderFiles u h t) _ q₃ λ i _ q₄.
-      with-done (convertRows u h offsets (run .lines) (record { table = i .table; indices = i .indices; lines = []; warnings = mismatch (run .count) (length offsets) })) _ q₄ λ d _ q₅.
-      subst (λ (x : Collected). Sorted 0 (x .lines .entries)) (done-is q₅) (unit-lines-sorted offsets run d)
-
-  from-sorted : (o : Option LineHeader) → collectFrom u program t o ≡ done c → Sorted 0 (c .lines .entries)
-  from-sorted none q = subst (λ (x : Collected). Sorted 0 (x .lines .entries)) (done-is q) tt
-  from-sorted (some h) q = header-sorted h q
-
-pub sorted-lines : (u : CompilationUnit) (program : List ℕ) (t : FileTable) (c : Collected) → collectLines u program t ≡ done c → Sorted 0 (c .lines .entries)
-unfolding collectLines
-sorted-lines u program t c = from-sorted u program t c (u .header)
+-- the table is sorted, whatever the unit and the rows
+pub header-sorted : (u : CompilationUnit) (h : LineHeader) (program : List ℕ) (rows : List LineRow) (t : FileTable) (c : Collected)
+    → collectHeader u h program rows t ≡ done c → Sorted 0 (c .lines .entries)
+unfolding collectHeader
+header-sorted u h program rows t c q =
+    with-done (runRows rows 0 []) _ q λ run _ q₁.
+    with-done (lineSequenceOffsets h program) _ q₁ λ offsets _ q₂.
+    with-done (internHeaderFiles u h t) _ q₂ λ i _ q₃.
+    let begun : Converted = record { table = i .table; indices = i .indices; lines = []; warnings = mismatch (run .count) (length offsets) } in
+    with-done (convertRows u h offsets (run .lines) begun) _ q₃ λ d _ q₄.
+    subst (λ (x : Collected). Sorted 0 (x .lines .entries)) (done-is q₄) (unit-lines-sorted offsets run d)

@@ -2,7 +2,7 @@
 use Prim.Native.Nat.{ℕ, zero, suc}
 use mathlib.Core.List.{List, [], _∷_}
 use mathlib.Core.Option.{Option, none, some}
-use Rattle.tlv.specs.Model.{CompilationUnit, LineHeader, Directory, HeaderFile, LineRow, lineRows}
+use Rattle.tlv.specs.Model.{CompilationUnit, LineHeader, Directory, HeaderFile, LineRow}
 use Rattle.tlv.specs.Output.{FileEntry}
 use Rattle.tlv.specs.declared.model.FileIndex.{FileIndex}
 use Rattle.tlv.proofs.RefusalLaws.{RefusesIn, never, refuses-wider, refusing}
@@ -12,8 +12,7 @@ use Rattle.lines.specs.Program.{sequencesWithin, scanLineSequenceOffsets
 use Rattle.lines.specs.Paths.{readDirectory, namedDirectory, fileEntry}
 use Rattle.lines.specs.Files.{FileTable, placeOf, appendFile, addFileAt, addFile, internEntry, internFile, internFiles, internHeaderFiles, headerFile}
 use Rattle.lines.specs.Files.{get}
-use Rattle.lines.specs.Lines.{RawLine, runRows, Converted, convertLookedUp, convertKnown, convertRow, convertRows, collectHeader, collectFrom}
-use Rattle.lines.specs.Lines.{collectLines}
+use Rattle.lines.specs.Lines.{RawLine, runRows, Converted, convertLookedUp, convertKnown, convertRow, convertRows, collectHeader}
 
 -- ---- the line program: 7 to 12
 
@@ -35,7 +34,7 @@ refuses-sleb-within zero (b ∷ s) = search refusing
 refuses-sleb-within (suc k) [] = search refusing
 refuses-sleb-within (suc k) (b ∷ s) = let later = refuses-sleb-within k s in search refusing
 
-refuses-sleb : (s : List ℕ) → RefusesIn 7 12 (sleb s)
+pub refuses-sleb : (s : List ℕ) → RefusesIn 7 12 (sleb s)
 unfolding sleb
 refuses-sleb s = refuses-sleb-within 9 s
 
@@ -45,12 +44,12 @@ refuses-operand unsigned s = search (refusing, refuses-uleb)
 refuses-operand signed s = search (refusing, refuses-sleb)
 refuses-operand half s = search refusing
 
-refuses-operands : (ks : List OperandKind) (s : List ℕ) → RefusesIn 7 12 (skipOperands ks s)
+pub refuses-operands : (ks : List OperandKind) (s : List ℕ) → RefusesIn 7 12 (skipOperands ks s)
 unfolding skipOperands
 refuses-operands [] s = never
 refuses-operands (k ∷ ks) s = let later = refuses-operands ks in search (refusing, refuses-operand)
 
-refuses-take : (whole n : ℕ) (s : List ℕ) → RefusesIn 7 12 (takeLineBytes whole n s)
+pub refuses-take : (whole n : ℕ) (s : List ℕ) → RefusesIn 7 12 (takeLineBytes whole n s)
 unfolding takeLineBytes
 refuses-take whole n s = search refusing
 
@@ -143,15 +142,8 @@ module _ (u : CompilationUnit) (h : LineHeader) (offsets : List ℕ) where
   refuses-rows [] c = never
   refuses-rows (r ∷ rs) c = let later = refuses-rows rs in search (refusing, refuses-row)
 
-refuses-collect : (u : CompilationUnit) (h : LineHeader) (program : List ℕ) (t : FileTable) → RefusesIn 6 15 (collectHeader u h program t)
-unfolding collectHeader lineRows
-refuses-collect u h program t =
+pub refuses-collect : (u : CompilationUnit) (h : LineHeader) (program : List ℕ) (rows : List LineRow) (t : FileTable)
+    → RefusesIn 6 15 (collectHeader u h program rows t)
+unfolding collectHeader
+refuses-collect u h program rows t =
     search (refusing, refuses-wider 6 6, refuses-run, refuses-wider 7 12, refuses-program, refuses-header-files, refuses-rows) depth 8
-
-pub refuses-lines : (u : CompilationUnit) (program : List ℕ) (t : FileTable) → RefusesIn 6 15 (collectLines u program t)
-unfolding collectLines
-refuses-lines u program t = go (u .header)
-  where
-    go : (o : Option LineHeader) → RefusesIn 6 15 (collectFrom u program t o)
-    go none = never
-    go (some h) = refuses-collect u h program t

@@ -38,7 +38,7 @@ unsigned-of s o e =
     let f : mapOption (λ (p : Operand). p .rest) (leb128 s) ≡ some (o .rest) = sym (signed-rest s) ∙ ap (mapOption (λ (p : SignedOperand). p .rest)) e in
     mapped (λ (p : Operand). p .rest) (leb128 s) (o .rest) f
 
-signed-shorter : (s : List ℕ) (o : SignedOperand) → sleb128 s ≡ some o → length (o .rest) < length s
+pub signed-shorter : (s : List ℕ) (o : SignedOperand) → sleb128 s ≡ some o → length (o .rest) < length s
 signed-shorter s o e = let (p, f, r) = unsigned-of s o e in omega (arith, shorter s p f, ap length r)
 
 signed-taken : (n : ℕ) (s : List ℕ) (o : SignedOperand) → Continues n s → sleb128 s ≡ some o → n < takenSigned s o

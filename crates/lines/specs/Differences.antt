@@ -58,6 +58,7 @@ unitOf compilation directories = record {
   directory = compilation;
   text = [];
   header = none;
+  encoding = none;
   part = none;
   directories = directories;
   fileZero = none;

@@ -10,7 +10,7 @@ use Rattle.tlv.specs.declared.model.FileIndex.{FileIndex}
 use Rattle.tlv.specs.declared.model.LineEntry.{LineEntry}
 use Rattle.tlv.specs.Outcome.{Outcome, refused, done, _>>=_}
 use Rattle.tlv.specs.Lists.{at}
-use Rattle.tlv.specs.Model.{CompilationUnit, LineHeader, HeaderFile, LineRow, lineRows}
+use Rattle.tlv.specs.Model.{CompilationUnit, LineHeader, HeaderFile, LineRow}
 use Rattle.tlv.specs.Output.{Warning, about, lineSequenceMismatch, missingLineFile, unrepresentableLine}
 use Rattle.lines.specs.Program.{lineSequenceOffsets}
 use Rattle.lines.specs.Files.{FileTable, internFile, FileIndices, internHeaderFiles, get, insertIndex, headerFile}
@@ -153,7 +153,7 @@ module _ {A : Type 0} (equal : A → A → Bool) where
   dropNeighbours [] = []
   dropNeighbours (x ∷ xs) = x ∷ dropAfter x xs
 
--- ---- collect_lines: failed rows before program faults before file paths
+-- ---- collect_lines, of a unit with a header and the rows that were read for it: failed rows before program faults before file paths
 
 pub record Collected : Type 0 where
   pub table : FileTable
@@ -173,20 +173,11 @@ unitLines offsets run c = record {
   sequences = map (λ s. record { range = s .range; statementSequence = at offsets (s .sequence) }) (run .sequences);
 }
 
-unfoldable pub collectHeader : CompilationUnit → LineHeader → List ℕ → FileTable → Outcome Collected
-collectHeader u h program t =
-    lineRows u program >>= λ rows.
+unfoldable pub collectHeader : CompilationUnit → LineHeader → List ℕ → List LineRow → FileTable → Outcome Collected
+collectHeader u h program rows t =
     runRows rows 0 [] >>= λ run.
     lineSequenceOffsets h program >>= λ offsets.
     internHeaderFiles u h t >>= λ i.
     convertRows u h offsets (run .lines)
     (record { table = i .table; indices = i .indices; lines = []; warnings = mismatch (run .count) (length offsets) }) >>= λ c.
     done (record { table = c .table; lines = unitLines offsets run c; warnings = c .warnings })
-
--- without field 13 there are no lines, and the program is not read
-abbrev pub collectFrom : CompilationUnit → List ℕ → FileTable → Option LineHeader → Outcome Collected
-collectFrom u program t none = done (record { table = t; lines = noLines; warnings = [] })
-collectFrom u program t (some h) = collectHeader u h program t
-
-unfoldable pub collectLines : CompilationUnit → List ℕ → FileTable → Outcome Collected
-collectLines u program t = collectFrom u program t (u .header)

@@ -147,7 +147,7 @@ fn skip_signed_operand(program: &[u8], at: usize) -> Skipped
 }
 
 // Passes over n unsigned operands.
-fn skip_operands(program: &[u8], n: u8, at: usize) -> Skipped
+pub fn skip_operands(program: &[u8], n: u8, at: usize) -> Skipped
     requires { ⌜ at ≤ length (now program) ⌝ }
     ensures { λ r. ⌜ Passes (now (program .entry)) at r (over (skipOperands (replicate n unsigned) (drop at (now (program .entry))))) ⌝ }
 {
@@ -185,7 +185,7 @@ fn skip_counted(program: &[u8], opcode: u8, n: u8, at: usize) -> Skipped
 }
 
 // Passes over n bytes from a place on; an end past the last number is told from one past the program.
-fn take_line_bytes(program: &[u8], n: u64, at: usize) -> Skipped
+pub fn take_line_bytes(program: &[u8], n: u64, at: usize) -> Skipped
     requires { ⌜ at ≤ length (now program) ⌝ }
     ensures { λ r. ⌜ Passes (now (program .entry)) at r (over (takeLineBytes (length (now (program .entry))) n (drop at (now (program .entry))))) ⌝ }
 {
@@ -236,7 +236,7 @@ fn skip_extended(program: &[u8], at: usize) -> Skipped
 }
 
 // How many operands a header gives to an opcode: none to one past its table.
-fn operand_count(lengths: &[u8], opcode: u8) -> u8
+pub fn operand_count(lengths: &[u8], opcode: u8) -> u8
     requires { ⌜ 0 < opcode ⌝ }
     ensures { λ r. ⌜ r ≡ getD (now (lengths .entry)) (opcode - 1) 0 ⌝ }
 {

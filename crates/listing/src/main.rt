@@ -235,7 +235,7 @@ fn list<'a>(main: &'a [u8], supplementary: &'a [u8], program: &[u8]) {
     ) {
         Imported::Refused(r) => {
             io::write_all(1, b"refused ");
-            io::print_decimal(1, dwarf::model::refusal_number(r) as u64);
+            io::print_decimal(1, r as u64);
             end_line();
         }
         Imported::Finished {

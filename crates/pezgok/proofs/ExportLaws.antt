@@ -1,21 +1,20 @@
 -- The answer of an import as numbers, and the numbers that are no refusal's. Assumes nothing.
 use mathlib.Core.Path.{_≡_, sym, subst, ap, _∙_}
 use mathlib.Core.List.{List, [], _∷_}
-use Prim.Native.Nat.{ℕ, suc, _<_}
+use Prim.Native.Nat.{ℕ, suc, _≤_, _<_}
 use native.Mathlib.Omega.{arith}
-use Rattle.imports.specs.Answer.{Inputs, Answer, noStats}
+use Rattle.imports.specs.Answer.{Inputs, Answer}
 use Rattle.imports.specs.Demand.{UnitFinished, DwarfFinished}
 use Rattle.subprograms.specs.declared.model.ConversionStats.{ConversionStats}
-use Rattle.dwarf.specs.declared.model.Refusal.{Refusal}
 use Rattle.dwarf.specs.declared.model.Imported.{Imported}
-use Rattle.dwarf.specs.Answers.{refusalNumber, answerGiven, left, ImportsUnit, ImportsDwarf, MeasuresUnit, MeasuresDwarf}
+use Rattle.dwarf.specs.Answers.{answerGiven, left, ImportsUnit, ImportsDwarf, MeasuresUnit, MeasuresDwarf}
 use Rattle.pezgok.specs.Exported.{answerIn, leftIn, Exports, ExportsDwarf, ExportsMeasure, ExportsMeasureDwarf, refusalWord}
 
 -- ---- the answer as numbers
 
 module _ {x : Imported} where
-  pub told-refused : {q : Refusal} {n : ℕ} → x ≡ Imported.Refused q → n ≡ refusalNumber q → answerGiven x ≡ answerIn n (0 ∷ 0 ∷ 0 ∷ 0 ∷ 0 ∷ 0 ∷ 0 ∷ [])
-  told-refused e en = ap answerGiven e ∙ ap (λ (k : ℕ). record { refusal = k; records = 0; files = 0; warnings = 0; stats = noStats }) (sym en)
+  pub told-refused : {n : ℕ} → x ≡ Imported.Refused n → answerGiven x ≡ answerIn n (0 ∷ 0 ∷ 0 ∷ 0 ∷ 0 ∷ 0 ∷ 0 ∷ [])
+  told-refused e = ap answerGiven e
 
   pub told-finished : {a b c : ℕ} {s : ConversionStats} → x ≡ Imported.Finished a b c s
       → answerGiven x ≡ answerIn 0 (a ∷ b ∷ c ∷ s .functions ∷ s .«line_rows» ∷ s .«inline_nodes» ∷ s .«rejected_ranges» ∷ [])
@@ -40,6 +39,10 @@ module _ {x : Imported} where
     exports-measure-dwarf M = record { is = ap (λ (a : Answer). record { answer = a; work = w }) (sym e) ∙ M .is }
 
 -- ---- numbers that are no refusal's
+
+-- a number from a on that is not a is above it
+pub above : (a n : ℕ) → a ≤ n → (n ≡ a → ⊥) → suc a ≤ n
+above a n h k = omega arith
 
 -- a number up to a that is not a is below it
 pub below : (a n : ℕ) → n < suc a → (n ≡ a → ⊥) → n < a

@@ -25,9 +25,9 @@ module _ {x : Joined} where
 
 -- ---- numbers that have no word
 
-pub no-word-joined : (n : ℕ) → 21 ≤ n → (n ≡ 26 → ⊥) → (n ≡ 27 → ⊥) → refusalWord n ≡ []
+pub no-word-past : (n : ℕ) → 23 ≤ n → (n ≡ 26 → ⊥) → (n ≡ 27 → ⊥) → refusalWord n ≡ []
 unfolding refusalWord
-no-word-joined n h k l =
+no-word-past n h k l =
     rw (
       other 1 (omega arith),
       other 2 (omega arith),
@@ -49,6 +49,8 @@ no-word-joined n h k l =
       other 18 (omega arith),
       other 19 (omega arith),
       other 20 (omega arith),
+      other 21 (omega arith),
+      other 22 (omega arith),
       ne-eqb n 26 k,
       ne-eqb n 27 l,
     )

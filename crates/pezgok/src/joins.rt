@@ -40,7 +40,7 @@ pub extern "C" fn pezgok_join_symbols(
 
 // The words for 26 and 27.
 pub fn join_name(refusal: u8, name: &mut [u8]) -> usize
-    requires { ⌜ 21 ≤ refusal ⌝ }
+    requires { ⌜ 26 ≤ refusal ⌝ }
     ensures { λ r. ⌜ Put 0 (refusalWord refusal) (now (name .entry)) (now (name .exit)) r ⌝ }
 {
     match refusal {

@@ -19,9 +19,9 @@ pub fn tell(answer: Imported, values: &mut [u64; 7]) -> u8
     ensures { λ r. ⌜ answerGiven answer ≡ answerIn r (now (values .exit)) ⌝ }
 {
     match answer {
-        Imported::Refused(r) => {
+        Imported::Refused(refusal) => {
             *values = [0, 0, 0, 0, 0, 0, 0];
-            dwarf::model::refusal_number(r)
+            refusal
         }
         Imported::Finished {
             records: a,
@@ -119,6 +119,9 @@ pub extern "C" fn pezgok_refusal_name(refusal: u8, name: &mut [u8]) -> usize
     if refusal < 21 {
         return look::look_name(refusal, name);
     }
+    if refusal < 26 {
+        return line_name(refusal, name);
+    }
     joins::join_name(refusal, name)
 }
 
@@ -154,6 +157,18 @@ fn late_name(refusal: u8, name: &mut [u8]) -> usize
         16 => tlv::output::put_bytes(name, 0, b"short tray"),
         17 => tlv::output::put_bytes(name, 0, b"short tray"),
         18 => tlv::output::put_bytes(name, 0, b"short tray"),
+        _ => 0,
+    }
+}
+
+// Document 02's refusals of a line program (E8).
+fn line_name(refusal: u8, name: &mut [u8]) -> usize
+    requires { ⌜ (21 ≤ refusal) × (refusal < 26) ⌝ }
+    ensures { λ r. ⌜ Put 0 (refusalWord refusal) (now (name .entry)) (now (name .exit)) r ⌝ }
+{
+    match refusal {
+        21 => tlv::output::put_bytes(name, 0, b"line encoding"),
+        22 => tlv::output::put_bytes(name, 0, b"line address"),
         _ => 0,
     }
 }

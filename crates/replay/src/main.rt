@@ -236,7 +236,7 @@ fn judge(
     match r {
         Imported::Refused(n) => judge_refused(
             a,
-            dwarf::model::refusal_number(n),
+            n,
             records,
             files,
             warnings,
@@ -279,13 +279,13 @@ fn are_lengths(a: Answer, said: [usize; 3], lent: [usize; 3]) -> bool {
     a.refusal == 18 && said[2] > lent[2]
 }
 
-// Whether the pass says what is recorded, of an import into buffers of these lengths: the refusal up to 15, else the lengths and statistics.
+// Whether the pass says what is recorded, of an import into buffers of these lengths: the refusal where it is no buffer's, else the lengths and statistics.
 fn judge_pass(a: Answer, r: Imported, work: &[u8], lent: [usize; 3]) -> bool {
     if !holds_only(work, 0) {
         return false;
     }
     match r {
-        Imported::Refused(n) => a.refusal < 16 && a.refusal == dwarf::model::refusal_number(n),
+        Imported::Refused(n) => a.refusal == n && (n < 16 || 18 < n),
         Imported::Finished {
             records: x,
             files: y,

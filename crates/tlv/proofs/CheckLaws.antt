@@ -16,7 +16,7 @@ use Rattle.tlv.specs.Bytes.{leAt}
 use Rattle.tlv.specs.Limits.{fieldLimit, unitLimit, stringLimit, reasonLimit, depthLimit}
 use Rattle.tlv.specs.Fields.{Field, FieldList, more, fields}
 use Rattle.tlv.specs.Cursor.{stepAt, fieldsOf}
-use Rattle.tlv.specs.Grammar.{mayFollow, unitShaped, payloadShaped, payloadLimited, shaped, limited, next, checkFrom}
+use Rattle.tlv.specs.Grammar.{encodingTag, mayFollow, unitShaped, payloadShaped, payloadLimited, shaped, limited, next, checkFrom}
 use Rattle.tlv.specs.Checked.{fieldIn, judgedOf}
 use Rattle.tlv.proofs.TestLaws.{and-left, and-right}
 use Rattle.tlv.proofs.CursorLaws.{fields-at, fields-field}
@@ -138,7 +138,7 @@ module _ (s : List ℕ) (start len : ℕ) (fits : start + len ≤ length s) (c :
       omega arith
 
   pub next-unit : (o n : ℕ) → t ≡ 0x10 → o ≡ leAt 8 s start → n ≡ leAt 8 s (start + 8)
-      → record { previous = t; count = c .count + 1; units = c .units + 1; end = o + n; length = n; offset = 0; depth = 0; program = c .program }
+      → record { previous = t; count = c .count + 1; units = c .units + 1; end = o + n; length = n; offset = 0; depth = 0; program = c .program; encoded = false }
       ≡ next c (fieldIn s t start len)
   unfolding next
   next-unit o n e eo en =
@@ -146,7 +146,17 @@ module _ (s : List ℕ) (start len : ℕ) (fits : start + len ≤ length s) (c :
       rw (e, number-first s start len 8 o (omega arith) eo, number-at s start len 8 8 n (omega arith) en)
 
   pub next-entry : (o d : ℕ) → t ≡ 0x17 → o ≡ leAt 8 s start → d ≡ leAt 2 s (start + 8)
-      → record { previous = t; count = c .count + 1; units = c .units; end = c .end; length = c .length; offset = o + 1; depth = d + 1; program = c .program }
+      → record {
+        previous = t;
+        count = c .count + 1;
+        units = c .units;
+        end = c .end;
+        length = c .length;
+        offset = o + 1;
+        depth = d + 1;
+        program = c .program;
+        encoded = c .encoded;
+      }
       ≡ next c (fieldIn s t start len)
   unfolding next
   next-entry o d e eo ed =
@@ -163,7 +173,9 @@ pub next-other : (c : Context) (t : ℕ) (p : List ℕ) → (t ≡ 0x10 → ⊥)
       offset = c .offset;
       depth = c .depth;
       program = c .program;
-    } ≡ next c (record { tag = t; payload = p })
+      encoded = eqb t encodingTag || c .encoded;
+    }
+    ≡ next c (record { tag = t; payload = p })
 unfolding next
 next-other c t p h k = rw (ne-eqb t 0x10 h, ne-eqb t 0x17 k)
 

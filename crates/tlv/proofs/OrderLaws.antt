@@ -13,7 +13,7 @@ use Rattle.tlv.specs.Outcome.{done}
 use Rattle.tlv.specs.Lists.{Any, exists, takeWhile}
 use Rattle.tlv.specs.Fields.{Field, FieldList, end, cut, more, fields, wholeFields, payloads}
 use Rattle.tlv.specs.Cursor.{stepAt}
-use Rattle.tlv.specs.Grammar.{partTag, after, mayFollow, payloadShaped, shaped, limited, next, checkFrom}
+use Rattle.tlv.specs.Grammar.{encodingTag, partTag, after, mayFollow, payloadShaped, shaped, limited, next, checkFrom}
 use Rattle.tlv.specs.Checked.{fieldIn, Placed}
 use Rattle.tlv.specs.Places.{ownFields}
 use Rattle.tlv.proofs.TestLaws.{by-test, and-left, or-either}
@@ -87,12 +87,13 @@ may-attribute t =
     by-test P (eqb t 0x10) (λ _ k. absurd (false≢true k)) (λ _.
     by-test P (eqb t 0x11 || eqb t 0x12) (λ _ k. absurd (false≢true k)) (λ _.
     by-test P (eqb t 0x13) (λ _ k. absurd (false≢true k)) (λ _.
+    by-test P (eqb t encodingTag) (λ _ k. absurd (false≢true k)) (λ _.
     by-test P (eqb t partTag || eqb t 0x14) (λ _ k. absurd (false≢true k)) (λ _.
     by-test P (eqb t 0x1c || eqb t 0x15) (λ _ k. absurd (false≢true k)) (λ _.
     by-test P (eqb t 0x16) (λ _ k. absurd (false≢true k)) (λ _.
     by-test P (eqb t 0x17 || eqb t 0x18) (λ e k. e) (λ _.
     by-test P (eqb t 0x19) (λ _ k. absurd (false≢true k)) (λ _.
-    by-test P (eqb t 0x1a) (λ _ k. absurd (false≢true k)) (λ _ k. absurd (false≢true k))))))))))
+    by-test P (eqb t 0x1a) (λ _ k. absurd (false≢true k)) (λ _ k. absurd (false≢true k)))))))))))
 
 passing-attributes : Passing 0x18 (λ t. t ≡ 0x18 → ⊥)
 passing-attributes = record { never = λ late own. late refl; keeps = keeps }

@@ -6,8 +6,9 @@ use Prim.Native.Nat.{ℕ, _≤_}
 use lib.ListN.{length}
 use borrow.Author.Tests.{leb-true, eqb-true}
 use Rattle.tlv.specs.declared.grammar.Context.{Context}
-use Rattle.tlv.specs.Grammar.{payloadShaped, unitShaped, textShaped, headerShaped, partShaped, directoryShaped, fileShaped, rowShaped, entryShaped, attributeShaped, rangeShaped, failureShaped, partTag, partFieldSize, rowFieldSize}
-use Rattle.tlv.proofs.TestLaws.{and-left}
+use Rattle.tlv.specs.Grammar.{payloadShaped, unitShaped, textShaped, headerShaped, encodingShaped, partShaped, directoryShaped, fileShaped, rowShaped, entryShaped, attributeShaped, rangeShaped, failureShaped}
+use Rattle.tlv.specs.Grammar.{encodingTag, encodingFieldSize, partTag, partFieldSize, rowFieldSize}
+use Rattle.tlv.proofs.TestLaws.{and-left, and-right}
 
 module _ (c : Context) (p : List ℕ) where
   pub unit-long : payloadShaped c 0x10 p ≡ true → length p ≡ 18
@@ -21,6 +22,10 @@ module _ (c : Context) (p : List ℕ) where
   pub header-long : payloadShaped c 0x13 p ≡ true → 19 ≤ length p
   unfolding payloadShaped headerShaped
   header-long s = leb-true _ _ (search and-left)
+
+  pub encoding-long : payloadShaped c encodingTag p ≡ true → length p ≡ encodingFieldSize
+  unfolding payloadShaped encodingShaped
+  encoding-long s = eqb-true _ _ (search and-left)
 
   pub part-long : payloadShaped c partTag p ≡ true → length p ≡ partFieldSize
   unfolding payloadShaped partShaped
@@ -40,7 +45,7 @@ module _ (c : Context) (p : List ℕ) where
 
   pub row-long : payloadShaped c 0x16 p ≡ true → length p ≡ rowFieldSize
   unfolding payloadShaped rowShaped
-  row-long s = eqb-true _ _ (search and-left)
+  row-long s = eqb-true _ _ (search (and-left, and-right))
 
   pub entry-long : payloadShaped c 0x17 p ≡ true → length p ≡ 12
   unfolding payloadShaped entryShaped

@@ -11,14 +11,14 @@ use Rattle.tlv.specs.declared.fields.Step.{Step}
 use Rattle.tlv.specs.Bytes.{leAt}
 use Rattle.tlv.specs.Limits.{fieldLimit, stringLimit, reasonLimit, depthLimit}
 use Rattle.tlv.specs.Cursor.{stepAt}
-use Rattle.tlv.specs.Grammar.{mayFollow, rowShaped, valueShaped, attributeShaped, payloadShaped, payloadLimited, shaped, limited, partTag, partFieldSize, rowFieldSize, rowKindAt}
+use Rattle.tlv.specs.Grammar.{mayFollow, rowShaped, valueShaped, attributeShaped, payloadShaped, payloadLimited, shaped, limited, encodingTag, encodingFieldSize, partTag, partFieldSize, rowFieldSize, rowKindAt}
 use Rattle.tlv.specs.Checked.{Placed}
 use Rattle.tlv.proofs.TestLaws.{by-test, and-left, and-right}
 use Rattle.tlv.proofs.CursorLaws.{payload-within, payload-length}
 use Rattle.tlv.proofs.AcceptedFields.{entry-depth}
 use Rattle.tlv.proofs.ShapeLaws.{number-at}
 use Rattle.tlv.proofs.CheckLaws.{unit-fits}
-use Rattle.tlv.proofs.PayloadFacts.{unit-long, text-long, header-long, part-long, directory-long, file-long, file-zero-long, row-long, entry-long, attribute-long, range-long, failure-long}
+use Rattle.tlv.proofs.PayloadFacts.{unit-long, text-long, header-long, encoding-long, part-long, directory-long, file-long, file-zero-long, row-long, entry-long, attribute-long, range-long, failure-long}
 use Rattle.tlv.proofs.PlaceFacts.{placed-shaped, placed-limited}
 
 -- the least length of the payload of a field of a tag
@@ -27,6 +27,7 @@ leastOf t =
     cond (eqb t 0x10) 18
     (cond (eqb t 0x12) 16
     (cond (eqb t 0x13) 19
+    (cond (eqb t encodingTag) encodingFieldSize
     (cond (eqb t 0x14) 1
     (cond (eqb t 0x15) 9
     (cond (eqb t 0x1c) 9
@@ -35,7 +36,7 @@ leastOf t =
     (cond (eqb t 0x18) 3
     (cond (eqb t 0x19) 17
     (cond (eqb t 0x1a) 1
-    0))))))))))
+    0)))))))))))
 
 module _ (s : List ℕ) (p : ℕ) (r : Step) (t start len past : ℕ) (h : Placed s p) (at : r ≡ stepAt s p) (e : r ≡ Step.Field t start len past) where
   shape : payloadShaped (h .context) t (take len (drop start s)) ≡ true
@@ -60,6 +61,9 @@ module _ (s : List ℕ) (p : ℕ) (r : Step) (t start len past : ℕ) (h : Place
 
   pub placed-header : t ≡ 0x13 → 19 ≤ len
   placed-header is = by-length (λ n. 19 ≤ n) (header-long _ _ (rw is at shape))
+
+  pub placed-encoding : t ≡ encodingTag → len ≡ encodingFieldSize
+  placed-encoding is = by-length (λ n. n ≡ encodingFieldSize) (encoding-long _ _ (rw is at shape))
 
   pub placed-part : t ≡ partTag → len ≡ partFieldSize
   placed-part is = by-length (λ n. n ≡ partFieldSize) (part-long _ _ (rw is at shape))
@@ -94,6 +98,7 @@ module _ (s : List ℕ) (p : ℕ) (r : Step) (t start len past : ℕ) (h : Place
       by-test Q (eqb t 0x10) (λ is. let l = placed-unit (eqb-true t 0x10 is) in omega arith) (λ _.
       by-test Q (eqb t 0x12) (λ is. let l = placed-text (eqb-true t 0x12 is) in omega arith) (λ _.
       by-test Q (eqb t 0x13) (λ is. placed-header (eqb-true t 0x13 is)) (λ _.
+      by-test Q (eqb t encodingTag) (λ is. let l = placed-encoding (eqb-true t encodingTag is) in omega arith) (λ _.
       by-test Q (eqb t 0x14) (λ is. placed-directory (eqb-true t 0x14 is)) (λ _.
       by-test Q (eqb t 0x15) (λ is. placed-file (eqb-true t 0x15 is)) (λ _.
       by-test Q (eqb t 0x1c) (λ is. placed-file-zero (eqb-true t 0x1c is)) (λ _.
@@ -101,7 +106,7 @@ module _ (s : List ℕ) (p : ℕ) (r : Step) (t start len past : ℕ) (h : Place
       by-test Q (eqb t 0x17) (λ is. let l = placed-entry (eqb-true t 0x17 is) in omega arith) (λ _.
       by-test Q (eqb t 0x18) (λ is. placed-attribute (eqb-true t 0x18 is)) (λ _.
       by-test Q (eqb t 0x19) (λ is. let l = placed-range (eqb-true t 0x19 is) in omega arith) (λ _.
-      by-test Q (eqb t 0x1a) (λ is. placed-failure (eqb-true t 0x1a is)) (λ _. omega arith)))))))))))
+      by-test Q (eqb t 0x1a) (λ is. placed-failure (eqb-true t 0x1a is)) (λ _. omega arith))))))))))))
 
   -- what of it can be read, at a literal place and width: the test computes
   module _ (m : ℕ) (is : t ≡ m) where

@@ -13,7 +13,8 @@ use borrow.Author.Tests.{le-leb, lt-leb, lt-ltb, le-ltb, eq-eqb, ne-eqb}
 use Rattle.tlv.specs.declared.grammar.Context.{Context}
 use Rattle.tlv.specs.Lists.{exists}
 use Rattle.tlv.specs.Bytes.{leAt}
-use Rattle.tlv.specs.Grammar.{unitShaped, textShaped, headerShaped, partLengthAt, partFieldSize, partShaped, directoryShaped, fileShaped, rowShaped, entryShaped, valueShaped, attributeShaped, rangeShaped, failureShaped, rowFieldSize, rowKindAt}
+use Rattle.tlv.specs.Grammar.{unitShaped, textShaped, headerShaped, encodingShaped, partShaped, directoryShaped, fileShaped, rowShaped, entryShaped, valueShaped, attributeShaped, rangeShaped, failureShaped}
+use Rattle.tlv.specs.Grammar.{encodingFlagAt, encodingFieldSize, partLengthAt, partFieldSize, rowFieldSize, rowKindAt}
 use Rattle.tlv.proofs.WidthLaws.{leAt-part}
 
 -- ---- one of a list, as tests that are joined from the left
@@ -94,6 +95,14 @@ module _ (s : List ℕ) (start len : ℕ) (fits : start + len ≤ length s) wher
         number-at s start len 1 17 w (omega arith) ew,
       )
 
+  pub encoding-not : (len ≡ encodingFieldSize → ⊥) → false ≡ encodingShaped (take len (drop start s))
+  unfolding encodingShaped
+  encoding-not h = rw (part-length s start len fits, ne-eqb len encodingFieldSize h)
+
+  pub encoding-is : (f : ℕ) → len ≡ encodingFieldSize → f ≡ leAt 1 s (start + encodingFlagAt) → leb f 1 ≡ encodingShaped (take len (drop start s))
+  unfolding encodingShaped
+  encoding-is f h e = rw (part-length s start len fits, eq-eqb len encodingFieldSize h, number-at s start len 1 encodingFlagAt f (omega arith) e)
+
   pub part-not : (c : Context) → (len ≡ partFieldSize → ⊥) → false ≡ partShaped c (take len (drop start s))
   unfolding partShaped
   part-not c h = rw (part-length s start len fits, ne-eqb len partFieldSize h)
@@ -134,13 +143,18 @@ module _ (s : List ℕ) (start len : ℕ) (fits : start + len ≤ length s) wher
   unfolding fileShaped
   file-is f h e = rw (part-length s start len fits, le-leb 9 len h, number-first s start len 1 f (omega arith) e)
 
-  pub row-not : (len ≡ rowFieldSize → ⊥) → false ≡ rowShaped (take len (drop start s))
+  pub row-encoded : (c : Context) → c .encoded ≡ true → false ≡ rowShaped c (take len (drop start s))
   unfolding rowShaped
-  row-not h = rw (part-length s start len fits, ne-eqb len rowFieldSize h)
+  row-encoded c e = rw e
 
-  pub row-is : (k : ℕ) → len ≡ rowFieldSize → k ≡ leAt 1 s (start + rowKindAt) → leb k 2 ≡ rowShaped (take len (drop start s))
+  pub row-not : (c : Context) → c .encoded ≡ false → (len ≡ rowFieldSize → ⊥) → false ≡ rowShaped c (take len (drop start s))
   unfolding rowShaped
-  row-is k h e = rw (part-length s start len fits, eq-eqb len rowFieldSize h, number-at s start len 1 rowKindAt k (omega arith) e)
+  row-not c n h = rw (n, part-length s start len fits, ne-eqb len rowFieldSize h)
+
+  pub row-is : (c : Context) (k : ℕ) → c .encoded ≡ false → len ≡ rowFieldSize → k ≡ leAt 1 s (start + rowKindAt)
+      → leb k 2 ≡ rowShaped c (take len (drop start s))
+  unfolding rowShaped
+  row-is c k n h e = rw (n, part-length s start len fits, eq-eqb len rowFieldSize h, number-at s start len 1 rowKindAt k (omega arith) e)
 
   pub entry-not : (c : Context) → (len ≡ 12 → ⊥) → false ≡ entryShaped c (take len (drop start s))
   unfolding entryShaped

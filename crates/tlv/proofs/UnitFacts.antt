@@ -12,8 +12,8 @@ use Rattle.tlv.specs.declared.access.Place.{Place}
 use Rattle.tlv.specs.Lists.{All, takeWhile, at, mapOption}
 use Rattle.tlv.specs.Bytes.{leAt}
 use Rattle.tlv.specs.Fields.{Field, FieldList, end, cut, more, fields, wholeFields, grouped, payloads, payloadOf}
-use Rattle.tlv.specs.Grammar.{shaped, limited, next, checkFrom, partTag}
-use Rattle.tlv.specs.Model.{rangeOf, headerOf, partOf, directoryOf, fileOf, rowOf, unitOf, units}
+use Rattle.tlv.specs.Grammar.{encodingTag, partTag, shaped, limited, next, checkFrom}
+use Rattle.tlv.specs.Model.{rangeOf, headerOf, encodingOf, partOf, directoryOf, fileOf, rowOf, unitOf, units}
 use Rattle.tlv.specs.Cursor.{stepAt, fieldsOf}
 use Rattle.tlv.specs.Checked.{fieldIn, Placed}
 use Rattle.tlv.specs.Places.{ownFields, unitFields, unitHere, unitPlaces}
@@ -127,6 +127,10 @@ module _ (s : List ℕ) (p : ℕ) (r : Step) (t start len next : ℕ) (reads : r
   pub unit-header : unitHere s p .header ≡ mapOption headerOf (payloadOf 0x13 (ownFields (fields (drop next s))))
   unfolding unitHere unitOf
   unit-header = rw (fields-field s p r t start len next reads e, own-is)
+
+  pub unit-encoding : unitHere s p .encoding ≡ mapOption encodingOf (payloadOf encodingTag (ownFields (fields (drop next s))))
+  unfolding unitHere unitOf
+  unit-encoding = rw (fields-field s p r t start len next reads e, own-is)
 
   pub unit-part : unitHere s p .part ≡ mapOption partOf (payloadOf partTag (ownFields (fields (drop next s))))
   unfolding unitHere unitOf

@@ -14,10 +14,20 @@ use Rattle.tlv.specs.Fields.{Field, FieldList, end, cut, more, fields}
 
 -- before the first field, with a line program of so many bytes
 abbrev pub start : ℕ → Context
-start program = record { previous = 0; count = 0; units = 0; end = 0; length = 0; offset = 0; depth = 0; program = program }
+start program = record { previous = 0; count = 0; units = 0; end = 0; length = 0; offset = 0; depth = 0; program = program; encoded = false }
 
 -- ---- the order: "A unit is 10, at most one 11, any 12; then optionally 13 and, only after one, any 14, at most one 1c, any 15, any 16; then entries, .."
--- Document 02, E11: "A field 1e hex after a line header": directly behind it, and at most one
+-- Document 02, E8: "A new field, 1d hex, after the line header"; E11: "A field 1e hex after a line header (and its 1d)": directly behind it, at most one each
+
+-- the encoding's tag, where its flag stands, and its payload's size
+abbrev pub encodingTag : ℕ
+encodingTag = 0x1d
+
+abbrev pub encodingFlagAt : ℕ
+encodingFlagAt = 2
+
+abbrev pub encodingFieldSize : ℕ
+encodingFieldSize = 5
 
 -- the part's tag, where its length stands behind its start, and its payload's size
 abbrev pub partTag : ℕ
@@ -34,14 +44,15 @@ unfoldable pub after : ℕ → List ℕ
 after t =
     cond (eqb t 0x10) (0x10 ∷ 0x11 ∷ 0x12 ∷ 0x13 ∷ 0x17 ∷ [])
     (cond (eqb t 0x11 || eqb t 0x12) (0x10 ∷ 0x12 ∷ 0x13 ∷ 0x17 ∷ [])
-    (cond (eqb t 0x13) (0x10 ∷ partTag ∷ 0x14 ∷ 0x1c ∷ 0x15 ∷ 0x16 ∷ 0x17 ∷ [])
+    (cond (eqb t 0x13) (0x10 ∷ encodingTag ∷ partTag ∷ 0x14 ∷ 0x1c ∷ 0x15 ∷ 0x16 ∷ 0x17 ∷ [])
+    (cond (eqb t encodingTag) (0x10 ∷ partTag ∷ 0x14 ∷ 0x1c ∷ 0x15 ∷ 0x16 ∷ 0x17 ∷ [])
     (cond (eqb t partTag || eqb t 0x14) (0x10 ∷ 0x14 ∷ 0x1c ∷ 0x15 ∷ 0x16 ∷ 0x17 ∷ [])
     (cond (eqb t 0x1c || eqb t 0x15) (0x10 ∷ 0x15 ∷ 0x16 ∷ 0x17 ∷ [])
     (cond (eqb t 0x16) (0x10 ∷ 0x16 ∷ 0x17 ∷ [])
     (cond (eqb t 0x17 || eqb t 0x18) (0x10 ∷ 0x17 ∷ 0x18 ∷ 0x19 ∷ 0x1a ∷ [])
     (cond (eqb t 0x19) (0x10 ∷ 0x17 ∷ 0x19 ∷ 0x1a ∷ [])
     (cond (eqb t 0x1a) (0x10 ∷ 0x17 ∷ [])
-    (0x10 ∷ [])))))))))
+    (0x10 ∷ []))))))))))
 
 unfoldable pub mayFollow : ℕ → ℕ → Bool
 mayFollow previous t = exists (eqb t) (after previous)
@@ -72,6 +83,11 @@ textShaped p = eqb (length p) 16
 unfoldable pub headerShaped : List ℕ → Bool
 headerShaped p = leb 19 (length p) && isVersion (leAt 1 p 16) && isWord (leAt 1 p 17)
 
+-- 1d line encoding: "minimum instruction length (1 byte), operations per instruction (1), default statement flag (1, 0 or 1), line base (1, signed) and line
+-- range (1)"
+unfoldable pub encodingShaped : List ℕ → Bool
+encodingShaped p = eqb (length p) encodingFieldSize && isFlag (leAt 1 p encodingFlagAt)
+
 -- 1e part of the line program: start, length, 8 bytes each. "a part past the program is misshapen": its end counts, in numbers without a limit
 unfoldable pub partShaped : Context → List ℕ → Bool
 partShaped c p = eqb (length p) partFieldSize && leb (leAt 8 p 0 + leAt 8 p partLengthAt) (c .program)
@@ -99,8 +115,9 @@ rowKindAt = rowColumnAt + 2
 abbrev pub rowFieldSize : ℕ
 rowFieldSize = rowKindAt + 1
 
-unfoldable pub rowShaped : List ℕ → Bool
-rowShaped p = eqb (length p) rowFieldSize && leb (leAt 1 p rowKindAt) 2
+-- E8: with a 1d "the unit's row fields are misshapen"
+unfoldable pub rowShaped : Context → List ℕ → Bool
+rowShaped c p = not (c .encoded) && eqb (length p) rowFieldSize && leb (leAt 1 p rowKindAt) 2
 
 -- 17 entry: offset in unit, depth (2 bytes), tag (2 bytes). "Entry offsets rise and stay below the length.
 -- The first entry has depth 0, later ones 1 to the previous plus 1."
@@ -135,15 +152,16 @@ payloadShaped c t p =
     (cond (eqb t 0x11) true
     (cond (eqb t 0x12) (textShaped p)
     (cond (eqb t 0x13) (headerShaped p)
+    (cond (eqb t encodingTag) (encodingShaped p)
     (cond (eqb t partTag) (partShaped c p)
     (cond (eqb t 0x14) (directoryShaped p)
     (cond (eqb t 0x15 || eqb t 0x1c) (fileShaped p)
-    (cond (eqb t 0x16) (rowShaped p)
+    (cond (eqb t 0x16) (rowShaped c p)
     (cond (eqb t 0x17) (entryShaped c p)
     (cond (eqb t 0x18) (attributeShaped p)
     (cond (eqb t 0x19) (rangeShaped p)
     (cond (eqb t 0x1a) (failureShaped (c .previous) p)
-    false)))))))))))
+    false))))))))))))
 
 -- 2: a field that is no breach of the grammar
 unfoldable pub shaped : Context → Field → Bool
@@ -181,6 +199,7 @@ next c f =
       offset = 0;
       depth = 0;
       program = c .program;
+      encoded = false;
     })
     (cond (eqb t 0x17)
     (record {
@@ -192,6 +211,7 @@ next c f =
       offset = leAt 8 p 0 + 1;
       depth = leAt 2 p 8 + 1;
       program = c .program;
+      encoded = c .encoded;
     })
     (record {
       previous = t;
@@ -202,6 +222,7 @@ next c f =
       offset = c .offset;
       depth = c .depth;
       program = c .program;
+      encoded = eqb t encodingTag || c .encoded;
     }))
 
 -- the number of fields, or the refusal that the first bad field gives

@@ -37,5 +37,9 @@ workOfField = 64
 abbrev pub workOfProgramByte : ℕ
 workOfProgramByte = 4
 
+-- E8: with an encoding a unit's "import's work needs 64 × program bytes in place of 4 ×"
+abbrev pub workOfEncodedByte : ℕ
+workOfEncodedByte = 64
+
 abbrev pub workBesides : ℕ
 workBesides = 32768

@@ -6,11 +6,10 @@ use mathlib.Core.Option.{Option, none, some}
 use lib.ListN.{length, take, drop}
 use lib.Dec.{eqb}
 use Rattle.tlv.specs.declared.model.AddressRange.{AddressRange}
-use Rattle.tlv.specs.Outcome.{Outcome, done}
 use Rattle.tlv.specs.Lists.{mapOption}
 use Rattle.tlv.specs.Bytes.{leAt}
 use Rattle.tlv.specs.Fields.{Group, grouped, payloads, payloadOf, fields, wholeFields}
-use Rattle.tlv.specs.Grammar.{partTag, partLengthAt, rowLineAt, rowColumnAt, rowKindAt}
+use Rattle.tlv.specs.Grammar.{encodingTag, encodingFlagAt, partTag, partLengthAt, rowLineAt, rowColumnAt, rowKindAt}
 
 -- an attribute: its name, its kind, the number that its value spells, and its value's bytes
 pub record Attribute : Type 0 where
@@ -45,6 +44,14 @@ pub record LineHeader : Type 0 where
   pub opcodeBase : ℕ
   pub opcodeLengths : List ℕ
 
+-- what a header says of advances (the Standard, 6.2.4, 6 to 10; document 02, E8)
+pub record LineEncoding : Type 0 where
+  pub minimumInstructionLength : ℕ
+  pub maximumOperations : ℕ  -- per instruction
+  pub defaultIsStmt : Bool  -- no row of document 01 shows the statement flag
+  pub lineBase : ℕ  -- the byte of a signed number
+  pub lineRange : ℕ
+
 -- the unit's part of the lent line program (document 02, E11)
 pub record ProgramPart : Type 0 where
   pub start : ℕ
@@ -75,6 +82,7 @@ pub record CompilationUnit : Type 0 where
   pub directory : Option (List ℕ)
   pub text : List AddressRange  -- the executable ranges
   pub header : Option LineHeader
+  pub encoding : Option LineEncoding  -- some: the rows are those of the line program
   pub part : Option ProgramPart  -- none: the whole program
   pub directories : List Directory
   pub fileZero : Option HeaderFile  -- file 0 before version 5
@@ -100,6 +108,16 @@ headerOf p = record {
   wordSize = leAt 1 p 17;
   opcodeBase = leAt 1 p 18;
   opcodeLengths = drop 19 p;
+}
+
+-- 1d
+unfoldable pub encodingOf : List ℕ → LineEncoding
+encodingOf p = record {
+  minimumInstructionLength = leAt 1 p 0;
+  maximumOperations = leAt 1 p 1;
+  defaultIsStmt = flagAt p encodingFlagAt;
+  lineBase = leAt 1 p 3;
+  lineRange = leAt 1 p 4;
 }
 
 -- 1e
@@ -156,6 +174,7 @@ unitOf g =
       directory = payloadOf 0x11 own;
       text = map rangeOf (payloads 0x12 own);
       header = mapOption headerOf (payloadOf 0x13 own);
+      encoding = mapOption encodingOf (payloadOf encodingTag own);
       part = mapOption partOf (payloadOf partTag own);
       directories = map directoryOf (payloads 0x14 own);
       fileZero = mapOption fileOf (payloadOf 0x1c own);
@@ -178,11 +197,7 @@ programPart (some p) program = take (p .length) (drop (p .start) program)
 unfoldable pub programOf : CompilationUnit → List ℕ → List ℕ
 programOf u program = programPart (u .part) program
 
--- ---- where rows and ranges come from
-
--- the rows of a unit with its line program: what the decoder has read
-unfoldable pub lineRows : CompilationUnit → List ℕ → Outcome (List LineRow)
-lineRows u program = done (u .rows)
+-- ---- where ranges come from
 
 -- die_ranges: an entry's ranges, and where reading them failed
 pub record DieRanges : Type 0 where

@@ -3,7 +3,7 @@ ghost use mathlib.Core.Path.{_≡_};
 ghost use mathlib.Core.Bool.{true};
 ghost use Prim.Native.Nat.{_+_, _≤_};
 ghost use lib.ListN.{length, take, drop};
-ghost use Rattle.tlv.specs.Grammar.{mayFollow, unitShaped, textShaped, headerShaped, partShaped, directoryShaped, fileShaped, rowShaped, entryShaped, valueShaped, attributeShaped, rangeShaped, failureShaped, payloadShaped, payloadLimited, shaped, limited, next, checkInput};
+ghost use Rattle.tlv.specs.Grammar.{mayFollow, unitShaped, textShaped, headerShaped, encodingShaped, partShaped, directoryShaped, fileShaped, rowShaped, entryShaped, valueShaped, attributeShaped, rangeShaped, failureShaped, payloadShaped, payloadLimited, shaped, limited, next, checkInput};
 ghost use Rattle.tlv.specs.Checked.{fieldIn, judgedOf, checkedOf};
 use crate::bytes::read_u8;
 use crate::bytes::read_u16;
@@ -20,6 +20,13 @@ pub const STRING_LIMIT: usize = 6113;
 const REASON_LIMIT: usize = 4096;
 
 const DEPTH_LIMIT: u16 = 1024;
+
+// The field of a line encoding: its tag, where the default statement flag stands, and the length of its payload.
+pub const ENCODING_TAG: u8 = 0x1d;
+
+const ENCODING_FLAG: usize = 2;
+
+pub const ENCODING_FIELD: usize = 5;
 
 // The field that names a unit's part of the line program: its tag, where the length stands behind the start, and the length of its payload.
 pub const PART_TAG: u8 = 0x1e;
@@ -51,6 +58,7 @@ pub struct Context {
     pub offset: u64, // the least offset that the next entry may have
     pub depth: u64, // the largest depth that the next entry may have
     pub program: u64, // the bytes of the line program that is lent with the input
+    pub encoded: bool, // the last unit has a line encoding, so it may have no row
 }
 
 // Whether a field of a tag may stand after one of the tag `previous`.
@@ -62,6 +70,14 @@ pub fn may_follow(previous: u8, tag: u8) -> bool
         0x11 => (tag == 0x10) | (tag == 0x12) | (tag == 0x13) | (tag == 0x17),
         0x12 => (tag == 0x10) | (tag == 0x12) | (tag == 0x13) | (tag == 0x17),
         0x13 => (tag == 0x10)
+            | (tag == ENCODING_TAG)
+            | (tag == PART_TAG)
+            | (tag == 0x14)
+            | (tag == 0x1c)
+            | (tag == 0x15)
+            | (tag == 0x16)
+            | (tag == 0x17),
+        ENCODING_TAG => (tag == 0x10)
             | (tag == PART_TAG)
             | (tag == 0x14)
             | (tag == 0x1c)
@@ -131,6 +147,16 @@ pub fn header_shaped(s: &[u8], start: usize, len: usize) -> bool
     (2 <= version) & (version <= 5) & ((word == 4) | (word == 8))
 }
 
+pub fn encoding_shaped(s: &[u8], start: usize, len: usize) -> bool
+    requires { ⌜ start + len ≤ length (now s) ⌝ }
+    ensures { λ r. ⌜ r ≡ encodingShaped (take len (drop start (now (s .entry)))) ⌝ }
+{
+    if len != ENCODING_FIELD {
+        return false;
+    }
+    read_u8(s, start + ENCODING_FLAG) <= 1
+}
+
 // No part passes the program.
 pub fn part_shaped(c: Context, s: &[u8], start: usize, len: usize) -> bool
     requires { ⌜ start + len ≤ length (now s) ⌝ }
@@ -167,10 +193,14 @@ pub fn file_shaped(s: &[u8], start: usize, len: usize) -> bool
     read_u8(s, start) <= 1
 }
 
-pub fn row_shaped(s: &[u8], start: usize, len: usize) -> bool
+// A unit with a line encoding has no rows of its own.
+pub fn row_shaped(c: Context, s: &[u8], start: usize, len: usize) -> bool
     requires { ⌜ start + len ≤ length (now s) ⌝ }
-    ensures { λ r. ⌜ r ≡ rowShaped (take len (drop start (now (s .entry)))) ⌝ }
+    ensures { λ r. ⌜ r ≡ rowShaped c (take len (drop start (now (s .entry)))) ⌝ }
 {
+    if c.encoded {
+        return false;
+    }
     if len != ROW_FIELD {
         return false;
     }
@@ -243,11 +273,12 @@ pub fn payload_shaped(c: Context, tag: u8, s: &[u8], start: usize, len: usize) -
         0x11 => true,
         0x12 => text_shaped(s, start, len),
         0x13 => header_shaped(s, start, len),
+        ENCODING_TAG => encoding_shaped(s, start, len),
         PART_TAG => part_shaped(c, s, start, len),
         0x14 => directory_shaped(s, start, len),
         0x15 => file_shaped(s, start, len),
         0x1c => file_shaped(s, start, len),
-        0x16 => row_shaped(s, start, len),
+        0x16 => row_shaped(c, s, start, len),
         0x17 => entry_shaped(c, s, start, len),
         0x18 => attribute_shaped(s, start, len),
         0x19 => range_shaped(s, start, len),
@@ -296,6 +327,7 @@ pub fn next(c: Context, tag: u8, s: &[u8], start: usize, len: usize) -> Context
                 offset: 0,
                 depth: 0,
                 program: c.program,
+                encoded: false,
             }
         }
         0x17 => {
@@ -310,6 +342,7 @@ pub fn next(c: Context, tag: u8, s: &[u8], start: usize, len: usize) -> Context
                 offset: offset + 1,
                 depth: depth + 1,
                 program: c.program,
+                encoded: c.encoded,
             }
         }
         _ => Context {
@@ -321,6 +354,7 @@ pub fn next(c: Context, tag: u8, s: &[u8], start: usize, len: usize) -> Context
             offset: c.offset,
             depth: c.depth,
             program: c.program,
+            encoded: (tag == ENCODING_TAG) | c.encoded,
         },
     }
 }
@@ -372,6 +406,7 @@ pub fn check_input(s: &[u8], program: usize) -> Checked
         offset: 0,
         depth: 0,
         program: program as u64,
+        encoded: false,
     };
     loop {
         match field_at(s, p) {

@@ -95,7 +95,7 @@ pub fn windows_paths(unit: &Data<'_>, header: &LineProgramHeader<Slice<'_>>, tab
 pub fn bare(case: &Case, refusal: u8, reached: &mut Reached) {
     let first = case.ordinal == 0;
     // Of an accepted supplementary input.
-    let needed = || work_needed(field_count(&case.supplementary), case.program.len());
+    let needed = || work_needed(field_count(&case.supplementary), case.program.len(), false);
     match refusal {
         0 => {
             reached.hit(Rule::BareDone, true);
@@ -104,8 +104,8 @@ pub fn bare(case: &Case, refusal: u8, reached: &mut Reached) {
             reached.hit(Rule::BareBuffers, (case.records, case.files, case.warnings) == (0, 0, 0));
         }
         1 => reached.hit(Rule::BareOversize, !first),
-        2 => reached.hit(Rule::BareMisshapen, !first && case.work < work_needed(0, case.program.len())),
-        3 => reached.hit(Rule::BarePastLimit, first && case.work < work_needed(0, case.program.len())),
+        2 => reached.hit(Rule::BareMisshapen, !first && case.work < work_needed(0, case.program.len(), false)),
+        3 => reached.hit(Rule::BarePastLimit, first && case.work < work_needed(0, case.program.len(), false)),
         4 => reached.hit(Rule::BareOther, !first && case.work < needed()),
         5 => reached.hit(Rule::BareWork, first && case.work + 1 == needed()),
         _ => {}
@@ -115,7 +115,7 @@ pub fn bare(case: &Case, refusal: u8, reached: &mut Reached) {
 /// E7: rows of the sheet that follow each other and differ in the column alone: the table has the first.
 fn neighbours<'u>(unit: &'u Data<'_>) -> impl Iterator<Item = (&'u LineRow, &'u LineRow)> {
     let told = |row: &LineRow| (row.kind == RowKind::Plain, row.address, row.file, row.line);
-    let pairs = unit.rows.windows(2).map(|pair| (&pair[0], &pair[1]));
+    let pairs = unit.rows().windows(2).map(|pair| (&pair[0], &pair[1]));
     pairs.filter(move |(a, b)| told(a).0 && told(a) == told(b) && a.column != b.column)
 }
 

@@ -13,6 +13,7 @@ use crate::stand_in::gimli::{Dwarf, Slice};
 use crate::trace::Event;
 
 const PART: u8 = 0x1e;
+const ENCODING: u8 = 0x1d;
 /// The number of the first field past the limit, counted from 0.
 const PAST_FIELDS: usize = 65_536;
 
@@ -33,7 +34,7 @@ impl Part {
     }
 
     fn is_sound(&self, program: usize) -> bool {
-        self.previous == 0x13 && self.end().is_some_and(|end| end <= program as u128)
+        matches!(self.previous, 0x13 | ENCODING) && self.end().is_some_and(|end| end <= program as u128)
     }
 }
 
@@ -84,8 +85,8 @@ fn misshapen(case: &Case, bad: &Part, reached: &mut Reached) {
     let end = case.program.len() as u128;
     match (bad.previous, bad.values) {
         (PART, _) => reached.hit(Rule::PartTwice, true),
-        (0x13, None) => reached.hit(Rule::PartSize, true),
-        (0x13, Some((start, length))) => {
+        (0x13 | ENCODING, None) => reached.hit(Rule::PartSize, true),
+        (0x13 | ENCODING, Some((start, length))) => {
             reached.hit(Rule::PartPast, length > 0 && bad.end() == Some(end + 1));
             reached.hit(Rule::EmptyPartPast, length == 0 && u128::from(start) == end + 1);
             reached.hit(Rule::PartWraps, start > 0 && length > 0 && u128::from(start.wrapping_add(length)) <= end);
@@ -149,6 +150,17 @@ pub fn mark(imported: &Imported) -> Mark {
 }
 
 impl Mark {
+    /// How many warnings of each kind the units behind the mark gave.
+    pub fn warnings(&self, imported: &Imported) -> [usize; 12] {
+        let (mut kinds, bytes) = ([0; 12], output::written_warnings(&imported.warnings[self.warnings..]));
+        let mut rest = &bytes[..];
+        while let Some((_, payload, after)) = field(rest) {
+            kinds[usize::from(payload[0])] += 1;
+            rest = after;
+        }
+        kinds
+    }
+
     /// The functions of the units behind the mark.
     pub fn functions<'i>(&self, imported: &'i Imported) -> &'i [Function] {
         &imported.builder.functions()[self.functions..]
@@ -189,7 +201,8 @@ pub fn bare(case: &Case, refusal: u8, reached: &mut Reached) {
 pub fn short_work(case: &Case, reached: &mut Reached) {
     let (parts, _) = stripped(case);
     let largest = parts.iter().filter_map(|part| part.values).map(|(_, length)| length).max();
-    let needed = |program| work_needed(field_count(&case.main) + field_count(&case.supplementary), program);
+    let (fields, encoded) = (field_count(&case.main) + field_count(&case.supplementary), fields_of(&case.main, ENCODING) > 0);
+    let needed = |program| work_needed(fields, program, encoded);
     let enough = largest.is_some_and(|largest| needed(largest as usize) <= case.work);
     reached.hit(Rule::AllWork, enough && case.work + 1 == needed(case.program.len()));
 }
@@ -197,7 +210,7 @@ pub fn short_work(case: &Case, reached: &mut Reached) {
 /// A refused import of all units, against the imports of each alone.
 pub fn refused(case: &Case, dwarf: &Dwarf<Slice<'_>>, refusal: u8, reached: &mut Reached) {
     let last = dwarf.units.len() - 1;
-    if refusal >= 16 {
+    if (16..=18).contains(&refusal) {
         if let Ok(imported) = finished(case, dwarf, 0..last) {
             let before = written(&imported, case.first_file);
             let fits = |bytes: &[u8], length: u32| !bytes.is_empty() && bytes.len() <= length as usize;

@@ -2,12 +2,13 @@
 //! tombstones, range failures, file 0 and missing entries is document 01's.
 
 use std::borrow::Cow;
-use std::cell::Cell;
+use std::cell::{Cell, OnceCell};
 use std::fmt;
 use std::marker::PhantomData;
 use std::num::NonZeroU64;
 use std::rc::Rc;
 
+use crate::machine::{LineEncoding, Program};
 use crate::trace::{Event, trace};
 
 pub use constants::*;
@@ -33,6 +34,8 @@ pub enum Error {
     Value,
     /// A range failure. Each byte of the input's reason is the character of the same number.
     Ranges(String),
+    /// A fault of a program that is run for its rows (E8), by its number.
+    Program(u8),
 }
 
 impl fmt::Display for Error {
@@ -41,6 +44,7 @@ impl fmt::Display for Error {
             Self::NoEntryAtGivenOffset(offset) => write!(formatter, "no entry at {offset:#x}"),
             Self::Value => formatter.write_str("failed value"),
             Self::Ranges(reason) => formatter.write_str(reason),
+            Self::Program(number) => write!(formatter, "fault {number} of a line program"),
         }
     }
 }
@@ -73,10 +77,34 @@ pub struct UnitData<R: Reader> {
     pub directory: Option<R>,
     pub text: Vec<Range>,
     pub lines: Option<LineProgramHeader<R>>,
-    pub rows: Vec<LineRow>,
+    /// Its row fields. With field 1d (E8) there are none: `rows` has those of its program.
+    pub given: Vec<LineRow>,
+    pub encoding: Option<LineEncoding>,
+    pub ran: OnceCell<Vec<LineRow>>,
     pub entries: Vec<EntryData<R>>,
     /// The tombstone flag of the range that was given last.
     pub tombstone: Cell<bool>,
+}
+
+impl<R: Reader> UnitData<R> {
+    /// The decoder's rows of the unit: its row fields or, with field 1d (E8), what the row machine makes of its program, the fault behind them.
+    pub fn rows(&self) -> &[LineRow] {
+        match self.encoded() {
+            None => &self.given,
+            Some((header, encoding)) => self.ran.get_or_init(|| {
+                header.with_program(encoding, |program| {
+                    let (mut rows, fault) = program.run(|_| ());
+                    rows.extend(fault.map(|number| LineRow { address: 0, file: 0, line: 0, column: 0, kind: RowKind::Fault(number) }));
+                    rows
+                })
+            }),
+        }
+    }
+
+    /// The line header and the encoding of a unit with field 1d.
+    pub fn encoded(&self) -> Option<(&LineProgramHeader<R>, LineEncoding)> {
+        self.lines.as_ref().zip(self.encoding)
+    }
 }
 
 pub struct EntryData<R: Reader> {
@@ -443,6 +471,12 @@ impl<R: Reader> LineProgramHeader<R> {
         file_names(&self) -> &[FileEntry<R>] = &self.files;
     }
 
+    /// Has something done with the program as the row machine takes it.
+    pub fn with_program<T>(&self, encoding: LineEncoding, run: impl FnOnce(Program<'_>) -> T) -> T {
+        let [lengths, bytes] = [&self.opcode_lengths, &self.program].map(|part| part.to_slice().expect("a part of an input"));
+        run(Program { encoding, base: self.opcode_base, lengths: &lengths, bytes: &bytes })
+    }
+
     /// Directories and files number from 0 in version 5, before that from 1.
     fn place(&self, number: u64) -> Option<usize> {
         usize::try_from(number).ok()?.checked_sub(usize::from(self.version() <= 4))
@@ -490,8 +524,9 @@ impl<R: Reader> IncompleteLineProgram<R> {
 
     pub fn next_row(&mut self) -> Result<Option<(&LineProgramHeader<R>, &LineRow)>> {
         self.next += 1;
-        match self.unit.rows.get(self.next - 1) {
-            Some(row) if row.kind == RowKind::Failed => Err(Error::Value),
+        match self.unit.rows().get(self.next - 1) {
+            Some(LineRow { kind: RowKind::Failed, .. }) => Err(Error::Value),
+            Some(LineRow { kind: RowKind::Fault(number), .. }) => Err(Error::Program(*number)),
             row => Ok(row.map(|row| (self.header(), row))),
         }
     }
@@ -502,6 +537,8 @@ pub enum RowKind {
     Plain,
     End,
     Failed,
+    /// No row: the program is refused here.
+    Fault(u8),
 }
 
 #[derive(Eq, PartialEq)]

@@ -3,7 +3,7 @@ use native.Mathlib.Omega.{arith}
 use mathlib.Core.Path.{ap}
 use borrow.Author.Needs.{needs}
 use Rattle.tlv.proofs.BufferLaws.{put-as, put-nothing}
-use Rattle.dwarf.proofs.AnswerLaws.{above}
+use Rattle.pezgok.proofs.ExportLaws.{above}
 use Rattle.pezgok.specs.Exported.{refusalWord}
 use Rattle.pezgok.proofs.LookLaws.{no-word-between}
 use Rattle.pezgok.proofs.late_name.Statement.{statement}

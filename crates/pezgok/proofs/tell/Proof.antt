@@ -7,14 +7,11 @@ use Rattle.pezgok.proofs.tell.Tie as tie
 enum-known-answer : tie.Need-enum-known-answer
 enum-known-answer c = search needs
 
-refusal-number-requires : tie.Need-refusal-number-requires
-refusal-number-requires c κs = search needs
-
 enum-known-answer-2 : tie.Need-enum-known-answer-2
 enum-known-answer-2 c = search needs
 
 returns : tie.Need-returns
-returns c = told-refused (c .before .before .before .answer .given .1) (c .refusal-number .ensures)
+returns c = told-refused (c .before .before .answer .given .1)
 
 returns-2 : tie.Need-returns-2
 returns-2 c = told-finished (c .before .before .answer2 .given .1)
@@ -22,4 +19,4 @@ returns-2 c = told-finished (c .before .before .answer2 .given .1)
 pub tell-spec : {M : Type 1} → statement M
 tell-spec =
     tie.close
-    (tie.spec enum-known-answer refusal-number-requires enum-known-answer-2 returns returns-2)
+    (tie.spec enum-known-answer enum-known-answer-2 returns returns-2)

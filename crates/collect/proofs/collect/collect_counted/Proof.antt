@@ -3,7 +3,7 @@ use native.Mathlib.Omega.{arith}
 use borrow.Author.Needs.{needs}
 use mathlib.Core.Path.{_∙_}
 use Rattle.collect.proofs.HeaderPlaces.{unit-stands, unit-listed}
-use Rattle.collect.proofs.CollectLaws.{scan-room, collected-fault, scanned-small, scanned-files, scanned-room, collected-unnumbered, interned-fits, interned-placed, conversion-in, conversion-counted, conversion-fits, collected-end}
+use Rattle.collect.proofs.CollectLaws.{scan-room, collected-fault, scanned-small, scanned-files, scanned-room, collected-unnumbered, interned-fits, interned-placed, conversion-in, conversion-ready, conversion-counted, conversion-fits, collected-end}
 use Rattle.collect.proofs.collect.collect_counted.Statement.{statement}
 use Rattle.collect.proofs.collect.collect_counted.Tie as tie
 
@@ -30,7 +30,7 @@ mul-intern-unit c =
     let S = c .before .before .before .before .before .before .before .scan-program .ensures in
     let e = c .before .before .before .k .given .1 in
     let size = c .before .before .before .before .before .before .before .scan-program .kept .1 .1 .1 .1 .0 in
-    let good = c .before .before .before .before .before .before .before .before .before .before .before .before .before .before .before .good .1 .1 .1 .1 .1 .1 .1 .1 .0 in
+    let good = c .before .before .before .before .before .before .before .before .before .before .before .before .before .before .before .good .1 .1 .1 .1 .1 .1 .1 .1 .1 .0 in
     let s = scanned-small B S e size in
     omega arith
 
@@ -40,7 +40,7 @@ add-intern-unit c =
     let S = c .before .before .before .before .before .before .before .scan-program .ensures in
     let e = c .before .before .before .k .given .1 in
     let size = c .before .before .before .before .before .before .before .scan-program .kept .1 .1 .1 .1 .0 in
-    let good = c .before .before .before .before .before .before .before .before .before .before .before .before .before .before .before .good .1 .1 .1 .1 .1 .1 .1 .1 .0 in
+    let good = c .before .before .before .before .before .before .before .before .before .before .before .before .before .before .before .good .1 .1 .1 .1 .1 .1 .1 .1 .1 .0 in
     let s = scanned-small B S e size in
     omega arith
 
@@ -81,7 +81,7 @@ conversion-requires c κs =
     let size = c .before .before .before .before .before .before .before .before .before .before .before .before .before .before .before .scan-program .kept .1 .1 .1 .1 .0 in
     let I = c .before .before .before .before .before .before .before .intern-unit .ensures in
     let found = c .before .unit .given .1 in
-    let good = c .before .before .before .before .before .before .before .before .before .before .before .before .before .before .before .before .before .before .before .before .before .before .before .good .1 .1 .1 .1 .1 .1 .1 .1 .0 in
+    let good = c .before .before .before .before .before .before .before .before .before .before .before .before .before .before .before .before .before .before .before .before .before .before .before .good .1 .1 .1 .1 .1 .1 .1 .1 .1 .0 in
     let all = interned-fits B S e size I found in
     (interned-placed B S e size I found, omega (arith, all))
 
@@ -96,11 +96,11 @@ finish-lines-requires c κs =
     let M = c .before .before .before .conversion .ensures in
     let last = c .before .before .before .before .before .before .before .before .before .before .before .intern-unit .kept .1 .1 .1 .0 ∙ size in
     let warned = c .before .before .before .before .before .before .before .before .before .before .before .before .before .before .before .before .before .before .before .before .before .before .before .before .before .before .before .args .warned in
-    (conversion-in B S e size I found M warned last, (conversion-counted B S e size I found M, conversion-fits B S e size I found M last))
+    (conversion-in B S e size I found M warned last, (conversion-ready B S e size I found M, (conversion-counted B S e size I found M, conversion-fits B S e size I found M last)))
 
 same-length-4 : tie.Need-same-length-4
 same-length-4 c =
-    c .before .before .before .before .before .before .finish-lines .kept .1 .1 .1 .1 .1 .0
+    c .before .before .before .before .before .before .finish-lines .kept .1 .1 .1 .1 .1 .1 .1 .0
     ∙ c .before .before .before .before .before .before .before .before .before .before .before .before .before .before .before .before .before .before .intern-unit .kept .1 .1 .1 .0
     ∙ c .before .before .before .before .before .before .before .before .before .before .before .before .before .before .before .before .before .before .before .before .before .before .before .before .before .before .scan-program .kept .1 .1 .1 .1 .0
 

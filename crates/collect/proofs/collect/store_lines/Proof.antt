@@ -11,26 +11,26 @@ mul-sequences c = search needs
 add-sequences : tie.Need-add-sequences
 add-sequences c = search needs
 
-collect-sequences-requires : tie.Need-collect-sequences-requires
-collect-sequences-requires c κs = search needs
+collect-unit-sequences-requires : tie.Need-collect-unit-sequences-requires
+collect-unit-sequences-requires c κs = search needs
 
 mul-buffer : tie.Need-mul-buffer
 mul-buffer c =
-    let a = c .before .before .before .before .before .before .args in
-    let k = sequences-counted (a .lines) (a .count) (c .before .before .collect-sequences .ensures) in
+    let a = c .before .before .before .before .before .before .before .args in
+    let k = sequences-counted (a .lines) (a .count) (c .before .before .collect-unit-sequences .ensures) in
     omega arith
 
 add-buffer : tie.Need-add-buffer
 add-buffer c =
-    let a = c .before .before .before .before .before .before .args in
-    let k = sequences-counted (a .lines) (a .count) (c .before .before .collect-sequences .ensures) in
+    let a = c .before .before .before .before .before .before .before .args in
+    let k = sequences-counted (a .lines) (a .count) (c .before .before .collect-unit-sequences .ensures) in
     omega arith
 
 sort-rows-requires : tie.Need-sort-rows-requires
 sort-rows-requires c κs =
-    let a = c .before .before .before .before .before .before .before .args in
-    let k = sequences-counted (a .lines) (a .count) (c .before .before .before .collect-sequences .ensures) in
-    (omega arith, (omega arith, buffer-apart (a .lines) (a .count) (c .before .before .before .collect-sequences .ensures)))
+    let a = c .before .before .before .before .before .before .before .before .args in
+    let k = sequences-counted (a .lines) (a .count) (c .before .before .before .collect-unit-sequences .ensures) in
+    (omega arith, (omega arith, buffer-apart (a .lines) (a .count) (c .before .before .before .collect-unit-sequences .ensures)))
 
 dedup-rows-requires : tie.Need-dedup-rows-requires
 dedup-rows-requires c κs = search needs
@@ -40,8 +40,8 @@ same-length c = search needs
 
 returns : tie.Need-returns
 returns c =
-    let S = c .before .before .before .before .before .before .before .before .before .before .before .before .before .before in
-    stored-lines (S .args .lines) (S .args .count) (c .before .before .before .before .before .before .before .before .before .before .collect-sequences .ensures) (c .before .before .before .before .before .before .sort-rows .ensures) (c .before .before .dedup-rows .ensures) (S .pre .1 .1) (omega arith)
+    let S = c .before .before .before .before .before .before .before .before .before .before .before .before .before .before .before in
+    stored-lines (S .args .lines) (S .args .count) (c .before .before .before .before .before .before .before .before .before .before .collect-unit-sequences .ensures) (c .before .before .before .before .before .before .sort-rows .ensures) (c .before .before .dedup-rows .ensures) (S .pre .1 .1) (omega arith)
 
 pub store-lines-spec : {M : Type 1} → statement M
 store-lines-spec =
@@ -49,7 +49,7 @@ store-lines-spec =
     (tie.spec
     mul-sequences
     add-sequences
-    collect-sequences-requires
+    collect-unit-sequences-requires
     mul-buffer
     add-buffer
     sort-rows-requires

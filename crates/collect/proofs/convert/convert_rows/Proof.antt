@@ -97,21 +97,21 @@ loop-again c = converting-ended (c .before .before .before .before .before .befo
 convert-known-requires : tie.Need-convert-known-requires Inv-loop μ-loop
 convert-known-requires c κs =
     let J = c .before .before .before .before .before .before .before .before .before .loop .inv in
-    let most = J .most in
-    let room = J .room in
+    let most = J .list .most in
+    let room = J .list .room in
     let some-left = c .before .before .before .before .before .before .before .before .if1 .left in
-    let offsets = J .holds .offsets in
-    let directories = J .holds .directories in
-    let indices = J .holds .indices in
-    let lines = J .holds .lines in
+    let offsets = J .list .holds .offsets in
+    let directories = J .list .holds .directories in
+    let indices = J .list .holds .indices in
+    let lines = J .list .holds .lines in
     (omega arith, (omega arith, omega arith))
 
 add-state : tie.Need-add-state Inv-loop μ-loop
 add-state c =
     let J = c .before .before .before .before .before .before .before .before .before .before .before .before .before .before .loop .inv in
-    let most = J .most in
-    let room = J .room in
-    let size = J .size in
+    let most = J .list .most in
+    let room = J .list .room in
+    let size = J .list .size in
     omega (arith, c .before .before .before .before .before .before .before .before .before .before .before .before .before .before .before .before .before .before .before .before .before .before .good .1 .1 .1 .1 .0)
 
 sub-more : tie.Need-sub-more Inv-loop μ-loop
@@ -126,22 +126,22 @@ loop-again-2 c = converting-known (c .before .before .before .before .before .be
 convert-row-requires : tie.Need-convert-row-requires Inv-loop μ-loop
 convert-row-requires c κs =
     let J = converting-same (c .before .before .before .before .before .before .before .before .before .before .before .before .before .before .before .before .loop .inv) (rw (c .before .before .before .if3 .left) at (c .before .before .before .before .before .before .convert-known .ensures)) in
-    let most = J .most in
-    let room = J .room in
+    let most = J .list .most in
+    let room = J .list .room in
     let some-left = c .before .before .before .before .before .before .before .before .before .before .before .before .before .before .before .if1 .left in
-    (J .holds, omega arith)
+    (J .list .holds, omega arith)
 
 enum-known-n : tie.Need-enum-known-n Inv-loop μ-loop
 enum-known-n c = search needs
 
 same-length-7 : tie.Need-same-length-7 Inv-loop μ-loop
-same-length-7 c = omega (arith, c .before .before .before .before .before .before .before .before .before .convert-row .kept .1 .1 .1 .1 .0, c .before .before .before .before .before .before .before .before .before .before .before .before .before .before .before .before .convert-known .kept .1 .1 .0, c .before .before .before .before .before .before .before .before .before .before .before .before .before .before .before .before .before .before .before .before .before .before .before .before .before .before .loop .inv .size)
+same-length-7 c = omega (arith, c .before .before .before .before .before .before .before .before .before .convert-row .kept .1 .1 .1 .1 .0, c .before .before .before .before .before .before .before .before .before .before .before .before .before .before .before .before .convert-known .kept .1 .1 .0, c .before .before .before .before .before .before .before .before .before .before .before .before .before .before .before .before .before .before .before .before .before .before .before .before .before .before .loop .inv .list .size)
 
 same-length-8 : tie.Need-same-length-8 Inv-loop μ-loop
-same-length-8 c = omega (arith, c .before .before .before .before .before .before .before .before .before .convert-row .kept .1 .1 .1 .1 .1 .0, c .before .before .before .before .before .before .before .before .before .before .before .before .before .before .before .before .before .before .before .before .before .before .before .before .before .before .loop .inv .files-size)
+same-length-8 c = omega (arith, c .before .before .before .before .before .before .before .before .before .convert-row .kept .1 .1 .1 .1 .1 .0, c .before .before .before .before .before .before .before .before .before .before .before .before .before .before .before .before .before .before .before .before .before .before .before .before .before .before .loop .inv .list .files-size)
 
 same-length-9 : tie.Need-same-length-9 Inv-loop μ-loop
-same-length-9 c = omega (arith, c .before .before .before .before .before .before .before .before .before .convert-row .kept .1 .1 .1 .1 .1 .1 .0, c .before .before .before .before .before .before .before .before .before .before .before .before .before .before .before .before .before .before .before .before .before .before .before .before .before .before .loop .inv .warnings-size)
+same-length-9 c = omega (arith, c .before .before .before .before .before .before .before .before .before .convert-row .kept .1 .1 .1 .1 .1 .1 .0, c .before .before .before .before .before .before .before .before .before .before .before .before .before .before .before .before .before .before .before .before .before .before .before .before .before .before .loop .inv .list .warnings-size)
 
 returns-3 : tie.Need-returns-3 Inv-loop μ-loop
 returns-3 c = converting-refused (converting-same (c .before .before .before .before .before .before .before .before .before .before .before .before .before .before .before .before .before .before .before .before .before .before .before .before .before .before .loop .inv) (rw (c .before .before .before .before .before .before .before .before .before .before .before .before .before .if3 .left) at (c .before .before .before .before .before .before .before .before .before .before .before .before .before .before .before .before .convert-known .ensures))) (c .before .before .before .before .before .before .before .before .before .before .before .before .before .before .before .before .before .before .before .before .before .before .before .before .next-row .ensures) (c .before .before .before .before .before .before .before .before .before .before .before .before .before .before .before .before .before .before .before .before .before .before .start .given .1) (c .before .before .before .before .before .before .before .before .before .before .before .before .before .before .before .before .before .before .before .before .before .before .before .before .before .if1 .left) _ (c .before .before .before .before .before .before .before .before .before .before .before .before .before .before .before .before .before .before .before .read-u8 .ensures) (c .before .before .before .before .before .before .before .before .before .before .before .before .before .before .before .before .before .before .if2 .left) (c .before .before .before .before .before .before .before .before .before .before .before .before .before .before .before .before .before .before .before .before .read-row .ensures) (c .before .before .before .before .before .before .before .before .before .convert-row .ensures) (c .before .n .given .1)

@@ -1,6 +1,6 @@
 -- `passes::put_sequence_record` meets its contract. Assumes nothing.
 use borrow.Author.Needs.{needs}
-use Rattle.collect.proofs.SequencesLaws.{sequence-put}
+use Rattle.collect.proofs.SequencesList.{sequence-put}
 use Rattle.collect.proofs.passes.put_sequence_record.Statement.{statement}
 use Rattle.collect.proofs.passes.put_sequence_record.Tie as tie
 

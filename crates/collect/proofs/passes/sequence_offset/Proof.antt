@@ -1,6 +1,6 @@
 -- `passes::sequence_offset` meets its contract. Assumes nothing.
 use borrow.Author.Needs.{needs}
-use Rattle.collect.proofs.SequencesLaws.{offset-known, offset-unknown}
+use Rattle.collect.proofs.SequencesList.{offset-known, offset-unknown}
 use Rattle.collect.proofs.passes.sequence_offset.Statement.{statement}
 use Rattle.collect.proofs.passes.sequence_offset.Tie as tie
 

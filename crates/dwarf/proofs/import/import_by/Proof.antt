@@ -3,7 +3,7 @@ use borrow.Author.Needs.{needs}
 use Rattle.tlv.proofs.PlaceFacts.{slice-bytes}
 use Rattle.imports.specs.Demand.{Lent}
 use Rattle.dwarf.specs.Runs.{inputsBy}
-use Rattle.dwarf.proofs.AnswerLaws.{refusal-within, cleared, answers-refused, answers-done}
+use Rattle.dwarf.proofs.AnswerLaws.{cleared, answers-refused, answers-done}
 use Rattle.dwarf.proofs.import.import_by.Statement.{statement}
 use Rattle.dwarf.proofs.import.import_by.Tie as tie
 
@@ -22,11 +22,6 @@ clear-requires-2 c κs = search needs
 clear-requires-3 : tie.Need-clear-requires-3
 clear-requires-3 c κs = search needs
 
-refusal-of-requires : tie.Need-refusal-of-requires
-refusal-of-requires c κs =
-    let s = c .before .before .before .before .before .before .before .before .before .before .before .before .before .before .before .before .before .before .before .before .before .before .before .before .before .before .before .before .before .before .before .before .before .before in
-    let i = inputsBy (s .args .main .now) (s .args .supplementary .now) (s .args .program .now) (s .args .options) (s .args .work .now) (s .args .records .now) (s .args .files .now) (s .args .warnings .now) in refusal-within (s .args .options .all) i (c .before .before .before .before .before .before .before .before .before .before .before .before .before .before .before .before .before .before .before .before .before .before .run-cleared .ensures .0) (c .before .before .before .before .before .before .before .before .before .before .before .before .before .fitting .ensures) (c .before .before .before .before .before .before .before .before .before .before .before .before .if1 .taken)
-
 same-length : tie.Need-same-length
 same-length c = search needs
 
@@ -41,11 +36,18 @@ same-length-4 c = search needs
 
 returns : tie.Need-returns
 returns c =
-    let s = c .before .before .before .before .before .before .before .before .before .before .before .before .before .before .before .before .before .before .before .before .before .before .before .before .before .before .before .before .before .before .before .before .before .before .before in
-    let i = inputsBy (s .args .main .now) (s .args .supplementary .now) (s .args .program .now) (s .args .options) (s .args .work .now) (s .args .records .now) (s .args .files .now) (s .args .warnings .now) in
-    let R = c .before .before .before .before .before .before .before .before .before .before .before .before .before .before .before .before .before .before .before .before .before .before .before .run-cleared in
-    let L : Lent i = record { main = slice-bytes (s .args .main .now) (c .before .before .before .before .before .before .before .before .before .before .before .before .before .before .before .before .before .before .before .before .before .before .before .before .before .before .before .before .before .before .before .before .before .before .shared-slice-known .given); supplementary = slice-bytes (s .args .supplementary .now) (c .before .before .before .before .before .before .before .before .before .before .before .before .before .before .before .before .before .before .before .before .before .before .before .before .before .before .before .before .before .before .before .before .before .shared-slice-known2 .given); firstFile = s .pre } in answers-refused (s .args .options .all) i L (R .ensures .0) (c .before .before .before .before .before .before .before .before .before .before .before .before .before .before .fitting .ensures) (c .before .before .before .before .before .before .before .before .before .before .before .before .before .if1 .taken) (c .refusal-of .ensures) (R .ensures .1)
-    (cleared (s .args .records .now) (R .kept .1 .1 .1 .1 .1 .0) (c .before .before .before .before .before .before .before .before .before .before .before .clear .ensures)) (cleared (s .args .files .now) (R .kept .1 .1 .1 .1 .1 .1 .0) (c .before .before .before .before .before .before .before .clear2 .ensures)) (cleared (s .args .warnings .now) (R .kept .1 .1 .1 .1 .1 .1 .1 .0) (c .before .before .before .clear3 .ensures))
+    let s = c .before .before .before .before .before .before .before .before .before .before .before .before .before .before .before .before .before .before .before .before .before .before .before .before .before .before .before .before .before .before .before .before .before .before in
+    let i = inputsBy (s .args .main .now) (s .args .supplementary .now) (s .args .program .now) (s .args .options) (s .args .work .now) (s .args .records .now)
+    (s .args .files .now) (s .args .warnings .now) in
+    let R = c .before .before .before .before .before .before .before .before .before .before .before .before .before .before .before .before .before .before .before .before .before .before .run-cleared in
+    let L : Lent i = record {
+      main = slice-bytes (s .args .main .now) (c .before .before .before .before .before .before .before .before .before .before .before .before .before .before .before .before .before .before .before .before .before .before .before .before .before .before .before .before .before .before .before .before .before .shared-slice-known .given);
+      supplementary = slice-bytes (s .args .supplementary .now) (c .before .before .before .before .before .before .before .before .before .before .before .before .before .before .before .before .before .before .before .before .before .before .before .before .before .before .before .before .before .before .before .before .shared-slice-known2 .given);
+      firstFile = s .pre;
+    } in
+    answers-refused (s .args .options .all) i L (R .ensures .0) (c .before .before .before .before .before .before .before .before .before .before .before .before .before .fitting .ensures) (c .before .before .before .before .before .before .before .before .before .before .before .before .if1 .taken) (R .ensures .1)
+    (cleared (s .args .records .now) (R .kept .1 .1 .1 .1 .1 .0) (c .before .before .before .before .before .before .before .before .before .before .clear .ensures)) (cleared (s .args .files .now) (R .kept .1 .1 .1 .1 .1 .1 .0) (c .before .before .before .before .before .before .clear2 .ensures))
+    (cleared (s .args .warnings .now) (R .kept .1 .1 .1 .1 .1 .1 .1 .0) (c .before .before .clear3 .ensures))
 
 same-length-5 : tie.Need-same-length-5
 same-length-5 c = search needs
@@ -62,9 +64,15 @@ same-length-8 c = search needs
 returns-2 : tie.Need-returns-2
 returns-2 c =
     let s = c .before .before .before .before .before .before .before .before .before .before .before .before .before .before .before .before .before .before .before .before .before .before .before in
-    let i = inputsBy (s .args .main .now) (s .args .supplementary .now) (s .args .program .now) (s .args .options) (s .args .work .now) (s .args .records .now) (s .args .files .now) (s .args .warnings .now) in
+    let i = inputsBy (s .args .main .now) (s .args .supplementary .now) (s .args .program .now) (s .args .options) (s .args .work .now) (s .args .records .now)
+    (s .args .files .now) (s .args .warnings .now) in
     let R = c .before .before .before .before .before .before .before .before .before .before .before .run-cleared in
-    let L : Lent i = record { main = slice-bytes (s .args .main .now) (c .before .before .before .before .before .before .before .before .before .before .before .before .before .before .before .before .before .before .before .before .before .before .shared-slice-known .given); supplementary = slice-bytes (s .args .supplementary .now) (c .before .before .before .before .before .before .before .before .before .before .before .before .before .before .before .before .before .before .before .before .before .shared-slice-known2 .given); firstFile = s .pre } in answers-done (s .args .options .all) i L (R .ensures .0) (c .before .before .fitting .ensures) (c .before .if1 .left) (R .ensures .1)
+    let L : Lent i = record {
+      main = slice-bytes (s .args .main .now) (c .before .before .before .before .before .before .before .before .before .before .before .before .before .before .before .before .before .before .before .before .before .before .shared-slice-known .given);
+      supplementary = slice-bytes (s .args .supplementary .now) (c .before .before .before .before .before .before .before .before .before .before .before .before .before .before .before .before .before .before .before .before .before .shared-slice-known2 .given);
+      firstFile = s .pre;
+    } in
+    answers-done (s .args .options .all) i L (R .ensures .0) (c .before .before .fitting .ensures) (c .before .if1 .left) (R .ensures .1)
 
 pub import-by-spec : {M : Type 1} → statement M
 import-by-spec =
@@ -75,7 +83,6 @@ import-by-spec =
     clear-requires
     clear-requires-2
     clear-requires-3
-    refusal-of-requires
     same-length
     same-length-2
     same-length-3

@@ -2,7 +2,7 @@
 use borrow.Author.Needs.{needs}
 use mathlib.Core.List.{[]}
 use Rattle.dwarf.specs.Runs.{inputsBy}
-use Rattle.dwarf.proofs.MeasureLaws.{refusal-in, measures-refused, measures-done}
+use Rattle.dwarf.proofs.MeasureLaws.{measures-refused, measures-done}
 use Rattle.dwarf.proofs.import.measure_by.Statement.{statement}
 use Rattle.dwarf.proofs.import.measure_by.Tie as tie
 
@@ -18,19 +18,15 @@ slice-aggregate-run-cleared-3 c = search needs
 run-cleared-requires : tie.Need-run-cleared-requires
 run-cleared-requires c κs = search needs
 
-refusal-of-requires : tie.Need-refusal-of-requires
-refusal-of-requires c κs =
-    let s = c .before .before .before .before .before .before .before .before .before .before .before .before .before .before .before .before in
-    let i = inputsBy (s .args .main .now) (s .args .supplementary .now) (s .args .program .now) (s .args .options) (s .args .work .now) [] [] [] in refusal-in (s .args .options .all) i (c .before .before .before .before .before .before .before .run-cleared .ensures .0) (c .if1 .taken)
-
 same-length : tie.Need-same-length
 same-length c = search needs
 
 returns : tie.Need-returns
 returns c =
-    let s = c .before .before .before .before .before .before .before .before .before .before .before .before .before .before .before .before .before in
+    let s = c .before .before .before .before .before .before .before .before .before .before .before .before .before .before .before .before in
     let i = inputsBy (s .args .main .now) (s .args .supplementary .now) (s .args .program .now) (s .args .options) (s .args .work .now) [] [] [] in
-    let R = c .before .before .before .before .before .before .before .before .run-cleared in measures-refused (s .args .options .all) i (R .ensures .0) (c .before .if1 .taken) (c .refusal-of .ensures) (R .ensures .1)
+    let R = c .before .before .before .before .before .before .before .run-cleared in
+    measures-refused (s .args .options .all) i (R .ensures .0) (c .if1 .taken) (R .ensures .1)
 
 same-length-2 : tie.Need-same-length-2
 same-length-2 c = search needs
@@ -39,7 +35,8 @@ returns-2 : tie.Need-returns-2
 returns-2 c =
     let s = c .before .before .before .before .before .before .before .before .before .before .before .before .before .before .before .before .before in
     let i = inputsBy (s .args .main .now) (s .args .supplementary .now) (s .args .program .now) (s .args .options) (s .args .work .now) [] [] [] in
-    let R = c .before .before .before .before .before .before .before .before .run-cleared in measures-done (s .args .options .all) i (R .ensures .0) (c .before .if1 .left) (R .ensures .1)
+    let R = c .before .before .before .before .before .before .before .before .run-cleared in
+    measures-done (s .args .options .all) i (R .ensures .0) (c .before .if1 .left) (R .ensures .1)
 
 pub measure-by-spec : {M : Type 1} → statement M
 measure-by-spec =
@@ -49,7 +46,6 @@ measure-by-spec =
     slice-aggregate-run-cleared-2
     slice-aggregate-run-cleared-3
     run-cleared-requires
-    refusal-of-requires
     same-length
     returns
     same-length-2

@@ -34,6 +34,9 @@ array-read-t27 c = search needs
 array-read-t30 : tie.Need-array-read-t30
 array-read-t30 c = search needs
 
+array-read-t33 : tie.Need-array-read-t33
+array-read-t33 c = search needs
+
 returns : tie.Need-returns
 returns c = search sized
 
@@ -51,4 +54,5 @@ counts-of-spec =
     array-read-t24
     array-read-t27
     array-read-t30
+    array-read-t33
     returns)

@@ -15,11 +15,18 @@ refused-requires c κs = search needs
 returns : tie.Need-returns
 returns c =
     let s = c .before .before .before .before .before .before .before .before .before .before in
-    let i = inputsBy (s .args .main .now) (s .args .supplementary .now) (s .args .program .now) (s .args .options) (s .args .work .now) (s .args .records .now) (s .args .files .now) (s .args .warnings .now) in accepted-missing (s .args .options) i (s .args .number) (c .before .before .is-missing .ensures) (c .before .if1 .taken) (c .refused .ensures)
+    let i = inputsBy (s .args .main .now) (s .args .supplementary .now) (s .args .program .now) (s .args .options) (s .args .work .now) (s .args .records .now)
+    (s .args .files .now) (s .args .warnings .now) in
+    accepted-missing (s .args .options) i (s .args .number) (c .before .before .is-missing .ensures) (c .before .if1 .taken) (c .refused .ensures)
+
+counts-of-requires : tie.Need-counts-of-requires
+counts-of-requires c κs = search needs
+
+is-encoded-requires : tie.Need-is-encoded-requires
+is-encoded-requires c κs = (accepted-both (c .before .before .before .before .before .before .before .before .before .before .pre .0) .0, c .counts-of .ensures .encodings)
 
 is-short-requires : tie.Need-is-short-requires
-is-short-requires c κs =
-    let P = c .before .before .before .before .before .before .before .before .before .before .pre in (both-few (P .0), P .1 .program-within)
+is-short-requires c κs = (both-few (c .before .before .before .before .before .before .before .before .before .before .before .before .pre .0), c .before .before .before .before .before .before .before .before .before .before .before .before .pre .1 .program-within)
 
 refused-requires-2 : tie.Need-refused-requires-2
 refused-requires-2 c κs = search needs
@@ -29,12 +36,15 @@ same-length c = search needs
 
 returns-2 : tie.Need-returns-2
 returns-2 c =
-    let s = c .before .before .before .before .before .before .before .before .before .before .before .before .before in
-    let i = inputsBy (s .args .main .now) (s .args .supplementary .now) (s .args .program .now) (s .args .options) (s .args .work .now) (s .args .records .now) (s .args .files .now) (s .args .warnings .now) in accepted-short (s .args .options) i (s .args .number) (c .before .before .before .before .before .is-missing .ensures) (c .before .before .before .before .if1 .left) (c .before .before .is-short .ensures) (c .before .if2 .taken) (c .refused2 .ensures)
+    let s = c .before .before .before .before .before .before .before .before .before .before .before .before .before .before .before in
+    let i = inputsBy (s .args .main .now) (s .args .supplementary .now) (s .args .program .now) (s .args .options) (s .args .work .now) (s .args .records .now)
+    (s .args .files .now) (s .args .warnings .now) in
+    accepted-short (s .args .options) i (s .args .number) (c .before .before .before .before .before .before .before .is-missing .ensures) (c .before .before .before .before .before .before .if1 .left) (c .before .before .before .before .is-encoded .ensures) (c .before .before .is-short .ensures) (c .before .if2 .taken) (c .refused2 .ensures)
 
 import-worked-requires : tie.Need-import-worked-requires
 import-worked-requires c κs =
-    let P = c .before .before .before .before .before .before .before .before .before .before .before .before .before .before .before .before .pre in (accepted-both (P .0), (P .1, work-enough (P .0) _ _ (c .before .before .before .before .before .is-short .ensures) (c .before .before .before .before .if2 .left)))
+    let P = c .before .before .before .before .before .before .before .before .before .before .before .before .before .before .before .before .before .before .pre in
+    (accepted-both (P .0), (P .1, (c .before .before .before .before .before .before .before .before .counts-of .ensures, (c .before .before .before .before .before .before .before .is-encoded .ensures, work-enough (P .0) _ _ _ (c .before .before .before .before .before .is-short .ensures) (c .before .before .before .before .if2 .left)))))
 
 same-length-2 : tie.Need-same-length-2
 same-length-2 c = search needs
@@ -50,8 +60,10 @@ same-length-5 c = search needs
 
 returns-3 : tie.Need-returns-3
 returns-3 c =
-    let s = c .before .before .before .before .before .before .before .before .before .before .before .before .before .before .before .before .before .before .before .before .before .before .before .before .before in
-    let i = inputsBy (s .args .main .now) (s .args .supplementary .now) (s .args .program .now) (s .args .options) (s .args .work .now) (s .args .records .now) (s .args .files .now) (s .args .warnings .now) in accepted-long (s .args .options) i (s .args .number) (c .before .before .before .before .before .before .before .before .before .before .before .before .before .before .before .before .before .is-missing .ensures) (c .before .before .before .before .before .before .before .before .before .before .before .before .before .before .before .before .if1 .left) (c .before .before .before .before .before .before .before .before .before .before .before .before .before .before .is-short .ensures) (c .before .before .before .before .before .before .before .before .before .before .before .before .before .if2 .left) (c .before .before .before .before .before .before .before .before .import-worked .ensures)
+    let s = c .before .before .before .before .before .before .before .before .before .before .before .before .before .before .before .before .before .before .before .before .before .before .before .before .before .before .before in
+    let i = inputsBy (s .args .main .now) (s .args .supplementary .now) (s .args .program .now) (s .args .options) (s .args .work .now) (s .args .records .now)
+    (s .args .files .now) (s .args .warnings .now) in
+    accepted-long (s .args .options) i (s .args .number) (c .before .before .before .before .before .before .before .before .before .before .before .before .before .before .before .before .before .before .before .is-missing .ensures) (c .before .before .before .before .before .before .before .before .before .before .before .before .before .before .before .before .before .before .if1 .left) (c .before .before .before .before .before .before .before .before .before .before .before .before .before .before .before .before .is-encoded .ensures) (c .before .before .before .before .before .before .before .before .before .before .before .before .before .before .is-short .ensures) (c .before .before .before .before .before .before .before .before .before .before .before .before .before .if2 .left) (c .before .before .before .before .before .before .before .before .import-worked .ensures)
 
 pub import-accepted-spec : {M : Type 1} → statement M
 import-accepted-spec =
@@ -60,6 +72,8 @@ import-accepted-spec =
     is-missing-requires
     refused-requires
     returns
+    counts-of-requires
+    is-encoded-requires
     is-short-requires
     refused-requires-2
     same-length

@@ -9,26 +9,22 @@ use Rattle.dwarf.proofs.unit.import_at.Statement.{statement}
 use Rattle.dwarf.proofs.unit.import_at.Tie as tie
 
 program-part-requires : tie.Need-program-part-requires
-program-part-requires c κs =
-    let P = c .before .before .before .before .before .before .before .pre in (accepted-main (P .1 .0), P .0)
+program-part-requires c κs = (accepted-main (c .before .before .before .before .before .before .before .pre .1 .0), c .before .before .before .before .before .before .before .pre .0 .0)
 
 sub-collect-lines : tie.Need-sub-collect-lines
-sub-collect-lines c =
-    let part = c .before .program-part .ensures in omega (arith, part .order)
+sub-collect-lines c = omega (arith, c .before .program-part .ensures .order)
 
 part-collect-lines-start : tie.Need-part-collect-lines-start
-part-collect-lines-start c =
-    let part = c .before .program-part .ensures in omega (arith, part .order, part .within)
+part-collect-lines-start c = omega (arith, c .before .program-part .ensures .order, c .before .program-part .ensures .within)
 
 part-collect-lines-end : tie.Need-part-collect-lines-end
-part-collect-lines-end c =
-    let part = c .before .program-part .ensures in omega (arith, part .order, part .within)
+part-collect-lines-end c = omega (arith, c .before .program-part .ensures .order, c .before .program-part .ensures .within)
 
 collect-lines-requires : tie.Need-collect-lines-requires
 collect-lines-requires c κs =
     let P = c .before .before .before .before .before .before .before .before .before .before .before .before .before .pre in
-    let T = P .1 .0 in
-    let A = accepted-main T in (placed-start _ (A .number) (A .is), (P .0, (P .1 .1 .files, lines-room (P .0) T (P .1 .1) _ (search part-short))))
+    let A = accepted-main (P .1 .0) in
+    (placed-start _ (A .number) (A .is), (P .0 .0, (P .1 .1 .files, lines-room (P .0 .0) (P .0 .1) (P .1 .0) (P .1 .1) _ (search part-short))))
 
 enum-known-n : tie.Need-enum-known-n
 enum-known-n c = search needs
@@ -39,14 +35,14 @@ enum-known-lines c = search needs
 unit-context-requires : tie.Need-unit-context-requires
 unit-context-requires c κs =
     let P = c .before .before .before .before .before .before .before .before .before .before .before .before .before .before .before .before .before .before .before .before .before .before .before .before .pre in
-    let T = P .1 .0 in
-    let K = c .before .before .before .before .before .before .before .before .before .before .collect-lines .ensures in (P .0, (tables-kept T (collected-low (P .0) T (P .1 .1) _ (search part-short) K) (c .before .before .before .before .before .before .before .before .before .before .collect-lines .kept .1 .1 .1 .1 .0), lines-laid (P .0) T (P .1 .1) _ (search part-short) K (c .before .before .lines .given .1)))
+    let K = c .before .before .before .before .before .before .before .before .before .before .collect-lines .ensures in
+    (P .0 .0, (tables-kept (P .1 .0) (collected-low (P .0 .0) (P .0 .1) (P .1 .0) (P .1 .1) _ (search part-short) K) (c .before .before .before .before .before .before .before .before .before .before .collect-lines .kept .1 .1 .1 .1 .0), lines-laid (P .0 .0) (P .0 .1) (P .1 .0) (P .1 .1) _ (search part-short) K (c .before .before .lines .given .1)))
 
 import-unit-details-requires : tie.Need-import-unit-details-requires
 import-unit-details-requires c κs =
     let P = c .before .before .before .before .before .before .before .before .before .before .before .before .before .before .before .before .before .before .before .before .before .before .before .before .before .before .before .before .before .before .before .before .pre in
-    let T = P .1 .0 in
-    let K = c .before .before .before .before .before .before .before .before .before .before .before .before .before .before .before .before .before .before .collect-lines .ensures in (context-stands (P .0) T (P .1 .1) _ (search part-short) K (c .before .before .before .before .before .before .before .before .before .before .lines .given .1) (c .before .before .before .before .before .before .before .unit-context .ensures), (refl, P .1 .1 .at, warned-fits (P .0) T (P .1 .1) _ (search part-short) K (c .before .before .before .before .before .before .before .before .before .before .lines .given .1)))
+    let K = c .before .before .before .before .before .before .before .before .before .before .before .before .before .before .before .before .before .before .collect-lines .ensures in
+    (context-stands (P .0 .0) (P .0 .1) (P .1 .0) (P .1 .1) _ (search part-short) K (c .before .before .before .before .before .before .before .before .before .before .lines .given .1) (c .before .before .before .before .before .before .before .unit-context .ensures), (refl, P .1 .1 .at, warned-fits (P .0 .0) (P .0 .1) (P .1 .0) (P .1 .1) _ (search part-short) K (c .before .before .before .before .before .before .before .before .before .before .lines .given .1)))
 
 same-length : tie.Need-same-length
 same-length c = search needs
@@ -60,7 +56,8 @@ same-length-3 c = search needs
 returns : tie.Need-returns
 returns c =
     let P = c .before .before .before .before .before .before .before .before .before .before .before .before .before .before .before .before .before .before .before .before .before .before .before .pre in
-    let K = c .before .before .before .before .before .before .before .before .before .collect-lines .ensures in unit-refused (P .0) (P .1 .0) (P .1 .1) _ (search part-short) K (c .before .n .given .1) (c .before .before .before .before .before .before .before .before .before .before .before .before .before .before .before .program-part .ensures .is _ refl) (c .before .before .before .before .before .before .before .before .before .before .before .before .before .before .before .before .before .before .before .before .before .before .before .args .options .inlines) (c .before .before .before .before .before .before .before .before .before .before .before .before .before .before .before .before .before .before .before .before .before .before .before .args .options .«call_sites») refl
+    let s = c .before .before .before .before .before .before .before .before .before .before .before .before .before .before .before .before .before .before .before .before .before .before .before in
+    unit-refused (P .0 .0) (P .0 .1) (P .1 .0) (P .1 .1) _ (search part-short) (c .before .before .before .before .before .before .before .before .before .collect-lines .ensures) (c .before .n .given .1) (c .before .before .before .before .before .before .before .before .before .before .before .before .before .before .before .program-part .ensures .is _ refl) (s .args .options .inlines) (s .args .options .«call_sites») refl
 
 same-length-4 : tie.Need-same-length-4
 same-length-4 c = c .before .before .before .before .before .before .before .before .import-unit-details .kept .1 .1 .0 ∙ c .before .before .before .before .before .before .before .before .before .before .before .before .before .before .before .before .unit-context .kept .1 .1 .1 .0 ∙ c .before .before .before .before .before .before .before .before .before .before .before .before .before .before .before .before .before .before .before .before .before .before .before .before .before .before .before .collect-lines .kept .1 .1 .1 .1 .0
@@ -77,7 +74,8 @@ same-length-7 c = c .before .before .before .before .before .before .before .bef
 returns-2 : tie.Need-returns-2
 returns-2 c =
     let P = c .before .before .before .before .before .before .before .before .before .before .before .before .before .before .before .before .before .before .before .before .before .before .before .before .before .before .before .before .before .before .before .before .before .before .before .before .before .before .before .before .before .pre in
-    let K = c .before .before .before .before .before .before .before .before .before .before .before .before .before .before .before .before .before .before .before .before .before .before .before .before .before .before .before .collect-lines .ensures in unit-grows (P .0) (P .1 .0) (P .1 .1) _ (search part-short) K (c .before .before .before .before .before .before .before .before .before .before .before .before .before .before .before .before .before .before .before .lines .given .1) (c .before .before .before .before .before .before .before .before .before .before .before .before .before .before .before .before .unit-context .ensures) (c .before .before .before .before .before .before .before .before .before .before .before .before .before .before .before .before .before .before .before .before .before .before .before .before .before .before .before .before .before .before .before .before .before .program-part .ensures .is _ refl) (c .before .before .before .before .before .before .before .before .before .before .before .before .before .before .before .before .before .before .before .before .before .before .before .before .before .before .before .collect-lines .kept .1 .1 .1 .1 .0) (c .before .before .before .before .before .before .before .before .before .before .before .before .before .before .before .before .unit-context .kept .1 .1 .1 .0) (c .before .before .before .before .before .before .before .before .import-unit-details .ensures)
+    unit-grows (P .0 .0) (P .0 .1) (P .1 .0) (P .1 .1) _ (search part-short) (c .before .before .before .before .before .before .before .before .before .before .before .before .before .before .before .before .before .before .before .before .before .before .before .before .before .before .before .collect-lines .ensures) (c .before .before .before .before .before .before .before .before .before .before .before .before .before .before .before .before .before .before .before .lines .given .1) (c .before .before .before .before .before .before .before .before .before .before .before .before .before .before .before .before .unit-context .ensures) (c .before .before .before .before .before .before .before .before .before .before .before .before .before .before .before .before .before .before .before .before .before .before .before .before .before .before .before .before .before .before .before .before .before .program-part .ensures .is _ refl)
+    (c .before .before .before .before .before .before .before .before .before .before .before .before .before .before .before .before .before .before .before .before .before .before .before .before .before .before .before .collect-lines .kept .1 .1 .1 .1 .0) (c .before .before .before .before .before .before .before .before .before .before .before .before .before .before .before .before .unit-context .kept .1 .1 .1 .0) (c .before .before .before .before .before .before .before .before .import-unit-details .ensures)
 
 pub import-at-spec : {M : Type 1} → statement M
 import-at-spec =

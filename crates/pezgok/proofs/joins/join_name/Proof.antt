@@ -3,7 +3,7 @@ use native.Mathlib.Omega.{arith}
 use mathlib.Core.Path.{ap}
 use Rattle.tlv.proofs.BufferLaws.{put-as, put-nothing}
 use Rattle.pezgok.specs.Exported.{refusalWord}
-use Rattle.pezgok.proofs.JoinedLaws.{no-word-joined}
+use Rattle.pezgok.proofs.JoinedLaws.{no-word-past}
 use borrow.Author.Needs.{needs}
 use Rattle.pezgok.proofs.joins.join_name.Statement.{statement}
 use Rattle.pezgok.proofs.joins.join_name.Tie as tie
@@ -35,7 +35,7 @@ unfolding refusalWord
 returns-2 c = put-as (ap refusalWord (c .before .before .before .before .before .match .keys2)) (c .before .before .put-bytes2 .ensures)
 
 returns-3 : tie.Need-returns-3
-returns-3 c = put-nothing (no-word-joined _ (c .before .before .pre) (c .match .rest .0 .1) (c .match .rest .1)) (omega arith) (omega arith)
+returns-3 c = put-nothing (no-word-past _ (omega (arith, c .before .before .pre)) (c .match .rest .0 .1) (c .match .rest .1)) (omega arith) (omega arith)
 
 pub join-name-spec : {M : Type 1} → statement M
 join-name-spec =

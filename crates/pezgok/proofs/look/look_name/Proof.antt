@@ -2,7 +2,7 @@
 use native.Mathlib.Omega.{arith}
 use mathlib.Core.Path.{ap}
 use Rattle.tlv.proofs.BufferLaws.{put-as, put-nothing}
-use Rattle.dwarf.proofs.AnswerLaws.{above}
+use Rattle.pezgok.proofs.ExportLaws.{above}
 use Rattle.pezgok.specs.Exported.{refusalWord}
 use Rattle.pezgok.proofs.LookLaws.{no-word-looked}
 use borrow.Author.Needs.{needs}

@@ -14,6 +14,9 @@ text-shaped-requires c κs = search needs
 header-shaped-requires : tie.Need-header-shaped-requires
 header-shaped-requires c κs = search needs
 
+encoding-shaped-requires : tie.Need-encoding-shaped-requires
+encoding-shaped-requires c κs = search needs
+
 part-shaped-requires : tie.Need-part-shaped-requires
 part-shaped-requires c κs = search needs
 
@@ -59,43 +62,47 @@ returns-4 c = rw (c .before .match .keys4) (c .header-shaped .ensures)
 
 returns-5 : tie.Need-returns-5
 unfolding payloadShaped
-returns-5 c = rw (c .before .match .keys5) (c .part-shaped .ensures)
+returns-5 c = rw (c .before .match .keys5) (c .encoding-shaped .ensures)
 
 returns-6 : tie.Need-returns-6
 unfolding payloadShaped
-returns-6 c = rw (c .before .match .keys6) (c .directory-shaped .ensures)
+returns-6 c = rw (c .before .match .keys6) (c .part-shaped .ensures)
 
 returns-7 : tie.Need-returns-7
 unfolding payloadShaped
-returns-7 c = rw (c .before .match .keys7) (c .file-shaped .ensures)
+returns-7 c = rw (c .before .match .keys7) (c .directory-shaped .ensures)
 
 returns-8 : tie.Need-returns-8
 unfolding payloadShaped
-returns-8 c = rw (c .before .match .keys8) (c .file-shaped2 .ensures)
+returns-8 c = rw (c .before .match .keys8) (c .file-shaped .ensures)
 
 returns-9 : tie.Need-returns-9
 unfolding payloadShaped
-returns-9 c = rw (c .before .match .keys9) (c .row-shaped .ensures)
+returns-9 c = rw (c .before .match .keys9) (c .file-shaped2 .ensures)
 
 returns-10 : tie.Need-returns-10
 unfolding payloadShaped
-returns-10 c = rw (c .before .match .keys10) (c .entry-shaped .ensures)
+returns-10 c = rw (c .before .match .keys10) (c .row-shaped .ensures)
 
 returns-11 : tie.Need-returns-11
 unfolding payloadShaped
-returns-11 c = rw (c .before .match .keys11) (c .attribute-shaped .ensures)
+returns-11 c = rw (c .before .match .keys11) (c .entry-shaped .ensures)
 
 returns-12 : tie.Need-returns-12
 unfolding payloadShaped
-returns-12 c = rw (c .before .match .keys12) (c .range-shaped .ensures)
+returns-12 c = rw (c .before .match .keys12) (c .attribute-shaped .ensures)
 
 returns-13 : tie.Need-returns-13
 unfolding payloadShaped
-returns-13 c = rw (c .before .match .keys13) (c .failure-shaped .ensures)
+returns-13 c = rw (c .before .match .keys13) (c .range-shaped .ensures)
 
 returns-14 : tie.Need-returns-14
 unfolding payloadShaped
-returns-14 c = simp (ne-eqb _ _ (c .match .rest .1), ne-eqb _ _ (c .match .rest .0 .1), ne-eqb _ _ (c .match .rest .0 .0 .1), ne-eqb _ _ (c .match .rest .0 .0 .0 .1), ne-eqb _ _ (c .match .rest .0 .0 .0 .0 .1), ne-eqb _ _ (c .match .rest .0 .0 .0 .0 .0 .1), ne-eqb _ _ (c .match .rest .0 .0 .0 .0 .0 .0 .1), ne-eqb _ _ (c .match .rest .0 .0 .0 .0 .0 .0 .0 .1), ne-eqb _ _ (c .match .rest .0 .0 .0 .0 .0 .0 .0 .0 .1), ne-eqb _ _ (c .match .rest .0 .0 .0 .0 .0 .0 .0 .0 .0 .1), ne-eqb _ _ (c .match .rest .0 .0 .0 .0 .0 .0 .0 .0 .0 .0 .1), ne-eqb _ _ (c .match .rest .0 .0 .0 .0 .0 .0 .0 .0 .0 .0 .0 .1), ne-eqb _ _ (c .match .rest .0 .0 .0 .0 .0 .0 .0 .0 .0 .0 .0 .0 .1))
+returns-14 c = rw (c .before .match .keys14) (c .failure-shaped .ensures)
+
+returns-15 : tie.Need-returns-15
+unfolding payloadShaped
+returns-15 c = simp (ne-eqb _ _ (c .match .rest .1), ne-eqb _ _ (c .match .rest .0 .1), ne-eqb _ _ (c .match .rest .0 .0 .1), ne-eqb _ _ (c .match .rest .0 .0 .0 .1), ne-eqb _ _ (c .match .rest .0 .0 .0 .0 .1), ne-eqb _ _ (c .match .rest .0 .0 .0 .0 .0 .1), ne-eqb _ _ (c .match .rest .0 .0 .0 .0 .0 .0 .1), ne-eqb _ _ (c .match .rest .0 .0 .0 .0 .0 .0 .0 .1), ne-eqb _ _ (c .match .rest .0 .0 .0 .0 .0 .0 .0 .0 .1), ne-eqb _ _ (c .match .rest .0 .0 .0 .0 .0 .0 .0 .0 .0 .1), ne-eqb _ _ (c .match .rest .0 .0 .0 .0 .0 .0 .0 .0 .0 .0 .1), ne-eqb _ _ (c .match .rest .0 .0 .0 .0 .0 .0 .0 .0 .0 .0 .0 .1), ne-eqb _ _ (c .match .rest .0 .0 .0 .0 .0 .0 .0 .0 .0 .0 .0 .0 .1), ne-eqb _ _ (c .match .rest .0 .0 .0 .0 .0 .0 .0 .0 .0 .0 .0 .0 .0 .1))
 
 pub payload-shaped-spec : {M : Type 1} → statement M
 payload-shaped-spec =
@@ -104,6 +111,7 @@ payload-shaped-spec =
     unit-shaped-requires
     text-shaped-requires
     header-shaped-requires
+    encoding-shaped-requires
     part-shaped-requires
     directory-shaped-requires
     file-shaped-requires
@@ -126,4 +134,5 @@ payload-shaped-spec =
     returns-11
     returns-12
     returns-13
-    returns-14)
+    returns-14
+    returns-15)
