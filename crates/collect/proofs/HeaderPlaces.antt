@@ -11,7 +11,7 @@ use Rattle.tlv.specs.declared.access.Place.{Place}
 use Rattle.tlv.specs.Bytes.{leAt}
 use Rattle.tlv.specs.Lists.{at, mapOption}
 use Rattle.tlv.specs.Fields.{payloadOf, fields}
-use Rattle.tlv.specs.Grammar.{encodingTag}
+use Rattle.tlv.specs.Tags.{encodingTag}
 use Rattle.tlv.specs.Places.{unitHere, ownFields}
 use Rattle.tlv.specs.Model.{headerOf, encodingOf, units}
 use Rattle.tlv.specs.Cursor.{stepAt}

@@ -7,7 +7,8 @@ use lib.Dec.{eqb}
 use lib.ListN.{length, take, drop}
 use Rattle.tlv.specs.declared.access.Own.{Own}
 use Rattle.tlv.specs.Outcome.{_>>=_}
-use Rattle.tlv.specs.Grammar.{encodingTag, encodingFlagAt, encodingFieldSize}
+use Rattle.tlv.specs.Grammar.{encodingFlagAt, encodingFieldSize}
+use Rattle.tlv.specs.Tags.{encodingTag}
 use Rattle.tlv.specs.Lists.{mapOption}
 use Rattle.tlv.specs.Bytes.{leAt}
 use Rattle.tlv.specs.Model.{headerOf, encodingOf}

@@ -50,7 +50,8 @@ pub record LinesRoom (main w program : List ℕ) (t : StoredFiles) (p free : ℕ
 pub record CollectedIn (main supplementary program w w′ files files′ warnings warnings′ : List ℕ) (p : ℕ) (t : StoredFiles) (warned free : ℕ)
     (l : StoredLines) (is : StoredIndices) (t′ : StoredFiles) (warned′ : ℕ) : Type 0 where
   pub new : List Warning
-  pub collected : collectLines (unitHere main p) program (tableOf main supplementary w t) ≡ done (record { table = tableOf main supplementary w′ t′; lines = linesIn w′ l is; warnings = new })
+  pub collected : collectLines (unitHere main p) program (tableOf main supplementary w t)
+      ≡ done (record { table = tableOf main supplementary w′ t′; lines = linesIn w′ l is; warnings = new })
   pub grown : Grown main supplementary w w′ files files′ t t′
   pub put : Put warned (warningsBytes new) warnings warnings′ warned′
   pub rows : RowsIn w′ l
@@ -67,6 +68,7 @@ CollectsBy main supplementary program w w′ files files′ warnings warnings′
     CollectedIn main supplementary program w w′ files files′ warnings warnings′ p t warned free l is t′ warned′
 
 -- a refusal too keeps what lies outside the file table and the lines' room
-pub record CollectsLines (main supplementary program w w′ files files′ warnings warnings′ : List ℕ) (p : ℕ) (t : StoredFiles) (warned free : ℕ) (r : CollectedLines) : Type 0 where
+pub record CollectsLines (main supplementary program w w′ files files′ warnings warnings′ : List ℕ) (p : ℕ) (t : StoredFiles) (warned free : ℕ)
+    (r : CollectedLines) : Type 0 where
   pub is : CollectsBy main supplementary program w w′ files files′ warnings warnings′ p t warned free r
   pub rest : KeptBut w w′ ((t .base, extent t) ∷ (free, linesExtent main p program) ∷ [])

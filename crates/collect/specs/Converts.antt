@@ -7,6 +7,7 @@ use mathlib.Core.List.{List, [], _∷_}
 use mathlib.Core.Option.{none, some}
 use lib.Dec.{leb, ltb, eqb}
 use lib.ListN.{length}
+use Rattle.tlv.specs.Tags.{fileZeroTag}
 use Rattle.tlv.specs.declared.access.Own.{Own}
 use Rattle.tlv.specs.declared.model.FileIndex.{FileIndex}
 use Rattle.tlv.specs.Outcome.{refused, done}
@@ -61,7 +62,7 @@ pub record ConversionIn (main supplementary w : List ℕ) (c : Conversion) (st :
   pub files : FilesIn main supplementary w (st .table)
   pub unit : FileUnitIn main w (c .unit)
   pub listed : Listed main supplementary (unitAt main c) (headerIn main c)
-  pub zero : NextOwn main (c .unit .place + 21) 0x1c (c .zero)
+  pub zero : NextOwn main (c .unit .place + 21) fileZeroTag (c .zero)
   pub unnamed : Unnamed (unitAt main c) (headerIn main c) (indicesIn w (c .indices))
   pub all : c .indices .count ≡ cond (leb (headerIn main c .version) 4) 1 0 + length (unitAt main c .files)
   pub table : st .table .base + extent (st .table) ≤ c .offsets
@@ -96,12 +97,14 @@ linedIn w c count table indices warnings = record { table = table; indices = ind
 
 -- the row's line stands behind the others, and there is nothing to warn of
 pub record LineAppended (w w′ : List ℕ) (c : Conversion) (r : Row) (file : FileIndex) (count : ℕ) : Type 0 where
-  pub is : (table : FileTable) (indices : FileIndices) → convertLine (offsetsOf w c) (rawOf r) file (linedIn w c count table indices []) ≡ linedIn w′ c (count + 1) table indices []
+  pub is : (table : FileTable) (indices : FileIndices) → convertLine (offsetsOf w c) (rawOf r) file (linedIn w c count table indices [])
+      ≡ linedIn w′ c (count + 1) table indices []
   pub rest : Kept w w′ (c .lines + count * lineSize) lineSize
 
 pub record LineConverted (w w′ warnings warnings′ : List ℕ) (c : Conversion) (st : Converting) (r : Row) (file : FileIndex) (st′ : Converting) : Type 0 where
   pub new : List Warning
-  pub is : (table : FileTable) (indices : FileIndices) → convertLine (offsetsOf w c) (rawOf r) file (linedIn w c (st .count) table indices []) ≡ linedIn w′ c (st′ .count) table indices new
+  pub is : (table : FileTable) (indices : FileIndices) → convertLine (offsetsOf w c) (rawOf r) file (linedIn w c (st .count) table indices [])
+      ≡ linedIn w′ c (st′ .count) table indices new
   pub put : Put (st .warned) (warningsBytes new) warnings warnings′ (st′ .warned)
   pub table-same : st′ .table ≡ st .table
   pub more : (st .count ≤ st′ .count) × (st′ .count ≤ st .count + 1)
@@ -121,9 +124,11 @@ ConvertsKnown w w′ c r count false = w′ ≡ w
 -- ---- a row
 
 -- the state after a row, with its warnings written
-pub record RowConverted (main supplementary w w′ files files′ warnings warnings′ : List ℕ) (c : Conversion) (st : Converting) (r : Row) (st′ : Converting) : Type 0 where
+pub record RowConverted (main supplementary w w′ files files′ warnings warnings′ : List ℕ) (c : Conversion) (st : Converting) (r : Row) (st′ : Converting)
+    : Type 0 where
   pub new : List Warning
-  pub is : convertRow (unitAt main c) (headerIn main c) (offsetsOf w c) (rawOf r) (convertedIn main supplementary w c st []) ≡ done (convertedIn main supplementary w′ c st′ new)
+  pub is : convertRow (unitAt main c) (headerIn main c) (offsetsOf w c) (rawOf r) (convertedIn main supplementary w c st [])
+      ≡ done (convertedIn main supplementary w′ c st′ new)
   pub grown : Grown main supplementary w w′ files files′ (st .table) (st′ .table)
   pub put : Put (st .warned) (warningsBytes new) warnings warnings′ (st′ .warned)
   pub holds : ConversionIn main supplementary w′ c st′
@@ -136,7 +141,8 @@ ConvertsRow main supplementary w w′ files files′ warnings warnings′ c st r
     RowConverted main supplementary w w′ files files′ warnings warnings′ c st r st′
 
 -- a refusal too keeps what lies outside the file table, the unit's map and the place of the next line
-pub record RowConverts (main supplementary w w′ files files′ warnings warnings′ : List ℕ) (c : Conversion) (st : Converting) (row : Row) (r : ConvertedRow) : Type 0 where
+pub record RowConverts (main supplementary w w′ files files′ warnings warnings′ : List ℕ) (c : Conversion) (st : Converting) (row : Row) (r : ConvertedRow)
+    : Type 0 where
   pub is : ConvertsRow main supplementary w w′ files files′ warnings warnings′ c st row r
   pub rest : KeptBut w w′ ((st .table .base, extent (st .table)) ∷ (c .indices .base, c .indices .count * 5)
       ∷ (c .lines + st .count * lineSize, lineSize) ∷ [])

@@ -6,6 +6,7 @@ use mathlib.Core.List.{List, [], _∷_, map}
 use mathlib.Core.Option.{Option, none, some}
 use lib.Dec.{ltb, eqb}
 use lib.ListN.{drop}
+use Rattle.tlv.specs.Tags.{rowTag}
 use Rattle.tlv.specs.Outcome.{Outcome, refused, done, _>>=_}
 use Rattle.tlv.specs.Lists.{at}
 use Rattle.tlv.specs.Bytes.{le}
@@ -20,7 +21,7 @@ use Rattle.collect.specs.declared.passes.CountedRows.{CountedRows}
 
 -- the row fields of the unit whose fields follow place p
 unfoldable pub rowsFrom : List ℕ → ℕ → List LineRow
-rowsFrom s p = map rowOf (payloads 0x16 (ownFields (fields (drop p s))))
+rowsFrom s p = map rowOf (payloads rowTag (ownFields (fields (drop p s))))
 
 pub record Counted : Type 0 where
   pub lines : ℕ

@@ -8,7 +8,8 @@ use Rattle.tlv.specs.Outcome.{Outcome, refused, done}
 use Rattle.tlv.specs.Lists.{mapOption}
 use Rattle.tlv.specs.Bytes.{leAt}
 use Rattle.tlv.specs.Fields.{fields, payloadOf}
-use Rattle.tlv.specs.Grammar.{encodingTag, encodingFlagAt}
+use Rattle.tlv.specs.Grammar.{encodingFlagAt}
+use Rattle.tlv.specs.Tags.{encodingTag}
 use Rattle.tlv.specs.Model.{CompilationUnit, LineRow, headerOf, encodingOf}
 use Rattle.tlv.specs.Checked.{Placed}
 use Rattle.tlv.specs.Places.{ownFields}

@@ -4,6 +4,7 @@ use mathlib.Core.Path.{_≡_}
 use mathlib.Core.List.{List, [], _∷_, map}
 use mathlib.Core.Option.{none, some}
 use lib.ListN.{length, take, drop}
+use Rattle.tlv.specs.Tags.{fileZeroTag}
 use Rattle.tlv.specs.Outcome.{Outcome, refused, done, _>>=_}
 use Rattle.tlv.specs.Bytes.{leAt}
 use Rattle.tlv.specs.Buffer.{Put}
@@ -79,7 +80,8 @@ internedOf main supplementary w (InternedUnit.Refused n) = refused n
 internedOf main supplementary w (InternedUnit.Unit unit indices t) = done (record { table = tableOf main supplementary w t; indices = indicesIn w indices })
 
 -- the unit at p is described at base, and its map stands behind its directories
-pub record UnitInterned (main supplementary w w′ files files′ : List ℕ) (p : ℕ) (t : StoredFiles) (base : ℕ) (unit : FileUnit) (indices : StoredIndices) (t′ : StoredFiles) : Type 0 where
+pub record UnitInterned (main supplementary w w′ files files′ : List ℕ) (p : ℕ) (t : StoredFiles) (base : ℕ) (unit : FileUnit) (indices : StoredIndices)
+    (t′ : StoredFiles) : Type 0 where
   pub grown : Grown main supplementary w w′ files files′ t t′
   pub described : FileUnitIn main w′ unit
   pub place : unit .place ≡ p
@@ -90,7 +92,8 @@ pub record UnitInterned (main supplementary w w′ files files′ : List ℕ) (p
 
 abbrev pub InternedAfter : List ℕ → List ℕ → List ℕ → List ℕ → List ℕ → List ℕ → ℕ → StoredFiles → ℕ → InternedUnit → Type 0
 InternedAfter main supplementary w w′ files files′ p t base (InternedUnit.Refused n) = Unit
-InternedAfter main supplementary w w′ files files′ p t base (InternedUnit.Unit unit indices t′) = UnitInterned main supplementary w w′ files files′ p t base unit indices t′
+InternedAfter main supplementary w w′ files files′ p t base (InternedUnit.Unit unit indices t′) =
+    UnitInterned main supplementary w w′ files files′ p t base unit indices t′
 
 pub record InternsUnit (main supplementary w w′ files files′ : List ℕ) (p : ℕ) (t : StoredFiles) (base : ℕ) (r : InternedUnit) : Type 0 where
   pub is : internedOf main supplementary w′ r ≡ internHeaderFiles (unitHere main p) (headerHere main p) (tableOf main supplementary w t)
@@ -102,7 +105,7 @@ pub record InternsUnit (main supplementary w w′ files files′ : List ℕ) (p 
 -- a unit's conversion, with its lines behind its map
 pub record ConversionOf (main : List ℕ) (unit : FileUnit) (indices : StoredIndices) (offsets count : ℕ) (r : Conversion) : Type 0 where
   pub is : r ≡ record { unit = unit; zero = r .zero; indices = indices; offsets = offsets; «offset_count» = count; lines = indices .base + indices .count * 5 }
-  pub zero : NextOwn main (unit .place + 21) 0x1c (r .zero)
+  pub zero : NextOwn main (unit .place + 21) fileZeroTag (r .zero)
 
 -- the sequences of a unit's rows were written behind its `count` lines, and these sorted and freed of equal neighbours
 pub record StoresLines (given : List LineRow) (w w′ : List ℕ) (offsets n lines count : ℕ) (r : StoredLines) : Type 0 where
@@ -137,13 +140,15 @@ pub record Finished (given : List LineRow) (main supplementary w w′ files file
   pub sequences : l .lines + l .«line_count» * lineSize ≤ l .sequences
   pub within : l .buffer + entrySize + l .«line_count» * entrySize ≤ c .lines + rowRoom * length given + entrySize
 
-abbrev pub FinishesBy : List LineRow → List ℕ → List ℕ → List ℕ → List ℕ → List ℕ → List ℕ → List ℕ → List ℕ → Conversion → StoredFiles → ℕ → CollectedLines → Type 0
+abbrev pub FinishesBy : List LineRow → List ℕ → List ℕ → List ℕ → List ℕ → List ℕ → List ℕ → List ℕ → List ℕ → Conversion → StoredFiles → ℕ → CollectedLines
+    → Type 0
 FinishesBy given main supplementary w w′ files files′ warnings warnings′ c t warned (CollectedLines.Refused n) =
     (run : Run) → runRows given 0 [] ≡ done run → finishFrom main supplementary w c t run ≡ refused n
 FinishesBy given main supplementary w w′ files files′ warnings warnings′ c t warned (CollectedLines.Lines l is t′ warned′) =
     Finished given main supplementary w w′ files files′ warnings warnings′ c t warned l is t′ warned′
 
--- the unit's rows were converted, and its lines and sequences stored; a refusal too keeps what lies outside the file table, the unit's map and the room behind it
+-- the unit's rows were converted, and its lines and sequences stored; a refusal too keeps what lies outside the file table, the unit's map and the room
+-- behind it
 pub record FinishesLines (given : List LineRow) (main supplementary w w′ files files′ warnings warnings′ : List ℕ) (c : Conversion) (t : StoredFiles)
     (warned : ℕ) (r : CollectedLines) : Type 0 where
   pub is : FinishesBy given main supplementary w w′ files files′ warnings warnings′ c t warned r

@@ -38,6 +38,9 @@ use rows::line::LINE_SIZE;
 use rows::line::RANGE_SIZE;
 use rows::unit_lines::StoredLines;
 use tlv::access::Own;
+use tlv::tags::FILE_ZERO_TAG;
+use tlv::tags::HEADER_TAG;
+use tlv::tags::UNIT_WHOLE;
 
 // The unit's lines and its map of file numbers in the work slice, the file table, and how many bytes of warnings were written; or the refusal.
 pub enum CollectedLines {
@@ -86,7 +89,8 @@ fn scan_program(
     requires { ⌜ 19 ≤ len ⌝ }
     requires { ⌜ start + len ≤ length (now main) ⌝ }
     requires { ⌜ free + length (now program) / 3 * 8 ≤ length (now work) ⌝ }
-    ensures { λ r. ⌜ Scanned (now (program .entry)) (now (work .entry)) (now (work .exit)) free r (lineSequenceOffsets (headerOf (take len (drop start (now (main .entry))))) (now (program .entry))) ⌝ }
+    ensures { λ r. ⌜ Scanned (now (program .entry)) (now (work .entry)) (now (work .exit)) free r
+        (lineSequenceOffsets (headerOf (take len (drop start (now (main .entry))))) (now (program .entry))) ⌝ }
 {
     let header = read_header(main, start);
     let from = start + 19;
@@ -108,7 +112,8 @@ fn intern_unit(
     requires { ⌜ FilesIn (now main) (now supplementary) (now work) t ⌝ }
     requires { ⌜ Listed (now main) (now supplementary) (unitHere (now main) place) (headerHere (now main) place) ⌝ }
     requires { ⌜ UnitRoom (now main) (now work) t place base ⌝ }
-    ensures { λ r. ⌜ InternsUnit (now (main .entry)) (now (supplementary .entry)) (now (work .entry)) (now (work .exit)) (now (files .entry)) (now (files .exit)) place t base r ⌝ }
+    ensures { λ r. ⌜ InternsUnit (now (main .entry)) (now (supplementary .entry)) (now (work .entry)) (now (work .exit)) (now (files .entry))
+        (now (files .exit)) place t base r ⌝ }
 {
     let unit = files::pieces::file_unit(main, place, work, base);
     let at = base + unit.directory_count * 8;
@@ -152,7 +157,7 @@ fn conversion(
 {
     Conversion {
         unit: unit,
-        zero: tlv::access::next_before_rows(main, unit.place + 21, 0x1c),
+        zero: tlv::access::next_before_rows(main, unit.place + UNIT_WHOLE, FILE_ZERO_TAG),
         indices: indices,
         offsets: offsets,
         offset_count: n,
@@ -257,7 +262,7 @@ fn finish_lines(
             return CollectedLines::Refused(r);
         }
         ConvertedRow::Next(st) => {
-            let p = c.unit.place + 21;
+            let p = c.unit.place + UNIT_WHOLE;
             let stored = store_lines(
                 main,
                 program,
@@ -300,7 +305,8 @@ fn collect_counted(
     free: usize,
 ) -> CollectedLines
     requires { ⌜ UnitCounted (now main) (now supplementary) (now program) (now work) t place start len source n m free ⌝ }
-    ensures { λ r. ⌜ CollectsLines (now (main .entry)) (now (supplementary .entry)) (now (program .entry)) (now (work .entry)) (now (work .exit)) (now (files .entry)) (now (files .exit)) (now (warnings .entry)) (now (warnings .exit)) place t warned free r ⌝ }
+    ensures { λ r. ⌜ CollectsLines (now (main .entry)) (now (supplementary .entry)) (now (program .entry)) (now (work .entry)) (now (work .exit))
+        (now (files .entry)) (now (files .exit)) (now (warnings .entry)) (now (warnings .exit)) place t warned free r ⌝ }
 {
     match scan_program(main, program, start, len, work, free) {
         Scan::Fault(f) => {
@@ -354,10 +360,11 @@ pub fn collect_lines(
     requires { ⌜ UnitIn (now main) place ⌝ }
     requires { ⌜ FilesIn (now main) (now supplementary) (now work) t ⌝ }
     requires { ⌜ LinesRoom (now main) (now work) (now program) t place free ⌝ }
-    ensures { λ r. ⌜ CollectsLines (now (main .entry)) (now (supplementary .entry)) (now (program .entry)) (now (work .entry)) (now (work .exit)) (now (files .entry)) (now (files .exit)) (now (warnings .entry)) (now (warnings .exit)) place t warned free r ⌝ }
+    ensures { λ r. ⌜ CollectsLines (now (main .entry)) (now (supplementary .entry)) (now (program .entry)) (now (work .entry)) (now (work .exit))
+        (now (files .entry)) (now (files .exit)) (now (warnings .entry)) (now (warnings .exit)) place t warned free r ⌝ }
 {
-    let p = place + 21;
-    match tlv::access::next_own(main, p, 0x13) {
+    let p = place + UNIT_WHOLE;
+    match tlv::access::next_own(main, p, HEADER_TAG) {
         Own::Missing => {
             return CollectedLines::Lines {
                 lines: StoredLines {

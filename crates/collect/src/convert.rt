@@ -26,6 +26,7 @@ use tlv::grammar::ROW_COLUMN;
 use tlv::grammar::ROW_KIND;
 use tlv::grammar::ROW_LINE;
 use tlv::model::DebugSource;
+use tlv::tags::UNIT_WHOLE;
 
 // The unit, its file 0 before version 5, its map of file numbers, the table of its sequences' offsets, and where its lines go.
 pub struct Conversion {
@@ -177,7 +178,8 @@ fn convert_zero(
     requires { ⌜ c .lines + st .count * lineSize + lineSize ≤ length (now work) ⌝ }
     requires { ⌜ get (indicesIn (now work) (c .indices)) (row .file .0) ≡ none ⌝ }
     requires { ⌜ SoughtFile.Zero file ≡ soughtOf c (row .file .0) ⌝ }
-    ensures { λ r. ⌜ RowConverts (now (main .entry)) (now (supplementary .entry)) (now (work .entry)) (now (work .exit)) (now (files .entry)) (now (files .exit)) (now (warnings .entry)) (now (warnings .exit)) c st row r ⌝ }
+    ensures { λ r. ⌜ RowConverts (now (main .entry)) (now (supplementary .entry)) (now (work .entry)) (now (work .exit)) (now (files .entry))
+        (now (files .exit)) (now (warnings .entry)) (now (warnings .exit)) c st row r ⌝ }
 {
     let unit = c.unit;
     let indices = c.indices;
@@ -228,7 +230,8 @@ fn convert_unknown(
     requires { ⌜ ConversionIn (now main) (now supplementary) (now work) c st ⌝ }
     requires { ⌜ c .lines + st .count * lineSize + lineSize ≤ length (now work) ⌝ }
     requires { ⌜ get (indicesIn (now work) (c .indices)) (row .file .0) ≡ none ⌝ }
-    ensures { λ r. ⌜ RowConverts (now (main .entry)) (now (supplementary .entry)) (now (work .entry)) (now (work .exit)) (now (files .entry)) (now (files .exit)) (now (warnings .entry)) (now (warnings .exit)) c st row r ⌝ }
+    ensures { λ r. ⌜ RowConverts (now (main .entry)) (now (supplementary .entry)) (now (work .entry)) (now (work .exit)) (now (files .entry))
+        (now (files .exit)) (now (warnings .entry)) (now (warnings .exit)) c st row r ⌝ }
 {
     let number = row.file;
     match sought_file(c, number) {
@@ -263,7 +266,8 @@ pub fn convert_row(
 ) -> ConvertedRow
     requires { ⌜ ConversionIn (now main) (now supplementary) (now work) c st ⌝ }
     requires { ⌜ c .lines + st .count * lineSize + lineSize ≤ length (now work) ⌝ }
-    ensures { λ r. ⌜ RowConverts (now (main .entry)) (now (supplementary .entry)) (now (work .entry)) (now (work .exit)) (now (files .entry)) (now (files .exit)) (now (warnings .entry)) (now (warnings .exit)) c st row r ⌝ }
+    ensures { λ r. ⌜ RowConverts (now (main .entry)) (now (supplementary .entry)) (now (work .entry)) (now (work .exit)) (now (files .entry))
+        (now (files .exit)) (now (warnings .entry)) (now (warnings .exit)) c st row r ⌝ }
 {
     let indices = c.indices;
     let number = row.file;
@@ -327,7 +331,7 @@ pub fn convert_rows(
         (now (work .entry)) (now (work .exit)) (now (files .entry)) (now (files .exit)) (now (warnings .entry)) (now (warnings .exit)) c st left r ⌝ }
 {
     let unit = c.unit;
-    let mut at = unit.place + 21;
+    let mut at = unit.place + UNIT_WHOLE;
     let mut sequence: usize = 0;
     let mut more = left;
     let mut state = st;

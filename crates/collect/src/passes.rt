@@ -89,7 +89,8 @@ pub fn put_sequence_record(
 )
     requires { ⌜ offsets + n * 8 ≤ p ⌝ }
     requires { ⌜ p + rangeSize ≤ length (now work) ⌝ }
-    ensures { λ _. ⌜ SequencePut (now (work .entry)) (now (work .exit)) p offsets n (record { range = record { start = start; end = end }; sequence = sequence }) ⌝ }
+    ensures { λ _. ⌜ SequencePut (now (work .entry)) (now (work .exit)) p offsets n
+        (record { range = record { start = start; end = end }; sequence = sequence }) ⌝ }
 {
     let offset = sequence_offset(work, offsets, n, sequence);
     let range = tlv::model::AddressRange {

@@ -22,7 +22,7 @@ use crate::program::count_program_rows;
 use machine::registers::Encoding;
 use tlv::access::Own;
 use tlv::bytes::read_u8;
-use tlv::grammar::ENCODING_TAG;
+use tlv::tags::ENCODING_TAG;
 
 // The unit's row fields, or the line program; its opcode lengths are the bytes of the main input from one place to below another.
 pub enum RowSource {

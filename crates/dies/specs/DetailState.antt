@@ -7,6 +7,8 @@ use mathlib.Core.Option.{Option, none, some}
 use Prim.Native.Nat.{ℕ, zero, suc, _+_, _-_, _*_, _≤_, _<_}
 use lib.Dec.{eqb}
 use lib.ListN.{length, drop}
+use Rattle.tlv.specs.Tags.{entryTag, rangeTag, traySiteTag, unitTag}
+use Rattle.tlv.specs.Constants.{dwAtCallOrigin}
 use Rattle.tlv.specs.declared.model.AddressRange.{AddressRange}
 use Rattle.tlv.specs.declared.access.Value.{Value}
 use Rattle.tlv.specs.Outcome.{Outcome, refused, done, _>>=_}
@@ -33,7 +35,8 @@ use Rattle.dies.specs.declared.dies.Warned.{Warned}
 use Rattle.dies.specs.declared.dies.CalledFile.{CalledFile}
 use Rattle.dies.specs.declared.dies.CalledLine.{CalledLine}
 use Rattle.dies.specs.declared.dies.Laid.{Laid}
-use Rattle.imports.specs.Tree.{CallSiteFrame, Descendants, DetailContext, callFileOf, callLineOf, endsHere, finish, makeCallSite, pushCallSite, collectEntry, collectDescendants}
+use Rattle.imports.specs.Tree.{CallSiteFrame, Descendants, DetailContext, callFileOf, callLineOf, endsHere, finish, makeCallSite, pushCallSite, collectEntry}
+use Rattle.imports.specs.Tree.{collectDescendants}
 use Rattle.dies.specs.RangeTable.{rangesAt}
 use Rattle.dies.specs.FrameStack.{openIn, Ready, grown}
 use Rattle.imports.specs.Import.{descendantsOf}
@@ -48,7 +51,8 @@ nameGiven (done r) = r
 
 -- what the search for the name that the origin of the call site at a place refers to gives
 unfoldable pub originOf : List ℕ → List ℕ → ℕ → ℕ → Outcome (List ℕ)
-originOf main supplementary unit p = referenceName (dwarfOf main supplementary) (unitHere main unit) (entryHere main p) (attribute (entryHere main p) 0x7f)
+originOf main supplementary unit p =
+    referenceName (dwarfOf main supplementary) (unitHere main unit) (entryHere main p) (attribute (entryHere main p) dwAtCallOrigin)
 
 unfoldable pub originName : List ℕ → List ℕ → ℕ → ℕ → List ℕ
 originName main supplementary unit p = nameGiven (originOf main supplementary unit p)
@@ -78,11 +82,14 @@ pub record PutSite (w w′ : List ℕ) (p depth place offset : ℕ) : Type 0 whe
   pub place-is : leAt 4 w′ (p + 2) ≡ place
   pub rest : Kept w w′ p 14
 
--- of the n open call sites the innermost, as far as they are at `depth` or deeper, went behind the m closed ones. The place of each closed one is that of one of the n or the m
+-- of the n open call sites the innermost, as far as they are at `depth` or deeper, went behind the m closed ones. The place of each closed one is that of one
+-- of the n or the m
 pub record Closed (w w′ : List ℕ) (stack n sites m depth : ℕ) (r : Sites) : Type 0 where
   pub left : (f : ℕ → List ℕ) → siteFramesAt f w′ stack (r .opened) ≡ dropWhile (endsHere depth) (siteFramesAt f w stack n)
-  pub moved : (f : ℕ → List ℕ) → sitesAt f w′ sites (r .closed) ≡ sitesAt f w sites m ++ map (λ x. x .callSite) (takeWhile (endsHere depth) (siteFramesAt f w stack n))
-  pub each : (i : ℕ) → i < r .closed → ((j : ℕ) × (j < n) × (leAt 4 w′ (sites + i * 12) ≡ leAt 4 w (stack + j * 14 + 2))) ⊎ ((i < m) × (leAt 4 w′ (sites + i * 12) ≡ leAt 4 w (sites + i * 12)))
+  pub moved : (f : ℕ → List ℕ) → sitesAt f w′ sites (r .closed) ≡ sitesAt f w sites m
+      ++ map (λ x. x .callSite) (takeWhile (endsHere depth) (siteFramesAt f w stack n))
+  pub each : (i : ℕ) → i < r .closed → ((j : ℕ) × (j < n) × (leAt 4 w′ (sites + i * 12) ≡ leAt 4 w (stack + j * 14 + 2)))
+      ⊎ ((i < m) × (leAt 4 w′ (sites + i * 12) ≡ leAt 4 w (sites + i * 12)))
   pub sum : r .opened + r .closed ≡ n + m
   pub few : r .opened ≤ n
   pub rest : Kept w w′ (sites + m * 12) (n * 12)
@@ -91,11 +98,11 @@ pub record Closed (w w′ : List ℕ) (stack n sites m depth : ℕ) (r : Sites) 
 
 -- the ranges of the entries behind place p, but for those of the entry that p is in
 unfoldable pub rangesLater : List ℕ → ℕ → ℕ
-rangesLater s p = length (payloads 0x19 (dropWhile (λ f. not (eqb (f .tag) 0x17 || eqb (f .tag) 0x10)) (wholeFields (fields (drop p s)))))
+rangesLater s p = length (payloads rangeTag (dropWhile (λ f. not (eqb (f .tag) entryTag || eqb (f .tag) unitTag)) (wholeFields (fields (drop p s)))))
 
 -- the entries from place p on
 unfoldable pub entriesLeft : List ℕ → ℕ → ℕ
-entriesLeft s p = length (payloads 0x17 (wholeFields (fields (drop p s))))
+entriesLeft s p = length (payloads entryTag (wholeFields (fields (drop p s))))
 
 -- a call site whose origin's name was found once is found again
 pub record SiteKnown (main supplementary : List ℕ) (unit p : ℕ) : Type 0 where
@@ -140,14 +147,25 @@ newBytes name r n (x ∷ xs) = leadBytes name r n ++ eachOf nodeBytes (x ∷ xs)
 
 -- the state with one node more, which was laid, of an entry at this depth, whose ranges are the k above the stack of ranges
 abbrev pub noded : Walk → ℕ → ℕ → Laid → Walk
-noded s depth k r = record { frames = grown (s .frames) depth k; opened = s .opened; closed = s .closed; nodes = s .nodes + 1; at = r .at; warned = r .warned; status = r .status }
+noded s depth k r =
+    record {
+      frames = grown (s .frames) depth k;
+      opened = s .opened;
+      closed = s .closed;
+      nodes = s .nodes + 1;
+      at = r .at;
+      warned = r .warned;
+      status = r .status;
+    }
 
 -- the part of the work slice that the walk writes to
 abbrev pub walked : List ℕ → List ℕ → Details → ℕ
 walked main supplementary d = d .tables .keys + keysExtent main supplementary (d .tables) - d .ranges
 
--- what the definition does by F is done in memory: nodes and warnings are laid, and the rest stands in w′, with room for a ranges and b entries; or it is refused
-pub record Advances (F : Descendants → Outcome Descendants) (main supplementary name : List ℕ) (d : Details) (a b : ℕ) (w t u : List ℕ) (s : Walk) (w′ t′ u′ : List ℕ) (s′ : Walk) : Type 0 where
+-- what the definition does by F is done in memory: nodes and warnings are laid, and the rest stands in w′, with room for a ranges and b entries; or it is
+-- refused
+pub record Advances (F : Descendants → Outcome Descendants) (main supplementary name : List ℕ) (d : Details) (a b : ℕ) (w t u : List ℕ) (s : Walk)
+    (w′ t′ u′ : List ℕ) (s′ : Walk) : Type 0 where
   pub nodes : List InlineNode
   pub warnings : List Warning
   pub laid : s′ .status ≡ 0 → Put (s .at) (newBytes name (d .range) (s .nodes) nodes) t t′ (s′ .at)
@@ -155,17 +173,20 @@ pub record Advances (F : Descendants → Outcome Descendants) (main supplementar
   pub count : s′ .status ≡ 0 → s′ .nodes ≡ s .nodes + length nodes
   pub kept : Kept w w′ (d .ranges) (walked main supplementary d)
   pub fits : s′ .status ≡ 0 → Fits main supplementary w′ d a b s′
-  pub ok : s′ .status ≡ 0 → (ns : List InlineNode) (ws : List Warning) → F (walkOf main supplementary d w s ns ws) ≡ done (walkOf main supplementary d w′ s′ (ns ++ nodes) (ws ++ warnings))
+  pub ok : s′ .status ≡ 0 → (ns : List InlineNode) (ws : List Warning) → F (walkOf main supplementary d w s ns ws)
+      ≡ done (walkOf main supplementary d w′ s′ (ns ++ nodes) (ws ++ warnings))
   pub no : (s′ .status ≡ 0 → ⊥) → (ns : List InlineNode) (ws : List Warning) → F (walkOf main supplementary d w s ns ws) ≡ refused (s′ .status)
 
 -- the same of what lays nothing
-pub record Quiet (F : Descendants → Outcome Descendants) (main supplementary : List ℕ) (d : Details) (a b : ℕ) (w : List ℕ) (s : Walk) (w′ : List ℕ) (s′ : Walk) : Type 0 where
+pub record Quiet (F : Descendants → Outcome Descendants) (main supplementary : List ℕ) (d : Details) (a b : ℕ) (w : List ℕ) (s : Walk) (w′ : List ℕ)
+    (s′ : Walk) : Type 0 where
   pub place : s′ .at ≡ s .at
   pub warned : s′ .warned ≡ s .warned
   pub nodes : s′ .nodes ≡ s .nodes
   pub kept : Kept w w′ (d .ranges) (walked main supplementary d)
   pub fits : s′ .status ≡ 0 → Fits main supplementary w′ d a b s′
-  pub ok : s′ .status ≡ 0 → (ns : List InlineNode) (ws : List Warning) → F (walkOf main supplementary d w s ns ws) ≡ done (walkOf main supplementary d w′ s′ ns ws)
+  pub ok : s′ .status ≡ 0 → (ns : List InlineNode) (ws : List Warning) → F (walkOf main supplementary d w s ns ws)
+      ≡ done (walkOf main supplementary d w′ s′ ns ws)
   pub no : (s′ .status ≡ 0 → ⊥) → (ns : List InlineNode) (ws : List Warning) → F (walkOf main supplementary d w s ns ws) ≡ refused (s′ .status)
 
 -- the nodes and call sites that end before an entry of this depth are closed
@@ -225,21 +246,24 @@ pub record AboutWarned (main : List ℕ) (unit p kind number at : ℕ) (u u′ :
 pub record FileCalled (is : FileIndices) (main : List ℕ) (unit p at : ℕ) (u u′ : List ℕ) (r : CalledFile) : Type 0 where
   pub warnings : List Warning
   pub laid : r .status ≡ 0 → Put at (warningsBytes warnings) u u′ (r .at)
-  pub ok : r .status ≡ 0 → (c : DetailContext) → c .fileIndices ≡ is → c .unit ≡ unitHere main unit → callFileOf c (entryHere main p) ≡ done (record { file = r .file; warnings = warnings })
-  pub no : (r .status ≡ 0 → ⊥) → (c : DetailContext) → c .fileIndices ≡ is → c .unit ≡ unitHere main unit → callFileOf c (entryHere main p) ≡ refused (r .status)
+  pub ok : r .status ≡ 0 → (c : DetailContext) → c .fileIndices ≡ is → c .unit ≡ unitHere main unit → callFileOf c (entryHere main p)
+      ≡ done (record { file = r .file; warnings = warnings })
+  pub no : (r .status ≡ 0 → ⊥) → (c : DetailContext) → c .fileIndices ≡ is → c .unit ≡ unitHere main unit → callFileOf c (entryHere main p)
+      ≡ refused (r .status)
 
 -- the line
 pub record LineCalled (main : List ℕ) (unit p at : ℕ) (u u′ : List ℕ) (r : CalledLine) : Type 0 where
   pub warnings : List Warning
   pub laid : r .status ≡ 0 → Put at (warningsBytes warnings) u u′ (r .at)
-  pub ok : r .status ≡ 0 → (c : DetailContext) → c .unit ≡ unitHere main unit → callLineOf c (entryHere main p) ≡ done (record { line = r .line; warnings = warnings })
+  pub ok : r .status ≡ 0 → (c : DetailContext) → c .unit ≡ unitHere main unit → callLineOf c (entryHere main p)
+      ≡ done (record { line = r .line; warnings = warnings })
   pub no : (r .status ≡ 0 → ⊥) → (c : DetailContext) → c .unit ≡ unitHere main unit → callLineOf c (entryHere main p) ≡ refused (r .status)
 
 -- ---- the call sites behind the nodes
 
 -- the n closed call sites were laid
 pub record SitesPut (main supplementary : List ℕ) (d : Details) (n at : ℕ) (w w′ t t′ : List ℕ) (r : ℕ) : Type 0 where
-  pub put : Put at (eachOf (λ x. encode 0x45 (sitePayload x)) (sitesAt (originName main supplementary (d .unit)) w (d .sites) n)) t t′ r
+  pub put : Put at (eachOf (λ x. encode traySiteTag (sitePayload x)) (sitesAt (originName main supplementary (d .unit)) w (d .sites) n)) t t′ r
   pub rest : Kept w w′ (d .ranges) (walked main supplementary d)
 
 -- ---- the whole, where a switch is on

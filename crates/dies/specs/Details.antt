@@ -3,6 +3,7 @@ use Prim.Native.Nat.{ℕ, _+_, _-_, _*_, _≤_}
 use mathlib.Core.Path.{_≡_}
 use mathlib.Core.List.{List, _++_, map}
 use lib.ListN.{length, drop}
+use Rattle.tlv.specs.Tags.{entryTag, rangeTag, traySiteTag}
 use Rattle.tlv.specs.declared.model.AddressRange.{AddressRange}
 use Rattle.tlv.specs.Outcome.{refused, done}
 use Rattle.tlv.specs.Buffer.{Put}
@@ -22,7 +23,7 @@ use Rattle.dies.specs.declared.dies.Extracted.{Extracted}
 
 -- the entries of the unit, from the field at place p on
 unfoldable pub entriesFrom : List ℕ → ℕ → List Entry
-entriesFrom s p = map entryOf (grouped 0x17 (unitFields (fields (drop p s))) .groups)
+entriesFrom s p = map entryOf (grouped entryTag (unitFields (fields (drop p s))) .groups)
 
 -- what is the same at every step, as it stands in w
 abbrev pub contextIn : List ℕ → List ℕ → List ℕ → Details → DetailContext
@@ -37,18 +38,20 @@ contextIn main supplementary w d = record {
 
 -- how many ranges, and how many entries, the main sheet has
 abbrev pub rangeCount : List ℕ → ℕ
-rangeCount s = length (payloads 0x19 (wholeFields (fields s)))
+rangeCount s = length (payloads rangeTag (wholeFields (fields s)))
 
 abbrev pub entryCount : List ℕ → ℕ
-entryCount s = length (payloads 0x17 (wholeFields (fields s)))
+entryCount s = length (payloads entryTag (wholeFields (fields s)))
 
--- what stands from place p on belongs to the unit at q: the index goes on there with the unit's entries, and no more ranges and entries follow than the sheet has
+-- what stands from place p on belongs to the unit at q: the index goes on there with the unit's entries, and no more ranges and entries follow than the sheet
+-- has
 pub record EntriesKnown (s : List ℕ) (q p : ℕ) : Type 0 where
   pub listed : All (λ e. Any (λ x. x ≡ e) (entryIndex 0 0 0 (fields s))) (entryIndex p q (unitHere s q .offset) (fields (drop p s)))
-  pub ranges : length (payloads 0x19 (wholeFields (fields (drop p s)))) ≤ rangeCount s
-  pub entries : length (payloads 0x17 (wholeFields (fields (drop p s)))) ≤ entryCount s
+  pub ranges : length (payloads rangeTag (wholeFields (fields (drop p s)))) ≤ rangeCount s
+  pub entries : length (payloads entryTag (wholeFields (fields (drop p s)))) ≤ entryCount s
 
--- the search's tables and the unit's map stand below the stack of ranges, this below the open call sites, these below the closed ones, these below the followed targets
+-- the search's tables and the unit's map stand below the stack of ranges, this below the open call sites, these below the closed ones, these below the
+-- followed targets
 pub record DetailsIn (main supplementary w : List ℕ) (d : Details) : Type 0 where
   pub tables : SearchIn main supplementary w (d .tables) 0
   pub indices : d .indices .base + d .indices .count * 5 ≤ d .ranges
@@ -62,10 +65,11 @@ pub record DetailsIn (main supplementary w : List ℕ) (d : Details) : Type 0 wh
 
 -- the bytes of a function's nodes, with the root above them, and of its call sites
 abbrev pub detailBytes : List ℕ → AddressRange → Descendants → List ℕ
-detailBytes name r x = eachOf nodeBytes (rooted name r (x .inlines)) ++ eachOf (λ s. encode 0x45 (sitePayload s)) (x .callSites)
+detailBytes name r x = eachOf nodeBytes (rooted name r (x .inlines)) ++ eachOf (λ s. encode traySiteTag (sitePayload s)) (x .callSites)
 
 -- its bytes and its warnings were written, and its nodes counted
-pub record ExtractedIn (main supplementary w : List ℕ) (d : Details) (name : List ℕ) (p depth at warned : ℕ) (records records′ warnings warnings′ : List ℕ) (nodes at′ warned′ : ℕ) : Type 0 where
+pub record ExtractedIn (main supplementary w : List ℕ) (d : Details) (name : List ℕ) (p depth at warned : ℕ) (records records′ warnings warnings′ : List ℕ)
+    (nodes at′ warned′ : ℕ) : Type 0 where
   pub descendants : Descendants
   pub is : extractSubprogramDetails (contextIn main supplementary w d) (descendantsOf depth (entriesFrom main p)) ≡ done descendants
   pub count : nodes ≡ length (descendants .inlines)
@@ -79,6 +83,7 @@ ExtractedBy main supplementary w d name p depth at warned records records′ war
 ExtractedBy main supplementary w d name p depth at warned records records′ warnings warnings′ (Extracted.Details nodes at′ warned′) =
     ExtractedIn main supplementary w d name p depth at warned records records′ warnings warnings′ nodes at′ warned′
 
-pub record Extracts (main supplementary w w′ : List ℕ) (d : Details) (name : List ℕ) (p depth at warned : ℕ) (records records′ warnings warnings′ : List ℕ) (r : Extracted) : Type 0 where
+pub record Extracts (main supplementary w w′ : List ℕ) (d : Details) (name : List ℕ) (p depth at warned : ℕ) (records records′ warnings warnings′ : List ℕ)
+    (r : Extracted) : Type 0 where
   pub is : ExtractedBy main supplementary w d name p depth at warned records records′ warnings warnings′ r
   pub rest : Kept w w′ (d .ranges) (d .tables .keys + keysExtent main supplementary (d .tables) - d .ranges)

@@ -16,7 +16,8 @@ slot fs t = getD fs t (record { depth = 0; ranges = 0 })
 unfoldable pub openOf : List Frame → ℕ → ℕ → List ℕ → ℕ → List InlineFrame
 openOf fs zero used w base = []
 openOf fs (suc t) used w base =
-    record { dieDepth = slot fs t .depth; ranges = rangesAt w (base + slot fs t .ranges * 16) (used - slot fs t .ranges) } ∷ openOf fs t (slot fs t .ranges) w base
+    record { dieDepth = slot fs t .depth; ranges = rangesAt w (base + slot fs t .ranges * 16) (used - slot fs t .ranges) }
+    ∷ openOf fs t (slot fs t .ranges) w base
 
 -- the frames' places ascend, and the lowest is 1: the function's range is range 0
 unfoldable pub Stacked : List Frame → ℕ → ℕ → Type 0

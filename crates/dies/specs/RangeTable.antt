@@ -6,6 +6,7 @@ use mathlib.Core.List.{List, [], _∷_, _++_, map}
 use Prim.Native.Nat.{ℕ, _+_, _*_, _≤_, min, max}
 use lib.Dec.{ltb}
 use lib.ListN.{length, drop}
+use Rattle.tlv.specs.Tags.{rangeTag}
 use Rattle.tlv.specs.declared.model.AddressRange.{AddressRange}
 use Rattle.tlv.specs.Fields.{fields, payloads}
 use Rattle.tlv.specs.Model.{rangeOf, entryRangeOf}
@@ -78,7 +79,7 @@ pub record MergedAt (w w′ : List ℕ) (p n r : ℕ) : Type 0 where
 
 -- the payloads of the range fields behind an entry's field, which ends at p
 abbrev pub rangeFields : List ℕ → ℕ → List (List ℕ)
-rangeFields s p = payloads 0x19 (ownFields (fields (drop p s)))
+rangeFields s p = payloads rangeTag (ownFields (fields (drop p s)))
 
 -- the ranges that they give
 abbrev pub rangesGiven : List ℕ → ℕ → List AddressRange

@@ -5,6 +5,7 @@ ghost use mathlib.Core.Bool.{false};
 ghost use mathlib.Core.List.{[]};
 ghost use lib.Dec.{leb};
 ghost use lib.ListN.{length};
+ghost use Rattle.tlv.specs.Constants.{dwAtCallReturnPc};
 ghost use Rattle.tlv.specs.Buffer.{Put};
 ghost use Rattle.tlv.specs.Bytes.{leAt};
 ghost use Rattle.tlv.specs.Checked.{Placed};
@@ -17,7 +18,8 @@ ghost use Rattle.dies.specs.RangeTable.{rangesAt};
 ghost use Rattle.imports.specs.Tree.{inlineDepthLimit, pushInline, makeInlineNode, collectEntries};
 ghost use Rattle.imports.specs.Import.{descendantsOf};
 ghost use Rattle.dies.specs.Details.{DetailsIn, EntriesKnown, Extracts, contextIn, entriesFrom};
-ghost use Rattle.dies.specs.DetailState.{PutSite, Closed, Shut, Fits, Advances, Quiet, collectSite, stepEntry, rangesLater, entriesLeft, AboutWarned, Accepted, addressOf, addressIn, FileCalled, LineCalled, SitesPut, Descends, leadBytes, noded};
+ghost use Rattle.dies.specs.DetailState.{PutSite, Closed, Shut, Fits, Advances, Quiet, collectSite, stepEntry, rangesLater, entriesLeft, AboutWarned};
+ghost use Rattle.dies.specs.DetailState.{Accepted, addressOf, addressIn, FileCalled, LineCalled, SitesPut, Descends, leadBytes, noded};
 use crate::frames::Frame;
 use crate::frames::Open;
 use files::index::FileNumber;
@@ -31,9 +33,22 @@ use references::names::found_name;
 use references::tables::Tables;
 use tlv::access::Own;
 use tlv::access::Value;
+use tlv::constants::DW_AT_CALL_FILE;
+use tlv::constants::DW_AT_CALL_LINE;
+use tlv::constants::DW_AT_CALL_ORIGIN;
+use tlv::constants::DW_AT_CALL_RETURN_PC;
+use tlv::constants::DW_TAG_CALL_SITE;
+use tlv::constants::DW_TAG_INLINED_SUBROUTINE;
 use tlv::fields::Step;
 use tlv::model::AddressRange;
 use tlv::model::FileIndex;
+use tlv::tags::ENTRY_DEPTH;
+use tlv::tags::ENTRY_KIND;
+use tlv::tags::ENTRY_TAG;
+use tlv::tags::ENTRY_WHOLE;
+use tlv::tags::FAILURE_TAG;
+use tlv::tags::UNIT_OFFSET;
+use tlv::tags::UNIT_TAG;
 
 // What is the same for every entry below a subprogram: the searches' tables, the unit's place and its map of file numbers, the function's range,
 // the two switches, and where the open nodes' ranges, the open and the closed call sites are put.
@@ -134,9 +149,9 @@ fn address_in(v: Value) -> Address
 fn return_address(main: &[u8], unit: usize, p: usize) -> Address
     requires { ⌜ Accepted (now main) ⌝ }
     requires { ⌜ EntryKnown (now main) unit p ⌝ }
-    ensures { λ r. ⌜ r ≡ addressOf (attribute (entryHere (now (main .entry)) p) 0x7d) ⌝ }
+    ensures { λ r. ⌜ r ≡ addressOf (attribute (entryHere (now (main .entry)) p) dwAtCallReturnPc) ⌝ }
 {
-    address_in(tlv::access::attribute(main, p + 15, 0x7d))
+    address_in(tlv::access::attribute(main, p + ENTRY_WHOLE, DW_AT_CALL_RETURN_PC))
 }
 
 // An open call site: the depth of its entry 2 bytes, the entry's place 4, the return offset 8.
@@ -217,7 +232,9 @@ fn make_call_site<'a>(
     requires { ⌜ EntryKnown (now main) (d .unit) p ⌝ }
     requires { ⌜ Fits (now main) (now supplementary) (now work) d (rangesLater (now main) p) (entriesLeft (now main) p) s ⌝ }
     requires { ⌜ s .status ≡ 0 ⌝ }
-    ensures { λ r. ⌜ Quiet (collectSite (contextIn (now (main .entry)) (now (supplementary .entry)) (now (work .entry)) d) (entryHere (now (main .entry)) p)) (now (main .entry)) (now (supplementary .entry)) d (rangesLater (now (main .entry)) (p + 15)) (entriesLeft (now (main .entry)) (p + 15)) (now (work .entry)) s (now (work .exit)) r ⌝ }
+    ensures { λ r. ⌜ Quiet (collectSite (contextIn (now (main .entry)) (now (supplementary .entry)) (now (work .entry)) d) (entryHere (now (main .entry)) p))
+        (now (main .entry)) (now (supplementary .entry)) d (rangesLater (now (main .entry)) (p + 15)) (entriesLeft (now (main .entry)) (p + 15))
+        (now (work .entry)) s (now (work .exit)) r ⌝ }
 {
     let mut r = s;
     let start = d.range.start;
@@ -244,13 +261,13 @@ fn make_call_site<'a>(
                 tables,
                 d.unit,
                 p,
-                0x7f,
+                DW_AT_CALL_ORIGIN,
             );
             if status != 0 {
                 r.status = status;
                 return r;
             }
-            let depth = tlv::bytes::read_u16(main, p + 11);
+            let depth = tlv::bytes::read_u16(main, p + ENTRY_DEPTH);
             put_open_site(work, d.stack + s.opened * 14, depth, p, a - start);
             r.opened = s.opened + 1;
             return r;
@@ -275,7 +292,7 @@ pub fn warn_about(
     requires { ⌜ EntryKnown (now main) unit p ⌝ }
     ensures { λ r. ⌜ AboutWarned (now (main .entry)) unit p kind number at (now (warnings .entry)) (now (warnings .exit)) r ⌝ }
 {
-    let base = tlv::bytes::read_u64(main, unit + 3);
+    let base = tlv::bytes::read_u64(main, unit + UNIT_OFFSET);
     let offset = tlv::bytes::read_u64(main, p + 3);
     if 18446744073709551615 - base < offset {
         return Warned { at: at, status: 12 };
@@ -301,7 +318,7 @@ fn call_file(
     requires { ⌜ indices .base + indices .count * 5 ≤ length (now work) ⌝ }
     ensures { λ r. ⌜ FileCalled (indicesIn (now (work .entry)) indices) (now (main .entry)) unit p at (now (warnings .entry)) (now (warnings .exit)) r ⌝ }
 {
-    match file_index_attribute(main, unit, p, 0x58) {
+    match file_index_attribute(main, unit, p, DW_AT_CALL_FILE) {
         Number::Missing => CalledFile {
             file: FileIndex(0),
             at: at,
@@ -331,7 +348,7 @@ fn call_line(main: &[u8], warnings: &mut [u8], unit: usize, p: usize, at: usize)
     requires { ⌜ EntryKnown (now main) unit p ⌝ }
     ensures { λ r. ⌜ LineCalled (now (main .entry)) unit p at (now (warnings .entry)) (now (warnings .exit)) r ⌝ }
 {
-    match unsigned_attribute(main, unit, p, 0x59) {
+    match unsigned_attribute(main, unit, p, DW_AT_CALL_LINE) {
         Number::Missing => CalledLine {
             line: 0,
             at: at,
@@ -381,7 +398,13 @@ fn put_inline_node(
 ) -> usize
     requires { ⌜ 10 + length (now inlined) < 65536 ⌝ }
     requires { ⌜ from + k * 16 ≤ length (now work) ⌝ }
-    ensures { λ r. ⌜ Put at (nodeBytes (record { depth = depth; callFile = file; callLine = line; name = now (inlined .entry); ranges = rangesAt (now (work .entry)) from k })) (now (records .entry)) (now (records .exit)) r ⌝ }
+    ensures { λ r. ⌜ Put at (nodeBytes (record {
+      depth = depth;
+      callFile = file;
+      callLine = line;
+      name = now (inlined .entry);
+      ranges = rangesAt (now (work .entry)) from k;
+    })) (now (records .entry)) (now (records .exit)) r ⌝ }
 {
     let headed = tlv::output::put_node(records, at, depth, file, line, inlined);
     crate::ranges::put_ranges(records, headed, work, from, k)
@@ -412,7 +435,10 @@ fn keep_node(
     requires { ⌜ EntryKnown (now main) (d .unit) p ⌝ }
     requires { ⌜ Fits (now main) (now supplementary) (now work) d (k + rangesLater (now main) (p + 15)) (entriesLeft (now main) p) s ⌝ }
     requires { ⌜ (s .status ≡ 0) × (0 < k) × (10 + length (now name) < 65536) × (10 + length (now inlined) < 65536) ⌝ }
-    ensures { λ r. ⌜ Advances (pushInline (contextIn (now (main .entry)) (now (supplementary .entry)) (now (work .entry)) d) (entryHere (now (main .entry)) p) (now (inlined .entry)) (rangesAt (now (work .entry)) (d .ranges + s .frames .used * 16) k)) (now (main .entry)) (now (supplementary .entry)) (now (name .entry)) d (rangesLater (now (main .entry)) (p + 15)) (entriesLeft (now (main .entry)) (p + 15)) (now (work .entry)) (now (records .entry)) (now (warnings .entry)) s (now (work .entry)) (now (records .exit)) (now (warnings .exit)) (noded s (leAt 2 (now (main .entry)) (p + 11)) k r) ⌝ }
+    ensures { λ r. ⌜ Advances (pushInline (contextIn (now (main .entry)) (now (supplementary .entry)) (now (work .entry)) d) (entryHere (now (main .entry)) p)
+        (now (inlined .entry)) (rangesAt (now (work .entry)) (d .ranges + s .frames .used * 16) k)) (now (main .entry)) (now (supplementary .entry))
+        (now (name .entry)) d (rangesLater (now (main .entry)) (p + 15)) (entriesLeft (now (main .entry)) (p + 15)) (now (work .entry)) (now (records .entry))
+        (now (warnings .entry)) s (now (work .entry)) (now (records .exit)) (now (warnings .exit)) (noded s (leAt 2 (now (main .entry)) (p + 11)) k r) ⌝ }
 {
     let indices = d.indices;
     let range = d.range;
@@ -477,7 +503,10 @@ fn make_inline_node<'a>(
     requires { ⌜ EntryKnown (now main) (d .unit) p ⌝ }
     requires { ⌜ Fits (now main) (now supplementary) (now work) d (rangesLater (now main) p) (entriesLeft (now main) p) s ⌝ }
     requires { ⌜ (s .status ≡ 0) × (10 + length (now name) < 65536) ⌝ }
-    ensures { λ r. ⌜ Advances (makeInlineNode (contextIn (now (main .entry)) (now (supplementary .entry)) (now (work .entry)) d) (entryHere (now (main .entry)) p)) (now (main .entry)) (now (supplementary .entry)) (now (name .entry)) d (rangesLater (now (main .entry)) (p + 15)) (entriesLeft (now (main .entry)) (p + 15)) (now (work .entry)) (now (records .entry)) (now (warnings .entry)) s (now (work .exit)) (now (records .exit)) (now (warnings .exit)) r ⌝ }
+    ensures { λ r. ⌜ Advances (makeInlineNode (contextIn (now (main .entry)) (now (supplementary .entry)) (now (work .entry)) d)
+        (entryHere (now (main .entry)) p)) (now (main .entry)) (now (supplementary .entry)) (now (name .entry)) d (rangesLater (now (main .entry)) (p + 15))
+        (entriesLeft (now (main .entry)) (p + 15)) (now (work .entry)) (now (records .entry)) (now (warnings .entry)) s (now (work .exit))
+        (now (records .exit)) (now (warnings .exit)) r ⌝ }
 {
     let mut status: u8 = 0;
     let tables = d.tables;
@@ -497,7 +526,7 @@ fn make_inline_node<'a>(
     let FoundName::Found(_) = found_name(inlined) else {
         return s;
     };
-    match tlv::access::next_own(main, p + 15, 0x1a) {
+    match tlv::access::next_own(main, p + ENTRY_WHOLE, FAILURE_TAG) {
         Own::Field {
             start: _,
             len: _,
@@ -517,7 +546,7 @@ fn make_inline_node<'a>(
             }
             let k = crate::ranges::coalesce_ranges(
                 main,
-                p + 15,
+                p + ENTRY_WHOLE,
                 work,
                 d.ranges + top * 16,
                 used - top,
@@ -543,7 +572,7 @@ fn make_inline_node<'a>(
                 s.status = laid.status;
                 return s;
             }
-            let depth = tlv::bytes::read_u16(main, p + 11);
+            let depth = tlv::bytes::read_u16(main, p + ENTRY_DEPTH);
             o.frames[n] = Frame {
                 depth: depth,
                 ranges: used as u32,
@@ -579,18 +608,21 @@ fn collect_entry<'a>(
     requires { ⌜ EntryKnown (now main) (d .unit) p ⌝ }
     requires { ⌜ Fits (now main) (now supplementary) (now work) d (rangesLater (now main) p) (entriesLeft (now main) p) s ⌝ }
     requires { ⌜ (s .status ≡ 0) × (10 + length (now name) < 65536) ⌝ }
-    ensures { λ r. ⌜ Advances (stepEntry (contextIn (now (main .entry)) (now (supplementary .entry)) (now (work .entry)) d) (entryHere (now (main .entry)) p)) (now (main .entry)) (now (supplementary .entry)) (now (name .entry)) d (rangesLater (now (main .entry)) (p + 15)) (entriesLeft (now (main .entry)) (p + 15)) (now (work .entry)) (now (records .entry)) (now (warnings .entry)) s (now (work .exit)) (now (records .exit)) (now (warnings .exit)) r ⌝ }
+    ensures { λ r. ⌜ Advances (stepEntry (contextIn (now (main .entry)) (now (supplementary .entry)) (now (work .entry)) d) (entryHere (now (main .entry)) p))
+        (now (main .entry)) (now (supplementary .entry)) (now (name .entry)) d (rangesLater (now (main .entry)) (p + 15))
+        (entriesLeft (now (main .entry)) (p + 15)) (now (work .entry)) (now (records .entry)) (now (warnings .entry)) s (now (work .exit))
+        (now (records .exit)) (now (warnings .exit)) r ⌝ }
 {
-    let depth = tlv::bytes::read_u16(main, p + 11);
+    let depth = tlv::bytes::read_u16(main, p + ENTRY_DEPTH);
     let c = close(main, supplementary, work, d, s, depth);
-    let tag = tlv::bytes::read_u16(main, p + 13);
-    if tag == 0x48 {
+    let tag = tlv::bytes::read_u16(main, p + ENTRY_KIND);
+    if tag == DW_TAG_CALL_SITE {
         if d.include_call_sites {
             return make_call_site(main, supplementary, work, d, p, c);
         }
         return c;
     }
-    if tag == 0x1d {
+    if tag == DW_TAG_INLINED_SUBROUTINE {
         if d.include_inlines {
             return make_inline_node(main, supplementary, work, records, warnings, d, name, p, c);
         }
@@ -617,7 +649,9 @@ fn collect_entries<'a>(
     requires { ⌜ EntriesKnown (now main) (d .unit) p ⌝ }
     requires { ⌜ Fits (now main) (now supplementary) (now work) d (rangesLater (now main) p) (entriesLeft (now main) p) s ⌝ }
     requires { ⌜ (s .status ≡ 0) × (10 + length (now name) < 65536) ⌝ }
-    ensures { λ r. ⌜ Advances (collectEntries (contextIn (now (main .entry)) (now (supplementary .entry)) (now (work .entry)) d) (descendantsOf depth (entriesFrom (now (main .entry)) p))) (now (main .entry)) (now (supplementary .entry)) (now (name .entry)) d 0 0 (now (work .entry)) (now (records .entry)) (now (warnings .entry)) s (now (work .exit)) (now (records .exit)) (now (warnings .exit)) r ⌝ }
+    ensures { λ r. ⌜ Advances (collectEntries (contextIn (now (main .entry)) (now (supplementary .entry)) (now (work .entry)) d)
+        (descendantsOf depth (entriesFrom (now (main .entry)) p))) (now (main .entry)) (now (supplementary .entry)) (now (name .entry)) d 0 0
+        (now (work .entry)) (now (records .entry)) (now (warnings .entry)) s (now (work .exit)) (now (records .exit)) (now (warnings .exit)) r ⌝ }
 {
     let mut r = s;
     let mut at = p;
@@ -635,10 +669,10 @@ fn collect_entries<'a>(
                 len: _,
                 next,
             } => {
-                if tag == 0x10 {
+                if tag == UNIT_TAG {
                     return r;
                 }
-                if tag == 0x17 {
+                if tag == ENTRY_TAG {
                     if tlv::bytes::read_u16(main, start + 8) <= depth {
                         return r;
                     }
@@ -667,7 +701,8 @@ fn put_sites<'a>(
 ) -> usize
     requires { ⌜ DetailsIn (now main) (now supplementary) (now work) d ⌝ }
     requires { ⌜ Fits (now main) (now supplementary) (now work) d 0 0 s ⌝ }
-    ensures { λ r. ⌜ SitesPut (now (main .entry)) (now (supplementary .entry)) d (s .closed) at (now (work .entry)) (now (work .exit)) (now (records .entry)) (now (records .exit)) r ⌝ }
+    ensures { λ r. ⌜ SitesPut (now (main .entry)) (now (supplementary .entry)) d (s .closed) at (now (work .entry)) (now (work .exit)) (now (records .entry))
+        (now (records .exit)) r ⌝ }
 {
     let n = s.closed;
     let tables = d.tables;
@@ -686,7 +721,7 @@ fn put_sites<'a>(
             tables,
             d.unit,
             entry,
-            0x7f,
+            DW_AT_CALL_ORIGIN,
         );
         place = tlv::output::put_call_site(records, place, offset, pattern);
         i += 1;
@@ -712,7 +747,8 @@ fn collect_descendants<'a>(
     requires { ⌜ Placed (now main) p ⌝ }
     requires { ⌜ EntriesKnown (now main) (d .unit) p ⌝ }
     requires { ⌜ 10 + length (now name) < 65536 ⌝ }
-    ensures { λ r. ⌜ Descends (now (main .entry)) (now (supplementary .entry)) (now (work .entry)) (now (work .exit)) d (now (name .entry)) p depth at warned (now (records .entry)) (now (records .exit)) (now (warnings .entry)) (now (warnings .exit)) r ⌝ }
+    ensures { λ r. ⌜ Descends (now (main .entry)) (now (supplementary .entry)) (now (work .entry)) (now (work .exit)) d (now (name .entry)) p depth at warned
+        (now (records .entry)) (now (records .exit)) (now (warnings .entry)) (now (warnings .exit)) r ⌝ }
 {
     let range = d.range;
     crate::ranges::put_range_at(work, d.ranges, range);
@@ -767,10 +803,10 @@ fn has_entries(main: &[u8], p: usize, depth: u16) -> bool
             len: _,
             next: _,
         } => {
-            if tag == 0x10 {
+            if tag == UNIT_TAG {
                 return false;
             }
-            if tag == 0x17 {
+            if tag == ENTRY_TAG {
                 return depth < tlv::bytes::read_u16(main, start + 8);
             }
             true
@@ -797,7 +833,8 @@ pub fn extract_subprogram_details<'a>(
     requires { ⌜ Placed (now main) p ⌝ }
     requires { ⌜ EntriesKnown (now main) (d .unit) p ⌝ }
     requires { ⌜ 10 + length (now name) < 65536 ⌝ }
-    ensures { λ r. ⌜ Extracts (now (main .entry)) (now (supplementary .entry)) (now (work .entry)) (now (work .exit)) d (now (name .entry)) p depth at warned (now (records .entry)) (now (records .exit)) (now (warnings .entry)) (now (warnings .exit)) r ⌝ }
+    ensures { λ r. ⌜ Extracts (now (main .entry)) (now (supplementary .entry)) (now (work .entry)) (now (work .exit)) d (now (name .entry)) p depth at warned
+        (now (records .entry)) (now (records .exit)) (now (warnings .entry)) (now (warnings .exit)) r ⌝ }
 {
     if !has_entries(main, p, depth) {
         return Extracted::Details {

@@ -14,7 +14,7 @@ use Rattle.tlv.specs.declared.access.Own.{Own}
 use Rattle.tlv.specs.declared.access.Place.{Place}
 use Rattle.tlv.specs.Lists.{All, Any, at, exists, isNone, mapOption}
 use Rattle.tlv.specs.Fields.{Group, fields, payloads, headOf, payloadOf, grouped}
-use Rattle.tlv.specs.Grammar.{encodingTag}
+use Rattle.tlv.specs.Tags.{encodingTag}
 use Rattle.tlv.specs.Cursor.{stepAt, fieldsOf}
 use Rattle.tlv.specs.Checked.{Placed}
 use Rattle.tlv.specs.Access.{NextOwn, placeOf}

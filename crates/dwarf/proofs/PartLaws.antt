@@ -11,7 +11,7 @@ use Rattle.tlv.specs.declared.access.Own.{Own}
 use Rattle.tlv.specs.Lists.{mapOption}
 use Rattle.tlv.specs.Bytes.{leAt}
 use Rattle.tlv.specs.Fields.{fields, payloadOf}
-use Rattle.tlv.specs.Grammar.{partTag}
+use Rattle.tlv.specs.Tags.{partTag}
 use Rattle.tlv.specs.Cursor.{stepAt}
 use Rattle.tlv.specs.Checked.{Placed}
 use Rattle.tlv.specs.Access.{NextOwn}

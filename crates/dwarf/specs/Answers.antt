@@ -15,7 +15,8 @@ use Rattle.dwarf.specs.Runs.{importAll}
 
 -- an answer: a refusal's number is the papers'
 abbrev pub answerGiven : Imported → Answer
-answerGiven (Imported.Finished records files warnings stats) = record { refusal = 0; records = records; files = files; warnings = warnings; stats = statsOf stats }
+answerGiven (Imported.Finished records files warnings stats) =
+    record { refusal = 0; records = records; files = files; warnings = warnings; stats = statsOf stats }
 answerGiven (Imported.Refused n) = record { refusal = n; records = 0; files = 0; warnings = 0; stats = noStats }
 
 -- what a call leaves behind: the answer r, the work slice w, the output buffers t, f and u

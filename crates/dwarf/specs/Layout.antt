@@ -5,6 +5,7 @@ use mathlib.Core.List.{List}
 use mathlib.Core.Option.{none}
 use Prim.Native.Nat.{ℕ, _+_, _*_, _≤_, _<_, _^_}
 use lib.ListN.{length, getD}
+use Rattle.tlv.specs.Tags.{attributeTag, directoryTag, encodingTag, entryTag, fileTag, fileZeroTag, rangeTag, rowTag, textTag, unitTag}
 use Rattle.tlv.specs.Limits.{workOfField, workBesides, joinedLimit}
 use Rattle.tlv.specs.Fields.{fields, payloads, wholeFields}
 use Rattle.tlv.specs.Checked.{Accepts}
@@ -29,16 +30,16 @@ pub record TagsCounted (s counts : List ℕ) : Type 0 where
   pub is : (tag : ℕ) → tag < 32 → getD counts tag 0 ≡ countOf tag s
 
 pub record Sized (s : List ℕ) (c : Counts) : Type 0 where
-  pub units : c .units ≡ countOf 0x10 s
-  pub text : c .text ≡ countOf 0x12 s
-  pub directories : c .directories ≡ countOf 0x14 s
-  pub files : c .files ≡ countOf 0x15 s
-  pub zeros : c .zeros ≡ countOf 0x1c s
-  pub encodings : c .encodings ≡ countOf 0x1d s
-  pub rows : c .rows ≡ countOf 0x16 s
-  pub entries : c .entries ≡ countOf 0x17 s
-  pub attributes : c .attributes ≡ countOf 0x18 s
-  pub ranges : c .ranges ≡ countOf 0x19 s
+  pub units : c .units ≡ countOf unitTag s
+  pub text : c .text ≡ countOf textTag s
+  pub directories : c .directories ≡ countOf directoryTag s
+  pub files : c .files ≡ countOf fileTag s
+  pub zeros : c .zeros ≡ countOf fileZeroTag s
+  pub encodings : c .encodings ≡ countOf encodingTag s
+  pub rows : c .rows ≡ countOf rowTag s
+  pub entries : c .entries ≡ countOf entryTag s
+  pub attributes : c .attributes ≡ countOf attributeTag s
+  pub ranges : c .ranges ≡ countOf rangeTag s
 
 -- how many fields the counts are of
 abbrev pub totalOf : Counts → ℕ

@@ -3,7 +3,7 @@ ghost use mathlib.Core.Path.{_≡_};
 ghost use Prim.Native.Nat.{_+_, _≤_};
 ghost use lib.ListN.{length};
 ghost use Rattle.tlv.specs.Limits.{programLimit, fieldLimit};
-ghost use Rattle.tlv.specs.Grammar.{encodingTag};
+ghost use Rattle.tlv.specs.Tags.{encodingTag};
 ghost use Rattle.tlv.specs.Model.{units};
 ghost use Rattle.tlv.specs.Places.{unitHere};
 ghost use Rattle.files.specs.Pieces.{UnitPlaced};
@@ -16,7 +16,9 @@ use tlv::access::Own;
 use tlv::access::Place;
 use tlv::fields::Step;
 use tlv::grammar::Checked;
-use tlv::grammar::ENCODING_TAG;
+use tlv::tags::ENCODING_TAG;
+use tlv::tags::UNIT_TAG;
+use tlv::tags::UNIT_WHOLE;
 
 // The longest input, and the longest line program.
 const INPUT_LIMIT: usize = 16777216;
@@ -92,7 +94,7 @@ fn has_encoding(main: &[u8], place: usize) -> bool
     requires { ⌜ UnitPlaced (now main) place ⌝ }
     ensures { λ r. ⌜ r ≡ isEncoded (unitHere (now (main .entry)) place) ⌝ }
 {
-    match tlv::access::next_before_rows(main, place + 21, ENCODING_TAG) {
+    match tlv::access::next_before_rows(main, place + UNIT_WHOLE, ENCODING_TAG) {
         Own::Missing => false,
         Own::Field {
             start: _,
@@ -122,7 +124,7 @@ fn any_encoding(main: &[u8]) -> bool
                 len: _,
                 next,
             } => {
-                if tag == 0x10 {
+                if tag == UNIT_TAG {
                     if has_encoding(main, p) {
                         return true;
                     }

@@ -7,6 +7,15 @@ use files::store::JOINED_LIMIT;
 use rows::line::ENTRY_SIZE;
 use rows::line::ROW_ROOM;
 use tlv::fields::Step;
+use tlv::tags::ATTRIBUTE_TAG;
+use tlv::tags::DIRECTORY_TAG;
+use tlv::tags::ENTRY_TAG;
+use tlv::tags::FILE_TAG;
+use tlv::tags::FILE_ZERO_TAG;
+use tlv::tags::RANGE_TAG;
+use tlv::tags::ROW_TAG;
+use tlv::tags::TEXT_TAG;
+use tlv::tags::UNIT_TAG;
 
 // The places, from low to high: the file table with its room for files at 0, the unit's lines, its executable ranges, what a unit that is reached
 // by reference needs, the units and entries of both inputs, the open nodes' ranges, the open and the closed call sites, the followed targets.
@@ -78,16 +87,16 @@ pub fn counts_of(s: &[u8]) -> Counts
 {
     let counts = count_tags(s);
     Counts {
-        units: counts[0x10],
-        text: counts[0x12],
-        directories: counts[0x14],
-        files: counts[0x15],
-        zeros: counts[0x1c],
+        units: counts[UNIT_TAG as usize],
+        text: counts[TEXT_TAG as usize],
+        directories: counts[DIRECTORY_TAG as usize],
+        files: counts[FILE_TAG as usize],
+        zeros: counts[FILE_ZERO_TAG as usize],
         encodings: counts[0x1d],
-        rows: counts[0x16],
-        entries: counts[0x17],
-        attributes: counts[0x18],
-        ranges: counts[0x19],
+        rows: counts[ROW_TAG as usize],
+        entries: counts[ENTRY_TAG as usize],
+        attributes: counts[ATTRIBUTE_TAG as usize],
+        ranges: counts[RANGE_TAG as usize],
     }
 }
 

@@ -6,7 +6,8 @@ ghost use Rattle.dies.specs.DetailState.{Accepted};
 ghost use Rattle.dwarf.specs.Part.{PartOf};
 use tlv::access::Own;
 use tlv::grammar::PART_LENGTH;
-use tlv::grammar::PART_TAG;
+use tlv::tags::PART_TAG;
+use tlv::tags::UNIT_WHOLE;
 
 // Where the part begins and ends.
 pub struct Part {
@@ -43,7 +44,7 @@ pub fn program_part(main: &[u8], place: usize, size: usize) -> Part
     requires { ⌜ UnitIn (now main) place ⌝ }
     ensures { λ r. ⌜ PartOf (now (main .entry)) place size r ⌝ }
 {
-    match tlv::access::next_before_rows(main, place + 21, PART_TAG) {
+    match tlv::access::next_before_rows(main, place + UNIT_WHOLE, PART_TAG) {
         Own::Missing => Part {
             start: 0,
             end: size,

@@ -1,6 +1,7 @@
 // The tables of both inputs' units and entries in the work slice.
 ghost use Prim.Native.Nat.{_+_, _*_, _≤_};
 ghost use lib.ListN.{length};
+ghost use Rattle.tlv.specs.Tags.{entryTag};
 ghost use Rattle.tlv.specs.Limits.{inputLimit};
 ghost use Rattle.tlv.specs.Fields.{fields, payloads, wholeFields};
 ghost use Rattle.tlv.specs.Places.{unitPlaces};
@@ -16,7 +17,7 @@ fn index_input(s: &[u8], work: &mut [u8], units: usize, entries: usize) -> Index
     requires { ⌜ Accepted (now s) ⌝ }
     requires { ⌜ length (now s) ≤ inputLimit ⌝ }
     requires { ⌜ units + 24 * length (unitPlaces 0 (fields (now s))) ≤ entries ⌝ }
-    requires { ⌜ entries + 16 * length (payloads 0x17 (wholeFields (fields (now s)))) ≤ length (now work) ⌝ }
+    requires { ⌜ entries + 16 * length (payloads entryTag (wholeFields (fields (now s)))) ≤ length (now work) ⌝ }
     ensures { λ r. ⌜ IndexesInput (now (s .entry)) (now (work .entry)) (now (work .exit)) units entries r ⌝ }
 {
     Index {

@@ -31,7 +31,8 @@ pub record FileSpanIn (s : List ℕ) (a : Span) : Type 0 where
 
 -- the files of a unit are ones that an import can meet
 pub record Listed (main supplementary : List ℕ) (u : CompilationUnit) (h : LineHeader) : Type 0 where
-  pub possible : (f : HeaderFile) (e : FileEntry) → Any (λ x. f ≡ x) (withZero (u .fileZero) (u .files)) → fileEntry u h f ≡ done (some e) → Possible main supplementary e
+  pub possible : (f : HeaderFile) (e : FileEntry) → Any (λ x. f ≡ x) (withZero (u .fileZero) (u .files)) → fileEntry u h f ≡ done (some e)
+      → Possible main supplementary e
 
 -- the file is one of the unit's at place p of s
 pub record OfUnit (s : List ℕ) (p : ℕ) (file : Span) : Type 0 where
@@ -51,7 +52,8 @@ InternedAfter main supplementary w w′ files files′ t InternedFile.Unnamed = 
 InternedAfter main supplementary w w′ files files′ t (InternedFile.Number t′ n) = Grown main supplementary w w′ files files′ t t′
 
 pub record Interns (main supplementary w w′ files files′ : List ℕ) (t : StoredFiles) (s : List ℕ) (u : FileUnit) (file : Span) (r : InternedFile) : Type 0 where
-  pub is : internedOf main supplementary w′ t r ≡ internFile (unitHere s (u .place)) (headerHere s (u .place)) (tableOf main supplementary w t) (fileOf (spanIn s file))
+  pub is : internedOf main supplementary w′ t r
+      ≡ internFile (unitHere s (u .place)) (headerHere s (u .place)) (tableOf main supplementary w t) (fileOf (spanIn s file))
   pub after : InternedAfter main supplementary w w′ files files′ t r
   pub rest : Kept w w′ (t .base) (extent t)
 
@@ -63,8 +65,10 @@ NumberedAt w p (InternedFile.Refused n) = Unit
 NumberedAt w p InternedFile.Unnamed = indexOf (chunk w p 5) ≡ none
 NumberedAt w p (InternedFile.Number t n) = indexOf (chunk w p 5) ≡ some n
 
-pub record InternsAt (main supplementary w w′ files files′ : List ℕ) (t : StoredFiles) (s : List ℕ) (u : FileUnit) (file : Span) (p : ℕ) (r : InternedFile) : Type 0 where
-  pub is : internedOf main supplementary w′ t r ≡ internFile (unitHere s (u .place)) (headerHere s (u .place)) (tableOf main supplementary w t) (fileOf (spanIn s file))
+pub record InternsAt (main supplementary w w′ files files′ : List ℕ) (t : StoredFiles) (s : List ℕ) (u : FileUnit) (file : Span) (p : ℕ) (r : InternedFile)
+    : Type 0 where
+  pub is : internedOf main supplementary w′ t r
+      ≡ internFile (unitHere s (u .place)) (headerHere s (u .place)) (tableOf main supplementary w t) (fileOf (spanIn s file))
   pub after : InternedAfter main supplementary w w′ files files′ t r
   pub number : NumberedAt w′ p r
   pub rest : KeptBut w w′ ((t .base, extent t) ∷ (p, 5) ∷ [])
@@ -90,12 +94,16 @@ abbrev pub withIndices : FileIndices → Indexed → Outcome Indexed
 withIndices is r = done (record { table = r .table; indices = is ++ r .indices })
 
 -- the files of a header, after the n records of the map
-pub record InternsFiles (main supplementary w w′ files files′ : List ℕ) (t : StoredFiles) (s : List ℕ) (u : FileUnit) (base n : ℕ) (r : InternedFiles) : Type 0 where
-  pub is : indexedOf main supplementary w′ base r ≡ (internFiles (unitHere s (u .place)) (headerHere s (u .place)) (tableOf main supplementary w t) (unitHere s (u .place) .files) >>= withIndices (indicesOf w base n))
+pub record InternsFiles (main supplementary w w′ files files′ : List ℕ) (t : StoredFiles) (s : List ℕ) (u : FileUnit) (base n : ℕ) (r : InternedFiles)
+    : Type 0 where
+  pub is : indexedOf main supplementary w′ base r
+      ≡ (internFiles (unitHere s (u .place)) (headerHere s (u .place)) (tableOf main supplementary w t) (unitHere s (u .place) .files) >>= withIndices
+      (indicesOf w base n))
   pub after : IndexedAfter main supplementary w w′ files files′ t (1 + length (unitHere s (u .place) .files)) r
   pub rest : KeptBut w w′ ((t .base, extent t) ∷ (base, 5 * (1 + length (unitHere s (u .place) .files))) ∷ [])
 
-pub record InternsHeader (main supplementary w w′ files files′ : List ℕ) (t : StoredFiles) (s : List ℕ) (u : FileUnit) (base : ℕ) (r : InternedFiles) : Type 0 where
+pub record InternsHeader (main supplementary w w′ files files′ : List ℕ) (t : StoredFiles) (s : List ℕ) (u : FileUnit) (base : ℕ) (r : InternedFiles)
+    : Type 0 where
   pub is : indexedOf main supplementary w′ base r ≡ internHeaderFiles (unitHere s (u .place)) (headerHere s (u .place)) (tableOf main supplementary w t)
   pub after : IndexedAfter main supplementary w w′ files files′ t (1 + length (unitHere s (u .place) .files)) r
   pub rest : KeptBut w w′ ((t .base, extent t) ∷ (base, 5 * (1 + length (unitHere s (u .place) .files))) ∷ [])

@@ -5,6 +5,7 @@ use mathlib.Core.Bool.{cond}
 use mathlib.Core.List.{List, [], _++_, map}
 use mathlib.Core.Option.{Option, none, some}
 use lib.ListN.{length, drop, replicate}
+use Rattle.tlv.specs.Tags.{compilationTag, directoryTag, headerTag, unitTag}
 use Rattle.tlv.specs.Outcome.{Outcome, refused, done, _>>=_}
 use Rattle.tlv.specs.Bytes.{leAt}
 use Rattle.tlv.specs.Limits.{stringLimit}
@@ -90,24 +91,24 @@ pub record DirectoryIn (s : List ℕ) (a : Span) : Type 0 where
 
 -- the spans of a unit's directories, whose fields follow place p, were written at base
 pub record DirectoriesIn (s w w′ : List ℕ) (p base r : ℕ) : Type 0 where
-  pub is : spannedOf s w′ base r ≡ payloads 0x14 (ownFields (fields (drop p s)))
+  pub is : spannedOf s w′ base r ≡ payloads directoryTag (ownFields (fields (drop p s)))
   pub spans : (i : ℕ) → i < r → DirectoryIn s (spanOf (chunk w′ (base + i * 8) 8))
   pub within : base + r * 8 ≤ length w′
   pub rest : Kept w w′ base (r * 8)
 
 -- the compilation directory of the unit whose fields follow place p; an empty span where it has none
 pub record CompilationIn (s : List ℕ) (p : ℕ) (r : Span) : Type 0 where
-  pub is : spanIn s r ≡ orEmpty (payloadOf 0x11 (ownFields (fields (drop p s))))
+  pub is : spanIn s r ≡ orEmpty (payloadOf compilationTag (ownFields (fields (drop p s))))
   pub string : SpanIn s r
 
 -- the version of the line header of the unit whose fields follow place p
 unfoldable pub versionIn : List ℕ → ℕ → ℕ
-versionIn s p = orHeader (mapOption headerOf (payloadOf 0x13 (ownFields (fields (drop p s))))) .version
+versionIn s p = orHeader (mapOption headerOf (payloadOf headerTag (ownFields (fields (drop p s))))) .version
 
 -- a unit's field stands at p in an accepted sheet
 pub record UnitPlaced (s : List ℕ) (p : ℕ) : Type 0 where
   pub placed : Placed s p
-  pub is : stepAt s p ≡ Step.Field 0x10 (p + 3) 18 (p + 21)
+  pub is : stepAt s p ≡ Step.Field unitTag (p + 3) 18 (p + 21)
 
 -- a unit's place, its header's version, its compilation directory, and its directories' spans in a table of the work slice
 pub record FileUnitIn (s w : List ℕ) (u : FileUnit) : Type 0 where

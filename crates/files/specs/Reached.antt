@@ -1,4 +1,5 @@
--- The numbers of a unit's files by the table alone, once all of them are in it: for units that are reached by reference, whose maps are not kept. Assumes nothing.
+-- The numbers of a unit's files by the table alone, once all of them are in it: for units that are reached by reference, whose maps are not kept. Assumes
+-- nothing.
 use Prim.Native.Nat.{ℕ, _+_}
 use mathlib.Core.Path.{_≡_}
 use mathlib.Core.Bool.{cond}
@@ -6,6 +7,7 @@ use mathlib.Core.List.{List, _∷_, map}
 use mathlib.Core.Option.{Option, none, some}
 use lib.Dec.{leb}
 use lib.ListN.{drop}
+use Rattle.tlv.specs.Tags.{fileTag}
 use Rattle.tlv.specs.declared.access.Own.{Own}
 use Rattle.tlv.specs.declared.model.FileIndex.{FileIndex}
 use Rattle.tlv.specs.Outcome.{Outcome, refused, done}
@@ -61,7 +63,7 @@ OwnFileIn s Own.Missing = Unit
 
 -- the n-th field of a file from place p on
 pub record NthFile (s : List ℕ) (p n : ℕ) (r : Own) : Type 0 where
-  pub is : ownFile s r ≡ at (payloads 0x15 (ownFields (fields (drop p s)))) n
+  pub is : ownFile s r ≡ at (payloads fileTag (ownFields (fields (drop p s)))) n
   pub within : OwnFileIn s r
 
 -- a number was looked up, and the table stayed

@@ -2,6 +2,7 @@
 ghost use mathlib.Core.Path.{_≡_};
 ghost use Prim.Native.Nat.{_+_, _≤_};
 ghost use lib.ListN.{length};
+ghost use Rattle.tlv.specs.Tags.{fileTag};
 ghost use Rattle.tlv.specs.Places.{unitHere};
 ghost use Rattle.tlv.specs.Access.{NextOwn};
 ghost use Rattle.tlv.specs.Checked.{Placed};
@@ -18,6 +19,8 @@ use crate::store::AddedFile;
 use crate::store::StoredFiles;
 use crate::store::add_file;
 use tlv::model::DebugSource;
+use tlv::tags::FILE_TAG;
+use tlv::tags::UNIT_WHOLE;
 
 // The table with a file in it and the file's number; that the file has no path; or why it was refused.
 pub enum InternedFile {
@@ -66,14 +69,14 @@ pub fn next_file(
     p: usize,
 ) -> tlv::access::Own
     requires { ⌜ Placed (sourceIn (now main) (now supplementary) source) p ⌝ }
-    ensures { λ r. ⌜ NextOwn (sourceIn (now (main .entry)) (now (supplementary .entry)) source) p 0x15 r ⌝ }
+    ensures { λ r. ⌜ NextOwn (sourceIn (now (main .entry)) (now (supplementary .entry)) source) p fileTag r ⌝ }
 {
     match source {
         DebugSource::Main => {
-            return tlv::access::next_before_rows(main, p, 0x15);
+            return tlv::access::next_before_rows(main, p, FILE_TAG);
         }
         DebugSource::Supplementary => {
-            return tlv::access::next_before_rows(supplementary, p, 0x15);
+            return tlv::access::next_before_rows(supplementary, p, FILE_TAG);
         }
     }
 }
@@ -96,7 +99,8 @@ fn intern_from(
     requires { ⌜ FileSpanIn (now s) file ⌝ }
     requires { ⌜ OfUnit (now s) (unit .place) file ⌝ }
     requires { ⌜ Listed (now main) (now supplementary) (unitHere (now s) (unit .place)) (headerHere (now s) (unit .place)) ⌝ }
-    ensures { λ r. ⌜ Interns (now (main .entry)) (now (supplementary .entry)) (now (work .entry)) (now (work .exit)) (now (files .entry)) (now (files .exit)) t (now (s .entry)) unit file r ⌝ }
+    ensures { λ r. ⌜ Interns (now (main .entry)) (now (supplementary .entry)) (now (work .entry)) (now (work .exit)) (now (files .entry)) (now (files .exit))
+        t (now (s .entry)) unit file r ⌝ }
 {
     match file_pieces(s, work, unit, file) {
         Named::Failed => {
@@ -136,8 +140,10 @@ pub fn intern_file(
     requires { ⌜ FileUnitIn (sourceIn (now main) (now supplementary) source) (now work) unit ⌝ }
     requires { ⌜ FileSpanIn (sourceIn (now main) (now supplementary) source) file ⌝ }
     requires { ⌜ OfUnit (sourceIn (now main) (now supplementary) source) (unit .place) file ⌝ }
-    requires { ⌜ Listed (now main) (now supplementary) (unitHere (sourceIn (now main) (now supplementary) source) (unit .place)) (headerHere (sourceIn (now main) (now supplementary) source) (unit .place)) ⌝ }
-    ensures { λ r. ⌜ Interns (now (main .entry)) (now (supplementary .entry)) (now (work .entry)) (now (work .exit)) (now (files .entry)) (now (files .exit)) t (sourceIn (now (main .entry)) (now (supplementary .entry)) source) unit file r ⌝ }
+    requires { ⌜ Listed (now main) (now supplementary) (unitHere (sourceIn (now main) (now supplementary) source) (unit .place))
+        (headerHere (sourceIn (now main) (now supplementary) source) (unit .place)) ⌝ }
+    ensures { λ r. ⌜ Interns (now (main .entry)) (now (supplementary .entry)) (now (work .entry)) (now (work .exit)) (now (files .entry)) (now (files .exit))
+        t (sourceIn (now (main .entry)) (now (supplementary .entry)) source) unit file r ⌝ }
 {
     match source {
         DebugSource::Main => {
@@ -189,7 +195,8 @@ fn intern_at(
     requires { ⌜ OfUnit (now s) (unit .place) file ⌝ }
     requires { ⌜ Listed (now main) (now supplementary) (unitHere (now s) (unit .place)) (headerHere (now s) (unit .place)) ⌝ }
     requires { ⌜ (t .base + extent t ≤ at) × (at + 5 ≤ length (now work)) ⌝ }
-    ensures { λ r. ⌜ InternsAt (now (main .entry)) (now (supplementary .entry)) (now (work .entry)) (now (work .exit)) (now (files .entry)) (now (files .exit)) t (now (s .entry)) unit file at r ⌝ }
+    ensures { λ r. ⌜ InternsAt (now (main .entry)) (now (supplementary .entry)) (now (work .entry)) (now (work .exit)) (now (files .entry))
+        (now (files .exit)) t (now (s .entry)) unit file at r ⌝ }
 {
     match intern_from(main, supplementary, s, source, unit, file, work, files, t) {
         InternedFile::Refused(n) => {
@@ -229,13 +236,14 @@ fn intern_files(
     requires { ⌜ Listed (now main) (now supplementary) (unitHere (now s) (unit .place)) (headerHere (now s) (unit .place)) ⌝ }
     requires { ⌜ MapRoom (now s) (now work) t unit base ⌝ }
     requires { ⌜ n ≤ 1 ⌝ }
-    ensures { λ r. ⌜ InternsFiles (now (main .entry)) (now (supplementary .entry)) (now (work .entry)) (now (work .exit)) (now (files .entry)) (now (files .exit)) t (now (s .entry)) unit base n r ⌝ }
+    ensures { λ r. ⌜ InternsFiles (now (main .entry)) (now (supplementary .entry)) (now (work .entry)) (now (work .exit)) (now (files .entry))
+        (now (files .exit)) t (now (s .entry)) unit base n r ⌝ }
 {
     let mut table = t;
     let mut count = n;
-    let mut p = unit.place + 21;
+    let mut p = unit.place + UNIT_WHOLE;
     loop {
-        match tlv::access::next_before_rows(s, p, 0x15) {
+        match tlv::access::next_before_rows(s, p, FILE_TAG) {
             tlv::access::Own::Missing => {
                 return InternedFiles::Indices {
                     table: table,
@@ -300,7 +308,8 @@ fn intern_header_from(
     requires { ⌜ UnitPlaced (now s) (unit .place) ⌝ }
     requires { ⌜ Listed (now main) (now supplementary) (unitHere (now s) (unit .place)) (headerHere (now s) (unit .place)) ⌝ }
     requires { ⌜ MapRoom (now s) (now work) t unit base ⌝ }
-    ensures { λ r. ⌜ InternsHeader (now (main .entry)) (now (supplementary .entry)) (now (work .entry)) (now (work .exit)) (now (files .entry)) (now (files .exit)) t (now (s .entry)) unit base r ⌝ }
+    ensures { λ r. ⌜ InternsHeader (now (main .entry)) (now (supplementary .entry)) (now (work .entry)) (now (work .exit)) (now (files .entry))
+        (now (files .exit)) t (now (s .entry)) unit base r ⌝ }
 {
     if unit.version <= 4 {
         put_index(work, base, FoundIndex::Missing);
@@ -345,9 +354,11 @@ pub fn intern_header_files(
     requires { ⌜ FilesIn (now main) (now supplementary) (now work) t ⌝ }
     requires { ⌜ FileUnitIn (sourceIn (now main) (now supplementary) source) (now work) unit ⌝ }
     requires { ⌜ UnitPlaced (sourceIn (now main) (now supplementary) source) (unit .place) ⌝ }
-    requires { ⌜ Listed (now main) (now supplementary) (unitHere (sourceIn (now main) (now supplementary) source) (unit .place)) (headerHere (sourceIn (now main) (now supplementary) source) (unit .place)) ⌝ }
+    requires { ⌜ Listed (now main) (now supplementary) (unitHere (sourceIn (now main) (now supplementary) source) (unit .place))
+        (headerHere (sourceIn (now main) (now supplementary) source) (unit .place)) ⌝ }
     requires { ⌜ MapRoom (sourceIn (now main) (now supplementary) source) (now work) t unit base ⌝ }
-    ensures { λ r. ⌜ InternsHeader (now (main .entry)) (now (supplementary .entry)) (now (work .entry)) (now (work .exit)) (now (files .entry)) (now (files .exit)) t (sourceIn (now (main .entry)) (now (supplementary .entry)) source) unit base r ⌝ }
+    ensures { λ r. ⌜ InternsHeader (now (main .entry)) (now (supplementary .entry)) (now (work .entry)) (now (work .exit)) (now (files .entry))
+        (now (files .exit)) t (sourceIn (now (main .entry)) (now (supplementary .entry)) source) unit base r ⌝ }
 {
     match source {
         DebugSource::Main => {

@@ -80,7 +80,8 @@ pub fn is_joined(
 ) -> bool
     requires { ⌜ at + n ≤ length (now work) ⌝ }
     requires { ⌜ length (now compilation) + length (now directory) + length (now own) ≤ 3 * stringLimit ⌝ }
-    ensures { λ r. ⌜ r ≡ same (chunk (now (work .entry)) at n) (appendPath (appendPath (now (compilation .entry)) (now (directory .entry))) (now (own .entry))) ⌝ }
+    ensures { λ r. ⌜ r ≡ same (chunk (now (work .entry)) at n)
+        (appendPath (appendPath (now (compilation .entry)) (now (directory .entry))) (now (own .entry))) ⌝ }
 {
     let first = separator(compilation, directory);
     let second = separator_below(compilation, directory, own);

@@ -19,6 +19,7 @@ use crate::store::StoredFiles;
 use crate::store::find_file;
 use crate::store::lay_file;
 use tlv::model::DebugSource;
+use tlv::tags::UNIT_WHOLE;
 
 // The n-th field of a file, from a place of a source on.
 fn nth_file(
@@ -64,7 +65,8 @@ fn look_up_from(
 ) -> FoundIndex
     requires { ⌜ FilesIn (now main) (now supplementary) (now work) t ⌝ }
     requires { ⌜ PiecesIn (now s) p ⌝ }
-    ensures { λ r. ⌜ Found (now (main .entry)) (now (supplementary .entry)) (now (work .entry)) (now (work .exit)) t (numberIn (tableOf (now (main .entry)) (now (supplementary .entry)) (now (work .entry)) t) (done (some (fileIn (now (s .entry)) p)))) r ⌝ }
+    ensures { λ r. ⌜ Found (now (main .entry)) (now (supplementary .entry)) (now (work .entry)) (now (work .exit)) t
+        (numberIn (tableOf (now (main .entry)) (now (supplementary .entry)) (now (work .entry)) t) (done (some (fileIn (now (s .entry)) p)))) r ⌝ }
 {
     let at = t.base + t.room * 45;
     let b = p.base;
@@ -97,7 +99,9 @@ fn look_up_pieces(
 ) -> FoundIndex
     requires { ⌜ FilesIn (now main) (now supplementary) (now work) t ⌝ }
     requires { ⌜ PiecesIn (sourceIn (now main) (now supplementary) source) p ⌝ }
-    ensures { λ r. ⌜ Found (now (main .entry)) (now (supplementary .entry)) (now (work .entry)) (now (work .exit)) t (numberIn (tableOf (now (main .entry)) (now (supplementary .entry)) (now (work .entry)) t) (done (some (fileIn (sourceIn (now (main .entry)) (now (supplementary .entry)) source) p)))) r ⌝ }
+    ensures { λ r. ⌜ Found (now (main .entry)) (now (supplementary .entry)) (now (work .entry)) (now (work .exit)) t
+        (numberIn (tableOf (now (main .entry)) (now (supplementary .entry)) (now (work .entry)) t)
+        (done (some (fileIn (sourceIn (now (main .entry)) (now (supplementary .entry)) source) p)))) r ⌝ }
 {
     match source {
         DebugSource::Main => look_up_from(main, supplementary, main, p, work, t),
@@ -118,9 +122,12 @@ fn look_up_nth(
     requires { ⌜ FilesIn (now main) (now supplementary) (now work) t ⌝ }
     requires { ⌜ FileUnitIn (sourceIn (now main) (now supplementary) source) (now work) unit ⌝ }
     requires { ⌜ UnitPlaced (sourceIn (now main) (now supplementary) source) (unit .place) ⌝ }
-    ensures { λ r. ⌜ Found (now (main .entry)) (now (supplementary .entry)) (now (work .entry)) (now (work .exit)) t (nthNumber (unitHere (sourceIn (now (main .entry)) (now (supplementary .entry)) source) (unit .place)) (headerHere (sourceIn (now (main .entry)) (now (supplementary .entry)) source) (unit .place)) (tableOf (now (main .entry)) (now (supplementary .entry)) (now (work .entry)) t) n) r ⌝ }
+    ensures { λ r. ⌜ Found (now (main .entry)) (now (supplementary .entry)) (now (work .entry)) (now (work .exit)) t
+        (nthNumber (unitHere (sourceIn (now (main .entry)) (now (supplementary .entry)) source) (unit .place))
+        (headerHere (sourceIn (now (main .entry)) (now (supplementary .entry)) source) (unit .place))
+        (tableOf (now (main .entry)) (now (supplementary .entry)) (now (work .entry)) t) n) r ⌝ }
 {
-    match nth_file(main, supplementary, source, unit.place + 21, n) {
+    match nth_file(main, supplementary, source, unit.place + UNIT_WHOLE, n) {
         tlv::access::Own::Missing => {
             return FoundIndex::Missing;
         }
@@ -161,7 +168,8 @@ pub fn look_up_file(
     requires { ⌜ FilesIn (now main) (now supplementary) (now work) t ⌝ }
     requires { ⌜ FileUnitIn (sourceIn (now main) (now supplementary) source) (now work) unit ⌝ }
     requires { ⌜ UnitPlaced (sourceIn (now main) (now supplementary) source) (unit .place) ⌝ }
-    ensures { λ r. ⌜ LookedUp (now (main .entry)) (now (supplementary .entry)) (now (work .entry)) (now (work .exit)) t (sourceIn (now (main .entry)) (now (supplementary .entry)) source) unit number r ⌝ }
+    ensures { λ r. ⌜ LookedUp (now (main .entry)) (now (supplementary .entry)) (now (work .entry)) (now (work .exit)) t
+        (sourceIn (now (main .entry)) (now (supplementary .entry)) source) unit number r ⌝ }
 {
     let n = number.0;
     if unit.version <= 4 {

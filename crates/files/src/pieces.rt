@@ -2,6 +2,7 @@
 ghost use mathlib.Core.Path.{_≡_};
 ghost use Prim.Native.Nat.{_+_, _*_, _≤_, _<_};
 ghost use lib.ListN.{length, drop};
+ghost use Rattle.tlv.specs.Tags.{directoryTag};
 ghost use Rattle.tlv.specs.Lists.{at};
 ghost use Rattle.tlv.specs.Fields.{fields, payloads};
 ghost use Rattle.tlv.specs.Checked.{Placed};
@@ -9,7 +10,12 @@ ghost use Rattle.tlv.specs.Limits.{stringLimit, joinedLimit};
 ghost use Rattle.tlv.specs.Places.{ownFields, unitHere};
 ghost use Rattle.lines.specs.Paths.{isAbsolute, needsCompilation, readDirectory, namedDirectory};
 ghost use Rattle.lines.specs.Join.{Laid};
-ghost use Rattle.files.specs.Pieces.{spanIn, fileIn, SpanIn, PiecesIn, PutSpan, UnitPlaced, headerHere, versionIn, DirectoriesIn, CompilationIn, FileUnitIn, Described, PartsIn, Reads, Before, Relative, Pieced};
+ghost use Rattle.files.specs.Pieces.{spanIn, fileIn, SpanIn, PiecesIn, PutSpan, UnitPlaced, headerHere, versionIn, DirectoriesIn, CompilationIn};
+ghost use Rattle.files.specs.Pieces.{FileUnitIn, Described, PartsIn, Reads, Before, Relative, Pieced};
+use tlv::tags::COMPILATION_TAG;
+use tlv::tags::DIRECTORY_TAG;
+use tlv::tags::HEADER_TAG;
+use tlv::tags::UNIT_WHOLE;
 
 // A stretch of a sheet.
 pub struct Span {
@@ -68,13 +74,13 @@ pub fn put_span(work: &mut [u8], p: usize, a: Span)
 fn index_directories(s: &[u8], p: usize, work: &mut [u8], base: usize) -> usize
     requires { ⌜ Placed (now s) p ⌝ }
     requires { ⌜ length (now s) < 4294967296 ⌝ }
-    requires { ⌜ base + 8 * length (payloads 0x14 (ownFields (fields (drop p (now s))))) ≤ length (now work) ⌝ }
+    requires { ⌜ base + 8 * length (payloads directoryTag (ownFields (fields (drop p (now s))))) ≤ length (now work) ⌝ }
     ensures { λ r. ⌜ DirectoriesIn (now (s .entry)) (now (work .entry)) (now (work .exit)) p base r ⌝ }
 {
     let mut at = p;
     let mut n: usize = 0;
     loop {
-        match tlv::access::next_before_rows(s, at, 0x14) {
+        match tlv::access::next_before_rows(s, at, DIRECTORY_TAG) {
             tlv::access::Own::Missing => {
                 return n;
             }
@@ -99,7 +105,7 @@ fn compilation_span(s: &[u8], p: usize) -> Span
     requires { ⌜ Placed (now s) p ⌝ }
     ensures { λ r. ⌜ CompilationIn (now (s .entry)) p r ⌝ }
 {
-    match tlv::access::next_before_rows(s, p, 0x11) {
+    match tlv::access::next_before_rows(s, p, COMPILATION_TAG) {
         tlv::access::Own::Missing => Span { start: 0, len: 0 },
         tlv::access::Own::Field {
             start,
@@ -117,7 +123,7 @@ fn header_version(s: &[u8], p: usize) -> u8
     requires { ⌜ Placed (now s) p ⌝ }
     ensures { λ r. ⌜ r ≡ versionIn (now (s .entry)) p ⌝ }
 {
-    match tlv::access::next_before_rows(s, p, 0x13) {
+    match tlv::access::next_before_rows(s, p, HEADER_TAG) {
         tlv::access::Own::Missing => 0,
         tlv::access::Own::Field {
             start,
@@ -134,7 +140,7 @@ pub fn file_unit(s: &[u8], place: usize, work: &mut [u8], base: usize) -> FileUn
     requires { ⌜ base + 8 * length (unitHere (now s) place .directories) ≤ length (now work) ⌝ }
     ensures { λ r. ⌜ Described (now (s .entry)) (now (work .entry)) (now (work .exit)) place base r ⌝ }
 {
-    let p = place + 21;
+    let p = place + UNIT_WHOLE;
     let version = header_version(s, p);
     let compilation = compilation_span(s, p);
     let count = index_directories(s, p, work, base);
@@ -229,7 +235,8 @@ fn directory_at(s: &[u8], work: &[u8], unit: FileUnit, index: u64) -> NamedDirec
 // The directory of a number, which the versions count differently.
 fn named_directory(s: &[u8], work: &[u8], unit: FileUnit, number: u64) -> NamedDirectory
     requires { ⌜ FileUnitIn (now s) (now work) unit ⌝ }
-    ensures { λ r. ⌜ Reads (now (s .entry)) r (namedDirectory (unitHere (now (s .entry)) (unit .place)) (headerHere (now (s .entry)) (unit .place) .version) number) ⌝ }
+    ensures { λ r. ⌜ Reads (now (s .entry)) r (namedDirectory (unitHere (now (s .entry)) (unit .place)) (headerHere (now (s .entry)) (unit .place) .version)
+        number) ⌝ }
 {
     if unit.version < 5 {
         if number == 0 {

@@ -9,7 +9,8 @@ ghost use Rattle.lines.specs.Files.{sameFile, placeOf};
 ghost use Rattle.files.specs.Pieces.{sourceIn, spanOf, fileIn, PiecesIn};
 ghost use Rattle.files.specs.Hash.{hashOf};
 ghost use Rattle.files.specs.Possible.{possibleFiles, Possible};
-ghost use Rattle.files.specs.Store.{piecesOf, sourceOf, storedFile, byteOf, extent, StoredAt, PutPieces, PutFile, Linked, LaidFile, LaidAt, FilesIn, foundOf, entriesOf, Empty, Adds};
+ghost use Rattle.files.specs.Store.{piecesOf, sourceOf, storedFile, byteOf, extent, StoredAt, PutPieces, PutFile, Linked, LaidFile, LaidAt, FilesIn};
+ghost use Rattle.files.specs.Store.{foundOf, entriesOf, Empty, Adds};
 use crate::hash::hash_bytes;
 use crate::joined::bytes_at;
 use crate::joined::is_joined;
@@ -132,7 +133,8 @@ fn is_file(
     requires { ⌜ StoredAt (now main) (now supplementary) (now work) p ⌝ }
     requires { ⌜ at + n ≤ length (now work) ⌝ }
     requires { ⌜ hash ≡ hashOf (record { directory = chunk (now work) at n; basename = now base }) ⌝ }
-    ensures { λ r. ⌜ r ≡ sameFile (record { directory = chunk (now (work .entry)) at n; basename = now (base .entry) }) (storedFile (now (main .entry)) (now (supplementary .entry)) (chunk (now (work .entry)) p 41)) ⌝ }
+    ensures { λ r. ⌜ r ≡ sameFile (record { directory = chunk (now (work .entry)) at n; basename = now (base .entry) })
+        (storedFile (now (main .entry)) (now (supplementary .entry)) (chunk (now (work .entry)) p 41)) ⌝ }
 {
     if tlv::bytes::read_u32(work, p + 33) as u64 != hash {
         return false;
@@ -158,7 +160,8 @@ pub fn find_file(
     requires { ⌜ FilesIn (now main) (now supplementary) (now work) t ⌝ }
     requires { ⌜ at + n ≤ length (now work) ⌝ }
     requires { ⌜ hash ≡ hashOf (record { directory = chunk (now work) at n; basename = now base }) ⌝ }
-    ensures { λ r. ⌜ foundOf r ≡ placeOf (record { directory = chunk (now (work .entry)) at n; basename = now (base .entry) }) (entriesOf (now (main .entry)) (now (supplementary .entry)) (now (work .entry)) t) ⌝ }
+    ensures { λ r. ⌜ foundOf r ≡ placeOf (record { directory = chunk (now (work .entry)) at n; basename = now (base .entry) })
+        (entriesOf (now (main .entry)) (now (supplementary .entry)) (now (work .entry)) t) ⌝ }
 {
     let bucket = (hash % t.room as u64) as usize;
     let mut k = tlv::bytes::read_u32(work, t.base + bucket * 4) as usize;
@@ -270,7 +273,8 @@ fn append_file(
     requires { ⌜ Possible (now main) (now supplementary) (fileIn (now s) p) ⌝ }
     requires { ⌜ LaidFile (now work) t n hash (fileIn (now s) p) ⌝ }
     requires { ⌜ placeOf (fileIn (now s) p) (entriesOf (now main) (now supplementary) (now work) t) ≡ none ⌝ }
-    ensures { λ r. ⌜ Adds (now (main .entry)) (now (supplementary .entry)) (now (work .entry)) (now (work .exit)) (now (files .entry)) (now (files .exit)) t (fileIn (now (s .entry)) p) r ⌝ }
+    ensures { λ r. ⌜ Adds (now (main .entry)) (now (supplementary .entry)) (now (work .entry)) (now (work .exit)) (now (files .entry)) (now (files .exit)) t
+        (fileIn (now (s .entry)) p) r ⌝ }
 {
     let first = t.first;
     let count = t.count;
@@ -326,7 +330,8 @@ pub fn add_file(
     requires { ⌜ now s ≡ sourceIn (now main) (now supplementary) source ⌝ }
     requires { ⌜ PiecesIn (now s) p ⌝ }
     requires { ⌜ Possible (now main) (now supplementary) (fileIn (now s) p) ⌝ }
-    ensures { λ r. ⌜ Adds (now (main .entry)) (now (supplementary .entry)) (now (work .entry)) (now (work .exit)) (now (files .entry)) (now (files .exit)) t (fileIn (now (s .entry)) p) r ⌝ }
+    ensures { λ r. ⌜ Adds (now (main .entry)) (now (supplementary .entry)) (now (work .entry)) (now (work .exit)) (now (files .entry)) (now (files .exit)) t
+        (fileIn (now (s .entry)) p) r ⌝ }
 {
     let at = t.base + t.room * 45;
     let b = p.base;

@@ -6,6 +6,7 @@ use mathlib.Core.Logic.{_↔_, _≢_}
 use mathlib.Core.List.{List, [], _∷_, map}
 use mathlib.Core.Option.{Option, none, some}
 use lib.ListN.{length, getD}
+use Rattle.tlv.specs.Constants.{dwTagInlinedSubroutine}
 use Rattle.tlv.specs.declared.model.AddressRange.{AddressRange}
 use Rattle.tlv.specs.Addresses.{RangeHolds, Nonempty, Inside}
 use Rattle.tlv.specs.Outcome.{Outcome, refused, done}
@@ -83,10 +84,11 @@ against f merged (some a) = merged a
 abbrev pub Fits : List AddressRange → AddressRange → Type 0
 Fits ps r = Nonempty r × Any (Inside r) ps
 
--- the rule for an entry e that is held against ps, where `mine` are its merged ranges, empty if it is not kept: it is "kept exactly when it has a name and a nonempty
+-- the rule for an entry e that is held against ps, where `mine` are its merged ranges, empty if it is not kept: it is "kept exactly when it has a name and a
+-- nonempty
 -- range that lies inside one merged range" of ps, and is inlined; its "merged ranges are its ranges that lie so, and no others, merged"
 pub record Rule (ps mine : List AddressRange) (e : TreeEntry) : Type 0 where
-  pub kept : (mine ≢ []) ↔ ((e .tag ≡ 0x1d) × (e .name ≢ []) × Any (Fits ps) (e .ranges))
+  pub kept : (mine ≢ []) ↔ ((e .tag ≡ dwTagInlinedSubroutine) × (e .name ≢ []) × Any (Fits ps) (e .ranges))
   pub apart : Apart mine
   pub addresses : mine ≢ [] → (a : ℕ) → Holds mine a ↔ Any (λ r. RangeHolds r a × Fits ps r) (e .ranges)
 

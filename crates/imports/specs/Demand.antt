@@ -7,6 +7,7 @@ use mathlib.Core.List.{List, [], _∷_, _++_, map}
 use mathlib.Core.Option.{Option, none, some}
 use lib.ListN.{length, getD, take, drop}
 use lib.Dec.{eqb}
+use Rattle.tlv.specs.Constants.{dwTagCallSite, dwTagInlinedSubroutine, dwTagSubprogram}
 use Rattle.tlv.specs.declared.model.AddressRange.{AddressRange}
 use Rattle.tlv.specs.Addresses.{Nonempty, Inside}
 use Rattle.tlv.specs.Outcome.{Outcome, refused, done}
@@ -59,14 +60,15 @@ pub record Live (text : List AddressRange) (r : AddressRange) : Type 0 where
 
 pub record RecordAgrees (d : Dwarf) (u : CompilationUnit) (inlines : Bool) (k : Subject) (f : Function) : Type 0 where
   pub among : k .number < length (u .entries)
-  pub subprogram : (entry (treeEntries d u) (k .number)) .tag ≡ 0x2e
+  pub subprogram : (entry (treeEntries d u) (k .number)) .tag ≡ dwTagSubprogram
   pub name : f .name ≡ (entry (treeEntries d u) (k .number)) .name
   pub named : f .name ≢ []
   pub range : f .range ≡ k .range
   pub live : Live (u .text) (f .range)
   pub rows : RowsAgree (f .range) (f .lines)
   -- the nodes are none, or the root and those that are paired with the kept entries
-  pub tree : inlines ≡ true → (ns : List InlineNode) × (f .inline ≡ rooted (f .name) (f .range) ns) × TreeAgrees (f .range) (treeEntries d u) (k .number) (map treeNode ns)
+  pub tree : inlines ≡ true → (ns : List InlineNode) × (f .inline ≡ rooted (f .name) (f .range) ns)
+      × TreeAgrees (f .range) (treeEntries d u) (k .number) (map treeNode ns)
   pub treeless : inlines ≡ false → f .inline ≡ []
 
 module _ {A B : Type 0} (R : A → B → Type 0) where
@@ -103,13 +105,13 @@ entriesBelow u s = descendantsOf (unitEntry u s .depth) (drop (suc s) (u .entrie
 -- an inlined entry below s
 pub record InlinedBelow (c : DetailContext) (s i : ℕ) : Type 0 where
   pub under : Below (treeEntries (c .dwarf) (c .unit)) s i
-  pub inlined : unitEntry (c .unit) i .tag ≡ 0x1d
+  pub inlined : unitEntry (c .unit) i .tag ≡ dwTagInlinedSubroutine
 
 -- a call site below s, where they are asked for
 pub record SiteBelow (c : DetailContext) (s i : ℕ) : Type 0 where
   pub under : Below (treeEntries (c .dwarf) (c .unit)) s i
   pub asked : c .includeCallSites ≡ true
-  pub site : unitEntry (c .unit) i .tag ≡ 0x48
+  pub site : unitEntry (c .unit) i .tag ≡ dwTagCallSite
 
 -- entry i has a name
 abbrev pub HasName : DetailContext → ℕ → Type 0

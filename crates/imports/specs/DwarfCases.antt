@@ -6,7 +6,7 @@ use mathlib.Core.List.{List, [], _∷_, _++_, map}
 use lib.ListN.{replicate}
 use Rattle.tlv.specs.Bytes.{bytesOf}
 use Rattle.tlv.specs.Fields.{encode}
-use Rattle.tlv.specs.Grammar.{partTag}
+use Rattle.tlv.specs.Tags.{partTag}
 use Rattle.imports.specs.Answer.{Inputs, noStats, Answer, after, afterDwarf}
 
 -- ---- the sheets

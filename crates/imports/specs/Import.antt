@@ -5,6 +5,7 @@ use mathlib.Core.List.{List, [], _∷_, _++_}
 use mathlib.Core.Option.{Option, none, some}
 use lib.ListN.{length}
 use lib.Dec.{ltb, eqb}
+use Rattle.tlv.specs.Constants.{dwAtLlvmStmtSequence, dwTagSubprogram}
 use Rattle.tlv.specs.declared.model.AddressRange.{AddressRange}
 use Rattle.tlv.specs.declared.model.LineEntry.{LineEntry}
 use Rattle.tlv.specs.Outcome.{Outcome, done, _>>=_}
@@ -53,7 +54,7 @@ sequenceIf u (some a) =
     cond ((eqb (a .kind) 1 || eqb (a .kind) 7 || eqb (a .kind) 8) && not (eqb (a .value) (2 ^ (8 * u .wordSize) - 1))) (some (a .value)) none
 
 unfoldable pub statementSequenceOffset : CompilationUnit → Entry → Option ℕ
-statementSequenceOffset u e = sequenceIf u (attribute e 0x3e0c)
+statementSequenceOffset u e = sequenceIf u (attribute e dwAtLlvmStmtSequence)
 
 -- ---- ranges
 
@@ -161,7 +162,7 @@ importSubprogram q e below s = resolveName (q .dwarf) (q .unit) e >>= λ name.
 
 -- DW_TAG_subprogram
 abbrev pub isSubprogram : Entry → Bool
-isSubprogram e = eqb (e .tag) 0x2e
+isSubprogram e = eqb (e .tag) dwTagSubprogram
 
 -- the entries below one of this depth, of those that follow it
 unfoldable pub descendantsOf : ℕ → List Entry → List Entry

@@ -5,6 +5,7 @@ use mathlib.Core.List.{List, [], _∷_, _++_, map}
 use mathlib.Core.Option.{Option, none, some}
 use lib.ListN.{length}
 use lib.Dec.{leb, ltb, eqb}
+use Rattle.tlv.specs.Constants.{dwAtCallFile, dwAtCallLine, dwAtCallOrigin, dwAtCallReturnPc, dwTagCallSite, dwTagInlinedSubroutine}
 use Rattle.tlv.specs.declared.model.AddressRange.{AddressRange}
 use Rattle.tlv.specs.declared.model.FileIndex.{FileIndex}
 use Rattle.tlv.specs.Outcome.{Outcome, refused, done, _>>=_}
@@ -94,12 +95,12 @@ siteAt c e none = done none
 siteAt c e (some a) =
     cond (eqb (a .kind) 10) (refused 6)
     (cond (eqb (a .kind) 9 && contains (c .functionRange) (a .value))
-    (siteWithOrigin c e (a .value - c .functionRange .start) (attribute e 0x7f))
+    (siteWithOrigin c e (a .value - c .functionRange .start) (attribute e dwAtCallOrigin))
     (done none))
 
 -- make_call_site
 unfoldable pub makeCallSite : DetailContext → Entry → Outcome (Option CallSite)
-makeCallSite c e = siteAt c e (attribute e 0x7d)
+makeCallSite c e = siteAt c e (attribute e dwAtCallReturnPc)
 
 abbrev pub pushCallSite : Entry → Descendants → Option CallSite → Descendants
 pushCallSite e w none = w
@@ -128,7 +129,7 @@ callFileIf c e (some n) = callFileFrom c e n (get (c .fileIndices) n)
 
 -- the call's file; a missing one warns
 unfoldable pub callFileOf : DetailContext → Entry → Outcome CallFile
-callFileOf c e = callFileIf c e (fileIndexAttribute e 0x58)
+callFileOf c e = callFileIf c e (fileIndexAttribute e dwAtCallFile)
 
 pub record CallLine : Type 0 where
   pub line : ℕ
@@ -141,7 +142,7 @@ callLineIf c e (some n) = cond (ltb n (2 ^ 32)) (done (record { line = n; warnin
 
 -- the call's line; one past 32 bits warns
 unfoldable pub callLineOf : DetailContext → Entry → Outcome CallLine
-callLineOf c e = callLineIf c e (unsignedAttribute e 0x59)
+callLineOf c e = callLineIf c e (unsignedAttribute e dwAtCallLine)
 
 -- check_inline_depth: 14 where a kept node would be the 257th below the root
 abbrev pub inlineDepthLimit : ℕ
@@ -156,7 +157,8 @@ pushInline c e name (r ∷ rs) w =
     cond (ltb (length (w .inlineStack)) inlineDepthLimit)
     (done (record {
       inlineStack = record { dieDepth = e .depth; ranges = r ∷ rs } ∷ w .inlineStack;
-      inlines = w .inlines ++ (record { depth = suc (length (w .inlineStack)); callFile = file .file; callLine = line .line; name = name; ranges = r ∷ rs } ∷ []);
+      inlines =
+          w .inlines ++ (record { depth = suc (length (w .inlineStack)); callFile = file .file; callLine = line .line; name = name; ranges = r ∷ rs } ∷ []);
       callSiteStack = w .callSiteStack;
       callSites = w .callSites;
       warnings = w .warnings ++ (file .warnings ++ line .warnings);
@@ -180,10 +182,10 @@ makeInlineNode c e w = resolveName (c .dwarf) (c .unit) e >>= λ name.
 
 -- DW_TAG_call_site, DW_TAG_inlined_subroutine
 abbrev pub isCallSite : Entry → Bool
-isCallSite e = eqb (e .tag) 0x48
+isCallSite e = eqb (e .tag) dwTagCallSite
 
 abbrev pub isInlined : Entry → Bool
-isInlined e = eqb (e .tag) 0x1d
+isInlined e = eqb (e .tag) dwTagInlinedSubroutine
 
 unfoldable pub collectEntry : DetailContext → Entry → Descendants → Outcome Descendants
 collectEntry c e w =

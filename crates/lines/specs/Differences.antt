@@ -1,4 +1,5 @@
--- Where operands, instructions and paths are not the Standard's: each exception with an input and both answers. docs/DIFFERENCES.md tells them in words. Assumes nothing.
+-- Where operands, instructions and paths are not the Standard's: each exception with an input and both answers. docs/DIFFERENCES.md tells them in words.
+-- Assumes nothing.
 use Prim.Native.Nat.{ℕ, _-_, _^_}
 use mathlib.Core.Path.{_≡_}
 use mathlib.Core.Bool.{false}

@@ -48,7 +48,8 @@ abbrev pub closeSequence : List RawLine → ℕ → ℕ → Run → Run
 closeSequence opened end n run =
     record {
       lines = opened ++ run .lines;
-      sequences = cond (ltb (startOf opened) end) (record { range = record { start = startOf opened; end = end }; sequence = n } ∷ run .sequences) (run .sequences);
+      sequences =
+          cond (ltb (startOf opened) end) (record { range = record { start = startOf opened; end = end }; sequence = n } ∷ run .sequences) (run .sequences);
       count = run .count;
     }
 
@@ -92,7 +93,10 @@ withLine c l = record { table = c .table; indices = c .indices; lines = c .lines
 unfoldable pub convertLine : List ℕ → RawLine → FileIndex → Converted → Converted
 convertLine offsets r file c =
     cond (ltb (r .line) (2 ^ 32))
-    (withLine c (record { entry = record { address = r .address; file = file; line = r .line; column = r .column }; statementSequence = at offsets (r .sequence) }))
+    (withLine c (record {
+      entry = record { address = r .address; file = file; line = r .line; column = r .column };
+      statementSequence = at offsets (r .sequence);
+    }))
     (withWarning c (about unrepresentableLine (r .address) (r .line)))
 
 -- a file that was looked up for a row; one with no path drops the row silently

@@ -265,7 +265,9 @@ fn skip_standard(program: &[u8], lengths: &[u8], opcode: u8, at: usize) -> Skipp
 // Passes over the instruction at a place.
 pub fn skip_instruction(program: &[u8], lengths: &[u8], opcode_base: u8, at: usize) -> Skipped
     requires { ⌜ at < length (now program) ⌝ }
-    ensures { λ r. ⌜ Passes (now (program .entry)) (at + 1) r (skip (record { base = «opcode_base»; lengths = now (lengths .entry) }) (length (now (program .entry))) (getD (now (program .entry)) at 0) (drop (at + 1) (now (program .entry)))) ⌝ }
+    ensures { λ r. ⌜ Passes (now (program .entry)) (at + 1) r
+        (skip (record { base = «opcode_base»; lengths = now (lengths .entry) }) (length (now (program .entry))) (getD (now (program .entry)) at 0)
+        (drop (at + 1) (now (program .entry)))) ⌝ }
 {
     let opcode = program[at];
     let next = at + 1;
@@ -288,7 +290,8 @@ pub fn scan_line_sequence_offsets(
     base: usize,
 ) -> Scan
     requires { ⌜ base + length (now program) / 3 * 8 ≤ length (now work) ⌝ }
-    ensures { λ r. ⌜ Scanned (now (program .entry)) (now (work .entry)) (now (work .exit)) base r (scanLineSequenceOffsets (record { base = «opcode_base»; lengths = now (lengths .entry) }) «program_offset» (now (program .entry))) ⌝ }
+    ensures { λ r. ⌜ Scanned (now (program .entry)) (now (work .entry)) (now (work .exit)) base r
+        (scanLineSequenceOffsets (record { base = «opcode_base»; lengths = now (lengths .entry) }) «program_offset» (now (program .entry))) ⌝ }
 {
     let mut p: usize = 0;
     let mut n: usize = 0;
@@ -367,7 +370,8 @@ pub fn line_sequence_offsets(
     base: usize,
 ) -> Scan
     requires { ⌜ base + length (now program) / 3 * 8 ≤ length (now work) ⌝ }
-    ensures { λ r. ⌜ Scanned (now (program .entry)) (now (work .entry)) (now (work .exit)) base r (lineSequenceOffsets (headerWith header (now (lengths .entry))) (now (program .entry))) ⌝ }
+    ensures { λ r. ⌜ Scanned (now (program .entry)) (now (work .entry)) (now (work .exit)) base r
+        (lineSequenceOffsets (headerWith header (now (lengths .entry))) (now (program .entry))) ⌝ }
 {
     match program_offset(
         header.offset,

@@ -2,6 +2,12 @@
 use dwarf::model::Imported;
 use subprograms::model::ConversionStats;
 use tlv::fields::Step;
+use tlv::tags::TRAY_FILE_TAG;
+use tlv::tags::TRAY_FUNCTION_TAG;
+use tlv::tags::TRAY_NODE_TAG;
+use tlv::tags::TRAY_RANGE_TAG;
+use tlv::tags::TRAY_ROW_TAG;
+use tlv::tags::TRAY_SITE_TAG;
 
 // The longest sheet that is imported. Its buffer has a byte more, so that a longer file shows.
 const INPUT_LIMIT: usize = 16384;
@@ -146,22 +152,22 @@ fn write_warning(p: &[u8]) {
 // The line of a field of an output buffer.
 fn write_field(tag: u8, p: &[u8], number: u64) {
     match tag {
-        0x40 => {
+        TRAY_FILE_TAG => {
             write_file(p, number);
         }
-        0x41 => {
+        TRAY_FUNCTION_TAG => {
             write_function(p);
         }
-        0x42 => {
+        TRAY_ROW_TAG => {
             write_row(p);
         }
-        0x43 => {
+        TRAY_NODE_TAG => {
             write_inline(p);
         }
-        0x44 => {
+        TRAY_RANGE_TAG => {
             write_range(p);
         }
-        0x45 => {
+        TRAY_SITE_TAG => {
             write_site(p);
         }
         _ => {

@@ -6,6 +6,7 @@ use mathlib.Core.Logic.{_↔_, _≢_}
 use mathlib.Core.Bool.{true}
 use mathlib.Core.List.{List, [], _∷_, _++_, map}
 use lib.ListN.{length}
+use Rattle.tlv.specs.Tags.{trayFunctionTag, trayNodeTag, trayRangeTag, trayRowTag, traySiteTag}
 use Rattle.tlv.specs.Lists.{All}
 use Rattle.tlv.specs.Bytes.{leAt}
 use Rattle.tlv.specs.Fields.{Field, FieldList, end, more, fields}
@@ -32,12 +33,13 @@ tagged t (p ∷ ps) = record { tag = t; payload = p } ∷ tagged t ps
 
 abbrev pub nodesFields : List NodeParts → List Field
 nodesFields [] = []
-nodesFields (n ∷ ns) = record { tag = 0x43; payload = n .head } ∷ (tagged 0x44 (n .ranges) ++ nodesFields ns)
+nodesFields (n ∷ ns) = record { tag = trayNodeTag; payload = n .head } ∷ (tagged trayRangeTag (n .ranges) ++ nodesFields ns)
 
 abbrev pub trayFields : List FunctionParts → List Field
 trayFields [] = []
 trayFields (f ∷ fs) =
-    record { tag = 0x41; payload = f .head } ∷ (tagged 0x42 (f .rows) ++ (nodesFields (f .nodes) ++ (tagged 0x45 (f .sites) ++ trayFields fs)))
+    record { tag = trayFunctionTag; payload = f .head }
+    ∷ (tagged trayRowTag (f .rows) ++ (nodesFields (f .nodes) ++ (tagged traySiteTag (f .sites) ++ trayFields fs)))
 
 -- these fields, and then the tray's end: none is cut off
 abbrev pub ended : List Field → FieldList

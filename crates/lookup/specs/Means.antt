@@ -6,6 +6,7 @@ use mathlib.Core.Bool.{true, cond}
 use mathlib.Core.List.{List, [], _∷_, map}
 use mathlib.Core.Option.{Option, none, some}
 use lib.ListN.{length, take, drop, getD}
+use Rattle.tlv.specs.Tags.{trayRowTag}
 use Rattle.tlv.specs.declared.model.AddressRange.{AddressRange}
 use Rattle.tlv.specs.Addresses.{RangeHolds, Nonempty}
 use Rattle.tlv.specs.Outcome.{done}
@@ -48,7 +49,7 @@ HoldingIs a fs (some f) = FirstHolding a fs f
 
 -- a row at or below the address
 abbrev pub RowBelow : ℕ → FieldAt → Type 0
-RowBelow a x = (x .field .tag ≡ 0x42) × (lineOf (x .field .payload) .address ≤ a)
+RowBelow a x = (x .field .tag ≡ trayRowTag) × (lineOf (x .field .payload) .address ≤ a)
 
 -- the row at place p is "its last row in the tray at or below it", of the function's own fields
 pub record LastRow (a : ℕ) (own : List FieldAt) (p : ℕ) : Type 0 where

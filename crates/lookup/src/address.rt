@@ -9,11 +9,7 @@ ghost use Rattle.lookup.specs.Answers.{rowPlace, LooksUp};
 use crate::form::check_records;
 use crate::model::CHAIN_MOST;
 use crate::model::Chain;
-use crate::model::FUNCTION_TAG;
 use crate::model::LookedUp;
-use crate::model::NODE_TAG;
-use crate::model::RANGE_TAG;
-use crate::model::ROW_TAG;
 use crate::model::Refusal;
 use crate::model::Row;
 use crate::model::Running;
@@ -21,6 +17,10 @@ use tlv::bytes::read_u16;
 use tlv::bytes::read_u64;
 use tlv::fields::Step;
 use tlv::fields::field_at;
+use tlv::tags::TRAY_FUNCTION_TAG;
+use tlv::tags::TRAY_NODE_TAG;
+use tlv::tags::TRAY_RANGE_TAG;
+use tlv::tags::TRAY_ROW_TAG;
 
 // Whether the range that a payload begins with holds the address.
 fn holds_at(s: &[u8], start: usize, len: usize, address: u64) -> bool
@@ -59,7 +59,7 @@ pub fn function_at(s: &[u8], address: u64) -> FunctionPlace
                 len,
                 next,
             } => {
-                if tag == FUNCTION_TAG {
+                if tag == TRAY_FUNCTION_TAG {
                     if holds_at(s, start, len, address) {
                         return FunctionPlace::At {
                             place: p,
@@ -96,10 +96,10 @@ pub fn row_in_force(s: &[u8], own: usize, address: u64) -> Row
                 len: _,
                 next,
             } => {
-                if tag == FUNCTION_TAG {
+                if tag == TRAY_FUNCTION_TAG {
                     return row;
                 }
-                if tag == ROW_TAG {
+                if tag == TRAY_ROW_TAG {
                     if read_u64(s, start) <= address {
                         row = Row::At(p);
                         p = next;
@@ -134,13 +134,13 @@ fn node_holds(s: &[u8], own: usize, address: u64) -> bool
                 len,
                 next,
             } => {
-                if tag == FUNCTION_TAG {
+                if tag == TRAY_FUNCTION_TAG {
                     return false;
                 }
-                if tag == NODE_TAG {
+                if tag == TRAY_NODE_TAG {
                     return false;
                 }
-                if tag == RANGE_TAG {
+                if tag == TRAY_RANGE_TAG {
                     if holds_at(s, start, len, address) {
                         return true;
                     }
@@ -181,13 +181,13 @@ pub fn chain_at(s: &[u8], own: usize, address: u64) -> Chain
                 len: _,
                 next,
             } => {
-                if tag == FUNCTION_TAG {
+                if tag == TRAY_FUNCTION_TAG {
                     return Chain {
                         places: places,
                         nodes: n,
                     };
                 }
-                if tag == NODE_TAG {
+                if tag == TRAY_NODE_TAG {
                     let depth = read_u16(s, start) as usize;
                     if depth < n {
                         return Chain {

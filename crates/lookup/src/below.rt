@@ -7,12 +7,12 @@ ghost use Rattle.lookup.specs.Lookup.{nearestBelow};
 ghost use Rattle.lookup.specs.Walk.{Stands, NearestFound};
 ghost use Rattle.lookup.specs.Answers.{nearestGiven};
 use crate::form::check_records;
-use crate::model::FUNCTION_TAG;
 use crate::model::Nearest;
 use crate::model::Refusal;
 use tlv::bytes::read_u64;
 use tlv::fields::Step;
 use tlv::fields::field_at;
+use tlv::tags::TRAY_FUNCTION_TAG;
 
 // Where the range that a payload begins with ends.
 fn end_at(s: &[u8], start: usize, len: usize) -> u64
@@ -45,7 +45,7 @@ fn ending_below(s: &[u8], address: u64) -> Nearest
                 len,
                 next,
             } => {
-                if tag == FUNCTION_TAG {
+                if tag == TRAY_FUNCTION_TAG {
                     let end = end_at(s, start, len);
                     if end <= address {
                         if latest < end {

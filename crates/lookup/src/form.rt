@@ -4,43 +4,47 @@ ghost use mathlib.Core.Bool.{true};
 ghost use Prim.Native.Nat.{_+_, _≤_};
 ghost use lib.Dec.{eqb};
 ghost use lib.ListN.{length, take, drop};
+ghost use Rattle.tlv.specs.Tags.{trayFunctionTag, trayNodeTag, trayRangeTag};
 ghost use Rattle.tlv.specs.Lists.{exists};
 ghost use Rattle.tlv.specs.Fields.{fields};
 ghost use Rattle.tlv.specs.Checked.{fieldIn};
 ghost use Rattle.tlv.specs.Reader.{recordsAfter, rangeFormed, recordsFormed, depthAfter, recordsForm};
 use crate::model::DEEPEST;
 use crate::model::FUNCTION_SIZE;
-use crate::model::FUNCTION_TAG;
 use crate::model::NODE_SIZE;
-use crate::model::NODE_TAG;
 use crate::model::RANGE_SIZE;
-use crate::model::RANGE_TAG;
 use crate::model::ROW_SIZE;
-use crate::model::ROW_TAG;
 use crate::model::SITE_SIZE;
-use crate::model::SITE_TAG;
 use tlv::bytes::read_u16;
 use tlv::bytes::read_u64;
 use tlv::fields::Step;
 use tlv::fields::field_at;
+use tlv::tags::TRAY_FUNCTION_TAG;
+use tlv::tags::TRAY_NODE_TAG;
+use tlv::tags::TRAY_RANGE_TAG;
+use tlv::tags::TRAY_ROW_TAG;
+use tlv::tags::TRAY_SITE_TAG;
 
 // Whether a field of a tag may stand after one of the tag `previous`.
 pub fn may_follow(previous: u8, tag: u8) -> bool
     ensures { λ r. ⌜ r ≡ exists (eqb tag) (recordsAfter previous) ⌝ }
 {
     match previous {
-        FUNCTION_TAG => (tag == FUNCTION_TAG)
-            | (tag == ROW_TAG)
-            | (tag == NODE_TAG)
-            | (tag == SITE_TAG),
-        ROW_TAG => (tag == FUNCTION_TAG) | (tag == ROW_TAG) | (tag == NODE_TAG) | (tag == SITE_TAG),
-        NODE_TAG => tag == RANGE_TAG,
-        RANGE_TAG => (tag == FUNCTION_TAG)
-            | (tag == NODE_TAG)
-            | (tag == RANGE_TAG)
-            | (tag == SITE_TAG),
-        SITE_TAG => (tag == FUNCTION_TAG) | (tag == SITE_TAG),
-        _ => tag == FUNCTION_TAG,
+        TRAY_FUNCTION_TAG => (tag == TRAY_FUNCTION_TAG)
+            | (tag == TRAY_ROW_TAG)
+            | (tag == TRAY_NODE_TAG)
+            | (tag == TRAY_SITE_TAG),
+        TRAY_ROW_TAG => (tag == TRAY_FUNCTION_TAG)
+            | (tag == TRAY_ROW_TAG)
+            | (tag == TRAY_NODE_TAG)
+            | (tag == TRAY_SITE_TAG),
+        TRAY_NODE_TAG => tag == TRAY_RANGE_TAG,
+        TRAY_RANGE_TAG => (tag == TRAY_FUNCTION_TAG)
+            | (tag == TRAY_NODE_TAG)
+            | (tag == TRAY_RANGE_TAG)
+            | (tag == TRAY_SITE_TAG),
+        TRAY_SITE_TAG => (tag == TRAY_FUNCTION_TAG) | (tag == TRAY_SITE_TAG),
+        _ => tag == TRAY_FUNCTION_TAG,
     }
 }
 
@@ -57,7 +61,7 @@ fn range_formed(s: &[u8], start: usize, len: usize) -> bool
 
 pub fn function_formed(s: &[u8], start: usize, len: usize) -> bool
     requires { ⌜ start + len ≤ length (now s) ⌝ }
-    ensures { λ r. ⌜ r ≡ recordsFormed 0 0x41 (take len (drop start (now (s .entry)))) ⌝ }
+    ensures { λ r. ⌜ r ≡ recordsFormed 0 trayFunctionTag (take len (drop start (now (s .entry)))) ⌝ }
 {
     if len < FUNCTION_SIZE {
         return false;
@@ -67,7 +71,7 @@ pub fn function_formed(s: &[u8], start: usize, len: usize) -> bool
 
 fn node_formed(depth: u64, s: &[u8], start: usize, len: usize) -> bool
     requires { ⌜ start + len ≤ length (now s) ⌝ }
-    ensures { λ r. ⌜ r ≡ recordsFormed depth 0x43 (take len (drop start (now (s .entry)))) ⌝ }
+    ensures { λ r. ⌜ r ≡ recordsFormed depth trayNodeTag (take len (drop start (now (s .entry)))) ⌝ }
 {
     if len < NODE_SIZE {
         return false;
@@ -78,7 +82,7 @@ fn node_formed(depth: u64, s: &[u8], start: usize, len: usize) -> bool
 
 fn range_field_formed(s: &[u8], start: usize, len: usize) -> bool
     requires { ⌜ start + len ≤ length (now s) ⌝ }
-    ensures { λ r. ⌜ r ≡ recordsFormed 0 0x44 (take len (drop start (now (s .entry)))) ⌝ }
+    ensures { λ r. ⌜ r ≡ recordsFormed 0 trayRangeTag (take len (drop start (now (s .entry)))) ⌝ }
 {
     if len != RANGE_SIZE {
         return false;
@@ -92,11 +96,11 @@ pub fn payload_formed(depth: u64, tag: u8, s: &[u8], start: usize, len: usize) -
     ensures { λ r. ⌜ r ≡ recordsFormed depth tag (take len (drop start (now (s .entry)))) ⌝ }
 {
     match tag {
-        FUNCTION_TAG => function_formed(s, start, len),
-        ROW_TAG => len == ROW_SIZE,
-        NODE_TAG => node_formed(depth, s, start, len),
-        RANGE_TAG => range_field_formed(s, start, len),
-        SITE_TAG => SITE_SIZE <= len,
+        TRAY_FUNCTION_TAG => function_formed(s, start, len),
+        TRAY_ROW_TAG => len == ROW_SIZE,
+        TRAY_NODE_TAG => node_formed(depth, s, start, len),
+        TRAY_RANGE_TAG => range_field_formed(s, start, len),
+        TRAY_SITE_TAG => SITE_SIZE <= len,
         _ => false,
     }
 }
@@ -108,8 +112,8 @@ pub fn depth_after(depth: u64, tag: u8, s: &[u8], start: usize, len: usize) -> u
     ensures { λ r. ⌜ r ≡ depthAfter depth (fieldIn (now (s .entry)) tag start len) ⌝ }
 {
     match tag {
-        FUNCTION_TAG => 0,
-        NODE_TAG => read_u16(s, start) as u64 + 1,
+        TRAY_FUNCTION_TAG => 0,
+        TRAY_NODE_TAG => read_u16(s, start) as u64 + 1,
         _ => depth,
     }
 }
@@ -124,7 +128,7 @@ pub fn check_records(s: &[u8]) -> bool
     loop {
         match field_at(s, p) {
             Step::End => {
-                return previous != NODE_TAG;
+                return previous != TRAY_NODE_TAG;
             }
             Step::Cut => {
                 return false;

@@ -4,6 +4,7 @@ ghost use mathlib.Core.Path.{_≡_};
 ghost use mathlib.Core.Bool.{true, false};
 ghost use Prim.Native.Nat.{_+_, _*_, _≤_};
 ghost use lib.ListN.{length, drop};
+ghost use Rattle.tlv.specs.Tags.{trayFunctionTag};
 ghost use Rattle.tlv.specs.Fields.{fields};
 ghost use Rattle.tlv.specs.Reader.{recordsForm};
 ghost use Rattle.lookup.specs.Tray.{upToNext};
@@ -17,14 +18,14 @@ use crate::form::may_follow;
 use crate::form::payload_formed;
 use crate::index::EXTENT_SIZE;
 use crate::index::extent_at;
-use crate::model::FUNCTION_TAG;
 use crate::model::LookedUp;
-use crate::model::NODE_TAG;
 use crate::model::Refusal;
 use crate::model::Running;
 use tlv::bytes::read_u64;
 use tlv::fields::Step;
 use tlv::fields::field_at;
+use tlv::tags::TRAY_FUNCTION_TAG;
+use tlv::tags::TRAY_NODE_TAG;
 
 // The number of an extent.
 pub enum Choice {
@@ -98,15 +99,15 @@ fn choose(index: &[u8], n: usize, rising: bool, address: u64) -> Choice
 
 // Whether the fields from `own` to the next function are in document 01's form, behind a function's own.
 fn own_formed(s: &[u8], own: usize) -> bool
-    ensures { λ r. ⌜ r ≡ recordsForm 0x41 0 (upToNext (fields (drop own (now (s .entry))))) ⌝ }
+    ensures { λ r. ⌜ r ≡ recordsForm trayFunctionTag 0 (upToNext (fields (drop own (now (s .entry))))) ⌝ }
 {
     let mut p = own;
-    let mut previous: u8 = FUNCTION_TAG;
+    let mut previous: u8 = TRAY_FUNCTION_TAG;
     let mut depth: u64 = 0;
     loop {
         match field_at(s, p) {
             Step::End => {
-                return previous != NODE_TAG;
+                return previous != TRAY_NODE_TAG;
             }
             Step::Cut => {
                 return false;
@@ -117,8 +118,8 @@ fn own_formed(s: &[u8], own: usize) -> bool
                 len,
                 next,
             } => {
-                if tag == FUNCTION_TAG {
-                    return previous != NODE_TAG;
+                if tag == TRAY_FUNCTION_TAG {
+                    return previous != TRAY_NODE_TAG;
                 }
                 if !may_follow(previous, tag) {
                     return false;
@@ -152,7 +153,7 @@ fn check_function(s: &[u8], place: usize) -> Here
             len,
             next,
         } => {
-            if tag != FUNCTION_TAG {
+            if tag != TRAY_FUNCTION_TAG {
                 return Here::Misshapen;
             }
             if !function_formed(s, start, len) {

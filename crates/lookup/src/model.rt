@@ -2,18 +2,7 @@
 ghost use mathlib.Core.Path.{_≡_};
 ghost use Rattle.lookup.specs.Answers.{refusalNumber};
 
-// The tags of its fields.
-pub const FUNCTION_TAG: u8 = 0x41;
-
-pub const ROW_TAG: u8 = 0x42;
-
-pub const NODE_TAG: u8 = 0x43;
-
-pub const RANGE_TAG: u8 = 0x44;
-
-pub const SITE_TAG: u8 = 0x45;
-
-// How long their payloads are: a row's and a range's just so, the others' at the least, since a name or a pattern follows.
+// How long the payloads of a tray's fields are: a row's and a range's just so, the others' at the least, since a name or a pattern follows.
 pub const FUNCTION_SIZE: usize = 16;
 
 pub const ROW_SIZE: usize = tlv::output::TRAY_ROW as usize;

@@ -10,13 +10,13 @@ ghost use Rattle.lookup.specs.Walk.{Stands};
 ghost use Rattle.lookup.specs.Answers.{listGiven};
 ghost use Rattle.lookup.specs.Listing.{passing, wantedBytes, LaidPart, Cleared};
 use crate::form::check_records;
-use crate::model::FUNCTION_TAG;
 use crate::model::Listed;
 use crate::model::Refusal;
 use tlv::bytes::read_u64;
 use tlv::fields::Step;
 use tlv::fields::field_at;
 use tlv::model::AddressRange;
+use tlv::tags::TRAY_FUNCTION_TAG;
 
 // Which functions are listed.
 pub enum Wanted {
@@ -105,7 +105,7 @@ fn put_functions(s: &[u8], wanted: Wanted, w: AddressRange, list: &mut [u8]) -> 
                 len,
                 next,
             } => {
-                if tag == FUNCTION_TAG {
+                if tag == TRAY_FUNCTION_TAG {
                     let r = range_of(s, start, len);
                     if is_wanted(wanted, w, r) {
                         at = put_part(s, p, next, list, at);

@@ -59,7 +59,9 @@ pub extern "C" fn pezgok_import<'a>(
     warnings: &mut [u8],
     values: &mut [u64; 7],
 ) -> u8
-    ensures { λ r. ⌜ Exports (inputsOf (now (main .entry)) (now (supplementary .entry)) (now (program .entry)) ordinal inlines «call_sites» «first_file» (now (work .entry)) (now (records .entry)) (now (files .entry)) (now (warnings .entry))) (now (work .exit)) (now (records .exit)) (now (files .exit)) (now (warnings .exit)) (now (values .exit)) r ⌝ }
+    ensures { λ r. ⌜ Exports (inputsOf (now (main .entry)) (now (supplementary .entry)) (now (program .entry)) ordinal inlines «call_sites» «first_file»
+        (now (work .entry)) (now (records .entry)) (now (files .entry)) (now (warnings .entry))) (now (work .exit)) (now (records .exit)) (now (files .exit))
+        (now (warnings .exit)) (now (values .exit)) r ⌝ }
 {
     let answer = dwarf::import::import_unit(
         main,
@@ -90,7 +92,8 @@ pub extern "C" fn pezgok_measure<'a>(
     work: &mut [u8],
     values: &mut [u64; 7],
 ) -> u8
-    ensures { λ r. ⌜ ExportsMeasure (inputsOf (now (main .entry)) (now (supplementary .entry)) (now (program .entry)) ordinal inlines «call_sites» «first_file» (now (work .entry)) [] [] []) (now (work .exit)) (now (values .exit)) r ⌝ }
+    ensures { λ r. ⌜ ExportsMeasure (inputsOf (now (main .entry)) (now (supplementary .entry)) (now (program .entry)) ordinal inlines «call_sites»
+        «first_file» (now (work .entry)) [] [] []) (now (work .exit)) (now (values .exit)) r ⌝ }
 {
     let answer = dwarf::import::measure_unit(
         main,

@@ -105,7 +105,8 @@ pub extern "C" fn pezgok_functions_inside(
     list: &mut [u8],
     length: &mut usize,
 ) -> u8
-    ensures { λ r. ⌜ listIn r (now (length .exit)) (now (list .exit)) ≡ functionsInside (now (records .entry)) (record { start = start; end = end }) (now (list .entry)) ⌝ }
+    ensures { λ r. ⌜ listIn r (now (length .exit)) (now (list .exit))
+        ≡ functionsInside (now (records .entry)) (record { start = start; end = end }) (now (list .entry)) ⌝ }
 {
     let answer = lookup::window::functions_inside(records, start, end, list);
     tell_list(answer, length)
@@ -120,7 +121,8 @@ pub extern "C" fn pezgok_functions_crossing(
     list: &mut [u8],
     length: &mut usize,
 ) -> u8
-    ensures { λ r. ⌜ listIn r (now (length .exit)) (now (list .exit)) ≡ functionsCrossing (now (records .entry)) (record { start = start; end = end }) (now (list .entry)) ⌝ }
+    ensures { λ r. ⌜ listIn r (now (length .exit)) (now (list .exit))
+        ≡ functionsCrossing (now (records .entry)) (record { start = start; end = end }) (now (list .entry)) ⌝ }
 {
     let answer = lookup::window::functions_crossing(records, start, end, list);
     tell_list(answer, length)

@@ -43,7 +43,8 @@ ReachedUnit u (some h) t = Reached u h t
 unfoldable pub indicesAt : List ℕ → List ℕ → List ℕ → Places → DeclaringState → DebugSource → ℕ → Bool → FileIndices
 indicesAt main supplementary w d st input q reached =
     cond reached
-    (reachedFiles (unitHere (sourceIn main supplementary input) q) (unitHere (sourceIn main supplementary input) q .header) (tableOf main supplementary w (st .table)))
+    (reachedFiles (unitHere (sourceIn main supplementary input) q) (unitHere (sourceIn main supplementary input) q .header)
+    (tableOf main supplementary w (st .table)))
     (indicesIn w (d .indices))
 
 -- the search's state in w, with the warnings so far and the number of entries that it has read
@@ -67,8 +68,10 @@ pub record DeclaringIn (main supplementary w : List ℕ) (d : Places) (st : Decl
   pub main-entries : d .spans + d .room ≤ d .tables .main .entries
   pub supplementary-units : d .spans + d .room ≤ d .tables .supplementary .units
   pub supplementary-entries : d .spans + d .room ≤ d .tables .supplementary .entries
-  pub room-main : (q : ℕ) → Any (λ p. p ≡ q) (unitPlaces 0 (fields main)) → 8 * length (unitHere main q .directories) + 5 * (1 + length (unitHere main q .files)) ≤ d .room
-  pub room-supplementary : (q : ℕ) → Any (λ p. p ≡ q) (unitPlaces 0 (fields supplementary)) → 8 * length (unitHere supplementary q .directories) + 5 * (1 + length (unitHere supplementary q .files)) ≤ d .room
+  pub room-main : (q : ℕ) → Any (λ p. p ≡ q) (unitPlaces 0 (fields main))
+      → 8 * length (unitHere main q .directories) + 5 * (1 + length (unitHere main q .files)) ≤ d .room
+  pub room-supplementary : (q : ℕ) → Any (λ p. p ≡ q) (unitPlaces 0 (fields supplementary))
+      → 8 * length (unitHere supplementary q .directories) + 5 * (1 + length (unitHere supplementary q .files)) ≤ d .room
 
 -- what an answer says of the definition's outcome, from any warnings and any number of reads
 abbrev pub DeclaredAs : List ℕ → List ℕ → List ℕ → Places → List Warning → ℕ → List Warning → Outcome Declaring → Declared → Type 0
@@ -78,15 +81,18 @@ DeclaredAs main supplementary w′ d ws reads new o (Declared.Found st′ file l
     o ≡ done (withFound (declaringAt main supplementary w′ d st′ (ws ++ new) reads) (some (record { address = 0; file = file; line = line; column = 0 })))
 
 -- the state after, its new files and warnings written
-pub record DeclaredState (main supplementary w w′ files files′ warnings warnings′ : List ℕ) (d : Places) (st st′ : DeclaringState) (new : List Warning) : Type 0 where
+pub record DeclaredState (main supplementary w w′ files files′ warnings warnings′ : List ℕ) (d : Places) (st st′ : DeclaringState) (new : List Warning)
+    : Type 0 where
   pub grown : Grown main supplementary w w′ files files′ (st .table) (st′ .table)
   pub put : Put (st .warned) (warningsBytes new) warnings warnings′ (st′ .warned)
   pub ready : DeclaringIn main supplementary w′ d st′
 
 abbrev pub DeclaredAfter : List ℕ → List ℕ → List ℕ → List ℕ → List ℕ → List ℕ → List ℕ → List ℕ → Places → DeclaringState → List Warning → Declared → Type 0
 DeclaredAfter main supplementary w w′ files files′ warnings warnings′ d st new (Declared.Refused n) = Unit
-DeclaredAfter main supplementary w w′ files files′ warnings warnings′ d st new (Declared.Missing st′) = DeclaredState main supplementary w w′ files files′ warnings warnings′ d st st′ new
-DeclaredAfter main supplementary w w′ files files′ warnings warnings′ d st new (Declared.Found st′ file line) = DeclaredState main supplementary w w′ files files′ warnings warnings′ d st st′ new
+DeclaredAfter main supplementary w w′ files files′ warnings warnings′ d st new (Declared.Missing st′) =
+    DeclaredState main supplementary w w′ files files′ warnings warnings′ d st st′ new
+DeclaredAfter main supplementary w w′ files files′ warnings warnings′ d st new (Declared.Found st′ file line) =
+    DeclaredState main supplementary w w′ files files′ warnings warnings′ d st st′ new
 
 -- what a search writes: the file table, a unit's directories and map, and its targets
 abbrev pub lower : Places → StoredFiles → List (ℕ × ℕ)
@@ -96,7 +102,8 @@ abbrev pub searched : List ℕ → List ℕ → Places → StoredFiles → List 
 searched main supplementary d t = (t .base, extent t) ∷ (d .spans, d .room) ∷ (d .tables .keys, keysExtent main supplementary (d .tables)) ∷ []
 
 -- a search f from the state st has answered r
-pub record Declares (f : Declaring → Outcome Declaring) (main supplementary w w′ files files′ warnings warnings′ : List ℕ) (d : Places) (st : DeclaringState) (r : Declared) : Type 0 where
+pub record Declares (f : Declaring → Outcome Declaring) (main supplementary w w′ files files′ warnings warnings′ : List ℕ) (d : Places) (st : DeclaringState)
+    (r : Declared) : Type 0 where
   pub reads : ℕ → ℕ
   pub new : List Warning
   pub is : (k : ℕ) (ws : List Warning) → DeclaredAs main supplementary w′ d ws (reads k) new (f (declaringAt main supplementary w d st ws k)) r
@@ -107,9 +114,14 @@ pub record Declares (f : Declaring → Outcome Declaring) (main supplementary w 
 
 abbrev pub CountedAs : List ℕ → List ℕ → List ℕ → Places → List Warning → ℕ → List Warning → Counted Declaring → Declared → Type 0
 CountedAs main supplementary w′ d ws n new c (Declared.Refused k) = c ≡ record { reads = n; outcome = refused k }
-CountedAs main supplementary w′ d ws n new c (Declared.Missing st′) = c ≡ record { reads = n; outcome = done (declaringAt main supplementary w′ d st′ (ws ++ new) n) }
+CountedAs main supplementary w′ d ws n new c (Declared.Missing st′) =
+    c ≡ record { reads = n; outcome = done (declaringAt main supplementary w′ d st′ (ws ++ new) n) }
 CountedAs main supplementary w′ d ws n new c (Declared.Found st′ file line) =
-    c ≡ record { reads = n; outcome = done (withFound (declaringAt main supplementary w′ d st′ (ws ++ new) n) (some (record { address = 0; file = file; line = line; column = 0 }))) }
+    c ≡ record {
+      reads = n;
+      outcome = done (withFound (declaringAt main supplementary w′ d st′ (ws ++ new) n)
+          (some (record { address = 0; file = file; line = line; column = 0 })));
+    }
 
 -- where the search goes on, it has read no more entries than it followed targets, and its start
 abbrev pub FewRead : ℕ → Declared → Type 0
@@ -118,7 +130,8 @@ FewRead b (Declared.Missing st′) = b ≤ st′ .count + 1
 FewRead b (Declared.Found st′ file line) = Unit
 
 -- a search f from the state st, a entries read, has answered r, b entries read
-pub record DeclaresCounted (f : Declaring → Counted Declaring) (main supplementary w w′ files files′ warnings warnings′ : List ℕ) (d : Places) (st : DeclaringState) (a b : ℕ) (r : Declared) : Type 0 where
+pub record DeclaresCounted (f : Declaring → Counted Declaring) (main supplementary w w′ files files′ warnings warnings′ : List ℕ) (d : Places)
+    (st : DeclaringState) (a b : ℕ) (r : Declared) : Type 0 where
   pub reads : ℕ → ℕ
   pub adds : (k : ℕ) → reads k + a ≡ k + b
   pub few : FewRead b r
@@ -129,13 +142,16 @@ pub record DeclaresCounted (f : Declaring → Counted Declaring) (main supplemen
 
 -- the count of the search from the entry at place p of the unit at place q; which warnings there were before decides nothing
 pub record LineRead (main supplementary w : List ℕ) (d : Places) (st : DeclaringState) (q p n : ℕ) : Type 0 where
-  pub is : (ws : List Warning) → n ≡ declarationReads (dwarfOf main supplementary) (unitHere main q) (entryHere main p) (indicesIn w (d .indices)) (tableOf main supplementary w (st .table)) ws
+  pub is : (ws : List Warning) → n
+      ≡ declarationReads (dwarfOf main supplementary) (unitHere main q) (entryHere main p) (indicesIn w (d .indices))
+      (tableOf main supplementary w (st .table)) ws
   pub within : ReadsWithin (dwarfOf main supplementary) n
 
 -- the files of a unit that was reached by section offset are in the table
 pub record Reaching (main supplementary w : List ℕ) (st : DeclaringState) (at : EntryAt) (reached : Bool) : Type 0 where
   pub unit : reached ≡ true
-      → ReachedUnit (unitHere (sourceIn main supplementary (at .input)) (at .unit)) (unitHere (sourceIn main supplementary (at .input)) (at .unit) .header) (tableOf main supplementary w (st .table))
+      → ReachedUnit (unitHere (sourceIn main supplementary (at .input)) (at .unit)) (unitHere (sourceIn main supplementary (at .input)) (at .unit) .header)
+      (tableOf main supplementary w (st .table))
 
 -- ---- the members of the cycle
 

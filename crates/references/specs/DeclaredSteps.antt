@@ -1,9 +1,11 @@
--- What the steps of the declaration search promise: an entry's own declaration, a unit's files that join the table, an offset that is followed. Assumes nothing.
+-- What the steps of the declaration search promise: an entry's own declaration, a unit's files that join the table, an offset that is followed. Assumes
+-- nothing.
 use Prim.Native.Nat.{ℕ, _+_, _≤_, _<_}
 use mathlib.Core.Path.{_≡_}
 use mathlib.Core.Bool.{false}
 use mathlib.Core.List.{List, [], _∷_, _++_}
 use lib.ListN.{length}
+use Rattle.tlv.specs.Tags.{trayWarningTag}
 use Rattle.tlv.specs.Outcome.{Outcome, refused, done}
 use Rattle.tlv.specs.Lists.{Any, exists}
 use Rattle.tlv.specs.Bytes.{bytesOf}
@@ -29,7 +31,8 @@ use Rattle.references.specs.declared.attributes.Number.{Number}
 use Rattle.references.specs.declared.declarations.OwnLine.{OwnLine}
 use Rattle.references.specs.declared.declarations.Joined.{Joined}
 use Rattle.references.specs.declared.declarations.Aim.{Aim}
-use Rattle.references.specs.Search.{Trail, sameKey, visit, visitEntry, Followed, byOffset, nothing, followAbsolute, followedNothing, absoluteEntryOffset, Declaring, declarationOf, ownDeclaration, unitFiles}
+use Rattle.references.specs.Search.{Trail, sameKey, visit, visitEntry, Followed, byOffset, nothing, followAbsolute, followedNothing}
+use Rattle.references.specs.Search.{absoluteEntryOffset, Declaring, declarationOf, ownDeclaration, unitFiles}
 use Rattle.references.specs.Keys.{keysAt, keyIn, keysFrom}
 use Rattle.references.specs.Names.{dwarfOf, searchSource, placeAt, trailAt, Stands}
 use Rattle.references.specs.Declarations.{reachedFiles, ReachedUnit, lower, DeclaresCounted}
@@ -64,7 +67,7 @@ pub record Numbered (main supplementary w w′ : List ℕ) (d : Places) (st : De
 pub record WarnedOf (s : List ℕ) (q p kind number : ℕ) (warnings warnings′ : List ℕ) (st st′ : DeclaringState) : Type 0 where
   pub offset : ℕ
   pub is : absoluteEntryOffset (unitHere s q) (entryHere s p .offset) ≡ done offset
-  pub put : Put (st .warned) (encode 0x46 ((kind ∷ []) ++ bytesOf 8 offset ++ bytesOf 8 number)) warnings warnings′ (st′ .warned)
+  pub put : Put (st .warned) (encode trayWarningTag ((kind ∷ []) ++ bytesOf 8 offset ++ bytesOf 8 number)) warnings warnings′ (st′ .warned)
   pub count : st′ .count ≡ st .count
   pub table : st′ .table ≡ st .table
 
@@ -78,7 +81,8 @@ pub record Warns (s : List ℕ) (q p kind number : ℕ) (warnings warnings′ : 
 
 -- ---- an entry's own declaration: it adds no files
 
-pub record Owns (f : Declaring → Outcome Declaring) (main supplementary w w′ warnings warnings′ : List ℕ) (d : Places) (st : DeclaringState) (r : Declared) : Type 0 where
+pub record Owns (f : Declaring → Outcome Declaring) (main supplementary w w′ warnings warnings′ : List ℕ) (d : Places) (st : DeclaringState) (r : Declared)
+    : Type 0 where
   pub declares : (files : List ℕ) → length files < top → (a : ℕ) → a ≤ st .count + 1
       → DeclaresCounted (λ s. after (s .trail) (f s)) main supplementary w w′ files files warnings warnings′ d st a a r
 
@@ -125,7 +129,8 @@ pub record AimEntry (main supplementary w : List ℕ) (x : Tables) (n : ℕ) (at
   pub depth : next .depth ≡ at .depth
 
 abbrev pub AimIs : List ℕ → List ℕ → List ℕ → Tables → ℕ → OffsetAt → Aim → Type 0
-AimIs main supplementary w x n at Aim.Seen = (k : ℕ) → followOffset main supplementary at (trailAt w (keysFrom x) n k) ≡ followedNothing (trailAt w (keysFrom x) n k)
+AimIs main supplementary w x n at Aim.Seen =
+    (k : ℕ) → followOffset main supplementary at (trailAt w (keysFrom x) n k) ≡ followedNothing (trailAt w (keysFrom x) n k)
 AimIs main supplementary w x n at (Aim.Refused m) = (k : ℕ) → followOffset main supplementary at (trailAt w (keysFrom x) n k) ≡ refused m
 AimIs main supplementary w x n at Aim.Outside = AimOutside main supplementary w x n at
 AimIs main supplementary w x n at (Aim.Entry next) = AimEntry main supplementary w x n at next

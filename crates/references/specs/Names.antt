@@ -19,7 +19,8 @@ use Rattle.references.specs.declared.names.EntryAt.{EntryAt}
 use Rattle.references.specs.declared.names.OffsetAt.{OffsetAt}
 use Rattle.references.specs.declared.names.Way.{Way}
 use Rattle.references.specs.declared.names.FoundName.{FoundName}
-use Rattle.references.specs.Search.{Dwarf, mainSource, supplementarySource, Place, Trail, sameKey, visitEntry, Followed, sameUnit, followedNothing, attribute, followUnit, followAbsolute, follow, Named, resolveReferenceName}
+use Rattle.references.specs.Search.{Dwarf, mainSource, supplementarySource, Place, Trail, sameKey, visitEntry, Followed, sameUnit, followedNothing}
+use Rattle.references.specs.Search.{attribute, followUnit, followAbsolute, follow, Named, resolveReferenceName}
 use Rattle.references.specs.Reads.{Counted, after, _>>>_, countedNameAt, countedName}
 use Rattle.references.specs.Tables.{IndexIn, EntryKnown, bytesGiven}
 use Rattle.references.specs.Keys.{keysAt, keyIn, PossibleKey, KeysIn, keysFrom, keysExtent}
@@ -135,14 +136,16 @@ abbrev pub countedGiven : ℕ → Trail → List ℕ → Counted Named
 countedGiven st t r = after t (namedGiven st t r)
 
 -- a search f from the n targets of w on, a entries read, has answered with r or the status, and left n′ targets in w′, b entries read
-pub record Gives (f : Trail → Counted Named) (main supplementary : List ℕ) (x : Tables) (w : List ℕ) (n a : ℕ) (w′ : List ℕ) (n′ b st : ℕ) (r : List ℕ) : Type 0 where
+pub record Gives (f : Trail → Counted Named) (main supplementary : List ℕ) (x : Tables) (w : List ℕ) (n a : ℕ) (w′ : List ℕ) (n′ b st : ℕ) (r : List ℕ)
+    : Type 0 where
   pub is : f (trailAt w (keysFrom x) n a) ≡ countedGiven st (trailAt w′ (keysFrom x) n′ b) r
   pub few : b ≤ n′ + 1
   pub ready : SearchIn main supplementary w′ x n′
   pub rest : Kept w w′ (x .keys) (keysExtent main supplementary x)
 
 -- resolve_absolute_name: the name at an offset of the section; k is the limit less the depth
-unfoldable pub resolveAbsoluteName : ℕ → Dwarf → Rattle.references.specs.Search.DebugSource → Rattle.references.specs.Search.DebugSource → ℕ → Trail → Counted Named
+unfoldable pub resolveAbsoluteName : ℕ → Dwarf → Rattle.references.specs.Search.DebugSource → Rattle.references.specs.Search.DebugSource → ℕ
+    → Trail → Counted Named
 resolveAbsoluteName k d input source target t =
     after t (followAbsolute d input source t target) >>> λ f. countedNameAt (countedName k d) (f .trail) (f .target)
 

@@ -4,6 +4,7 @@ use mathlib.Core.Bool.{Bool, true, false, cond, _&&_, _||_}
 use mathlib.Core.List.{List, [], _∷_, _++_}
 use mathlib.Core.Option.{Option, none, some}
 use lib.Dec.{leb, ltb, eqb}
+use Rattle.tlv.specs.Constants.{dwAtAbstractOrigin, dwAtDeclFile, dwAtDeclLine, dwAtLinkageName, dwAtMipsLinkageName, dwAtName, dwAtSpecification}
 use Rattle.tlv.specs.declared.model.FileIndex.{FileIndex}
 use Rattle.tlv.specs.declared.model.LineEntry.{LineEntry}
 use Rattle.tlv.specs.Outcome.{Outcome, refused, done, _>>=_}
@@ -153,7 +154,7 @@ follow d p t (some a) =
 
 -- abstract origin, then specification
 abbrev pub originAttributes : List ℕ
-originAttributes = 0x31 ∷ 0x47 ∷ []
+originAttributes = dwAtAbstractOrigin ∷ dwAtSpecification ∷ []
 
 -- how many entries in a row a search looks at: "63 in a row are followed; a 64th is still read .. but yields nothing"
 abbrev pub chainLimit : ℕ
@@ -163,7 +164,7 @@ chainLimit = 64
 
 -- "the first nonempty of linkage, MIPS linkage (2007 hex) and plain name"
 abbrev pub nameAttributes : List ℕ
-nameAttributes = 0x6e ∷ 0x2007 ∷ 0x03 ∷ []
+nameAttributes = dwAtLinkageName ∷ dwAtMipsLinkageName ∷ dwAtName ∷ []
 
 abbrev pub ifEmpty : List ℕ → Outcome (List ℕ) → Outcome (List ℕ)
 ifEmpty [] other = other
@@ -251,7 +252,13 @@ warnDeclaration kind u e n s = absoluteEntryOffset u (e .offset) >>= λ o.
 abbrev pub declarationOf : CompilationUnit → Entry → ℕ → ℕ → Option FileIndex → Declaring → Outcome Declaring
 declarationOf u e file line none s = warnDeclaration invalidDeclarationFile u e file s
 declarationOf u e file line (some i) s =
-    cond (ltb line (2 ^ 32)) (done (withFound s (some (record { address = 0; file = i; line = line; column = 0 })))) (warnDeclaration invalidDeclarationLine u e line s)
+    cond (ltb line (2 ^ 32)) (done (withFound s (some (record {
+      address =
+          0;
+      file = i;
+      line = line;
+      column = 0;
+    })))) (warnDeclaration invalidDeclarationLine u e line s)
 
 abbrev pub declarationFrom : CompilationUnit → Entry → FileIndices → Option ℕ → Option ℕ → Declaring → Outcome Declaring
 declarationFrom u e is none line s = done s
@@ -260,7 +267,7 @@ declarationFrom u e is (some file) (some line) s = declarationOf u e file line (
 
 -- the entry's own declaration, where it has both a file and a line
 unfoldable pub ownDeclaration : CompilationUnit → Entry → FileIndices → Declaring → Outcome Declaring
-ownDeclaration u e is s = declarationFrom u e is (fileIndexAttribute e 0x3a) (unsignedAttribute e 0x3b) s
+ownDeclaration u e is s = declarationFrom u e is (fileIndexAttribute e dwAtDeclFile) (unsignedAttribute e dwAtDeclLine) s
 
 -- the search of one level less
 abbrev pub DeclarationSearch : Type 0

@@ -43,7 +43,8 @@ pub record EntryKnown (s : List ℕ) (q p : ℕ) : Type 0 where
 abbrev pub TargetIs : List ℕ → ℕ → Target → Type 0
 TargetIs s o Target.Outside = unitContaining (units s) o ≡ none
 TargetIs s o (Target.NoEntry q) = (unitContaining (units s) o ≡ some (unitHere s q)) × (entryAt (unitHere s q) (o - unitHere s q .offset) ≡ refused 13)
-TargetIs s o (Target.At p q) = (unitContaining (units s) o ≡ some (unitHere s q)) × (entryAt (unitHere s q) (o - unitHere s q .offset) ≡ done (entryHere s p)) × EntryKnown s q p
+TargetIs s o (Target.At p q) =
+    (unitContaining (units s) o ≡ some (unitHere s q)) × (entryAt (unitHere s q) (o - unitHere s q .offset) ≡ done (entryHere s p)) × EntryKnown s q p
 
 pub record Leads (s : List ℕ) (o : ℕ) (r : Target) : Type 0 where
   pub is : TargetIs s o r

@@ -6,6 +6,10 @@ ghost use Rattle.references.specs.Search.{attribute, unsignedAttribute, 
 ghost use Rattle.references.specs.Tables.{EntryKnown, referenceOf, referenceIn, numberGiven, fileNumberIn, lineNumberIn, NameRead, OwnNamed};
 use tlv::access::Value;
 use tlv::access::attribute;
+use tlv::constants::DW_AT_LINKAGE_NAME;
+use tlv::constants::DW_AT_MIPS_LINKAGE_NAME;
+use tlv::constants::DW_AT_NAME;
+use tlv::tags::ENTRY_WHOLE;
 
 // A reference to another entry.
 pub enum Reference {
@@ -46,7 +50,7 @@ pub fn reference_at(s: &[u8], unit: usize, p: usize, name: u16) -> Reference
     requires { ⌜ EntryKnown (now s) unit p ⌝ }
     ensures { λ r. ⌜ r ≡ referenceOf (attribute (entryHere (now (s .entry)) p) name) ⌝ }
 {
-    reference_of(attribute(s, p + 15, name))
+    reference_of(attribute(s, p + ENTRY_WHOLE, name))
 }
 
 // The file number that a value is.
@@ -93,7 +97,7 @@ pub fn file_index_attribute(s: &[u8], unit: usize, p: usize, name: u16) -> Numbe
     requires { ⌜ EntryKnown (now s) unit p ⌝ }
     ensures { λ r. ⌜ r ≡ numberGiven (fileIndexAttribute (entryHere (now (s .entry)) p) name) ⌝ }
 {
-    file_number_in(attribute(s, p + 15, name))
+    file_number_in(attribute(s, p + ENTRY_WHOLE, name))
 }
 
 // The unsigned number that the attribute of a name of the entry at place p is.
@@ -102,7 +106,7 @@ pub fn unsigned_attribute(s: &[u8], unit: usize, p: usize, name: u16) -> Number
     requires { ⌜ EntryKnown (now s) unit p ⌝ }
     ensures { λ r. ⌜ r ≡ numberGiven (unsignedAttribute (entryHere (now (s .entry)) p) name) ⌝ }
 {
-    line_number_in(attribute(s, p + 15, name))
+    line_number_in(attribute(s, p + ENTRY_WHOLE, name))
 }
 
 // The name that an attribute of the entry at place p is, empty where there is none; a status other than 0 is the refusal.
@@ -112,7 +116,7 @@ fn name_at<'a>(s: &'a [u8], unit: usize, p: usize, name: u16, status: &mut u8) -
     requires { ⌜ now status ≡ 0 ⌝ }
     ensures { λ r. ⌜ NameRead (now (s .entry)) p name (now (status .exit)) (now r) ⌝ }
 {
-    match attribute(s, p + 15, name) {
+    match attribute(s, p + ENTRY_WHOLE, name) {
         Value::Absent => &s[..0],
         Value::Text { start, len } => &s[start..start + len],
         _ => {
@@ -129,19 +133,19 @@ pub fn own_name<'a>(s: &'a [u8], unit: usize, p: usize, status: &mut u8) -> &'a 
     requires { ⌜ now status ≡ 0 ⌝ }
     ensures { λ r. ⌜ OwnNamed (now (s .entry)) p (now (status .exit)) (now r) ⌝ }
 {
-    let linkage = name_at(s, unit, p, 0x6e, status);
+    let linkage = name_at(s, unit, p, DW_AT_LINKAGE_NAME, status);
     if *status != 0 {
         return linkage;
     }
     if linkage.len() != 0 {
         return linkage;
     }
-    let mips = name_at(s, unit, p, 0x2007, status);
+    let mips = name_at(s, unit, p, DW_AT_MIPS_LINKAGE_NAME, status);
     if *status != 0 {
         return mips;
     }
     if mips.len() != 0 {
         return mips;
     }
-    name_at(s, unit, p, 0x03, status)
+    name_at(s, unit, p, DW_AT_NAME, status)
 }

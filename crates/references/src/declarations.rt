@@ -11,7 +11,8 @@ ghost use Rattle.files.specs.Indices.{indicesIn};
 ghost use Rattle.references.specs.Search.{absoluteEntryOffset, ownDeclaration, resolveDeclaration};
 ghost use Rattle.references.specs.Tables.{EntryKnown};
 ghost use Rattle.references.specs.Names.{dwarfOf, placeAt, startAt, Stands, Aims, SearchIn};
-ghost use Rattle.references.specs.Declarations.{reachedFiles, indicesAt, DeclaringIn, Declares, DeclaresCounted, LineRead, Reaching, resolveReference, resolveAbsolute};
+ghost use Rattle.references.specs.Declarations.{reachedFiles, indicesAt, DeclaringIn, Declares, DeclaresCounted, LineRead, Reaching, resolveReference};
+ghost use Rattle.references.specs.Declarations.{resolveAbsolute};
 ghost use Rattle.references.specs.Reads.{countedDeclaration};
 ghost use Rattle.references.specs.DeclaredSteps.{OwnAt, absoluteGiven, Numbered, Warns, Owns, UnitKnown, Joins, Aimed};
 use crate::attributes::Number;
@@ -34,7 +35,14 @@ use files::index::StoredIndices;
 use files::intern::InternedFiles;
 use files::lookup::look_up_file;
 use files::store::StoredFiles;
+use tlv::constants::DW_AT_ABSTRACT_ORIGIN;
+use tlv::constants::DW_AT_DECL_FILE;
+use tlv::constants::DW_AT_DECL_LINE;
+use tlv::constants::DW_AT_SPECIFICATION;
 use tlv::model::DebugSource;
+use tlv::tags::HEADER_TAG;
+use tlv::tags::UNIT_OFFSET;
+use tlv::tags::UNIT_WHOLE;
 
 // The search's tables, the map of the unit that is imported, and where the spans of a unit's directories and its map are put.
 pub struct Places {
@@ -88,9 +96,9 @@ fn declared_at(s: &[u8], unit: usize, p: usize) -> OwnLine
     requires { ⌜ EntryKnown (now s) unit p ⌝ }
     ensures { λ r. ⌜ OwnAt (now (s .entry)) p r ⌝ }
 {
-    match file_index_attribute(s, unit, p, 0x3a) {
+    match file_index_attribute(s, unit, p, DW_AT_DECL_FILE) {
         Number::Missing => OwnLine::Missing,
-        Number::Is(file) => match unsigned_attribute(s, unit, p, 0x3b) {
+        Number::Is(file) => match unsigned_attribute(s, unit, p, DW_AT_DECL_LINE) {
             Number::Missing => OwnLine::Missing,
             Number::Is(line) => OwnLine::At {
                 file: FileNumber(file),
@@ -105,7 +113,7 @@ fn lacks_header(s: &[u8], unit: usize) -> bool
     requires { ⌜ UnitPlaced (now s) unit ⌝ }
     ensures { λ r. ⌜ r ≡ isNone (unitHere (now (s .entry)) unit .header) ⌝ }
 {
-    match tlv::access::next_own(s, unit + 21, 0x13) {
+    match tlv::access::next_own(s, unit + UNIT_WHOLE, HEADER_TAG) {
         tlv::access::Own::Missing => true,
         tlv::access::Own::Field {
             start: _,
@@ -128,7 +136,10 @@ fn reached_number<'a>(
 ) -> FoundIndex
     requires { ⌜ DeclaringIn (now main) (now supplementary) (now work) d st ⌝ }
     requires { ⌜ UnitKnown (sourceIn (now main) (now supplementary) input) unit ⌝ }
-    ensures { λ r. ⌜ Numbered (now (main .entry)) (now (supplementary .entry)) (now (work .entry)) (now (work .exit)) d st (reachedFiles (unitHere (sourceIn (now (main .entry)) (now (supplementary .entry)) input) unit) (unitHere (sourceIn (now (main .entry)) (now (supplementary .entry)) input) unit .header) (tableOf (now (main .entry)) (now (supplementary .entry)) (now (work .entry)) (st .table))) file r ⌝ }
+    ensures { λ r. ⌜ Numbered (now (main .entry)) (now (supplementary .entry)) (now (work .entry)) (now (work .exit)) d st
+        (reachedFiles (unitHere (sourceIn (now (main .entry)) (now (supplementary .entry)) input) unit)
+        (unitHere (sourceIn (now (main .entry)) (now (supplementary .entry)) input) unit .header)
+        (tableOf (now (main .entry)) (now (supplementary .entry)) (now (work .entry)) (st .table))) file r ⌝ }
 {
     let s = input_of(main, supplementary, input);
     if lacks_header(s, unit) {
@@ -153,7 +164,8 @@ fn number_of<'a>(
 ) -> FoundIndex
     requires { ⌜ DeclaringIn (now main) (now supplementary) (now work) d st ⌝ }
     requires { ⌜ UnitKnown (sourceIn (now main) (now supplementary) input) unit ⌝ }
-    ensures { λ r. ⌜ Numbered (now (main .entry)) (now (supplementary .entry)) (now (work .entry)) (now (work .exit)) d st (indicesAt (now (main .entry)) (now (supplementary .entry)) (now (work .entry)) d st input unit reached) file r ⌝ }
+    ensures { λ r. ⌜ Numbered (now (main .entry)) (now (supplementary .entry)) (now (work .entry)) (now (work .exit)) d st
+        (indicesAt (now (main .entry)) (now (supplementary .entry)) (now (work .entry)) d st input unit reached) file r ⌝ }
 {
     if reached {
         return reached_number(main, supplementary, work, d, input, unit, file, st);
@@ -169,7 +181,7 @@ fn absolute_offset(s: &[u8], unit: usize, place: usize) -> Number
     requires { ⌜ EntryKnown (now s) unit place ⌝ }
     ensures { λ r. ⌜ absoluteGiven r ≡ absoluteEntryOffset (unitHere (now (s .entry)) unit) (entryHere (now (s .entry)) place .offset) ⌝ }
 {
-    let own = tlv::bytes::read_u64(s, unit + 3);
+    let own = tlv::bytes::read_u64(s, unit + UNIT_OFFSET);
     let offset = tlv::bytes::read_u64(s, place + 3);
     if offset > 0xffff_ffff_ffff_ffff - own {
         return Number::Missing;
@@ -219,7 +231,10 @@ fn own_declaration<'a>(
 ) -> Declared
     requires { ⌜ DeclaringIn (now main) (now supplementary) (now work) d st ⌝ }
     requires { ⌜ Stands (now main) (now supplementary) at ⌝ }
-    ensures { λ r. ⌜ Owns (ownDeclaration (placeAt (now (main .entry)) (now (supplementary .entry)) at .unit) (placeAt (now (main .entry)) (now (supplementary .entry)) at .entry) (indicesAt (now (main .entry)) (now (supplementary .entry)) (now (work .entry)) d st (at .input) (at .unit) reached)) (now (main .entry)) (now (supplementary .entry)) (now (work .entry)) (now (work .exit)) (now (warnings .entry)) (now (warnings .exit)) d st r ⌝ }
+    ensures { λ r. ⌜ Owns (ownDeclaration (placeAt (now (main .entry)) (now (supplementary .entry)) at .unit)
+        (placeAt (now (main .entry)) (now (supplementary .entry)) at .entry)
+        (indicesAt (now (main .entry)) (now (supplementary .entry)) (now (work .entry)) d st (at .input) (at .unit) reached)) (now (main .entry))
+        (now (supplementary .entry)) (now (work .entry)) (now (work .exit)) (now (warnings .entry)) (now (warnings .exit)) d st r ⌝ }
 {
     let input = at.input;
     let unit = at.unit;
@@ -293,7 +308,8 @@ fn join_files<'a>(
 ) -> Joined
     requires { ⌜ DeclaringIn (now main) (now supplementary) (now work) d st ⌝ }
     requires { ⌜ UnitKnown (sourceIn (now main) (now supplementary) input) unit ⌝ }
-    ensures { λ r. ⌜ Joins (now (main .entry)) (now (supplementary .entry)) (now (work .entry)) (now (work .exit)) (now (files .entry)) (now (files .exit)) d (st .table) (unitHere (sourceIn (now (main .entry)) (now (supplementary .entry)) input) unit) r ⌝ }
+    ensures { λ r. ⌜ Joins (now (main .entry)) (now (supplementary .entry)) (now (work .entry)) (now (work .exit)) (now (files .entry)) (now (files .exit)) d
+        (st .table) (unitHere (sourceIn (now (main .entry)) (now (supplementary .entry)) input) unit) r ⌝ }
 {
     let s = input_of(main, supplementary, input);
     let table = st.table;
@@ -337,7 +353,11 @@ pub fn resolve<'a>(
     requires { ⌜ now reads ≤ st .count + 1 ⌝ }
     requires { ⌜ Stands (now main) (now supplementary) at ⌝ }
     requires { ⌜ Reaching (now main) (now supplementary) (now work) st at reached ⌝ }
-    ensures { λ r. ⌜ DeclaresCounted (countedDeclaration (64 - at .depth) (dwarfOf (now (main .entry)) (now (supplementary .entry))) (placeAt (now (main .entry)) (now (supplementary .entry)) at) (indicesAt (now (main .entry)) (now (supplementary .entry)) (now (work .entry)) d st (at .input) (at .unit) reached)) (now (main .entry)) (now (supplementary .entry)) (now (work .entry)) (now (work .exit)) (now (files .entry)) (now (files .exit)) (now (warnings .entry)) (now (warnings .exit)) d st (now (reads .entry)) (now (reads .exit)) r ⌝ }
+    ensures { λ r. ⌜ DeclaresCounted (countedDeclaration (64 - at .depth) (dwarfOf (now (main .entry)) (now (supplementary .entry)))
+        (placeAt (now (main .entry)) (now (supplementary .entry)) at)
+        (indicesAt (now (main .entry)) (now (supplementary .entry)) (now (work .entry)) d st (at .input) (at .unit) reached)) (now (main .entry))
+        (now (supplementary .entry)) (now (work .entry)) (now (work .exit)) (now (files .entry)) (now (files .exit)) (now (warnings .entry))
+        (now (warnings .exit)) d st (now (reads .entry)) (now (reads .exit)) r ⌝ }
 {
     if at.depth >= 64 {
         return Declared::Missing(st);
@@ -356,7 +376,7 @@ pub fn resolve<'a>(
         d,
         at,
         reached,
-        0x31,
+        DW_AT_ABSTRACT_ORIGIN,
         first,
     );
     let Declared::Missing(second) = origin else {
@@ -372,7 +392,7 @@ pub fn resolve<'a>(
         d,
         at,
         reached,
-        0x47,
+        DW_AT_SPECIFICATION,
         second,
     )
 }
@@ -396,7 +416,10 @@ fn resolve_reference<'a>(
     requires { ⌜ Stands (now main) (now supplementary) at ⌝ }
     requires { ⌜ Reaching (now main) (now supplementary) (now work) st at reached ⌝ }
     requires { ⌜ at .depth < 64 ⌝ }
-    ensures { λ r. ⌜ DeclaresCounted (resolveReference (64 - (at .depth + 1)) (now (main .entry)) (now (supplementary .entry)) at (indicesAt (now (main .entry)) (now (supplementary .entry)) (now (work .entry)) d st (at .input) (at .unit) reached) name) (now (main .entry)) (now (supplementary .entry)) (now (work .entry)) (now (work .exit)) (now (files .entry)) (now (files .exit)) (now (warnings .entry)) (now (warnings .exit)) d st (now (reads .entry)) (now (reads .exit)) r ⌝ }
+    ensures { λ r. ⌜ DeclaresCounted (resolveReference (64 - (at .depth + 1)) (now (main .entry)) (now (supplementary .entry)) at
+        (indicesAt (now (main .entry)) (now (supplementary .entry)) (now (work .entry)) d st (at .input) (at .unit) reached) name) (now (main .entry))
+        (now (supplementary .entry)) (now (work .entry)) (now (work .exit)) (now (files .entry)) (now (files .exit)) (now (warnings .entry))
+        (now (warnings .exit)) d st (now (reads .entry)) (now (reads .exit)) r ⌝ }
 {
     let tables = d.tables;
     let count = st.count;
@@ -456,7 +479,9 @@ pub fn resolve_absolute<'a>(
     requires { ⌜ DeclaringIn (now main) (now supplementary) (now work) d st ⌝ }
     requires { ⌜ now reads ≤ st .count + 1 ⌝ }
     requires { ⌜ Aims (now main) (now supplementary) at ⌝ }
-    ensures { λ r. ⌜ DeclaresCounted (resolveAbsolute (64 - at .depth) (now (main .entry)) (now (supplementary .entry)) at) (now (main .entry)) (now (supplementary .entry)) (now (work .entry)) (now (work .exit)) (now (files .entry)) (now (files .exit)) (now (warnings .entry)) (now (warnings .exit)) d st (now (reads .entry)) (now (reads .exit)) r ⌝ }
+    ensures { λ r. ⌜ DeclaresCounted (resolveAbsolute (64 - at .depth) (now (main .entry)) (now (supplementary .entry)) at) (now (main .entry))
+        (now (supplementary .entry)) (now (work .entry)) (now (work .exit)) (now (files .entry)) (now (files .exit)) (now (warnings .entry))
+        (now (warnings .exit)) d st (now (reads .entry)) (now (reads .exit)) r ⌝ }
 {
     let tables = d.tables;
     let count = st.count;
@@ -532,7 +557,10 @@ pub fn resolve_declaration_line_counted<'a>(
     requires { ⌜ DeclaringIn (now main) (now supplementary) (now work) d st ⌝ }
     requires { ⌜ st .count ≡ 0 ⌝ }
     requires { ⌜ EntryKnown (now main) unit place ⌝ }
-    ensures { λ r. ⌜ Declares (resolveDeclaration 64 (dwarfOf (now (main .entry)) (now (supplementary .entry))) (placeAt (now (main .entry)) (now (supplementary .entry)) (startAt unit place)) (indicesIn (now (work .entry)) (d .indices))) (now (main .entry)) (now (supplementary .entry)) (now (work .entry)) (now (work .exit)) (now (files .entry)) (now (files .exit)) (now (warnings .entry)) (now (warnings .exit)) d st r ⌝ }
+    ensures { λ r. ⌜ Declares (resolveDeclaration 64 (dwarfOf (now (main .entry)) (now (supplementary .entry)))
+        (placeAt (now (main .entry)) (now (supplementary .entry)) (startAt unit place)) (indicesIn (now (work .entry)) (d .indices))) (now (main .entry))
+        (now (supplementary .entry)) (now (work .entry)) (now (work .exit)) (now (files .entry)) (now (files .exit)) (now (warnings .entry))
+        (now (warnings .exit)) d st r ⌝ }
     ensures { λ r. ⌜ LineRead (now (main .entry)) (now (supplementary .entry)) (now (work .entry)) d st unit place (now (reads .exit)) ⌝ }
 {
     let at = EntryAt {
@@ -572,7 +600,10 @@ pub fn resolve_declaration_line<'a>(
     requires { ⌜ DeclaringIn (now main) (now supplementary) (now work) d st ⌝ }
     requires { ⌜ st .count ≡ 0 ⌝ }
     requires { ⌜ EntryKnown (now main) unit place ⌝ }
-    ensures { λ r. ⌜ Declares (resolveDeclaration 64 (dwarfOf (now (main .entry)) (now (supplementary .entry))) (placeAt (now (main .entry)) (now (supplementary .entry)) (startAt unit place)) (indicesIn (now (work .entry)) (d .indices))) (now (main .entry)) (now (supplementary .entry)) (now (work .entry)) (now (work .exit)) (now (files .entry)) (now (files .exit)) (now (warnings .entry)) (now (warnings .exit)) d st r ⌝ }
+    ensures { λ r. ⌜ Declares (resolveDeclaration 64 (dwarfOf (now (main .entry)) (now (supplementary .entry)))
+        (placeAt (now (main .entry)) (now (supplementary .entry)) (startAt unit place)) (indicesIn (now (work .entry)) (d .indices))) (now (main .entry))
+        (now (supplementary .entry)) (now (work .entry)) (now (work .exit)) (now (files .entry)) (now (files .exit)) (now (warnings .entry))
+        (now (warnings .exit)) d st r ⌝ }
 {
     let mut reads: usize = 0;
     resolve_declaration_line_counted(

@@ -8,7 +8,8 @@ ghost use Rattle.references.specs.Search.{attribute, resolveName};
 ghost use Rattle.references.specs.Reads.{countedName, nameReads, referenceNameReads, ReadsWithin};
 ghost use Rattle.references.specs.Tables.{EntryKnown};
 ghost use Rattle.references.specs.Keys.{keyIn, PossibleKey};
-ghost use Rattle.references.specs.Names.{dwarfOf, searchSource, indexIn, placeAt, Stands, Aims, SearchIn, followUnitFrom, followFrom, Ways, isAnswer, foundName, Gives, resolveAbsoluteName, startAt, referenceName, Resolved};
+ghost use Rattle.references.specs.Names.{dwarfOf, searchSource, indexIn, placeAt, Stands, Aims, SearchIn, followUnitFrom, followFrom, Ways, isAnswer};
+ghost use Rattle.references.specs.Names.{foundName, Gives, resolveAbsoluteName, startAt, referenceName, Resolved};
 use crate::attributes::Reference;
 use crate::attributes::own_name;
 use crate::attributes::reference_at;
@@ -19,7 +20,10 @@ use crate::tables::Tables;
 use crate::tables::Target;
 use crate::tables::target_at;
 use crate::tables::target_in;
+use tlv::constants::DW_AT_ABSTRACT_ORIGIN;
+use tlv::constants::DW_AT_SPECIFICATION;
 use tlv::model::DebugSource;
+use tlv::tags::UNIT_OFFSET;
 
 // Where a search stands: the entry at a place of the unit at a place of a sheet, the source that its unit's targets are remembered under, and how deep.
 pub struct EntryAt {
@@ -105,15 +109,17 @@ fn unit_way<'a>(
 ) -> Way
     requires { ⌜ SearchIn (now main) (now supplementary) (now work) x n ⌝ }
     requires { ⌜ Stands (now main) (now supplementary) at ⌝ }
-    requires { ⌜ PossibleKey (now main) (now supplementary) (keyIn (at .source) (unitHere (sourceIn (now main) (now supplementary) (at .input)) (at .unit) .offset + offset)) ⌝ }
+    requires { ⌜ PossibleKey (now main) (now supplementary) (keyIn (at .source)
+        (unitHere (sourceIn (now main) (now supplementary) (at .input)) (at .unit) .offset + offset)) ⌝ }
     requires { ⌜ at .depth < 64 ⌝ }
-    ensures { λ r. ⌜ Ways (followUnitFrom (now (main .entry)) (now (supplementary .entry)) at offset) (now (main .entry)) (now (supplementary .entry)) (now (work .entry)) x n (at .depth) r ⌝ }
+    ensures { λ r. ⌜ Ways (followUnitFrom (now (main .entry)) (now (supplementary .entry)) at offset) (now (main .entry)) (now (supplementary .entry))
+        (now (work .entry)) x n (at .depth) r ⌝ }
 {
     let input = at.input;
     let source = at.source;
     let unit = at.unit;
     let s = input_of(main, supplementary, input);
-    let own = tlv::bytes::read_u64(s, unit + 3);
+    let own = tlv::bytes::read_u64(s, unit + UNIT_OFFSET);
     if offset > 0xffff_ffff_ffff_ffff - own {
         return Way::Refused(12);
     }
@@ -148,7 +154,8 @@ pub fn way_of<'a>(
     requires { ⌜ SearchIn (now main) (now supplementary) (now work) x n ⌝ }
     requires { ⌜ Stands (now main) (now supplementary) at ⌝ }
     requires { ⌜ at .depth < 64 ⌝ }
-    ensures { λ r. ⌜ Ways (followFrom (now (main .entry)) (now (supplementary .entry)) at name) (now (main .entry)) (now (supplementary .entry)) (now (work .entry)) x n (at .depth) r ⌝ }
+    ensures { λ r. ⌜ Ways (followFrom (now (main .entry)) (now (supplementary .entry)) at name) (now (main .entry)) (now (supplementary .entry))
+        (now (work .entry)) x n (at .depth) r ⌝ }
 {
     let here = at.input;
     let depth = at.depth + 1;
@@ -194,7 +201,9 @@ pub fn resolve_name_inner<'a>(
     requires { ⌜ now reads ≤ now count + 1 ⌝ }
     requires { ⌜ now status ≡ 0 ⌝ }
     requires { ⌜ Stands (now main) (now supplementary) at ⌝ }
-    ensures { λ r. ⌜ Gives (countedName (64 - at .depth) (dwarfOf (now (main .entry)) (now (supplementary .entry))) (placeAt (now (main .entry)) (now (supplementary .entry)) at)) (now (main .entry)) (now (supplementary .entry)) x (now (work .entry)) (now (count .entry)) (now (reads .entry)) (now (work .exit)) (now (count .exit)) (now (reads .exit)) (now (status .exit)) (now r) ⌝ }
+    ensures { λ r. ⌜ Gives (countedName (64 - at .depth) (dwarfOf (now (main .entry)) (now (supplementary .entry)))
+        (placeAt (now (main .entry)) (now (supplementary .entry)) at)) (now (main .entry)) (now (supplementary .entry)) x (now (work .entry))
+        (now (count .entry)) (now (reads .entry)) (now (work .exit)) (now (count .exit)) (now (reads .exit)) (now (status .exit)) (now r) ⌝ }
 {
     if at.depth >= 64 {
         return &main[..0];
@@ -205,12 +214,12 @@ pub fn resolve_name_inner<'a>(
     if is_answer(*status, own) {
         return own;
     }
-    let mut name: u16 = 0x31;
+    let mut name: u16 = DW_AT_ABSTRACT_ORIGIN;
     let mut left: u8 = 2;
     while 0 < left {
         let seen = *count;
         let way = way_of(main, supplementary, work, x, seen, at, name);
-        name = 0x47;
+        name = DW_AT_SPECIFICATION;
         left -= 1;
         match way {
             Way::Nothing => {}
@@ -273,7 +282,9 @@ pub fn resolve_absolute_name<'a>(
     requires { ⌜ now reads ≤ now count + 1 ⌝ }
     requires { ⌜ now status ≡ 0 ⌝ }
     requires { ⌜ Aims (now main) (now supplementary) at ⌝ }
-    ensures { λ r. ⌜ Gives (resolveAbsoluteName (64 - at .depth) (dwarfOf (now (main .entry)) (now (supplementary .entry))) (searchSource (at .input)) (searchSource (at .source)) (at .target)) (now (main .entry)) (now (supplementary .entry)) x (now (work .entry)) (now (count .entry)) (now (reads .entry)) (now (work .exit)) (now (count .exit)) (now (reads .exit)) (now (status .exit)) (now r) ⌝ }
+    ensures { λ r. ⌜ Gives (resolveAbsoluteName (64 - at .depth) (dwarfOf (now (main .entry)) (now (supplementary .entry))) (searchSource (at .input))
+        (searchSource (at .source)) (at .target)) (now (main .entry)) (now (supplementary .entry)) x (now (work .entry)) (now (count .entry))
+        (now (reads .entry)) (now (work .exit)) (now (count .exit)) (now (reads .exit)) (now (status .exit)) (now r) ⌝ }
 {
     let input = at.input;
     let source = at.source;
@@ -337,8 +348,11 @@ pub fn resolve_name_counted<'a>(
     requires { ⌜ SearchIn (now main) (now supplementary) (now work) x 0 ⌝ }
     requires { ⌜ now status ≡ 0 ⌝ }
     requires { ⌜ EntryKnown (now main) unit place ⌝ }
-    ensures { λ r. ⌜ Resolved (now (main .entry)) (now (supplementary .entry)) x (now (work .entry)) (now (work .exit)) (resolveName (dwarfOf (now (main .entry)) (now (supplementary .entry))) (unitHere (now (main .entry)) unit) (entryHere (now (main .entry)) place)) (now (status .exit)) (now r) ⌝ }
-    ensures { λ r. ⌜ now (reads .exit) ≡ nameReads (dwarfOf (now (main .entry)) (now (supplementary .entry))) (unitHere (now (main .entry)) unit) (entryHere (now (main .entry)) place) ⌝ }
+    ensures { λ r. ⌜ Resolved (now (main .entry)) (now (supplementary .entry)) x (now (work .entry)) (now (work .exit))
+        (resolveName (dwarfOf (now (main .entry)) (now (supplementary .entry))) (unitHere (now (main .entry)) unit) (entryHere (now (main .entry)) place))
+        (now (status .exit)) (now r) ⌝ }
+    ensures { λ r. ⌜ now (reads .exit) ≡ nameReads (dwarfOf (now (main .entry)) (now (supplementary .entry))) (unitHere (now (main .entry)) unit)
+        (entryHere (now (main .entry)) place) ⌝ }
     ensures { λ r. ⌜ ReadsWithin (dwarfOf (now (main .entry)) (now (supplementary .entry))) (now (reads .exit)) ⌝ }
 {
     let mut count: usize = 0;
@@ -360,7 +374,9 @@ pub fn resolve_name<'a>(
     requires { ⌜ SearchIn (now main) (now supplementary) (now work) x 0 ⌝ }
     requires { ⌜ now status ≡ 0 ⌝ }
     requires { ⌜ EntryKnown (now main) unit place ⌝ }
-    ensures { λ r. ⌜ Resolved (now (main .entry)) (now (supplementary .entry)) x (now (work .entry)) (now (work .exit)) (resolveName (dwarfOf (now (main .entry)) (now (supplementary .entry))) (unitHere (now (main .entry)) unit) (entryHere (now (main .entry)) place)) (now (status .exit)) (now r) ⌝ }
+    ensures { λ r. ⌜ Resolved (now (main .entry)) (now (supplementary .entry)) x (now (work .entry)) (now (work .exit))
+        (resolveName (dwarfOf (now (main .entry)) (now (supplementary .entry))) (unitHere (now (main .entry)) unit) (entryHere (now (main .entry)) place))
+        (now (status .exit)) (now r) ⌝ }
 {
     let mut reads: usize = 0;
     resolve_name_counted(
@@ -390,8 +406,11 @@ pub fn resolve_reference_name_counted<'a>(
     requires { ⌜ SearchIn (now main) (now supplementary) (now work) x 0 ⌝ }
     requires { ⌜ now status ≡ 0 ⌝ }
     requires { ⌜ EntryKnown (now main) unit place ⌝ }
-    ensures { λ r. ⌜ Resolved (now (main .entry)) (now (supplementary .entry)) x (now (work .entry)) (now (work .exit)) (referenceName (dwarfOf (now (main .entry)) (now (supplementary .entry))) (unitHere (now (main .entry)) unit) (entryHere (now (main .entry)) place) (attribute (entryHere (now (main .entry)) place) name)) (now (status .exit)) (now r) ⌝ }
-    ensures { λ r. ⌜ now (reads .exit) ≡ referenceNameReads (dwarfOf (now (main .entry)) (now (supplementary .entry))) (unitHere (now (main .entry)) unit) (entryHere (now (main .entry)) place) name ⌝ }
+    ensures { λ r. ⌜ Resolved (now (main .entry)) (now (supplementary .entry)) x (now (work .entry)) (now (work .exit))
+        (referenceName (dwarfOf (now (main .entry)) (now (supplementary .entry))) (unitHere (now (main .entry)) unit) (entryHere (now (main .entry)) place)
+        (attribute (entryHere (now (main .entry)) place) name)) (now (status .exit)) (now r) ⌝ }
+    ensures { λ r. ⌜ now (reads .exit) ≡ referenceNameReads (dwarfOf (now (main .entry)) (now (supplementary .entry))) (unitHere (now (main .entry)) unit)
+        (entryHere (now (main .entry)) place) name ⌝ }
     ensures { λ r. ⌜ ReadsWithin (dwarfOf (now (main .entry)) (now (supplementary .entry))) (now (reads .exit)) ⌝ }
 {
     let mut count: usize = 0;
@@ -448,7 +467,9 @@ pub fn resolve_reference_name<'a>(
     requires { ⌜ SearchIn (now main) (now supplementary) (now work) x 0 ⌝ }
     requires { ⌜ now status ≡ 0 ⌝ }
     requires { ⌜ EntryKnown (now main) unit place ⌝ }
-    ensures { λ r. ⌜ Resolved (now (main .entry)) (now (supplementary .entry)) x (now (work .entry)) (now (work .exit)) (referenceName (dwarfOf (now (main .entry)) (now (supplementary .entry))) (unitHere (now (main .entry)) unit) (entryHere (now (main .entry)) place) (attribute (entryHere (now (main .entry)) place) name)) (now (status .exit)) (now r) ⌝ }
+    ensures { λ r. ⌜ Resolved (now (main .entry)) (now (supplementary .entry)) x (now (work .entry)) (now (work .exit))
+        (referenceName (dwarfOf (now (main .entry)) (now (supplementary .entry))) (unitHere (now (main .entry)) unit) (entryHere (now (main .entry)) place)
+        (attribute (entryHere (now (main .entry)) place) name)) (now (status .exit)) (now r) ⌝ }
 {
     let mut reads: usize = 0;
     resolve_reference_name_counted(

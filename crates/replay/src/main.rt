@@ -234,13 +234,7 @@ fn judge(
         return Verdict::Work;
     }
     match r {
-        Imported::Refused(n) => judge_refused(
-            a,
-            n,
-            records,
-            files,
-            warnings,
-        ),
+        Imported::Refused(n) => judge_refused(a, n, records, files, warnings),
         Imported::Finished {
             records: x,
             files: y,

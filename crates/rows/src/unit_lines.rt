@@ -153,7 +153,8 @@ pub fn sequence_exists(work: &[u8], l: StoredLines, requested: StatementSequence
 // Whether the sequence at p belongs to the one that is asked for and covers an address.
 fn covers(work: &[u8], p: usize, address: u64, asked: StatementSequence) -> bool
     requires { ⌜ p + rangeSize ≤ length (now work) ⌝ }
-    ensures { λ r. ⌜ r ≡ (belongs (sequenceOf asked) (rangeAt (now (work .entry)) p .statementSequence) && contains (rangeAt (now (work .entry)) p .range) address) ⌝ }
+    ensures { λ r. ⌜ r ≡ (belongs (sequenceOf asked) (rangeAt (now (work .entry)) p .statementSequence)
+        && contains (rangeAt (now (work .entry)) p .range) address) ⌝ }
 {
     if !belongs_to(asked, sequence_at(work, p + RANGE_SEQUENCE)) {
         return false;
@@ -172,7 +173,8 @@ fn covering_sequence(
     asked: StatementSequence,
 ) -> Covering
     requires { ⌜ RowsIn (now work) l ⌝ }
-    ensures { λ r. ⌜ coveringOf r (first (λ q. belongs (sequenceOf asked) (q .statementSequence) && contains (q .range) address) (rangesOf (now (work .entry)) (l .sequences) (l .«sequence_count»))) ⌝ }
+    ensures { λ r. ⌜ coveringOf r (first (λ q. belongs (sequenceOf asked) (q .statementSequence) && contains (q .range) address)
+        (rangesOf (now (work .entry)) (l .sequences) (l .«sequence_count»))) ⌝ }
 {
     let mut i = 0;
     while i < l.sequence_count {
@@ -188,7 +190,8 @@ fn covering_sequence(
 // The last row below an address that belongs to the sequence that is asked for, moved to the address.
 fn last_before(work: &[u8], l: StoredLines, address: u64, asked: StatementSequence) -> Earlier
     requires { ⌜ RowsIn (now work) l ⌝ }
-    ensures { λ r. ⌜ earlierOf r ≡ movedTo address (last (λ x. ltb (x .entry .address) address && belongs (sequenceOf asked) (x .statementSequence)) (linesOf (now (work .entry)) (l .lines) (l .«line_count»))) ⌝ }
+    ensures { λ r. ⌜ earlierOf r ≡ movedTo address (last (λ x. ltb (x .entry .address) address && belongs (sequenceOf asked) (x .statementSequence))
+        (linesOf (now (work .entry)) (l .lines) (l .«line_count»))) ⌝ }
 {
     let mut i = lower_bound(work, l.lines, l.line_count, address);
     while 0 < i {

@@ -12,6 +12,7 @@ use references::declarations::Places;
 use references::tables::Index;
 use references::tables::Tables;
 use references::tables::Target;
+use tlv::constants::DW_AT_CALL_ORIGIN;
 
 // What the file table takes besides a record for each file: the longest joined path, and a record more.
 const TABLE_BESIDES: usize = JOINED_LIMIT + 45;
@@ -151,7 +152,8 @@ fn index_sheet(s: &[u8], n: usize, work: &mut [u8], base: usize) -> Index
     }
 }
 
-// Writes the tables of both sheets, which have n and m fields. Below them is room for a file table of n + m + 1 files and for a unit's directories and map, above
+// Writes the tables of both sheets, which have n and m fields. Below them is room for a file table of n + m + 1 files and for a unit's directories and map,
+// above
 // them for the followed targets. No files of the unit where a search starts are known.
 fn build_tables(main: &[u8], supplementary: &[u8], n: usize, m: usize, work: &mut [u8]) -> Places
     requires { ⌜ Accepts (now main) n ⌝ }
@@ -237,7 +239,7 @@ fn answer_reference<'a>(
         tables,
         unit,
         place,
-        0x7f,
+        DW_AT_CALL_ORIGIN,
     );
     write_found(status, name, reads);
 }

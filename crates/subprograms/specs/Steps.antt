@@ -5,6 +5,7 @@ use mathlib.Core.List.{List, [], _∷_, _++_}
 use mathlib.Core.Option.{Option}
 use Prim.Native.Nat.{ℕ, _+_}
 use lib.ListN.{length}
+use Rattle.tlv.specs.Tags.{trayRowTag}
 use Rattle.tlv.specs.declared.model.AddressRange.{AddressRange}
 use Rattle.tlv.specs.declared.model.LineEntry.{LineEntry}
 use Rattle.tlv.specs.Outcome.{Outcome, refused, done, _>>=_}
@@ -19,7 +20,8 @@ use Rattle.lines.specs.Rows.{forRange}
 use Rattle.files.specs.Store.{tableOf, Grown}
 use Rattle.references.specs.Search.{resolveDeclarationLine}
 use Rattle.imports.specs.Tree.{Descendants}
-use Rattle.imports.specs.Import.{State, ImportContext, statementSequenceOffset, sequenceWarning, declarationIf, linesWith, isTombstone, isLiveRange, rejected, importRange, importSubprogram, isSubprogram, descendantsOf}
+use Rattle.imports.specs.Import.{State, ImportContext, statementSequenceOffset, sequenceWarning, declarationIf, linesWith, isTombstone, isLiveRange, rejected}
+use Rattle.imports.specs.Import.{importRange, importSubprogram, isSubprogram, descendantsOf}
 use Rattle.dies.specs.declared.dies.Details.{Details}
 use Rattle.dies.specs.declared.dies.Warned.{Warned}
 use Rattle.dies.specs.Details.{entriesFrom, detailBytes}
@@ -33,7 +35,7 @@ use Rattle.subprograms.specs.Contexts.{touched, walkExtent}
 
 -- rows as fields 42
 abbrev pub linesBytes : List LineEntry → List ℕ
-linesBytes ls = eachOf (λ l. encode 0x42 (rowPayload l)) ls
+linesBytes ls = eachOf (λ l. encode trayRowTag (rowPayload l)) ls
 
 -- a record's rows, and the file table and the warnings after they were found
 pub record FunctionLines : Type 0 where
@@ -116,7 +118,8 @@ stateOf main supplementary w st rs ws = record {
 }
 
 -- what the definition does by F is done in memory: new records, files and warnings are laid, and the rest of the state stands in w′; or it is refused
-pub record Imports (F : State → Outcome State) (main supplementary : List ℕ) (q : Context) (w t f u : List ℕ) (st : ImportState) (w′ t′ f′ u′ : List ℕ) (r : ImportState) : Type 0 where
+pub record Imports (F : State → Outcome State) (main supplementary : List ℕ) (q : Context) (w t f u : List ℕ) (st : ImportState) (w′ t′ f′ u′ : List ℕ)
+    (r : ImportState) : Type 0 where
   pub records : List Function
   pub new : List Warning
   pub laid : r .status ≡ 0 → Put (st .at) (recordsBytes records) t t′ (r .at)

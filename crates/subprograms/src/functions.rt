@@ -29,8 +29,11 @@ use references::declarations::DeclaringState;
 use rows::line::ENTRY_SIZE;
 use rows::line::StatementSequence;
 use tlv::access::Value;
+use tlv::constants::DW_AT_LLVM_STMT_SEQUENCE;
 use tlv::model::AddressRange;
 use tlv::model::LineEntry;
+use tlv::tags::ENTRY_DEPTH;
+use tlv::tags::ENTRY_WHOLE;
 
 // The file table and the places in the records and the warnings after a function's rows, how many these are, and the refusal, 0 for none.
 pub struct FoundLines {
@@ -71,7 +74,7 @@ pub fn statement_sequence_offset(main: &[u8], unit: usize, p: usize) -> Statemen
     ensures { λ r. ⌜ sequenceOf r ≡ statementSequenceOffset (unitHere (now (main .entry)) unit) (entryHere (now (main .entry)) p) ⌝ }
 {
     let limit = no_sequence(main, unit);
-    match tlv::access::attribute(main, p + 15, 0x3e0c) {
+    match tlv::access::attribute(main, p + ENTRY_WHOLE, DW_AT_LLVM_STMT_SEQUENCE) {
         Value::Absent => StatementSequence::Unknown,
         Value::Unsigned(n) => sequence_unless(limit, n),
         Value::FileNumber(_) => StatementSequence::Unknown,
@@ -144,7 +147,9 @@ fn declared_line<'a>(
     requires { ⌜ ContextIn (now main) (now supplementary) (now work) q (st .table) ⌝ }
     requires { ⌜ EntryKnown (now main) (q .unit) p ⌝ }
     requires { ⌜ (st .at ≤ top) × (st .warned ≤ top) ⌝ }
-    ensures { λ r. ⌜ FindsLines (declaredLine (contextOf (now (main .entry)) (now (supplementary .entry)) (now (work .entry)) q) (entryHere (now (main .entry)) p) start) (now (main .entry)) (now (supplementary .entry)) q (now (work .entry)) (now (records .entry)) (now (files .entry)) (now (warnings .entry)) st (now (work .exit)) (now (records .exit)) (now (files .exit)) (now (warnings .exit)) r ⌝ }
+    ensures { λ r. ⌜ FindsLines (declaredLine (contextOf (now (main .entry)) (now (supplementary .entry)) (now (work .entry)) q)
+        (entryHere (now (main .entry)) p) start) (now (main .entry)) (now (supplementary .entry)) q (now (work .entry)) (now (records .entry))
+        (now (files .entry)) (now (warnings .entry)) st (now (work .exit)) (now (records .exit)) (now (files .exit)) (now (warnings .exit)) r ⌝ }
 {
     let places = q.places;
     let table = st.table;
@@ -217,7 +222,9 @@ fn function_lines<'a>(
     requires { ⌜ ContextIn (now main) (now supplementary) (now work) q (st .table) ⌝ }
     requires { ⌜ EntryKnown (now main) (q .unit) p ⌝ }
     requires { ⌜ (st .at ≤ top) × (st .warned ≤ top) ⌝ }
-    ensures { λ r. ⌜ FindsLines (functionLines (contextOf (now (main .entry)) (now (supplementary .entry)) (now (work .entry)) q) (entryHere (now (main .entry)) p) range) (now (main .entry)) (now (supplementary .entry)) q (now (work .entry)) (now (records .entry)) (now (files .entry)) (now (warnings .entry)) st (now (work .exit)) (now (records .exit)) (now (files .exit)) (now (warnings .exit)) r ⌝ }
+    ensures { λ r. ⌜ FindsLines (functionLines (contextOf (now (main .entry)) (now (supplementary .entry)) (now (work .entry)) q)
+        (entryHere (now (main .entry)) p) range) (now (main .entry)) (now (supplementary .entry)) q (now (work .entry)) (now (records .entry))
+        (now (files .entry)) (now (warnings .entry)) st (now (work .exit)) (now (records .exit)) (now (files .exit)) (now (warnings .exit)) r ⌝ }
 {
     let requested = statement_sequence_offset(main, q.unit, p);
     let lines = q.lines;
@@ -304,10 +311,13 @@ fn import_details<'a>(
     requires { ⌜ BeginsAt (now main) (q .unit) (p + 15) below ⌝ }
     requires { ⌜ 16 + length (now name) < 65536 ⌝ }
     requires { ⌜ (st .at ≤ top) × (st .warned ≤ top) ⌝ }
-    ensures { λ r. ⌜ ImportsDetails (extractSubprogramDetails (detailContext (contextOf (now (main .entry)) (now (supplementary .entry)) (now (work .entry)) q) range) (descendantsOf (entryHere (now (main .entry)) p .depth) (entriesFrom (now (main .entry)) (p + 15)))) (now (main .entry)) (now (supplementary .entry)) q (now (name .entry)) range rows (now (work .entry)) (now (records .entry)) (now (warnings .entry)) st (now (work .exit)) (now (records .exit)) (now (warnings .exit)) r ⌝ }
+    ensures { λ r. ⌜ ImportsDetails (extractSubprogramDetails (detailContext (contextOf (now (main .entry)) (now (supplementary .entry)) (now (work .entry))
+        q) range) (descendantsOf (entryHere (now (main .entry)) p .depth) (entriesFrom (now (main .entry)) (p + 15)))) (now (main .entry))
+        (now (supplementary .entry)) q (now (name .entry)) range rows (now (work .entry)) (now (records .entry)) (now (warnings .entry)) st (now (work .exit))
+        (now (records .exit)) (now (warnings .exit)) r ⌝ }
 {
     let d = details_of(q, range);
-    let depth = tlv::bytes::read_u16(main, p + 11);
+    let depth = tlv::bytes::read_u16(main, p + ENTRY_DEPTH);
     let table = st.table;
     let stats = st.stats;
     match dies::dies::extract_subprogram_details(
@@ -360,7 +370,10 @@ pub fn import_range<'a>(
     requires { ⌜ BeginsAt (now main) (q .unit) (p + 15) below ⌝ }
     requires { ⌜ 16 + length (now name) < 65536 ⌝ }
     requires { ⌜ (st .status ≡ 0) × (st .at ≤ top) × (st .warned ≤ top) ⌝ }
-    ensures { λ r. ⌜ Imports (importRange (contextOf (now (main .entry)) (now (supplementary .entry)) (now (work .entry)) q) (entryHere (now (main .entry)) p) (descendantsOf (entryHere (now (main .entry)) p .depth) (entriesFrom (now (main .entry)) (p + 15))) (now (name .entry)) range) (now (main .entry)) (now (supplementary .entry)) q (now (work .entry)) (now (records .entry)) (now (files .entry)) (now (warnings .entry)) st (now (work .exit)) (now (records .exit)) (now (files .exit)) (now (warnings .exit)) r ⌝ }
+    ensures { λ r. ⌜ Imports (importRange (contextOf (now (main .entry)) (now (supplementary .entry)) (now (work .entry)) q) (entryHere (now (main .entry)) p)
+        (descendantsOf (entryHere (now (main .entry)) p .depth) (entriesFrom (now (main .entry)) (p + 15))) (now (name .entry)) range) (now (main .entry))
+        (now (supplementary .entry)) q (now (work .entry)) (now (records .entry)) (now (files .entry)) (now (warnings .entry)) st (now (work .exit))
+        (now (records .exit)) (now (files .exit)) (now (warnings .exit)) r ⌝ }
 {
     let table = st.table;
     let stats = st.stats;

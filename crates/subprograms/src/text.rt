@@ -13,6 +13,8 @@ ghost use Rattle.imports.specs.Import.{isLiveRange, isTombstone};
 ghost use Rattle.subprograms.specs.Text.{TextIndexed};
 use tlv::access::Own;
 use tlv::model::AddressRange;
+use tlv::tags::TEXT_TAG;
+use tlv::tags::UNIT_WHOLE;
 
 // Writes the executable ranges of the unit at a place, and returns their number.
 pub fn index_text(main: &[u8], place: usize, work: &mut [u8], base: usize) -> usize
@@ -21,10 +23,10 @@ pub fn index_text(main: &[u8], place: usize, work: &mut [u8], base: usize) -> us
     requires { ⌜ base + 16 * length (unitHere (now main) place .text) ≤ length (now work) ⌝ }
     ensures { λ r. ⌜ TextIndexed (now (main .entry)) (now (work .entry)) (now (work .exit)) place base r ⌝ }
 {
-    let mut p = place + 21;
+    let mut p = place + UNIT_WHOLE;
     let mut n: usize = 0;
     loop {
-        match tlv::access::next_before_rows(main, p, 0x12) {
+        match tlv::access::next_before_rows(main, p, TEXT_TAG) {
             Own::Missing => {
                 return n;
             }

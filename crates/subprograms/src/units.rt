@@ -4,6 +4,8 @@ ghost use mathlib.Core.Bool.{_&&_};
 ghost use Prim.Native.Nat.{ℕ, _+_, _≤_, _<_};
 ghost use lib.Dec.{eqb};
 ghost use lib.ListN.{length};
+ghost use Rattle.tlv.specs.Tags.{entryTag};
+ghost use Rattle.tlv.specs.Constants.{dwTagSubprogram};
 ghost use Rattle.tlv.specs.Bytes.{leAt};
 ghost use Rattle.tlv.specs.Buffer.{top};
 ghost use Rattle.tlv.specs.Checked.{Placed};
@@ -20,8 +22,16 @@ use crate::model::ImportState;
 use references::names::FoundName;
 use references::names::found_name;
 use tlv::access::Own;
+use tlv::constants::DW_TAG_SUBPROGRAM;
 use tlv::fields::Step;
 use tlv::model::AddressRange;
+use tlv::tags::ENTRY_KIND;
+use tlv::tags::ENTRY_TAG;
+use tlv::tags::ENTRY_WHOLE;
+use tlv::tags::FAILURE_TAG;
+use tlv::tags::RANGE_TAG;
+use tlv::tags::UNIT_TAG;
+use tlv::tags::UNIT_WHOLE;
 
 // The state after a rejected range, with the place in the warnings.
 fn reject(st: ImportState, warned: usize) -> ImportState
@@ -58,10 +68,10 @@ fn next_entry(s: &[u8], p: usize) -> usize
                 len: _,
                 next,
             } => {
-                if tag == 0x10 {
+                if tag == UNIT_TAG {
                     return at;
                 }
-                if tag == 0x17 {
+                if tag == ENTRY_TAG {
                     return at;
                 }
                 at = next;
@@ -91,7 +101,10 @@ fn import_candidate<'a>(
     requires { ⌜ BeginsAt (now main) (q .unit) (p + 15) below ⌝ }
     requires { ⌜ 16 + length (now name) < 65536 ⌝ }
     requires { ⌜ (st .status ≡ 0) × (st .at ≤ top) × (st .warned ≤ top) ⌝ }
-    ensures { λ r. ⌜ Imports (importOne (contextOf (now (main .entry)) (now (supplementary .entry)) (now (work .entry)) q) (entryHere (now (main .entry)) p) (belowEntry (now (main .entry)) p) (now (name .entry)) (record { range = range; tombstone = eqb flag 1 })) (now (main .entry)) (now (supplementary .entry)) q (now (work .entry)) (now (records .entry)) (now (files .entry)) (now (warnings .entry)) st (now (work .exit)) (now (records .exit)) (now (files .exit)) (now (warnings .exit)) r ⌝ }
+    ensures { λ r. ⌜ Imports (importOne (contextOf (now (main .entry)) (now (supplementary .entry)) (now (work .entry)) q) (entryHere (now (main .entry)) p)
+        (belowEntry (now (main .entry)) p) (now (name .entry)) (record { range = range; tombstone = eqb flag 1 })) (now (main .entry))
+        (now (supplementary .entry)) q (now (work .entry)) (now (records .entry)) (now (files .entry)) (now (warnings .entry)) st (now (work .exit))
+        (now (records .exit)) (now (files .exit)) (now (warnings .exit)) r ⌝ }
 {
     if crate::text::is_tombstone(work, q.text, q.text_count, range, flag) {
         return reject(st, st.warned);
@@ -134,13 +147,16 @@ fn import_ranges<'a>(
     requires { ⌜ (Placed (now main) (p + 15)) × EntriesKnown (now main) (q .unit) (p + 15) ⌝ }
     requires { ⌜ 16 + length (now name) < 65536 ⌝ }
     requires { ⌜ (st .status ≡ 0) × (st .at ≤ top) × (st .warned ≤ top) ⌝ }
-    ensures { λ r. ⌜ Imports (importRanges (contextOf (now (main .entry)) (now (supplementary .entry)) (now (work .entry)) q) (entryHere (now (main .entry)) p) (belowEntry (now (main .entry)) p) (now (name .entry)) (dieRanges (entryHere (now (main .entry)) p) .given)) (now (main .entry)) (now (supplementary .entry)) q (now (work .entry)) (now (records .entry)) (now (files .entry)) (now (warnings .entry)) st (now (work .exit)) (now (records .exit)) (now (files .exit)) (now (warnings .exit)) r ⌝ }
+    ensures { λ r. ⌜ Imports (importRanges (contextOf (now (main .entry)) (now (supplementary .entry)) (now (work .entry)) q)
+        (entryHere (now (main .entry)) p) (belowEntry (now (main .entry)) p) (now (name .entry)) (dieRanges (entryHere (now (main .entry)) p) .given))
+        (now (main .entry)) (now (supplementary .entry)) q (now (work .entry)) (now (records .entry)) (now (files .entry)) (now (warnings .entry)) st
+        (now (work .exit)) (now (records .exit)) (now (files .exit)) (now (warnings .exit)) r ⌝ }
 {
     let mut r = st;
-    let mut at = p + 15;
+    let mut at = p + ENTRY_WHOLE;
     let mut below = at;
     loop {
-        match tlv::access::next_own(main, at, 0x19) {
+        match tlv::access::next_own(main, at, RANGE_TAG) {
             Own::Missing => {
                 return r;
             }
@@ -194,9 +210,12 @@ fn import_named<'a>(
     requires { ⌜ (Placed (now main) (p + 15)) × EntriesKnown (now main) (q .unit) (p + 15) ⌝ }
     requires { ⌜ 16 + length (now name) < 65536 ⌝ }
     requires { ⌜ (st .status ≡ 0) × (st .at ≤ top) × (st .warned ≤ top) ⌝ }
-    ensures { λ r. ⌜ Imports (importByFailure (contextOf (now (main .entry)) (now (supplementary .entry)) (now (work .entry)) q) (entryHere (now (main .entry)) p) (belowEntry (now (main .entry)) p) (now (name .entry)) (dieRanges (entryHere (now (main .entry)) p) .failure)) (now (main .entry)) (now (supplementary .entry)) q (now (work .entry)) (now (records .entry)) (now (files .entry)) (now (warnings .entry)) st (now (work .exit)) (now (records .exit)) (now (files .exit)) (now (warnings .exit)) r ⌝ }
+    ensures { λ r. ⌜ Imports (importByFailure (contextOf (now (main .entry)) (now (supplementary .entry)) (now (work .entry)) q)
+        (entryHere (now (main .entry)) p) (belowEntry (now (main .entry)) p) (now (name .entry)) (dieRanges (entryHere (now (main .entry)) p) .failure))
+        (now (main .entry)) (now (supplementary .entry)) q (now (work .entry)) (now (records .entry)) (now (files .entry)) (now (warnings .entry)) st
+        (now (work .exit)) (now (records .exit)) (now (files .exit)) (now (warnings .exit)) r ⌝ }
 {
-    match tlv::access::next_own(main, p + 15, 0x1a) {
+    match tlv::access::next_own(main, p + ENTRY_WHOLE, FAILURE_TAG) {
         Own::Missing => {
             return import_ranges(
                 main,
@@ -258,9 +277,11 @@ fn import_entry<'a>(
     requires { ⌜ ContextIn (now main) (now supplementary) (now work) q (st .table) ⌝ }
     requires { ⌜ EntryKnown (now main) (q .unit) p ⌝ }
     requires { ⌜ (Placed (now main) (p + 15)) × EntriesKnown (now main) (q .unit) (p + 15) ⌝ }
-    requires { ⌜ leAt 2 (now main) (p + 13) ≡ 0x2e ⌝ }
+    requires { ⌜ leAt 2 (now main) (p + 13) ≡ dwTagSubprogram ⌝ }
     requires { ⌜ (st .status ≡ 0) × (st .at ≤ top) × (st .warned ≤ top) ⌝ }
-    ensures { λ r. ⌜ Imports (importEntry (contextOf (now (main .entry)) (now (supplementary .entry)) (now (work .entry)) q) (entryHere (now (main .entry)) p) (belowEntry (now (main .entry)) p)) (now (main .entry)) (now (supplementary .entry)) q (now (work .entry)) (now (records .entry)) (now (files .entry)) (now (warnings .entry)) st (now (work .exit)) (now (records .exit)) (now (files .exit)) (now (warnings .exit)) r ⌝ }
+    ensures { λ r. ⌜ Imports (importEntry (contextOf (now (main .entry)) (now (supplementary .entry)) (now (work .entry)) q) (entryHere (now (main .entry)) p)
+        (belowEntry (now (main .entry)) p)) (now (main .entry)) (now (supplementary .entry)) q (now (work .entry)) (now (records .entry)) (now (files .entry))
+        (now (warnings .entry)) st (now (work .exit)) (now (records .exit)) (now (files .exit)) (now (warnings .exit)) r ⌝ }
 {
     let places = q.places;
     let tables = places.tables;
@@ -298,11 +319,11 @@ fn import_entry<'a>(
 
 // Whether the field of this tag at place p is the entry of a subprogram.
 fn is_subprogram(main: &[u8], tag: u8, p: usize) -> bool
-    requires { ⌜ (tag ≡ 0x17 → p + 15 ≤ length (now main)) ⌝ }
-    ensures { λ r. ⌜ r ≡ (eqb tag 0x17 && eqb (leAt 2 (now (main .entry)) (p + 13)) 0x2e) ⌝ }
+    requires { ⌜ (tag ≡ entryTag → p + 15 ≤ length (now main)) ⌝ }
+    ensures { λ r. ⌜ r ≡ (eqb tag entryTag && eqb (leAt 2 (now (main .entry)) (p + 13)) dwTagSubprogram) ⌝ }
 {
-    if tag == 0x17 {
-        return tlv::bytes::read_u16(main, p + 13) == 0x2e;
+    if tag == ENTRY_TAG {
+        return tlv::bytes::read_u16(main, p + ENTRY_KIND) == DW_TAG_SUBPROGRAM;
     }
     false
 }
@@ -320,10 +341,12 @@ pub fn import_unit_details<'a>(
 ) -> ImportState
     requires { ⌜ ContextIn (now main) (now supplementary) (now work) q (st .table) ⌝ }
     requires { ⌜ (st .status ≡ 0) × (st .at ≤ top) × (st .warned ≤ top) ⌝ }
-    ensures { λ r. ⌜ Imports (importUnitDetails (contextOf (now (main .entry)) (now (supplementary .entry)) (now (work .entry)) q) (unitHere (now (main .entry)) (q .unit) .entries)) (now (main .entry)) (now (supplementary .entry)) q (now (work .entry)) (now (records .entry)) (now (files .entry)) (now (warnings .entry)) st (now (work .exit)) (now (records .exit)) (now (files .exit)) (now (warnings .exit)) r ⌝ }
+    ensures { λ r. ⌜ Imports (importUnitDetails (contextOf (now (main .entry)) (now (supplementary .entry)) (now (work .entry)) q)
+        (unitHere (now (main .entry)) (q .unit) .entries)) (now (main .entry)) (now (supplementary .entry)) q (now (work .entry)) (now (records .entry))
+        (now (files .entry)) (now (warnings .entry)) st (now (work .exit)) (now (records .exit)) (now (files .exit)) (now (warnings .exit)) r ⌝ }
 {
     let mut r = st;
-    let mut at = q.unit + 21;
+    let mut at = q.unit + UNIT_WHOLE;
     loop {
         match tlv::fields::field_at(main, at) {
             Step::End => {
@@ -338,7 +361,7 @@ pub fn import_unit_details<'a>(
                 len: _,
                 next,
             } => {
-                if tag == 0x10 {
+                if tag == UNIT_TAG {
                     return r;
                 }
                 if is_subprogram(main, tag, at) {

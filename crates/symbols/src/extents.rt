@@ -13,10 +13,10 @@ ghost use Rattle.dies.specs.RangeTable.{rangesAt, MergedAt};
 ghost use Rattle.symbols.specs.Walk.{rangesIn, Standing};
 ghost use Rattle.symbols.specs.Extents.{GatheredIn, Lying, Known, Remembered};
 use crate::model::RANGE_SIZE;
-use lookup::model::FUNCTION_TAG;
 use tlv::fields::Step;
 use tlv::fields::field_at;
 use tlv::model::AddressRange;
+use tlv::tags::TRAY_FUNCTION_TAG;
 
 // The tables: `functions` merged ranges from the beginning of work on, and from `base` on `added` more, the first `merged` of which are merged. Where
 // there is no room, `fast` is false.
@@ -121,7 +121,7 @@ fn gather_functions(s: &[u8], work: &mut [u8]) -> Gathered
                 len,
                 next,
             } => {
-                if tag == FUNCTION_TAG {
+                if tag == TRAY_FUNCTION_TAG {
                     let r = lookup::window::range_of(s, start, len);
                     if work.len() - n * RANGE_SIZE < RANGE_SIZE {
                         return Gathered { fast: false, n: n };

@@ -16,7 +16,8 @@ use Rattle.tlv.specs.Bytes.{leAt}
 use Rattle.tlv.specs.Limits.{fieldLimit, unitLimit, stringLimit, reasonLimit, depthLimit}
 use Rattle.tlv.specs.Fields.{Field, FieldList, more, fields}
 use Rattle.tlv.specs.Cursor.{stepAt, fieldsOf}
-use Rattle.tlv.specs.Grammar.{encodingTag, mayFollow, unitShaped, payloadShaped, payloadLimited, shaped, limited, next, checkFrom}
+use Rattle.tlv.specs.Grammar.{mayFollow, unitShaped, payloadShaped, payloadLimited, shaped, limited, next, checkFrom}
+use Rattle.tlv.specs.Tags.{encodingTag}
 use Rattle.tlv.specs.Checked.{fieldIn, judgedOf}
 use Rattle.tlv.proofs.TestLaws.{and-left, and-right}
 use Rattle.tlv.proofs.CursorLaws.{fields-at, fields-field}

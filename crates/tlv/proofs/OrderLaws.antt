@@ -13,7 +13,8 @@ use Rattle.tlv.specs.Outcome.{done}
 use Rattle.tlv.specs.Lists.{Any, exists, takeWhile}
 use Rattle.tlv.specs.Fields.{Field, FieldList, end, cut, more, fields, wholeFields, payloads}
 use Rattle.tlv.specs.Cursor.{stepAt}
-use Rattle.tlv.specs.Grammar.{encodingTag, partTag, after, mayFollow, payloadShaped, shaped, limited, next, checkFrom}
+use Rattle.tlv.specs.Grammar.{after, mayFollow, payloadShaped, shaped, limited, next, checkFrom}
+use Rattle.tlv.specs.Tags.{encodingTag, partTag}
 use Rattle.tlv.specs.Checked.{fieldIn, Placed}
 use Rattle.tlv.specs.Places.{ownFields}
 use Rattle.tlv.proofs.TestLaws.{by-test, and-left, or-either}

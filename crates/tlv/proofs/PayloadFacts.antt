@@ -7,7 +7,8 @@ use lib.ListN.{length}
 use borrow.Author.Tests.{leb-true, eqb-true}
 use Rattle.tlv.specs.declared.grammar.Context.{Context}
 use Rattle.tlv.specs.Grammar.{payloadShaped, unitShaped, textShaped, headerShaped, encodingShaped, partShaped, directoryShaped, fileShaped, rowShaped, entryShaped, attributeShaped, rangeShaped, failureShaped}
-use Rattle.tlv.specs.Grammar.{encodingTag, encodingFieldSize, partTag, partFieldSize, rowFieldSize}
+use Rattle.tlv.specs.Grammar.{encodingFieldSize, partFieldSize, rowFieldSize}
+use Rattle.tlv.specs.Tags.{encodingTag, partTag}
 use Rattle.tlv.proofs.TestLaws.{and-left, and-right}
 
 module _ (c : Context) (p : List ℕ) where

@@ -11,7 +11,8 @@ use Rattle.tlv.specs.declared.fields.Step.{Step}
 use Rattle.tlv.specs.Bytes.{leAt}
 use Rattle.tlv.specs.Limits.{fieldLimit, stringLimit, reasonLimit, depthLimit}
 use Rattle.tlv.specs.Cursor.{stepAt}
-use Rattle.tlv.specs.Grammar.{mayFollow, rowShaped, valueShaped, attributeShaped, payloadShaped, payloadLimited, shaped, limited, encodingTag, encodingFieldSize, partTag, partFieldSize, rowFieldSize, rowKindAt}
+use Rattle.tlv.specs.Grammar.{mayFollow, rowShaped, valueShaped, attributeShaped, payloadShaped, payloadLimited, shaped, limited, encodingFieldSize, partFieldSize, rowFieldSize, rowKindAt}
+use Rattle.tlv.specs.Tags.{encodingTag, partTag}
 use Rattle.tlv.specs.Checked.{Placed}
 use Rattle.tlv.proofs.TestLaws.{by-test, and-left, and-right}
 use Rattle.tlv.proofs.CursorLaws.{payload-within, payload-length}

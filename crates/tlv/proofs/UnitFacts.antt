@@ -12,7 +12,8 @@ use Rattle.tlv.specs.declared.access.Place.{Place}
 use Rattle.tlv.specs.Lists.{All, takeWhile, at, mapOption}
 use Rattle.tlv.specs.Bytes.{leAt}
 use Rattle.tlv.specs.Fields.{Field, FieldList, end, cut, more, fields, wholeFields, grouped, payloads, payloadOf}
-use Rattle.tlv.specs.Grammar.{encodingTag, partTag, shaped, limited, next, checkFrom}
+use Rattle.tlv.specs.Grammar.{shaped, limited, next, checkFrom}
+use Rattle.tlv.specs.Tags.{encodingTag, partTag}
 use Rattle.tlv.specs.Model.{rangeOf, headerOf, encodingOf, partOf, directoryOf, fileOf, rowOf, unitOf, units}
 use Rattle.tlv.specs.Cursor.{stepAt, fieldsOf}
 use Rattle.tlv.specs.Checked.{fieldIn, Placed}

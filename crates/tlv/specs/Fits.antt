@@ -8,7 +8,8 @@ use lib.ListN.{length}
 use Rattle.tlv.specs.declared.model.AddressRange.{AddressRange}
 use Rattle.tlv.specs.declared.model.LineEntry.{LineEntry}
 use Rattle.tlv.specs.Lists.{All}
-use Rattle.tlv.specs.Output.{FileEntry, InlineNode, CallSite, Function, Warning, malformedRanges, about, recordsBytes, filesBytes, warningsBytes, functionPayload, nodePayload, sitePayload, filePayload, warningPayload}
+use Rattle.tlv.specs.Output.{FileEntry, InlineNode, CallSite, Function, Warning, malformedRanges, about, recordsBytes, filesBytes, warningsBytes}
+use Rattle.tlv.specs.Output.{functionPayload, nodePayload, sitePayload, filePayload, warningPayload}
 use Rattle.tlv.specs.Reader.{readRecords, readFiles, readWarnings}
 
 -- a payload's length fits its two bytes

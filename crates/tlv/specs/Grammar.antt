@@ -5,6 +5,8 @@ use mathlib.Core.Bool.{Bool, true, false, cond, _&&_, _||_, not}
 use mathlib.Core.List.{List, [], _∷_}
 use lib.ListN.{length}
 use lib.Dec.{leb, ltb, eqb}
+use Rattle.tlv.specs.Tags.{attributeTag, compilationTag, directoryTag, encodingTag, entryTag, failureTag, fileTag, fileZeroTag, headerTag, partTag}
+use Rattle.tlv.specs.Tags.{rangeTag, rowTag, textTag, unitTag}
 use Rattle.tlv.specs.declared.grammar.Context.{Context}
 use Rattle.tlv.specs.Outcome.{Outcome, refused, done}
 use Rattle.tlv.specs.Lists.{exists}
@@ -19,20 +21,14 @@ start program = record { previous = 0; count = 0; units = 0; end = 0; length = 0
 -- ---- the order: "A unit is 10, at most one 11, any 12; then optionally 13 and, only after one, any 14, at most one 1c, any 15, any 16; then entries, .."
 -- Document 02, E8: "A new field, 1d hex, after the line header"; E11: "A field 1e hex after a line header (and its 1d)": directly behind it, at most one each
 
--- the encoding's tag, where its flag stands, and its payload's size
-abbrev pub encodingTag : ℕ
-encodingTag = 0x1d
-
+-- where the encoding's flag stands, and its payload's size
 abbrev pub encodingFlagAt : ℕ
 encodingFlagAt = 2
 
 abbrev pub encodingFieldSize : ℕ
 encodingFieldSize = 5
 
--- the part's tag, where its length stands behind its start, and its payload's size
-abbrev pub partTag : ℕ
-partTag = 0x1e
-
+-- where the part's length stands behind its start, and its payload's size
 abbrev pub partLengthAt : ℕ
 partLengthAt = 8
 
@@ -42,17 +38,17 @@ partFieldSize = partLengthAt + 8
 -- the tags that may stand after a tag
 unfoldable pub after : ℕ → List ℕ
 after t =
-    cond (eqb t 0x10) (0x10 ∷ 0x11 ∷ 0x12 ∷ 0x13 ∷ 0x17 ∷ [])
-    (cond (eqb t 0x11 || eqb t 0x12) (0x10 ∷ 0x12 ∷ 0x13 ∷ 0x17 ∷ [])
-    (cond (eqb t 0x13) (0x10 ∷ encodingTag ∷ partTag ∷ 0x14 ∷ 0x1c ∷ 0x15 ∷ 0x16 ∷ 0x17 ∷ [])
-    (cond (eqb t encodingTag) (0x10 ∷ partTag ∷ 0x14 ∷ 0x1c ∷ 0x15 ∷ 0x16 ∷ 0x17 ∷ [])
-    (cond (eqb t partTag || eqb t 0x14) (0x10 ∷ 0x14 ∷ 0x1c ∷ 0x15 ∷ 0x16 ∷ 0x17 ∷ [])
-    (cond (eqb t 0x1c || eqb t 0x15) (0x10 ∷ 0x15 ∷ 0x16 ∷ 0x17 ∷ [])
-    (cond (eqb t 0x16) (0x10 ∷ 0x16 ∷ 0x17 ∷ [])
-    (cond (eqb t 0x17 || eqb t 0x18) (0x10 ∷ 0x17 ∷ 0x18 ∷ 0x19 ∷ 0x1a ∷ [])
-    (cond (eqb t 0x19) (0x10 ∷ 0x17 ∷ 0x19 ∷ 0x1a ∷ [])
-    (cond (eqb t 0x1a) (0x10 ∷ 0x17 ∷ [])
-    (0x10 ∷ []))))))))))
+    cond (eqb t unitTag) (unitTag ∷ compilationTag ∷ textTag ∷ headerTag ∷ entryTag ∷ [])
+    (cond (eqb t compilationTag || eqb t textTag) (unitTag ∷ textTag ∷ headerTag ∷ entryTag ∷ [])
+    (cond (eqb t headerTag) (unitTag ∷ encodingTag ∷ partTag ∷ directoryTag ∷ fileZeroTag ∷ fileTag ∷ rowTag ∷ entryTag ∷ [])
+    (cond (eqb t encodingTag) (unitTag ∷ partTag ∷ directoryTag ∷ fileZeroTag ∷ fileTag ∷ rowTag ∷ entryTag ∷ [])
+    (cond (eqb t partTag || eqb t directoryTag) (unitTag ∷ directoryTag ∷ fileZeroTag ∷ fileTag ∷ rowTag ∷ entryTag ∷ [])
+    (cond (eqb t fileZeroTag || eqb t fileTag) (unitTag ∷ fileTag ∷ rowTag ∷ entryTag ∷ [])
+    (cond (eqb t rowTag) (unitTag ∷ rowTag ∷ entryTag ∷ [])
+    (cond (eqb t entryTag || eqb t attributeTag) (unitTag ∷ entryTag ∷ attributeTag ∷ rangeTag ∷ failureTag ∷ [])
+    (cond (eqb t rangeTag) (unitTag ∷ entryTag ∷ rangeTag ∷ failureTag ∷ [])
+    (cond (eqb t failureTag) (unitTag ∷ entryTag ∷ [])
+    (unitTag ∷ []))))))))))
 
 unfoldable pub mayFollow : ℕ → ℕ → Bool
 mayFollow previous t = exists (eqb t) (after previous)
@@ -143,24 +139,24 @@ rangeShaped p = eqb (length p) 17 && isFlag (leAt 1 p 16)
 
 -- 1a range failure: stage (1 byte, "0 before any range, 1 after those given"; "stage 0 only with no 19"), reason
 unfoldable pub failureShaped : ℕ → List ℕ → Bool
-failureShaped previous p = leb 1 (length p) && isFlag (leAt 1 p 0) && (eqb (leAt 1 p 0) 1 || not (eqb previous 0x19))
+failureShaped previous p = leb 1 (length p) && isFlag (leAt 1 p 0) && (eqb (leAt 1 p 0) 1 || not (eqb previous rangeTag))
 
 -- the payload of a field of tag t
 unfoldable pub payloadShaped : Context → ℕ → List ℕ → Bool
 payloadShaped c t p =
-    cond (eqb t 0x10) (unitShaped c p)
-    (cond (eqb t 0x11) true
-    (cond (eqb t 0x12) (textShaped p)
-    (cond (eqb t 0x13) (headerShaped p)
+    cond (eqb t unitTag) (unitShaped c p)
+    (cond (eqb t compilationTag) true
+    (cond (eqb t textTag) (textShaped p)
+    (cond (eqb t headerTag) (headerShaped p)
     (cond (eqb t encodingTag) (encodingShaped p)
     (cond (eqb t partTag) (partShaped c p)
-    (cond (eqb t 0x14) (directoryShaped p)
-    (cond (eqb t 0x15 || eqb t 0x1c) (fileShaped p)
-    (cond (eqb t 0x16) (rowShaped c p)
-    (cond (eqb t 0x17) (entryShaped c p)
-    (cond (eqb t 0x18) (attributeShaped p)
-    (cond (eqb t 0x19) (rangeShaped p)
-    (cond (eqb t 0x1a) (failureShaped (c .previous) p)
+    (cond (eqb t directoryTag) (directoryShaped p)
+    (cond (eqb t fileTag || eqb t fileZeroTag) (fileShaped p)
+    (cond (eqb t rowTag) (rowShaped c p)
+    (cond (eqb t entryTag) (entryShaped c p)
+    (cond (eqb t attributeTag) (attributeShaped p)
+    (cond (eqb t rangeTag) (rangeShaped p)
+    (cond (eqb t failureTag) (failureShaped (c .previous) p)
     false))))))))))))
 
 -- 2: a field that is no breach of the grammar
@@ -171,13 +167,13 @@ shaped c f = mayFollow (c .previous) (f .tag) && payloadShaped c (f .tag) (f .pa
 
 unfoldable pub payloadLimited : Context → ℕ → List ℕ → Bool
 payloadLimited c t p =
-    cond (eqb t 0x10) (ltb (c .units) unitLimit)
-    (cond (eqb t 0x11) (leb (length p) stringLimit)
-    (cond (eqb t 0x14) (leb (length p - 1) stringLimit)
-    (cond (eqb t 0x15 || eqb t 0x1c) (leb (length p - 9) stringLimit)
-    (cond (eqb t 0x17) (leb (leAt 2 p 8) depthLimit)
-    (cond (eqb t 0x18) (not (eqb (leAt 1 p 2) 3) || leb (length p - 3) stringLimit)
-    (cond (eqb t 0x1a) (leb (length p - 1) reasonLimit)
+    cond (eqb t unitTag) (ltb (c .units) unitLimit)
+    (cond (eqb t compilationTag) (leb (length p) stringLimit)
+    (cond (eqb t directoryTag) (leb (length p - 1) stringLimit)
+    (cond (eqb t fileTag || eqb t fileZeroTag) (leb (length p - 9) stringLimit)
+    (cond (eqb t entryTag) (leb (leAt 2 p 8) depthLimit)
+    (cond (eqb t attributeTag) (not (eqb (leAt 1 p 2) 3) || leb (length p - 3) stringLimit)
+    (cond (eqb t failureTag) (leb (length p - 1) reasonLimit)
     true))))))
 
 unfoldable pub limited : Context → Field → Bool
@@ -189,7 +185,7 @@ unfoldable pub next : Context → Field → Context
 next c f =
     let t = f .tag in
     let p = f .payload in
-    cond (eqb t 0x10)
+    cond (eqb t unitTag)
     (record {
       previous = t;
       count = c .count + 1;
@@ -201,7 +197,7 @@ next c f =
       program = c .program;
       encoded = false;
     })
-    (cond (eqb t 0x17)
+    (cond (eqb t entryTag)
     (record {
       previous = t;
       count = c .count + 1;

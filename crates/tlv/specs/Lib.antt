@@ -1,3 +1,5 @@
+pub mod Tags
+pub mod Constants
 pub mod Outcome
 pub mod Addresses
 pub mod Lists

@@ -5,11 +5,13 @@ use mathlib.Core.List.{List, map}
 use mathlib.Core.Option.{Option, none, some}
 use lib.ListN.{length, take, drop}
 use lib.Dec.{eqb}
+use Rattle.tlv.specs.Tags.{attributeTag, compilationTag, directoryTag, encodingTag, entryTag, failureTag, fileTag, fileZeroTag, headerTag, partTag}
+use Rattle.tlv.specs.Tags.{rangeTag, rowTag, textTag, unitTag}
 use Rattle.tlv.specs.declared.model.AddressRange.{AddressRange}
 use Rattle.tlv.specs.Lists.{mapOption}
 use Rattle.tlv.specs.Bytes.{leAt}
 use Rattle.tlv.specs.Fields.{Group, grouped, payloads, payloadOf, fields, wholeFields}
-use Rattle.tlv.specs.Grammar.{encodingTag, encodingFlagAt, partTag, partLengthAt, rowLineAt, rowColumnAt, rowKindAt}
+use Rattle.tlv.specs.Grammar.{encodingFlagAt, partLengthAt, rowLineAt, rowColumnAt, rowKindAt}
 
 -- an attribute: its name, its kind, the number that its value spells, and its value's bytes
 pub record Attribute : Type 0 where
@@ -156,36 +158,36 @@ entryOf g =
       offset = leAt 8 p 0;
       depth = leAt 2 p 8;
       tag = leAt 2 p 10;
-      attributes = map attributeOf (payloads 0x18 (g .rest));
-      ranges = map entryRangeOf (payloads 0x19 (g .rest));
-      failure = mapOption failureOf (payloadOf 0x1a (g .rest));
+      attributes = map attributeOf (payloads attributeTag (g .rest));
+      ranges = map entryRangeOf (payloads rangeTag (g .rest));
+      failure = mapOption failureOf (payloadOf failureTag (g .rest));
     }
 
 -- 10 and what follows it: the fields before the first entry, and the entries
 unfoldable pub unitOf : Group → CompilationUnit
 unitOf g =
     let p = g .head .payload in
-    let own = grouped 0x17 (g .rest) .before in
+    let own = grouped entryTag (g .rest) .before in
     record {
       offset = leAt 8 p 0;
       length = leAt 8 p 8;
       version = leAt 1 p 16;
       wordSize = leAt 1 p 17;
-      directory = payloadOf 0x11 own;
-      text = map rangeOf (payloads 0x12 own);
-      header = mapOption headerOf (payloadOf 0x13 own);
+      directory = payloadOf compilationTag own;
+      text = map rangeOf (payloads textTag own);
+      header = mapOption headerOf (payloadOf headerTag own);
       encoding = mapOption encodingOf (payloadOf encodingTag own);
       part = mapOption partOf (payloadOf partTag own);
-      directories = map directoryOf (payloads 0x14 own);
-      fileZero = mapOption fileOf (payloadOf 0x1c own);
-      files = map fileOf (payloads 0x15 own);
-      rows = map rowOf (payloads 0x16 own);
-      entries = map entryOf (grouped 0x17 (g .rest) .groups);
+      directories = map directoryOf (payloads directoryTag own);
+      fileZero = mapOption fileOf (payloadOf fileZeroTag own);
+      files = map fileOf (payloads fileTag own);
+      rows = map rowOf (payloads rowTag own);
+      entries = map entryOf (grouped entryTag (g .rest) .groups);
     }
 
 -- the units of a sheet
 unfoldable pub units : List ℕ → List CompilationUnit
-units s = map unitOf (grouped 0x10 (wholeFields (fields s)) .groups)
+units s = map unitOf (grouped unitTag (wholeFields (fields s)) .groups)
 
 -- ---- the unit's program
 

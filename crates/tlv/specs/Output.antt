@@ -3,6 +3,7 @@ use Prim.Native.Nat.{ℕ, _+_}
 use mathlib.Core.Bool.{Bool, cond}
 use mathlib.Core.List.{List, [], _∷_, _++_}
 use lib.ListN.{length}
+use Rattle.tlv.specs.Tags.{trayFileTag, trayFunctionTag, trayNodeTag, trayRangeTag, trayRowTag, traySiteTag, trayWarningTag}
 use Rattle.tlv.specs.declared.model.AddressRange.{AddressRange}
 use Rattle.tlv.specs.declared.model.FileIndex.{FileIndex}
 use Rattle.tlv.specs.declared.model.LineEntry.{LineEntry}
@@ -104,22 +105,22 @@ module _ {A : Type 0} where
   eachOf f (x ∷ xs) = f x ++ eachOf f xs
 
 abbrev pub rangeBytes : AddressRange → List ℕ
-rangeBytes r = encode 0x44 (rangePayload r)
+rangeBytes r = encode trayRangeTag (rangePayload r)
 
 -- "43 node .. in preorder, each followed by its ranges 44"
 unfoldable pub nodeBytes : InlineNode → List ℕ
-nodeBytes n = encode 0x43 (nodePayload n) ++ eachOf rangeBytes (n .ranges)
+nodeBytes n = encode trayNodeTag (nodePayload n) ++ eachOf rangeBytes (n .ranges)
 
 unfoldable pub functionBytes : Function → List ℕ
 functionBytes f =
-    encode 0x41 (functionPayload (f .range) (f .name)) ++ eachOf (λ l. encode 0x42 (rowPayload l)) (f .lines)
-    ++ eachOf nodeBytes (f .inline) ++ eachOf (λ s. encode 0x45 (sitePayload s)) (f .callSites)
+    encode trayFunctionTag (functionPayload (f .range) (f .name)) ++ eachOf (λ l. encode trayRowTag (rowPayload l)) (f .lines)
+    ++ eachOf nodeBytes (f .inline) ++ eachOf (λ s. encode traySiteTag (sitePayload s)) (f .callSites)
 
 unfoldable pub recordsBytes : List Function → List ℕ
 recordsBytes fs = eachOf functionBytes fs
 
 unfoldable pub filesBytes : List FileEntry → List ℕ
-filesBytes fs = eachOf (λ f. encode 0x40 (filePayload f)) fs
+filesBytes fs = eachOf (λ f. encode trayFileTag (filePayload f)) fs
 
 unfoldable pub warningsBytes : List Warning → List ℕ
-warningsBytes ws = eachOf (λ w. encode 0x46 (warningPayload w)) ws
+warningsBytes ws = eachOf (λ w. encode trayWarningTag (warningPayload w)) ws

@@ -5,6 +5,7 @@ use mathlib.Core.Option.{Option, none, some}
 use Prim.Native.Nat.{ℕ, zero, suc, _+_}
 use lib.Dec.{eqb}
 use lib.ListN.{length, drop}
+use Rattle.tlv.specs.Tags.{entryTag, unitTag}
 use Rattle.tlv.specs.Lists.{takeWhile}
 use Rattle.tlv.specs.Bytes.{leAt}
 use Rattle.tlv.specs.Fields.{Field, FieldList, end, cut, more, fields, wholeFields}
@@ -12,11 +13,11 @@ use Rattle.tlv.specs.Model.{Entry, CompilationUnit, entryOf, unitOf}
 
 -- the fields up to the next unit or entry: those of an entry, or a unit's own
 unfoldable pub ownFields : FieldList → List Field
-ownFields fs = takeWhile (λ f. not (eqb (f .tag) 0x17 || eqb (f .tag) 0x10)) (wholeFields fs)
+ownFields fs = takeWhile (λ f. not (eqb (f .tag) entryTag || eqb (f .tag) unitTag)) (wholeFields fs)
 
 -- the fields up to the next unit
 unfoldable pub unitFields : FieldList → List Field
-unitFields fs = takeWhile (λ f. not (eqb (f .tag) 0x10)) (wholeFields fs)
+unitFields fs = takeWhile (λ f. not (eqb (f .tag) unitTag)) (wholeFields fs)
 
 abbrev pub noField : Field
 noField = record { tag = 0; payload = [] }
@@ -48,7 +49,7 @@ behind p f = p + 3 + length (f .payload)
 unfoldable pub unitPlaces : ℕ → FieldList → List ℕ
 unitPlaces p end = []
 unitPlaces p cut = []
-unitPlaces p (more f fs) = cond (eqb (f .tag) 0x10) (p ∷ unitPlaces (behind p f) fs) (unitPlaces (behind p f) fs)
+unitPlaces p (more f fs) = cond (eqb (f .tag) unitTag) (p ∷ unitPlaces (behind p f) fs) (unitPlaces (behind p f) fs)
 
 -- an entry in the index of a sheet: its offset in the section, its place and its unit's
 pub record IndexedEntry : Type 0 where
@@ -61,6 +62,6 @@ unfoldable pub entryIndex : ℕ → ℕ → ℕ → FieldList → List IndexedEn
 entryIndex p q o end = []
 entryIndex p q o cut = []
 entryIndex p q o (more f fs) =
-    cond (eqb (f .tag) 0x10) (entryIndex (behind p f) p (leAt 8 (f .payload) 0) fs)
-    (cond (eqb (f .tag) 0x17) (record { offset = o + leAt 8 (f .payload) 0; place = p; unit = q } ∷ entryIndex (behind p f) q o fs)
+    cond (eqb (f .tag) unitTag) (entryIndex (behind p f) p (leAt 8 (f .payload) 0) fs)
+    (cond (eqb (f .tag) entryTag) (record { offset = o + leAt 8 (f .payload) 0; place = p; unit = q } ∷ entryIndex (behind p f) q o fs)
     (entryIndex (behind p f) q o fs))

@@ -4,6 +4,7 @@ ghost use mathlib.Core.Bool.{true};
 ghost use mathlib.Core.List.{map};
 ghost use Prim.Native.Nat.{_+_, _≤_};
 ghost use lib.ListN.{length, take, drop};
+ghost use Rattle.tlv.specs.Tags.{attributeTag, rowTag};
 ghost use Rattle.tlv.specs.Lists.{first, at};
 ghost use Rattle.tlv.specs.Fields.{fields, payloads};
 ghost use Rattle.tlv.specs.Grammar.{attributeShaped};
@@ -18,6 +19,10 @@ use crate::fields::Step;
 use crate::fields::field_at;
 use crate::grammar::ROW_FIELD;
 use crate::grammar::ROW_WHOLE;
+use crate::tags::ATTRIBUTE_TAG;
+use crate::tags::ENTRY_TAG;
+use crate::tags::ROW_TAG;
+use crate::tags::UNIT_TAG;
 
 // A field of an entry, or of a unit before its first entry.
 pub enum Own {
@@ -49,10 +54,10 @@ pub fn next_own(s: &[u8], p: usize, tag: u8) -> Own
                 len,
                 next,
             } => {
-                if t == 0x17 {
+                if t == ENTRY_TAG {
                     return Own::Missing;
                 }
-                if t == 0x10 {
+                if t == UNIT_TAG {
                     return Own::Missing;
                 }
                 if t == tag {
@@ -88,10 +93,10 @@ pub fn next_before_rows(s: &[u8], p: usize, tag: u8) -> Own
                 len,
                 next,
             } => {
-                if t == 0x17 {
+                if t == ENTRY_TAG {
                     return Own::Missing;
                 }
-                if t == 0x10 {
+                if t == UNIT_TAG {
                     return Own::Missing;
                 }
                 if t == tag {
@@ -101,7 +106,7 @@ pub fn next_before_rows(s: &[u8], p: usize, tag: u8) -> Own
                         next: next,
                     };
                 }
-                if t == 0x16 {
+                if t == ROW_TAG {
                     return Own::Missing;
                 }
                 at = next;
@@ -113,10 +118,10 @@ pub fn next_before_rows(s: &[u8], p: usize, tag: u8) -> Own
 // The next row among a unit's own fields, from a place on. All rows have one length, so the place behind one is known before its length is read.
 pub fn next_row(s: &[u8], p: usize) -> Own
     requires { ⌜ Placed (now s) p ⌝ }
-    ensures { λ r. ⌜ NextOwn (now (s .entry)) p 0x16 r ⌝ }
+    ensures { λ r. ⌜ NextOwn (now (s .entry)) p rowTag r ⌝ }
 {
     if p < s.len() {
-        if s[p] == 0x16 {
+        if s[p] == ROW_TAG {
             return Own::Field {
                 start: p + 3,
                 len: ROW_FIELD,
@@ -124,7 +129,7 @@ pub fn next_row(s: &[u8], p: usize) -> Own
             };
         }
     }
-    next_own(s, p, 0x16)
+    next_own(s, p, ROW_TAG)
 }
 
 // The value of an attribute.
@@ -183,7 +188,8 @@ fn value_at(s: &[u8], start: usize, len: usize) -> Value
 // The value of the first attribute of a name of the entry whose field ends at p. Attributes come first of its fields, so the search ends at any other.
 pub fn attribute(s: &[u8], p: usize, name: u16) -> Value
     requires { ⌜ Placed (now s) p ⌝ }
-    ensures { λ r. ⌜ Says (now (s .entry)) r (meaningOf (first (isNamed name) (map attributeOf (payloads 0x18 (ownFields (fields (drop p (now (s .entry))))))))) ⌝ }
+    ensures { λ r. ⌜ Says (now (s .entry)) r (meaningOf
+        (first (isNamed name) (map attributeOf (payloads attributeTag (ownFields (fields (drop p (now (s .entry))))))))) ⌝ }
 {
     let mut at = p;
     loop {
@@ -200,7 +206,7 @@ pub fn attribute(s: &[u8], p: usize, name: u16) -> Value
                 len,
                 next,
             } => {
-                if tag != 0x18 {
+                if tag != ATTRIBUTE_TAG {
                     return Value::Absent;
                 }
                 if read_u16(s, start) == name {
@@ -238,7 +244,7 @@ pub fn unit_by_ordinal(s: &[u8], ordinal: u64) -> Place
                 len: _,
                 next,
             } => {
-                if t == 0x10 {
+                if t == UNIT_TAG {
                     if left == 0 {
                         return Place::At(p);
                     }

@@ -3,13 +3,29 @@ ghost use mathlib.Core.Path.{_≡_};
 ghost use mathlib.Core.Bool.{true};
 ghost use Prim.Native.Nat.{_+_, _≤_};
 ghost use lib.ListN.{length, take, drop};
-ghost use Rattle.tlv.specs.Grammar.{mayFollow, unitShaped, textShaped, headerShaped, encodingShaped, partShaped, directoryShaped, fileShaped, rowShaped, entryShaped, valueShaped, attributeShaped, rangeShaped, failureShaped, payloadShaped, payloadLimited, shaped, limited, next, checkInput};
+ghost use Rattle.tlv.specs.Grammar.{mayFollow, unitShaped, textShaped, headerShaped, encodingShaped, partShaped, directoryShaped, fileShaped};
+ghost use Rattle.tlv.specs.Grammar.{rowShaped, entryShaped, valueShaped, attributeShaped, rangeShaped, failureShaped, payloadShaped, payloadLimited};
+ghost use Rattle.tlv.specs.Grammar.{shaped, limited, next, checkInput};
 ghost use Rattle.tlv.specs.Checked.{fieldIn, judgedOf, checkedOf};
 use crate::bytes::read_u8;
 use crate::bytes::read_u16;
 use crate::bytes::read_u64;
 use crate::fields::Step;
 use crate::fields::field_at;
+use crate::tags::ATTRIBUTE_TAG;
+use crate::tags::COMPILATION_TAG;
+use crate::tags::DIRECTORY_TAG;
+use crate::tags::ENCODING_TAG;
+use crate::tags::ENTRY_TAG;
+use crate::tags::FAILURE_TAG;
+use crate::tags::FILE_TAG;
+use crate::tags::FILE_ZERO_TAG;
+use crate::tags::HEADER_TAG;
+use crate::tags::PART_TAG;
+use crate::tags::RANGE_TAG;
+use crate::tags::ROW_TAG;
+use crate::tags::TEXT_TAG;
+use crate::tags::UNIT_TAG;
 
 const FIELD_LIMIT: u64 = 65536;
 
@@ -21,16 +37,12 @@ const REASON_LIMIT: usize = 4096;
 
 const DEPTH_LIMIT: u16 = 1024;
 
-// The field of a line encoding: its tag, where the default statement flag stands, and the length of its payload.
-pub const ENCODING_TAG: u8 = 0x1d;
-
+// The field of a line encoding: where the default statement flag stands, and the length of its payload.
 const ENCODING_FLAG: usize = 2;
 
 pub const ENCODING_FIELD: usize = 5;
 
-// The field that names a unit's part of the line program: its tag, where the length stands behind the start, and the length of its payload.
-pub const PART_TAG: u8 = 0x1e;
-
+// The field that names a unit's part of the line program: where the length stands behind the start, and the length of its payload.
 pub const PART_LENGTH: usize = 8;
 
 pub const PART_FIELD: usize = PART_LENGTH + 8;
@@ -66,44 +78,68 @@ pub fn may_follow(previous: u8, tag: u8) -> bool
     ensures { λ r. ⌜ r ≡ mayFollow previous tag ⌝ }
 {
     match previous {
-        0x10 => (tag == 0x10) | (tag == 0x11) | (tag == 0x12) | (tag == 0x13) | (tag == 0x17),
-        0x11 => (tag == 0x10) | (tag == 0x12) | (tag == 0x13) | (tag == 0x17),
-        0x12 => (tag == 0x10) | (tag == 0x12) | (tag == 0x13) | (tag == 0x17),
-        0x13 => (tag == 0x10)
+        UNIT_TAG => (tag == UNIT_TAG)
+            | (tag == COMPILATION_TAG)
+            | (tag == TEXT_TAG)
+            | (tag == HEADER_TAG)
+            | (tag == ENTRY_TAG),
+        COMPILATION_TAG => (tag == UNIT_TAG)
+            | (tag == TEXT_TAG)
+            | (tag == HEADER_TAG)
+            | (tag == ENTRY_TAG),
+        TEXT_TAG => (tag == UNIT_TAG)
+            | (tag == TEXT_TAG)
+            | (tag == HEADER_TAG)
+            | (tag == ENTRY_TAG),
+        HEADER_TAG => (tag == UNIT_TAG)
             | (tag == ENCODING_TAG)
             | (tag == PART_TAG)
-            | (tag == 0x14)
-            | (tag == 0x1c)
-            | (tag == 0x15)
-            | (tag == 0x16)
-            | (tag == 0x17),
-        ENCODING_TAG => (tag == 0x10)
+            | (tag == DIRECTORY_TAG)
+            | (tag == FILE_ZERO_TAG)
+            | (tag == FILE_TAG)
+            | (tag == ROW_TAG)
+            | (tag == ENTRY_TAG),
+        ENCODING_TAG => (tag == UNIT_TAG)
             | (tag == PART_TAG)
-            | (tag == 0x14)
-            | (tag == 0x1c)
-            | (tag == 0x15)
-            | (tag == 0x16)
-            | (tag == 0x17),
-        PART_TAG => (tag == 0x10)
-            | (tag == 0x14)
-            | (tag == 0x1c)
-            | (tag == 0x15)
-            | (tag == 0x16)
-            | (tag == 0x17),
-        0x14 => (tag == 0x10)
-            | (tag == 0x14)
-            | (tag == 0x1c)
-            | (tag == 0x15)
-            | (tag == 0x16)
-            | (tag == 0x17),
-        0x1c => (tag == 0x10) | (tag == 0x15) | (tag == 0x16) | (tag == 0x17),
-        0x15 => (tag == 0x10) | (tag == 0x15) | (tag == 0x16) | (tag == 0x17),
-        0x16 => (tag == 0x10) | (tag == 0x16) | (tag == 0x17),
-        0x17 => (tag == 0x10) | (tag == 0x17) | (tag == 0x18) | (tag == 0x19) | (tag == 0x1a),
-        0x18 => (tag == 0x10) | (tag == 0x17) | (tag == 0x18) | (tag == 0x19) | (tag == 0x1a),
-        0x19 => (tag == 0x10) | (tag == 0x17) | (tag == 0x19) | (tag == 0x1a),
-        0x1a => (tag == 0x10) | (tag == 0x17),
-        _ => tag == 0x10,
+            | (tag == DIRECTORY_TAG)
+            | (tag == FILE_ZERO_TAG)
+            | (tag == FILE_TAG)
+            | (tag == ROW_TAG)
+            | (tag == ENTRY_TAG),
+        PART_TAG => (tag == UNIT_TAG)
+            | (tag == DIRECTORY_TAG)
+            | (tag == FILE_ZERO_TAG)
+            | (tag == FILE_TAG)
+            | (tag == ROW_TAG)
+            | (tag == ENTRY_TAG),
+        DIRECTORY_TAG => (tag == UNIT_TAG)
+            | (tag == DIRECTORY_TAG)
+            | (tag == FILE_ZERO_TAG)
+            | (tag == FILE_TAG)
+            | (tag == ROW_TAG)
+            | (tag == ENTRY_TAG),
+        FILE_ZERO_TAG => (tag == UNIT_TAG)
+            | (tag == FILE_TAG)
+            | (tag == ROW_TAG)
+            | (tag == ENTRY_TAG),
+        FILE_TAG => (tag == UNIT_TAG) | (tag == FILE_TAG) | (tag == ROW_TAG) | (tag == ENTRY_TAG),
+        ROW_TAG => (tag == UNIT_TAG) | (tag == ROW_TAG) | (tag == ENTRY_TAG),
+        ENTRY_TAG => (tag == UNIT_TAG)
+            | (tag == ENTRY_TAG)
+            | (tag == ATTRIBUTE_TAG)
+            | (tag == RANGE_TAG)
+            | (tag == FAILURE_TAG),
+        ATTRIBUTE_TAG => (tag == UNIT_TAG)
+            | (tag == ENTRY_TAG)
+            | (tag == ATTRIBUTE_TAG)
+            | (tag == RANGE_TAG)
+            | (tag == FAILURE_TAG),
+        RANGE_TAG => (tag == UNIT_TAG)
+            | (tag == ENTRY_TAG)
+            | (tag == RANGE_TAG)
+            | (tag == FAILURE_TAG),
+        FAILURE_TAG => (tag == UNIT_TAG) | (tag == ENTRY_TAG),
+        _ => tag == UNIT_TAG,
     }
 }
 
@@ -261,7 +297,7 @@ pub fn failure_shaped(previous: u8, s: &[u8], start: usize, len: usize) -> bool
         return false;
     }
     let stage = read_u8(s, start);
-    (stage <= 1) & ((stage == 1) | (previous != 0x19))
+    (stage <= 1) & ((stage == 1) | (previous != RANGE_TAG))
 }
 
 pub fn payload_shaped(c: Context, tag: u8, s: &[u8], start: usize, len: usize) -> bool
@@ -269,20 +305,20 @@ pub fn payload_shaped(c: Context, tag: u8, s: &[u8], start: usize, len: usize) -
     ensures { λ r. ⌜ r ≡ payloadShaped c tag (take len (drop start (now (s .entry)))) ⌝ }
 {
     match tag {
-        0x10 => unit_shaped(c, s, start, len),
-        0x11 => true,
-        0x12 => text_shaped(s, start, len),
-        0x13 => header_shaped(s, start, len),
+        UNIT_TAG => unit_shaped(c, s, start, len),
+        COMPILATION_TAG => true,
+        TEXT_TAG => text_shaped(s, start, len),
+        HEADER_TAG => header_shaped(s, start, len),
         ENCODING_TAG => encoding_shaped(s, start, len),
         PART_TAG => part_shaped(c, s, start, len),
-        0x14 => directory_shaped(s, start, len),
-        0x15 => file_shaped(s, start, len),
-        0x1c => file_shaped(s, start, len),
-        0x16 => row_shaped(c, s, start, len),
-        0x17 => entry_shaped(c, s, start, len),
-        0x18 => attribute_shaped(s, start, len),
-        0x19 => range_shaped(s, start, len),
-        0x1a => failure_shaped(c.previous, s, start, len),
+        DIRECTORY_TAG => directory_shaped(s, start, len),
+        FILE_TAG => file_shaped(s, start, len),
+        FILE_ZERO_TAG => file_shaped(s, start, len),
+        ROW_TAG => row_shaped(c, s, start, len),
+        ENTRY_TAG => entry_shaped(c, s, start, len),
+        ATTRIBUTE_TAG => attribute_shaped(s, start, len),
+        RANGE_TAG => range_shaped(s, start, len),
+        FAILURE_TAG => failure_shaped(c.previous, s, start, len),
         _ => false,
     }
 }
@@ -294,14 +330,14 @@ pub fn payload_limited(c: Context, tag: u8, s: &[u8], start: usize, len: usize) 
     ensures { λ r. ⌜ r ≡ payloadLimited c tag (take len (drop start (now (s .entry)))) ⌝ }
 {
     match tag {
-        0x10 => c.units < UNIT_LIMIT,
-        0x11 => len <= STRING_LIMIT,
-        0x14 => len <= STRING_LIMIT + 1,
-        0x15 => len <= STRING_LIMIT + 9,
-        0x1c => len <= STRING_LIMIT + 9,
-        0x17 => read_u16(s, start + 8) <= DEPTH_LIMIT,
-        0x18 => (read_u8(s, start + 2) != 3) | (len <= STRING_LIMIT + 3),
-        0x1a => len <= REASON_LIMIT + 1,
+        UNIT_TAG => c.units < UNIT_LIMIT,
+        COMPILATION_TAG => len <= STRING_LIMIT,
+        DIRECTORY_TAG => len <= STRING_LIMIT + 1,
+        FILE_TAG => len <= STRING_LIMIT + 9,
+        FILE_ZERO_TAG => len <= STRING_LIMIT + 9,
+        ENTRY_TAG => read_u16(s, start + 8) <= DEPTH_LIMIT,
+        ATTRIBUTE_TAG => (read_u8(s, start + 2) != 3) | (len <= STRING_LIMIT + 3),
+        FAILURE_TAG => len <= REASON_LIMIT + 1,
         _ => true,
     }
 }
@@ -315,7 +351,7 @@ pub fn next(c: Context, tag: u8, s: &[u8], start: usize, len: usize) -> Context
 {
     let count = c.count + 1;
     match tag {
-        0x10 => {
+        UNIT_TAG => {
             let offset = read_u64(s, start);
             let size = read_u64(s, start + 8);
             Context {
@@ -330,7 +366,7 @@ pub fn next(c: Context, tag: u8, s: &[u8], start: usize, len: usize) -> Context
                 encoded: false,
             }
         }
-        0x17 => {
+        ENTRY_TAG => {
             let offset = read_u64(s, start);
             let depth = read_u16(s, start + 8) as u64;
             Context {

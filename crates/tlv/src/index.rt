@@ -2,6 +2,7 @@
 ghost use mathlib.Core.Path.{_≡_};
 ghost use Prim.Native.Nat.{_+_, _*_, _^_, _≤_, _<_};
 ghost use lib.ListN.{length};
+ghost use Rattle.tlv.specs.Tags.{entryTag};
 ghost use Rattle.tlv.specs.Fields.{fields, wholeFields, payloads};
 ghost use Rattle.tlv.specs.Checked.{Placed};
 ghost use Rattle.tlv.specs.Table.{records};
@@ -12,6 +13,8 @@ use crate::fields::Step;
 use crate::fields::field_at;
 use crate::table::set_u32;
 use crate::table::set_u64;
+use crate::tags::ENTRY_TAG;
+use crate::tags::UNIT_TAG;
 
 // A record of the index: offset 8 bytes, place 4 bytes, place of the unit 4 bytes.
 fn put_entry(work: &mut [u8], p: usize, offset: u64, place: usize, unit: usize)
@@ -29,7 +32,7 @@ fn put_entry(work: &mut [u8], p: usize, offset: u64, place: usize, unit: usize)
 pub fn index_entries(s: &[u8], work: &mut [u8], base: usize) -> usize
     requires { ⌜ Placed (now s) 0 ⌝ }
     requires { ⌜ length (now s) < 2 ^ 32 ⌝ }
-    requires { ⌜ base + 16 * length (payloads 0x17 (wholeFields (fields (now s)))) ≤ length (now work) ⌝ }
+    requires { ⌜ base + 16 * length (payloads entryTag (wholeFields (fields (now s)))) ≤ length (now work) ⌝ }
     ensures { λ r. ⌜ Indexed (now (s .entry)) (now (work .entry)) (now (work .exit)) base r ⌝ }
 {
     let mut p: usize = 0;
@@ -50,11 +53,11 @@ pub fn index_entries(s: &[u8], work: &mut [u8], base: usize) -> usize
                 len: _,
                 next,
             } => {
-                if tag == 0x10 {
+                if tag == UNIT_TAG {
                     offset = read_u64(s, start);
                     unit = p;
                     p = next;
-                } else if tag == 0x17 {
+                } else if tag == ENTRY_TAG {
                     let own = read_u64(s, start);
                     put_entry(work, base + n * 16, offset + own, p, unit);
                     n += 1;

@@ -1,10 +1,12 @@
 // Type-length-value fields: what a sheet says, and what the trays are given.
 pub mod access;
 pub mod bytes;
+pub mod constants;
 pub mod fields;
 pub mod grammar;
 pub mod index;
 pub mod model;
 pub mod output;
 pub mod table;
+pub mod tags;
 pub mod units;

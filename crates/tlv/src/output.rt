@@ -5,6 +5,7 @@ ghost use mathlib.Core.List.{List, [], _∷_, _++_};
 ghost use Prim.Native.Nat.{_+_, _<_, _≤_};
 ghost use lib.Dec.{leb};
 ghost use lib.ListN.{length};
+ghost use Rattle.tlv.specs.Tags.{trayFileTag, trayFunctionTag, trayNodeTag, trayRangeTag, trayRowTag, traySiteTag, trayWarningTag};
 ghost use Rattle.tlv.specs.Lists.{isEmpty};
 ghost use Rattle.tlv.specs.Bytes.{bytesOf};
 ghost use Rattle.tlv.specs.Fields.{encode};
@@ -16,6 +17,13 @@ use crate::model::LineEntry;
 use crate::table::set_u16;
 use crate::table::set_u32;
 use crate::table::set_u64;
+use crate::tags::TRAY_FILE_TAG;
+use crate::tags::TRAY_FUNCTION_TAG;
+use crate::tags::TRAY_NODE_TAG;
+use crate::tags::TRAY_RANGE_TAG;
+use crate::tags::TRAY_ROW_TAG;
+use crate::tags::TRAY_SITE_TAG;
+use crate::tags::TRAY_WARNING_TAG;
 
 // A byte. Past the tray's end nothing is laid, and the place goes on.
 pub fn put_u8(buffer: &mut [u8], at: usize, b: u8) -> usize
@@ -143,12 +151,13 @@ fn put_head(buffer: &mut [u8], at: usize, tag: u8, size: u16) -> usize
 // 40 file: directory length 2 bytes, directory, basename.
 pub fn put_file(buffer: &mut [u8], at: usize, directory: &[u8], basename: &[u8]) -> usize
     requires { ⌜ 2 + length (now directory) + length (now basename) < 65536 ⌝ }
-    ensures { λ r. ⌜ Put at (encode 0x40 (filePayload (record { directory = now (directory .entry); basename = now (basename .entry) }))) (now (buffer .entry)) (now (buffer .exit)) r ⌝ }
+    ensures { λ r. ⌜ Put at (encode trayFileTag (filePayload (record { directory = now (directory .entry); basename = now (basename .entry) })))
+        (now (buffer .entry)) (now (buffer .exit)) r ⌝ }
 {
     let headed = put_head(
         buffer,
         at,
-        0x40,
+        TRAY_FILE_TAG,
         (2 + directory.len() + basename.len()) as u16,
     );
     let counted = put_u16(buffer, headed, directory.len() as u16);
@@ -159,9 +168,9 @@ pub fn put_file(buffer: &mut [u8], at: usize, directory: &[u8], basename: &[u8])
 // 41 function: start, end, name.
 pub fn put_function(buffer: &mut [u8], at: usize, range: AddressRange, name: &[u8]) -> usize
     requires { ⌜ 16 + length (now name) < 65536 ⌝ }
-    ensures { λ r. ⌜ Put at (encode 0x41 (functionPayload range (now (name .entry)))) (now (buffer .entry)) (now (buffer .exit)) r ⌝ }
+    ensures { λ r. ⌜ Put at (encode trayFunctionTag (functionPayload range (now (name .entry)))) (now (buffer .entry)) (now (buffer .exit)) r ⌝ }
 {
-    let headed = put_head(buffer, at, 0x41, (16 + name.len()) as u16);
+    let headed = put_head(buffer, at, TRAY_FUNCTION_TAG, (16 + name.len()) as u16);
     let started = put_u64(buffer, headed, range.start);
     let ended = put_u64(buffer, started, range.end);
     put_bytes(buffer, ended, name)
@@ -175,10 +184,10 @@ pub const TRAY_ROW: u16 = TRAY_COLUMN + 2;
 
 // 42 row: address, file 4 bytes, line 4 bytes, column 2 bytes.
 pub fn put_line(buffer: &mut [u8], at: usize, line: LineEntry) -> usize
-    ensures { λ r. ⌜ Put at (encode 0x42 (rowPayload line)) (now (buffer .entry)) (now (buffer .exit)) r ⌝ }
+    ensures { λ r. ⌜ Put at (encode trayRowTag (rowPayload line)) (now (buffer .entry)) (now (buffer .exit)) r ⌝ }
 {
     let file = line.file;
-    let headed = put_head(buffer, at, 0x42, TRAY_ROW);
+    let headed = put_head(buffer, at, TRAY_ROW_TAG, TRAY_ROW);
     let addressed = put_u64(buffer, headed, line.address);
     let filed = put_u32(buffer, addressed, file.0);
     let lined = put_u32(buffer, filed, line.line);
@@ -195,9 +204,11 @@ pub fn put_node(
     name: &[u8],
 ) -> usize
     requires { ⌜ 10 + length (now name) < 65536 ⌝ }
-    ensures { λ r. ⌜ Put at (encode 0x43 (nodePayload (record { depth = depth; callFile = «call_file»; callLine = «call_line»; name = now (name .entry); ranges = [] }))) (now (buffer .entry)) (now (buffer .exit)) r ⌝ }
+    ensures { λ r. ⌜ Put at (encode trayNodeTag (nodePayload (record
+        { depth = depth; callFile = «call_file»; callLine = «call_line»; name = now (name .entry); ranges = [] }))) (now (buffer .entry)) (now (buffer .exit))
+        r ⌝ }
 {
-    let headed = put_head(buffer, at, 0x43, (10 + name.len()) as u16);
+    let headed = put_head(buffer, at, TRAY_NODE_TAG, (10 + name.len()) as u16);
     let deep = put_u16(buffer, headed, depth);
     let filed = put_u32(buffer, deep, call_file.0);
     let lined = put_u32(buffer, filed, call_line);
@@ -206,9 +217,9 @@ pub fn put_node(
 
 // 44 range: start, end.
 pub fn put_range(buffer: &mut [u8], at: usize, range: AddressRange) -> usize
-    ensures { λ r. ⌜ Put at (encode 0x44 (rangePayload range)) (now (buffer .entry)) (now (buffer .exit)) r ⌝ }
+    ensures { λ r. ⌜ Put at (encode trayRangeTag (rangePayload range)) (now (buffer .entry)) (now (buffer .exit)) r ⌝ }
 {
-    let headed = put_head(buffer, at, 0x44, 16);
+    let headed = put_head(buffer, at, TRAY_RANGE_TAG, 16);
     let started = put_u64(buffer, headed, range.start);
     put_u64(buffer, started, range.end)
 }
@@ -226,10 +237,11 @@ fn pattern_count(pattern: &[u8]) -> u8
 // 45 call site: return offset, pattern count 1 byte, pattern.
 pub fn put_call_site(buffer: &mut [u8], at: usize, return_offset: u64, pattern: &[u8]) -> usize
     requires { ⌜ 9 + length (now pattern) < 65536 ⌝ }
-    ensures { λ r. ⌜ Put at (encode 0x45 (sitePayload (record { returnOffset = «return_offset»; pattern = now (pattern .entry) }))) (now (buffer .entry)) (now (buffer .exit)) r ⌝ }
+    ensures { λ r. ⌜ Put at (encode traySiteTag (sitePayload (record { returnOffset = «return_offset»; pattern = now (pattern .entry) })))
+        (now (buffer .entry)) (now (buffer .exit)) r ⌝ }
 {
     let count = pattern_count(pattern);
-    let headed = put_head(buffer, at, 0x45, (9 + pattern.len()) as u16);
+    let headed = put_head(buffer, at, TRAY_SITE_TAG, (9 + pattern.len()) as u16);
     let placed = put_u64(buffer, headed, return_offset);
     let counted = put_u8(buffer, placed, count);
     put_bytes(buffer, counted, pattern)
@@ -237,9 +249,9 @@ pub fn put_call_site(buffer: &mut [u8], at: usize, return_offset: u64, pattern: 
 
 // 46 warning of two numbers: kind 1 byte, the numbers.
 pub fn put_warning(buffer: &mut [u8], at: usize, kind: u8, first: u64, second: u64) -> usize
-    ensures { λ r. ⌜ Put at (encode 0x46 ((kind ∷ []) ++ bytesOf 8 first ++ bytesOf 8 second)) (now (buffer .entry)) (now (buffer .exit)) r ⌝ }
+    ensures { λ r. ⌜ Put at (encode trayWarningTag ((kind ∷ []) ++ bytesOf 8 first ++ bytesOf 8 second)) (now (buffer .entry)) (now (buffer .exit)) r ⌝ }
 {
-    let headed = put_head(buffer, at, 0x46, 17);
+    let headed = put_head(buffer, at, TRAY_WARNING_TAG, 17);
     let kinded = put_u8(buffer, headed, kind);
     let begun = put_u64(buffer, kinded, first);
     put_u64(buffer, begun, second)
@@ -258,10 +270,11 @@ fn malformed_kind(stopped: bool) -> u8
 // 46 warning of malformed ranges: kind 1 byte, the reason.
 pub fn put_malformed_ranges(buffer: &mut [u8], at: usize, stopped: bool, reason: &[u8]) -> usize
     requires { ⌜ 1 + length (now reason) < 65536 ⌝ }
-    ensures { λ r. ⌜ Put at (encode 0x46 (warningPayload (malformedRanges stopped (now (reason .entry))))) (now (buffer .entry)) (now (buffer .exit)) r ⌝ }
+    ensures { λ r. ⌜ Put at (encode trayWarningTag (warningPayload (malformedRanges stopped (now (reason .entry))))) (now (buffer .entry))
+        (now (buffer .exit)) r ⌝ }
 {
     let kind = malformed_kind(stopped);
-    let headed = put_head(buffer, at, 0x46, (1 + reason.len()) as u16);
+    let headed = put_head(buffer, at, TRAY_WARNING_TAG, (1 + reason.len()) as u16);
     let kinded = put_u8(buffer, headed, kind);
     put_bytes(buffer, kinded, reason)
 }

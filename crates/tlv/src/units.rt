@@ -13,6 +13,7 @@ use crate::bytes::read_u64;
 use crate::fields::Step;
 use crate::fields::field_at;
 use crate::table::set_u64;
+use crate::tags::UNIT_TAG;
 
 // A record of the table: offset, length and place, of 8 bytes each.
 fn put_unit(work: &mut [u8], p: usize, offset: u64, size: u64, place: usize)
@@ -46,7 +47,7 @@ pub fn index_units(s: &[u8], work: &mut [u8], base: usize) -> usize
                 len: _,
                 next,
             } => {
-                if tag == 0x10 {
+                if tag == UNIT_TAG {
                     let offset = read_u64(s, start);
                     let size = read_u64(s, start + 8);
                     put_unit(work, base + n * 24, offset, size, p);
