@@ -84,7 +84,8 @@ uint8_t pezgok_measure(
 /* Imports all units of the main input, in order, into one records buffer, with one table of files: a file that an earlier unit brought keeps its number
  * and is written once. Each buffer has what the imports of the units write one after another, and the statistics are added. The first unit that is
  * refused refuses all. An input without units is a package without debug data. The units' line programs stand in one program: a unit's part of it is named
- * by field 1e hex behind its line header, without which it is the whole. All else is as of pezgok_import; work has the same length. */
+ * by field 1e hex behind its line header and its field 1d, if it has one; without it that is the whole. All else is as of pezgok_import; work has the
+ * length that the unit which needs most asks for. */
 uint8_t pezgok_import_dwarf(
     const uint8_t *main, size_t main_len,
     const uint8_t *supplementary, size_t supplementary_len,

@@ -1,4 +1,4 @@
--- collect_lines of a unit with a header, whose rows were counted: the program's sequences, the unit's files, and the end. Assumes nothing.
+-- collect_lines of a unit with a header: the program's sequences, the unit's files, and the end. Assumes nothing.
 use mathlib.Core.Path.{_≡_, sym, ap, subst, _∙_}
 use mathlib.Core.Logic.{inl, inr}
 use mathlib.Core.List.{List, [], _∷_}
@@ -18,8 +18,7 @@ use Rattle.lines.specs.Program.{lineSequenceOffsets}
 use Rattle.lines.specs.Scan.{CountWithin, Scanned, offsets}
 use Rattle.lines.specs.Files.{Indexed, internHeaderFiles}
 use Rattle.lines.specs.Lines.{Run, runRows, Collected}
-use Rattle.machine.specs.LineRows.{lineRows, rowsMost, collectLines}
-use Rattle.machine.proofs.UnitLines.{rows-few}
+use Rattle.machine.specs.LineRows.{lineRows, collectLines}
 use Rattle.files.specs.declared.index.StoredIndices.{StoredIndices}
 use Rattle.files.specs.declared.pieces.FileUnit.{FileUnit}
 use Rattle.files.specs.declared.store.StoredFiles.{StoredFiles}
@@ -33,35 +32,50 @@ use Rattle.collect.specs.declared.collect.CollectedLines.{CollectedLines
 use Rattle.collect.specs.declared.collect.InternedUnit.{InternedUnit}
 use Rattle.collect.specs.declared.convert.Conversion.{Conversion}
 use Rattle.collect.specs.declared.source.RowSource.{RowSource}
-use Rattle.collect.specs.Passes.{RowsCounted, offsetsAt}
-use Rattle.collect.specs.Sources.{sourceList, SourceReady}
+use Rattle.collect.specs.Passes.{offsetsAt}
+use Rattle.collect.specs.Sources.{sourceRows, mostRows, FindsFault}
 use Rattle.collect.specs.Converts.{ConversionIn}
 use Rattle.collect.specs.Collects.{linesExtent, CollectsBy, CollectsLines}
-use Rattle.collect.specs.Stages.{UnitCounted, unitExtent, UnitRoom, UnitInterned, InternsUnit, ConversionOf, finishFrom, FinishesBy, FinishesLines}
+use Rattle.collect.specs.Stages.{UnitFound, unitExtent, UnitRoom, UnitInterned, InternsUnit, ConversionOf, finishRows, FinishesBy, FinishesLines}
 use Rattle.rows.specs.Sizes.{entrySize, rowRoom}
-use Rattle.collect.proofs.RunLaws.{RunCounted, count-done}
 use Rattle.collect.proofs.FrameLaws.{but-wide}
 use Rattle.collect.proofs.HeaderPlaces.{header-is, unit-stands, unit-listed}
-use Rattle.collect.proofs.CollectSteps.{header-there, collects-program-refused, collects-files-refused, collects-end}
+use Rattle.collect.proofs.CollectSteps.{header-there, collects-first, collects-program-refused, collects-files-refused, collects-end}
 use Rattle.collect.proofs.UnitInternLaws.{indices-length}
 
-module _ {main supplementary program w : List ℕ} {p start len : ℕ} {source : RowSource} {n m free : ℕ} {t : StoredFiles}
-    (B : UnitCounted main supplementary program w t p start len source n m free) where
+module _ {main supplementary program w : List ℕ} {p start len : ℕ} {source : RowSource} {free : ℕ} {t : StoredFiles}
+    (B : UnitFound main supplementary program w t p start len source free) where
   stands : UnitPlaced main p
   stands = unit-stands (B .placed) (B .unit)
 
-  abbrev rows : List LineRow
-  rows = sourceList main program (p + 21) source
+  abbrev most : ℕ
+  most = mostRows main program (p + 21) source
 
-  run-counted : RunCounted rows (record { lines = n; sequences = m })
-  run-counted = count-done rows (record { lines = n; sequences = m }) (B .counted .is)
+  pub found-placed : Placed main (p + 21)
+  found-placed = unit-next stands
 
-  rows-are : lineRows (unitHere main p) (headerHere main p) program ≡ done rows
-  rows-are = sym (B .source-is) ∙ B .ready .reads
+  -- its rows have room
+  pub fault-room : free + rowRoom * most ≤ length w
+  unfolding linesExtent
+  fault-room = let a = B .room .room in let m = B .most in omega arith
 
-  -- they have room
-  rows-most : length rows ≤ rowsMost (unitHere main p) program
-  rows-most = rows-few (unitHere main p) (headerHere main p) program rows rows-are
+  fault-fits : free + rowRoom * most ≤ free + linesExtent main p program
+  unfolding linesExtent
+  fault-fits = let m = B .most in omega arith
+
+  -- their fault comes first
+  fault-is : {w₁ w₂ : List ℕ} {n f : ℕ} → FindsFault (sourceRows main program (p + 21) source) w₁ w₂ free most n f
+      → ((rows : List LineRow) → lineRows (unitHere main p) (headerHere main p) program ≡ done rows → (run : Run) → runRows rows 0 [] ≡ done run
+      → collectLines (unitHere main p) program (tableOf main supplementary w t) ≡ refused n)
+      → collectLines (unitHere main p) program (tableOf main supplementary w t) ≡ refused f
+  fault-is {n = n} F later =
+      collects-first (unitHere main p) program (tableOf main supplementary w t) (headerHere main p) (header-there (B .header)) n later
+      ∙ ap refused (sym (rw (B .source-is) at (F .is)))
+
+  fault-rest : {w₁ w₂ : List ℕ} {n f : ℕ} → FindsFault (sourceRows main program (p + 21) source) w₁ w₂ free most n f
+      → KeptBut w w₁ ((t .base, extent t) ∷ (free, linesExtent main p program) ∷ [])
+      → KeptBut w w₂ ((t .base, extent t) ∷ (free, linesExtent main p program) ∷ [])
+  fault-rest F K = but-trans K (but-of (F .rest) (there (here (omega arith) fault-fits)))
 
   -- its program's sequences have room
   pub scan-room : free + length program / 3 * 8 ≤ length w
@@ -77,14 +91,16 @@ module _ {main supplementary program w : List ℕ} {p start len : ℕ} {source :
     scanned-rest : KeptBut w w₁ ((t .base, extent t) ∷ (free, linesExtent main p program) ∷ [])
     scanned-rest = but-of (S .rest) (there (here (omega arith) scanned-fits))
 
-    -- its program is at fault
-    pub collected-fault : {files files′ warnings warnings′ : List ℕ} {warned f : ℕ} → r ≡ Scan.Fault f
-        → CollectsLines main supplementary program w w₁ files files′ warnings warnings′ p t warned free (CollectedLines.Refused f)
-    collected-fault {f = f} e =
-        let o : lineSequenceOffsets (headerHere main p) program ≡ refused f = rw (header-is (B .header)) (sym (rw e at (S .is))) in
+    -- its program is at fault, or its rows
+    pub collected-fault : {w₂ files files′ warnings warnings′ : List ℕ} {warned n f : ℕ} → r ≡ Scan.Fault n
+        → FindsFault (sourceRows main program (p + 21) source) w₁ w₂ free most n f
+        → CollectsLines main supplementary program w w₂ files files′ warnings warnings′ p t warned free (CollectedLines.Refused f)
+    collected-fault {n = n} e F =
+        let o : lineSequenceOffsets (headerHere main p) program ≡ refused n = rw (header-is (B .header)) (sym (rw e at (S .is))) in
         record {
-          is = collects-program-refused (unitHere main p) program (tableOf main supplementary w t) (headerHere main p) (header-there (B .header)) rows rows-are (run-counted .run) (run-counted .is) f o;
-          rest = scanned-rest;
+          is = fault-is F (λ rows l run ran. collects-program-refused (unitHere main p) program (tableOf main supplementary w t) (headerHere main p)
+              (header-there (B .header)) rows l run ran n o);
+          rest = fault-rest F scanned-rest;
         }
 
     module _ {k : ℕ} (e : r ≡ Scan.Count k) (size : length w₁ ≡ length w) where
@@ -123,14 +139,17 @@ module _ {main supplementary program w : List ℕ} {p start len : ℕ} {source :
             let unit : free + k * 8 + unitExtent main p ≤ free + linesExtent main p program = unit-fits in
             but-trans scanned-rest (but-wide _ (I .rest) (here (omega arith) (omega arith), (there (here (omega arith) (omega arith)), tt)))
 
-        -- a file of its header has no number
-        pub collected-unnumbered : {files₀ files′ warnings warnings′ : List ℕ} {warned f : ℕ} → r₂ ≡ InternedUnit.Refused f
-            → CollectsLines main supplementary program w w₂ files₀ files′ warnings warnings′ p t warned free (CollectedLines.Refused f)
-        collected-unnumbered {f = f} is =
-            let i : internHeaderFiles (unitHere main p) (headerHere main p) (tableOf main supplementary w t) ≡ refused f = rw (← table-scanned) (sym (rw is at (I .is))) in
+        -- a file of its header has no number, or its rows are at fault
+        pub collected-unnumbered : {w₃ files₀ files′ warnings warnings′ : List ℕ} {warned n f : ℕ} → r₂ ≡ InternedUnit.Refused n
+            → FindsFault (sourceRows main program (p + 21) source) w₂ w₃ free most n f
+            → CollectsLines main supplementary program w w₃ files₀ files′ warnings warnings′ p t warned free (CollectedLines.Refused f)
+        collected-unnumbered {n = n} is F =
+            let i : internHeaderFiles (unitHere main p) (headerHere main p) (tableOf main supplementary w t) ≡ refused n
+            = rw (← table-scanned) (sym (rw is at (I .is))) in
             record {
-              is = collects-files-refused (unitHere main p) program (tableOf main supplementary w t) (headerHere main p) (header-there (B .header)) rows rows-are (run-counted .run) (run-counted .is) (offsetsAt w₁ free k) offsets-are f i;
-              rest = interned-rest;
+              is = fault-is F (λ rows l run ran. collects-files-refused (unitHere main p) program (tableOf main supplementary w t) (headerHere main p)
+                  (header-there (B .header)) rows l run ran (offsetsAt w₁ free k) offsets-are n i);
+              rest = fault-rest F interned-rest;
             }
 
         module _ {u : FileUnit} {is : StoredIndices} {t′ : StoredFiles} (found : r₂ ≡ InternedUnit.Unit u is t′) where
@@ -143,14 +162,14 @@ module _ {main supplementary program w : List ℕ} {p start len : ℕ} {source :
           pub interned-placed : Placed main (u .place + 21)
           interned-placed = rw (interned .place) (unit-next stands)
 
-          interned-room : is .base + is .count * 5 + rowRoom * length rows + entrySize ≤ free + linesExtent main p program
+          interned-room : is .base + is .count * 5 + rowRoom * most + entrySize ≤ free + linesExtent main p program
           unfolding linesExtent
           interned-room =
               let a = offsets-few in
               let b = interned .map in
               let c = interned .count in
               let d = interned .few in
-              let g = rows-most in
+              let g = B .most in
               omega arith
 
           pub interned-fits : is .base + is .count * 5 ≤ length w
@@ -197,32 +216,32 @@ module _ {main supplementary program w : List ℕ} {p start len : ℕ} {source :
             unfolding made
             conversion-in warned last = subst (λ (x : Conversion). ConversionIn main supplementary w₂ x (record { table = t′; count = 0; warned = warned })) (sym (M .is)) (conversion-made warned last)
 
-            pub conversion-ready : SourceReady main program (cv .unit .place + 21) source
-            conversion-ready = rw place-is (B .ready)
-
-            pub conversion-counted : RowsCounted (sourceList main program (cv .unit .place + 21) source) n m
-            conversion-counted = rw place-is (B .counted)
-
-            pub conversion-fits : length w₂ ≡ length w
-                → cv .lines + rowRoom * length (sourceList main program (cv .unit .place + 21) source) + entrySize ≤ length w₂
+            pub conversion-fits : length w₂ ≡ length w → cv .lines + rowRoom * mostRows main program (cv .unit .place + 21) source + entrySize ≤ length w₂
             conversion-fits last =
                 let l : cv .lines ≡ is .base + is .count * 5 = ap (λ (x : Conversion). x .lines) (M .is) in
                 let all = interned-room in
-                let most = B .room .room in
+                let room = B .room .room in
                 rw place-is (omega arith)
 
             offsets-kept : offsetsAt w₂ free k ≡ offsetsAt w₁ free k
             offsets-kept = let below = B .room .table in records-but le 8 free k (I .rest) (inr (omega arith), (inl (omega arith), tt))
 
-            end-is : (x : Outcome Collected) → ((run : Run) → runRows (sourceList main program (u .place + 21) source) 0 [] ≡ done run → finishFrom main supplementary w₂ made t′ run ≡ x)
-                → collectLines (unitHere main p) program (tableOf main supplementary w t) ≡ x
+            end-is : (y : Outcome Collected) → finishRows (sourceRows main program (u .place + 21) source) main supplementary w₂ made t′ ≡ y
+                → collectLines (unitHere main p) program (tableOf main supplementary w t) ≡ y
             unfolding made
-            end-is x f =
-                collects-end (unitHere main p) program (tableOf main supplementary w t) (headerHere main p) (header-there (B .header)) rows rows-are (run-counted .run) (run-counted .is) (offsetsAt w₁ free k) offsets-are
-                (record { table = tableOf main supplementary w₂ t′; indices = indicesIn w₂ is }) files-are x
-                (rw (interned .place, offsets-kept) at (f (run-counted .run) (rw (interned .place) (run-counted .is))))
+            end-is y f =
+                collects-end (unitHere main p) program (tableOf main supplementary w t) (headerHere main p) (header-there (B .header)) (offsetsAt w₁ free k)
+                offsets-are (record { table = tableOf main supplementary w₂ t′; indices = indicesIn w₂ is }) files-are y
+                (rw (interned .place, offsets-kept, B .source-is) at f)
 
-            end-rest : {w₃ files₂ warnings warnings′ : List ℕ} {warned : ℕ} {r₃ : CollectedLines} → FinishesLines (sourceList main program (u .place + 21) source) main supplementary w₂ w₃ files₁ files₂ warnings warnings′ made t′ warned r₃
+            abbrev end-rows : Outcome (List LineRow)
+            end-rows = sourceRows main program (u .place + 21) source
+
+            abbrev end-most : ℕ
+            end-most = mostRows main program (u .place + 21) source
+
+            end-rest : {w₃ files₂ warnings warnings′ : List ℕ} {warned : ℕ} {r₃ : CollectedLines}
+                → FinishesLines end-rows end-most main supplementary w₂ w₃ files₁ files₂ warnings warnings′ made t′ warned r₃
                 → KeptBut w w₃ ((t .base, extent t) ∷ (free, linesExtent main p program) ∷ [])
             unfolding made
             end-rest E =
@@ -230,9 +249,11 @@ module _ {main supplementary program w : List ℕ} {p start len : ℕ} {source :
                 let room = interned .grown .room in
                 let fits = interned-room in
                 let map = interned .map in
-                but-trans interned-rest (but-wide _ (rw (interned .place) at (E .rest)) (here (omega arith) (omega arith), (there (here (omega arith) (omega arith)), (there (here (omega arith) (omega arith)), tt))))
+                but-trans interned-rest (but-wide _ (rw (interned .place) at (E .rest))
+                (here (omega arith) (omega arith), (there (here (omega arith) (omega arith)), (there (here (omega arith) (omega arith)), tt))))
 
-            by-end : (w₃ files₂ warnings warnings′ : List ℕ) (warned : ℕ) (r₃ : CollectedLines) → FinishesBy (sourceList main program (u .place + 21) source) main supplementary w₂ w₃ files₁ files₂ warnings warnings′ made t′ warned r₃
+            by-end : (w₃ files₂ warnings warnings′ : List ℕ) (warned : ℕ) (r₃ : CollectedLines)
+                → FinishesBy end-rows end-most main supplementary w₂ w₃ files₁ files₂ warnings warnings′ made t′ warned r₃
                 → KeptBut w w₃ ((t .base, extent t) ∷ (free, linesExtent main p program) ∷ [])
                 → CollectsBy main supplementary program w w₃ files files₂ warnings warnings′ p t warned free r₃
             unfolding made
@@ -257,10 +278,13 @@ module _ {main supplementary program w : List ℕ} {p start len : ℕ} {source :
                   rest = K;
                 }
 
-            pub collected-end : {w₃ files₂ warnings warnings′ : List ℕ} {warned : ℕ} {r₃ : CollectedLines} → FinishesLines (sourceList main program (cv .unit .place + 21) source) main supplementary w₂ w₃ files₁ files₂ warnings warnings′ cv t′ warned r₃
+            pub collected-end : {w₃ files₂ warnings warnings′ : List ℕ} {warned : ℕ} {r₃ : CollectedLines}
+                → FinishesLines (sourceRows main program (cv .unit .place + 21) source) (mostRows main program (cv .unit .place + 21) source) main supplementary
+                w₂ w₃ files₁ files₂ warnings warnings′ cv t′ warned r₃
                 → CollectsLines main supplementary program w w₃ files files₂ warnings warnings′ p t warned free r₃
             unfolding made
             collected-end {w₃} {files₂} {warnings} {warnings′} {warned} {r₃} E =
-                let L = subst (λ (x : Conversion). FinishesLines (sourceList main program (x .unit .place + 21) source) main supplementary w₂ w₃ files₁ files₂ warnings warnings′ x t′ warned r₃) (M .is) E in
+                let L = subst (λ (x : Conversion). FinishesLines (sourceRows main program (x .unit .place + 21) source)
+                (mostRows main program (x .unit .place + 21) source) main supplementary w₂ w₃ files₁ files₂ warnings warnings′ x t′ warned r₃) (M .is) E in
                 let K = end-rest L in
                 record { is = by-end w₃ files₂ warnings warnings′ warned r₃ (L .is) K; rest = K }

@@ -1,4 +1,4 @@
--- collect_lines by its steps, a unit without a header, and one whose rows can't be read. Assumes nothing.
+-- collect_lines by its steps, a unit without a header, and the source of the rows of any other. Assumes nothing.
 use mathlib.Core.Path.{_≡_, refl, sym, ap, _∙_}
 use mathlib.Core.List.{List, []}
 use mathlib.Core.Option.{none, some}
@@ -12,13 +12,12 @@ use Rattle.tlv.specs.Checked.{Placed}
 use Rattle.tlv.specs.Access.{NextOwn}
 use Rattle.tlv.specs.Model.{CompilationUnit, LineHeader, LineRow}
 use Rattle.tlv.specs.Places.{unitHere}
-use Rattle.tlv.proofs.OutcomeLaws.{refused-not}
 use Rattle.tlv.proofs.TableLaws.{but-refl}
 use Rattle.tlv.proofs.RecordLaws.{records-nil}
 use Rattle.lines.specs.Program.{lineSequenceOffsets}
 use Rattle.lines.specs.Files.{FileTable, Indexed, internHeaderFiles}
 use Rattle.lines.specs.Lines.{Run, runRows, Collected, collectHeader}
-use Rattle.machine.specs.LineRows.{lineRows, collectFrom, collectLines}
+use Rattle.machine.specs.LineRows.{lineRows, rowsMost, collectFrom, collectLines}
 use Rattle.rows.proofs.StoredLaws.{lines-nil, ranges-nil}
 use Rattle.files.specs.declared.store.StoredFiles.{StoredFiles}
 use Rattle.files.specs.Pieces.{headerHere}
@@ -27,13 +26,12 @@ use Rattle.files.specs.Indices.{indexOf, indicesOf}
 use Rattle.files.proofs.UnitLaws.{unit-next, unit-within}
 use Rattle.files.proofs.GrownLaws.{grown-none}
 use Rattle.collect.specs.declared.collect.CollectedLines.{CollectedLines}
-use Rattle.collect.specs.declared.passes.CountedRows.{CountedRows}
 use Rattle.collect.specs.declared.source.RowSource.{RowSource}
-use Rattle.collect.specs.Passes.{countAll, RowsCounted, countedOf}
-use Rattle.collect.specs.Sources.{sourceRows, sourceList, SourceReady, SourceFound}
+use Rattle.collect.specs.Passes.{Counted, countRows, countAll}
+use Rattle.collect.specs.Sources.{sourceRows, mostRows, SourceFound, firstFault}
 use Rattle.collect.specs.Collects.{linesIn, linesExtent, UnitIn, LinesRoom, CollectsLines}
 use Rattle.collect.specs.Stages.{HeaderIn, finishRun}
-use Rattle.collect.proofs.RunLaws.{count-refused}
+use Rattle.collect.proofs.RunLaws.{count-refused, count-done}
 use Rattle.collect.proofs.LineLaws.{none-put}
 use Rattle.collect.proofs.HeaderPlaces.{header-is, unit-stands, rows-here, encoding-here, header-none}
 
@@ -49,28 +47,46 @@ module _ (u : CompilationUnit) (program : List ℕ) (t : FileTable) where
     unfolding collectLines
     headed = ap (collectFrom u program t) e
 
-    -- the rows are refused, or their count
-    pub collects-rows-refused : (n : ℕ) → countAll (lineRows u h program) ≡ refused n → collectLines u program t ≡ refused n
+    -- the rows are refused, or their count, or else something later
+    pub collects-first : (n : ℕ) → ((rows : List LineRow) → lineRows u h program ≡ done rows → (run : Run) → runRows rows 0 [] ≡ done run
+        → collectLines u program t ≡ refused n) → collectLines u program t ≡ refused (firstFault (countAll (lineRows u h program)) n)
     unfolding collectHeader _>>=_
-    collects-rows-refused n r = headed ∙ go (lineRows u h program) r
+    collects-first n later = go (lineRows u h program) refl
       where
-        go : (x : Outcome (List LineRow)) → countAll x ≡ refused n → (x >>= λ rows. collectHeader u h program rows t) ≡ refused n
-        go (refused m) k = cc
-        go (done rows) k = rw (count-refused rows n k)
+        counted : (rows : List LineRow) → lineRows u h program ≡ done rows → (k : Outcome Counted) → countRows rows 0 0 0 ≡ k
+            → collectLines u program t ≡ refused (firstFault k n)
+        counted rows l (refused m) k = headed ∙ rw (l, count-refused rows m k)
+        counted rows l (done k) c = let R = count-done rows k c in later rows l (R .run) (R .is)
+
+        go : (x : Outcome (List LineRow)) → lineRows u h program ≡ x → collectLines u program t ≡ refused (firstFault (countAll x) n)
+        go (refused m) l = headed ∙ rw l
+        go (done rows) l = counted rows l (countRows rows 0 0 0) refl
 
     module _ (rows : List LineRow) (l : lineRows u h program ≡ done rows) (run : Run) (r : runRows rows 0 [] ≡ done run) where
       pub collects-program-refused : (n : ℕ) → lineSequenceOffsets h program ≡ refused n → collectLines u program t ≡ refused n
       unfolding collectHeader _>>=_
       collects-program-refused n o = headed ∙ rw (l, r, o)
 
-      module _ (os : List ℕ) (o : lineSequenceOffsets h program ≡ done os) where
-        pub collects-files-refused : (n : ℕ) → internHeaderFiles u h t ≡ refused n → collectLines u program t ≡ refused n
-        unfolding collectHeader _>>=_
-        collects-files-refused n f = headed ∙ rw (l, r, o, f)
+      pub collects-files-refused : (os : List ℕ) → lineSequenceOffsets h program ≡ done os → (n : ℕ) → internHeaderFiles u h t ≡ refused n
+          → collectLines u program t ≡ refused n
+      unfolding collectHeader _>>=_
+      collects-files-refused os o n f = headed ∙ rw (l, r, o, f)
 
-        pub collects-end : (i : Indexed) → internHeaderFiles u h t ≡ done i → (x : Outcome Collected) → finishRun u h os (i .table) (i .indices) run ≡ x → collectLines u program t ≡ x
-        unfolding collectHeader _>>=_
-        collects-end i f x k = headed ∙ rw (l, r, o, f) k
+    pub collects-end : (os : List ℕ) → lineSequenceOffsets h program ≡ done os → (i : Indexed) → internHeaderFiles u h t ≡ done i → (y : Outcome Collected)
+        → (lineRows u h program >>= λ rows. runRows rows 0 [] >>= finishRun u h os (i .table) (i .indices)) ≡ y → collectLines u program t ≡ y
+    unfolding collectHeader _>>=_
+    collects-end os o i f y k = headed ∙ go (lineRows u h program) ∙ k
+      where
+        ran : (x : Outcome Run)
+            → (x >>= λ run. lineSequenceOffsets h program >>= λ offsets. internHeaderFiles u h t >>= λ i. finishRun u h offsets (i .table) (i .indices) run)
+            ≡ (x >>= finishRun u h os (i .table) (i .indices))
+        ran (refused n) = refl
+        ran (done run) = rw (o, f)
+
+        go : (x : Outcome (List LineRow)) → (x >>= λ rows. collectHeader u h program rows t)
+            ≡ (x >>= λ rows. runRows rows 0 [] >>= finishRun u h os (i .table) (i .indices))
+        go (refused n) = refl
+        go (done rows) = ran (runRows rows 0 [])
 
 -- ---- a unit without a header
 
@@ -125,27 +141,5 @@ module _ {main : List ℕ} {p : ℕ} (h : Placed main 0) (U : UnitIn main p) whe
           F .is (unitHere main p) program (encoding-here (unit-stands h U)) (rows-here (unit-stands h U))
           ∙ ap (λ (x : LineHeader). lineRows (unitHere main p) x program) (sym (header-is H))
 
-      -- its rows can't be read
-      pub collected-failed : {supplementary program w files files′ warnings warnings′ : List ℕ} {t : StoredFiles} {warned free f : ℕ} {r : CountedRows}
-          → countedOf r ≡ countAll (sourceRows main program (p + 21) source) → r ≡ CountedRows.Fault f
-          → CollectsLines main supplementary program w w files files′ warnings warnings′ p t warned free (CollectedLines.Refused f)
-      collected-failed {supplementary} {program} {w} {t = t} {f = f} counted e =
-          let k : countAll (sourceRows main program (p + 21) source) ≡ refused f = sym (rw e at counted) in
-          record {
-            is = collects-rows-refused (unitHere main p) program (tableOf main supplementary w t) (headerHere main p) (header-there H) f
-                (rw (source-here program) at k);
-            rest = but-refl w _;
-          }
-
-      -- they are counted
-      pub source-ready : {program : List ℕ} {k m : ℕ} {r : CountedRows} → countedOf r ≡ countAll (sourceRows main program (p + 21) source)
-          → r ≡ CountedRows.Rows k m
-          → SourceReady main program (p + 21) source × RowsCounted (sourceList main program (p + 21) source) k m
-      unfolding _>>=_
-      source-ready {program} {k} {m} counted e = go (sourceRows main program (p + 21) source) refl (sym (rw e at counted))
-        where
-          go : (x : Outcome (List LineRow)) → sourceRows main program (p + 21) source ≡ x
-              → countAll x ≡ done (record { lines = k; sequences = m })
-              → SourceReady main program (p + 21) source × RowsCounted (sourceList main program (p + 21) source) k m
-          go (refused f) is c = refused-not c
-          go (done rows) is c = (record { placed = rows-placed; within = F .within; reads = rw is }, record { is = rw is c })
+      pub most-here : (program : List ℕ) → mostRows main program (p + 21) source ≡ rowsMost (unitHere main p) program
+      most-here program = F .most (unitHere main p) program (encoding-here (unit-stands h U)) (rows-here (unit-stands h U))

@@ -1,6 +1,6 @@
 -- The end of collect_lines: the rows of a unit that were counted are converted, and its lines and sequences stored. Assumes nothing.
-use mathlib.Core.Path.{_≡_, refl, sym, ap, subst, _∙_}
-use mathlib.Core.Logic.{inl}
+use mathlib.Core.Path.{_≡_, refl, sym, ap, _∙_}
+use mathlib.Core.Logic.{inl, inr}
 use mathlib.Core.List.{List, [], _∷_, _++_, map, append-nil}
 use mathlib.Core.Option.{none}
 use Prim.Native.Nat.{ℕ, _+_, _*_, _≤_, _<_}
@@ -11,14 +11,13 @@ use Rattle.tlv.specs.Outcome.{Outcome, refused, done, _>>=_}
 use Rattle.tlv.specs.Bytes.{le, bytesOf}
 use Rattle.tlv.specs.Buffer.{top, Put}
 use Rattle.tlv.specs.Fields.{encode}
-use Rattle.tlv.specs.Table.{KeptBut}
+use Rattle.tlv.specs.Table.{Clear, KeptBut}
 use Rattle.tlv.specs.Model.{LineRow}
 use Rattle.tlv.specs.Output.{Warning, lineSequenceMismatch, kindNumber, warningsBytes}
-use Rattle.tlv.proofs.OutcomeLaws.{done-is}
 use Rattle.tlv.proofs.BufferLaws.{_then_, put-as}
 use Rattle.tlv.proofs.TableLaws.{here, there, but-of, but-one, but-trans}
 use Rattle.tlv.proofs.RecordLaws.{records-length, records-kept}
-use Rattle.lines.specs.Lines.{Run, runRows, Converted, convertRows, mismatch}
+use Rattle.lines.specs.Lines.{Converted, convertRows, Collected, mismatch}
 use Rattle.rows.specs.declared.«unit_lines».StoredLines.{StoredLines}
 use Rattle.rows.specs.Sizes.{entrySize, lineSize, rangeSize, rowRoom}
 use Rattle.rows.specs.Stored.{rangesOf}
@@ -34,7 +33,7 @@ use Rattle.collect.specs.declared.convert.ConvertedRow.{ConvertedRow}
 use Rattle.collect.specs.Passes.{RowsCounted, sequencesFrom, withOffset, convertFrom}
 use Rattle.collect.specs.Converts.{unitAt, headerIn, offsetsOf, convertedIn, ConversionIn, RowsConverted, RowsConvert}
 use Rattle.collect.specs.Collects.{linesIn}
-use Rattle.collect.specs.Stages.{finishFrom, StoresLines, FinishesLines}
+use Rattle.collect.specs.Stages.{finishFrom, finishRows, StoresLines, FinishesLines}
 use Rattle.collect.proofs.RunLaws.{RunCounted, count-done, convert-from}
 use Rattle.collect.proofs.PrefixLaws.{convert-rows-prefix, convert-rows-prefix-refused}
 use Rattle.collect.proofs.FrameLaws.{but-wide}
@@ -80,6 +79,10 @@ module _ {rows : List LineRow} {main supplementary w : List ℕ} {c : Conversion
   pub conversion-room : c .lines + rowRoom * length rows + entrySize ≤ length w → c .lines + 0 * lineSize + n * lineSize ≤ length w
   conversion-room h = let a = rows-counted .all in omega arith
 
+  -- the lines have room below a table of the rows
+  pub conversion-below : c .lines + 0 * lineSize + n * lineSize ≤ c .lines + lineSize * length rows
+  conversion-below = let a = rows-counted .all in omega arith
+
   start : Converted
   start = record { table = tableOf main supplementary w t; indices = indicesIn w (c .indices); lines = []; warnings = [] }
 
@@ -102,9 +105,9 @@ module _ {rows : List LineRow} {main supplementary w : List ℕ} {c : Conversion
       ∙ rw (rows-counted .lines) (rw (lines-nil w (c .lines)) at e)
 
   -- the run is the one that was counted
-  of-run : (x : Outcome _) → finishFrom main supplementary w c t (rows-counted .run) ≡ x
-      → (run : Run) → runRows rows 0 [] ≡ done run → finishFrom main supplementary w c t run ≡ x
-  of-run x e run is = subst (λ (r : Run). finishFrom main supplementary w c t r ≡ x) (done-is (sym (rows-counted .is) ∙ is)) e
+  of-run : (x : Outcome Collected) → finishFrom main supplementary w c t (rows-counted .run) ≡ x → finishRows (done rows) main supplementary w c t ≡ x
+  unfolding _>>=_
+  of-run x e = rw (rows-counted .is) e
 
   module _ {w₁ files files₁ warnings₁ warnings₂ : List ℕ} {noted : ℕ} {r : ConvertedRow}
       (R : RowsConvert rows main supplementary w w₁ files files₁ warnings₁ warnings₂ c (record { table = t; count = 0; warned = noted }) n r) where
@@ -120,8 +123,20 @@ module _ {rows : List LineRow} {main supplementary w : List ℕ} {c : Conversion
         let k = rows-counted .all in
         but-wide _ (R .rest) (here (omega arith) (omega arith), (there (here (omega arith) (omega arith)), (there (there (here (omega arith) (omega arith))), tt)))
 
+    -- what was written lies below a table of the rows
+    pub rows-below : (q k : ℕ) → c .lines + lineSize * length rows ≤ q
+        → Clear q k ((t .base, extent t) ∷ (c .indices .base, c .indices .count * 5) ∷ (c .lines + 0 * lineSize, n * lineSize) ∷ [])
+    rows-below q k h =
+        let a = C .table in
+        let b = C .offsets in
+        let d = C .directories in
+        let i = C .indices in
+        let all = rows-counted .all in
+        (inr (omega arith), (inr (omega arith), (inr (omega arith), tt)))
+
     pub finishes-refused : {files′ warnings warnings′ : List ℕ} {e : ℕ} → r ≡ ConvertedRow.Refused e
-        → FinishesLines rows main supplementary w w₁ files files′ warnings warnings′ c t warned (CollectedLines.Refused e)
+        → FinishesLines (done rows) (length rows) main supplementary w w₁ files files′ warnings warnings′ c t warned
+        (CollectedLines.Refused e)
     finishes-refused {e = e} is = record { is = of-run (refused e) (finish-refused e is); rest = rows-rest }
 
     module _ {st : Converting} (is : r ≡ ConvertedRow.Next st) where
@@ -141,6 +156,14 @@ module _ {rows : List LineRow} {main supplementary w : List ℕ} {c : Conversion
 
       pub store-room : c .lines + rowRoom * length rows + entrySize ≤ length w₁ → c .lines + st .count * rowRoom + rangeSize * length (sequencesFrom rows 0 none) + entrySize ≤ length w₁
       store-room h = let a = store-small in omega arith
+
+      -- the sequences too have room below a table of the rows
+      pub store-below : c .lines + st .count * lineSize + rangeSize * length (sequencesFrom rows 0 none) ≤ c .lines + lineSize * length rows
+      store-below =
+          let a = rows-counted .all in
+          let b = rows-converted .more in
+          let f = sequences-few in
+          omega arith
 
       module _ {w₂ : List ℕ} {l : StoredLines} (S : StoresLines rows w₁ w₂ (c .offsets) (c .«offset_count») (c .lines) (st .count) l) where
         table-below : st .table .base + extent (st .table) ≤ c .lines
@@ -180,7 +203,8 @@ module _ {rows : List LineRow} {main supplementary w : List ℕ} {c : Conversion
             }))
 
         pub finishes-done : {warnings : List ℕ} → Put warned (warningsBytes (mismatch m (c .«offset_count»))) warnings warnings₁ noted → length w₂ ≡ length w₁
-            → FinishesLines rows main supplementary w w₂ files files₁ warnings warnings₂ c t warned (CollectedLines.Lines l (c .indices) (st .table) (st .warned))
+            → FinishesLines (done rows) (length rows) main supplementary w w₂ files files₁ warnings warnings₂ c t warned
+            (CollectedLines.Lines l (c .indices) (st .table) (st .warned))
         finishes-done W size =
             let small = store-small in
             let b = S .within in

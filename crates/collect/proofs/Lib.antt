@@ -14,11 +14,13 @@ pub mod ConvertLaws
 pub mod ZeroRowLaws
 pub mod ConvertingList
 pub mod ConvertingLaws
-pub mod ProgramLaws
 pub mod ProgramCountLaws
-pub mod ProgramConvertLaws
-pub mod ProgramSequenceLaws
+pub mod GatherLaws
+pub mod TableConvertLaws
+pub mod TableSequenceLaws
 pub mod SourceLaws
+pub mod UnitRowsLaws
 pub mod FinishLaws
+pub mod GatheredLaws
 pub mod CollectSteps
 pub mod CollectLaws

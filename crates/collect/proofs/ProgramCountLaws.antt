@@ -12,20 +12,18 @@ use Rattle.machine.specs.declared.registers.Registers.{Registers}
 use Rattle.machine.specs.declared.machine.Emitted.{Emitted}
 use Rattle.machine.specs.Machine.{initial, appendedRow, restRows, unsupported, programRows}
 use Rattle.machine.specs.Steps.{machineOf, Emits}
-use Rattle.collect.specs.declared.passes.CountedRows.{CountedRows}
-use Rattle.collect.specs.Passes.{Counted, countRows, countFrom, countAll, countedOf}
+use Rattle.collect.specs.Passes.{Counted, countRows, countFrom, countAll}
 use Rattle.collect.specs.Sources.{programIn}
 
 abbrev asked : Encoding → List ℕ → List ℕ → Outcome Counted
 asked e ls s = countAll (programIn e ls s)
 
 -- 21
-pub no-range : (e : Encoding) (ls s : List ℕ) → e .«line_range» ≡ 0 → countedOf (CountedRows.Fault 21) ≡ asked e ls s
+pub no-range : (e : Encoding) (ls s : List ℕ) → e .«line_range» ≡ 0 → refused 21 ≡ asked e ls s
 unfolding programIn programRows unsupported _>>=_
 no-range e ls s z = rw (eq-eqb (e .«line_range») 0 z)
 
-pub no-operation : (e : Encoding) (ls s : List ℕ) → (e .«line_range» ≡ 0 → ⊥) → (e .«maximum_operations» ≡ 1 → ⊥) → countedOf (CountedRows.Fault 21)
-    ≡ asked e ls s
+pub no-operation : (e : Encoding) (ls s : List ℕ) → (e .«line_range» ≡ 0 → ⊥) → (e .«maximum_operations» ≡ 1 → ⊥) → refused 21 ≡ asked e ls s
 unfolding programIn programRows unsupported _>>=_
 no-operation e ls s n m = rw (ne-eqb (e .«line_range») 0 n, ne-eqb (e .«maximum_operations») 1 m)
 
@@ -53,11 +51,11 @@ row-first (done l) row lines opened n = refl
 
 module _ {e : Encoding} {ls s : List ℕ} {r : Registers} {at lines opened n : ℕ} (C : CountingProgram e ls s r at lines opened n) {q : Emitted}
     (E : Emits (machineOf e ls (length s)) s r at q) where
-  pub program-done : q ≡ Emitted.End → countedOf (CountedRows.Rows lines n) ≡ asked e ls s
+  pub program-done : q ≡ Emitted.End → done (record { lines = lines; sequences = n }) ≡ asked e ls s
   unfolding countRows _>>=_
   program-done is = let Q : Emits (machineOf e ls (length s)) s r at Emitted.End = rw is at E in (rw (← Q .is) at (C .same))
 
-  pub program-fault : {f : ℕ} → q ≡ Emitted.Fault f → countedOf (CountedRows.Fault f) ≡ asked e ls s
+  pub program-fault : {f : ℕ} → q ≡ Emitted.Fault f → refused f ≡ asked e ls s
   unfolding _>>=_
   program-fault {f} is = let Q : Emits (machineOf e ls (length s)) s r at (Emitted.Fault f) = rw is at E in (rw (← Q .is) at (C .same))
 
@@ -72,6 +70,9 @@ module _ {e : Encoding} {ls s : List ℕ} {r : Registers} {at lines opened n : �
       small = omega (arith, C .small, plain .within .0);
       within = plain .within .1;
     }
+
+    pub program-plain-ahead : (at < next) × (next ≤ length s)
+    program-plain-ahead = plain .within
 
     pub program-plain-less : length s - next < length s - at
     program-plain-less = omega (arith, plain .within .0, plain .within .1)
@@ -91,6 +92,9 @@ module _ {e : Encoding} {ls s : List ℕ} {r : Registers} {at lines opened n : �
       small = omega (arith, C .small, ended .within .0);
       within = ended .within .1;
     }
+
+    pub program-ended-ahead : (at < next) × (next ≤ length s)
+    program-ended-ahead = ended .within
 
     pub program-ended-less : length s - next < length s - at
     program-ended-less = omega (arith, ended .within .0, ended .within .1)

@@ -1,4 +1,4 @@
--- Where the rows of a unit come from: the source that is found is the one of its rows, and each walk by its source. Assumes nothing.
+-- Where the rows of a unit come from: the source that is found is the one of its rows. Assumes nothing.
 use mathlib.Core.Path.{_≡_, refl, sym, ap, _∙_}
 use mathlib.Core.List.{List}
 use Prim.Native.Nat.{ℕ, _+_, _-_, _≤_}
@@ -6,7 +6,6 @@ use native.Mathlib.Omega.{arith}
 use lib.Dec.{eqb}
 use lib.ListN.{length, take, drop}
 use Rattle.tlv.specs.declared.access.Own.{Own}
-use Rattle.tlv.specs.Outcome.{_>>=_}
 use Rattle.tlv.specs.Grammar.{encodingFlagAt, encodingFieldSize}
 use Rattle.tlv.specs.Tags.{encodingTag}
 use Rattle.tlv.specs.Lists.{mapOption}
@@ -22,22 +21,21 @@ use Rattle.lines.specs.Program.{opcodesOf}
 use Rattle.machine.specs.declared.registers.Encoding.{Encoding}
 use Rattle.machine.specs.Machine.{programRows}
 use Rattle.machine.specs.Steps.{lineEncoding, opcodesWith}
-use Rattle.machine.specs.LineRows.{lineRows}
+use Rattle.machine.specs.LineRows.{lineRows, rowsMost}
 use Rattle.files.proofs.UnitLaws.{first-none, first-found}
-use Rattle.collect.specs.declared.passes.CountedRows.{CountedRows}
 use Rattle.collect.specs.declared.source.RowSource.{RowSource}
-use Rattle.collect.specs.Passes.{rowsFrom, countRows, countAll, countedOf}
-use Rattle.collect.specs.Sources.{programIn, programList, sourceRows, sourceList, ProgramRuns, SourceWithin, SourceReady, EncodingRead, SourceFound}
+use Rattle.collect.specs.Sources.{programIn, EncodingRead, SourceFound}
 
 -- ---- the source that is found
 
 module _ {main : List ℕ} {p : ℕ} {r : Own} (own : NextOwn main p encodingTag r) where
   -- no encoding
   pub source-fields : (start len : ℕ) → r ≡ Own.Missing → SourceFound main p start len RowSource.Fields
-  unfolding lineRows mapOption
+  unfolding lineRows rowsMost mapOption
   source-fields start len e = record {
     within = record { is = tt };
     is = λ u program enc rows. rw (enc, first-none main p encodingTag r own e, rows);
+    most = λ u program enc rows. rw (enc, first-none main p encodingTag r own e, rows);
   }
 
   module _ (h : Placed main p) {at size next : ℕ} (e : r ≡ Own.Field at size next) where
@@ -79,35 +77,10 @@ module _ {main : List ℕ} {p : ℕ} {r : Own} (own : NextOwn main p encodingTag
 
         -- an encoding: the program's rows
         pub source-program : SourceFound main p start len (RowSource.Program q (start + 19) (start + len))
-        unfolding lineRows mapOption programIn
+        unfolding lineRows rowsMost mapOption programIn
         source-program = record {
           within = record { is = (omega arith, within) };
           is = λ u program enc rows. rw (enc, first-found main p encodingTag r own at size next e)
               (λ i. programRows (encoding-is i) (opcodes-are i) program);
+          most = λ u program enc rows. rw (enc, first-found main p encodingTag r own at size next e);
         }
-
--- ---- each walk by its source
-
-pub part-within : {main : List ℕ} {source : RowSource} {e : Encoding} {from to : ℕ} → source ≡ RowSource.Program e from to → SourceWithin main source
-    → (from ≤ to) × (to ≤ length main)
-part-within {main} {e = e} {from} {to} is W = let W′ : SourceWithin main (RowSource.Program e from to) = rw is at W in W′ .is
-
-module _ (main program : List ℕ) (p : ℕ) (source : RowSource) where
-  pub count-fields : (r : CountedRows) → source ≡ RowSource.Fields → countedOf r ≡ countRows (rowsFrom main p) 0 0 0
-      → countedOf r ≡ countAll (sourceRows main program p source)
-  unfolding _>>=_
-  count-fields r is e = rw is e
-
-  pub list-fields : source ≡ RowSource.Fields → sourceList main program p source ≡ rowsFrom main p
-  list-fields is = rw is
-
-  module _ {e : Encoding} {from to : ℕ} (is : source ≡ RowSource.Program e from to) where
-    pub count-program : (r : CountedRows) → countedOf r ≡ countAll (programIn e (take (to - from) (drop from main)) program)
-        → countedOf r ≡ countAll (sourceRows main program p source)
-    count-program r e = rw is e
-
-    pub list-program : sourceList main program p source ≡ programList e (take (to - from) (drop from main)) program
-    list-program = rw is
-
-    pub program-runs : SourceReady main program p source → ProgramRuns e (take (to - from) (drop from main)) program
-    program-runs S = record { runs = rw is at (S .reads) }

@@ -1,4 +1,5 @@
 pub mod Passes
+pub mod Tables
 pub mod Sources
 pub mod Converts
 pub mod Collects

@@ -1,24 +1,29 @@
 -- Where the rows of a unit come from: its row fields, or the line program (document 02, E8). Assumes nothing.
-use Prim.Native.Nat.{ℕ, _+_, _-_, _≤_}
+use Prim.Native.Nat.{ℕ, _+_, _-_, _*_, _≤_}
 use mathlib.Core.Path.{_≡_}
-use mathlib.Core.List.{List, []}
+use mathlib.Core.List.{List}
 use lib.ListN.{length, take, drop}
 use lib.Dec.{eqb}
 use Rattle.tlv.specs.Outcome.{Outcome, refused, done}
 use Rattle.tlv.specs.Lists.{mapOption}
 use Rattle.tlv.specs.Bytes.{leAt}
 use Rattle.tlv.specs.Fields.{fields, payloadOf}
-use Rattle.tlv.specs.Grammar.{encodingFlagAt}
+use Rattle.tlv.specs.Grammar.{encodingFlagAt, rowFieldSize}
 use Rattle.tlv.specs.Tags.{encodingTag}
+use Rattle.tlv.specs.Table.{Kept}
 use Rattle.tlv.specs.Model.{CompilationUnit, LineRow, headerOf, encodingOf}
 use Rattle.tlv.specs.Checked.{Placed}
 use Rattle.tlv.specs.Places.{ownFields}
 use Rattle.machine.specs.declared.registers.Encoding.{Encoding}
 use Rattle.machine.specs.Machine.{programRows}
 use Rattle.machine.specs.Steps.{lineEncoding, opcodesWith}
-use Rattle.machine.specs.LineRows.{lineRows}
+use Rattle.machine.specs.LineRows.{lineRows, rowsMost}
+use Rattle.rows.specs.Sizes.{lineSize, rowRoom}
 use Rattle.collect.specs.declared.source.RowSource.{RowSource}
-use Rattle.collect.specs.Passes.{rowsFrom}
+use Rattle.collect.specs.declared.source.UnitRows.{UnitRows}
+use Rattle.collect.specs.declared.source.GatheredRows.{GatheredRows}
+use Rattle.collect.specs.Passes.{Counted, rowsFrom, countAll, RowsCounted}
+use Rattle.collect.specs.Tables.{tableRows}
 
 -- the rows of a program, with the opcode lengths of its header
 unfoldable pub programIn : Encoding → List ℕ → List ℕ → Outcome (List LineRow)
@@ -29,20 +34,10 @@ abbrev pub sourceRows : List ℕ → List ℕ → ℕ → RowSource → Outcome 
 sourceRows main program p RowSource.Fields = done (rowsFrom main p)
 sourceRows main program p (RowSource.Program e from to) = programIn e (take (to - from) (drop from main)) program
 
--- none where they are refused
-abbrev pub rowsGiven : Outcome (List LineRow) → List LineRow
-rowsGiven (refused n) = []
-rowsGiven (done rows) = rows
-
-abbrev pub programList : Encoding → List ℕ → List ℕ → List LineRow
-programList e lengths program = rowsGiven (programIn e lengths program)
-
-abbrev pub sourceList : List ℕ → List ℕ → ℕ → RowSource → List LineRow
-sourceList main program p source = rowsGiven (sourceRows main program p source)
-
--- the program has rows, as it was found when they were counted
-pub record ProgramRuns (e : Encoding) (lengths program : List ℕ) : Type 0 where
-  pub runs : programIn e lengths program ≡ done (programList e lengths program)
+-- how many rows there can be, for the room of their tables
+abbrev pub mostRows : List ℕ → List ℕ → ℕ → RowSource → ℕ
+mostRows main program p RowSource.Fields = length (rowsFrom main p)
+mostRows main program p (RowSource.Program e from to) = length program
 
 -- the opcode lengths lie in the sheet
 abbrev pub WithinBy : List ℕ → RowSource → Type 0
@@ -51,12 +46,6 @@ WithinBy main (RowSource.Program e from to) = (from ≤ to) × (to ≤ length ma
 
 pub record SourceWithin (main : List ℕ) (source : RowSource) : Type 0 where
   pub is : WithinBy main source
-
--- the rows can be walked over: the unit's fields follow p, and a program has rows
-pub record SourceReady (main program : List ℕ) (p : ℕ) (source : RowSource) : Type 0 where
-  pub placed : Placed main p
-  pub within : SourceWithin main source
-  pub reads : sourceRows main program p source ≡ done (sourceList main program p source)
 
 -- the numbers of the encoding whose payload starts at a place
 pub record EncodingRead (s : List ℕ) (start base : ℕ) (e : Encoding) : Type 0 where
@@ -67,8 +56,51 @@ pub record EncodingRead (s : List ℕ) (start base : ℕ) (e : Encoding) : Type 
   pub line-range : e .«line_range» ≡ leAt 1 s (start + 4)
   pub opcode-base : e .«opcode_base» ≡ base
 
--- the source of the rows of any unit whose fields follow p and whose header is the payload of len bytes from `start` on
+-- the source of the rows, and how many there can be, of any unit whose fields follow p and whose header is the payload of len bytes from `start` on
 pub record SourceFound (main : List ℕ) (p start len : ℕ) (source : RowSource) : Type 0 where
   pub within : SourceWithin main source
   pub is : (u : CompilationUnit) (program : List ℕ) → u .encoding ≡ mapOption encodingOf (payloadOf encodingTag (ownFields (fields (drop p main))))
       → u .rows ≡ rowsFrom main p → sourceRows main program p source ≡ lineRows u (headerOf (take len (drop start main))) program
+  pub most : (u : CompilationUnit) (program : List ℕ) → u .encoding ≡ mapOption encodingOf (payloadOf encodingTag (ownFields (fields (drop p main))))
+      → u .rows ≡ rowsFrom main p → mostRows main program p source ≡ rowsMost u program
+
+-- ---- the rows that were gathered
+
+abbrev pub rowsHere : List ℕ → List ℕ → ℕ → UnitRows → List LineRow
+rowsHere main w p UnitRows.Fields = rowsFrom main p
+rowsHere main w p (UnitRows.Table at count) = tableRows w at count
+
+-- a table stands in w, and not below a place
+abbrev pub TableAbove : List ℕ → ℕ → UnitRows → Type 0
+TableAbove w low UnitRows.Fields = Unit {0}
+TableAbove w low (UnitRows.Table at count) = (low ≤ at) × (at + count * rowFieldSize ≤ length w)
+
+-- they can be walked over while the bytes below a place are written
+pub record RowsReady (main w : List ℕ) (p low : ℕ) (rows : UnitRows) : Type 0 where
+  pub placed : Placed main p
+  pub above : TableAbove w low rows
+
+-- they were counted, and stand above the lines that they can become
+pub record UnitGathered (x : Outcome (List LineRow)) (main w : List ℕ) (p lines most n m : ℕ) (rows : UnitRows) : Type 0 where
+  pub is : x ≡ done (rowsHere main w p rows)
+  pub counted : RowsCounted (rowsHere main w p rows) n m
+  pub few : length (rowsHere main w p rows) ≤ most
+  pub ready : RowsReady main w p (lines + lineSize * length (rowsHere main w p rows)) rows
+
+abbrev pub GathersUnitBy : Outcome (List LineRow) → List ℕ → List ℕ → ℕ → ℕ → ℕ → GatheredRows → Type 0
+GathersUnitBy x main w p lines most (GatheredRows.Fault f) = countAll x ≡ refused f
+GathersUnitBy x main w p lines most (GatheredRows.Rows n m rows) = UnitGathered x main w p lines most n m rows
+
+-- there are `most` of them at most; a fault too keeps what lies outside the room of the lines
+pub record GathersUnit (x : Outcome (List LineRow)) (main w w′ : List ℕ) (p lines most : ℕ) (r : GatheredRows) : Type 0 where
+  pub is : GathersUnitBy x main w′ p lines most r
+  pub rest : Kept w w′ lines (rowRoom * most)
+
+-- the fault of rows, or else a later one
+abbrev pub firstFault : Outcome Counted → ℕ → ℕ
+firstFault (refused f) later = f
+firstFault (done k) later = later
+
+pub record FindsFault (x : Outcome (List LineRow)) (w w′ : List ℕ) (free most later f : ℕ) : Type 0 where
+  pub is : f ≡ firstFault (countAll x) later
+  pub rest : Kept w w′ free (rowRoom * most)

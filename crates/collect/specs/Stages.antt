@@ -17,7 +17,7 @@ use Rattle.tlv.specs.Output.{Warning, warningsBytes}
 use Rattle.lines.specs.declared.lines.Header.{Header}
 use Rattle.lines.specs.Files.{FileTable, FileIndices, Indexed, internHeaderFiles}
 use Rattle.lines.specs.Lines.{Run, runRows, convertRows, sortRows, sameRow, dropNeighbours, Collected, mismatch, unitLines}
-use Rattle.machine.specs.LineRows.{lineRows}
+use Rattle.machine.specs.LineRows.{lineRows, rowsMost}
 use Rattle.rows.specs.declared.«unit_lines».StoredLines.{StoredLines}
 use Rattle.rows.specs.Sizes.{entrySize, lineSize, rangeSize, rowRoom}
 use Rattle.rows.specs.Stored.{linesOf, rangesOf}
@@ -32,8 +32,8 @@ use Rattle.collect.specs.declared.collect.CollectedLines.{CollectedLines
 use Rattle.collect.specs.declared.collect.InternedUnit.{InternedUnit}
 use Rattle.collect.specs.declared.convert.Conversion.{Conversion}
 use Rattle.collect.specs.declared.source.RowSource.{RowSource}
-use Rattle.collect.specs.Passes.{RowsCounted, sequencesFrom, offsetsAt, withOffset}
-use Rattle.collect.specs.Sources.{sourceRows, sourceList, SourceReady}
+use Rattle.collect.specs.Passes.{sequencesFrom, offsetsAt, withOffset}
+use Rattle.collect.specs.Sources.{sourceRows, mostRows, SourceWithin}
 use Rattle.collect.specs.Converts.{unitAt, headerIn, offsetsOf}
 use Rattle.collect.specs.Collects.{UnitIn, LinesRoom, linesIn}
 
@@ -53,14 +53,14 @@ pub record HeaderIn (s : List ℕ) (p start len : ℕ) : Type 0 where
   pub long : 19 ≤ len
   pub within : start + len ≤ length s
 
--- a unit with a header, whose rows were counted, the file table, and room for the unit's lines
-pub record UnitCounted (main supplementary program w : List ℕ) (t : StoredFiles) (p start len : ℕ) (source : RowSource) (n m free : ℕ) : Type 0 where
+-- a unit with a header, the source of its rows, the file table, and room for the unit's lines
+pub record UnitFound (main supplementary program w : List ℕ) (t : StoredFiles) (p start len : ℕ) (source : RowSource) (free : ℕ) : Type 0 where
   pub placed : Placed main 0
   pub unit : UnitIn main p
   pub header : HeaderIn main p start len
+  pub within : SourceWithin main source
   pub source-is : sourceRows main program (p + 21) source ≡ lineRows (unitHere main p) (headerHere main p) program
-  pub ready : SourceReady main program (p + 21) source
-  pub counted : RowsCounted (sourceList main program (p + 21) source) n m
+  pub most : mostRows main program (p + 21) source ≡ rowsMost (unitHere main p) program
   pub files : FilesIn main supplementary w t
   pub room : LinesRoom main w program t p free
 
@@ -127,29 +127,32 @@ finishRun u h offsets table indices run =
 abbrev pub finishFrom : List ℕ → List ℕ → List ℕ → Conversion → StoredFiles → Run → Outcome Collected
 finishFrom main supplementary w c t = finishRun (unitAt main c) (headerIn main c) (offsetsOf w c) (tableOf main supplementary w t) (indicesIn w (c .indices))
 
-pub record Finished (given : List LineRow) (main supplementary w w′ files files′ warnings warnings′ : List ℕ) (c : Conversion) (t : StoredFiles) (warned : ℕ)
-    (l : StoredLines) (is : StoredIndices) (t′ : StoredFiles) (warned′ : ℕ) : Type 0 where
+-- the same of rows that may be refused
+abbrev pub finishRows : Outcome (List LineRow) → List ℕ → List ℕ → List ℕ → Conversion → StoredFiles → Outcome Collected
+finishRows x main supplementary w c t = x >>= λ rows. runRows rows 0 [] >>= finishFrom main supplementary w c t
+
+pub record Finished (x : Outcome (List LineRow)) (most : ℕ) (main supplementary w w′ files files′ warnings warnings′ : List ℕ) (c : Conversion)
+    (t : StoredFiles) (warned : ℕ) (l : StoredLines) (is : StoredIndices) (t′ : StoredFiles) (warned′ : ℕ) : Type 0 where
   pub new : List Warning
-  pub finished : (run : Run) → runRows given 0 [] ≡ done run
-      → finishFrom main supplementary w c t run ≡ done (record { table = tableOf main supplementary w′ t′; lines = linesIn w′ l is; warnings = new })
+  pub finished : finishRows x main supplementary w c t ≡ done (record { table = tableOf main supplementary w′ t′; lines = linesIn w′ l is; warnings = new })
   pub grown : Grown main supplementary w w′ files files′ t t′
   pub put : Put warned (warningsBytes new) warnings warnings′ warned′
   pub rows : RowsIn w′ l
   pub map : is ≡ c .indices
   pub from : l .lines ≡ c .lines
   pub sequences : l .lines + l .«line_count» * lineSize ≤ l .sequences
-  pub within : l .buffer + entrySize + l .«line_count» * entrySize ≤ c .lines + rowRoom * length given + entrySize
+  pub within : l .buffer + entrySize + l .«line_count» * entrySize ≤ c .lines + rowRoom * most + entrySize
 
-abbrev pub FinishesBy : List LineRow → List ℕ → List ℕ → List ℕ → List ℕ → List ℕ → List ℕ → List ℕ → List ℕ → Conversion → StoredFiles → ℕ → CollectedLines
-    → Type 0
-FinishesBy given main supplementary w w′ files files′ warnings warnings′ c t warned (CollectedLines.Refused n) =
-    (run : Run) → runRows given 0 [] ≡ done run → finishFrom main supplementary w c t run ≡ refused n
-FinishesBy given main supplementary w w′ files files′ warnings warnings′ c t warned (CollectedLines.Lines l is t′ warned′) =
-    Finished given main supplementary w w′ files files′ warnings warnings′ c t warned l is t′ warned′
+abbrev pub FinishesBy : Outcome (List LineRow) → ℕ → List ℕ → List ℕ → List ℕ → List ℕ → List ℕ → List ℕ → List ℕ → List ℕ → Conversion → StoredFiles → ℕ
+    → CollectedLines → Type 0
+FinishesBy x most main supplementary w w′ files files′ warnings warnings′ c t warned (CollectedLines.Refused n) =
+    finishRows x main supplementary w c t ≡ refused n
+FinishesBy x most main supplementary w w′ files files′ warnings warnings′ c t warned (CollectedLines.Lines l is t′ warned′) =
+    Finished x most main supplementary w w′ files files′ warnings warnings′ c t warned l is t′ warned′
 
--- the unit's rows were converted, and its lines and sequences stored; a refusal too keeps what lies outside the file table, the unit's map and the room
--- behind it
-pub record FinishesLines (given : List LineRow) (main supplementary w w′ files files′ warnings warnings′ : List ℕ) (c : Conversion) (t : StoredFiles)
-    (warned : ℕ) (r : CollectedLines) : Type 0 where
-  pub is : FinishesBy given main supplementary w w′ files files′ warnings warnings′ c t warned r
-  pub rest : KeptBut w w′ ((t .base, extent t) ∷ (c .indices .base, c .indices .count * 5) ∷ (c .lines, rowRoom * length given + entrySize) ∷ [])
+-- the unit's rows, `most` of them at most, were converted, and its lines and sequences stored; a refusal too keeps what lies outside the file table, the
+-- unit's map and the room behind it
+pub record FinishesLines (x : Outcome (List LineRow)) (most : ℕ) (main supplementary w w′ files files′ warnings warnings′ : List ℕ) (c : Conversion)
+    (t : StoredFiles) (warned : ℕ) (r : CollectedLines) : Type 0 where
+  pub is : FinishesBy x most main supplementary w w′ files files′ warnings warnings′ c t warned r
+  pub rest : KeptBut w w′ ((t .base, extent t) ∷ (c .indices .base, c .indices .count * 5) ∷ (c .lines, rowRoom * most + entrySize) ∷ [])

@@ -6,6 +6,7 @@ ghost use Rattle.tlv.specs.Checked.{Placed};
 ghost use Rattle.tlv.specs.Places.{unitHere};
 ghost use Rattle.tlv.specs.Model.{headerOf};
 ghost use Rattle.tlv.specs.Buffer.{Put};
+ghost use Rattle.tlv.specs.Outcome.{done};
 ghost use Rattle.tlv.specs.Output.{warningsBytes};
 ghost use Rattle.lines.specs.Scan.{Scanned};
 ghost use Rattle.lines.specs.Program.{lineSequenceOffsets};
@@ -14,19 +15,21 @@ ghost use Rattle.files.specs.Pieces.{headerHere, UnitPlaced};
 ghost use Rattle.files.specs.Store.{FilesIn};
 ghost use Rattle.files.specs.Interns.{Listed};
 ghost use Rattle.collect.specs.Passes.{RowsCounted, sequencesFrom};
-ghost use Rattle.collect.specs.Sources.{sourceList, SourceReady};
+ghost use Rattle.collect.specs.Sources.{sourceRows, mostRows, SourceWithin, rowsHere, RowsReady};
 ghost use Rattle.collect.specs.Converts.{ConversionIn};
-ghost use Rattle.collect.specs.Stages.{HeaderRead, UnitCounted, UnitRoom, InternsUnit, ConversionOf, StoresLines, FinishesLines};
+ghost use Rattle.collect.specs.Stages.{HeaderRead, UnitFound, UnitRoom, InternsUnit, ConversionOf, StoresLines, FinishesLines};
 ghost use Rattle.collect.specs.Collects.{UnitIn, LinesRoom, CollectsLines};
-ghost use Rattle.rows.specs.Sizes.{entrySize, rangeSize, rowRoom};
+ghost use Rattle.rows.specs.Sizes.{entrySize, lineSize, rangeSize, rowRoom};
 use crate::convert::Conversion;
 use crate::convert::ConvertedRow;
 use crate::convert::Converting;
-use crate::passes::CountedRows;
+use crate::source::GatheredRows;
 use crate::source::RowSource;
+use crate::source::UnitRows;
 use crate::source::collect_unit_sequences;
 use crate::source::convert_unit_rows;
-use crate::source::count_unit_rows;
+use crate::source::gather_unit_rows;
+use crate::source::row_fault;
 use crate::source::row_source;
 use files::index::StoredIndices;
 use files::intern::InternedFiles;
@@ -175,36 +178,27 @@ fn warn_mismatch(warnings: &mut [u8], warned: usize, sequences: usize, offsets: 
     tlv::output::put_warning(warnings, warned, 5, sequences as u64, offsets as u64)
 }
 
-// Writes the unit's sequences behind its lines, sorts these and drops equal neighbours.
+// Writes the unit's sequences behind its lines, sorts these and drops equal neighbours. A table of its rows may be overwritten by the sort.
 fn store_lines(
     main: &[u8],
-    program: &[u8],
     p: usize,
-    source: RowSource,
+    rows: UnitRows,
     work: &mut [u8],
     offsets: usize,
     n: usize,
     lines: usize,
     count: usize,
 ) -> StoredLines
-    requires { ⌜ SourceReady (now main) (now program) p source ⌝ }
+    requires { ⌜ RowsReady (now main) (now work) p (lines + count * lineSize
+        + rangeSize * length (sequencesFrom (rowsHere (now main) (now work) p rows) 0 none)) rows ⌝ }
     requires { ⌜ offsets + n * 8 ≤ lines ⌝ }
     requires { ⌜ lines + count * rowRoom + rangeSize * length (sequencesFrom
-        (sourceList (now main) (now program) p source) 0 none) + entrySize ≤ length (now work) ⌝ }
-    ensures { λ r. ⌜ StoresLines (sourceList (now (main .entry)) (now (program .entry)) p source) (now (work .entry))
+        (rowsHere (now main) (now work) p rows) 0 none) + entrySize ≤ length (now work) ⌝ }
+    ensures { λ r. ⌜ StoresLines (rowsHere (now (main .entry)) (now (work .entry)) p rows) (now (work .entry))
         (now (work .exit)) offsets n lines count r ⌝ }
 {
     let sequences = lines + count * LINE_SIZE;
-    let sequence_count = collect_unit_sequences(
-        main,
-        program,
-        p,
-        source,
-        work,
-        offsets,
-        n,
-        sequences,
-    );
+    let sequence_count = collect_unit_sequences(main, p, rows, work, offsets, n, sequences);
     let buffer = sequences + sequence_count * RANGE_SIZE;
     rows::sort::sort_rows(work, lines, buffer, count);
     let line_count = rows::normalize::dedup_rows(work, lines, count);
@@ -221,8 +215,7 @@ fn store_lines(
 fn finish_lines(
     main: &[u8],
     supplementary: &[u8],
-    program: &[u8],
-    source: RowSource,
+    rows: UnitRows,
     c: Conversion,
     n: usize,
     m: usize,
@@ -233,10 +226,12 @@ fn finish_lines(
     warned: usize,
 ) -> CollectedLines
     requires { ⌜ ConversionIn (now main) (now supplementary) (now work) c (record { table = t; count = 0; warned = warned }) ⌝ }
-    requires { ⌜ SourceReady (now main) (now program) (c .unit .place + 21) source ⌝ }
-    requires { ⌜ RowsCounted (sourceList (now main) (now program) (c .unit .place + 21) source) n m ⌝ }
-    requires { ⌜ c .lines + rowRoom * length (sourceList (now main) (now program) (c .unit .place + 21) source) + entrySize ≤ length (now work) ⌝ }
-    ensures { λ r. ⌜ FinishesLines (sourceList (now (main .entry)) (now (program .entry)) (c .unit .place + 21) source) (now (main .entry))
+    requires { ⌜ RowsReady (now main) (now work) (c .unit .place + 21)
+        (c .lines + lineSize * length (rowsHere (now main) (now work) (c .unit .place + 21) rows)) rows ⌝ }
+    requires { ⌜ RowsCounted (rowsHere (now main) (now work) (c .unit .place + 21) rows) n m ⌝ }
+    requires { ⌜ c .lines + rowRoom * length (rowsHere (now main) (now work) (c .unit .place + 21) rows) + entrySize ≤ length (now work) ⌝ }
+    ensures { λ r. ⌜ FinishesLines (done (rowsHere (now (main .entry)) (now (work .entry)) (c .unit .place + 21) rows))
+        (length (rowsHere (now (main .entry)) (now (work .entry)) (c .unit .place + 21) rows)) (now (main .entry))
         (now (supplementary .entry)) (now (work .entry)) (now (work .exit)) (now (files .entry)) (now (files .exit)) (now (warnings .entry))
         (now (warnings .exit)) c t warned r ⌝ }
 {
@@ -249,8 +244,7 @@ fn finish_lines(
     match convert_unit_rows(
         main,
         supplementary,
-        program,
-        source,
+        rows,
         c,
         n,
         work,
@@ -265,9 +259,8 @@ fn finish_lines(
             let p = c.unit.place + UNIT_WHOLE;
             let stored = store_lines(
                 main,
-                program,
                 p,
-                source,
+                rows,
                 work,
                 c.offsets,
                 c.offset_count,
@@ -286,8 +279,56 @@ fn finish_lines(
     }
 }
 
-// Collects the lines of a unit with a header, whose rows were counted.
-fn collect_counted(
+// Gathers the unit's rows, which go above its lines, and makes these of them.
+fn collect_rows(
+    main: &[u8],
+    supplementary: &[u8],
+    program: &[u8],
+    source: RowSource,
+    c: Conversion,
+    work: &mut [u8],
+    files: &mut [u8],
+    warnings: &mut [u8],
+    t: StoredFiles,
+    warned: usize,
+) -> CollectedLines
+    requires { ⌜ ConversionIn (now main) (now supplementary) (now work) c (record { table = t; count = 0; warned = warned }) ⌝ }
+    requires { ⌜ SourceWithin (now main) source ⌝ }
+    requires { ⌜ c .lines + rowRoom * mostRows (now main) (now program) (c .unit .place + 21) source + entrySize ≤ length (now work) ⌝ }
+    ensures { λ r. ⌜ FinishesLines (sourceRows (now (main .entry)) (now (program .entry)) (c .unit .place + 21) source)
+        (mostRows (now (main .entry)) (now (program .entry)) (c .unit .place + 21) source) (now (main .entry))
+        (now (supplementary .entry)) (now (work .entry)) (now (work .exit)) (now (files .entry)) (now (files .exit)) (now (warnings .entry))
+        (now (warnings .exit)) c t warned r ⌝ }
+{
+    let p = c.unit.place + UNIT_WHOLE;
+    match gather_unit_rows(main, program, p, source, work, c.lines) {
+        GatheredRows::Fault(fault) => {
+            return CollectedLines::Refused(fault);
+        }
+        GatheredRows::Rows {
+            lines: n,
+            sequences: m,
+            rows,
+        } => {
+            return finish_lines(
+                main,
+                supplementary,
+                rows,
+                c,
+                n,
+                m,
+                work,
+                files,
+                warnings,
+                t,
+                warned,
+            );
+        }
+    }
+}
+
+// Collects the lines of a unit with a header. Its rows are read last, since their table goes behind its map; their fault comes first all the same.
+fn collect_header(
     main: &[u8],
     supplementary: &[u8],
     program: &[u8],
@@ -295,8 +336,6 @@ fn collect_counted(
     start: usize,
     len: usize,
     source: RowSource,
-    n: usize,
-    m: usize,
     work: &mut [u8],
     files: &mut [u8],
     warnings: &mut [u8],
@@ -304,18 +343,27 @@ fn collect_counted(
     warned: usize,
     free: usize,
 ) -> CollectedLines
-    requires { ⌜ UnitCounted (now main) (now supplementary) (now program) (now work) t place start len source n m free ⌝ }
+    requires { ⌜ UnitFound (now main) (now supplementary) (now program) (now work) t place start len source free ⌝ }
     ensures { λ r. ⌜ CollectsLines (now (main .entry)) (now (supplementary .entry)) (now (program .entry)) (now (work .entry)) (now (work .exit))
         (now (files .entry)) (now (files .exit)) (now (warnings .entry)) (now (warnings .exit)) place t warned free r ⌝ }
 {
+    let p = place + UNIT_WHOLE;
     match scan_program(main, program, start, len, work, free) {
         Scan::Fault(f) => {
-            return CollectedLines::Refused(f);
+            return CollectedLines::Refused(row_fault(main, program, p, source, work, free, f));
         }
         Scan::Count(k) => {
             match intern_unit(main, supplementary, place, work, files, t, free + k * 8) {
                 InternedUnit::Refused(r) => {
-                    return CollectedLines::Refused(r);
+                    return CollectedLines::Refused(row_fault(
+                        main,
+                        program,
+                        p,
+                        source,
+                        work,
+                        free,
+                        r,
+                    ));
                 }
                 InternedUnit::Unit {
                     unit,
@@ -323,14 +371,12 @@ fn collect_counted(
                     table,
                 } => {
                     let c = conversion(main, unit, indices, free, k);
-                    return finish_lines(
+                    return collect_rows(
                         main,
                         supplementary,
                         program,
                         source,
                         c,
-                        n,
-                        m,
                         work,
                         files,
                         warnings,
@@ -388,33 +434,21 @@ pub fn collect_lines(
             next: _,
         } => {
             let source = row_source(main, p, start, len);
-            match count_unit_rows(main, program, p, source) {
-                CountedRows::Fault(fault) => {
-                    return CollectedLines::Refused(fault);
-                }
-                CountedRows::Rows {
-                    lines: n,
-                    sequences: m,
-                } => {
-                    return collect_counted(
-                        main,
-                        supplementary,
-                        program,
-                        place,
-                        start,
-                        len,
-                        source,
-                        n,
-                        m,
-                        work,
-                        files,
-                        warnings,
-                        t,
-                        warned,
-                        free,
-                    );
-                }
-            }
+            return collect_header(
+                main,
+                supplementary,
+                program,
+                place,
+                start,
+                len,
+                source,
+                work,
+                files,
+                warnings,
+                t,
+                warned,
+                free,
+            );
         }
     }
 }

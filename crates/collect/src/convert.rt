@@ -278,7 +278,7 @@ pub fn convert_row(
 }
 
 // The row whose payload starts at a place, of the sequence of a number.
-fn read_row(main: &[u8], start: usize, sequence: usize) -> Row
+pub fn read_row(main: &[u8], start: usize, sequence: usize) -> Row
     requires { ⌜ start + rowFieldSize ≤ length (now main) ⌝ }
     ensures { λ r. ⌜ rawOf r ≡ rawLine (rowOf (chunk (now (main .entry)) start rowFieldSize)) sequence ⌝ }
 {
@@ -296,7 +296,7 @@ fn read_row(main: &[u8], start: usize, sequence: usize) -> Row
 }
 
 // Appends the line of a row whose file has a number in the unit's map and whose line fits 32 bits; whether it did.
-fn convert_known(c: Conversion, row: Row, work: &mut [u8], count: usize) -> bool
+pub fn convert_known(c: Conversion, row: Row, work: &mut [u8], count: usize) -> bool
     requires { ⌜ c .indices .base + c .indices .count * 5 ≤ length (now work) ⌝ }
     requires { ⌜ c .offsets + c .«offset_count» * 8 ≤ length (now work) ⌝ }
     requires { ⌜ c .lines + count * lineSize + lineSize ≤ length (now work) ⌝ }

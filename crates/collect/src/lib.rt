@@ -4,3 +4,4 @@ pub mod convert;
 pub mod passes;
 pub mod program;
 pub mod source;
+pub mod table;

@@ -1,234 +1,120 @@
-// The walks over the rows of a line program. The machine runs anew for each: the program is never written, so no table of its rows is needed.
+// The rows of a line program: the machine runs once, and each row goes to a table in the work slice, as the payload of a row field is.
 ghost use mathlib.Core.Path.{_≡_};
-ghost use mathlib.Core.Option.{none};
-ghost use Prim.Native.Nat.{_+_, _*_, _≤_};
+ghost use Prim.Native.Nat.{_+_, _*_, _≤_, min};
 ghost use lib.ListN.{length};
-ghost use Rattle.lines.specs.Lines.{rawLine};
+ghost use Rattle.tlv.specs.Grammar.{rowFieldSize};
 ghost use Rattle.machine.specs.Machine.{appendedRow};
-ghost use Rattle.rows.specs.Sizes.{lineSize, rangeSize};
-ghost use Rattle.collect.specs.Passes.{countAll, countedOf, sequencesFrom, SequencesIn};
-ghost use Rattle.collect.specs.Sources.{programIn, programList, ProgramRuns};
-ghost use Rattle.collect.specs.Converts.{ConversionIn, rawOf, RowsConvert};
-use crate::convert::Conversion;
-use crate::convert::ConvertedRow;
-use crate::convert::Converting;
-use crate::convert::Row;
-use crate::convert::convert_row;
-use crate::passes::CountedRows;
-use crate::passes::put_sequence_record;
-use files::index::FileNumber;
+ghost use Rattle.collect.specs.Tables.{RowPut, GathersRows};
+ghost use Rattle.collect.specs.Sources.{programIn};
 use machine::machine::Emitted;
 use machine::machine::initial;
 use machine::machine::next_row;
 use machine::registers::Encoding;
 use machine::registers::LINE_ENCODING;
 use machine::registers::Registers;
-use rows::line::RANGE_SIZE;
+use tlv::grammar::ROW_COLUMN;
+use tlv::grammar::ROW_FIELD;
+use tlv::grammar::ROW_KIND;
+use tlv::grammar::ROW_LINE;
 
 // The largest column that a row has: a larger one is written so.
 const LAST_COLUMN: u64 = 65535;
 
-// Counts the rows of a program; 21 before any instruction.
-pub fn count_program_rows(program: &[u8], lengths: &[u8], e: Encoding) -> CountedRows
-    ensures { λ r. ⌜ countedOf r ≡ countAll (programIn e (now (lengths .entry)) (now (program .entry))) ⌝ }
+// The kinds of a row.
+const PLAIN_ROW: u8 = 0;
+
+const END_ROW: u8 = 1;
+
+// How many rows stand in finished sequences, how many sequences are finished, and how many rows there are in all; or the program's fault.
+pub enum ProgramRows {
+    Fault(u8),
+    Rows {
+        lines: usize,
+        sequences: usize,
+        count: usize,
+    },
+}
+
+// The column that a row shows.
+fn shown_column(column: u64) -> u16
+    ensures { λ r. ⌜ r ≡ min column 65535 ⌝ }
+{
+    if LAST_COLUMN < column {
+        return LAST_COLUMN as u16;
+    }
+    column as u16
+}
+
+// Writes at p the row that registers show.
+fn put_row(work: &mut [u8], p: usize, r: Registers, kind: u8)
+    requires { ⌜ p + rowFieldSize ≤ length (now work) ⌝ }
+    ensures { λ _. ⌜ RowPut (now (work .entry)) (now (work .exit)) p (appendedRow r kind) ⌝ }
+{
+    let column = shown_column(r.column);
+    tlv::table::set_u64(work, p, r.address);
+    tlv::table::set_u64(work, p + 8, r.file);
+    tlv::table::set_u64(work, p + ROW_LINE, r.line);
+    tlv::table::set_u16(work, p + ROW_COLUMN, column);
+    tlv::table::set_u8(work, p + ROW_KIND, kind);
+}
+
+// Writes the rows of a program from base on; 21 before any instruction.
+pub fn gather_program_rows(
+    program: &[u8],
+    lengths: &[u8],
+    e: Encoding,
+    work: &mut [u8],
+    base: usize,
+) -> ProgramRows
+    requires { ⌜ base + length (now program) * rowFieldSize ≤ length (now work) ⌝ }
+    ensures { λ r. ⌜ GathersRows (programIn e (now (lengths .entry)) (now (program .entry))) (now (work .entry)) (now (work .exit)) base
+        (length (now (program .entry))) r ⌝ }
 {
     if e.line_range == 0 {
-        return CountedRows::Fault(LINE_ENCODING);
+        return ProgramRows::Fault(LINE_ENCODING);
     }
     if e.maximum_operations != 1 {
-        return CountedRows::Fault(LINE_ENCODING);
+        return ProgramRows::Fault(LINE_ENCODING);
     }
     let mut registers = initial();
     let mut at: usize = 0;
     let mut lines: usize = 0;
     let mut opened: usize = 0;
     let mut n: usize = 0;
-    loop {
-        match next_row(program, lengths, e, registers, at) {
-            Emitted::End => {
-                return CountedRows::Rows {
-                    lines: lines,
-                    sequences: n,
-                };
-            }
-            Emitted::Fault(fault) => {
-                return CountedRows::Fault(fault);
-            }
-            Emitted::Plain {
-                registers: shown,
-                next,
-            } => {
-                opened += 1;
-                registers = shown;
-                at = next;
-            }
-            Emitted::Ended { registers: _, next } => {
-                lines += opened;
-                opened = 0;
-                n += 1;
-                registers = initial();
-                at = next;
-            }
-        }
-    }
-}
-
-// The row that registers show, of the sequence of a number.
-fn shown_row(r: Registers, sequence: usize) -> Row
-    ensures { λ q. ⌜ rawOf q ≡ rawLine (appendedRow r 0) sequence ⌝ }
-{
-    let column = r.column;
-    if LAST_COLUMN < column {
-        return Row {
-            address: r.address,
-            file: FileNumber(r.file),
-            line: r.line,
-            column: LAST_COLUMN as u16,
-            sequence: sequence,
-        };
-    }
-    Row {
-        address: r.address,
-        file: FileNumber(r.file),
-        line: r.line,
-        column: column as u16,
-        sequence: sequence,
-    }
-}
-
-// Converts `left` rows of a program, from its first on.
-pub fn convert_program_rows(
-    main: &[u8],
-    supplementary: &[u8],
-    program: &[u8],
-    lengths: &[u8],
-    e: Encoding,
-    c: Conversion,
-    left: usize,
-    work: &mut [u8],
-    files: &mut [u8],
-    warnings: &mut [u8],
-    st: Converting,
-) -> ConvertedRow
-    requires { ⌜ ProgramRuns e (now lengths) (now program) ⌝ }
-    requires { ⌜ ConversionIn (now main) (now supplementary) (now work) c st ⌝ }
-    requires { ⌜ c .lines + st .count * lineSize + left * lineSize ≤ length (now work) ⌝ }
-    ensures { λ r. ⌜ RowsConvert (programList e (now (lengths .entry)) (now (program .entry))) (now (main .entry)) (now (supplementary .entry))
-        (now (work .entry)) (now (work .exit)) (now (files .entry)) (now (files .exit)) (now (warnings .entry)) (now (warnings .exit)) c st left r ⌝ }
-{
-    let mut registers = initial();
-    let mut at: usize = 0;
-    let mut sequence: usize = 0;
-    let mut more = left;
-    let mut state = st;
-    loop {
-        if more == 0 {
-            return ConvertedRow::Next(state);
-        }
-        match next_row(program, lengths, e, registers, at) {
-            Emitted::End => {
-                return ConvertedRow::Next(state);
-            }
-            Emitted::Fault(_) => {
-                return ConvertedRow::Next(state);
-            }
-            Emitted::Ended { registers: _, next } => {
-                sequence += 1;
-                registers = initial();
-                at = next;
-            }
-            Emitted::Plain {
-                registers: shown,
-                next,
-            } => {
-                let row = shown_row(shown, sequence);
-                match convert_row(main, supplementary, c, row, work, files, warnings, state) {
-                    ConvertedRow::Refused(n) => {
-                        return ConvertedRow::Refused(n);
-                    }
-                    ConvertedRow::Next(converted) => {
-                        state = converted;
-                        more -= 1;
-                        registers = shown;
-                        at = next;
-                    }
-                }
-            }
-        }
-    }
-}
-
-// Writes a record for each sequence of a program's rows, and returns their number.
-pub fn collect_program_sequences(
-    program: &[u8],
-    lengths: &[u8],
-    e: Encoding,
-    work: &mut [u8],
-    offsets: usize,
-    n: usize,
-    base: usize,
-) -> usize
-    requires { ⌜ ProgramRuns e (now lengths) (now program) ⌝ }
-    requires { ⌜ offsets + n * 8 ≤ base ⌝ }
-    requires { ⌜ base + rangeSize * length (sequencesFrom (programList e (now lengths) (now program)) 0 none) ≤ length (now work) ⌝ }
-    ensures { λ r. ⌜ SequencesIn (programList e (now (lengths .entry)) (now (program .entry))) (now (work .entry)) (now (work .exit)) offsets n base r ⌝ }
-{
-    let mut registers = initial();
-    let mut at: usize = 0;
-    let mut k: usize = 0;
-    let mut opened = false;
-    let mut start: u64 = 0;
     let mut count: usize = 0;
     loop {
         match next_row(program, lengths, e, registers, at) {
             Emitted::End => {
-                return count;
+                return ProgramRows::Rows {
+                    lines: lines,
+                    sequences: n,
+                    count: count,
+                };
             }
-            Emitted::Fault(_) => {
-                return count;
+            Emitted::Fault(fault) => {
+                return ProgramRows::Fault(fault);
             }
             Emitted::Plain {
                 registers: shown,
                 next,
             } => {
-                if opened {
-                    registers = shown;
-                    at = next;
-                } else {
-                    start = shown.address;
-                    opened = true;
-                    registers = shown;
-                    at = next;
-                }
+                put_row(work, base + count * ROW_FIELD, shown, PLAIN_ROW);
+                count += 1;
+                opened += 1;
+                registers = shown;
+                at = next;
             }
             Emitted::Ended {
                 registers: shown,
                 next,
             } => {
-                let address = shown.address;
-                if start < address {
-                    put_sequence_record(
-                        work,
-                        offsets,
-                        n,
-                        k,
-                        base + count * RANGE_SIZE,
-                        start,
-                        address,
-                    );
-                    count += 1;
-                    k += 1;
-                    opened = false;
-                    start = 0;
-                    registers = initial();
-                    at = next;
-                } else {
-                    k += 1;
-                    opened = false;
-                    start = 0;
-                    registers = initial();
-                    at = next;
-                }
+                put_row(work, base + count * ROW_FIELD, shown, END_ROW);
+                count += 1;
+                lines += opened;
+                opened = 0;
+                n += 1;
+                registers = initial();
+                at = next;
             }
         }
     }

@@ -1,13 +1,12 @@
-// Where the rows of a unit come from, its row fields or the line program, and each walk over them by the one or the other.
-ghost use mathlib.Core.Path.{_≡_};
+// Where the rows of a unit come from, its row fields or the line program, and each walk over them: over the fields, or over a table of the program's rows.
 ghost use mathlib.Core.Option.{none};
 ghost use Prim.Native.Nat.{_+_, _*_, _≤_};
 ghost use lib.ListN.{length};
 ghost use Rattle.tlv.specs.Checked.{Placed};
 ghost use Rattle.tlv.specs.Grammar.{encodingFieldSize};
-ghost use Rattle.rows.specs.Sizes.{lineSize, rangeSize};
-ghost use Rattle.collect.specs.Passes.{countAll, countedOf, sequencesFrom, SequencesIn};
-ghost use Rattle.collect.specs.Sources.{EncodingRead, sourceRows, sourceList, SourceWithin, SourceReady, SourceFound};
+ghost use Rattle.rows.specs.Sizes.{lineSize, rangeSize, rowRoom};
+ghost use Rattle.collect.specs.Passes.{sequencesFrom, SequencesIn};
+ghost use Rattle.collect.specs.Sources.{EncodingRead, sourceRows, mostRows, SourceWithin, SourceFound, rowsHere, RowsReady, GathersUnit, FindsFault};
 ghost use Rattle.collect.specs.Converts.{ConversionIn, RowsConvert};
 use crate::convert::Conversion;
 use crate::convert::ConvertedRow;
@@ -16,10 +15,12 @@ use crate::convert::convert_rows;
 use crate::passes::CountedRows;
 use crate::passes::collect_sequences;
 use crate::passes::count_rows;
-use crate::program::collect_program_sequences;
-use crate::program::convert_program_rows;
-use crate::program::count_program_rows;
+use crate::program::ProgramRows;
+use crate::program::gather_program_rows;
+use crate::table::collect_table_sequences;
+use crate::table::convert_table_rows;
 use machine::registers::Encoding;
+use rows::line::LINE_SIZE;
 use tlv::access::Own;
 use tlv::bytes::read_u8;
 use tlv::tags::ENCODING_TAG;
@@ -31,6 +32,22 @@ pub enum RowSource {
         encoding: Encoding,
         from: usize,
         to: usize,
+    },
+}
+
+// The rows that can be walked over: the unit's row fields, or a table of `count` rows in the work slice.
+pub enum UnitRows {
+    Fields,
+    Table { at: usize, count: usize },
+}
+
+// How many rows stand in finished sequences, how many sequences are finished, and where the rows are; or their fault.
+pub enum GatheredRows {
+    Fault(u8),
+    Rows {
+        lines: usize,
+        sequences: usize,
+        rows: UnitRows,
     },
 }
 
@@ -74,16 +91,88 @@ pub fn row_source(main: &[u8], p: usize, start: usize, len: usize) -> RowSource
     }
 }
 
-// Counts the rows of a unit.
-pub fn count_unit_rows(main: &[u8], program: &[u8], p: usize, source: RowSource) -> CountedRows
+// Counts the rows of a unit whose lines go to a place. A program's rows go to a table above all the lines and sequences that they can become.
+pub fn gather_unit_rows(
+    main: &[u8],
+    program: &[u8],
+    p: usize,
+    source: RowSource,
+    work: &mut [u8],
+    lines: usize,
+) -> GatheredRows
     requires { ⌜ Placed (now main) p ⌝ }
     requires { ⌜ SourceWithin (now main) source ⌝ }
-    ensures { λ r. ⌜ countedOf r ≡ countAll (sourceRows (now (main .entry)) (now (program .entry)) p source) ⌝ }
+    requires { ⌜ lines + rowRoom * mostRows (now main) (now program) p source ≤ length (now work) ⌝ }
+    ensures { λ r. ⌜ GathersUnit (sourceRows (now (main .entry)) (now (program .entry)) p source) (now (main .entry)) (now (work .entry))
+        (now (work .exit)) p lines (mostRows (now (main .entry)) (now (program .entry)) p source) r ⌝ }
 {
     match source {
-        RowSource::Fields => count_rows(main, p),
+        RowSource::Fields => match count_rows(main, p) {
+            CountedRows::Fault(fault) => {
+                return GatheredRows::Fault(fault);
+            }
+            CountedRows::Rows {
+                lines: n,
+                sequences,
+            } => {
+                return GatheredRows::Rows {
+                    lines: n,
+                    sequences: sequences,
+                    rows: UnitRows::Fields,
+                };
+            }
+        },
         RowSource::Program { encoding, from, to } => {
-            count_program_rows(program, &main[from..to], encoding)
+            let at = lines + program.len() * LINE_SIZE;
+            match gather_program_rows(program, &main[from..to], encoding, work, at) {
+                ProgramRows::Fault(fault) => {
+                    return GatheredRows::Fault(fault);
+                }
+                ProgramRows::Rows {
+                    lines: n,
+                    sequences,
+                    count,
+                } => {
+                    return GatheredRows::Rows {
+                        lines: n,
+                        sequences: sequences,
+                        rows: UnitRows::Table {
+                            at: at,
+                            count: count,
+                        },
+                    };
+                }
+            }
+        }
+    }
+}
+
+// The fault of a unit's rows, or where they have none a later one. The room from a place on is free.
+pub fn row_fault(
+    main: &[u8],
+    program: &[u8],
+    p: usize,
+    source: RowSource,
+    work: &mut [u8],
+    free: usize,
+    later: u8,
+) -> u8
+    requires { ⌜ Placed (now main) p ⌝ }
+    requires { ⌜ SourceWithin (now main) source ⌝ }
+    requires { ⌜ free + rowRoom * mostRows (now main) (now program) p source ≤ length (now work) ⌝ }
+    ensures { λ r. ⌜ FindsFault (sourceRows (now (main .entry)) (now (program .entry)) p source) (now (work .entry)) (now (work .exit)) free
+        (mostRows (now (main .entry)) (now (program .entry)) p source) later r ⌝ }
+{
+    match gather_unit_rows(main, program, p, source, work, free) {
+        GatheredRows::Fault(fault) => {
+            return fault;
+        }
+        GatheredRows::Rows {
+            lines: _,
+            sequences: _,
+            rows: _,
+        } => {
+            return later;
         }
     }
 }
@@ -92,8 +181,7 @@ pub fn count_unit_rows(main: &[u8], program: &[u8], p: usize, source: RowSource)
 pub fn convert_unit_rows(
     main: &[u8],
     supplementary: &[u8],
-    program: &[u8],
-    source: RowSource,
+    rows: UnitRows,
     c: Conversion,
     left: usize,
     work: &mut [u8],
@@ -101,23 +189,22 @@ pub fn convert_unit_rows(
     warnings: &mut [u8],
     st: Converting,
 ) -> ConvertedRow
-    requires { ⌜ SourceReady (now main) (now program) (c .unit .place + 21) source ⌝ }
+    requires { ⌜ RowsReady (now main) (now work) (c .unit .place + 21) (c .lines + st .count * lineSize + left * lineSize) rows ⌝ }
     requires { ⌜ ConversionIn (now main) (now supplementary) (now work) c st ⌝ }
     requires { ⌜ c .lines + st .count * lineSize + left * lineSize ≤ length (now work) ⌝ }
-    ensures { λ r. ⌜ RowsConvert (sourceList (now (main .entry)) (now (program .entry)) (c .unit .place + 21) source) (now (main .entry))
+    ensures { λ r. ⌜ RowsConvert (rowsHere (now (main .entry)) (now (work .entry)) (c .unit .place + 21) rows) (now (main .entry))
         (now (supplementary .entry)) (now (work .entry)) (now (work .exit)) (now (files .entry)) (now (files .exit)) (now (warnings .entry))
         (now (warnings .exit)) c st left r ⌝ }
 {
-    match source {
-        RowSource::Fields => {
+    match rows {
+        UnitRows::Fields => {
             convert_rows(main, supplementary, c, left, work, files, warnings, st)
         }
-        RowSource::Program { encoding, from, to } => convert_program_rows(
+        UnitRows::Table { at, count } => convert_table_rows(
             main,
             supplementary,
-            program,
-            &main[from..to],
-            encoding,
+            at,
+            count,
             c,
             left,
             work,
@@ -131,29 +218,20 @@ pub fn convert_unit_rows(
 // Writes a record for each sequence of the unit's rows, and returns their number.
 pub fn collect_unit_sequences(
     main: &[u8],
-    program: &[u8],
     p: usize,
-    source: RowSource,
+    rows: UnitRows,
     work: &mut [u8],
     offsets: usize,
     n: usize,
     base: usize,
 ) -> usize
-    requires { ⌜ SourceReady (now main) (now program) p source ⌝ }
+    requires { ⌜ RowsReady (now main) (now work) p (base + rangeSize * length (sequencesFrom (rowsHere (now main) (now work) p rows) 0 none)) rows ⌝ }
     requires { ⌜ offsets + n * 8 ≤ base ⌝ }
-    requires { ⌜ base + rangeSize * length (sequencesFrom (sourceList (now main) (now program) p source) 0 none) ≤ length (now work) ⌝ }
-    ensures { λ r. ⌜ SequencesIn (sourceList (now (main .entry)) (now (program .entry)) p source) (now (work .entry)) (now (work .exit)) offsets n base r ⌝ }
+    requires { ⌜ base + rangeSize * length (sequencesFrom (rowsHere (now main) (now work) p rows) 0 none) ≤ length (now work) ⌝ }
+    ensures { λ r. ⌜ SequencesIn (rowsHere (now (main .entry)) (now (work .entry)) p rows) (now (work .entry)) (now (work .exit)) offsets n base r ⌝ }
 {
-    match source {
-        RowSource::Fields => collect_sequences(main, p, work, offsets, n, base),
-        RowSource::Program { encoding, from, to } => collect_program_sequences(
-            program,
-            &main[from..to],
-            encoding,
-            work,
-            offsets,
-            n,
-            base,
-        ),
+    match rows {
+        UnitRows::Fields => collect_sequences(main, p, work, offsets, n, base),
+        UnitRows::Table { at, count } => collect_table_sequences(at, count, work, offsets, n, base),
     }
 }

@@ -69,6 +69,11 @@ module _ (e : Encoding) (r : Registers) (n l : ℕ) (is : l ≡ e .«minimum_ins
 pub special-room : (l n : ℕ) → l < 256 → n < 256 → l * n ≤ 65025
 special-room l n h k = let t : l * n ≤ 255 * 255 = mul-le-mul {n₁ = l} {m₁ = n} {n₂ = 255} {m₂ = 255} (omega arith) (omega arith) in omega arith
 
+pub small-room : (l n : ℕ) → l < 256 → n < 72057594037927936 → l * n ≤ 18374686479671623425
+small-room l n h k =
+    let t : l * n ≤ 255 * 72057594037927935 = mul-le-mul {n₁ = l} {m₁ = n} {n₂ = 255} {m₂ = 72057594037927935} (omega arith) (omega arith) in
+    omega arith
+
 -- ---- lines
 
 -- a number added modulo 2^64, and another

@@ -16,6 +16,9 @@ const LAST: u64 = 18446744073709551615;
 // 2^64 - 256: it takes 256 off, modulo 2^64.
 const LESS_256: u64 = 18446744073709551360;
 
+// 2^56: a byte times a smaller number stays below 2^64.
+const SMALL: u64 = 72057594037927936;
+
 // A line base from here on is a negative number, less than its byte by 256.
 const NEGATIVE: u8 = 128;
 
@@ -85,6 +88,9 @@ pub fn advance(e: Encoding, r: Registers, n: u64) -> Moved
     ensures { λ m. ⌜ movedOf m ≡ advance (lineEncoding e) n r ⌝ }
 {
     let length = wide(e.minimum_instruction_length);
+    if n < SMALL {
+        return move_by(r, length * n);
+    }
     if length == 0 {
         return move_by(r, 0);
     }

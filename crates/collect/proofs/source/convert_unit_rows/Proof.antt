@@ -1,8 +1,7 @@
--- `source::convert_unit_rows` meets its contract: by its source. Assumes nothing.
-use Prim.Native.Nat.{_+_}
-use native.Mathlib.Omega.{arith}
+-- `source::convert_unit_rows` meets its contract: by where the rows are. Assumes nothing.
 use borrow.Author.Needs.{needs}
-use Rattle.collect.proofs.SourceLaws.{part-within, list-fields, list-program, program-runs}
+use Prim.Native.Nat.{_+_}
+use Rattle.collect.proofs.UnitRowsLaws.{rows-fields, rows-table, table-above}
 use Rattle.collect.proofs.source.convert_unit_rows.Statement.{statement}
 use Rattle.collect.proofs.source.convert_unit_rows.Tie as tie
 
@@ -10,29 +9,18 @@ enum-told : tie.Need-enum-told
 enum-told c = search needs
 
 convert-rows-requires : tie.Need-convert-rows-requires
-convert-rows-requires c κs = c .before .before .before .before .before .before .before .before .before .before .before .pre .1
+convert-rows-requires c κs = c .before .before .before .before .before .before .before .before .before .before .pre .1
 
-enum-known-source : tie.Need-enum-known-source
-enum-known-source c = search needs
+enum-known-rows : tie.Need-enum-known-rows
+enum-known-rows c = search needs
 
-sub-convert-program-rows : tie.Need-sub-convert-program-rows
-sub-convert-program-rows c = let w = part-within (c .before .source .given .1)
-    (c .before .before .before .before .before .before .before .before .before .pre .0 .within) in omega (arith, w .0)
-
-part-convert-program-rows-start : tie.Need-part-convert-program-rows-start
-part-convert-program-rows-start c = let w = part-within (c .before .source .given .1)
-    (c .before .before .before .before .before .before .before .before .before .pre .0 .within) in omega (arith, w .0)
-
-part-convert-program-rows-end : tie.Need-part-convert-program-rows-end
-part-convert-program-rows-end c = let w = part-within (c .before .source .given .1)
-    (c .before .before .before .before .before .before .before .before .before .pre .0 .within) in omega (arith, w .0, w .1)
-
-convert-program-rows-requires : tie.Need-convert-program-rows-requires
-convert-program-rows-requires c κs = let S = c .before .before .before .before .before .before .before .before .before .before .before .before .before in (
-  program-runs (S .args .main .now) (S .args .program .now) (S .args .c .unit .place + 21) (S .args .source)
-      (c .before .before .before .before .before .source .given .1) (S .pre .0),
-  S .pre .1,
-)
+convert-table-rows-requires : tie.Need-convert-table-rows-requires
+convert-table-rows-requires c κs =
+    let rows = c .before .before .before .before .rows in
+    let entry = c .before .before .before .before .before .before .before .before .before .before .before in
+    let x = table-above (entry .args .main .now) (entry .args .work .now) (entry .args .c .unit .place + 21) (entry .args .rows) (rows .given .1)
+    (entry .pre .0) in
+    (x .1, (entry .pre .1 .0, x .0))
 
 same-length : tie.Need-same-length
 same-length c = search needs
@@ -45,10 +33,12 @@ same-length-3 c = search needs
 
 returns : tie.Need-returns
 returns c =
-    let b = c .before .before .before .before .before .before .before .before .before .before in
-    let S = b .before .before .before .before .before .before .before .before in
-    rw (list-fields (S .args .main .now) (S .args .program .now) (S .args .c .unit .place + 21) (S .args .source) (b .enum-told .given .1))
-    (c .before .before .before .before .before .before .convert-rows .ensures)
+    let convert-rows = c .before .before .before .before .before .before .convert-rows in
+    let enum-told = c .before .before .before .before .before .before .before .before .before .before .enum-told in
+    let b = c .before .before .before .before .before .before .before .before .before .before .before .before in
+    let entry = b .before .before .before .before .before in
+    rw (rows-fields (entry .args .main .now) (entry .args .work .now) (entry .args .c .unit .place + 21) (entry .args .rows) (enum-told .given .1))
+    (convert-rows .ensures)
 
 same-length-4 : tie.Need-same-length-4
 same-length-4 c = search needs
@@ -61,10 +51,12 @@ same-length-6 c = search needs
 
 returns-2 : tie.Need-returns-2
 returns-2 c =
-    let b = c .before .before .before .before .before .before .before .before .before .before in
-    let S = b .before .before .before .before .before .before .before .before .before .before in
-    rw (list-program (S .args .main .now) (S .args .program .now) (S .args .c .unit .place + 21) (S .args .source)
-    (b .before .before .source .given .1)) (c .before .before .before .before .before .before .convert-program-rows .ensures)
+    let convert-table-rows = c .before .before .before .before .before .before .convert-table-rows in
+    let rows = c .before .before .before .before .before .before .before .before .before .before .before .rows in
+    let b = c .before .before .before .before .before .before .before .before .before .before .before .before in
+    let entry = b .before .before .before .before .before .before in
+    rw (rows-table (entry .args .main .now) (entry .args .work .now) (entry .args .c .unit .place + 21) (entry .args .rows) (rows .given .1))
+    (convert-table-rows .ensures)
 
 pub convert-unit-rows-spec : {M : Type 1} → statement M
 convert-unit-rows-spec =
@@ -72,11 +64,8 @@ convert-unit-rows-spec =
     (tie.spec
     enum-told
     convert-rows-requires
-    enum-known-source
-    sub-convert-program-rows
-    part-convert-program-rows-start
-    part-convert-program-rows-end
-    convert-program-rows-requires
+    enum-known-rows
+    convert-table-rows-requires
     same-length
     same-length-2
     same-length-3
