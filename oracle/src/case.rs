@@ -48,3 +48,11 @@ pub struct Answer {
     /// Functions, line rows, inline nodes, rejected ranges.
     pub statistics: [u64; 4],
 }
+
+/// What a case by hand shows, the case, and the listing that it must print.
+pub type Shown = (&'static str, Case, String);
+
+/// The cases by hand, then those that are drawn by their numbers, without end.
+pub fn then_drawn(shown: Vec<Shown>, draw: impl Fn(u64) -> Case) -> impl Iterator<Item = Case> {
+    shown.into_iter().map(|(_, case, _)| case).chain((0..).map(draw))
+}

@@ -2,12 +2,9 @@
 //! it must print; that of a Windows path is request E3's, and the columns, all 0, are E7's. Behind them those of request E4, a package
 //! without debug data, and some of request E8, rows from a line program.
 
-use crate::case::Case;
+use crate::case::{Case, Shown};
 use crate::compose::*;
 use crate::program_shown;
-
-/// What a case shows, the case, and its listing.
-type Shown = (&'static str, Case, String);
 
 /// Those of request E8's cases by hand that are recorded, by their names.
 const PROGRAMS: [&str; 22] = [
@@ -178,14 +175,9 @@ fn merged() -> Case {
 
 #[cfg(test)]
 mod tests {
-    use crate::{answer, listing};
-
     #[test]
     fn every_case_prints_its_listing() {
-        for (name, case, expected) in super::cases() {
-            let printed = String::from_utf8(listing::listing(&answer(&case), case.first_file)).unwrap();
-            assert_eq!(printed, expected, "{name}");
-        }
+        crate::listing::assert_printed(super::cases());
     }
 
     #[test]

@@ -9,6 +9,15 @@ use crate::grammar::field;
 pub const INPUT_LIMIT: usize = 16_384;
 pub const PROGRAM_LIMIT: usize = 2_048;
 
+/// Each case by hand prints the listing that it must.
+#[cfg(test)]
+pub fn assert_printed(shown: Vec<crate::case::Shown>) {
+    for (number, (name, case, expected)) in shown.into_iter().enumerate() {
+        let printed = String::from_utf8(listing(&crate::judged(&case).unwrap(), case.first_file)).unwrap();
+        assert_eq!(printed, expected, "{number}: {name}");
+    }
+}
+
 /// The lines for an answer whose files number from `first_file`.
 pub fn listing(answer: &Answer, first_file: u32) -> Vec<u8> {
     let mut output = Vec::new();

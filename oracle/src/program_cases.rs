@@ -1,7 +1,7 @@
 //! Cases of request E8: units whose rows come from their programs. Those by hand come first, then those by seed: rich inputs in which half of the line
 //! headers have field 1d, of one unit and of all, with parts; programs at the edges of the addresses; fields 1d where none may stand.
 
-use crate::case::Case;
+use crate::case::{Case, then_drawn};
 use crate::compose::*;
 use crate::generate::{self, Lines};
 use crate::program_shown;
@@ -15,8 +15,7 @@ const FIRST: u64 = 1 << 35;
 
 /// Those of a seed, without end.
 pub fn cases(seed: u64) -> impl Iterator<Item = Case> {
-    let by_hand = program_shown::cases().into_iter().map(|(_, case, _)| case);
-    by_hand.chain((0..).map(move |number| case(seed, number)))
+    then_drawn(program_shown::cases(), move |number| case(seed, number))
 }
 
 fn case(seed: u64, number: u64) -> Case {

@@ -1,12 +1,9 @@
 //! Cases of request E8 by hand, each with the listing that it must print: a unit of the shape of document 01's printed import, whose rows come from its
 //! program, and units whose functions take up whatever rows a program gives.
 
-use crate::case::Case;
+use crate::case::{Case, Shown};
 use crate::compose::*;
 use crate::generate::{joined, split};
-
-/// What a case shows, the case, and its listing.
-type Shown = (&'static str, Case, String);
 
 const LAST: u64 = u64::MAX;
 const GCC: [u8; 5] = [1, 1, 1, 0xf6, 242];
@@ -258,15 +255,7 @@ fn misplaced() -> Vec<Shown> {
     cases
 }
 
-#[cfg(test)]
-mod tests {
-    use crate::{judged, listing};
-
-    #[test]
-    fn every_case_prints_its_listing() {
-        for (number, (name, case, expected)) in super::cases().into_iter().enumerate() {
-            let printed = String::from_utf8(listing::listing(&judged(&case).unwrap(), case.first_file)).unwrap();
-            assert_eq!(printed, expected, "{number}: {name}");
-        }
-    }
+#[test]
+fn every_case_prints_its_listing() {
+    crate::listing::assert_printed(cases());
 }

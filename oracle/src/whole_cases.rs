@@ -3,7 +3,7 @@
 //! number, fields 1e where none may stand.
 
 use crate::answer::{answer, finished, inputs, work_needed, work_of};
-use crate::case::Case;
+use crate::case::{Case, then_drawn};
 use crate::compose::*;
 use crate::generate::{self, DrawLines, Lines, Unit, Writer};
 use crate::grammar::parse;
@@ -17,8 +17,7 @@ const FIRST: u64 = 1 << 34;
 
 /// Those of a seed, without end.
 pub fn cases(seed: u64) -> impl Iterator<Item = Case> {
-    let by_hand = whole_shown::cases().into_iter().map(|(_, case, _)| case);
-    by_hand.chain((0..).map(move |number| case(seed, number)))
+    then_drawn(whole_shown::cases(), move |number| case(seed, number))
 }
 
 fn case(seed: u64, number: u64) -> Case {

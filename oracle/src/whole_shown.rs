@@ -1,11 +1,8 @@
 //! Cases of request E11 by hand, each with the listing that it must print: two units of the shape of document 01's printed import, at 1000 and
 //! 2000 hex, imported together.
 
-use crate::case::Case;
+use crate::case::{Case, Shown};
 use crate::compose::*;
-
-/// What a case shows, the case, and its listing.
-type Shown = (&'static str, Case, String);
 
 /// The program of two sequences, one for each unit.
 const PROGRAM: &[u8] = &[0, 1, 1, 0, 1, 1];
@@ -209,15 +206,7 @@ fn misplaced() -> Vec<Shown> {
     cases
 }
 
-#[cfg(test)]
-mod tests {
-    use crate::{judged, listing};
-
-    #[test]
-    fn every_case_prints_its_listing() {
-        for (number, (name, case, expected)) in super::cases().into_iter().enumerate() {
-            let printed = String::from_utf8(listing::listing(&judged(&case).unwrap(), case.first_file)).unwrap();
-            assert_eq!(printed, expected, "{number}: {name}");
-        }
-    }
+#[test]
+fn every_case_prints_its_listing() {
+    crate::listing::assert_printed(cases());
 }
