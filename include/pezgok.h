@@ -49,20 +49,36 @@ enum {
  * line header. Of all units one that has it decides. It is enough for every import. */
 #define PEZGOK_WORK_ENCODED(fields, program_len) (64 * (size_t)(fields) + 64 * (size_t)(program_len) + 32768)
 
+/* What is to be added to either where entries have their ranges in lists: for so many bytes of the list section and so many fields 1f hex in the imported
+ * unit, of which 256 at most count; of all units the one that needs most decides. It multiplies the section: lend the unit's own part of it, with list
+ * offsets from its start. Without a list section it is 0. */
+#define PEZGOK_WORK_LISTS(lists_len, list_fields) (8 * (size_t)(lists_len) * ((size_t)(list_fields) < 256 ? (size_t)(list_fields) : 256))
+
 /* Refusals of a line program that is run for its rows: a line range of 0 or other operations per instruction than 1; an address that falls within a
  * sequence or passes 2^64 - 1. Its operands are refused with 7 to 12. Such a unit can still be imported with row fields. */
 enum { PEZGOK_LINE_ENCODING = 21, PEZGOK_LINE_ADDRESS = 22 };
 
-/* Imports the unit of an ordinal, from 0, of the main input. Returns 0, or the refusal's number, 1 to 18, 21 or 22. An empty main input with ordinal 0
+/* Refusals of a range list that a named inlined entry has: it is cut, or an entry of it has an unknown kind; an index is past the address table; an address
+ * does not fit its size. Its LEB128 operands are refused with 7, 10 and 11. A subprogram's list refuses nothing: what is wrong with it is a warning of kind
+ * 2, whose reason is the number in decimal. */
+enum { PEZGOK_CUT_LIST = 23, PEZGOK_NO_ADDRESS = 24, PEZGOK_WIDE_ADDRESS = 25 };
+
+/* Imports the unit of an ordinal, from 0, of the main input. Returns 0, or the refusal's number, 1 to 18 or 21 to 25. An empty main input with ordinal 0
  * is a package without debug data: the import is finished, all values are 0 and the line program is not read.
  *
- * Any content and any length is taken. No two of the slices may overlap, but for two that are only read, nor may values overlap any; a pointer is not null, also where
- * its length is 0. After every call work holds only 0. After a refusal the three output buffers hold only 0, and so do the values; else each
+ * lists and addresses are the list section and the address table of version 5 (.debug_rnglists, .debug_addr), their numbers lowest byte first, from which
+ * entries with field 1f hex (list offset, base address, place of the unit's addresses, 8 bytes each, and the address size, 1 byte) have their ranges.
+ * Both have no byte where no entry has it.
+ *
+ * Any content and any length is taken. No two of the slices may overlap, but for two that are only read, nor may values overlap any; a pointer is not null,
+ * also where its length is 0. After every call work holds only 0. After a refusal the three output buffers hold only 0, and so do the values; else each
  * buffer begins with what values says the length of, and keeps its old bytes behind. */
 uint8_t pezgok_import(
     const uint8_t *main, size_t main_len,
     const uint8_t *supplementary, size_t supplementary_len,
     const uint8_t *program, size_t program_len,
+    const uint8_t *lists, size_t lists_len,
+    const uint8_t *addresses, size_t addresses_len,
     uint64_t ordinal, bool inlines, bool call_sites, uint32_t first_file,
     uint8_t *work, size_t work_len,
     uint8_t *records, size_t records_len,
@@ -71,12 +87,15 @@ uint8_t pezgok_import(
     uint64_t values[PEZGOK_VALUES]);
 
 /* How long the three output buffers of such an import must be, and its statistics: values then has what pezgok_import gives on buffers of those
- * lengths or more, and no shorter ones would do. Returns 0, or the import's own refusal, 1 to 15, 21 or 22; then all values are 0. The same is owed of
- * slices and pointers, work has the same length, and after every call it holds only 0. It takes about as long as the import. */
+ * lengths or more, and no shorter ones would do. Returns 0, or the import's own refusal, 1 to 15 or 21 to 25, or 16 where the records would pass 2^64 - 1
+ * bytes; then all values are 0. The same is owed of slices and pointers, work has the same length, and after every call it holds only 0. It takes about as
+ * long as the import. */
 uint8_t pezgok_measure(
     const uint8_t *main, size_t main_len,
     const uint8_t *supplementary, size_t supplementary_len,
     const uint8_t *program, size_t program_len,
+    const uint8_t *lists, size_t lists_len,
+    const uint8_t *addresses, size_t addresses_len,
     uint64_t ordinal, bool inlines, bool call_sites, uint32_t first_file,
     uint8_t *work, size_t work_len,
     uint64_t values[PEZGOK_VALUES]);
@@ -90,6 +109,8 @@ uint8_t pezgok_import_dwarf(
     const uint8_t *main, size_t main_len,
     const uint8_t *supplementary, size_t supplementary_len,
     const uint8_t *program, size_t program_len,
+    const uint8_t *lists, size_t lists_len,
+    const uint8_t *addresses, size_t addresses_len,
     bool inlines, bool call_sites, uint32_t first_file,
     uint8_t *work, size_t work_len,
     uint8_t *records, size_t records_len,
@@ -102,6 +123,8 @@ uint8_t pezgok_measure_dwarf(
     const uint8_t *main, size_t main_len,
     const uint8_t *supplementary, size_t supplementary_len,
     const uint8_t *program, size_t program_len,
+    const uint8_t *lists, size_t lists_len,
+    const uint8_t *addresses, size_t addresses_len,
     bool inlines, bool call_sites, uint32_t first_file,
     uint8_t *work, size_t work_len,
     uint64_t values[PEZGOK_VALUES]);

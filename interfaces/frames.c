@@ -44,6 +44,9 @@ int main(int count, char **words) {
         return 2;
     }
     static uint8_t input[LARGEST], supplementary[LARGEST], program[LARGEST];
+    /* No entry of the unit has its ranges in a list. */
+    static const uint8_t lists[1], addresses[1];
+    const size_t lists_len = 0, addresses_len = 0;
     size_t input_len = read_file(words[1], "unit.main", input);
     size_t supplementary_len = read_file(words[1], "unit.sup", supplementary);
     size_t program_len = read_file(words[1], "unit.line", program);
@@ -52,16 +55,16 @@ int main(int count, char **words) {
     size_t work_len = PEZGOK_WORK((input_len + supplementary_len) / 3, program_len);
     uint8_t *work = buffer(work_len);
     uint64_t values[PEZGOK_VALUES];
-    uint8_t refusal = pezgok_measure(input, input_len, supplementary, supplementary_len, program, program_len, 0, true, true, FIRST_FILE, work, work_len,
-                                     values);
+    uint8_t refusal = pezgok_measure(input, input_len, supplementary, supplementary_len, program, program_len, lists, lists_len, addresses, addresses_len, 0,
+                                     true, true, FIRST_FILE, work, work_len, values);
     if (refusal)
         return refused(refusal);
 
     /* The import, into buffers of these lengths. */
     size_t records_len = values[PEZGOK_RECORDS_LENGTH], files_len = values[PEZGOK_FILES_LENGTH], warnings_len = values[PEZGOK_WARNINGS_LENGTH];
     uint8_t *records = buffer(records_len), *files = buffer(files_len), *warnings = buffer(warnings_len);
-    refusal = pezgok_import(input, input_len, supplementary, supplementary_len, program, program_len, 0, true, true, FIRST_FILE, work, work_len,
-                            records, records_len, files, files_len, warnings, warnings_len, values);
+    refusal = pezgok_import(input, input_len, supplementary, supplementary_len, program, program_len, lists, lists_len, addresses, addresses_len, 0, true, true,
+                            FIRST_FILE, work, work_len, records, records_len, files, files_len, warnings, warnings_len, values);
     if (refusal)
         return refused(refusal);
 

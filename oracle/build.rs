@@ -45,6 +45,7 @@ const OWN: &[(&str, &str)] = &[
     ("answer.rs", "faulty_answer"),
     ("grammar.rs", "faulty_grammar"),
     ("machine.rs", "faulty_machine"),
+    ("rnglists.rs", "faulty_rnglists"),
 ];
 
 /// A block of amendments.txt or faults.txt.

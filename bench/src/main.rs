@@ -167,7 +167,13 @@ fn ours(case: &Case, buffers: &mut Buffers) -> Result<pezgok::Finished, pezgok::
 }
 
 fn given(case: &Case) -> pezgok::Inputs<'_> {
-    pezgok::Inputs { main: &case.main, supplementary: &case.supplementary, program: &case.program }
+    pezgok::Inputs {
+        main: &case.main,
+        supplementary: &case.supplementary,
+        program: &case.program,
+        lists: &case.lists,
+        addresses: &case.addresses,
+    }
 }
 
 fn asked(case: &Case) -> pezgok::Options {

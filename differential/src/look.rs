@@ -61,8 +61,14 @@ fn compare(calls: impl Iterator<Item = Result<(Vec<u8>, Vec<Query>), String>>) -
         }
     }
     println!("{} queries of {} buffers, 0 differences", counts.kinds.iter().sum::<u64>(), counts.buffers);
-    println!("at an address {}, nearest below {}, inside {}, crossing {}", counts.kinds[0], counts.kinds[1], counts.kinds[2], counts.kinds[3]);
-    println!("answered {}, refused 16: {}, 19: {}, 20: {}", counts.refusals[0], counts.refusals[16], counts.refusals[19], counts.refusals[20]);
+    println!(
+        "at an address {}, nearest below {}, inside {}, crossing {}",
+        counts.kinds[0], counts.kinds[1], counts.kinds[2], counts.kinds[3]
+    );
+    println!(
+        "answered {}, refused 16: {}, 19: {}, 20: {}",
+        counts.refusals[0], counts.refusals[16], counts.refusals[19], counts.refusals[20]
+    );
     println!("{} buffers have an index, {} of them in the order of addresses: the same answers by it", counts.indexed, counts.rising);
     println!("chains of 0, 1, 2, 3 and more nodes: {:?}; without a row {}", counts.chains, counts.rowless);
     Ok(true)

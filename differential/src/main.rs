@@ -8,8 +8,9 @@ use std::process::ExitCode;
 use std::{env, fs};
 
 use oracle::files::{Source, Target};
-use oracle::{Answer, Case, answer, generate, judged, limits, program_cases, whole_cases, work_of};
+use oracle::{Answer, Case, answer, generate, judged, limits, list_cases, program_cases, whole_cases, work_of};
 
+mod forms;
 mod joins;
 mod look;
 mod pass;
@@ -20,6 +21,7 @@ const USAGE: &str = "
 differential generated SEED COUNT [OPTIONS]     generated cases, each as it is, then with other switches and with buffers at their limits
 differential wholes SEED COUNT [OPTIONS]        cases of all units and of parts of the program, in the same way; each unit alone, too
 differential programs SEED COUNT [OPTIONS]      cases of rows from line programs, in the same way
+differential lists SEED COUNT [OPTIONS]         cases of range lists, in the same way; with fields in place of lists, too
 differential cases CASES [OPTIONS]              the cases of a file, in the same way
 differential answer CASES ANSWERS               the library's answers to the cases of a file, as they are
 differential replay CASES ANSWERS [OPTIONS]     the cases of a file as they are, held to recorded answers
@@ -34,7 +36,7 @@ const FILLED: u8 = 0xa5;
 const BEHIND: usize = 16;
 
 /// One more than the largest refusal of an import.
-const REFUSALS: usize = 23;
+const REFUSALS: usize = 26;
 
 /// Refusals are few, kinds of warnings too.
 #[derive(Default)]
@@ -43,6 +45,8 @@ struct Counts {
     believed: u64,
     /// Imports of one unit, to hold an import of all to.
     alone: u64,
+    /// Calls with range lists that were held to their other form.
+    forms: u64,
     refusals: [u64; REFUSALS],
     warnings: [u64; 12],
 }
@@ -77,6 +81,9 @@ fn run(arguments: &[String]) -> Result<bool, String> {
         }
         ["programs", seed, count, ref rest @ ..] => {
             compare(program_cases::cases(number(seed)?).take(number(count)? as usize).map(Ok), &options(rest)?)
+        }
+        ["lists", seed, count, ref rest @ ..] => {
+            compare(list_cases::cases(number(seed)?).take(number(count)? as usize).map(Ok), &options(rest)?)
         }
         ["answer", cases, answers] => answers_of(Path::new(cases), Path::new(answers)),
         ["cases", path, ref rest @ ..] => {
@@ -141,6 +148,11 @@ fn compare(cases: impl Iterator<Item = Result<Case, String>>, options: &Options)
         }
         if let Some(what) = if case.all { units::difference(&case, options.wrong, &mut counts.alone)? } else { None } {
             println!("case {place}, its units alone, differs: {what}");
+            write_inputs(&options.out, &case)?;
+            return Ok(false);
+        }
+        if let Some(what) = forms::difference(&case, &mut counts.forms)? {
+            println!("case {place}, with fields in place of lists, differs: {what}");
             write_inputs(&options.out, &case)?;
             return Ok(false);
         }
@@ -231,7 +243,13 @@ pub struct Got {
 
 /// What the proved import is given of a case.
 fn inputs(case: &Case) -> pezgok::Inputs<'_> {
-    pezgok::Inputs { main: &case.main, supplementary: &case.supplementary, program: &case.program }
+    pezgok::Inputs {
+        main: &case.main,
+        supplementary: &case.supplementary,
+        program: &case.program,
+        lists: &case.lists,
+        addresses: &case.addresses,
+    }
 }
 
 fn asked(case: &Case) -> pezgok::Options {
@@ -245,10 +263,14 @@ fn ours(case: &Case, wrong: Option<wrong::Wrong>) -> Got {
         [case.records, case.files, case.warnings].map(|length| lent(u64::from(length.min(1 << 22))));
     let buffers =
         pezgok::Buffers { work: slice(&mut work), records: slice(&mut records), files: slice(&mut files), warnings: slice(&mut warnings) };
+    let given = match wrong {
+        Some(wrong::Wrong::Inputs(wrong)) => wrong(inputs(case)),
+        _ => inputs(case),
+    };
     let result = match wrong {
-        Some(wrong::Wrong::Units(import)) if case.all => import(inputs(case), asked(case), buffers),
-        _ if case.all => pezgok::import_dwarf(inputs(case), asked(case), buffers),
-        _ => pezgok::import(inputs(case), asked(case), buffers),
+        Some(wrong::Wrong::Units(import)) if case.all => import(given, asked(case), buffers),
+        _ if case.all => pezgok::import_dwarf(given, asked(case), buffers),
+        _ => pezgok::import(given, asked(case), buffers),
     };
     let mut got = Got { refusal: 0, lengths: [0; 3], statistics: [0; 4], work, buffers: [records, files, warnings] };
     match result {
@@ -318,6 +340,9 @@ fn print(counts: &Counts) {
     if counts.alone > 0 {
         println!("{} imports of one unit, which imports of all units are held to", counts.alone);
     }
+    if counts.forms > 0 {
+        println!("{} calls with range lists held to those with fields in their place", counts.forms);
+    }
     println!("finished {}", counts.refusals[0]);
     // 19 and 20 are none of an import's.
     for (number, count) in counts.refusals.iter().enumerate().skip(1).filter(|refusal| !matches!(refusal.0, 19 | 20)) {
@@ -336,7 +361,9 @@ fn write_inputs(folder: &Path, case: &Case) -> Result<(), String> {
     fs::create_dir_all(folder).map_err(|error| format!("{}: {error}", folder.display()))?;
     put(folder, "unit.main", &case.main)?;
     put(folder, "unit.sup", &case.supplementary)?;
-    put(folder, "unit.line", &case.program)
+    put(folder, "unit.line", &case.program)?;
+    put(folder, "unit.lists", &case.lists)?;
+    put(folder, "unit.addresses", &case.addresses)
 }
 
 fn write_difference(folder: &Path, case: &Case, expected: &Answer, got: &Got) -> Result<(), String> {

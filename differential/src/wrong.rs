@@ -10,6 +10,8 @@ use crate::pass::Said;
 #[derive(Clone, Copy)]
 pub enum Wrong {
     Import(fn(&mut Got)),
+    /// The proved import of other inputs.
+    Inputs(fn(Inputs<'_>) -> Inputs<'_>),
     /// In place of the import of all units.
     Units(fn(Inputs<'_>, Options, Buffers<'_>) -> Result<Finished, Refusal>),
     Pass(fn(&mut Said)),
@@ -24,6 +26,7 @@ pub fn named(name: &str) -> Result<Wrong, String> {
         "copies-the-first" => Wrong::Import(copies_the_first),
         "forgets-columns" => Wrong::Import(forgets_columns),
         "invents-statistics" => Wrong::Import(invents_statistics),
+        "forgets-addresses" => Wrong::Inputs(forgets_addresses),
         "imports-the-first" => Wrong::Units(imports_the_first),
         "passes-over-a-unit" => Wrong::Units(passes_over_a_unit),
         "forgets-a-byte" => Wrong::Pass(forgets_a_byte),
@@ -89,6 +92,11 @@ fn invents_statistics(got: &mut Got) {
     if got.refusal == 0 {
         got.statistics[1] += 1;
     }
+}
+
+/// No address table.
+fn forgets_addresses(inputs: Inputs<'_>) -> Inputs<'_> {
+    Inputs { addresses: &[], ..inputs }
 }
 
 /// The first unit alone, where all are asked for.

@@ -6,6 +6,7 @@ use std::ops::Range;
 use gimli::{ColumnType, LineProgramHeader, UnitOffset};
 
 use crate::fields::{self, Fields, Part};
+use crate::lists::Lists;
 use crate::parts::{self, Part as UnitPart};
 use crate::unit::{self, Decoded, Entry, Slice, Source, Value};
 
@@ -28,6 +29,9 @@ pub struct Dump {
     pub program: Vec<u8>,
     /// Whether a unit that is imported takes its rows from the program.
     pub encoded: bool,
+    /// The list section and the address table, where ranges are left to their lists.
+    pub lists: Vec<u8>,
+    pub addresses: Vec<u8>,
 }
 
 /// The main file's units, the supplementary one's, and where code lies.
@@ -37,6 +41,8 @@ pub struct Input<'a> {
     pub text: &'a [(u64, u64)],
     /// Whether rows are left to the line programs: the encoding stands in their place.
     pub programs: bool,
+    /// Whether ranges of version 5 units are left to their lists.
+    pub lists: bool,
 }
 
 impl<'a> Input<'a> {
@@ -52,12 +58,14 @@ impl<'a> Input<'a> {
         if program.len() > fields::PROGRAM_LIMIT {
             return Err("a line program of more than 4,194,304 bytes".into());
         }
+        let lists = self.lists(asked, false)?;
         let reached = self.reach(asked..asked + 1, part)?;
         let (main, supplementary) = self.write(&reached, part.is_some(), |index| {
             (index == asked).then_some(Own {
                 text: self.text,
                 lines: lines.as_ref(),
                 program: None,
+                lists: lists.as_ref(),
                 part,
             })
         })?;
@@ -67,6 +75,8 @@ impl<'a> Input<'a> {
             supplementary,
             program: program.to_vec(),
             encoded: self.programs && lines.is_some(),
+            lists: lists.as_ref().map_or(&[][..], |lent| lent.lists).to_vec(),
+            addresses: lists.map_or(&[][..], |lent| lent.addresses).to_vec(),
         })
     }
 
@@ -270,6 +280,8 @@ pub struct Own<'a, 'b> {
     pub lines: Option<&'b Lines<'a>>,
     /// Start and length of its part of the program, where that is the program of several units.
     pub program: Option<(u64, u64)>,
+    /// Its range lists, where ranges are left to them.
+    pub lists: Option<&'b Lists<'a>>,
     /// The subprograms that are written, where not all are.
     pub part: Option<&'b UnitPart>,
 }
@@ -316,9 +328,12 @@ fn write<'a>(
         if readable(entry) {
             write_attributes(fields, entry)?;
         }
-        let ranged = matches!(entry.tag, SUBPROGRAM | INLINED);
-        if own.is_some() && ranged && part.map_or(true, |part| part.owns(place)) {
-            write_ranges(fields, source, decoded, entry)?;
+        if own.is_some() && is_ranged(entry) && part.map_or(true, |part| part.owns(place)) {
+            let lists = own.and_then(|own| own.lists);
+            match lists.and_then(|lists| lists.field(source, decoded, entry.offset)) {
+                Some(parts) => fields.field(fields::RANGE_LIST, &parts)?,
+                None => write_ranges(fields, source, decoded, entry)?,
+            }
         }
     }
     Ok(())
@@ -397,6 +412,11 @@ fn write_lines<'a>(
         )?;
     }
     Ok(())
+}
+
+/// Whether ranges of an entry are written.
+pub fn is_ranged(entry: &Entry) -> bool {
+    matches!(entry.tag, SUBPROGRAM | INLINED)
 }
 
 fn write_attributes(fields: &mut Fields, entry: &Entry) -> Result<(), String> {

@@ -1,8 +1,10 @@
 //! Writing a sheet: fields of a one-byte tag, a two-byte length and a payload.
 
+use crate::dump::Dump;
+
 /// The largest sheet, in bytes.
 pub const SHEET_LIMIT: usize = 16_777_216;
-/// The largest line program, in bytes.
+/// The largest line program, and the largest list section and address table, in bytes.
 pub const PROGRAM_LIMIT: usize = 4_194_304;
 pub const FIELD_LIMIT: usize = 65_536;
 const UNIT_LIMIT: usize = 256;
@@ -16,6 +18,9 @@ const LONG_SHEET: &str = "a sheet of more than 16,777,216 bytes";
 pub const SIZE_LIMITS: [&str; 3] = [MANY_FIELDS, MANY_UNITS, LONG_SHEET];
 /// What work needs besides fields and program.
 const WORK_BESIDES: u64 = 32_768;
+/// What a byte of the list section needs for each range list of a unit, and how many of these count.
+const WORK_OF_LISTS: u64 = 8;
+const COUNTED_LISTS: u64 = 256;
 
 pub const UNIT: u8 = 0x10;
 pub const DIRECTORY_OF_UNIT: u8 = 0x11;
@@ -31,6 +36,7 @@ pub const RANGE_FAILURE: u8 = 0x1a;
 pub const FILE_ZERO: u8 = 0x1c;
 pub const LINE_ENCODING: u8 = 0x1d;
 pub const PROGRAM_PART: u8 = 0x1e;
+pub const RANGE_LIST: u8 = 0x1f;
 
 /// One value of a payload.
 pub enum Part<'a> {
@@ -50,6 +56,8 @@ pub struct Fields {
     pub bytes: Vec<u8>,
     pub fields: usize,
     units: usize,
+    /// How many range lists each unit has.
+    lists: Vec<u64>,
 }
 
 impl Fields {
@@ -61,9 +69,13 @@ impl Fields {
         }
         if tag == UNIT {
             self.units += 1;
+            self.lists.push(0);
             if self.units > UNIT_LIMIT {
                 return Err(MANY_UNITS);
             }
+        }
+        if let (RANGE_LIST, Some(lists)) = (tag, self.lists.last_mut()) {
+            *lists += 1;
         }
         let start = self.bytes.len();
         self.bytes.extend([tag, 0, 0]);
@@ -103,10 +115,17 @@ impl Fields {
     }
 }
 
-/// The work length that an import of these inputs needs, and no byte more: a byte of the program
-/// counts for more where rows are taken from it.
-pub fn work_length(main: &Fields, supplementary: &Fields, program: &[u8], encoded: bool) -> u64 {
-    let fields = (main.fields + supplementary.fields) as u64;
-    let bytes = if encoded { 64 } else { 4 };
-    64 * fields + bytes * program.len() as u64 + WORK_BESIDES
+/// The work length that an import of a unit needs, or of all where none is given, and no byte more:
+/// a byte of the program counts for more where rows are taken from it, which is so of all units
+/// with a program or of none.
+pub fn work_length(dump: &Dump, unit: Option<usize>) -> u64 {
+    let fields = (dump.main.fields + dump.supplementary.fields) as u64;
+    let bytes = if dump.encoded { 64 } else { 4 };
+    let imported = unit.map_or(&dump.main.lists[..], |unit| &dump.main.lists[unit..=unit]);
+    let lists = imported
+        .iter()
+        .max()
+        .map_or(0, |&lists| lists.min(COUNTED_LISTS));
+    let of_lists = WORK_OF_LISTS * dump.lists.len() as u64 * lists;
+    64 * fields + bytes * dump.program.len() as u64 + of_lists + WORK_BESIDES
 }

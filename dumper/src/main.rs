@@ -6,6 +6,7 @@ mod decoder;
 mod dump;
 mod elf;
 mod fields;
+mod lists;
 mod output;
 mod parts;
 mod separate;
@@ -27,9 +28,9 @@ use symbols::Symbols;
 use unit::{Decoded, Source};
 
 const USAGE: &str = "\
-usage: dumper dump OBJECT OUTDIR [--programs] [--supplementary FILE]
-       dumper whole OBJECT OUTDIR [--programs] [--supplementary FILE]
-       dumper cases OBJECT.. --out CASES [--whole] [--programs] [--append] [--list LIST]
+usage: dumper dump OBJECT OUTDIR [--programs] [--lists] [--supplementary FILE]
+       dumper whole OBJECT OUTDIR [--programs] [--lists] [--supplementary FILE]
+       dumper cases OBJECT.. --out CASES [--whole] [--programs] [--lists] [--append] [--list LIST]
                     [--times TIMES] [--supplementary FILE]
        dumper stream OBJECT [--supplementary FILE] [--addresses] [--whole | --most FIELDS]";
 
@@ -81,6 +82,7 @@ struct Options {
     append: bool,
     whole: bool,
     programs: bool,
+    lists: bool,
 }
 
 impl Options {
@@ -88,17 +90,19 @@ impl Options {
         Asked {
             supplementary: self.supplementary.as_deref(),
             programs: self.programs,
+            lists: self.lists,
             timed: self.times.is_some(),
         }
     }
 }
 
 /// What is asked of a file: its supplementary one, if one was given, whether rows are left to the
-/// line programs, and whether the decoder is timed on these.
+/// line programs and ranges to their lists, and whether the decoder is timed on the programs.
 #[derive(Clone, Copy)]
 struct Asked<'a> {
     supplementary: Option<&'a Path>,
     programs: bool,
+    lists: bool,
     timed: bool,
 }
 
@@ -125,6 +129,10 @@ fn run(arguments: Vec<PathBuf>) -> Result<(), Stop> {
             }
             Some("--programs") => {
                 options.programs = true;
+                continue;
+            }
+            Some("--lists") => {
+                options.lists = true;
                 continue;
             }
             Some(other) if other.starts_with("--") => {
@@ -271,6 +279,7 @@ fn with_units(
             .map_err(|what| fault(object, format!("supplementary file: {what}")))?,
         text: &file.text,
         programs: asked.programs,
+        lists: asked.lists,
     };
     if input.main.len() == 0 {
         return Err(Stop {
@@ -371,8 +380,11 @@ fn dump(object: &Path, place: &Path, asked: Asked) -> Result<(), Stop> {
             ("main", &dump.main.bytes),
             ("sup", &dump.supplementary.bytes),
             ("line", &dump.program),
+            ("lists", &dump.lists),
+            ("addresses", &dump.addresses),
         ];
-        for (kind, bytes) in parts {
+        // The last two are there where they are asked for.
+        for (kind, bytes) in &parts[..if asked.lists { 5 } else { 3 }] {
             let path = folder.join(format!("{:04}.{kind}", about.number));
             std::fs::write(&path, bytes).map_err(|error| fault(place, error))?;
         }
@@ -409,6 +421,8 @@ fn dump(object: &Path, place: &Path, asked: Asked) -> Result<(), Stop> {
 const INLINES: u8 = 1;
 const CALL_SITES: u8 = 2;
 const ALL_UNITS: u8 = 4;
+/// The list section and the address table follow the inputs.
+const SECTIONS: u8 = 8;
 const FIRST_FILE: u32 = 1;
 /// How long each output buffer of a case is, of a unit and of all units.
 const BUFFER: u32 = 1 << 20;
@@ -422,17 +436,24 @@ fn case(dump: &Dump, switches: u8) -> Vec<u8> {
         bytes.extend((input.len() as u32).to_le_bytes());
     }
     bytes.extend((dump.ordinal as u64).to_le_bytes());
-    bytes.push(switches);
+    let sections = [&dump.lists, &dump.addresses];
+    let lent = sections.iter().any(|section| !section.is_empty());
+    bytes.push(if lent { switches | SECTIONS } else { switches });
     bytes.extend(FIRST_FILE.to_le_bytes());
-    let (main, supplementary) = (&dump.main, &dump.supplementary);
-    let work = fields::work_length(main, supplementary, &dump.program, dump.encoded);
-    bytes.extend(work.to_le_bytes());
     let all = switches & ALL_UNITS != 0;
+    let work = fields::work_length(dump, (!all).then_some(dump.ordinal));
+    bytes.extend(work.to_le_bytes());
     for buffer in [if all { LARGE_BUFFER } else { BUFFER }; 3] {
         bytes.extend(buffer.to_le_bytes());
     }
     for input in inputs {
         bytes.extend(input);
+    }
+    if lent {
+        for section in sections {
+            bytes.extend((section.len() as u32).to_le_bytes());
+        }
+        bytes.extend(sections.into_iter().flatten());
     }
     bytes
 }

@@ -128,6 +128,7 @@ fn stream(
             .map_err(|what| fault(&place, format!("supplementary file: {what}")))?,
         text: &file.text,
         programs: false,
+        lists: false,
     };
     let wanted: Vec<(usize, Coverage)> = (0..input.main.len())
         .map(|number| (number, Coverage::of(&input.main, number)))

@@ -2,7 +2,7 @@
 
 use std::cell::OnceCell;
 
-use gimli::{AttributeValue, Dwarf, EndianSlice, RunTimeEndian, Unit, UnitHeader};
+use gimli::{AttributeValue, Dwarf, EndianSlice, Reader, RunTimeEndian, Section, Unit, UnitHeader};
 
 pub type Slice<'a> = EndianSlice<'a, RunTimeEndian>;
 
@@ -81,6 +81,10 @@ impl<'a> Source<'a> {
             headers,
             decoded,
         })
+    }
+
+    pub fn endian(&self) -> RunTimeEndian {
+        self.dwarf.debug_addr.reader().endian()
     }
 
     pub fn len(&self) -> usize {

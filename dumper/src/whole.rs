@@ -33,21 +33,29 @@ impl Input<'_> {
         if program.len() > fields::PROGRAM_LIMIT {
             return Err("line programs of more than 4,194,304 bytes".into());
         }
+        let lists = (0..self.main.len())
+            .map(|index| self.lists(index, true))
+            .collect::<Result<Vec<_>, _>>()?;
         let reached = self.reach(0..self.main.len(), None)?;
         let (main, supplementary) = self.write(&reached, false, |index| {
             Some(Own {
                 text: self.text,
                 lines: lines[index].as_ref(),
                 program: parts[index],
+                lists: lists[index].as_ref(),
                 part: None,
             })
         })?;
+        // Each is lent the same.
+        let lent = lists.iter().flatten().next();
         let dump = Dump {
             ordinal: 0,
             main,
             supplementary,
             program,
             encoded: self.programs && parts.iter().any(Option::is_some),
+            lists: lent.map_or(&[][..], |lent| lent.lists).to_vec(),
+            addresses: lent.map_or(&[][..], |lent| lent.addresses).to_vec(),
         };
         Ok((dump, parts))
     }
@@ -75,13 +83,17 @@ pub fn whole(object: &Path, place: &Path, asked: Asked) -> Result<(), Stop> {
                 about.offset, about.version, about.name
             );
         }
-        for (name, bytes) in [
+        let files = [
             ("whole.main", &dump.main.bytes[..]),
             ("whole.sup", &dump.supplementary.bytes),
             ("whole.line", &dump.program),
             ("index", index.as_bytes()),
             ("symbols", &summary.symbols.bytes),
-        ] {
+            ("whole.lists", &dump.lists),
+            ("whole.addresses", &dump.addresses),
+        ];
+        // The last two are there where they are asked for.
+        for (name, bytes) in &files[..if asked.lists { 7 } else { 5 }] {
             std::fs::write(folder.join(name), bytes).map_err(|error| fault(place, error))?;
         }
         Ok(())

@@ -6,6 +6,9 @@ pub struct Case {
     pub main: Vec<u8>,
     pub supplementary: Vec<u8>,
     pub program: Vec<u8>,
+    /// The list section and the address table that field 1f reads (E9).
+    pub lists: Vec<u8>,
+    pub addresses: Vec<u8>,
     /// All units of the main input are imported (E11), and the ordinal is not read.
     pub all: bool,
     pub ordinal: u64,
@@ -19,12 +22,14 @@ pub struct Case {
 }
 
 impl Case {
-    /// A call as the listing program makes it.
+    /// A call as the listing program makes it: list section and address table are "both empty in the listing program".
     pub fn new(main: Vec<u8>, supplementary: Vec<u8>, program: Vec<u8>) -> Self {
         Self {
             main,
             supplementary,
             program,
+            lists: Vec::new(),
+            addresses: Vec::new(),
             all: false,
             ordinal: 0,
             inlines: true,

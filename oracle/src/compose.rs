@@ -124,6 +124,11 @@ impl Fields {
         self.field(0x1a, &[&[stage], reason])
     }
 
+    /// Where an entry's ranges are: list offset, base address, place of the unit's addresses, their size (E9).
+    pub fn list(&mut self, offset: u64, base: u64, addresses: u64, size: u8) -> &mut Self {
+        self.field(0x1f, &[&offset.to_le_bytes(), &base.to_le_bytes(), &addresses.to_le_bytes(), &[size]])
+    }
+
     pub fn take(&mut self) -> Vec<u8> {
         std::mem::take(&mut self.0)
     }

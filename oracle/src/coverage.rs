@@ -18,6 +18,8 @@ use crate::stand_in::gimli::{
 use crate::trace::{Event, traced};
 
 mod encodings;
+mod list_fields;
+mod lists;
 mod programs;
 mod requests;
 mod rules;
@@ -29,7 +31,7 @@ use rules::{RULES, Rule};
 const MOST_ROWS: usize = 65_536;
 
 /// One more than the largest refusal; 19 and 20 are none of an import's.
-const REFUSALS: usize = 23;
+const REFUSALS: usize = 26;
 
 /// How many cases reach each thing.
 struct Counts {
@@ -82,6 +84,7 @@ fn examine(case: &Case, counts: &mut Counts, reached: &mut Reached) -> Result<()
     requests::limits(case, &answer, reached);
     whole::parts(case, &answer, reached);
     encodings::fields(case, &answer, reached);
+    list_fields::fields(case, &answer, reached);
     if case.main.is_empty() {
         let bare = if case.all { whole::bare } else { requests::bare };
         bare(case, answer.refusal, reached);
@@ -127,6 +130,7 @@ fn examine_unit(
         requests::advance_line(header, result.err().unwrap_or(0), reached);
     }
     programs::unit(unit, result.err().unwrap_or(0), &before.warnings(imported), reached);
+    lists::unit(case, dwarf, unit, &events, result.err().unwrap_or(0), reached);
     searches(dwarf, &events, reached);
     let (Ok(()), Some(rows)) = (result, table(dwarf, number, &known)) else {
         return Ok(false);
@@ -138,12 +142,12 @@ fn examine_unit(
         requests::windows_paths(unit, header, files(&imported.builder), reached);
     }
     programs::part(unit, &case.program, reached);
-    tombstones(unit, &events, reached);
+    tombstones(dwarf, unit, &events, reached);
     let functions = before.functions(imported);
     if case.all {
         whole::unit(number, &events, functions, before.files, reached);
     }
-    records(case, unit, functions, &events, &rows, reached)?;
+    records(case, dwarf, unit, functions, &events, &rows, reached)?;
     Ok(true)
 }
 
@@ -289,12 +293,12 @@ fn reference(
 
 // ---- ranges of subprograms
 
-fn tombstones(unit: &Data<'_>, events: &[Event], reached: &mut Reached) {
+fn tombstones(dwarf: &Dwarf<Slice<'_>>, unit: &Data<'_>, events: &[Event], reached: &mut Reached) {
     let text = |holds: &dyn Fn(AddressRange) -> bool| unit.text.iter().any(|range| holds(AddressRange::new(range.begin, range.end)));
     for event in events {
         let Event::Ranges { entry } = event else { continue };
         let entry = &unit.entries[*entry];
-        for &(range, flagged) in entry.ranges.iter().filter(|_| entry.tag.0 == SUBPROGRAM) {
+        for (range, flagged) in dwarf.ranges_of(entry).0.into_iter().filter(|_| entry.tag.0 == SUBPROGRAM) {
             let outside = !text(&|text| text.contains(range.begin));
             reached.hit(Rule::ZeroOutside, range.begin == 0 && outside);
             reached.hit(Rule::TombstoneOutside, flagged && range.begin != 0 && outside);
@@ -381,6 +385,7 @@ fn function_rows(
 /// Judges each record by document 01's words, and counts its nodes against the Rust's.
 fn records(
     case: &Case,
+    dwarf: &Dwarf<Slice<'_>>,
     unit: &Data<'_>,
     functions: &[Function],
     events: &[Event],
@@ -399,7 +404,7 @@ fn records(
     let mut last = None;
     for ((root, named), function) in walks.iter().zip(functions) {
         function_rows(unit, &unit.entries[*root], function, rows, reached)?;
-        let kept = walk(unit, *root, named, function.range, reached);
+        let kept = walk(dwarf, unit, *root, named, function.range, reached);
         let nodes = function.inline.as_ref().map_or(0, |root| count(root) - 1);
         if case.inlines && kept != nodes {
             return Err(format!("{kept} inlined entries are kept by document 01's words, and the Rust has {nodes} nodes"));
@@ -424,7 +429,7 @@ struct Open<'e, 'a> {
 }
 
 /// The number of kept inlined entries below a subprogram, for a record of this range.
-fn walk(unit: &Data<'_>, root: usize, named: &[usize], function: AddressRange, reached: &mut Reached) -> usize {
+fn walk(dwarf: &Dwarf<Slice<'_>>, unit: &Data<'_>, root: usize, named: &[usize], function: AddressRange, reached: &mut Reached) -> usize {
     let mut open: Vec<Open<'_, '_>> = Vec::new();
     let mut kept = 0;
     let site = |entry: &EntryData<Slice<'_>>| {
@@ -440,7 +445,7 @@ fn walk(unit: &Data<'_>, root: usize, named: &[usize], function: AddressRange, r
             let nearest = open.iter().rposition(|above| above.merged.is_some());
             let outer = nearest.and_then(|place| open[place].merged.clone()).unwrap_or_else(|| vec![function]);
             let all: Vec<(AddressRange, bool)> =
-                entry.ranges.iter().map(|&(range, flag)| (AddressRange::new(range.begin, range.end), flag)).collect();
+                dwarf.ranges_of(entry).0.into_iter().map(|(range, flag)| (AddressRange::new(range.begin, range.end), flag)).collect();
             let lies = |range: AddressRange| range.start < range.end && outer.iter().any(|outer| outer.contains_range(range));
             let inside: Vec<AddressRange> = all.iter().map(|range| range.0).filter(|&range| lies(range)).collect();
             let across = |range: AddressRange| {

@@ -28,7 +28,7 @@ text!("error.rs");
 pub fn refusal(error: &Error) -> u8 {
     match error {
         Error::Dwarf { source: ParserError(gimli::Error::NoEntryAtGivenOffset(_)) } => 13,
-        Error::Dwarf { source: ParserError(gimli::Error::Program(number)) } => *number,
+        Error::Dwarf { source: ParserError(gimli::Error::Program(number) | gimli::Error::List(number)) } => *number,
         Error::Dwarf { .. } => 6,
         Error::Malformed { detail, .. } if **detail == *"truncated instruction" => 7,
         Error::Malformed { detail, .. } if **detail == *"truncated extended opcode" => 8,

@@ -10,6 +10,8 @@ use crate::case::{Answer, Case};
 const INLINES: u8 = 1;
 const CALL_SITES: u8 = 2;
 const ALL_UNITS: u8 = 4;
+/// The list section and the address table follow the inputs.
+const SECTIONS: u8 = 8;
 
 /// Reads values one after the other from a file.
 pub struct Source {
@@ -50,11 +52,11 @@ impl Source {
         let lengths = [self.number(4)?, self.number(4)?, self.number(4)?];
         let ordinal = self.number(8)?;
         let flags = self.number(1)?;
-        if flags > (INLINES | CALL_SITES | ALL_UNITS).into() {
+        if flags > (INLINES | CALL_SITES | ALL_UNITS | SECTIONS).into() {
             return Err(format!("{}: no case has the flags {flags}", self.path.display()));
         }
         let has = |switch: u8| flags & u64::from(switch) != 0;
-        Ok(Some(Case {
+        let mut case = Case {
             ordinal,
             inlines: has(INLINES),
             call_sites: has(CALL_SITES),
@@ -67,7 +69,14 @@ impl Source {
             main: self.bytes(lengths[0])?,
             supplementary: self.bytes(lengths[1])?,
             program: self.bytes(lengths[2])?,
-        }))
+            lists: Vec::new(),
+            addresses: Vec::new(),
+        };
+        if has(SECTIONS) {
+            let lengths = [self.number(4)?, self.number(4)?];
+            (case.lists, case.addresses) = (self.bytes(lengths[0])?, self.bytes(lengths[1])?);
+        }
+        Ok(Some(case))
     }
 
     pub fn answer(&mut self) -> Result<Option<Answer>, String> {
@@ -80,7 +89,7 @@ impl Source {
             *number = self.number(8)?;
         }
         let [records, files, warnings, statistics @ ..] = numbers;
-        if !matches!(refusal, 0..=18 | 21 | 22) || refusal > 0 && numbers != [0; 7] {
+        if !matches!(refusal, 0..=18 | 21..=25) || refusal > 0 && numbers != [0; 7] {
             return Err(format!("{}: no answer has the refusal {refusal} and the numbers {numbers:?}", self.path.display()));
         }
         let (records, files, warnings) = (self.bytes(records)?, self.bytes(files)?, self.bytes(warnings)?);
@@ -111,7 +120,9 @@ impl Target {
     pub fn case(&mut self, case: &Case) -> Result<(), String> {
         let lengths = [&case.main, &case.supplementary, &case.program].map(|bytes| (bytes.len() as u32).to_le_bytes());
         let switch = |switch: u8, on: bool| if on { switch } else { 0 };
-        let flags = switch(INLINES, case.inlines) | switch(CALL_SITES, case.call_sites) | switch(ALL_UNITS, case.all);
+        let sections = !case.lists.is_empty() || !case.addresses.is_empty();
+        let flags =
+            switch(INLINES, case.inlines) | switch(CALL_SITES, case.call_sites) | switch(ALL_UNITS, case.all) | switch(SECTIONS, sections);
         let buffers = [case.records, case.files, case.warnings].map(u32::to_le_bytes);
         self.write(&[
             &lengths.concat(),
@@ -123,7 +134,12 @@ impl Target {
             &case.main,
             &case.supplementary,
             &case.program,
-        ])
+        ])?;
+        if sections {
+            let lengths = [&case.lists, &case.addresses].map(|bytes| (bytes.len() as u32).to_le_bytes());
+            self.write(&[&lengths.concat(), &case.lists, &case.addresses])?;
+        }
+        Ok(())
     }
 
     pub fn answer(&mut self, answer: &Answer) -> Result<(), String> {

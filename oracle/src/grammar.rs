@@ -4,12 +4,10 @@ use std::cell::{Cell, OnceCell};
 use std::rc::Rc;
 
 use crate::machine::LineEncoding;
-use crate::stand_in::gimli::{
-    AttributeValue, DebugInfoOffset, DebugLineOffset, DwAt, DwTag, Encoding, EntryData, FileEntry, Format, LineProgramHeader, LineRow,
-    Range, RowKind, Slice, UnitData, UnitOffset,
-};
+use crate::payload::{MISSHAPEN, Payload};
+use crate::rnglists::RangeList;
+use crate::stand_in::gimli::{AttributeValue, DwAt, DwTag, EntryData, FileEntry, LineProgramHeader, LineRow, RowKind, Slice, UnitData};
 
-const MISSHAPEN: u8 = 2;
 const PAST_LIMIT: u8 = 3;
 
 const FIELD_LIMIT: usize = 65_536;
@@ -18,6 +16,8 @@ const UNIT_LIMIT: usize = 256;
 pub const STRING_LIMIT: usize = 6_113;
 pub const REASON_LIMIT: usize = 4_096;
 const DEPTH_LIMIT: u64 = 1_024;
+/// Of the units whose entries may have a range list (E9).
+const LIST_VERSION: u16 = 5;
 
 pub struct Input<'a> {
     pub fields: usize,
@@ -57,68 +57,11 @@ fn followers(tag: u8) -> &'static [u8] {
         0x1e | 0x14 => &[0x10, 0x14, 0x1c, 0x15, 0x16, 0x17],
         0x1c | 0x15 => &[0x10, 0x15, 0x16, 0x17],
         0x16 => &[0x10, 0x16, 0x17],
-        0x17 | 0x18 => &[0x10, 0x17, 0x18, 0x19, 0x1a],
+        // "In place of 19 and 1a" (E9).
+        0x17 | 0x18 => &[0x10, 0x17, 0x18, 0x19, 0x1a, 0x1f],
         0x19 => &[0x10, 0x17, 0x19, 0x1a],
-        0x1a => &[0x10, 0x17],
+        0x1a | 0x1f => &[0x10, 0x17],
         _ => &[0x10],
-    }
-}
-
-/// Takes a payload apart from the front; what does not fit breaks the grammar.
-struct Payload<'a>(&'a [u8]);
-
-impl<'a> Payload<'a> {
-    fn number(&mut self, size: usize) -> Result<u64, u8> {
-        let (bytes, rest) = self.0.split_at_checked(size).ok_or(MISSHAPEN)?;
-        self.0 = rest;
-        Ok(bytes.iter().rev().fold(0, |value, &byte| value << 8 | u64::from(byte)))
-    }
-
-    fn offset(&mut self) -> Result<usize, u8> {
-        Ok(self.number(8)? as usize)
-    }
-
-    fn range(&mut self) -> Result<Range, u8> {
-        Ok(Range { begin: self.number(8)?, end: self.number(8)? })
-    }
-
-    /// One byte, from `low` to `high`.
-    fn byte(&mut self, low: u64, high: u64) -> Result<u8, u8> {
-        let value = self.number(1)?;
-        if (low..=high).contains(&value) { Ok(value as u8) } else { Err(MISSHAPEN) }
-    }
-
-    fn flag(&mut self) -> Result<bool, u8> {
-        Ok(self.byte(0, 1)? == 1)
-    }
-
-    fn encoding(&mut self) -> Result<Encoding, u8> {
-        let version = u16::from(self.byte(2, 5)?);
-        match self.byte(4, 8)? {
-            4 => Ok(Encoding { format: Format::Dwarf32, version }),
-            8 => Ok(Encoding { format: Format::Dwarf64, version }),
-            _ => Err(MISSHAPEN),
-        }
-    }
-
-    fn rest(&mut self) -> Slice<'a> {
-        Slice(std::mem::take(&mut self.0))
-    }
-
-    /// An attribute's kind and value.
-    fn attribute(&mut self) -> Result<AttributeValue<Slice<'a>>, u8> {
-        Ok(match self.byte(1, 10)? {
-            1 => AttributeValue::Udata(self.number(8)?),
-            2 => AttributeValue::FileIndex(self.number(8)?),
-            3 => AttributeValue::String(self.rest()),
-            4 => AttributeValue::UnitRef(UnitOffset(self.offset()?)),
-            5 => AttributeValue::DebugInfoRef(DebugInfoOffset(self.offset()?)),
-            6 => AttributeValue::DebugInfoRefSup(DebugInfoOffset(self.offset()?)),
-            7 => AttributeValue::SecOffset(self.offset()?),
-            8 => AttributeValue::DebugLineRef(DebugLineOffset(self.offset()?)),
-            9 => AttributeValue::Addr(self.number(8)?),
-            _ => AttributeValue::Failed,
-        })
     }
 }
 
@@ -144,6 +87,7 @@ impl<'a> Parser<'a> {
             0x1d => self.line_encoding(&mut payload)?,
             0x1e => self.part(&mut payload)?,
             0x17 => self.entry(&mut payload)?,
+            0x1f => self.list(&mut payload)?,
             _ => self.of_entry(tag, &mut payload)?,
         };
         if payload.0.is_empty() { Ok(within) } else { Err(MISSHAPEN) }
@@ -166,6 +110,7 @@ impl<'a> Parser<'a> {
             offset,
             length,
             format: encoding.format,
+            version: encoding.version,
             directory: None,
             text: Vec::new(),
             lines: None,
@@ -173,6 +118,7 @@ impl<'a> Parser<'a> {
             encoding: None,
             ran: OnceCell::new(),
             entries: Vec::new(),
+            lists: 0,
             tombstone: Cell::new(false),
         });
         Ok(self.units.len() <= UNIT_LIMIT)
@@ -266,8 +212,22 @@ impl<'a> Parser<'a> {
             return Err(MISSHAPEN);
         }
         let (attributes, ranges) = (Vec::new(), Vec::new());
-        unit.entries.push(EntryData { offset, depth: depth as isize, tag, attributes, ranges, failure: None });
+        unit.entries.push(EntryData { offset, depth: depth as isize, tag, attributes, ranges, failure: None, list: None });
         Ok(depth <= DEPTH_LIMIT)
+    }
+
+    /// E9: "list offset, unit base address, byte place of the unit's addresses in the table, address size 4 or 8 in 1 byte", "in version 5 units
+    /// (1f is misshapen in others)".
+    fn list(&mut self, payload: &mut Payload<'a>) -> Result<bool, u8> {
+        let (offset, base, addresses) = (payload.number(8)?, payload.number(8)?, payload.number(8)?);
+        let size = payload.byte(4, 8)?;
+        let unit = self.last()?;
+        if !matches!(size, 4 | 8) || unit.version != LIST_VERSION {
+            return Err(MISSHAPEN);
+        }
+        unit.lists += 1;
+        unit.entries.last_mut().ok_or(MISSHAPEN)?.list = Some(RangeList { offset, base, addresses, size });
+        Ok(true)
     }
 
     fn of_entry(&mut self, tag: u8, payload: &mut Payload<'a>) -> Result<bool, u8> {

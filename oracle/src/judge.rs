@@ -103,14 +103,17 @@ pub fn shares(path: &Path) -> Result<bool, String> {
     let (mut cases, mut judged) = (0_u64, 0_u64);
     // Of each request, how many it sets apart, and how many of those the plain Rust answers otherwise.
     let mut apart = [(0_u64, 0_u64); REQUESTS.len()];
-    // Those of all units, and those with a part of the program, which E11 brought; those that import a unit with field 1d, which E8 brought.
-    let (mut of_parts, mut of_programs) = ([0_u64; 2], 0_u64);
+    // Those of all units, and those with a part of the program, which E11 brought; those that import a unit with field 1d, which E8 brought, or with
+    // field 1f, which E9 brought.
+    let (mut of_parts, mut of_programs, mut of_lists) = ([0_u64; 2], 0_u64, 0_u64);
     while let Some(case) = source.case()? {
         let has_part = |input: &[u8]| generate::split(input).iter().any(|field| field.0 == 0x1e);
         of_parts[0] += u64::from(case.all);
         of_parts[1] += u64::from(has_part(&case.main) || has_part(&case.supplementary));
         let is_encoded = |(dwarf, units): (Dwarf<Slice<'_>>, Range<usize>)| dwarf.units[units].iter().any(|unit| unit.encoding.is_some());
+        let has_list = |(dwarf, units): (Dwarf<Slice<'_>>, Range<usize>)| dwarf.units[units].iter().any(|unit| unit.lists > 0);
         of_programs += u64::from(inputs(&case).is_ok_and(is_encoded));
+        of_lists += u64::from(inputs(&case).is_ok_and(has_list));
         let shared = match judge(&case, &answer(&case)) {
             Ok(shared) => shared,
             Err(message) => {
@@ -135,6 +138,10 @@ pub fn shares(path: &Path) -> Result<bool, String> {
     let programs = share(of_programs);
     println!(
         "{of_programs} ({programs}) import a unit with field 1d (E8): both take its rows from the row machine, which the plain Rust can't judge"
+    );
+    let lists = share(of_lists);
+    println!(
+        "{of_lists} ({lists}) import a unit with field 1f (E9): both take its ranges from the list reader, which the plain Rust can't judge"
     );
     let most = 4 * judged >= 3 * cases;
     if !most {

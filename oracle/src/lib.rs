@@ -59,9 +59,12 @@ mod grammar;
 #[cfg(not(faulty_machine))]
 mod machine;
 mod output;
+mod payload;
+#[cfg(not(faulty_rnglists))]
+mod rnglists;
 mod trace;
 
-pub use answer::{answer, answer_in, finished, inputs, work_needed, work_of};
+pub use answer::{answer, answer_in, finished, inputs, list_work, measured, work_needed, work_of};
 pub use case::{Answer, Case};
 pub use output::{field, written};
 
@@ -99,7 +102,21 @@ pub mod limits;
 #[cfg(not(feature = "plain"))]
 pub mod line_cases;
 #[cfg(not(feature = "plain"))]
+pub mod list_cases;
+#[cfg(not(feature = "plain"))]
+pub mod list_forms;
+#[cfg(not(feature = "plain"))]
+mod list_limits;
+#[cfg(not(feature = "plain"))]
+mod list_shown;
+#[cfg(not(feature = "plain"))]
+mod list_table;
+#[cfg(all(test, not(feature = "plain")))]
+mod list_tests;
+#[cfg(not(feature = "plain"))]
 pub mod listing;
+#[cfg(not(feature = "plain"))]
+mod lists;
 #[cfg(not(feature = "plain"))]
 pub mod look_cases;
 #[cfg(not(any(feature = "plain", faulty_lookup)))]
@@ -155,6 +172,10 @@ mod grammar {
 #[cfg(faulty_machine)]
 mod machine {
     text!("machine.rs");
+}
+#[cfg(faulty_rnglists)]
+mod rnglists {
+    text!("rnglists.rs");
 }
 
 #[cfg(not(feature = "plain"))]

@@ -41,7 +41,44 @@ pub fn large() -> Vec<Case> {
         last_encoding(true),
         last_encoding(false),
         longest_program(),
+        // E9: the sizes of the two slices, of a package without debug data too; a 1f as the field past the limit, misshapen and sound.
+        sections(4_194_305, 0),
+        sections(0, 4_194_305),
+        sections(4_194_304, 4_194_304),
+        Case { main: Vec::new(), ..sections(4_194_305, 0) },
+        Case { main: Vec::new(), ..sections(4_194_304, 4_194_304) },
+        last_list(4),
+        last_list(5),
     ]
+}
+
+/// A list section and an address table of so many bytes: base addresses, one after the other, and a pair at the end.
+fn sections(lists: usize, addresses: usize) -> Case {
+    let mut main = Fields::default();
+    main.unit(0, 100, 5, 4)
+        .text(0x1000, 0x2000)
+        .entry(0, 0, COMPILE_UNIT)
+        .entry(1, 1, SUBPROGRAM)
+        .string(NAME, b"dim")
+        .list(0, 0x1000, 0, 8);
+    let mut bytes = [1, 0].repeat(lists / 2 + 1);
+    bytes.truncate(lists);
+    if let Some(end) = bytes.last_chunk_mut() {
+        *end = [4, 0, 0x10, 0];
+    }
+    let mut table = 0x1000_u64.to_le_bytes().repeat(addresses / 8 + 1);
+    table.truncate(addresses);
+    let case = Case { lists: bytes, addresses: table, ..Case::new(main.take(), Vec::new(), Vec::new()) };
+    Case { work: work_of(&case), ..case }
+}
+
+/// 65,536 fields, and behind them a field 1f of a unit of this version.
+fn last_list(version: u8) -> Case {
+    let mut main = Fields::default();
+    main.unit(0, 100, 5, 4);
+    (1..65_534).for_each(|_| _ = main.text(0x1000, 0x2000));
+    main.unit(100, 100, version, 4).entry(0, 0, COMPILE_UNIT).list(0, 0, 0, 8);
+    Case { work: 1 << 23, ..Case::new(main.take(), Vec::new(), Vec::new()) }
 }
 
 /// 65,536 fields, and behind them a row of a unit that has field 1d, or such a field.

@@ -123,7 +123,13 @@ fn nodes(random: &mut Random, records: &mut Vec<u8>, start: u64) {
     let deep = random.chance(2);
     let (count, mut depth) = (if deep { 255 + random.below(4) } else { 1 + random.below(9) }, 0);
     for number in 0..count {
-        let next = if number == 0 { 0 } else if deep { depth + 1 } else { 1 + random.below(depth + 1) };
+        let next = if number == 0 {
+            0
+        } else if deep {
+            depth + 1
+        } else {
+            1 + random.below(depth + 1)
+        };
         depth = next;
         field(records, 0x43, &[&(depth as u16).to_le_bytes(), &[1, 0, 0, 0, 2, 0, 0, 0], b"fade"]);
         for _ in 0..1 + random.below(3) {

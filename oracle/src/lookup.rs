@@ -93,8 +93,7 @@ impl<'a> Cursor<'a> {
 
     fn function(&mut self) -> Option<Function<'a>> {
         let head = self.next(0x41)?;
-        let mut function =
-            Function { place: head.place, field: head.whole, range: range(head.payload)?, rows: Vec::new(), root: None };
+        let mut function = Function { place: head.place, field: head.whole, range: range(head.payload)?, rows: Vec::new(), root: None };
         self.at += 1;
         while let Some(row) = self.next(0x42) {
             if row.payload.len() != ROW_SIZE {

@@ -8,8 +8,8 @@ use std::{env, fs};
 use oracle::files::{Source, Target};
 use oracle::listing::{INPUT_LIMIT, PROGRAM_LIMIT, listing};
 use oracle::{
-    Case, answer, coverage, document, front_cases, generate, judge, judged, limits, line_cases, look_cases, machine_cases, program_cases,
-    search_cases, whole_cases,
+    Case, answer, coverage, document, front_cases, generate, judge, judged, limits, line_cases, list_cases, list_forms, look_cases,
+    machine_cases, program_cases, search_cases, whole_cases,
 };
 
 const USAGE: &str = "
@@ -23,6 +23,8 @@ oracle generate SEED COUNT CASES            writes cases by seed
 oracle generate --below SIZE SEED COUNT CASES    the same, of those with fewer input bytes
 oracle wholes SEED COUNT CASES              writes cases of all units and of parts of the program, those by hand first
 oracle programs SEED COUNT CASES            writes cases of rows from line programs, those by hand first
+oracle lists SEED COUNT CASES               writes cases of range lists, those by hand first
+oracle forms CASES FORMS                    writes the other form of each case of range lists, fields in place of lists; other cases as they are
 oracle large CASES                          writes the cases over 64 KiB, the same for every seed
 oracle document CASES                       writes document 01's own cases
 oracle coverage CASES                       counts what the cases reach; fails if something is missing
@@ -63,6 +65,8 @@ fn run(arguments: &[&str]) -> Result<bool, String> {
         ["generate", "--below", size, seed, count, cases] => write(cases, generated(number(size)?, seed, count)?),
         ["wholes", seed, count, cases] => write(cases, whole_cases::cases(number(seed)?).take(number(count)? as usize)),
         ["programs", seed, count, cases] => write(cases, program_cases::cases(number(seed)?).take(number(count)? as usize)),
+        ["lists", seed, count, cases] => write(cases, list_cases::cases(number(seed)?).take(number(count)? as usize)),
+        ["forms", cases, forms] => write_forms(Path::new(cases), Path::new(forms)),
         ["large", cases] => write(cases, limits::large().into_iter()),
         ["document", cases] => write(cases, document::cases().into_iter().map(|(_, case, _)| case)),
         ["coverage", cases] => coverage::coverage(Path::new(cases)),
@@ -166,6 +170,15 @@ fn write(path: &str, cases: impl Iterator<Item = Case>) -> Result<bool, String> 
     let mut target = Target::create(Path::new(path))?;
     for case in cases {
         target.case(&case)?;
+    }
+    target.finish()
+}
+
+/// The other form of each case, fields in place of range lists.
+fn write_forms(cases: &Path, forms: &Path) -> Result<bool, String> {
+    let (mut source, mut target) = (Source::open(cases)?, Target::create(forms)?);
+    while let Some(case) = source.case()? {
+        target.case(&list_forms::with_fields(&case).unwrap_or(case))?;
     }
     target.finish()
 }

@@ -45,7 +45,7 @@ fn case(seed: u64, number: u64) -> Case {
 }
 
 /// Half of the headers have field 1d.
-fn half(random: &mut Random, odd: u64, windows: bool) -> Lines {
+pub fn half(random: &mut Random, odd: u64, windows: bool) -> Lines {
     if random.chance(50) { programs::lines(random, odd, windows) } else { generate::lines(random, odd, windows) }
 }
 

@@ -12,9 +12,8 @@ const END_SEQUENCE: &[u8] = &[0, 1, 1];
 /// Rows of file 0 at 1000 and 1008 hex, lines 10 and 12, an end at 1010.
 const PRINTED: &[u8] = &[0, 9, 2, 0, 0x10, 0, 0, 0, 0, 0, 0, 4, 0, 3, 9, 1, 2, 8, 3, 2, 1, 2, 8, 0, 1, 1];
 /// A row at 1000 hex, one 4 further with file 0 and column 7, one behind a constant add with line 8, one by a special opcode; with clang's encoding.
-const EVERY: &[u8] = &[
-    0, 9, 2, 0, 0x10, 0, 0, 0, 0, 0, 0, 3, 9, 1, 4, 0, 5, 7, 6, 7, 2, 4, 10, 1, 8, 11, 12, 5, 3, 0x7e, 1, 9, 3, 0, 0, 2, 4, 1, 0x75,
-];
+const EVERY: &[u8] =
+    &[0, 9, 2, 0, 0x10, 0, 0, 0, 0, 0, 0, 3, 9, 1, 4, 0, 5, 7, 6, 7, 2, 4, 10, 1, 8, 11, 12, 5, 3, 0x7e, 1, 9, 3, 0, 0, 2, 4, 1, 0x75];
 /// Set address to 2^64 − 1.
 const TO_LAST: &[u8] = &[0, 9, 2, 255, 255, 255, 255, 255, 255, 255, 255];
 

@@ -111,7 +111,7 @@ fn limits() {
         assert_eq!(after_unit(|f| _ = f.entry(0, 0, 1).string(7, text).entry(0, 0, 1)), if expected == 3 { 3 } else { 2 });
     }
     let refusals: Vec<u8> = crate::limits::large().iter().map(|case| answer(case).refusal).collect();
-    assert_eq!(refusals, [1, 1, 2, 1, 0, 0, 3, 1, 1, 0, 1, 2, 3, 0, 0, 2, 3, 0]);
+    assert_eq!(refusals, [1, 1, 2, 1, 0, 0, 3, 1, 1, 0, 1, 2, 3, 0, 0, 2, 3, 0, 1, 1, 0, 1, 0, 2, 3]);
 }
 
 #[test]

@@ -6,9 +6,9 @@ use std::io::{self, BufWriter, IsTerminal, Write};
 use std::path::Path;
 use std::{env, fs, process};
 
-use pezgok::fields::{Fields, LINE_ENCODING};
+use pezgok::fields::{Fields, LINE_ENCODING, RANGE_LIST};
 use pezgok::{
-    Buffers, Finished, Inputs, Options, Refusal, import, import_dwarf, join_symbols, measure, measure_dwarf, work_length,
+    Buffers, Finished, Inputs, Options, Refusal, import, import_dwarf, join_symbols, list_work_length, measure, measure_dwarf, work_length,
     work_length_encoded,
 };
 
@@ -99,15 +99,17 @@ impl Imported {
     }
 }
 
-/// Imports the unit of an ordinal, or all units, from three files of the folder, into buffers that are as long as needed.
+/// Imports the unit of an ordinal, or all units, from its files in the folder, into buffers that are as long as needed.
 fn imported(folder: &Path, name: &str, ordinal: Option<u64>) -> io::Result<Result<Imported, Refusal>> {
     let read = |ending: &str| fs::read(folder.join(format!("{name}.{ending}"))).unwrap_or_default();
-    let (main, supplementary, program) = (fs::read(folder.join(format!("{name}.main")))?, read("sup"), read("line"));
-    // A field has three bytes at least. Where a unit's rows come from its line program, its bytes take more.
+    let main = fs::read(folder.join(format!("{name}.main")))?;
+    let [supplementary, program, lists, addresses] = &["sup", "line", "lists", "addresses"].map(read);
+    // A field has three bytes at least. Where a unit's rows come from its line program, its bytes take more; so do those of the list section.
     let encoded = Fields::new(&main).any(|field| field.tag == LINE_ENCODING);
     let work = if encoded { work_length_encoded } else { work_length };
-    let mut work = vec![0; work((main.len() + supplementary.len()) / 3, program.len())];
-    let inputs = Inputs { main: &main, supplementary: &supplementary, program: &program };
+    let listed = Fields::new(&main).filter(|field| field.tag == RANGE_LIST).count();
+    let mut work = vec![0; work((main.len() + supplementary.len()) / 3, program.len()) + list_work_length(lists.len(), listed)];
+    let inputs = Inputs { main: &main, supplementary, program, lists, addresses };
     let options = Options { ordinal: ordinal.unwrap_or(0), ..Options::default() };
     let measure = if ordinal.is_some() { measure } else { measure_dwarf };
     let import = if ordinal.is_some() { import } else { import_dwarf };

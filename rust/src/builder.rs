@@ -4,7 +4,9 @@ use crate::error::Error;
 use crate::fields::Fields;
 use crate::symbols::{join_symbols_with, symbols_work_length};
 use crate::table::{NotImported, Table};
-use crate::{Buffers, Finished, Inputs, Options, Refusal, import, measure, work_length, work_length_encoded};
+use crate::{
+    Buffers, Finished, Inputs, Options, Refusal, import, list_fields, list_work_length, measure, work_length, work_length_encoded,
+};
 
 /// A unit to import.
 #[derive(Clone, Copy, Debug)]
@@ -41,7 +43,7 @@ const SHORT_WORK: u8 = 5;
 ///
 /// let mut builder = Builder::new();
 /// for (main, program) in &sheets() {
-///     builder.import(Unit::uncounted(Inputs { main, supplementary: &[], program }, 0))?;
+///     builder.import(Unit::uncounted(Inputs { main, program, ..Inputs::default() }, 0))?;
 /// }
 /// builder.add_symbols(symbols);
 /// let table = builder.finish()?;
@@ -89,13 +91,17 @@ impl Builder {
     pub fn import(&mut self, unit: Unit<'_>) -> Result<Finished, Refusal> {
         // A group of units whose sheets stand in one main input would be imported here by one call, which shares the file table among them.
         let (fields, program) = (unit.fields.min(MOST_FIELDS), unit.inputs.program.len());
-        let mut length = work_length(fields, program);
+        let lists = match unit.inputs.lists {
+            [] => 0,
+            lists => list_work_length(lists.len(), list_fields(unit.inputs.main, unit.ordinal)),
+        };
+        let mut length = work_length(fields, program) + lists;
         // Call sites are of no use for frames.
         let options = Options { ordinal: unit.ordinal, inlines: true, call_sites: false, first_file: self.next_file };
         let mut result = self.import_with(unit.inputs, options, length);
         // A unit whose rows come from its line program needs more.
         if result.is_err_and(|refusal| refusal.number() == SHORT_WORK) {
-            length = work_length_encoded(fields, program);
+            length = work_length_encoded(fields, program) + lists;
             result = self.import_with(unit.inputs, options, length);
         }
         if result.is_err_and(|refusal| SHORT_TRAYS.contains(&refusal.number())) {

@@ -1,7 +1,11 @@
 //! The fields of a tray, or of an input: each a tag of one byte, a length of two and a payload. Numbers are little-endian.
 
+/// Of a main input: a unit.
+pub const UNIT: u8 = 0x10;
 /// Of a main input: a unit's rows come from its line program.
 pub const LINE_ENCODING: u8 = 0x1d;
+/// Of a main input: an entry's ranges are in a list.
+pub const RANGE_LIST: u8 = 0x1f;
 /// A file: the length of its directory (2 bytes), the directory, the basename.
 pub const FILE: u8 = 0x40;
 /// A function: start and end (8 bytes each), name. What follows up to the next one belongs to it.

@@ -9,6 +9,8 @@
 
 use std::fmt;
 
+use fields::{Fields, RANGE_LIST, UNIT};
+
 mod builder;
 mod error;
 pub mod fields;
@@ -39,6 +41,10 @@ mod sys {
             supplementary_len: usize,
             program: *const u8,
             program_len: usize,
+            lists: *const u8,
+            lists_len: usize,
+            addresses: *const u8,
+            addresses_len: usize,
             ordinal: u64,
             inlines: bool,
             call_sites: bool,
@@ -60,6 +66,10 @@ mod sys {
             supplementary_len: usize,
             program: *const u8,
             program_len: usize,
+            lists: *const u8,
+            lists_len: usize,
+            addresses: *const u8,
+            addresses_len: usize,
             ordinal: u64,
             inlines: bool,
             call_sites: bool,
@@ -72,14 +82,18 @@ mod sys {
     }
 }
 
-/// What is read.
-#[derive(Clone, Copy, Debug)]
+/// What is read. By default all are empty.
+#[derive(Clone, Copy, Debug, Default)]
 pub struct Inputs<'a> {
     /// Empty: a package without debug data, whose import of ordinal 0 is finished with nothing in it.
     pub main: &'a [u8],
     /// Empty: there is none.
     pub supplementary: &'a [u8],
     pub program: &'a [u8],
+    /// The list section (.debug_rnglists) and the address table (.debug_addr), lowest byte first, for entries whose ranges are in lists (field 1f); empty
+    /// where there are none. Work multiplies the first: lend the unit's own part of it.
+    pub lists: &'a [u8],
+    pub addresses: &'a [u8],
 }
 
 /// What is asked.
@@ -119,7 +133,7 @@ pub struct Finished {
     pub rejected_ranges: u64,
 }
 
-/// Why a call was refused: a number from 1 to 18, 21 or 22 of an import, whose three output buffers then hold only 0; 5, 16, 19 or 20 of a look-up.
+/// Why a call was refused: a number from 1 to 18 or 21 to 25 of an import, whose three output buffers then hold only 0; 5, 16, 19 or 20 of a look-up.
 #[derive(Clone, Copy, Debug, Eq, PartialEq)]
 pub struct Refusal(u8);
 
@@ -128,6 +142,12 @@ impl Refusal {
     pub const LINE_ENCODING: Self = Self(21);
     /// An address falls within a sequence of a line program, or passes 2^64 - 1.
     pub const LINE_ADDRESS: Self = Self(22);
+    /// A range list of a named inlined entry is cut, or has an entry of an unknown kind.
+    pub const CUT_LIST: Self = Self(23);
+    /// An index in such a list is past the address table.
+    pub const NO_ADDRESS: Self = Self(24);
+    /// An address in such a list does not fit its size.
+    pub const WIDE_ADDRESS: Self = Self(25);
 
     pub fn number(self) -> u8 {
         self.0
@@ -157,6 +177,25 @@ pub const fn work_length_encoded(fields: usize, program: usize) -> usize {
     64 * fields + 64 * program + 32_768
 }
 
+/// What is to be added to either for so many bytes of the list section and so many fields 1f of the imported unit, which [`list_fields`] counts; of all
+/// units the one that needs most decides.
+pub const fn list_work_length(lists: usize, fields: usize) -> usize {
+    8 * lists * if fields < COUNTED_LISTS { fields } else { COUNTED_LISTS }
+}
+
+/// How many fields 1f of a unit count.
+const COUNTED_LISTS: usize = 256;
+
+/// How many entries of a unit of the main input have their ranges in lists.
+pub fn list_fields(main: &[u8], ordinal: u64) -> usize {
+    let (mut units, mut lists) = (0, 0);
+    for field in Fields::new(main) {
+        units += u64::from(field.tag == UNIT);
+        lists += usize::from(field.tag == RANGE_LIST && units.checked_sub(1) == Some(ordinal));
+    }
+    lists
+}
+
 /// Imports a unit. Any content and any length is taken.
 pub fn import(inputs: Inputs<'_>, options: Options, buffers: Buffers<'_>) -> Result<Finished, Refusal> {
     let mut values = [0; 7];
@@ -169,6 +208,10 @@ pub fn import(inputs: Inputs<'_>, options: Options, buffers: Buffers<'_>) -> Res
             inputs.supplementary.len(),
             inputs.program.as_ptr(),
             inputs.program.len(),
+            inputs.lists.as_ptr(),
+            inputs.lists.len(),
+            inputs.addresses.as_ptr(),
+            inputs.addresses.len(),
             options.ordinal,
             options.inlines,
             options.call_sites,
@@ -188,7 +231,8 @@ pub fn import(inputs: Inputs<'_>, options: Options, buffers: Buffers<'_>) -> Res
 }
 
 /// How long the buffers of such an import must be, and its statistics: what [`import`] gives on buffers of those lengths or more. It is refused
-/// as the import is, with a number from 1 to 15, 21 or 22. Work has the same length and holds only 0 after every call.
+/// as the import is, with a number from 1 to 15 or 21 to 25, and with 16 where the records would pass 2^64 - 1 bytes. Work has the same length and
+/// holds only 0 after every call.
 pub fn measure(inputs: Inputs<'_>, options: Options, work: &mut [u8]) -> Result<Finished, Refusal> {
     let mut values = [0; 7];
     // SAFETY: every pointer and length are those of a slice; the borrows keep the written one apart from all others.
@@ -200,6 +244,10 @@ pub fn measure(inputs: Inputs<'_>, options: Options, work: &mut [u8]) -> Result<
             inputs.supplementary.len(),
             inputs.program.as_ptr(),
             inputs.program.len(),
+            inputs.lists.as_ptr(),
+            inputs.lists.len(),
+            inputs.addresses.as_ptr(),
+            inputs.addresses.len(),
             options.ordinal,
             options.inlines,
             options.call_sites,

@@ -6,7 +6,8 @@ use crate::Refusal;
 
 mod sys {
     unsafe extern "C" {
-        pub fn pezgok_look_up(records: *const u8, records_len: usize, address: u64, found: *mut [usize; 4], chain: *mut [usize; 257]) -> u8;
+        pub fn pezgok_look_up(records: *const u8, records_len: usize, address: u64, found: *mut [usize; 4], chain: *mut [usize; 257])
+        -> u8;
         pub fn pezgok_make_index(
             records: *const u8,
             records_len: usize,
@@ -171,7 +172,15 @@ pub fn functions_crossing(records: &[u8], window: Range<u64>, list: &mut [u8]) -
     let mut length = 0;
     // SAFETY: as above.
     let refusal = unsafe {
-        sys::pezgok_functions_crossing(records.as_ptr(), records.len(), window.start, window.end, list.as_mut_ptr(), list.len(), &mut length)
+        sys::pezgok_functions_crossing(
+            records.as_ptr(),
+            records.len(),
+            window.start,
+            window.end,
+            list.as_mut_ptr(),
+            list.len(),
+            &mut length,
+        )
     };
     answered(refusal, length)
 }

@@ -40,7 +40,7 @@ pub fn read_units(input: impl Read, builder: &mut Builder, mut told: impl FnMut(
             (END, [], []) => return Ok(()),
             (COUNT, [count], []) => told(Event::Units(*count)),
             (UNIT, [unit, ordinal, fields, ranges @ ..], [name, main, supplementary, program]) => {
-                let inputs = Inputs { main, supplementary, program };
+                let inputs = Inputs { main, supplementary, program, ..Inputs::default() };
                 match builder.import(Unit { inputs, ordinal: *ordinal, fields: *fields as usize }) {
                     Ok(_) => told(Event::Imported { unit: *unit }),
                     Err(refusal) => {

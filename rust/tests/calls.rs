@@ -24,7 +24,7 @@ impl Lent {
 
     fn call(&mut self, main: &[u8], program: &[u8]) -> Result<Finished, Refusal> {
         import(
-            Inputs { main, supplementary: &[], program },
+            Inputs { main, program, ..Inputs::default() },
             Options::default(),
             Buffers { work: &mut self.work, records: &mut self.records, files: &mut self.files, warnings: &mut self.warnings },
         )
@@ -61,7 +61,7 @@ fn refusals_have_numbers_and_names() {
 #[test]
 fn the_lengths_that_are_measured_are_enough_and_no_less_is() {
     let (main, program) = (unit("unit.main"), unit("unit.line"));
-    let inputs = Inputs { main: &main, supplementary: &[], program: &program };
+    let inputs = Inputs { main: &main, program: &program, ..Inputs::default() };
     let mut work = vec![0xa5; work_length(main.len() / 3, program.len())];
     let needed = measure(inputs, Options::default(), &mut work).expect("it is measured");
     assert_eq!((needed.records, needed.files, needed.warnings), (135, 14, 0));
@@ -82,7 +82,7 @@ fn the_lengths_that_are_measured_are_enough_and_no_less_is() {
 
 #[test]
 fn a_package_without_debug_data_is_finished() {
-    let inputs = Inputs { main: &[], supplementary: &[], program: &[0] };
+    let inputs = Inputs { program: &[0], ..Inputs::default() };
     let call = |ordinal: u64, work: usize| {
         let (mut work, mut records) = (vec![0xa5; work], vec![0xa5; 8]);
         let options = Options { ordinal, ..Options::default() };

@@ -13,7 +13,7 @@ fn records() -> Vec<u8> {
     let (mut work, mut records) = (vec![0; work_length(main.len() / 3, program.len())], vec![0; 4096]);
     let (mut files, mut warnings) = (vec![0; 4096], vec![0; 4096]);
     let done = import(
-        Inputs { main: &main, supplementary: &[], program: &program },
+        Inputs { main: &main, program: &program, ..Inputs::default() },
         Options::default(),
         Buffers { work: &mut work, records: &mut records, files: &mut files, warnings: &mut warnings },
     )

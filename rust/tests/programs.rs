@@ -48,7 +48,7 @@ fn call(main: &[u8], program: &[u8], work: usize, all: bool) -> (Result<Finished
     let (mut work, mut records, mut files, mut warnings) = (vec![0xa5; work], vec![0; 4096], vec![0; 4096], vec![0; 4096]);
     let buffers = Buffers { work: &mut work, records: &mut records, files: &mut files, warnings: &mut warnings };
     let import = if all { import_dwarf } else { import };
-    let done = import(Inputs { main, supplementary: &[], program }, Options::default(), buffers);
+    let done = import(Inputs { main, program, ..Inputs::default() }, Options::default(), buffers);
     assert!(work.iter().all(|&byte| byte == 0));
     records.truncate(done.map_or(0, |done| done.records));
     (done, records)
@@ -81,7 +81,7 @@ fn refusals_have_numbers_and_names() {
     let sound = encoded(&GCC, false);
     let refused = |main: &[u8], program: &[u8]| {
         let mut work = vec![0xa5; work_length_encoded(fields(main), program.len())];
-        let inputs = Inputs { main, supplementary: &[], program };
+        let inputs = Inputs { main, program, ..Inputs::default() };
         let measured = measure(inputs, Options::default(), &mut work).expect_err("it is refused");
         assert_eq!(call(main, program, work.len(), false).0, Err(measured));
         (measured, measured.to_string())
@@ -103,7 +103,7 @@ fn refusals_have_numbers_and_names() {
 fn a_builder_takes_the_work_that_is_needed() {
     let main = encoded(&GCC, false);
     let mut builder = Builder::new();
-    builder.import(Unit::uncounted(Inputs { main: &main, supplementary: &[], program: PROGRAM }, 0)).expect("it is imported");
+    builder.import(Unit::uncounted(Inputs { main: &main, program: PROGRAM, ..Inputs::default() }, 0)).expect("it is imported");
     let table = builder.finish().expect("the table is made");
     let Answer::Frames(frames) = table.look_up(0x1005) else { panic!("no frames at 1005") };
     let lines: Vec<Option<u32>> = frames.map(|frame| frame.location.map(|place| place.line)).collect();

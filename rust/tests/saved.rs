@@ -15,7 +15,7 @@ const SYMBOL: &[u8] = b"\x50\x16\x00\x00\x20\x00\x00\x00\x00\x00\x00\x10\x00\x00
 fn table() -> Table {
     let [main, program] = unit();
     let mut builder = Builder::new();
-    let inputs = Inputs { main: &main, supplementary: &[], program: &program };
+    let inputs = Inputs { main: &main, program: &program, ..Inputs::default() };
     builder.import(Unit::uncounted(inputs, 0)).expect("it is finished");
     builder.add_symbols(SYMBOL);
     // One that runs into it, so that both trays of functions have some.

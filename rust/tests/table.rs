@@ -17,7 +17,7 @@ fn builder(times: usize) -> Builder {
     let [main, program] = unit();
     let mut builder = Builder::new();
     for _ in 0..times {
-        let inputs = Inputs { main: &main, supplementary: &[], program: &program };
+        let inputs = Inputs { main: &main, program: &program, ..Inputs::default() };
         let done = builder.import(Unit::uncounted(inputs, 0)).expect("it is finished");
         assert_eq!((done.functions, done.line_rows, done.inline_nodes), (1, 2, 1));
     }
@@ -111,11 +111,10 @@ fn addresses_of_units_that_are_left_out_say_so() {
 #[test]
 fn a_refused_unit_changes_nothing() {
     let mut builder = builder(1);
-    let refusal =
-        builder.import(Unit::uncounted(Inputs { main: &[0x10, 0, 0], supplementary: &[], program: &[] }, 0)).expect_err("it is refused");
+    let refusal = builder.import(Unit::uncounted(Inputs { main: &[0x10, 0, 0], ..Inputs::default() }, 0)).expect_err("it is refused");
     assert_eq!((refusal.number(), refusal.to_string().as_str()), (2, "misshapen"));
     let [main, program] = unit();
-    let inputs = Inputs { main: &main, supplementary: &[], program: &program };
+    let inputs = Inputs { main: &main, program: &program, ..Inputs::default() };
     assert_eq!(builder.import(Unit::uncounted(inputs, 1)).map_err(Refusal::number), Err(4));
     assert_eq!(builder.import(Unit { inputs, ordinal: 0, fields: 0 }).map_err(Refusal::number), Err(5));
     // A number of fields that is too large changes nothing.

@@ -55,7 +55,7 @@ fn called(call: Call, inputs: Inputs<'_>, options: Options, lengths: [usize; 3])
 #[test]
 fn all_units_are_imported() {
     let (main, program) = both(3);
-    let inputs = Inputs { main: &main, supplementary: &[], program: &program };
+    let inputs = Inputs { main: &main, program: &program, ..Inputs::default() };
     // The ordinal names no unit, and is not read.
     let options = Options { ordinal: 7, ..Options::default() };
     let mut work = vec![0xa5; work_length(main.len() / 3, program.len())];
@@ -87,7 +87,7 @@ fn what_refuses_one_unit_refuses_all() {
     // The second unit's part passes the program, or is cut within an instruction.
     for (second, refusal, name) in [(4, 2, "misshapen"), (1, 7, "cut")] {
         let (main, program) = both(second);
-        let inputs = Inputs { main: &main, supplementary: &[], program: &program };
+        let inputs = Inputs { main: &main, program: &program, ..Inputs::default() };
         let (done, buffers) = called(import_dwarf, inputs, Options::default(), [4096; 3]);
         let refused = done.expect_err("it is refused");
         assert_eq!((refused.number(), refused.to_string().as_str()), (refusal, name));
@@ -97,13 +97,13 @@ fn what_refuses_one_unit_refuses_all() {
     }
     // The first unit alone is sound where the second is cut.
     let (main, program) = both(1);
-    let inputs = Inputs { main: &main, supplementary: &[], program: &program };
+    let inputs = Inputs { main: &main, program: &program, ..Inputs::default() };
     assert!(called(import, inputs, Options::default(), [4096; 3]).0.is_ok());
 }
 
 #[test]
 fn an_input_without_units_is_finished() {
-    let inputs = Inputs { main: &[], supplementary: &[], program: &[0] };
+    let inputs = Inputs { program: &[0], ..Inputs::default() };
     let options = Options { ordinal: 1, ..Options::default() };
     let (done, _) = called(import_dwarf, inputs, options, [0; 3]);
     assert_eq!(done, Ok(Finished::default()));

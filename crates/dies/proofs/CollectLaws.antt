@@ -21,6 +21,7 @@ use Rattle.dies.specs.declared.dies.Walk.{Walk}
 use Rattle.imports.specs.Tree.{Descendants, DetailContext, finish, makeInlineNode, collectEntry}
 use Rattle.dies.specs.Details.{DetailsIn, contextIn}
 use Rattle.dies.specs.DetailState.{rangesLater, entriesLeft, walkOf, Fits, walked, Advances, Quiet, Shut, collectSite, stepEntry}
+use Rattle.dies.proofs.PastLaws.{past-same}
 use Rattle.dies.proofs.CallLaws.{entry-depth-here, entry-tag-here, warn-none}
 use Rattle.dies.proofs.WalkStateLaws.{details-kept, context-kept}
 use Rattle.dies.proofs.SiteStepLaws.{details-accepted, later-fits}
@@ -67,72 +68,75 @@ module _ {main supplementary w : List ℕ} {d : Details} {p : ℕ} {s : Walk} (n
   pub shut-details : length w₁ ≡ length w → DetailsIn main supplementary w₁ d
   shut-details z = details-kept D (S .kept) (omega arith) z
 
-  same-context : contextIn main supplementary w₁ d ≡ contextIn main supplementary w d
-  same-context = context-kept D (S .kept) (omega arith)
+  module _ (lists addresses : List ℕ) where
+    same-context : contextIn main supplementary lists addresses w₁ d ≡ contextIn main supplementary lists addresses w d
+    same-context = context-kept D (S .kept) (omega arith)
 
-  shut-walk : (ns : List InlineNode) (ws : List Warning) → finish (entryHere main p .depth) (walkOf main supplementary d w s ns ws) ≡ walkOf main supplementary d w₁ s₁ ns ws
-  shut-walk ns ws = ap (λ (n : ℕ). finish n (walkOf main supplementary d w s ns ws)) depth-is ∙ sym (S .walk ns ws)
+    shut-walk : (ns : List InlineNode) (ws : List Warning) → finish (entryHere main p .depth) (walkOf main supplementary d w s ns ws) ≡ walkOf main supplementary d w₁ s₁ ns ws
+    shut-walk ns ws = ap (λ (n : ℕ). finish n (walkOf main supplementary d w s ns ws)) depth-is ∙ sym (S .walk ns ws)
 
-  pub one-inline : {w₂ t₂ u₂ : List ℕ} {s₂ : Walk} → d .«include_inlines» ≡ true → tag ≡ 0x1d
-      → Advances (makeInlineNode (contextIn main supplementary w₁ d) (entryHere main p)) main supplementary name d (rangesLater main (p + 15)) (entriesLeft main (p + 15)) w₁ t u s₁ w₂ t₂ u₂ s₂
-      → Advances (stepEntry (contextIn main supplementary w d) (entryHere main p)) main supplementary name d (rangesLater main (p + 15)) (entriesLeft main (p + 15)) w t u s w₂ t₂ u₂ s₂
-  one-inline {w₂} {t₂} {u₂} {s₂} on is A = record {
-    nodes = A .nodes;
-    warnings = A .warnings;
-    laid = λ z. let P = A .laid z in rw (S .place, S .nodes) at P;
-    warned = λ z. let P = A .warned z in rw (S .warned) at P;
-    count = λ z. omega (arith, A .count z, S .nodes);
-    kept = kept-trans (S .kept) (A .kept);
-    fits = A .fits;
-    ok = λ z ns ws. steps ns ws ∙ A .ok z ns ws;
-    no = λ z ns ws. steps ns ws ∙ A .no z ns ws;
-  }
-    where
-      steps : (ns : List InlineNode) (ws : List Warning) → stepEntry (contextIn main supplementary w d) (entryHere main p) (walkOf main supplementary d w s ns ws)
-          ≡ makeInlineNode (contextIn main supplementary w₁ d) (entryHere main p) (walkOf main supplementary d w₁ s₁ ns ws)
-      steps ns ws = step-inline (contextIn main supplementary w d) (entryHere main p) (walkOf main supplementary d w s ns ws) on (tag-is ∙ is) ∙ (λ i. makeInlineNode (sym same-context i) (entryHere main p) (shut-walk ns ws i))
-
-  module _ (small : length t < top) (tiny : length u < top) where
-    quiet-advances : {w₂ : List ℕ} {s₂ : Walk} → s₂ .at ≡ s₁ .at → s₂ .warned ≡ s₁ .warned → s₂ .nodes ≡ s₁ .nodes → Kept w₁ w₂ (d .ranges) (walked main supplementary d)
-        → (s₂ .status ≡ 0 → Fits main supplementary w₂ d (rangesLater main (p + 15)) (entriesLeft main (p + 15)) s₂)
-        → (s₂ .status ≡ 0 → (ns : List InlineNode) (ws : List Warning) → stepEntry (contextIn main supplementary w d) (entryHere main p) (walkOf main supplementary d w s ns ws) ≡ done (walkOf main supplementary d w₂ s₂ ns ws))
-        → ((s₂ .status ≡ 0 → ⊥) → (ns : List InlineNode) (ws : List Warning) → stepEntry (contextIn main supplementary w d) (entryHere main p) (walkOf main supplementary d w s ns ws) ≡ refused (s₂ .status))
-        → Advances (stepEntry (contextIn main supplementary w d) (entryHere main p)) main supplementary name d (rangesLater main (p + 15)) (entriesLeft main (p + 15)) w t u s w₂ t u s₂
-    quiet-advances {w₂} {s₂} ep ew en kept fits ok refuses = record {
-      nodes = [];
-      warnings = [];
-      laid = λ z. rw (ep, S .place) (put-none (F .place) small);
-      warned = λ z. rw (ew, S .warned) (warn-none (F .warned) tiny);
-      count = λ z. omega (arith, en, S .nodes);
-      kept = kept-trans (S .kept) kept;
-      fits = fits;
-      ok = λ z ns ws. ok z ns ws ∙ ap done (λ i. walkOf main supplementary d w₂ s₂ (sym (append-nil ns) i) (sym (append-nil ws) i));
-      no = refuses;
+    pub one-inline : {w₂ t₂ u₂ : List ℕ} {s₂ : Walk} → d .«include_inlines» ≡ true → tag ≡ 0x1d
+        → Advances (makeInlineNode (contextIn main supplementary lists addresses w₁ d) (entryHere main p)) main supplementary name d (rangesLater main (p + 15)) (entriesLeft main (p + 15)) w₁ t u s₁ w₂ t₂ u₂ s₂
+        → Advances (stepEntry (contextIn main supplementary lists addresses w d) (entryHere main p)) main supplementary name d (rangesLater main (p + 15)) (entriesLeft main (p + 15)) w t u s w₂ t₂ u₂ s₂
+    one-inline {w₂} {t₂} {u₂} {s₂} on is A = record {
+      nodes = A .nodes;
+      warnings = A .warnings;
+      laid = λ z. let P = A .laid z in rw (S .place, S .nodes) at P;
+      warned = λ z. let P = A .warned z in rw (S .warned) at P;
+      past = λ z. let P = A .past z in rw (S .past, S .place, S .nodes) at P;
+      count = λ z. omega (arith, A .count z, S .nodes);
+      kept = kept-trans (S .kept) (A .kept);
+      fits = A .fits;
+      ok = λ z ns ws. steps ns ws ∙ A .ok z ns ws;
+      no = λ z ns ws. steps ns ws ∙ A .no z ns ws;
     }
-
-    pub one-site : {w₂ : List ℕ} {s₂ : Walk} → d .«include_call_sites» ≡ true → tag ≡ 0x48
-        → Quiet (collectSite (contextIn main supplementary w₁ d) (entryHere main p)) main supplementary d (rangesLater main (p + 15)) (entriesLeft main (p + 15)) w₁ s₁ w₂ s₂
-        → Advances (stepEntry (contextIn main supplementary w d) (entryHere main p)) main supplementary name d (rangesLater main (p + 15)) (entriesLeft main (p + 15)) w t u s w₂ t u s₂
-    one-site on is Q = quiet-advances (Q .place) (Q .warned) (Q .nodes) (Q .kept) (Q .fits) (λ z ns ws. steps ns ws ∙ Q .ok z ns ws) (λ z ns ws. steps ns ws ∙ Q .no z ns ws)
       where
-        steps : (ns : List InlineNode) (ws : List Warning) → stepEntry (contextIn main supplementary w d) (entryHere main p) (walkOf main supplementary d w s ns ws)
-            ≡ collectSite (contextIn main supplementary w₁ d) (entryHere main p) (walkOf main supplementary d w₁ s₁ ns ws)
-        steps ns ws = step-site (contextIn main supplementary w d) (entryHere main p) (walkOf main supplementary d w s ns ws) on (tag-is ∙ is) ∙ (λ i. collectSite (sym same-context i) (entryHere main p) (shut-walk ns ws i))
+        steps : (ns : List InlineNode) (ws : List Warning) → stepEntry (contextIn main supplementary lists addresses w d) (entryHere main p) (walkOf main supplementary d w s ns ws)
+            ≡ makeInlineNode (contextIn main supplementary lists addresses w₁ d) (entryHere main p) (walkOf main supplementary d w₁ s₁ ns ws)
+        steps ns ws = step-inline (contextIn main supplementary lists addresses w d) (entryHere main p) (walkOf main supplementary d w s ns ws) on (tag-is ∙ is) ∙ (λ i. makeInlineNode (sym same-context i) (entryHere main p) (shut-walk ns ws i))
 
-    -- neither
-    neither : s .status ≡ 0 → ((x : Descendants) → stepEntry (contextIn main supplementary w d) (entryHere main p) x ≡ done (finish (entryHere main p .depth) x))
-        → Advances (stepEntry (contextIn main supplementary w d) (entryHere main p)) main supplementary name d (rangesLater main (p + 15)) (entriesLeft main (p + 15)) w t u s w₁ t u s₁
-    neither st steps = quiet-advances refl refl refl (kept-refl w₁ (d .ranges) (walked main supplementary d)) (λ z. S .fits (rangesLater main (p + 15)) (entriesLeft main (p + 15)) (later-fits D K F))
-        (λ z ns ws. steps (walkOf main supplementary d w s ns ws) ∙ ap done (shut-walk ns ws)) (λ z. absurd (z (S .status ∙ st)))
+    module _ (small : length t < top) (tiny : length u < top) where
+      quiet-advances : {w₂ : List ℕ} {s₂ : Walk} → s₂ .at ≡ s₁ .at → s₂ .warned ≡ s₁ .warned → s₂ .nodes ≡ s₁ .nodes → s₂ .past ≡ s₁ .past → Kept w₁ w₂ (d .ranges) (walked main supplementary d)
+          → (s₂ .status ≡ 0 → Fits main supplementary w₂ d (rangesLater main (p + 15)) (entriesLeft main (p + 15)) s₂)
+          → (s₂ .status ≡ 0 → (ns : List InlineNode) (ws : List Warning) → stepEntry (contextIn main supplementary lists addresses w d) (entryHere main p) (walkOf main supplementary d w s ns ws) ≡ done (walkOf main supplementary d w₂ s₂ ns ws))
+          → ((s₂ .status ≡ 0 → ⊥) → (ns : List InlineNode) (ws : List Warning) → stepEntry (contextIn main supplementary lists addresses w d) (entryHere main p) (walkOf main supplementary d w s ns ws) ≡ refused (s₂ .status))
+          → Advances (stepEntry (contextIn main supplementary lists addresses w d) (entryHere main p)) main supplementary name d (rangesLater main (p + 15)) (entriesLeft main (p + 15)) w t u s w₂ t u s₂
+      quiet-advances {w₂} {s₂} ep ew en eb kept fits ok refuses = record {
+        nodes = [];
+        warnings = [];
+        laid = λ z. rw (ep, S .place) (put-none (F .place) small);
+        warned = λ z. rw (ew, S .warned) (warn-none (F .warned) tiny);
+        past = λ z. rw (eb, S .past) (past-same (s .past) (s .at) (F .place));
+        count = λ z. omega (arith, en, S .nodes);
+        kept = kept-trans (S .kept) kept;
+        fits = fits;
+        ok = λ z ns ws. ok z ns ws ∙ ap done (λ i. walkOf main supplementary d w₂ s₂ (sym (append-nil ns) i) (sym (append-nil ws) i));
+        no = refuses;
+      }
 
-    pub one-site-off : s .status ≡ 0 → d .«include_call_sites» ≡ false → tag ≡ 0x48
-        → Advances (stepEntry (contextIn main supplementary w d) (entryHere main p)) main supplementary name d (rangesLater main (p + 15)) (entriesLeft main (p + 15)) w t u s w₁ t u s₁
-    one-site-off st off is = neither st (λ x. step-site-off (contextIn main supplementary w d) (entryHere main p) x off (tag-is ∙ is))
+      pub one-site : {w₂ : List ℕ} {s₂ : Walk} → d .«include_call_sites» ≡ true → tag ≡ 0x48
+          → Quiet (collectSite (contextIn main supplementary lists addresses w₁ d) (entryHere main p)) main supplementary d (rangesLater main (p + 15)) (entriesLeft main (p + 15)) w₁ s₁ w₂ s₂
+          → Advances (stepEntry (contextIn main supplementary lists addresses w d) (entryHere main p)) main supplementary name d (rangesLater main (p + 15)) (entriesLeft main (p + 15)) w t u s w₂ t u s₂
+      one-site on is Q = quiet-advances (Q .place) (Q .warned) (Q .nodes) (Q .past) (Q .kept) (Q .fits) (λ z ns ws. steps ns ws ∙ Q .ok z ns ws) (λ z ns ws. steps ns ws ∙ Q .no z ns ws)
+        where
+          steps : (ns : List InlineNode) (ws : List Warning) → stepEntry (contextIn main supplementary lists addresses w d) (entryHere main p) (walkOf main supplementary d w s ns ws)
+              ≡ collectSite (contextIn main supplementary lists addresses w₁ d) (entryHere main p) (walkOf main supplementary d w₁ s₁ ns ws)
+          steps ns ws = step-site (contextIn main supplementary lists addresses w d) (entryHere main p) (walkOf main supplementary d w s ns ws) on (tag-is ∙ is) ∙ (λ i. collectSite (sym same-context i) (entryHere main p) (shut-walk ns ws i))
 
-    pub one-inline-off : s .status ≡ 0 → d .«include_inlines» ≡ false → tag ≡ 0x1d
-        → Advances (stepEntry (contextIn main supplementary w d) (entryHere main p)) main supplementary name d (rangesLater main (p + 15)) (entriesLeft main (p + 15)) w t u s w₁ t u s₁
-    one-inline-off st off is = neither st (λ x. step-inline-off (contextIn main supplementary w d) (entryHere main p) x off (tag-is ∙ is))
+      -- neither
+      neither : s .status ≡ 0 → ((x : Descendants) → stepEntry (contextIn main supplementary lists addresses w d) (entryHere main p) x ≡ done (finish (entryHere main p .depth) x))
+          → Advances (stepEntry (contextIn main supplementary lists addresses w d) (entryHere main p)) main supplementary name d (rangesLater main (p + 15)) (entriesLeft main (p + 15)) w t u s w₁ t u s₁
+      neither st steps = quiet-advances refl refl refl refl (kept-refl w₁ (d .ranges) (walked main supplementary d)) (λ z. S .fits (rangesLater main (p + 15)) (entriesLeft main (p + 15)) (later-fits D K F))
+          (λ z ns ws. steps (walkOf main supplementary d w s ns ws) ∙ ap done (shut-walk ns ws)) (λ z. absurd (z (S .status ∙ st)))
 
-    pub one-other : s .status ≡ 0 → (tag ≡ 0x48 → ⊥) → (tag ≡ 0x1d → ⊥)
-        → Advances (stepEntry (contextIn main supplementary w d) (entryHere main p)) main supplementary name d (rangesLater main (p + 15)) (entriesLeft main (p + 15)) w t u s w₁ t u s₁
-    one-other st h k = neither st (λ x. step-other (contextIn main supplementary w d) (entryHere main p) x (λ z. h (sym tag-is ∙ z)) (λ z. k (sym tag-is ∙ z)))
+      pub one-site-off : s .status ≡ 0 → d .«include_call_sites» ≡ false → tag ≡ 0x48
+          → Advances (stepEntry (contextIn main supplementary lists addresses w d) (entryHere main p)) main supplementary name d (rangesLater main (p + 15)) (entriesLeft main (p + 15)) w t u s w₁ t u s₁
+      one-site-off st off is = neither st (λ x. step-site-off (contextIn main supplementary lists addresses w d) (entryHere main p) x off (tag-is ∙ is))
+
+      pub one-inline-off : s .status ≡ 0 → d .«include_inlines» ≡ false → tag ≡ 0x1d
+          → Advances (stepEntry (contextIn main supplementary lists addresses w d) (entryHere main p)) main supplementary name d (rangesLater main (p + 15)) (entriesLeft main (p + 15)) w t u s w₁ t u s₁
+      one-inline-off st off is = neither st (λ x. step-inline-off (contextIn main supplementary lists addresses w d) (entryHere main p) x off (tag-is ∙ is))
+
+      pub one-other : s .status ≡ 0 → (tag ≡ 0x48 → ⊥) → (tag ≡ 0x1d → ⊥)
+          → Advances (stepEntry (contextIn main supplementary lists addresses w d) (entryHere main p)) main supplementary name d (rangesLater main (p + 15)) (entriesLeft main (p + 15)) w t u s w₁ t u s₁
+      one-other st h k = neither st (λ x. step-other (contextIn main supplementary lists addresses w d) (entryHere main p) x (λ z. h (sym tag-is ∙ z)) (λ z. k (sym tag-is ∙ z)))

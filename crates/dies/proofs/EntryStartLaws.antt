@@ -16,6 +16,7 @@ use Rattle.tlv.specs.Checked.{fieldIn}
 use Rattle.tlv.specs.Places.{unitHere, behind, unitPlaces, IndexedEntry, entryIndex}
 use Rattle.tlv.proofs.ListLaws.{all-map}
 use Rattle.tlv.proofs.CursorLaws.{fields-field, field-within, payload-length, row-ind}
+use Rattle.tlv.proofs.ListCountLaws.{unit-lists}
 use Rattle.tlv.proofs.IndexLaws.{index-unit, index-entry, index-other}
 use Rattle.tlv.proofs.IndexModel.{either, here-unit, places-unit, places-other}
 use Rattle.dies.specs.Details.{EntriesKnown}
@@ -84,4 +85,4 @@ module _ (s : List ℕ) (q start len next : ℕ) (is : stepAt s q ≡ Step.Field
   pub known-start : Any (λ x. x ≡ q) (unitPlaces 0 (fields s)) → EntriesKnown s q next
   known-start any =
       let f = follows 0 any 0 0 in
-      record { listed = f .0; ranges = f .1 0x19; entries = f .1 0x17 }
+      record { listed = f .0; ranges = f .1 0x19; entries = f .1 0x17; lists = omega (arith, unit-lists s q _ refl 0x10 start len next is) }

@@ -6,7 +6,7 @@ use Prim.Native.Nat.{ℕ, _+_, _≤_, _<_}
 use native.Mathlib.Omega.{arith}
 use lib.Dec.{eqb}
 use lib.ListN.{length, drop}
-use borrow.Author.Tests.{eq-eqb, ne-eqb, lt-ltb, le-ltb}
+use borrow.Author.Tests.{eqb-true, eqb-false, eq-eqb, ne-eqb, lt-ltb, le-ltb}
 use Rattle.tlv.specs.declared.fields.Step.{Step}
 use Rattle.tlv.specs.Lists.{Any, All, takeWhile, dropWhile}
 use Rattle.tlv.specs.Fields.{Field, more, fields, wholeFields, grouped, payloads}
@@ -14,10 +14,11 @@ use Rattle.tlv.specs.Model.{Entry}
 use Rattle.tlv.specs.Cursor.{stepAt}
 use Rattle.tlv.specs.Bytes.{leAt}
 use Rattle.tlv.specs.Checked.{fieldIn, Placed}
-use Rattle.tlv.specs.Places.{ownFields, unitFields, entryHere, unitHere, behind, entryIndex}
+use Rattle.tlv.specs.Places.{ownFields, unitFields, entryHere, unitHere, behind, entryIndex, listsFrom}
 use Rattle.tlv.proofs.CursorLaws.{fields-at, fields-field, field-within, payload-length}
 use Rattle.tlv.proofs.PlacePromises.{placed-entry}
 use Rattle.tlv.proofs.EntryPlaceLaws.{entry-depth-is}
+use Rattle.tlv.proofs.ListCountLaws.{lists-one, lists-other}
 use Rattle.tlv.proofs.IndexLaws.{index-entry, index-other}
 use Rattle.tlv.proofs.IndexModel.{either}
 use Rattle.references.specs.Tables.{EntryKnown}
@@ -48,10 +49,22 @@ split own t (x ∷ xs) =
     (λ y. either (eqb (x .tag) t) (λ z. rw (y, z) (omega arith)) (λ z. rw (y, z) (omega arith)))
     (λ n. rw n (omega arith))
 
--- no more ranges come later than come at all
-pub later-most : (s : List ℕ) (p : ℕ) → rangesLater s p ≤ length (payloads 0x19 (wholeFields (fields (drop p s))))
+-- an entry's own fields are its unit's too
+own-both : (fs : List Field) → takeWhile isOwn (takeWhile (λ f. not (eqb (f .tag) 0x10)) fs) ≡ takeWhile isOwn fs
+unfolding takeWhile
+own-both [] = refl
+own-both (f ∷ fs) =
+    either (eqb (f .tag) 0x10) (λ a. either (eqb (f .tag) 0x17) (λ b. rw (a, b)) (λ b. rw (a, b)))
+    (λ a. either (eqb (f .tag) 0x17) (λ b. rw (a, b)) (λ b. rw (a, b, a, own-both fs)))
+
+-- no more ranges come later than come at all, and no more lists than the unit has from there on
+pub later-most : (s : List ℕ) (p : ℕ) → rangesLater s p .ranges ≤ length (payloads 0x19 (wholeFields (fields (drop p s))))
 unfolding rangesLater
 later-most s p = omega (arith, split isOwn 0x19 (wholeFields (fields (drop p s))))
+
+pub lists-most : (s : List ℕ) (p : ℕ) → rangesLater s p .lists ≤ listsFrom s p
+unfolding rangesLater listsFrom
+lists-most s p = omega (arith, split isOwn 0x1f (unitFields (fields (drop p s))))
 
 pub left-all : (s : List ℕ) (p : ℕ) → entriesLeft s p ≡ length (payloads 0x17 (wholeFields (fields (drop p s))))
 unfolding entriesLeft
@@ -132,13 +145,24 @@ module _ (s : List ℕ) (p : ℕ) (r : Step) (reads : r ≡ stepAt s p) where
     unfolding entriesLeft payloads
     left-other h = rw (whole, ne-eqb t 0x17 h)
 
-    pub later-entry : t ≡ 0x17 → rangesLater s p ≡ length (table.rangeFields s next) + rangesLater s next
+    pub later-entry : t ≡ 0x17 → rangesLater s p .ranges ≡ length (table.rangeFields s next) + rangesLater s next .ranges
     unfolding rangesLater ownFields dropWhile payloads
     later-entry is = rw (whole, eq-eqb t 0x17 is, ne-eqb t 0x19 (λ no. omega arith)) (split isOwn 0x19 (wholeFields (fields (drop next s))))
 
-    pub later-other : (t ≡ 0x10 → ⊥) → (t ≡ 0x17 → ⊥) → rangesLater s p ≡ rangesLater s next
+    pub lists-entry : t ≡ 0x17 → rangesLater s p .lists ≡ table.ownLists s next + rangesLater s next .lists
+    unfolding rangesLater unitFields ownFields takeWhile dropWhile payloads
+    lists-entry is =
+        let own : List Field = takeWhile (λ f. not (eqb (f .tag) 0x10)) (wholeFields (fields (drop next s))) in
+        rw (whole, ne-eqb t 0x10 (λ no. omega arith), eq-eqb t 0x17 is, ne-eqb t 0x1f (λ no. omega arith))
+        (split isOwn 0x1f own ∙ ap (λ (l : List Field). length (payloads 0x1f l) + length (payloads 0x1f (dropWhile isOwn own))) (own-both (wholeFields (fields (drop next s)))))
+
+    pub later-other : (t ≡ 0x10 → ⊥) → (t ≡ 0x17 → ⊥) → rangesLater s p .ranges ≡ rangesLater s next .ranges
     unfolding rangesLater dropWhile
     later-other h k = rw (whole, ne-eqb t 0x17 k, ne-eqb t 0x10 h)
+
+    pub lists-later-other : (t ≡ 0x10 → ⊥) → (t ≡ 0x17 → ⊥) → rangesLater s p .lists ≡ rangesLater s next .lists
+    unfolding rangesLater unitFields takeWhile dropWhile
+    lists-later-other h k = rw (whole, ne-eqb t 0x10 h, ne-eqb t 0x17 k, ne-eqb t 0x10 h)
 
     -- ---- the index
 
@@ -148,6 +172,13 @@ module _ (s : List ℕ) (p : ℕ) (r : Step) (reads : r ≡ stepAt s p) where
     fewer : (m : ℕ) → length (payloads m (wholeFields (fields (drop next s)))) ≤ length (payloads m (wholeFields (fields (drop p s))))
     unfolding payloads
     fewer m = rw whole (either (eqb t m) (λ y. rw y (omega arith)) (λ n. rw n (omega arith)))
+
+    -- no more lists follow
+    fewer-lists : (t ≡ 0x10 → ⊥) → listsFrom s next ≤ listsFrom s p
+    fewer-lists h =
+        either (eqb t 0x1f)
+        (λ y. omega (arith, lists-one s p r reads t start len next e h (eqb-true t 0x1f y)))
+        (λ n. omega (arith, lists-other s p r reads t start len next e h (eqb-false t 0x1f n)))
 
     module _ {q : ℕ} (K : EntriesKnown s q p) where
       index-here : t ≡ 0x17 → EntryKnown s q p × All (λ x. Any (λ y. y ≡ x) (entryIndex 0 0 0 (fields s))) (entryIndex next q (unitHere s q .offset) (fields (drop next s)))
@@ -159,11 +190,17 @@ module _ (s : List ℕ) (p : ℕ) (r : Step) (reads : r ≡ stepAt s p) where
       known-here is = index-here is .0
 
       pub known-entry : t ≡ 0x17 → EntriesKnown s q next
-      known-entry is = record { listed = index-here is .1; ranges = omega (arith, K .ranges, fewer 0x19); entries = omega (arith, K .entries, fewer 0x17) }
+      known-entry is = record {
+        listed = index-here is .1;
+        ranges = omega (arith, K .ranges, fewer 0x19);
+        entries = omega (arith, K .entries, fewer 0x17);
+        lists = omega (arith, K .lists, fewer-lists (λ no. omega arith));
+      }
 
       pub known-other : (t ≡ 0x10 → ⊥) → (t ≡ 0x17 → ⊥) → EntriesKnown s q next
       known-other h k = record {
         listed = rw (here, index-other p q (unitHere s q .offset) (fieldIn s t start len) (fields (drop next s)) next to h k) at (K .listed);
         ranges = omega (arith, K .ranges, fewer 0x19);
         entries = omega (arith, K .entries, fewer 0x17);
+        lists = omega (arith, K .lists, fewer-lists h);
       }

@@ -3,6 +3,7 @@ use mathlib.Core.Path.{_≡_, refl, sym, ap, _∙_}
 use mathlib.Core.Logic.{inl}
 use mathlib.Core.List.{List, [], _∷_}
 use Prim.Native.Nat.{ℕ, zero, suc, _+_, _-_, _*_, _≤_, _<_}
+use native.Mathlib.Nat.{mul-comm, mul-add}
 use native.Mathlib.Numerals.{add-one}
 use native.Mathlib.Omega.{arith}
 use lib.ListN.{length, set, length-set}
@@ -16,7 +17,7 @@ use Rattle.dies.specs.declared.frames.Frame.{Frame}
 use Rattle.dies.specs.declared.frames.Open.{Open}
 use Rattle.imports.specs.Tree.{InlineFrame, finishInlines, parentRanges}
 use Rattle.dies.specs.RangeTable.{rangesAt}
-use Rattle.dies.specs.FrameStack.{slot, openOf, Stacked, openIn, Ready, Empty, Popped, grown}
+use Rattle.dies.specs.FrameStack.{slot, openOf, Stacked, Lean, openIn, Ready, Empty, Popped, grown}
 use Rattle.dies.proofs.RangeTableLaws.{ranges-but}
 
 -- ---- the stack of ranges
@@ -114,14 +115,52 @@ none-used : (fs : List Frame) (used : ℕ) → Stacked fs 0 used → used ≡ 1
 unfolding Stacked
 none-used fs used h = h
 
+-- ---- the room of the stack
+
+pub lean-used : (c t : ℕ) (fs : List Frame) (n used : ℕ) → Lean c t fs n used → used ≤ c + t * n
+unfolding Lean
+lean-used c t fs zero used h = omega (arith, mul-comm t 0)
+lean-used c t fs (suc n) used h = h .0
+
+-- with no frame the stack has the function's range
+pub lean-start : (t : ℕ) {st : Open} → Empty st → Lean 1 t (st .frames) (st .n) (st .used)
+unfolding Lean
+lean-start t E = rw (E .none, E .used) (omega arith)
+
+-- the fields 19 of an entry that is passed make room
+pub lean-more : (c c′ t : ℕ) (fs : List Frame) (n used : ℕ) → c ≤ c′ → Lean c t fs n used → Lean c′ t fs n used
+unfolding Lean
+lean-more c c′ t fs zero used l h = omega arith
+lean-more c c′ t fs (suc n) used l h = (omega (arith, h .0), lean-more c c′ t fs n (slot fs n .ranges) l (h .1))
+
+lean-top : (c t : ℕ) (fs : List Frame) (n used : ℕ) → 0 < n → Lean c t fs n used → Lean c t fs (n - 1) (slot fs (n - 1) .ranges)
+unfolding Lean
+lean-top c t fs zero used h k = absurd (omega arith)
+lean-top c t fs (suc n) used h k = let e : suc n - 1 ≡ n = omega arith in rw e (k .1)
+
+lean-set : (c t : ℕ) (fs : List Frame) (m : ℕ) (x : Frame) (n used : ℕ) → n ≤ m → Lean c t fs n used → Lean c t (set fs m x) n used
+unfolding Lean
+lean-set c t fs m x zero used h k = k
+lean-set c t fs m x (suc n) used h k =
+    let other : slot (set fs m x) n ≡ slot fs n = getD-set-other fs m n x (record { depth = 0; ranges = 0 }) (λ e. omega arith) in
+    rw other (k .0, lean-set c t fs m x n (slot fs n .ranges) (omega arith) (k .1))
+
+-- one frame more with k ranges: of the entry's own fields 19, a of them at the most, or of a list
+lean-push : (c t : ℕ) (fs : List Frame) (n used a k : ℕ) (x : Frame) → slot fs n ≡ x → x .ranges ≡ used → k ≤ a + t → Lean c t fs n used → Lean (c + a) t fs (suc n) (used + k)
+unfolding Lean
+lean-push c t fs n used a k x at e few h =
+    let m : t * suc n ≡ t * n + t * 1 = ap (λ (y : ℕ). t * y) (sym (add-one n)) ∙ mul-add t n 1 in
+    rw (at, e) (omega (arith, lean-used c t fs n used h), lean-more c (c + a) t fs n used (omega arith) h)
+
 pub record Popping (fs : List Frame) (n₀ used₀ d n used : ℕ) : Type 0 where
   pub few : n ≤ n₀
+  pub lean : (c t : ℕ) → Lean c t fs n₀ used₀ → Lean c t fs n used
   pub stacked : Stacked fs n used
   pub less : used ≤ used₀
   pub left : (w : List ℕ) (base : ℕ) → finishInlines d (openOf fs n used w base) ≡ finishInlines d (openOf fs n₀ used₀ w base)
 
 pub popping-start : (st : Open) (d : ℕ) → Ready st → Popping (st .frames) (st .n) (st .used) d (st .n) (st .used)
-popping-start st d R = record { few = omega arith; stacked = R .stacked; less = omega arith; left = λ w base. refl }
+popping-start st d R = record { few = omega arith; lean = λ c t h. h; stacked = R .stacked; less = omega arith; left = λ w base. refl }
 
 module _ {fs : List Frame} {n₀ used₀ d n used : ℕ} (P : Popping fs n₀ used₀ d n used) where
   pub popping-next : 0 < n → d ≤ slot fs (n - 1) .depth → Popping fs n₀ used₀ d (n - 1) (slot fs (n - 1) .ranges)
@@ -129,6 +168,7 @@ module _ {fs : List Frame} {n₀ used₀ d n used : ℕ} (P : Popping fs n₀ us
       let s = stacked-top fs n used h (P .stacked) in
       record {
         few = omega (arith, P .few);
+        lean = λ c t k. lean-top c t fs n used h (P .lean c t k);
         stacked = s .1;
         less = omega (arith, s .0, P .less);
         left = λ w base. sym (pop-off d _ _ l) ∙ ap (finishInlines d) (sym (open-top fs n used w base h)) ∙ P .left w base;
@@ -142,6 +182,7 @@ module _ (st : Open) (d n used : ℕ) (R : Ready st) (P : Popping (st .frames) (
     frames = λ w base. open-top (st .frames) n used w base h ∙ sym (pop-stop d _ _ l) ∙ ap (finishInlines d) (sym (open-top (st .frames) n used w base h)) ∙ P .left w base;
     fewer = P .few;
     used = P .less;
+    lean = P .lean;
   }
 
   pub popping-end : n ≤ 0 → Popped st (record { frames = st .frames; n = n; used = used }) d
@@ -151,6 +192,7 @@ module _ (st : Open) (d n used : ℕ) (R : Ready st) (P : Popping (st .frames) (
     frames = λ w base. pop-none d _ (none-open (st .frames) n used w base (omega arith)) ∙ P .left w base;
     fewer = P .few;
     used = P .less;
+    lean = P .lean;
   }
 
 -- ---- the innermost node's ranges
@@ -194,6 +236,7 @@ pub record Pushed (st st′ : Open) (d k : ℕ) : Type 0 where
   pub frames : (w : List ℕ) (base : ℕ) → openIn w base st′ ≡ record { dieDepth = d; ranges = rangesAt w (base + st .used * 16) k } ∷ openIn w base st
   pub count : st′ .n ≡ st .n + 1
   pub used : st′ .used ≡ st .used + k
+  pub lean : (c t a : ℕ) → k ≤ a + t → Lean c t (st .frames) (st .n) (st .used) → Lean (c + a) t (st′ .frames) (st′ .n) (st′ .used)
 
 -- one frame more, x, whose place is `used`
 stacked-push : (fs : List Frame) (n used k : ℕ) (x : Frame) → slot fs n ≡ x → Stacked fs n used → x .ranges ≡ used → Stacked fs (suc n) (used + k)
@@ -220,4 +263,5 @@ pushed-is st d k R h =
           ∙ ap (λ (l : List InlineFrame). record { dieDepth = d; ranges = rangesAt w (base + st .used * 16) k } ∷ l) (open-set (st .frames) (st .n) x (st .n) (st .used) w base (omega arith)));
       count = refl;
       used = refl;
+      lean = λ c t a few l. rw (add-one (st .n)) (lean-push c t (set (st .frames) (st .n) x) (st .n) (st .used) a k x at refl few (lean-set c t (st .frames) (st .n) x (st .n) (st .used) (omega arith) l));
     }

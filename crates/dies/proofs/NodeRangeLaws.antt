@@ -1,48 +1,40 @@
--- An entry's ranges held against those of the innermost open node: what reading the innermost frame, `coalesce_ranges` and pushing a frame say together. Assumes nothing.
-use mathlib.Core.Path.{_≡_, sym, ap, _∙_}
+-- An entry's ranges held against those of the innermost open node: what reading the innermost frame and merging say together, and what the entry at a place
+-- gives. Assumes nothing.
+use mathlib.Core.Path.{_≡_, refl, sym, ap, _∙_}
 use mathlib.Core.List.{List, [], _∷_, map}
-use Prim.Native.Nat.{ℕ, _+_, _-_, _*_, _<_}
-use native.Mathlib.Omega.{arith}
+use mathlib.Core.Option.{Option, none, some}
+use Prim.Native.Nat.{ℕ, _+_, _-_, _*_}
 use Rattle.tlv.specs.declared.fields.Step.{Step}
 use Rattle.tlv.specs.declared.model.AddressRange.{AddressRange}
-use Rattle.tlv.specs.Model.{EntryRange, rangeOf, dieRanges}
+use lib.ListN.{drop}
+use Rattle.tlv.specs.Lists.{mapOption}
+use Rattle.tlv.specs.Fields.{fields, payloadOf}
+use Rattle.tlv.specs.Model.{RangeList, EntryRange, rangeListOf}
 use Rattle.tlv.specs.Cursor.{stepAt}
-use Rattle.tlv.specs.Places.{entryHere}
-use Rattle.tlv.specs.Table.{chunk}
-use Rattle.tlv.proofs.EntryPlaceLaws.{entry-ranges}
+use Rattle.tlv.specs.Places.{ownFields, entryHere}
+use Rattle.tlv.proofs.EntryPlaceLaws.{entry-ranges, entry-failure, entry-list}
+use Rattle.rnglists.specs.RangeLists.{dieRangesBy}
 use Rattle.dies.specs.declared.frames.Open.{Open}
 use Rattle.imports.specs.Ranges.{coalesceRanges}
-use Rattle.imports.specs.Tree.{fit, rangesOf, parentRanges}
-use Rattle.dies.specs.RangeTable.{rangesAt, rangesGiven, Gathered}
-use Rattle.dies.specs.FrameStack.{openIn, Ready}
-use Rattle.dies.proofs.RangeTableLaws.{ranges-nil, ranges-below, ranges-first}
-use Rattle.dies.proofs.FrameLaws.{used-one, open-below, Top, Pushed}
+use Rattle.imports.specs.Tree.{fit, dieRanges, parentRanges}
+use Rattle.dies.specs.RangeTable.{rangesAt, readBy, readAt}
+use Rattle.dies.specs.Details.{dwarfWith}
+use Rattle.dies.specs.FrameStack.{openIn}
+use Rattle.dies.proofs.FrameLaws.{Top}
 
--- the ranges of the entry at a place are those that the fields behind its field give
-pub ranges-here : (s : List ℕ) (p : ℕ) (r : Step) (t start len next : ℕ) → r ≡ stepAt s p → r ≡ Step.Field t start len next → rangesOf (entryHere s p) ≡ rangesGiven s next
-unfolding rangesOf dieRanges
-ranges-here s p r t start len next reads e = ap (map (λ (x : EntryRange). x .range)) (entry-ranges s p r t start len next reads e)
+-- what is read of the entry at a place is what the fields behind its field give
+pub read-here : (main supplementary lists addresses : List ℕ) (p : ℕ) (r : Step) (t start len next : ℕ) → r ≡ stepAt main p → r ≡ Step.Field t start len next
+    → dieRanges (dwarfWith main supplementary lists addresses) (entryHere main p) ≡ readAt lists addresses main next
+unfolding dieRanges
+read-here main supplementary lists addresses p r t start len next reads e =
+    ap (dieRangesBy lists addresses (entryHere main p)) (entry-list main p r t start len next reads e) ∙ by-list (mapOption rangeListOf (payloadOf 0x1f (ownFields (fields (drop next main)))))
+  where
+    by-list : (o : Option RangeList) → dieRangesBy lists addresses (entryHere main p) o ≡ readBy lists addresses main next o
+    by-list none = λ i. record { given = entry-ranges main p r t start len next reads e i; failure = entry-failure main p r t start len next reads e i; refusal = 6 }
+    by-list (some l) = refl
 
-module _ (base : ℕ) {st : Open} {from at k : ℕ} {f : AddressRange} {s w w′ : List ℕ} (R : Ready st) (T : Top st from) (bottom : rangesAt w base 1 ≡ f ∷ [])
-    (G : Gathered s at w w′ (base + from * 16) (st .used - from) (base + st .used * 16) k) where
-  pub node-ranges : rangesAt w′ (base + st .used * 16) k ≡ coalesceRanges (fit (parentRanges f (openIn w base st)) (rangesGiven s at))
-  node-ranges = G .ranges ∙ ap (λ (ps : List AddressRange). coalesceRanges (fit ps (rangesGiven s at))) (sym (T .ranges f w base bottom))
-
-  -- none: the entry is not kept
-  pub node-none : k ≡ 0 → coalesceRanges (fit (parentRanges f (openIn w base st)) (rangesGiven s at)) ≡ []
-  node-none h = sym node-ranges ∙ ap (rangesAt w′ (base + st .used * 16)) h ∙ ranges-nil w′ (base + st .used * 16)
-
-  -- some: the first one and the others
-  pub node-some : 0 < k → coalesceRanges (fit (parentRanges f (openIn w base st)) (rangesGiven s at)) ≡ rangeOf (chunk w′ (base + st .used * 16) 16) ∷ rangesAt w′ (base + st .used * 16 + 16) (k - 1)
-  node-some h = sym node-ranges ∙ ranges-first w′ (base + st .used * 16) k h
-
-  -- the stack is as it was
-  pub node-open : openIn w′ base st ≡ openIn w base st
-  node-open = open-below st R base (G .rest) (omega arith)
-
-  pub node-bottom : rangesAt w′ base 1 ≡ f ∷ []
-  node-bottom = ranges-below base 1 (G .rest) (omega (arith, used-one st R)) ∙ bottom
-
-  -- and has the node on top of it when it was pushed
-  pub node-pushed : {st′ : Open} {d : ℕ} → Pushed st st′ d k → openIn w′ base st′ ≡ record { dieDepth = d; ranges = coalesceRanges (fit (parentRanges f (openIn w base st)) (rangesGiven s at)) } ∷ openIn w base st
-  node-pushed {st′} {d} P = P .frames w′ base ∙ (λ i. record { dieDepth = d; ranges = node-ranges i } ∷ node-open i)
+-- those that fit the function's range or the innermost open node's
+pub node-ranges : (base k : ℕ) (w w′ : List ℕ) {st : Open} {from : ℕ} {f : AddressRange} (given : List EntryRange) → Top st from → rangesAt w base 1 ≡ f ∷ []
+    → rangesAt w′ (base + st .used * 16) k ≡ coalesceRanges (fit (rangesAt w (base + from * 16) (st .used - from)) (map (λ x. x .range) given))
+    → rangesAt w′ (base + st .used * 16) k ≡ coalesceRanges (fit (parentRanges f (openIn w base st)) (map (λ x. x .range) given))
+node-ranges base k w w′ {f = f} given T bottom G = G ∙ ap (λ (ps : List AddressRange). coalesceRanges (fit ps (map (λ x. x .range) given))) (sym (T .ranges f w base bottom))

@@ -1,5 +1,6 @@
 -- An inlined entry of the walk below a subprogram: its node's bytes, and what becomes of the walk. Assumes nothing.
 use mathlib.Core.Path.{_≡_, refl, sym, ap, _∙_}
+use mathlib.Core.Bool.{Bool, _||_}
 use mathlib.Core.List.{List, [], _∷_, _++_, append-nil, append-assoc}
 use Prim.Native.Nat.{ℕ, zero, suc, _+_, _*_, _≤_, _<_}
 use native.Mathlib.Numerals.{add-one}
@@ -28,14 +29,17 @@ use Rattle.dies.specs.declared.dies.CalledFile.{CalledFile}
 use Rattle.dies.specs.declared.dies.CalledLine.{CalledLine}
 use Rattle.dies.specs.declared.dies.Laid.{Laid}
 use Rattle.imports.specs.Tree.{Descendants, DetailContext, CallFile, CallLine, callFileOf, callLineOf, pushInline}
-use Rattle.dies.specs.RangeTable.{rangesAt}
+use Rattle.dies.specs.RangeTable.{rangesAt, rangeFields}
 use Rattle.dies.specs.FrameStack.{openIn, grown}
+use Rattle.dies.specs.Past.{isPast, nodeSize}
 use Rattle.dies.specs.Details.{DetailsIn, contextIn}
-use Rattle.dies.specs.DetailState.{originName, siteFramesAt, sitesAt, rangesLater, entriesLeft, walkOf, Fits, leadBytes, newBytes, walked, Advances, FileCalled, LineCalled, noded}
+use Rattle.dies.specs.DetailState.{Later, OwnRanges, originName, siteFramesAt, sitesAt, rangesLater, entriesLeft, walkOf, Fits, leadBytes, newBytes, walked, Advances, FileCalled, LineCalled, noded}
 use Rattle.dies.proofs.RangeTableLaws.{ranges-length}
 use Rattle.dies.proofs.FrameLaws.{length-open, Pushed, pushed-is}
 use Rattle.dies.proofs.CallLaws.{entry-depth-here}
-use Rattle.dies.proofs.SiteStepLaws.{details-accepted, left-here}
+use Rattle.dies.proofs.PastLaws.{size-is}
+use Rattle.dies.proofs.SiteStepLaws.{details-accepted, later-here, lists-here, left-here}
+use Rattle.dies.proofs.ListRoomLaws.{own-few, own-used, own-fields}
 
 -- ---- bytes
 
@@ -112,7 +116,7 @@ module _ (c : DetailContext) (e : Entry) (name : List ℕ) (rs : List AddressRan
 -- ---- the steps
 
 -- a refusal says nothing of what was laid
-pub advance-refused : {G : Descendants → Outcome Descendants} {main supplementary name : List ℕ} {d : Details} {a b : ℕ} {w t u : List ℕ} {s : Walk} {w′ t′ u′ : List ℕ} {s′ : Walk}
+pub advance-refused : {G : Descendants → Outcome Descendants} {main supplementary name : List ℕ} {d : Details} {a : Later} {b : ℕ} {w t u : List ℕ} {s : Walk} {w′ t′ u′ : List ℕ} {s′ : Walk}
     → (s′ .status ≡ 0 → ⊥) → Kept w w′ (d .ranges) (walked main supplementary d) → ((ns : List InlineNode) (ws : List Warning) → G (walkOf main supplementary d w s ns ws) ≡ refused (s′ .status))
     → Advances G main supplementary name d a b w t u s w′ t′ u′ s′
 advance-refused n K refuses = record {
@@ -120,6 +124,7 @@ advance-refused n K refuses = record {
   warnings = [];
   laid = λ z. absurd (n z);
   warned = λ z. absurd (n z);
+  past = λ z. absurd (n z);
   count = λ z. absurd (n z);
   kept = K;
   fits = λ z. absurd (n z);
@@ -128,32 +133,32 @@ advance-refused n K refuses = record {
 }
 
 -- nor of the state but for its number
-pub refused-as : {G : Descendants → Outcome Descendants} {main supplementary name : List ℕ} {d : Details} {a b : ℕ} {w t u : List ℕ} {s : Walk} {w′ t′ u′ : List ℕ} {s′ s″ : Walk}
+pub refused-as : {G : Descendants → Outcome Descendants} {main supplementary name : List ℕ} {d : Details} {a : Later} {b : ℕ} {w t u : List ℕ} {s : Walk} {w′ t′ u′ : List ℕ} {s′ s″ : Walk}
     → Advances G main supplementary name d a b w t u s w′ t′ u′ s′ → (s′ .status ≡ 0 → ⊥) → s″ .status ≡ s′ .status → Advances G main supplementary name d a b w t u s w′ t′ u′ s″
 refused-as A n e = advance-refused (λ z. n (sym e ∙ z)) (A .kept) (λ ns ws. A .no n ns ws ∙ ap refused (sym e))
 
 -- the depth as it was read
-pub noded-at : {G : Descendants → Outcome Descendants} {main supplementary name : List ℕ} {d : Details} {a b : ℕ} {w t u : List ℕ} {s : Walk} {w′ t′ u′ : List ℕ} {depth depth′ : ℕ} {r : Laid} (k : ℕ)
+pub noded-at : {G : Descendants → Outcome Descendants} {main supplementary name : List ℕ} {d : Details} {a : Later} {b : ℕ} {w t u : List ℕ} {s : Walk} {w′ t′ u′ : List ℕ} {depth depth′ : ℕ} {r : Laid} (k : ℕ)
     → depth ≡ depth′ → Advances G main supplementary name d a b w t u s w′ t′ u′ (noded s depth′ k r) → Advances G main supplementary name d a b w t u s w′ t′ u′ (noded s depth k r)
 noded-at k e A = rw e A
 
-module _ {main supplementary w u : List ℕ} {d : Details} {p : ℕ} {s : Walk} (name inlined t : List ℕ) (k : ℕ) (D : DetailsIn main supplementary w d) (K : EntryKnown main (d .unit) p)
-    (F : Fits main supplementary w d (k + rangesLater main (p + 15)) (entriesLeft main p) s) (some-k : 0 < k)
+module _ {main supplementary w u : List ℕ} {d : Details} {p : ℕ} {s : Walk} (lists addresses name inlined t : List ℕ) (k : ℕ) (D : DetailsIn main supplementary w d) (K : EntryKnown main (d .unit) p)
+    (F : Fits main supplementary w d (rangesLater main p) (entriesLeft main p) s) (some-k : 0 < k) (O : OwnRanges main d p k)
     {u₁ : List ℕ} {file : CalledFile} (FC : FileCalled (indicesIn w (d .indices)) main (d .unit) p (s .warned) u u₁ file) where
   some-ranges : 0 < length (rangesAt w (d .ranges + s .frames .used * 16) k)
   some-ranges = omega (arith, ranges-length w (d .ranges + s .frames .used * 16) k)
 
   pub keep-file : (file .status ≡ 0 → ⊥)
-      → Advances (pushInline (contextIn main supplementary w d) (entryHere main p) inlined (rangesAt w (d .ranges + s .frames .used * 16) k)) main supplementary name d (rangesLater main (p + 15)) (entriesLeft main (p + 15)) w t u s w t u₁
-      (noded s (leAt 2 main (p + 11)) k (record { at = s .at; warned = s .warned; status = file .status }))
-  keep-file n = advance-refused n (kept-refl w (d .ranges) (walked main supplementary d)) (λ ns ws. push-file (contextIn main supplementary w d) (entryHere main p) inlined _ _ some-ranges (FC .no n (contextIn main supplementary w d) refl refl))
+      → Advances (pushInline (contextIn main supplementary lists addresses w d) (entryHere main p) inlined (rangesAt w (d .ranges + s .frames .used * 16) k)) main supplementary name d (rangesLater main (p + 15)) (entriesLeft main (p + 15)) w t u s w t u₁
+      (noded s (leAt 2 main (p + 11)) k (record { at = s .at; warned = s .warned; status = file .status; past = s .past }))
+  keep-file n = advance-refused n (kept-refl w (d .ranges) (walked main supplementary d)) (λ ns ws. push-file (contextIn main supplementary lists addresses w d) (entryHere main p) inlined _ _ some-ranges (FC .no n (contextIn main supplementary lists addresses w d) refl refl))
 
   module _ (f : file .status ≡ 0) {u₂ : List ℕ} {line : CalledLine} (LC : LineCalled main (d .unit) p (file .at) u₁ u₂ line) where
     pub keep-line : (line .status ≡ 0 → ⊥)
-        → Advances (pushInline (contextIn main supplementary w d) (entryHere main p) inlined (rangesAt w (d .ranges + s .frames .used * 16) k)) main supplementary name d (rangesLater main (p + 15)) (entriesLeft main (p + 15)) w t u s w t u₂
-        (noded s (leAt 2 main (p + 11)) k (record { at = s .at; warned = s .warned; status = line .status }))
+        → Advances (pushInline (contextIn main supplementary lists addresses w d) (entryHere main p) inlined (rangesAt w (d .ranges + s .frames .used * 16) k)) main supplementary name d (rangesLater main (p + 15)) (entriesLeft main (p + 15)) w t u s w t u₂
+        (noded s (leAt 2 main (p + 11)) k (record { at = s .at; warned = s .warned; status = line .status; past = s .past }))
     keep-line n = advance-refused n (kept-refl w (d .ranges) (walked main supplementary d))
-        (λ ns ws. push-line (contextIn main supplementary w d) (entryHere main p) inlined _ _ some-ranges (FC .ok f (contextIn main supplementary w d) refl refl) (LC .no n (contextIn main supplementary w d) refl))
+        (λ ns ws. push-line (contextIn main supplementary lists addresses w d) (entryHere main p) inlined _ _ some-ranges (FC .ok f (contextIn main supplementary lists addresses w d) refl refl) (LC .no n (contextIn main supplementary lists addresses w d) refl))
 
     module _ (l : line .status ≡ 0) where
       stack-length : (ns : List InlineNode) (ws : List Warning) → length (walkOf main supplementary d w s ns ws .inlineStack) ≡ s .frames .n
@@ -161,12 +166,12 @@ module _ {main supplementary w u : List ℕ} {d : Details} {p : ℕ} {s : Walk} 
       stack-length ns ws = length-open w (d .ranges) (s .frames)
 
       pub keep-deep : 256 ≤ s .frames .n
-          → Advances (pushInline (contextIn main supplementary w d) (entryHere main p) inlined (rangesAt w (d .ranges + s .frames .used * 16) k)) main supplementary name d (rangesLater main (p + 15)) (entriesLeft main (p + 15)) w t u s w t u₂
-          (noded s (leAt 2 main (p + 11)) k (record { at = s .at; warned = s .warned; status = 14 }))
+          → Advances (pushInline (contextIn main supplementary lists addresses w d) (entryHere main p) inlined (rangesAt w (d .ranges + s .frames .used * 16) k)) main supplementary name d (rangesLater main (p + 15)) (entriesLeft main (p + 15)) w t u s w t u₂
+          (noded s (leAt 2 main (p + 11)) k (record { at = s .at; warned = s .warned; status = 14; past = s .past }))
       keep-deep h = advance-refused (λ z. omega arith) (kept-refl w (d .ranges) (walked main supplementary d))
-          (λ ns ws. push-deep (contextIn main supplementary w d) (entryHere main p) inlined _ _ some-ranges (FC .ok f (contextIn main supplementary w d) refl refl) (LC .ok l (contextIn main supplementary w d) refl) (omega (arith, stack-length ns ws)))
+          (λ ns ws. push-deep (contextIn main supplementary lists addresses w d) (entryHere main p) inlined _ _ some-ranges (FC .ok f (contextIn main supplementary lists addresses w d) refl refl) (LC .ok l (contextIn main supplementary lists addresses w d) refl) (omega (arith, stack-length ns ws)))
 
-      module _ (h : s .frames .n < 256) {t₁ t₂ : List ℕ} {q₁ q₂ : ℕ} (RT : Put (s .at) (leadBytes name (d .range) (s .nodes)) t t₁ q₁)
+      module _ (h : s .frames .n < 256) {t₁ t₂ : List ℕ} {q₁ q₂ : ℕ} {b : Bool} (B : b ≡ isPast (s .at) (nodeSize (s .nodes) (length name) (length inlined) k)) (RT : Put (s .at) (leadBytes name (d .range) (s .nodes)) t t₁ q₁)
           (ND : Put q₁ (nodeBytes (record { depth = s .frames .n + 1; callFile = file .file; callLine = line .line; name = inlined; ranges = rangesAt w (d .ranges + s .frames .used * 16) k })) t₁ t₂ q₂) where
         node : InlineNode
         node = record { depth = s .frames .n + 1; callFile = file .file; callLine = line .line; name = inlined; ranges = rangesAt w (d .ranges + s .frames .used * 16) k }
@@ -175,25 +180,35 @@ module _ {main supplementary w u : List ℕ} {d : Details} {p : ℕ} {s : Walk} 
         unfolding node eachOf
         laid-node = rw (append-nil (nodeBytes node)) (RT then ND)
 
+        bytes-are : length (newBytes name (d .range) (s .nodes) (node ∷ [])) ≡ nodeSize (s .nodes) (length name) (length inlined) k
+        unfolding node
+        bytes-are = size-is name (d .range) (s .nodes) node ∙ ap (nodeSize (s .nodes) (length name) (length inlined)) (ranges-length w (d .ranges + s .frames .used * 16) k)
+
         depth-is : entryHere main p .depth ≡ leAt 2 main (p + 11)
         depth-is = entry-depth-here (details-accepted D) K
 
         P : Pushed (s .frames) (grown (s .frames) (leAt 2 main (p + 11)) k) (leAt 2 main (p + 11)) k
         P = pushed-is (s .frames) (leAt 2 main (p + 11)) k (F .ready) h
 
-        pub keep-done : Advances (pushInline (contextIn main supplementary w d) (entryHere main p) inlined (rangesAt w (d .ranges + s .frames .used * 16) k)) main supplementary name d (rangesLater main (p + 15)) (entriesLeft main (p + 15)) w t u s w t₂ u₂
-            (noded s (leAt 2 main (p + 11)) k (record { at = q₂; warned = line .at; status = 0 }))
+        pub keep-done : Advances (pushInline (contextIn main supplementary lists addresses w d) (entryHere main p) inlined (rangesAt w (d .ranges + s .frames .used * 16) k)) main supplementary name d (rangesLater main (p + 15)) (entriesLeft main (p + 15)) w t u s w t₂ u₂
+            (noded s (leAt 2 main (p + 11)) k (record { at = q₂; warned = line .at; status = 0; past = s .past || b }))
         unfolding walkOf node
         keep-done = record {
           nodes = node ∷ [];
           warnings = FC .warnings ++ LC .warnings;
           laid = λ z. laid-node;
           warned = λ z. rw (warnings-append (FC .warnings) (LC .warnings)) (FC .laid f then LC .laid l);
+          past = λ z. ap (λ (x : Bool). s .past || x) (B ∙ ap (isPast (s .at)) (sym bytes-are));
           count = λ z. omega arith;
           kept = kept-refl w (d .ranges) (walked main supplementary d);
           fits = λ z. record {
             ready = P .ready;
-            used = omega (arith, P .used, F .used);
+            used = omega (arith, P .used, own-used D K F k O);
+            fields = omega (arith, P .used, own-fields D K F k O);
+            floor = F .floor + length (rangeFields main (p + 15));
+            level = omega (arith, F .level, later-here D K);
+            lean = P .lean (F .floor) (d .third) (length (rangeFields main (p + 15))) (own-few main d p k O) (F .lean);
+            left = omega (arith, F .left, lists-here D K);
             sites = omega (arith, F .sites, left-here D K);
             nodes = omega (arith, F .nodes, left-here D K);
             bottom = F .bottom;
@@ -203,7 +218,7 @@ module _ {main supplementary w u : List ℕ} {d : Details} {p : ℕ} {s : Walk} 
             closed = F .closed;
           };
           ok = λ z ns ws.
-              push-done (contextIn main supplementary w d) (entryHere main p) inlined _ (walkOf main supplementary d w s ns ws) some-ranges (FC .ok f (contextIn main supplementary w d) refl refl) (LC .ok l (contextIn main supplementary w d) refl) (omega (arith, stack-length ns ws))
+              push-done (contextIn main supplementary lists addresses w d) (entryHere main p) inlined _ (walkOf main supplementary d w s ns ws) some-ranges (FC .ok f (contextIn main supplementary lists addresses w d) refl refl) (LC .ok l (contextIn main supplementary lists addresses w d) refl) (omega (arith, stack-length ns ws))
               ∙ ap done (λ i. record {
                 inlineStack = (ap (λ (x : ℕ). record { dieDepth = x; ranges = rangesAt w (d .ranges + s .frames .used * 16) k } ∷ openIn w (d .ranges) (s .frames)) depth-is ∙ sym (P .frames w (d .ranges))) i;
                 inlines = ns ++ (record { depth = (ap suc (length-open w (d .ranges) (s .frames)) ∙ sym (add-one (s .frames .n))) i; callFile = file .file; callLine = line .line; name = inlined; ranges = rangesAt w (d .ranges + s .frames .used * 16) k } ∷ []);

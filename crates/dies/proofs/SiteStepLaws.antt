@@ -13,7 +13,7 @@ use Rattle.tlv.specs.Outcome.{Outcome, refused, done, _>>=_}
 use Rattle.tlv.specs.Lists.{All}
 use Rattle.tlv.specs.Bytes.{Bytes, leAt}
 use Rattle.tlv.specs.Fields.{fields}
-use Rattle.tlv.specs.Model.{Entry, Attribute}
+use Rattle.tlv.specs.Model.{CompilationUnit, Entry, Attribute}
 use Rattle.tlv.specs.Output.{CallSite}
 use Rattle.tlv.specs.Places.{entryHere, unitHere, IndexedEntry, entryIndex}
 use Rattle.tlv.specs.Index.{indexedOf}
@@ -28,17 +28,18 @@ use Rattle.references.specs.Search.{attribute}
 use Rattle.references.specs.Tables.{EntryKnown, bytesGiven}
 use Rattle.references.specs.Names.{dwarfOf, referenceName, Resolved}
 use Rattle.references.proofs.ReferenceLaws.{entry-step}
+use Rattle.references.proofs.SectionLaws.{reference-name-same}
 use Rattle.dies.specs.declared.dies.Details.{Details}
 use Rattle.dies.specs.declared.dies.Walk.{Walk}
 use Rattle.dies.specs.declared.dies.Address.{Address}
 use Rattle.dies.specs.FrameStack.{openIn}
 use Rattle.imports.specs.Tree.{Descendants, DetailContext, siteWithOrigin, siteAt, makeCallSite, pushCallSite}
 use Rattle.dies.specs.RangeTable as table
-use Rattle.dies.specs.Details.{DetailsIn, contextIn, entryCount}
+use Rattle.dies.specs.Details.{DetailsIn, dwarfWith, contextIn, entryCount}
 use Rattle.dies.specs.DetailState.{originOf, originName, siteFramesAt, sitesAt, PutSite, SiteKnown, rangesLater, entriesLeft, walkOf, Fits, walked, Quiet, collectSite, Accepted, addressOf}
 use Rattle.dies.proofs.FrameLaws.{open-kept}
 use Rattle.dies.proofs.SiteLaws.{site-frames-kept, sites-kept, site-frames-push}
-use Rattle.dies.proofs.EntryWalkLaws.{left-entry, later-entry}
+use Rattle.dies.proofs.EntryWalkLaws.{left-entry, later-entry, lists-entry}
 use Rattle.dies.proofs.AttributeReads.{accepted-placed}
 use Rattle.dies.proofs.WalkStateLaws.{kept-inside, kept-keys, Aside, fits-kept, fits-less, aside-keys}
 
@@ -72,8 +73,11 @@ module _ {main supplementary w : List ℕ} {d : Details} {p : ℕ} (D : DetailsI
   pub left-here : entriesLeft main p ≡ 1 + entriesLeft main (p + 15)
   left-here = left-entry main p _ refl 0x17 (p + 3) 12 (p + 15) (entry-step (accepted-placed (details-accepted D) K) K) refl
 
-  pub later-here : rangesLater main p ≡ length (table.rangeFields main (p + 15)) + rangesLater main (p + 15)
+  pub later-here : rangesLater main p .ranges ≡ length (table.rangeFields main (p + 15)) + rangesLater main (p + 15) .ranges
   later-here = later-entry main p _ refl 0x17 (p + 3) 12 (p + 15) (entry-step (accepted-placed (details-accepted D) K) K) refl
+
+  pub lists-here : rangesLater main p .lists ≡ table.ownLists main (p + 15) + rangesLater main (p + 15) .lists
+  lists-here = lists-entry main p _ refl 0x17 (p + 3) 12 (p + 15) (entry-step (accepted-placed (details-accepted D) K) K) refl
 
 -- ---- what the definition does with the return address
 
@@ -92,6 +96,12 @@ origin-site : (c : DetailContext) (e : Entry) (offset : ℕ) (o : Option Attribu
 unfolding _>>=_
 origin-site c e offset none = refl
 origin-site c e offset (some a) = refl
+
+-- the search does not look at the sections
+reference-same : (main supplementary lists addresses : List ℕ) (u : CompilationUnit) (e : Entry) (o : Option Attribute)
+    → referenceName (dwarfWith main supplementary lists addresses) u e o ≡ referenceName (dwarfOf main supplementary) u e o
+reference-same main supplementary lists addresses u e none = refl
+reference-same main supplementary lists addresses u e (some a) = reference-name-same lists addresses (dwarfOf main supplementary) u e a
 
 inside-range : (c : DetailContext) (a : ℕ) → c .functionRange .start ≤ a → a < c .functionRange .end → contains (c .functionRange) a ≡ true
 unfolding contains
@@ -119,37 +129,39 @@ module _ {main supplementary w : List ℕ} {d : Details} {p : ℕ} {s : Walk} (D
     (F : Fits main supplementary w d (rangesLater main p) (entriesLeft main p) s) where
   -- the state at the place behind the entry
   pub later-fits : Fits main supplementary w d (rangesLater main (p + 15)) (entriesLeft main (p + 15)) s
-  later-fits = fits-less F (rangesLater main (p + 15)) (entriesLeft main (p + 15)) (omega (arith, later-here D K)) (omega (arith, left-here D K))
+  later-fits = fits-less F (rangesLater main (p + 15)) (entriesLeft main (p + 15)) (omega (arith, later-here D K)) (omega (arith, lists-here D K)) (omega (arith, left-here D K))
 
-  module _ {r : Address} (read : r ≡ addressOf (attribute (entryHere main p) 0x7d)) where
-    site-is : (x : Descendants) → collectSite (contextIn main supplementary w d) (entryHere main p) x ≡ (siteBy (contextIn main supplementary w d) (entryHere main p) r >>= λ y. done (pushCallSite (entryHere main p) x y))
+  module _ (lists addresses : List ℕ) {r : Address} (read : r ≡ addressOf (attribute (entryHere main p) 0x7d)) where
+    site-is : (x : Descendants) → collectSite (contextIn main supplementary lists addresses w d) (entryHere main p) x ≡ (siteBy (contextIn main supplementary lists addresses w d) (entryHere main p) r >>= λ y. done (pushCallSite (entryHere main p) x y))
     unfolding collectSite makeCallSite
-    site-is x = ap (λ (o : Outcome (Option CallSite)). o >>= λ y. done (pushCallSite (entryHere main p) x y)) (site-by (contextIn main supplementary w d) (entryHere main p) (attribute (entryHere main p) 0x7d) ∙ ap (siteBy (contextIn main supplementary w d) (entryHere main p)) (sym read))
+    site-is x = ap (λ (o : Outcome (Option CallSite)). o >>= λ y. done (pushCallSite (entryHere main p) x y)) (site-by (contextIn main supplementary lists addresses w d) (entryHere main p) (attribute (entryHere main p) 0x7d) ∙ ap (siteBy (contextIn main supplementary lists addresses w d) (entryHere main p)) (sym read))
 
-    passed : s .status ≡ 0 → siteBy (contextIn main supplementary w d) (entryHere main p) r ≡ done none
-        → Quiet (collectSite (contextIn main supplementary w d) (entryHere main p)) main supplementary d (rangesLater main (p + 15)) (entriesLeft main (p + 15)) w s w s
+    passed : s .status ≡ 0 → siteBy (contextIn main supplementary lists addresses w d) (entryHere main p) r ≡ done none
+        → Quiet (collectSite (contextIn main supplementary lists addresses w d) (entryHere main p)) main supplementary d (rangesLater main (p + 15)) (entriesLeft main (p + 15)) w s w s
     unfolding _>>=_
     passed st e = record {
       place = refl;
       warned = refl;
       nodes = refl;
+      past = refl;
       kept = kept-refl w (d .ranges) (walked main supplementary d);
       fits = λ z. later-fits;
       ok = λ z ns ws. site-is (walkOf main supplementary d w s ns ws) ∙ rw e;
       no = λ z. absurd (z st);
     }
 
-    pub site-missing : s .status ≡ 0 → r ≡ Address.Missing → Quiet (collectSite (contextIn main supplementary w d) (entryHere main p)) main supplementary d (rangesLater main (p + 15)) (entriesLeft main (p + 15)) w s w s
+    pub site-missing : s .status ≡ 0 → r ≡ Address.Missing → Quiet (collectSite (contextIn main supplementary lists addresses w d) (entryHere main p)) main supplementary d (rangesLater main (p + 15)) (entriesLeft main (p + 15)) w s w s
     site-missing st e = passed st (rw e)
 
     pub site-failed : r ≡ Address.Failed
-        → Quiet (collectSite (contextIn main supplementary w d) (entryHere main p)) main supplementary d (rangesLater main (p + 15)) (entriesLeft main (p + 15)) w s w
-        (record { frames = s .frames; opened = s .opened; closed = s .closed; nodes = s .nodes; at = s .at; warned = s .warned; status = 6 })
+        → Quiet (collectSite (contextIn main supplementary lists addresses w d) (entryHere main p)) main supplementary d (rangesLater main (p + 15)) (entriesLeft main (p + 15)) w s w
+        (record { frames = s .frames; opened = s .opened; closed = s .closed; nodes = s .nodes; at = s .at; warned = s .warned; status = 6; past = s .past })
     unfolding _>>=_
     site-failed e = record {
       place = refl;
       warned = refl;
       nodes = refl;
+      past = refl;
       kept = kept-refl w (d .ranges) (walked main supplementary d);
       fits = λ z. absurd (omega arith);
       ok = λ z. absurd (omega arith);
@@ -157,26 +169,32 @@ module _ {main supplementary w : List ℕ} {d : Details} {p : ℕ} {s : Walk} (D
     }
 
     module _ {a : ℕ} (e : r ≡ Address.At a) where
-      pub site-low : s .status ≡ 0 → a < d .range .start → Quiet (collectSite (contextIn main supplementary w d) (entryHere main p)) main supplementary d (rangesLater main (p + 15)) (entriesLeft main (p + 15)) w s w s
-      site-low st h = passed st (rw (e, below-range (contextIn main supplementary w d) a h))
+      pub site-low : s .status ≡ 0 → a < d .range .start → Quiet (collectSite (contextIn main supplementary lists addresses w d) (entryHere main p)) main supplementary d (rangesLater main (p + 15)) (entriesLeft main (p + 15)) w s w s
+      site-low st h = passed st (rw (e, below-range (contextIn main supplementary lists addresses w d) a h))
 
-      pub site-high : s .status ≡ 0 → d .range .start ≤ a → d .range .end ≤ a → Quiet (collectSite (contextIn main supplementary w d) (entryHere main p)) main supplementary d (rangesLater main (p + 15)) (entriesLeft main (p + 15)) w s w s
-      site-high st h k = passed st (rw (e, above-range (contextIn main supplementary w d) a h k))
+      pub site-high : s .status ≡ 0 → d .range .start ≤ a → d .range .end ≤ a → Quiet (collectSite (contextIn main supplementary lists addresses w d) (entryHere main p)) main supplementary d (rangesLater main (p + 15)) (entriesLeft main (p + 15)) w s w s
+      site-high st h k = passed st (rw (e, above-range (contextIn main supplementary lists addresses w d) a h k))
 
       module _ (h : d .range .start ≤ a) (k : a < d .range .end) {w₁ : List ℕ} {st′ : ℕ} {name : List ℕ}
           (R : Resolved main supplementary (d .tables) w w₁ (referenceName (dwarfOf main supplementary) (unitHere main (d .unit)) (entryHere main p) (attribute (entryHere main p) 0x7f)) st′ name) where
-        site-named : (x : Descendants) → collectSite (contextIn main supplementary w d) (entryHere main p) x
+        site-named : (x : Descendants) → collectSite (contextIn main supplementary lists addresses w d) (entryHere main p) x
             ≡ (referenceName (dwarfOf main supplementary) (unitHere main (d .unit)) (entryHere main p) (attribute (entryHere main p) 0x7f) >>= (λ n. done (some (record { returnOffset = a - d .range .start; pattern = n }))) >>= λ y. done (pushCallSite (entryHere main p) x y))
-        site-named x = site-is x ∙ rw (e, inside-range (contextIn main supplementary w d) a h k, origin-site (contextIn main supplementary w d) (entryHere main p) (a - d .range .start) (attribute (entryHere main p) 0x7f))
+        site-named x = site-is x ∙ rw (
+          e,
+          inside-range (contextIn main supplementary lists addresses w d) a h k,
+          origin-site (contextIn main supplementary lists addresses w d) (entryHere main p) (a - d .range .start) (attribute (entryHere main p) 0x7f),
+          reference-same main supplementary lists addresses (unitHere main (d .unit)) (entryHere main p) (attribute (entryHere main p) 0x7f),
+        )
 
         pub site-unnamed : (st′ ≡ 0 → ⊥)
-            → Quiet (collectSite (contextIn main supplementary w d) (entryHere main p)) main supplementary d (rangesLater main (p + 15)) (entriesLeft main (p + 15)) w s w₁
-            (record { frames = s .frames; opened = s .opened; closed = s .closed; nodes = s .nodes; at = s .at; warned = s .warned; status = st′ })
+            → Quiet (collectSite (contextIn main supplementary lists addresses w d) (entryHere main p)) main supplementary d (rangesLater main (p + 15)) (entriesLeft main (p + 15)) w s w₁
+            (record { frames = s .frames; opened = s .opened; closed = s .closed; nodes = s .nodes; at = s .at; warned = s .warned; status = st′; past = s .past })
         unfolding _>>=_
         site-unnamed n = record {
           place = refl;
           warned = refl;
           nodes = refl;
+          past = refl;
           kept = kept-keys D (R .rest);
           fits = λ z. absurd (n z);
           ok = λ z. absurd (n z);
@@ -232,17 +250,23 @@ module _ {main supplementary w : List ℕ} {d : Details} {p : ℕ} {s : Walk} (D
               ∙ (λ i. record { dieDepth = sym ed i; callSite = record { returnOffset = a - d .range .start; pattern = sym name-is i } }
               ∷ site-frames-kept (originName main supplementary (d .unit)) (d .stack) (s .opened) (R .rest) (aside-keys D F _ .stack) i)
 
-          pub site-pushed : Quiet (collectSite (contextIn main supplementary w d) (entryHere main p)) main supplementary d (rangesLater main (p + 15)) (entriesLeft main (p + 15)) w s w₂
-              (record { frames = s .frames; opened = s .opened + 1; closed = s .closed; nodes = s .nodes; at = s .at; warned = s .warned; status = s .status })
+          pub site-pushed : Quiet (collectSite (contextIn main supplementary lists addresses w d) (entryHere main p)) main supplementary d (rangesLater main (p + 15)) (entriesLeft main (p + 15)) w s w₂
+              (record { frames = s .frames; opened = s .opened + 1; closed = s .closed; nodes = s .nodes; at = s .at; warned = s .warned; status = s .status; past = s .past })
           unfolding _>>=_ walkOf
           site-pushed = record {
             place = refl;
             warned = refl;
             nodes = refl;
+            past = refl;
             kept = kept-trans (kept-keys D (R .rest)) (kept-inside D (P .rest) (omega (arith, D .ranges)) (omega (arith, one-more, D .stack, D .sites)));
             fits = λ _. record {
               ready = second .ready;
               used = second .used;
+              fields = second .fields;
+              floor = second .floor;
+              level = second .level;
+              lean = second .lean;
+              left = second .left;
               sites = omega (arith, one-more);
               nodes = second .nodes;
               bottom = second .bottom;

@@ -1,6 +1,7 @@
 -- The closed call sites, laid behind the nodes: the name of each is found again. Assumes nothing.
 use mathlib.Core.Path.{_≡_, refl, sym, ap, _∙_}
 use mathlib.Core.Logic.{inl}
+use mathlib.Core.Bool.{Bool, false, _||_}
 use mathlib.Core.List.{List, _++_}
 use Prim.Native.Nat.{ℕ, _+_, _*_, _≤_, _<_}
 use native.Mathlib.Omega.{arith}
@@ -25,8 +26,10 @@ use Rattle.references.specs.Names.{dwarfOf, referenceName, Resolved}
 use Rattle.references.specs.Keys.{keysExtent}
 use Rattle.dies.specs.declared.dies.Details.{Details}
 use Rattle.dies.specs.declared.dies.Walk.{Walk}
+use Rattle.dies.specs.Past.{isPast}
 use Rattle.dies.specs.Details.{DetailsIn}
-use Rattle.dies.specs.DetailState.{originOf, originName, siteOf, sitesAt, SiteKnown, Fits, SitesPut}
+use Rattle.dies.specs.DetailState.{noneLater, originOf, originName, siteOf, sitesAt, SiteKnown, Fits, SitesPut}
+use Rattle.dies.proofs.PastLaws.{past-same, past-turn, site-length}
 use Rattle.dies.proofs.WalkStateLaws.{details-kept, kept-keys}
 
 -- the bytes of call sites
@@ -37,30 +40,36 @@ bytes-done : (st : ℕ) (r x : List ℕ) → bytesGiven st r ≡ done x → r �
 unfolding bytesGiven
 bytes-done st r x e = either (eqb st 0) (λ y. done-is (rw y at e)) (λ n. refused-not (rw n at e))
 
-pub record Siting (main supplementary : List ℕ) (d : Details) (n at : ℕ) (w₀ t₀ w t : List ℕ) (place i : ℕ) : Type 0 where
+pub record Siting (main supplementary : List ℕ) (d : Details) (n at : ℕ) (w₀ t₀ w t : List ℕ) (place i : ℕ) (b : Bool) : Type 0 where
   pub within : i ≤ n
   pub details : DetailsIn main supplementary w d
   pub left : Left at (sitesBytes (sitesAt (originName main supplementary (d .unit)) w₀ (d .sites) n)) t₀ place (sitesBytes (drop i (sitesAt (originName main supplementary (d .unit)) w₀ (d .sites) n))) t
+  pub over : isPast at (length (sitesBytes (sitesAt (originName main supplementary (d .unit)) w₀ (d .sites) n)))
+      ≡ (b || isPast place (length (sitesBytes (drop i (sitesAt (originName main supplementary (d .unit)) w₀ (d .sites) n)))))
   pub kept : Kept w₀ w (d .tables .keys) (keysExtent main supplementary (d .tables))
   pub size : length w ≡ length w₀
 
-pub siting-start : {main supplementary w : List ℕ} {d : Details} (n at : ℕ) (t : List ℕ) → DetailsIn main supplementary w d → at ≤ top → length t < top → Siting main supplementary d n at w t w t at 0
+pub siting-start : {main supplementary w : List ℕ} {d : Details} (n at : ℕ) (t : List ℕ) → DetailsIn main supplementary w d → at ≤ top → length t < top → Siting main supplementary d n at w t w t at 0 false
 siting-start {main} {supplementary} {w} {d} n at t D h k = record {
   within = omega arith;
   details = D;
   left = left-start at _ t h k;
+  over = refl;
   kept = kept-refl w (d .tables .keys) (keysExtent main supplementary (d .tables));
   size = refl;
 }
 
-module _ {main supplementary : List ℕ} {d : Details} {at : ℕ} {w₀ t₀ w t : List ℕ} {place i : ℕ} {s : Walk} (D : DetailsIn main supplementary w₀ d) (F : Fits main supplementary w₀ d 0 0 s)
-    (S : Siting main supplementary d (s .closed) at w₀ t₀ w t place i) where
-  pub siting-done : s .closed ≤ i → SitesPut main supplementary d (s .closed) at w₀ w t₀ t place
+module _ {main supplementary : List ℕ} {d : Details} {at : ℕ} {w₀ t₀ w t : List ℕ} {place i : ℕ} {b : Bool} {s : Walk} (D : DetailsIn main supplementary w₀ d) (F : Fits main supplementary w₀ d noneLater 0 s)
+    (S : Siting main supplementary d (s .closed) at w₀ t₀ w t place i b) where
+  pub siting-done : s .closed ≤ i → SitesPut main supplementary d (s .closed) at w₀ w t₀ t (record { at = place; past = b })
   unfolding sitesAt eachOf
-  siting-done h = record {
-    put = left-done (S .left) (ap sitesBytes (records-rest-none (siteOf (originName main supplementary (d .unit))) 12 w₀ (d .sites) (s .closed) i h));
-    rest = kept-keys D (S .kept);
-  }
+  siting-done h =
+      let none = ap sitesBytes (records-rest-none (siteOf (originName main supplementary (d .unit))) 12 w₀ (d .sites) (s .closed) i h) in
+      record {
+        put = left-done (S .left) none;
+        past = sym (S .over ∙ ap (λ (l : List ℕ). b || isPast place (length l)) none ∙ sym (past-same b place (S .left .fits)));
+        rest = kept-keys D (S .kept);
+      }
 
   module _ (h : i < s .closed) {entry : ℕ} (ee : entry ≡ leAt 4 w (d .sites + i * 12)) where
     pub site-room : d .sites + i * 12 + 12 ≤ length w
@@ -104,11 +113,13 @@ module _ {main supplementary : List ℕ} {d : Details} {at : ℕ} {w₀ t₀ w t
           ∙ ap (λ (x : CallSite). encode 0x45 (sitePayload x) ++ sitesBytes (drop (i + 1) (sitesAt (originName main supplementary (d .unit)) w₀ (d .sites) (s .closed)))) site-is
 
       pub siting-next : {t₁ : List ℕ} {q : ℕ} → Put place (encode 0x45 (sitePayload (record { returnOffset = offset; pattern = name }))) t t₁ q → length w₁ ≡ length w
-          → Siting main supplementary d (s .closed) at w₀ t₀ w₁ t₁ q (i + 1)
-      siting-next P z = record {
+          → {o : Bool} → o ≡ isPast place (12 + length name) → Siting main supplementary d (s .closed) at w₀ t₀ w₁ t₁ q (i + 1) (b || o)
+      siting-next P z O = record {
         within = omega arith;
         details = details-kept (S .details) (R .rest) (omega (arith, D .ranges, D .stack, D .sites)) z;
         left = left-put _ _ (S .left) rest-is P;
+        over = S .over ∙ ap (λ (l : List ℕ). b || isPast place (length l)) rest-is
+            ∙ past-turn (S .left .fits) P b _ (O ∙ ap (isPast place) (sym (site-length (record { returnOffset = offset; pattern = name }))));
         kept = kept-trans (S .kept) (R .rest);
         size = z ∙ S .size;
       }

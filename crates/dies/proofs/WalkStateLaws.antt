@@ -3,10 +3,12 @@ use mathlib.Core.Path.{_≡_, refl, _∙_}
 use mathlib.Core.Logic.{inl, inr, ⊎-elim}
 use mathlib.Core.List.{List}
 use Prim.Native.Nat.{ℕ, _+_, _*_, _≤_, _<_}
+use native.Mathlib.Nat.{mul-le-mul-left}
 use native.Mathlib.Omega.{arith}
 use lib.ListN.{length}
 use Rattle.tlv.specs.Bytes.{leAt}
 use Rattle.tlv.specs.Output.{InlineNode, Warning}
+use Rattle.tlv.specs.Places.{unitHere}
 use Rattle.tlv.specs.Table.{Kept, Apart}
 use Rattle.tlv.proofs.TableLaws.{kept-wide, leAt-kept}
 use Rattle.tlv.proofs.RecordLaws.{records-kept}
@@ -20,8 +22,8 @@ use Rattle.dies.specs.declared.dies.Sites.{Sites}
 use Rattle.dies.specs.declared.frames.Open.{Open}
 use Rattle.imports.specs.Tree.{finish}
 use Rattle.dies.specs.FrameStack.{Popped}
-use Rattle.dies.specs.Details.{DetailsIn, contextIn, rangeCount}
-use Rattle.dies.specs.DetailState.{originName, Closed, walkOf, Fits, walked, Shut}
+use Rattle.dies.specs.Details.{DetailsIn, dwarfWith, contextIn, rangeRoom}
+use Rattle.dies.specs.DetailState.{Later, originName, Closed, walkOf, Fits, walked, Shut}
 use Rattle.dies.proofs.RangeTableLaws.{ranges-kept}
 use Rattle.dies.proofs.FrameLaws.{used-one, open-kept}
 use Rattle.dies.proofs.SiteLaws.{site-frames-kept, sites-kept}
@@ -49,13 +51,15 @@ module _ {main supplementary w : List ℕ} {d : Details} (D : DetailsIn main sup
       ranges = D .ranges;
       stack = D .stack;
       sites = D .sites;
+      third = D .third;
+      listless = D .listless;
     }
 
-    pub context-kept : contextIn main supplementary w′ d ≡ contextIn main supplementary w d
+    pub context-kept : {lists addresses : List ℕ} → contextIn main supplementary lists addresses w′ d ≡ contextIn main supplementary lists addresses w d
     unfolding indicesOf
-    context-kept = λ i. record {
-      dwarf = contextIn main supplementary w d .dwarf;
-      unit = contextIn main supplementary w d .unit;
+    context-kept {lists} {addresses} = λ i. record {
+      dwarf = dwarfWith main supplementary lists addresses;
+      unit = unitHere main (d .unit);
       functionRange = d .range;
       fileIndices = records-kept indexOf 5 (d .indices .base) (d .indices .count) K (inl (omega (arith, D .indices))) i;
       includeInlines = d .«include_inlines»;
@@ -77,7 +81,7 @@ pub record Aside (d : Details) (s : Walk) (p m : ℕ) : Type 0 where
   pub stack : Apart (d .stack) (s .opened * 14) p m
   pub sites : Apart (d .sites) (s .closed * 12) p m
 
-module _ {main supplementary w w′ : List ℕ} {d : Details} {a b : ℕ} {s : Walk} {p m : ℕ} (F : Fits main supplementary w d a b s) (K : Kept w w′ p m) (A : Aside d s p m) where
+module _ {main supplementary w w′ : List ℕ} {d : Details} {a : Later} {b : ℕ} {s : Walk} {p m : ℕ} (F : Fits main supplementary w d a b s) (K : Kept w w′ p m) (A : Aside d s p m) where
   pub walk-kept : (ns : List InlineNode) (ws : List Warning) → walkOf main supplementary d w′ s ns ws ≡ walkOf main supplementary d w s ns ws
   unfolding walkOf
   walk-kept ns ws = λ i. record {
@@ -100,6 +104,11 @@ module _ {main supplementary w w′ : List ℕ} {d : Details} {a b : ℕ} {s : W
       record {
         ready = F .ready;
         used = F .used;
+        fields = F .fields;
+        floor = F .floor;
+        level = F .level;
+        lean = F .lean;
+        left = F .left;
         sites = F .sites;
         nodes = F .nodes;
         bottom = ranges-kept (d .ranges) 1 K (⊎-elim (λ l. inl (omega arith)) (λ l. inr (omega arith)) (A .frames)) ∙ F .bottom;
@@ -110,10 +119,16 @@ module _ {main supplementary w w′ : List ℕ} {d : Details} {a b : ℕ} {s : W
       }
 
 -- less room is asked for
-pub fits-less : {main supplementary w : List ℕ} {d : Details} {a b : ℕ} {s : Walk} → Fits main supplementary w d a b s → (a′ b′ : ℕ) → a′ ≤ a → b′ ≤ b → Fits main supplementary w d a′ b′ s
-fits-less F a′ b′ h k = record {
+pub fits-less : {main supplementary w : List ℕ} {d : Details} {a : Later} {b : ℕ} {s : Walk} → Fits main supplementary w d a b s
+    → (a′ : Later) (b′ : ℕ) → a′ .ranges ≤ a .ranges → a′ .lists ≤ a .lists → b′ ≤ b → Fits main supplementary w d a′ b′ s
+fits-less {d = d} F a′ b′ h l k = record {
   ready = F .ready;
   used = omega (arith, F .used);
+  fields = omega (arith, F .fields, mul-le-mul-left (d .third) l);
+  floor = F .floor;
+  level = omega (arith, F .level);
+  lean = F .lean;
+  left = omega (arith, F .left);
   sites = omega (arith, F .sites);
   nodes = omega (arith, F .nodes);
   bottom = F .bottom;
@@ -123,7 +138,7 @@ fits-less F a′ b′ h k = record {
   closed = F .closed;
 }
 
-module _ {main supplementary w : List ℕ} {d : Details} {a b : ℕ} {s : Walk} (D : DetailsIn main supplementary w d) (F : Fits main supplementary w d a b s) where
+module _ {main supplementary w : List ℕ} {d : Details} {a : Later} {b : ℕ} {s : Walk} (D : DetailsIn main supplementary w d) (F : Fits main supplementary w d a b s) where
   -- the followed targets stand above the state
   pub aside-keys : (m : ℕ) → Aside d s (d .tables .keys) m
   aside-keys m = record {
@@ -133,7 +148,7 @@ module _ {main supplementary w : List ℕ} {d : Details} {a b : ℕ} {s : Walk} 
   }
 
   -- what is above the stack of ranges, and fits there
-  pub aside-ranges : (m : ℕ) → s .frames .used * 16 + m ≤ 16 * (1 + rangeCount main) → Aside d s (d .ranges + s .frames .used * 16) m
+  pub aside-ranges : (m : ℕ) → s .frames .used * 16 + m ≤ 16 * rangeRoom main d → Aside d s (d .ranges + s .frames .used * 16) m
   aside-ranges m h = record {
     frames = inl (omega arith);
     stack = inr (omega (arith, D .ranges));
@@ -143,17 +158,23 @@ module _ {main supplementary w : List ℕ} {d : Details} {a b : ℕ} {s : Walk} 
   -- ---- closing
 
   pub shut-is : {w′ : List ℕ} {o : Open} {depth : ℕ} {r : Sites} → Popped (s .frames) o depth → Closed w w′ (d .stack) (s .opened) (d .sites) (s .closed) depth r
-      → Shut main supplementary d depth w s w′ (record { frames = o; opened = r .opened; closed = r .closed; nodes = s .nodes; at = s .at; warned = s .warned; status = s .status })
+      → Shut main supplementary d depth w s w′ (record { frames = o; opened = r .opened; closed = r .closed; nodes = s .nodes; at = s .at; warned = s .warned; status = s .status; past = s .past })
   unfolding walkOf finish
   shut-is {w′} {o} {depth} {r} P C = record {
     place = refl;
     warned = refl;
     nodes = refl;
+    past = refl;
     status = refl;
     kept = kept-inside D (C .rest) (omega (arith, D .ranges, D .stack)) (omega (arith, F .sites, D .sites));
     fits = λ a′ b′ G. record {
       ready = P .ready;
       used = omega (arith, P .used, G .used);
+      fields = omega (arith, P .used, G .fields);
+      floor = G .floor;
+      level = G .level;
+      lean = P .lean (G .floor) (d .third) (G .lean);
+      left = G .left;
       sites = omega (arith, C .sum, G .sites);
       nodes = G .nodes;
       bottom = ranges-kept (d .ranges) 1 (C .rest) (inl (omega (arith, D .ranges, D .stack))) ∙ G .bottom;

@@ -1,25 +1,25 @@
 -- What the walk over the entries below a subprogram has done, as it stands in memory, and what each of its steps promises. Assumes nothing.
 use mathlib.Core.Path.{_≡_}
-use mathlib.Core.Bool.{cond, not, _||_}
+use mathlib.Core.Bool.{Bool, cond, not, _||_}
 use mathlib.Core.Logic.{_⊎_}
 use mathlib.Core.List.{List, [], _∷_, _++_, map}
 use mathlib.Core.Option.{Option, none, some}
 use Prim.Native.Nat.{ℕ, zero, suc, _+_, _-_, _*_, _≤_, _<_}
 use lib.Dec.{eqb}
 use lib.ListN.{length, drop}
-use Rattle.tlv.specs.Tags.{entryTag, rangeTag, traySiteTag, unitTag}
+use Rattle.tlv.specs.Tags.{entryTag, listTag, rangeTag, traySiteTag, unitTag}
 use Rattle.tlv.specs.Constants.{dwAtCallOrigin}
 use Rattle.tlv.specs.declared.model.AddressRange.{AddressRange}
 use Rattle.tlv.specs.declared.access.Value.{Value}
 use Rattle.tlv.specs.Outcome.{Outcome, refused, done, _>>=_}
 use Rattle.tlv.specs.Lists.{takeWhile, dropWhile}
 use Rattle.tlv.specs.Bytes.{leAt}
-use Rattle.tlv.specs.Fields.{fields, wholeFields, payloads, encode}
+use Rattle.tlv.specs.Fields.{Field, fields, wholeFields, payloads, encode}
 use Rattle.tlv.specs.Buffer.{Put, top}
 use Rattle.tlv.specs.Table.{chunk, records, Kept}
 use Rattle.tlv.specs.Model.{Entry, Attribute}
 use Rattle.tlv.specs.Checked.{Accepts}
-use Rattle.tlv.specs.Places.{entryHere, unitHere}
+use Rattle.tlv.specs.Places.{unitFields, entryHere, unitHere}
 use Rattle.tlv.specs.Output.{InlineNode, CallSite, Warning, WarningKind, about, kindNumber, eachOf, nodeBytes, sitePayload, warningsBytes}
 use Rattle.lines.specs.Files.{FileIndices, fileIndex}
 use Rattle.references.specs.Search.{attribute, absoluteEntryOffset}
@@ -35,12 +35,14 @@ use Rattle.dies.specs.declared.dies.Warned.{Warned}
 use Rattle.dies.specs.declared.dies.CalledFile.{CalledFile}
 use Rattle.dies.specs.declared.dies.CalledLine.{CalledLine}
 use Rattle.dies.specs.declared.dies.Laid.{Laid}
+use Rattle.dies.specs.declared.dies.LaidSites.{LaidSites}
 use Rattle.imports.specs.Tree.{CallSiteFrame, Descendants, DetailContext, callFileOf, callLineOf, endsHere, finish, makeCallSite, pushCallSite, collectEntry}
 use Rattle.imports.specs.Tree.{collectDescendants}
-use Rattle.dies.specs.RangeTable.{rangesAt}
-use Rattle.dies.specs.FrameStack.{openIn, Ready, grown}
+use Rattle.dies.specs.RangeTable.{rangesAt, rangeFields, ownLists}
+use Rattle.dies.specs.FrameStack.{Lean, openIn, Ready, grown}
 use Rattle.imports.specs.Import.{descendantsOf}
-use Rattle.dies.specs.Details.{rangeCount, entryCount, contextIn, entriesFrom, detailBytes}
+use Rattle.dies.specs.Past.{isPast}
+use Rattle.dies.specs.Details.{rangeCount, entryCount, listCount, rangeRoom, contextIn, entriesFrom, detailBytes}
 
 -- ---- call sites in the work slice
 
@@ -96,9 +98,23 @@ pub record Closed (w w′ : List ℕ) (stack n sites m depth : ℕ) (r : Sites) 
 
 -- ---- the state
 
--- the ranges of the entries behind place p, but for those of the entry that p is in
-unfoldable pub rangesLater : List ℕ → ℕ → ℕ
-rangesLater s p = length (payloads rangeTag (dropWhile (λ f. not (eqb (f .tag) entryTag || eqb (f .tag) unitTag)) (wholeFields (fields (drop p s)))))
+-- what the entries behind a place have, but for the entry that the place is in: fields 19, to the sheet's end, and fields 1f, to the unit's
+pub record Later : Type 0 where
+  pub ranges : ℕ
+  pub lists : ℕ
+
+abbrev pub noneLater : Later
+noneLater = record { ranges = 0; lists = 0 }
+
+-- those of the fields from the next entry or unit on
+abbrev pub nextOn : List Field → List Field
+nextOn fs = dropWhile (λ f. not (eqb (f .tag) entryTag || eqb (f .tag) unitTag)) fs
+
+unfoldable pub rangesLater : List ℕ → ℕ → Later
+rangesLater s p = record {
+  ranges = length (payloads rangeTag (nextOn (wholeFields (fields (drop p s)))));
+  lists = length (payloads listTag (nextOn (unitFields (fields (drop p s)))));
+}
 
 -- the entries from place p on
 unfoldable pub entriesLeft : List ℕ → ℕ → ℕ
@@ -119,10 +135,16 @@ walkOf main supplementary d w s nodes warnings = record {
   warnings = warnings;
 }
 
--- the state stands in w, and there is room for a ranges and b entries more
-pub record Fits (main supplementary w : List ℕ) (d : Details) (a b : ℕ) (s : Walk) : Type 0 where
+-- the state stands in w, and there is room for what a says of ranges, and for b entries more. The stack has no more than the fields passed can give, and, by
+-- frames, no more than the fields 19 passed and a list for each; the unit has the lists that are still to come
+pub record Fits (main supplementary w : List ℕ) (d : Details) (a : Later) (b : ℕ) (s : Walk) : Type 0 where
   pub ready : Ready (s .frames)
-  pub used : s .frames .used + a ≤ 1 + rangeCount main
+  pub used : s .frames .used + a .ranges ≤ rangeRoom main d
+  pub fields : s .frames .used + a .ranges + d .third * a .lists ≤ 1 + rangeCount main + d .third * listCount main d
+  pub floor : ℕ
+  pub level : floor + a .ranges ≤ 1 + rangeCount main
+  pub lean : Lean floor (d .third) (s .frames .frames) (s .frames .n) (s .frames .used)
+  pub left : a .lists ≤ listCount main d
   pub sites : s .opened + s .closed + b ≤ entryCount main
   pub nodes : s .nodes + b ≤ entryCount main
   pub bottom : rangesAt w (d .ranges) 1 ≡ d .range ∷ []
@@ -156,6 +178,7 @@ noded s depth k r =
       at = r .at;
       warned = r .warned;
       status = r .status;
+      past = r .past;
     }
 
 -- the part of the work slice that the walk writes to
@@ -164,12 +187,13 @@ walked main supplementary d = d .tables .keys + keysExtent main supplementary (d
 
 -- what the definition does by F is done in memory: nodes and warnings are laid, and the rest stands in w′, with room for a ranges and b entries; or it is
 -- refused
-pub record Advances (F : Descendants → Outcome Descendants) (main supplementary name : List ℕ) (d : Details) (a b : ℕ) (w t u : List ℕ) (s : Walk)
+pub record Advances (F : Descendants → Outcome Descendants) (main supplementary name : List ℕ) (d : Details) (a : Later) (b : ℕ) (w t u : List ℕ) (s : Walk)
     (w′ t′ u′ : List ℕ) (s′ : Walk) : Type 0 where
   pub nodes : List InlineNode
   pub warnings : List Warning
   pub laid : s′ .status ≡ 0 → Put (s .at) (newBytes name (d .range) (s .nodes) nodes) t t′ (s′ .at)
   pub warned : s′ .status ≡ 0 → Put (s .warned) (warningsBytes warnings) u u′ (s′ .warned)
+  pub past : s′ .status ≡ 0 → s′ .past ≡ (s .past || isPast (s .at) (length (newBytes name (d .range) (s .nodes) nodes)))
   pub count : s′ .status ≡ 0 → s′ .nodes ≡ s .nodes + length nodes
   pub kept : Kept w w′ (d .ranges) (walked main supplementary d)
   pub fits : s′ .status ≡ 0 → Fits main supplementary w′ d a b s′
@@ -177,12 +201,17 @@ pub record Advances (F : Descendants → Outcome Descendants) (main supplementar
       ≡ done (walkOf main supplementary d w′ s′ (ns ++ nodes) (ws ++ warnings))
   pub no : (s′ .status ≡ 0 → ⊥) → (ns : List InlineNode) (ws : List Warning) → F (walkOf main supplementary d w s ns ws) ≡ refused (s′ .status)
 
+-- k ranges are no more than the entry at p can give: its fields 19, or its list
+abbrev pub OwnRanges : List ℕ → Details → ℕ → ℕ → Type 0
+OwnRanges main d p k = (k ≤ length (rangeFields main (p + 15))) ⊎ ((k ≤ d .third) × (1 ≤ ownLists main (p + 15)))
+
 -- the same of what lays nothing
-pub record Quiet (F : Descendants → Outcome Descendants) (main supplementary : List ℕ) (d : Details) (a b : ℕ) (w : List ℕ) (s : Walk) (w′ : List ℕ)
+pub record Quiet (F : Descendants → Outcome Descendants) (main supplementary : List ℕ) (d : Details) (a : Later) (b : ℕ) (w : List ℕ) (s : Walk) (w′ : List ℕ)
     (s′ : Walk) : Type 0 where
   pub place : s′ .at ≡ s .at
   pub warned : s′ .warned ≡ s .warned
   pub nodes : s′ .nodes ≡ s .nodes
+  pub past : s′ .past ≡ s .past
   pub kept : Kept w w′ (d .ranges) (walked main supplementary d)
   pub fits : s′ .status ≡ 0 → Fits main supplementary w′ d a b s′
   pub ok : s′ .status ≡ 0 → (ns : List InlineNode) (ws : List Warning) → F (walkOf main supplementary d w s ns ws)
@@ -194,9 +223,10 @@ pub record Shut (main supplementary : List ℕ) (d : Details) (depth : ℕ) (w :
   pub place : s′ .at ≡ s .at
   pub warned : s′ .warned ≡ s .warned
   pub nodes : s′ .nodes ≡ s .nodes
+  pub past : s′ .past ≡ s .past
   pub status : s′ .status ≡ s .status
   pub kept : Kept w w′ (d .ranges) (walked main supplementary d)
-  pub fits : (a b : ℕ) → Fits main supplementary w d a b s → Fits main supplementary w′ d a b s′
+  pub fits : (a : Later) (b : ℕ) → Fits main supplementary w d a b s → Fits main supplementary w′ d a b s′
   pub walk : (ns : List InlineNode) (ws : List Warning) → walkOf main supplementary d w′ s′ ns ws ≡ finish depth (walkOf main supplementary d w s ns ws)
 
 -- a call site
@@ -262,24 +292,29 @@ pub record LineCalled (main : List ℕ) (unit p at : ℕ) (u u′ : List ℕ) (r
 -- ---- the call sites behind the nodes
 
 -- the n closed call sites were laid
-pub record SitesPut (main supplementary : List ℕ) (d : Details) (n at : ℕ) (w w′ t t′ : List ℕ) (r : ℕ) : Type 0 where
-  pub put : Put at (eachOf (λ x. encode traySiteTag (sitePayload x)) (sitesAt (originName main supplementary (d .unit)) w (d .sites) n)) t t′ r
+pub record SitesPut (main supplementary : List ℕ) (d : Details) (n at : ℕ) (w w′ t t′ : List ℕ) (r : LaidSites) : Type 0 where
+  pub put : Put at (eachOf (λ x. encode traySiteTag (sitePayload x)) (sitesAt (originName main supplementary (d .unit)) w (d .sites) n)) t t′ (r .at)
+  pub past : r .past ≡ isPast at (length (eachOf (λ x. encode traySiteTag (sitePayload x)) (sitesAt (originName main supplementary (d .unit)) w (d .sites) n)))
   pub rest : Kept w w′ (d .ranges) (walked main supplementary d)
 
 -- ---- the whole, where a switch is on
 
 -- its bytes and its warnings were written, and its nodes counted
-pub record Descended (o : Outcome Descendants) (d : Details) (name : List ℕ) (at warned : ℕ) (t t′ u u′ : List ℕ) (nodes at′ warned′ : ℕ) : Type 0 where
+pub record Descended (o : Outcome Descendants) (d : Details) (name : List ℕ) (at warned : ℕ) (t t′ u u′ : List ℕ) (nodes at′ warned′ : ℕ) (past : Bool)
+    : Type 0 where
   pub descendants : Descendants
   pub is : o ≡ done descendants
   pub count : nodes ≡ length (descendants .inlines)
   pub put : Put at (detailBytes name (d .range) descendants) t t′ at′
   pub warns : Put warned (warningsBytes (descendants .warnings)) u u′ warned′
+  pub passes : past ≡ isPast at (length (detailBytes name (d .range) descendants))
 
 abbrev pub DescendedBy : Outcome Descendants → Details → List ℕ → ℕ → ℕ → List ℕ → List ℕ → List ℕ → List ℕ → Extracted → Type 0
 DescendedBy o d name at warned t t′ u u′ (Extracted.Refused n) = o ≡ refused n
-DescendedBy o d name at warned t t′ u u′ (Extracted.Details nodes at′ warned′) = Descended o d name at warned t t′ u u′ nodes at′ warned′
+DescendedBy o d name at warned t t′ u u′ (Extracted.Details nodes at′ warned′ past) = Descended o d name at warned t t′ u u′ nodes at′ warned′ past
 
-pub record Descends (main supplementary w w′ : List ℕ) (d : Details) (name : List ℕ) (p depth at warned : ℕ) (t t′ u u′ : List ℕ) (r : Extracted) : Type 0 where
-  pub is : DescendedBy (collectDescendants (contextIn main supplementary w d) (descendantsOf depth (entriesFrom main p))) d name at warned t t′ u u′ r
+pub record Descends (main supplementary lists addresses w w′ : List ℕ) (d : Details) (name : List ℕ) (p depth at warned : ℕ) (t t′ u u′ : List ℕ)
+    (r : Extracted) : Type 0 where
+  pub is : DescendedBy (collectDescendants (contextIn main supplementary lists addresses w d) (descendantsOf depth (entriesFrom main p))) d name at warned t
+      t′ u u′ r
   pub rest : Kept w w′ (d .ranges) (walked main supplementary d)

@@ -24,6 +24,12 @@ unfoldable pub Stacked : List Frame → ℕ → ℕ → Type 0
 Stacked fs zero used = used ≡ 1
 Stacked fs (suc t) used = (slot fs t .ranges ≤ used) × Stacked fs t (slot fs t .ranges)
 
+-- the room of the stack, frame by frame: with n open frames it has at most c ranges and t more for each frame, and so it was when each of them was opened.
+-- c counts the function's range and the fields 19 of the entries passed, t is what one range list can give (document 02, E9)
+unfoldable pub Lean : ℕ → ℕ → List Frame → ℕ → ℕ → Type 0
+Lean c t fs zero used = used ≤ c
+Lean c t fs (suc n) used = (used ≤ c + t * suc n) × Lean c t fs n (slot fs n .ranges)
+
 -- the open nodes, with their ranges in w from base on
 unfoldable pub openIn : List ℕ → ℕ → Open → List InlineFrame
 openIn w base st = openOf (st .frames) (st .n) (st .used) w base
@@ -49,6 +55,7 @@ pub record Popped (st st′ : Open) (d : ℕ) : Type 0 where
   pub frames : (w : List ℕ) (base : ℕ) → openIn w base st′ ≡ finishInlines d (openIn w base st)
   pub fewer : st′ .n ≤ st .n
   pub used : st′ .used ≤ st .used
+  pub lean : (c t : ℕ) → Lean c t (st .frames) (st .n) (st .used) → Lean c t (st′ .frames) (st′ .n) (st′ .used)
 
 -- one frame more, of depth d, whose ranges are the k from `used` on
 abbrev pub grown : Open → ℕ → ℕ → Open

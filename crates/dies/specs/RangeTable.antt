@@ -1,18 +1,22 @@
 -- Ranges in the work slice, 16 bytes each, and what the functions that merge them there promise. Assumes nothing.
 use mathlib.Core.Path.{_≡_}
-use mathlib.Core.Logic.{_↔_}
+use mathlib.Core.Logic.{_↔_, _⊎_}
 use mathlib.Core.Bool.{Bool, true, false}
 use mathlib.Core.List.{List, [], _∷_, _++_, map}
-use Prim.Native.Nat.{ℕ, _+_, _*_, _≤_, min, max}
+use mathlib.Core.Option.{Option, none, some}
+use Prim.Native.Nat.{ℕ, _+_, _*_, _/_, _≤_, min, max}
 use lib.Dec.{ltb}
 use lib.ListN.{length, drop}
-use Rattle.tlv.specs.Tags.{rangeTag}
+use Rattle.tlv.specs.Tags.{failureTag, listTag, rangeTag}
 use Rattle.tlv.specs.declared.model.AddressRange.{AddressRange}
-use Rattle.tlv.specs.Fields.{fields, payloads}
-use Rattle.tlv.specs.Model.{rangeOf, entryRangeOf}
+use Rattle.tlv.specs.Fields.{fields, payloads, payloadOf}
+use Rattle.tlv.specs.Model.{RangeList, rangeOf, entryRangeOf, failureOf, rangeListOf}
 use Rattle.tlv.specs.Places.{ownFields}
-use Rattle.tlv.specs.Lists.{Any}
+use Rattle.tlv.specs.Lists.{Any, isNone, mapOption}
 use Rattle.tlv.specs.Table.{chunk, records, Kept, KeptBut}
+use Rattle.rnglists.specs.RangeLists.{ListRanges, rangesIn, listRanges, DieRanges, listed}
+use Rattle.dies.specs.declared.ranges.ListGathered.{ListGathered}
+use Rattle.dies.specs.declared.inlined.Merged.{Merged}
 use Rattle.imports.specs.Ranges.{Apart, coalesceRanges}
 use Rattle.imports.specs.Tree.{fit}
 
@@ -102,4 +106,72 @@ pub record Gathered (s : List ℕ) (p : ℕ) (w w′ : List ℕ) (q m to r : ℕ
   pub ranges : rangesAt w′ to r ≡ coalesceRanges (fit (rangesAt w q m) (rangesGiven s p))
   pub apart : Apart (rangesAt w′ to r)
   pub few : r ≤ length (rangeFields s p)
+  pub rest : Kept w w′ to (16 * length (rangeFields s p))
+
+-- ---- the ranges of a list (document 02, E9)
+
+-- how many fields 1f an entry has whose field ends at p: one at the most
+abbrev pub ownLists : List ℕ → ℕ → ℕ
+ownLists s p = length (payloads listTag (ownFields (fields (drop p s))))
+
+-- the list of a field 1f
+abbrev pub listAt : List ℕ → List ℕ → ℕ → ℕ → ℕ → ℕ → ListRanges
+listAt lists addresses place size offset from = rangesIn size (drop place addresses) from (drop offset lists)
+
+-- the ranges that it gives
+abbrev pub listGiven : ListRanges → List AddressRange
+listGiven l = map (λ x. x .range) (l .given)
+
+-- those that are nonempty and lie inside one of the m at q stand at `to`, as they come: a third of the section's bytes at the most; or the list has a fault
+abbrev pub ListFit : List ℕ → ListRanges → List ℕ → List ℕ → ℕ → ℕ → ℕ → ListGathered → Type 0
+ListFit lists l w w′ q m to (ListGathered.Ranges r) = (l .fault ≡ 0) × (rangesAt w′ to r ≡ fit (rangesAt w q m) (listGiven l)) × (r ≤ length lists / 3)
+ListFit lists l w w′ q m to (ListGathered.Fault n) = (l .fault ≡ n) × (7 ≤ n)
+
+pub record GatheredList (lists addresses : List ℕ) (place size offset from : ℕ) (w w′ : List ℕ) (q m to : ℕ) (r : ListGathered) : Type 0 where
+  pub is : ListFit lists (listAt lists addresses place size offset from) w w′ q m to r
+  pub rest : Kept w w′ to (16 * (length lists / 3))
+
+-- ---- the ranges of an inlined entry: merged, or the refusal that they are
+
+-- of x, which the definition reads, those that are nonempty and lie inside one of the m at q were merged to r ranges at `to`; or reading them failed
+abbrev pub MergedBy : DieRanges → List ℕ → List ℕ → ℕ → ℕ → ℕ → Merged → Type 0
+MergedBy x w w′ q m to (Merged.Ranges r) =
+    (isNone (x .failure) ≡ true) × (rangesAt w′ to r ≡ coalesceRanges (fit (rangesAt w q m) (map (λ y. y .range) (x .given))))
+MergedBy x w w′ q m to (Merged.Refused n) = (isNone (x .failure) ≡ false) × (x .refusal ≡ n) × (6 ≤ n)
+
+-- there are no more than `most`
+abbrev pub MergedFew : ℕ → Merged → Type 0
+MergedFew most (Merged.Ranges r) = r ≤ most
+MergedFew most (Merged.Refused n) = Unit
+
+-- what is read of the entry whose field ends at p: its fields 19 and 1a, or, "in place of 19 and 1a", its list
+abbrev pub readBy : List ℕ → List ℕ → List ℕ → ℕ → Option RangeList → DieRanges
+readBy lists addresses s p none = record {
+  given = map entryRangeOf (rangeFields s p);
+  failure = mapOption failureOf (payloadOf failureTag (ownFields (fields (drop p s))));
+  refusal = 6;
+}
+readBy lists addresses s p (some l) = listed (listRanges lists addresses l)
+
+abbrev pub readAt : List ℕ → List ℕ → List ℕ → ℕ → DieRanges
+readAt lists addresses s p = readBy lists addresses s p (mapOption rangeListOf (payloadOf listTag (ownFields (fields (drop p s)))))
+
+-- its ranges, merged: those of its fields 19, or of its list
+pub record Merges (x : DieRanges) (s lists : List ℕ) (p : ℕ) (w w′ : List ℕ) (q m to : ℕ) (r : Merged) : Type 0 where
+  pub is : MergedBy x w w′ q m to r
+  pub most : ℕ
+  pub few : MergedFew most r
+  pub own : (most ≡ length (rangeFields s p)) ⊎ ((most ≡ length lists / 3) × (1 ≤ ownLists s p))
+  pub rest : Kept w w′ to (16 * most)
+
+-- the list's own part of it
+pub record MergesList (l : ListRanges) (lists w w′ : List ℕ) (q m to : ℕ) (r : Merged) : Type 0 where
+  pub is : MergedBy (listed l) w w′ q m to r
+  pub few : MergedFew (length lists / 3) r
+  pub rest : Kept w w′ to (16 * (length lists / 3))
+
+-- and that of the fields 19 and 1a of the entry whose field ends at p
+pub record MergesFields (s : List ℕ) (p : ℕ) (w w′ : List ℕ) (q m to : ℕ) (r : Merged) : Type 0 where
+  pub is : MergedBy (readBy [] [] s p none) w w′ q m to r
+  pub few : MergedFew (length (rangeFields s p)) r
   pub rest : Kept w w′ to (16 * length (rangeFields s p))

@@ -1,8 +1,8 @@
 // Inline trees and call sites of one function (the Rust's convert/dwarf/dies.rs).
 ghost use mathlib.Core.Path.{_≡_};
-ghost use Prim.Native.Nat.{_+_, _*_, _≤_, _<_};
+ghost use Prim.Native.Nat.{ℕ, _+_, _*_, _/_, _≤_, _<_};
 ghost use mathlib.Core.Bool.{false};
-ghost use mathlib.Core.List.{[]};
+ghost use mathlib.Core.List.{List, []};
 ghost use lib.Dec.{leb};
 ghost use lib.ListN.{length};
 ghost use Rattle.tlv.specs.Constants.{dwAtCallReturnPc};
@@ -18,10 +18,12 @@ ghost use Rattle.dies.specs.RangeTable.{rangesAt};
 ghost use Rattle.imports.specs.Tree.{inlineDepthLimit, pushInline, makeInlineNode, collectEntries};
 ghost use Rattle.imports.specs.Import.{descendantsOf};
 ghost use Rattle.dies.specs.Details.{DetailsIn, EntriesKnown, Extracts, contextIn, entriesFrom};
-ghost use Rattle.dies.specs.DetailState.{PutSite, Closed, Shut, Fits, Advances, Quiet, collectSite, stepEntry, rangesLater, entriesLeft, AboutWarned};
-ghost use Rattle.dies.specs.DetailState.{Accepted, addressOf, addressIn, FileCalled, LineCalled, SitesPut, Descends, leadBytes, noded};
+ghost use Rattle.dies.specs.DetailState.{PutSite, Closed, Shut, noneLater, Fits, OwnRanges, Advances, Quiet, collectSite, stepEntry, rangesLater};
+ghost use Rattle.dies.specs.DetailState.{entriesLeft, AboutWarned, Accepted, addressOf, addressIn, FileCalled, LineCalled, SitesPut, Descends};
+ghost use Rattle.dies.specs.DetailState.{leadBytes, noded};
 use crate::frames::Frame;
 use crate::frames::Open;
+use crate::inlined::Merged;
 use files::index::FileNumber;
 use files::index::FoundIndex;
 use files::index::StoredIndices;
@@ -31,7 +33,6 @@ use references::attributes::unsigned_attribute;
 use references::names::FoundName;
 use references::names::found_name;
 use references::tables::Tables;
-use tlv::access::Own;
 use tlv::access::Value;
 use tlv::constants::DW_AT_CALL_FILE;
 use tlv::constants::DW_AT_CALL_LINE;
@@ -46,12 +47,11 @@ use tlv::tags::ENTRY_DEPTH;
 use tlv::tags::ENTRY_KIND;
 use tlv::tags::ENTRY_TAG;
 use tlv::tags::ENTRY_WHOLE;
-use tlv::tags::FAILURE_TAG;
 use tlv::tags::UNIT_OFFSET;
 use tlv::tags::UNIT_TAG;
 
 // What is the same for every entry below a subprogram: the searches' tables, the unit's place and its map of file numbers, the function's range,
-// the two switches, and where the open nodes' ranges, the open and the closed call sites are put.
+// the two switches, where the open nodes' ranges, the open and the closed call sites are put, how many ranges a list can give, and whether the unit has lists.
 pub struct Details {
     pub tables: Tables,
     pub unit: usize,
@@ -62,20 +62,24 @@ pub struct Details {
     pub ranges: usize,
     pub stack: usize,
     pub sites: usize,
+    pub third: usize,
+    pub with_lists: bool,
 }
 
-// How many inline nodes there are below the root, and the places in the records and the warnings after them; or the refusal.
+// How many inline nodes there are below the root, the places in the records and the warnings after them, and whether the records pass the largest place;
+// or the refusal.
 pub enum Extracted {
     Refused(u8),
     Details {
         nodes: usize,
         at: usize,
         warned: usize,
+        past: bool,
     },
 }
 
 // What changes from entry to entry: the open nodes, how many call sites are open and closed, how many nodes there are,
-// the places in the records and the warnings, and the refusal, 0 for none.
+// the places in the records and the warnings, the refusal, 0 for none, and whether the records pass the largest place.
 pub struct Walk {
     pub frames: Open,
     pub opened: usize,
@@ -84,6 +88,7 @@ pub struct Walk {
     pub at: usize,
     pub warned: usize,
     pub status: u8,
+    pub past: bool,
 }
 
 // How many call sites are open, and how many are closed.
@@ -112,11 +117,18 @@ pub struct CalledLine {
     pub status: u8,
 }
 
-// The places in the records and the warnings after a node, and the refusal, 0 for none.
+// The places in the records and the warnings after a node, the refusal, 0 for none, and whether the records pass the largest place.
 pub struct Laid {
     pub at: usize,
     pub warned: usize,
     pub status: u8,
+    pub past: bool,
+}
+
+// The place in the records after the call sites, and whether they pass the largest place.
+pub struct LaidSites {
+    pub at: usize,
+    pub past: bool,
 }
 
 // An address that an attribute is; a failed one has no value.
@@ -206,7 +218,7 @@ fn close(
     depth: u16,
 ) -> Walk
     requires { ⌜ DetailsIn (now main) (now supplementary) (now work) d ⌝ }
-    requires { ⌜ Fits (now main) (now supplementary) (now work) d 0 0 s ⌝ }
+    requires { ⌜ Fits (now main) (now supplementary) (now work) d noneLater 0 s ⌝ }
     ensures { λ r. ⌜ Shut (now (main .entry)) (now (supplementary .entry)) d depth (now (work .entry)) s (now (work .exit)) r ⌝ }
 {
     let o = s.frames;
@@ -232,9 +244,10 @@ fn make_call_site<'a>(
     requires { ⌜ EntryKnown (now main) (d .unit) p ⌝ }
     requires { ⌜ Fits (now main) (now supplementary) (now work) d (rangesLater (now main) p) (entriesLeft (now main) p) s ⌝ }
     requires { ⌜ s .status ≡ 0 ⌝ }
-    ensures { λ r. ⌜ Quiet (collectSite (contextIn (now (main .entry)) (now (supplementary .entry)) (now (work .entry)) d) (entryHere (now (main .entry)) p))
+    ensures { λ r. ⌜ ((lists addresses : List ℕ) → Quiet
+        (collectSite (contextIn (now (main .entry)) (now (supplementary .entry)) lists addresses (now (work .entry)) d) (entryHere (now (main .entry)) p))
         (now (main .entry)) (now (supplementary .entry)) d (rangesLater (now (main .entry)) (p + 15)) (entriesLeft (now (main .entry)) (p + 15))
-        (now (work .entry)) s (now (work .exit)) r ⌝ }
+        (now (work .entry)) s (now (work .exit)) r) ⌝ }
 {
     let mut r = s;
     let start = d.range.start;
@@ -433,12 +446,14 @@ fn keep_node(
 ) -> Laid
     requires { ⌜ DetailsIn (now main) (now supplementary) (now work) d ⌝ }
     requires { ⌜ EntryKnown (now main) (d .unit) p ⌝ }
-    requires { ⌜ Fits (now main) (now supplementary) (now work) d (k + rangesLater (now main) (p + 15)) (entriesLeft (now main) p) s ⌝ }
+    requires { ⌜ Fits (now main) (now supplementary) (now work) d (rangesLater (now main) p) (entriesLeft (now main) p) s ⌝ }
     requires { ⌜ (s .status ≡ 0) × (0 < k) × (10 + length (now name) < 65536) × (10 + length (now inlined) < 65536) ⌝ }
-    ensures { λ r. ⌜ Advances (pushInline (contextIn (now (main .entry)) (now (supplementary .entry)) (now (work .entry)) d) (entryHere (now (main .entry)) p)
+    requires { ⌜ OwnRanges (now main) d p k ⌝ }
+    ensures { λ r. ⌜ ((lists addresses : List ℕ) → Advances
+        (pushInline (contextIn (now (main .entry)) (now (supplementary .entry)) lists addresses (now (work .entry)) d) (entryHere (now (main .entry)) p)
         (now (inlined .entry)) (rangesAt (now (work .entry)) (d .ranges + s .frames .used * 16) k)) (now (main .entry)) (now (supplementary .entry))
         (now (name .entry)) d (rangesLater (now (main .entry)) (p + 15)) (entriesLeft (now (main .entry)) (p + 15)) (now (work .entry)) (now (records .entry))
-        (now (warnings .entry)) s (now (work .entry)) (now (records .exit)) (now (warnings .exit)) (noded s (leAt 2 (now (main .entry)) (p + 11)) k r) ⌝ }
+        (now (warnings .entry)) s (now (work .entry)) (now (records .exit)) (now (warnings .exit)) (noded s (leAt 2 (now (main .entry)) (p + 11)) k r)) ⌝ }
 {
     let indices = d.indices;
     let range = d.range;
@@ -448,6 +463,7 @@ fn keep_node(
             at: s.at,
             warned: s.warned,
             status: file.status,
+            past: s.past,
         };
     }
     let line = call_line(main, warnings, d.unit, p, file.at);
@@ -456,6 +472,7 @@ fn keep_node(
             at: s.at,
             warned: s.warned,
             status: line.status,
+            past: s.past,
         };
     }
     let n = s.frames.n;
@@ -464,9 +481,11 @@ fn keep_node(
             at: s.at,
             warned: s.warned,
             status: 14,
+            past: s.past,
         };
     }
     let called = file.file;
+    let past = crate::past::node_past(s.at, s.nodes, name.len(), inlined.len(), k);
     let rooted = put_root(records, s.at, s.nodes, range, name);
     let from = d.ranges + s.frames.used * 16;
     let at = put_inline_node(
@@ -484,6 +503,7 @@ fn keep_node(
         at: at,
         warned: line.at,
         status: 0,
+        past: s.past | past,
     }
 }
 
@@ -491,6 +511,8 @@ fn keep_node(
 fn make_inline_node<'a>(
     main: &'a [u8],
     supplementary: &'a [u8],
+    lists: &[u8],
+    addresses: &[u8],
     work: &mut [u8],
     records: &mut [u8],
     warnings: &mut [u8],
@@ -503,10 +525,11 @@ fn make_inline_node<'a>(
     requires { ⌜ EntryKnown (now main) (d .unit) p ⌝ }
     requires { ⌜ Fits (now main) (now supplementary) (now work) d (rangesLater (now main) p) (entriesLeft (now main) p) s ⌝ }
     requires { ⌜ (s .status ≡ 0) × (10 + length (now name) < 65536) ⌝ }
-    ensures { λ r. ⌜ Advances (makeInlineNode (contextIn (now (main .entry)) (now (supplementary .entry)) (now (work .entry)) d)
-        (entryHere (now (main .entry)) p)) (now (main .entry)) (now (supplementary .entry)) (now (name .entry)) d (rangesLater (now (main .entry)) (p + 15))
-        (entriesLeft (now (main .entry)) (p + 15)) (now (work .entry)) (now (records .entry)) (now (warnings .entry)) s (now (work .exit))
-        (now (records .exit)) (now (warnings .exit)) r ⌝ }
+    requires { ⌜ length (now lists) / 3 ≡ d .third ⌝ }
+    ensures { λ r. ⌜ Advances (makeInlineNode (contextIn (now (main .entry)) (now (supplementary .entry)) (now (lists .entry)) (now (addresses .entry))
+        (now (work .entry)) d) (entryHere (now (main .entry)) p)) (now (main .entry)) (now (supplementary .entry)) (now (name .entry)) d
+        (rangesLater (now (main .entry)) (p + 15)) (entriesLeft (now (main .entry)) (p + 15)) (now (work .entry)) (now (records .entry))
+        (now (warnings .entry)) s (now (work .exit)) (now (records .exit)) (now (warnings .exit)) r ⌝ }
 {
     let mut status: u8 = 0;
     let tables = d.tables;
@@ -526,32 +549,30 @@ fn make_inline_node<'a>(
     let FoundName::Found(_) = found_name(inlined) else {
         return s;
     };
-    match tlv::access::next_own(main, p + ENTRY_WHOLE, FAILURE_TAG) {
-        Own::Field {
-            start: _,
-            len: _,
-            next: _,
-        } => {
-            s.status = 6;
+    let mut o = s.frames;
+    let n = o.n;
+    let used = o.used;
+    let mut top: usize = 0;
+    if 0 < n {
+        let f = o.frames[n - 1];
+        top = f.ranges as usize;
+    }
+    match crate::inlined::inline_ranges(
+        main,
+        lists,
+        addresses,
+        work,
+        d.with_lists,
+        p + ENTRY_WHOLE,
+        d.ranges + top * 16,
+        used - top,
+        d.ranges + used * 16,
+    ) {
+        Merged::Refused(fault) => {
+            s.status = fault;
             return s;
         }
-        Own::Missing => {
-            let mut o = s.frames;
-            let n = o.n;
-            let used = o.used;
-            let mut top: usize = 0;
-            if 0 < n {
-                let f = o.frames[n - 1];
-                top = f.ranges as usize;
-            }
-            let k = crate::ranges::coalesce_ranges(
-                main,
-                p + ENTRY_WHOLE,
-                work,
-                d.ranges + top * 16,
-                used - top,
-                d.ranges + used * 16,
-            );
+        Merged::Ranges(k) => {
             if k == 0 {
                 return s;
             }
@@ -587,6 +608,7 @@ fn make_inline_node<'a>(
                 at: laid.at,
                 warned: laid.warned,
                 status: laid.status,
+                past: laid.past,
             };
         }
     }
@@ -596,6 +618,8 @@ fn make_inline_node<'a>(
 fn collect_entry<'a>(
     main: &'a [u8],
     supplementary: &'a [u8],
+    lists: &[u8],
+    addresses: &[u8],
     work: &mut [u8],
     records: &mut [u8],
     warnings: &mut [u8],
@@ -608,10 +632,11 @@ fn collect_entry<'a>(
     requires { ⌜ EntryKnown (now main) (d .unit) p ⌝ }
     requires { ⌜ Fits (now main) (now supplementary) (now work) d (rangesLater (now main) p) (entriesLeft (now main) p) s ⌝ }
     requires { ⌜ (s .status ≡ 0) × (10 + length (now name) < 65536) ⌝ }
-    ensures { λ r. ⌜ Advances (stepEntry (contextIn (now (main .entry)) (now (supplementary .entry)) (now (work .entry)) d) (entryHere (now (main .entry)) p))
-        (now (main .entry)) (now (supplementary .entry)) (now (name .entry)) d (rangesLater (now (main .entry)) (p + 15))
-        (entriesLeft (now (main .entry)) (p + 15)) (now (work .entry)) (now (records .entry)) (now (warnings .entry)) s (now (work .exit))
-        (now (records .exit)) (now (warnings .exit)) r ⌝ }
+    requires { ⌜ length (now lists) / 3 ≡ d .third ⌝ }
+    ensures { λ r. ⌜ Advances (stepEntry (contextIn (now (main .entry)) (now (supplementary .entry)) (now (lists .entry)) (now (addresses .entry))
+        (now (work .entry)) d) (entryHere (now (main .entry)) p)) (now (main .entry)) (now (supplementary .entry)) (now (name .entry)) d
+        (rangesLater (now (main .entry)) (p + 15)) (entriesLeft (now (main .entry)) (p + 15)) (now (work .entry)) (now (records .entry))
+        (now (warnings .entry)) s (now (work .exit)) (now (records .exit)) (now (warnings .exit)) r ⌝ }
 {
     let depth = tlv::bytes::read_u16(main, p + ENTRY_DEPTH);
     let c = close(main, supplementary, work, d, s, depth);
@@ -624,7 +649,19 @@ fn collect_entry<'a>(
     }
     if tag == DW_TAG_INLINED_SUBROUTINE {
         if d.include_inlines {
-            return make_inline_node(main, supplementary, work, records, warnings, d, name, p, c);
+            return make_inline_node(
+                main,
+                supplementary,
+                lists,
+                addresses,
+                work,
+                records,
+                warnings,
+                d,
+                name,
+                p,
+                c,
+            );
         }
         return c;
     }
@@ -635,6 +672,8 @@ fn collect_entry<'a>(
 fn collect_entries<'a>(
     main: &'a [u8],
     supplementary: &'a [u8],
+    lists: &[u8],
+    addresses: &[u8],
     work: &mut [u8],
     records: &mut [u8],
     warnings: &mut [u8],
@@ -649,9 +688,10 @@ fn collect_entries<'a>(
     requires { ⌜ EntriesKnown (now main) (d .unit) p ⌝ }
     requires { ⌜ Fits (now main) (now supplementary) (now work) d (rangesLater (now main) p) (entriesLeft (now main) p) s ⌝ }
     requires { ⌜ (s .status ≡ 0) × (10 + length (now name) < 65536) ⌝ }
-    ensures { λ r. ⌜ Advances (collectEntries (contextIn (now (main .entry)) (now (supplementary .entry)) (now (work .entry)) d)
-        (descendantsOf depth (entriesFrom (now (main .entry)) p))) (now (main .entry)) (now (supplementary .entry)) (now (name .entry)) d 0 0
-        (now (work .entry)) (now (records .entry)) (now (warnings .entry)) s (now (work .exit)) (now (records .exit)) (now (warnings .exit)) r ⌝ }
+    requires { ⌜ length (now lists) / 3 ≡ d .third ⌝ }
+    ensures { λ r. ⌜ Advances (collectEntries (contextIn (now (main .entry)) (now (supplementary .entry)) (now (lists .entry)) (now (addresses .entry))
+        (now (work .entry)) d) (descendantsOf depth (entriesFrom (now (main .entry)) p))) (now (main .entry)) (now (supplementary .entry)) (now (name .entry))
+        d noneLater 0 (now (work .entry)) (now (records .entry)) (now (warnings .entry)) s (now (work .exit)) (now (records .exit)) (now (warnings .exit)) r ⌝ }
 {
     let mut r = s;
     let mut at = p;
@@ -676,7 +716,19 @@ fn collect_entries<'a>(
                     if tlv::bytes::read_u16(main, start + 8) <= depth {
                         return r;
                     }
-                    r = collect_entry(main, supplementary, work, records, warnings, d, name, at, r);
+                    r = collect_entry(
+                        main,
+                        supplementary,
+                        lists,
+                        addresses,
+                        work,
+                        records,
+                        warnings,
+                        d,
+                        name,
+                        at,
+                        r,
+                    );
                     if r.status != 0 {
                         return r;
                     }
@@ -698,15 +750,16 @@ fn put_sites<'a>(
     d: Details,
     at: usize,
     s: Walk,
-) -> usize
+) -> LaidSites
     requires { ⌜ DetailsIn (now main) (now supplementary) (now work) d ⌝ }
-    requires { ⌜ Fits (now main) (now supplementary) (now work) d 0 0 s ⌝ }
+    requires { ⌜ Fits (now main) (now supplementary) (now work) d noneLater 0 s ⌝ }
     ensures { λ r. ⌜ SitesPut (now (main .entry)) (now (supplementary .entry)) d (s .closed) at (now (work .entry)) (now (work .exit)) (now (records .entry))
         (now (records .exit)) r ⌝ }
 {
     let n = s.closed;
     let tables = d.tables;
     let mut place = at;
+    let mut past = false;
     let mut i = 0;
     while i < n {
         let from = d.sites + i * 12;
@@ -723,16 +776,23 @@ fn put_sites<'a>(
             entry,
             DW_AT_CALL_ORIGIN,
         );
+        let over = crate::past::is_past(place, 12 + pattern.len());
         place = tlv::output::put_call_site(records, place, offset, pattern);
+        past = past | over;
         i += 1;
     }
-    place
+    LaidSites {
+        at: place,
+        past: past,
+    }
 }
 
 // The nodes and the call sites of the function of a name, from the entries that follow place p and are deeper than depth.
 fn collect_descendants<'a>(
     main: &'a [u8],
     supplementary: &'a [u8],
+    lists: &[u8],
+    addresses: &[u8],
     work: &mut [u8],
     records: &mut [u8],
     warnings: &mut [u8],
@@ -747,8 +807,10 @@ fn collect_descendants<'a>(
     requires { ⌜ Placed (now main) p ⌝ }
     requires { ⌜ EntriesKnown (now main) (d .unit) p ⌝ }
     requires { ⌜ 10 + length (now name) < 65536 ⌝ }
-    ensures { λ r. ⌜ Descends (now (main .entry)) (now (supplementary .entry)) (now (work .entry)) (now (work .exit)) d (now (name .entry)) p depth at warned
-        (now (records .entry)) (now (records .exit)) (now (warnings .entry)) (now (warnings .exit)) r ⌝ }
+    requires { ⌜ length (now lists) / 3 ≡ d .third ⌝ }
+    ensures { λ r. ⌜ Descends (now (main .entry)) (now (supplementary .entry)) (now (lists .entry)) (now (addresses .entry)) (now (work .entry))
+        (now (work .exit)) d (now (name .entry)) p depth at warned (now (records .entry)) (now (records .exit)) (now (warnings .entry)) (now (warnings .exit))
+        r ⌝ }
 {
     let range = d.range;
     crate::ranges::put_range_at(work, d.ranges, range);
@@ -760,10 +822,13 @@ fn collect_descendants<'a>(
         at: at,
         warned: warned,
         status: 0,
+        past: false,
     };
     let e = collect_entries(
         main,
         supplementary,
+        lists,
+        addresses,
         work,
         records,
         warnings,
@@ -780,8 +845,9 @@ fn collect_descendants<'a>(
     let placed = put_sites(main, supplementary, work, records, d, c.at, c);
     Extracted::Details {
         nodes: c.nodes,
-        at: placed,
+        at: placed.at,
         warned: c.warned,
+        past: c.past | placed.past,
     }
 }
 
@@ -819,6 +885,8 @@ fn has_entries(main: &[u8], p: usize, depth: u16) -> bool
 pub fn extract_subprogram_details<'a>(
     main: &'a [u8],
     supplementary: &'a [u8],
+    lists: &[u8],
+    addresses: &[u8],
     work: &mut [u8],
     records: &mut [u8],
     warnings: &mut [u8],
@@ -833,20 +901,25 @@ pub fn extract_subprogram_details<'a>(
     requires { ⌜ Placed (now main) p ⌝ }
     requires { ⌜ EntriesKnown (now main) (d .unit) p ⌝ }
     requires { ⌜ 10 + length (now name) < 65536 ⌝ }
-    ensures { λ r. ⌜ Extracts (now (main .entry)) (now (supplementary .entry)) (now (work .entry)) (now (work .exit)) d (now (name .entry)) p depth at warned
-        (now (records .entry)) (now (records .exit)) (now (warnings .entry)) (now (warnings .exit)) r ⌝ }
+    requires { ⌜ length (now lists) / 3 ≡ d .third ⌝ }
+    ensures { λ r. ⌜ Extracts (now (main .entry)) (now (supplementary .entry)) (now (lists .entry)) (now (addresses .entry)) (now (work .entry))
+        (now (work .exit)) d (now (name .entry)) p depth at warned (now (records .entry)) (now (records .exit)) (now (warnings .entry)) (now (warnings .exit))
+        r ⌝ }
 {
     if !has_entries(main, p, depth) {
         return Extracted::Details {
             nodes: 0,
             at: at,
             warned: warned,
+            past: false,
         };
     }
     if d.include_inlines {
         return collect_descendants(
             main,
             supplementary,
+            lists,
+            addresses,
             work,
             records,
             warnings,
@@ -862,6 +935,8 @@ pub fn extract_subprogram_details<'a>(
         return collect_descendants(
             main,
             supplementary,
+            lists,
+            addresses,
             work,
             records,
             warnings,
@@ -877,5 +952,6 @@ pub fn extract_subprogram_details<'a>(
         nodes: 0,
         at: at,
         warned: warned,
+        past: false,
     }
 }

@@ -11,7 +11,7 @@ use Rattle.tlv.specs.declared.grammar.Checked.{Checked}
 use Rattle.tlv.specs.declared.access.Place.{Place}
 use Rattle.tlv.specs.Outcome.{refused, done, _>>=_}
 use Rattle.tlv.specs.Lists.{at, mapOption, isEmpty}
-use Rattle.tlv.specs.Limits.{inputLimit, programLimit, fieldLimit, workOfField, workOfEncodedByte, workBesides}
+use Rattle.tlv.specs.Limits.{inputLimit, programLimit, listLimit, fieldLimit, workOfField, workBesides}
 use Rattle.tlv.specs.Fields.{fields}
 use Rattle.tlv.specs.Grammar.{checkInput}
 use Rattle.tlv.specs.Checked.{checkedOf}
@@ -22,35 +22,55 @@ use Rattle.tlv.proofs.UnitFacts.{unit-of-place}
 use Rattle.dies.specs.DetailState.{Accepted}
 use Rattle.dwarf.specs.declared.model.Options.{Options}
 use Rattle.dwarf.specs.declared.checks.BothChecked.{BothChecked}
-use Rattle.dwarf.specs.Checks.{oversizeOf, NotOversize, BothAccepted, ChecksBoth, missingOf, missingUnit, workOfProgram, shortOf, WorkEnough}
+use Rattle.dwarf.specs.Checks.{oversizeOf, NotOversize, BothAccepted, ChecksBoth, missingOf, missingUnit, shortOf, WorkEnough}
 use Rattle.dwarf.proofs.CountLaws.{accepted-few}
 
 -- ---- refusal 1
 
-neither : (a b c : Bool) → (a || b || c) ≡ false → (a ≡ false) × (b ≡ false) × (c ≡ false)
-neither true b c e = absurd (true≢false e)
-neither false true c e = absurd (true≢false e)
-neither false false true e = absurd (true≢false e)
-neither false false false e = (refl, refl, refl)
+neither : (a b c d e : Bool) → (a || b || c || d || e) ≡ false → (a ≡ false) × (b ≡ false) × (c ≡ false) × (d ≡ false) × (e ≡ false)
+neither true b c d e h = absurd (true≢false h)
+neither false true c d e h = absurd (true≢false h)
+neither false false true d e h = absurd (true≢false h)
+neither false false false true e h = absurd (true≢false h)
+neither false false false false true h = absurd (true≢false h)
+neither false false false false false h = (refl, refl, refl, refl, refl)
 
-module _ (main supplementary program : List ℕ) where
-  pub oversize-main : inputLimit < length main → true ≡ oversizeOf main supplementary program
+module _ (main supplementary program lists addresses : List ℕ) where
+  abbrev over : Bool
+  over = oversizeOf main supplementary program lists addresses
+
+  pub oversize-main : inputLimit < length main → true ≡ over
   oversize-main h = sym (rw (lt-ltb inputLimit (length main) h))
 
   module _ (h : length main ≤ inputLimit) where
-    pub oversize-supplementary : inputLimit < length supplementary → true ≡ oversizeOf main supplementary program
+    pub oversize-supplementary : inputLimit < length supplementary → true ≡ over
     oversize-supplementary k = sym (rw (le-ltb inputLimit (length main) h, lt-ltb inputLimit (length supplementary) k))
 
-    pub oversize-program : length supplementary ≤ inputLimit → ltb programLimit (length program) ≡ oversizeOf main supplementary program
-    oversize-program k = sym (rw (le-ltb inputLimit (length main) h, le-ltb inputLimit (length supplementary) k))
+    module _ (k : length supplementary ≤ inputLimit) where
+      pub oversize-program : programLimit < length program → true ≡ over
+      oversize-program p =
+          sym (rw (le-ltb inputLimit (length main) h, le-ltb inputLimit (length supplementary) k, lt-ltb programLimit (length program) p))
 
-  pub not-oversize : {b : Bool} → b ≡ oversizeOf main supplementary program → b ≡ false → NotOversize main supplementary program
+      module _ (p : length program ≤ programLimit) where
+        pub oversize-lists : listLimit < length lists → true ≡ over
+        oversize-lists q =
+            sym (rw (le-ltb inputLimit (length main) h, le-ltb inputLimit (length supplementary) k, le-ltb programLimit (length program) p,
+            lt-ltb listLimit (length lists) q))
+
+        pub oversize-addresses : length lists ≤ listLimit → ltb listLimit (length addresses) ≡ over
+        oversize-addresses q =
+            sym (rw (le-ltb inputLimit (length main) h, le-ltb inputLimit (length supplementary) k, le-ltb programLimit (length program) p,
+            le-ltb listLimit (length lists) q))
+
+  pub not-oversize : {b : Bool} → b ≡ over → b ≡ false → NotOversize main supplementary program lists
   not-oversize e is =
-      let n = neither (ltb inputLimit (length main)) (ltb inputLimit (length supplementary)) (ltb programLimit (length program)) (sym e ∙ is) in
+      let n = neither (ltb inputLimit (length main)) (ltb inputLimit (length supplementary)) (ltb programLimit (length program)) (ltb listLimit (length lists))
+      (ltb listLimit (length addresses)) (sym e ∙ is) in
       record {
         main-within = ltb-false inputLimit (length main) (n .0);
         supplementary-within = ltb-false inputLimit (length supplementary) (n .1);
         program-within = ltb-false programLimit (length program) (n .2);
+        lists-within = ltb-false listLimit (length lists) (n .3);
       }
 
 -- ---- refusals 2 and 3
@@ -149,17 +169,13 @@ module _ (main : List ℕ) (o : Options) where
 
 -- ---- refusal 5
 
-pub program-work : (encoded : Bool) (size : ℕ) {n : ℕ} → n ≡ workOfProgram encoded size → n ≤ workOfEncodedByte * size
-program-work true size e = omega arith
-program-work false size e = omega arith
-
 module _ {main supplementary : List ℕ} {size n : ℕ} (B : BothAccepted main supplementary size n) where
-  pub work-enough : (program w : List ℕ) (encoded : Bool) {b : Bool} → b ≡ shortOf w n program encoded → b ≡ false → WorkEnough main supplementary program w encoded
-  work-enough program w encoded tested h = record {
+  pub work-enough : (w : List ℕ) (most : ℕ) {b : Bool} → b ≡ shortOf w n most → b ≡ false → WorkEnough main supplementary (length w) most
+  work-enough w most tested h = record {
     long = λ m k am ak.
         let a = accepted-count main m am in
         let b = accepted-count supplementary k ak in
         let c = accepted-count main (B .main-fields) (record { program = size; passes = B .main-accepted }) in
         let d = accepted-count supplementary (B .supplementary-fields) (record { program = size; passes = B .supplementary-accepted }) in
-        omega (arith, B .sum, ltb-false (length w) (workOfField * n + workOfProgram encoded (length program) + workBesides) (sym tested ∙ h));
+        omega (arith, B .sum, ltb-false (length w) (workOfField * n + most + workBesides) (sym tested ∙ h));
   }

@@ -47,10 +47,10 @@ accepted-few s n e = few-from (start (e .program)) (fields s) n (e .passes) (ome
 -- ---- all tags that have tables
 
 abbrev tabled : List ℕ
-tabled = 0x10 ∷ 0x12 ∷ 0x14 ∷ 0x15 ∷ 0x16 ∷ 0x17 ∷ 0x18 ∷ 0x19 ∷ 0x1c ∷ 0x1d ∷ []
+tabled = 0x10 ∷ 0x12 ∷ 0x14 ∷ 0x15 ∷ 0x16 ∷ 0x17 ∷ 0x18 ∷ 0x19 ∷ 0x1c ∷ 0x1d ∷ 0x1f ∷ []
 
 tabled-rise : Rising 0 tabled
-tabled-rise = (omega arith, (omega arith, (omega arith, (omega arith, (omega arith, (omega arith, (omega arith, (omega arith, (omega arith, (omega arith, tt))))))))))
+tabled-rise = (omega arith, (omega arith, (omega arith, (omega arith, (omega arith, (omega arith, (omega arith, (omega arith, (omega arith, (omega arith, (omega arith, tt)))))))))))
 
 pub total-few : {s : List ℕ} {c : Counts} (n : ℕ) → Sized s c → Accepts s n → totalOf c ≤ n
 total-few {s} {c} n S e = omega (arith, accepted-count s n e, amounts-few tabled (wholeFields (fields s)) tabled-rise)

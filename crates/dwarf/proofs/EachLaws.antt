@@ -20,16 +20,16 @@ use Rattle.tlv.proofs.PlaceLaws.{getD-image}
 use Rattle.tlv.proofs.RecordLaws.{records-at}
 use Rattle.tlv.proofs.UnitPlaceLaws.{units-places, units-at}
 use Rattle.collect.specs.Collects.{UnitIn}
-use Rattle.references.specs.declared.tables.Tables.{Tables}
 use Rattle.references.specs.Search.{Dwarf}
-use Rattle.references.specs.Names.{dwarfOf}
+use Rattle.dies.specs.Details.{dwarfWith}
 use Rattle.imports.specs.Import.{State, importUnit, importUnits}
 use Rattle.subprograms.specs.declared.model.ImportState.{ImportState}
 use Rattle.dwarf.specs.declared.layout.Layout.{Layout}
-use Rattle.dwarf.specs.Layout.{RowsFit}
+use Rattle.dwarf.specs.declared.tables.Indexes.{Indexes}
+use Rattle.dwarf.specs.Checks.{UnitEnough}
 use Rattle.dwarf.specs.Tables.{TablesIn}
-use Rattle.dwarf.specs.Units.{Ready, besideTables, Grows}
-use Rattle.dwarf.proofs.TablesLaws.{tables-kept, units-below, main-behind, keys-behind}
+use Rattle.dwarf.specs.Units.{Ready, aboveTables, Grows}
+use Rattle.dwarf.proofs.TablesLaws.{tables-kept}
 use Rattle.dwarf.proofs.GrowsLaws.{grows-none, grows-then, grows-refused, grows-as, grows-ready}
 
 -- ---- the place of a unit
@@ -48,7 +48,7 @@ module _ {A : Type 0} where
   from-at (y ∷ xs) zero x e h = ap (λ (z : A). z ∷ xs) (Option·some-injective y x e)
   from-at (y ∷ xs) (suc k) x e h = from-at xs k x e (omega arith)
 
-module _ {main supplementary program w : List ℕ} {l : Layout} {x : Tables} (T : TablesIn main supplementary program w l x) where
+module _ {main supplementary program lists w : List ℕ} {l : Layout} {x : Indexes} (T : TablesIn main supplementary program lists w l x) where
   pub place-inside : (k p : ℕ) → k < x .main .«unit_count» → p ≡ leAt 8 w (x .main .units + 24 * k + 16) → UnitIn main p × (at (units main) k ≡ some (unitHere main p))
   unfolding unitOf24 indexedUnit mapOption
   place-inside k p h e =
@@ -93,27 +93,27 @@ abbrev pub unitsFrom : List ℕ → ℕ → ℕ → List CompilationUnit
 unitsFrom main k to = take (to - k) (drop k (units main))
 
 -- what was done so far, and that the whole is this and then the units that are left
-pub record ImportingUnits (main supplementary program : List ℕ) (l : Layout) (x : Tables) (inlines callSites : Bool) (from to : ℕ) (w₀ t₀ f₀ u₀ : List ℕ) (st₀ : ImportState)
+pub record ImportingUnits (main supplementary program lists addresses : List ℕ) (l : Layout) (x : Indexes) (inlines callSites : Bool) (from to : ℕ) (w₀ t₀ f₀ u₀ : List ℕ) (st₀ : ImportState)
     (w t f u : List ℕ) (st : ImportState) (k : ℕ) : Type 0 where
   pub begun : from ≤ k
   pub few : k ≤ to
   pub within : to ≤ x .main .«unit_count»
-  pub fits : All (RowsFit l) (unitsFrom main k to)
-  pub tables : TablesIn main supplementary program w l x
+  pub fits : All (UnitEnough main supplementary program lists (length w)) (unitsFrom main k to)
+  pub tables : TablesIn main supplementary program lists w l x
   pub ready : Ready main supplementary w l st
   pub size : length w ≡ length w₀
   pub records-size : length t ≡ length t₀
   pub files-size : length f ≡ length f₀
   pub warnings-size : length u ≡ length u₀
   pub before : State → Outcome State
-  pub does : Grows before main supplementary (besideTables l (length w₀)) w₀ t₀ f₀ u₀ st₀ w t f u st
-  pub left : (s : State) → importUnits (dwarfOf main supplementary) (unitsFrom main from to) program inlines callSites s
-      ≡ (before s >>= importUnits (dwarfOf main supplementary) (unitsFrom main k to) program inlines callSites)
+  pub does : Grows before main supplementary (aboveTables l (length w₀)) w₀ t₀ f₀ u₀ st₀ w t f u st
+  pub left : (s : State) → importUnits (dwarfWith main supplementary lists addresses) (unitsFrom main from to) program inlines callSites s
+      ≡ (before s >>= importUnits (dwarfWith main supplementary lists addresses) (unitsFrom main k to) program inlines callSites)
 
-pub units-start : {main supplementary program : List ℕ} {l : Layout} {x : Tables} (inlines callSites : Bool) {from to : ℕ} {w t f u : List ℕ} {st : ImportState} → from ≤ to → to ≤ x .main .«unit_count»
-    → All (RowsFit l) (unitsFrom main from to) → TablesIn main supplementary program w l x → Ready main supplementary w l st → length t < top → length f < top → length u < top
-    → ImportingUnits main supplementary program l x inlines callSites from to w t f u st w t f u st from
-units-start {main} {supplementary} {program} inlines callSites {from} {to} a b F T R small tiny few = record {
+pub units-start : {main supplementary program lists : List ℕ} (addresses : List ℕ) {l : Layout} {x : Indexes} (inlines callSites : Bool) {from to : ℕ} {w t f u : List ℕ} {st : ImportState} → from ≤ to → to ≤ x .main .«unit_count»
+    → All (UnitEnough main supplementary program lists (length w)) (unitsFrom main from to) → TablesIn main supplementary program lists w l x → Ready main supplementary w l st → length t < top → length f < top → length u < top
+    → ImportingUnits main supplementary program lists addresses l x inlines callSites from to w t f u st w t f u st from
+units-start {main} {supplementary} {program} {lists} addresses inlines callSites {from} {to} a b F T R small tiny few = record {
   begun = omega arith;
   few = a;
   within = b;
@@ -126,23 +126,23 @@ units-start {main} {supplementary} {program} inlines callSites {from} {to} a b F
   warnings-size = refl;
   before = done;
   does = grows-none (R .files) (R .status) (R .at) (R .warned) small tiny few;
-  left = after-done (dwarfOf main supplementary) program inlines callSites (unitsFrom main from to);
+  left = after-done (dwarfWith main supplementary lists addresses) program inlines callSites (unitsFrom main from to);
 }
 
-module _ {main supplementary program : List ℕ} {l : Layout} {x : Tables} {inlines callSites : Bool} {from to : ℕ} {w₀ t₀ f₀ u₀ : List ℕ} {st₀ : ImportState}
-    {w t f u : List ℕ} {st : ImportState} {k : ℕ} (I : ImportingUnits main supplementary program l x inlines callSites from to w₀ t₀ f₀ u₀ st₀ w t f u st k) where
+module _ {main supplementary program lists addresses : List ℕ} {l : Layout} {x : Indexes} {inlines callSites : Bool} {from to : ℕ} {w₀ t₀ f₀ u₀ : List ℕ} {st₀ : ImportState}
+    {w t f u : List ℕ} {st : ImportState} {k : ℕ} (I : ImportingUnits main supplementary program lists addresses l x inlines callSites from to w₀ t₀ f₀ u₀ st₀ w t f u st k) where
   abbrev whole : State → Outcome State
-  whole = importUnits (dwarfOf main supplementary) (unitsFrom main from to) program inlines callSites
+  whole = importUnits (dwarfWith main supplementary lists addresses) (unitsFrom main from to) program inlines callSites
 
   -- the record of the next unit lies in the slice
   pub record-inside : k < to → x .main .units + 24 * k + 24 ≤ length w
   record-inside h = let a = I .tables .of-main .index .units-within in let b = I .within in omega arith
 
-  pub units-end : to ≤ k → Grows whole main supplementary (besideTables l (length w₀)) w₀ t₀ f₀ u₀ st₀ w t f u st
+  pub units-end : to ≤ k → Grows whole main supplementary (aboveTables l (length w₀)) w₀ t₀ f₀ u₀ st₀ w t f u st
   units-end h =
       let none : to - k ≡ 0 = omega arith in
-      grows-as (λ s. I .left s ∙ ap (λ (n : ℕ). I .before s >>= importUnits (dwarfOf main supplementary) (take n (drop k (units main))) program inlines callSites) none
-      ∙ after-none (dwarfOf main supplementary) program inlines callSites (I .before s)) (I .does)
+      grows-as (λ s. I .left s ∙ ap (λ (n : ℕ). I .before s >>= importUnits (dwarfWith main supplementary lists addresses) (take n (drop k (units main))) program inlines callSites) none
+      ∙ after-none (dwarfWith main supplementary lists addresses) program inlines callSites (I .before s)) (I .does)
 
   module _ (h : k < to) {p : ℕ} (e : p ≡ leAt 8 w (x .main .units + 24 * k + 16)) where
     pub unit-in : UnitIn main p
@@ -157,38 +157,38 @@ module _ {main supplementary program : List ℕ} {l : Layout} {x : Tables} {inli
         let is = place-inside (I .tables) k p (omega arith) e .1 in
         rw (n, m, from-at (units main) k (unitHere main p) is (omega (arith, units-many (I .tables))))
 
-    all-fit : All (RowsFit l) (unitHere main p ∷ unitsFrom main (k + 1) to)
+    all-fit : All (UnitEnough main supplementary program lists (length w)) (unitHere main p ∷ unitsFrom main (k + 1) to)
     all-fit = rw first-left at (I .fits)
 
-    pub unit-fits : RowsFit l (unitHere main p)
+    pub unit-fits : UnitEnough main supplementary program lists (length w) (unitHere main p)
     unit-fits = all-fit .0
 
     module _ {w′ t′ f′ u′ : List ℕ} {st′ : ImportState}
-        (A : Grows (importUnit (dwarfOf main supplementary) (unitHere main p) program inlines callSites) main supplementary (besideTables l (length w)) w t f u st w′ t′ f′ u′ st′) where
+        (A : Grows (importUnit (dwarfWith main supplementary lists addresses) (unitHere main p) program inlines callSites) main supplementary (aboveTables l (length w)) w t f u st w′ t′ f′ u′ st′) where
       abbrev through : State → Outcome State
-      through s = I .before s >>= importUnit (dwarfOf main supplementary) (unitHere main p) program inlines callSites
+      through s = I .before s >>= importUnit (dwarfWith main supplementary lists addresses) (unitHere main p) program inlines callSites
 
-      framed : Grows (importUnit (dwarfOf main supplementary) (unitHere main p) program inlines callSites) main supplementary (besideTables l (length w₀)) w t f u st w′ t′ f′ u′ st′
+      framed : Grows (importUnit (dwarfWith main supplementary lists addresses) (unitHere main p) program inlines callSites) main supplementary (aboveTables l (length w₀)) w t f u st w′ t′ f′ u′ st′
       framed = rw (I .size) at A
 
-      passed : Grows through main supplementary (besideTables l (length w₀)) w₀ t₀ f₀ u₀ st₀ w′ t′ f′ u′ st′
+      passed : Grows through main supplementary (aboveTables l (length w₀)) w₀ t₀ f₀ u₀ st₀ w′ t′ f′ u′ st′
       passed = grows-then (I .ready .status) (I .does) framed
 
-      left-after : (s : State) → whole s ≡ (through s >>= importUnits (dwarfOf main supplementary) (unitsFrom main (k + 1) to) program inlines callSites)
+      left-after : (s : State) → whole s ≡ (through s >>= importUnits (dwarfWith main supplementary lists addresses) (unitsFrom main (k + 1) to) program inlines callSites)
       left-after s =
-          I .left s ∙ ap (λ (us : List CompilationUnit). I .before s >>= importUnits (dwarfOf main supplementary) us program inlines callSites) first-left
-          ∙ after-one (dwarfOf main supplementary) program inlines callSites (unitHere main p) (unitsFrom main (k + 1) to) (I .before s)
+          I .left s ∙ ap (λ (us : List CompilationUnit). I .before s >>= importUnits (dwarfWith main supplementary lists addresses) us program inlines callSites) first-left
+          ∙ after-one (dwarfWith main supplementary lists addresses) program inlines callSites (unitHere main p) (unitsFrom main (k + 1) to) (I .before s)
 
-      pub units-refused : (st′ .status ≡ 0 → ⊥) → Grows whole main supplementary (besideTables l (length w₀)) w₀ t₀ f₀ u₀ st₀ w′ t′ f′ u′ st′
-      units-refused z = grows-as left-after (grows-refused (importUnits (dwarfOf main supplementary) (unitsFrom main (k + 1) to) program inlines callSites) z passed)
+      pub units-refused : (st′ .status ≡ 0 → ⊥) → Grows whole main supplementary (aboveTables l (length w₀)) w₀ t₀ f₀ u₀ st₀ w′ t′ f′ u′ st′
+      units-refused z = grows-as left-after (grows-refused (importUnits (dwarfWith main supplementary lists addresses) (unitsFrom main (k + 1) to) program inlines callSites) z passed)
 
       pub units-turn : st′ .status ≡ 0 → length w′ ≡ length w → length t′ ≡ length t → length f′ ≡ length f → length u′ ≡ length u
-          → ImportingUnits main supplementary program l x inlines callSites from to w₀ t₀ f₀ u₀ st₀ w′ t′ f′ u′ st′ (k + 1)
+          → ImportingUnits main supplementary program lists addresses l x inlines callSites from to w₀ t₀ f₀ u₀ st₀ w′ t′ f′ u′ st′ (k + 1)
       units-turn z lw lt lf lu = record {
         begun = let b = I .begun in omega arith;
         few = omega arith;
         within = I .within;
-        fits = all-fit .1;
+        fits = rw lw (all-fit .1);
         tables = tables-kept (I .tables) (A .kept z) lw;
         ready = grows-ready z (I .ready) A;
         size = lw ∙ I .size;

@@ -1,21 +1,25 @@
 -- Steps from a state to a state, one after the other. Assumes nothing.
-use mathlib.Core.Path.{_≡_, refl, ap, _∙_}
+use mathlib.Core.Path.{_≡_, refl, sym, ap, _∙_}
+use mathlib.Core.Bool.{_||_}
 use mathlib.Core.List.{List, [], _++_, append-nil, append-assoc}
 use Prim.Native.Nat.{ℕ, _+_, _≤_, _<_}
 use native.Mathlib.Omega.{arith}
 use lib.ListN.{length}
 use Rattle.tlv.specs.Outcome.{Outcome, done, _>>=_}
 use Rattle.tlv.specs.Buffer.{top}
-use Rattle.tlv.specs.Output.{Function, Warning}
+use Rattle.tlv.specs.Output.{Function, Warning, recordsBytes}
 use Rattle.tlv.proofs.BufferLaws.{_then_, put-none, put-as}
 use Rattle.tlv.proofs.TableLaws.{but-refl, but-trans}
 use Rattle.files.specs.Store.{extent, FilesIn}
 use Rattle.files.proofs.GrownLaws.{grown-none, grown-trans}
 use Rattle.imports.specs.Import.{State}
+use Rattle.dies.specs.Past.{isPast}
+use Rattle.dies.proofs.PastLaws.{past-same}
 use Rattle.dies.proofs.NodeStepLaws.{warnings-append}
 use Rattle.subprograms.specs.declared.model.ImportState.{ImportState}
 use Rattle.subprograms.specs.Steps.{stateOf}
 use Rattle.subprograms.proofs.StepLaws.{records-append, no-records, no-warnings}
+use Rattle.subprograms.proofs.LaidPastLaws.{past-both}
 use Rattle.dwarf.specs.declared.layout.Layout.{Layout}
 use Rattle.dwarf.specs.Units.{Ready, Grows}
 
@@ -23,10 +27,11 @@ module _ {main supplementary : List ℕ} {over : List (ℕ × ℕ)} where
   -- nothing is done
   pub grows-none : {w t f u : List ℕ} {st : ImportState} → FilesIn main supplementary w (st .table) → st .status ≡ 0 → st .at ≤ top → st .warned ≤ top
       → length t < top → length f < top → length u < top → Grows done main supplementary over w t f u st w t f u st
-  grows-none {w} F z at-fits warned-fits t-small f-small u-small = record {
+  grows-none {w} {st = st} F z at-fits warned-fits t-small f-small u-small = record {
     records = [];
     new = [];
     laid = λ e. put-as no-records (put-none at-fits t-small);
+    past = λ e. past-same (st .past) (st .at) at-fits ∙ ap (λ (n : List ℕ). st .past || isPast (st .at) (length n)) (sym no-records);
     warned = λ e. put-as no-warnings (put-none warned-fits u-small);
     grown = λ e. grown-none F f-small;
     kept = λ e. but-refl w over;
@@ -43,6 +48,8 @@ module _ {main supplementary : List ℕ} {over : List (ℕ × ℕ)} where
     records = A .records ++ B .records;
     new = A .new ++ B .new;
     laid = λ e. put-as (records-append (A .records) (B .records)) (A .laid z then B .laid e);
+    past = λ e. past-both (A .laid z) (st .past) (recordsBytes (B .records)) (A .past z) (B .past e)
+        ∙ ap (λ (n : List ℕ). st .past || isPast (st .at) (length n)) (sym (records-append (A .records) (B .records)));
     warned = λ e. put-as (warnings-append (A .new) (B .new)) (A .warned z then B .warned e);
     grown = λ e. grown-trans (A .grown z) (B .grown e);
     kept = λ e. but-trans (A .kept z) (B .kept e);
@@ -61,6 +68,7 @@ module _ {main supplementary : List ℕ} {over : List (ℕ × ℕ)} where
     records = A .records;
     new = A .new;
     laid = A .laid;
+    past = A .past;
     warned = A .warned;
     grown = A .grown;
     kept = A .kept;
@@ -75,6 +83,7 @@ module _ {main supplementary : List ℕ} {over : List (ℕ × ℕ)} where
     records = A .records;
     new = A .new;
     laid = A .laid;
+    past = A .past;
     warned = A .warned;
     grown = A .grown;
     kept = A .kept;
@@ -89,6 +98,7 @@ module _ {main supplementary : List ℕ} {over : List (ℕ × ℕ)} where
       let G = A .grown z in
       record {
         files = G .holds;
+        above = omega (arith, R .above, G .base);
         below = omega (arith, R .below, G .base, G .room);
         status = z;
         at = omega (arith, A .laid z .place);

@@ -2,7 +2,7 @@ pub mod CountLaws
 pub mod LayoutLaws
 pub mod TallyLaws
 pub mod CheckLaws
-pub mod EncodingLaws
+pub mod WorkLaws
 pub mod IndexingLaws
 pub mod TablesLaws
 pub mod UnitContextLaws

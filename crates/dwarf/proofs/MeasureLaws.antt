@@ -2,11 +2,13 @@
 use mathlib.Core.Path.{_≡_, refl, sym, ap, _∙_}
 use mathlib.Core.Bool.{Bool, true, false}
 use mathlib.Core.List.{List}
-use Prim.Native.Nat.{ℕ, _≤_}
+use Prim.Native.Nat.{ℕ, _+_, _-_, _^_, _≤_}
+use lib.Dec.{ltb}
 use native.Mathlib.Omega.{arith}
 use lib.ListN.{length, replicate}
 use Rattle.tlv.specs.Outcome.{Outcome}
 use Rattle.tlv.specs.Buffer.{Put}
+use Rattle.tlv.specs.Output.{recordsBytes}
 use Rattle.imports.specs.Import.{State, saturated}
 use Rattle.imports.specs.Answer.{Inputs, Answer, noStats, written}
 use Rattle.imports.specs.Sizes.{measured, measuring, measure, measureDwarf, withTrays}
@@ -35,14 +37,26 @@ module _ (all : Bool) (i : Inputs) {a b c t f u : List ℕ} {r : Ran} (W : Write
   unfolding measured
   measures-refused h ew = record { is = measure-is (W .no h) refl ew }
 
-  pub measures-done : {w : List ℕ} → r .status ≡ 0 → w ≡ replicate (length (i .work)) 0
+  -- whether the records pass the largest place
+  past-is : {b : Bool} → (z : r .status ≡ 0) → r .past ≡ b → ltb (2 ^ 64 - 1) (length (recordsBytes (W .ok z .state .records))) ≡ b
+  past-is z e =
+      let n = length (recordsBytes (W .ok z .state .records)) in
+      let same : n ≡ 0 + n = omega arith in
+      ap (ltb (2 ^ 64 - 1)) same ∙ sym (W .ok z .past) ∙ e
+
+  pub measures-past : {w : List ℕ} → r .status ≡ 0 → r .past ≡ true → w ≡ replicate (length (i .work)) 0 → MeasuresBy all i w (Imported.Refused 16)
+  unfolding measured written
+  measures-past z e ew = record { is = measure-is (W .ok z .is) (rw (past-is z e)) ew }
+
+  pub measures-done : {w : List ℕ} → r .status ≡ 0 → r .past ≡ false → w ≡ replicate (length (i .work)) 0
       → MeasuresBy all i w (Imported.Finished (r .records) (r .files) (r .warnings) (r .stats))
   unfolding measured written
-  measures-done z ew =
+  measures-done z e ew =
       let S = W .ok z in
       record {
         is = measure-is (S .is)
-            (λ k. record { refusal = 0; records = counted (S .records) k; files = counted (S .files) k; warnings = counted (S .warnings) k; stats = S .stats k }) ew;
+            (rw (past-is z e)
+            (λ k. record { refusal = 0; records = counted (S .records) k; files = counted (S .files) k; warnings = counted (S .warnings) k; stats = S .stats k })) ew;
       }
 
 -- ---- the entry points

@@ -1,7 +1,7 @@
 -- An import up to refusal 15: refusals 1 to 5, and the units that are asked for. Assumes nothing.
 use mathlib.Core.Path.{_≡_, refl, sym, subst, ap, _∙_}
 use mathlib.Core.Bool.{Bool, true, false, cond, not}
-use mathlib.Core.Logic.{inl}
+use mathlib.Core.Logic.{inr}
 use mathlib.Core.List.{List, [], _∷_, _++_}
 use mathlib.Core.Option.{Option, none, some}
 use Prim.Native.Nat.{ℕ, zero, suc, _+_, _-_, _*_, _≤_, _<_, max}
@@ -10,9 +10,9 @@ use lib.Dec.{ltb}
 use lib.ListN.{length, take, drop, drop-of-length-le}
 use lib.Seq.{take-all, take-nil}
 use Rattle.tlv.specs.Outcome.{Outcome, refused, done, _>>=_}
-use Rattle.tlv.specs.Lists.{at, exists, isNone}
+use Rattle.tlv.specs.Lists.{at, isNone}
 use Rattle.tlv.specs.Buffer.{top, Put}
-use Rattle.tlv.specs.Limits.{joinedLimit}
+use Rattle.tlv.specs.Limits.{joinedLimit, workOfProgramByte}
 use Rattle.tlv.specs.Grammar.{checkInput}
 use Rattle.tlv.specs.Model.{CompilationUnit, LineEncoding, units}
 use Rattle.tlv.specs.Output.{FileEntry, filesBytes}
@@ -21,8 +21,7 @@ use Rattle.tlv.proofs.TableLaws.{but-one}
 use Rattle.files.specs.declared.store.StoredFiles.{StoredFiles}
 use Rattle.files.specs.Store.{extent, entriesOf, tableOf, Empty}
 use Rattle.files.proofs.GrownLaws.{entries-kept, table-kept, files-kept}
-use Rattle.references.specs.declared.tables.Tables.{Tables}
-use Rattle.references.specs.Names.{dwarfOf}
+use Rattle.dies.specs.Details.{dwarfWith}
 use Rattle.dies.specs.DetailState.{Accepted}
 use Rattle.imports.specs.Import.{State, importUnits}
 use Rattle.imports.specs.Answer as answer
@@ -36,13 +35,13 @@ use Rattle.dwarf.specs.declared.model.Options.{Options}
 use Rattle.dwarf.specs.declared.checks.BothChecked.{BothChecked}
 use Rattle.dwarf.specs.declared.run.Ran.{Ran}
 use Rattle.dwarf.specs.declared.run.Chosen.{Chosen}
-use Rattle.dwarf.specs.Layout.{keysRoom, LaidOut}
-use Rattle.dwarf.specs.Checks.{oversizeOf, CheckedAs, ChecksBoth, missingOf, missingUnit, isEncoded, encodedOf, workOfProgram, shortOf, WorkEnough}
-use Rattle.dwarf.specs.Tables.{TablesIn, IndexesInputs}
-use Rattle.dwarf.specs.Units.{Ready, besideTables, Grows}
+use Rattle.dwarf.specs.declared.tables.Indexes.{Indexes}
+use Rattle.dwarf.specs.Layout.{LaidOut}
+use Rattle.dwarf.specs.Checks.{oversizeOf, CheckedAs, ChecksBoth, missingOf, missingUnit, workOfProgram, workOfLists, unitWork, mostWork, shortOf, WorkEnough}
+use Rattle.dwarf.specs.Tables.{IndexesInputs}
+use Rattle.dwarf.specs.Units.{Ready, Grows}
 use Rattle.dwarf.specs.Runs.{importAll, listed, chosenUnits, Chooses, importAccepted, startState, LengthsOf, Writes}
 use Rattle.dwarf.proofs.CheckLaws.{both-accepted}
-use Rattle.dwarf.proofs.TablesLaws.{keys-behind, main-behind}
 
 -- ---- an outcome that is another's, or a refusal
 
@@ -113,7 +112,7 @@ module _ (o : Options) (i : Inputs) (asked : i .ordinal ≡ o .ordinal) where
       go true e = rw e
       go false e = rw (e, ← asked) (λ k. checked i (λ n. chosen-is i n (at (units (i .main)) (i .ordinal)) k))
 
-module _ (i : Inputs) (rest : ℕ → Outcome State) {b : Bool} (e : b ≡ oversizeOf (i .main) (i .supplementary) (i .program)) where
+module _ (i : Inputs) (rest : ℕ → Outcome State) {b : Bool} (e : b ≡ oversizeOf (i .main) (i .supplementary) (i .program) (i .lists) (i .addresses)) where
   abbrev fieldsFirst : Outcome State
   fieldsFirst = checkInput (length (i .program)) (i .main) >>= λ m. checkInput (length (i .program)) (i .supplementary) >>= λ s. rest (m + s)
 
@@ -140,7 +139,7 @@ module _ (i : Inputs) (rest : ℕ → Outcome State) {b : Bool} (e : b ≡ overs
         sized ∙ rw (B .main-accepted, B .supplementary-accepted, ← B .sum)
 
 module _ (o : Options) (i : Inputs) (asked : i .ordinal ≡ o .ordinal) {t f u t′ f′ u′ : List ℕ} {r : Ran} {b : Bool}
-    (e : b ≡ oversizeOf (i .main) (i .supplementary) (i .program)) where
+    (e : b ≡ oversizeOf (i .main) (i .supplementary) (i .program) (i .lists) (i .addresses)) where
   pub run-oversize : b ≡ true → r .status ≡ 1 → Writes (importAll (o .all) i) t f u t′ f′ u′ r
   run-oversize is z = writes-refused z (λ y. omega arith) (by-tests o i asked ∙ checked-oversize i (importAccepted o i) e is)
 
@@ -153,64 +152,63 @@ module _ (o : Options) (i : Inputs) (asked : i .ordinal ≡ o .ordinal) {t f u t
 
 -- ---- refusals 4 and 5
 
--- the unit that needs most is one whose rows come from the program, where there is one
-units-work : (i : Inputs) (us : List CompilationUnit) → workOfUnits i us ≡ workOfProgram (encodedOf us) (length (i .program))
-unfolding workOfUnits workOfUnit encodedOf exists
+-- what the unit that needs most asks for, by the lengths of the program and of the lists
+units-work : (i : Inputs) (us : List CompilationUnit) → workOfUnits i us ≡ mostWork (length (i .program)) (length (i .lists)) us
+unfolding workOfUnits workOfUnit mostWork unitWork
 units-work i [] = refl
-units-work i (u ∷ us) = go (u .encoding) (exists isEncoded us) (units-work i us)
+units-work i (u ∷ us) = λ k. max (go (u .encoding) k + workOfLists (u .lists) (length (i .lists))) (units-work i us k)
   where
-    go : (o : Option LineEncoding) (b : Bool) {n : ℕ} → n ≡ workOfProgram b (length (i .program))
-        → max (workOfByte o * length (i .program)) n ≡ workOfProgram (cond (not (isNone o)) true b) (length (i .program))
-    go none true e = omega arith
-    go none false e = omega arith
-    go (some x) true e = omega arith
-    go (some x) false e = omega arith
+    go : (o : Option LineEncoding) → workOfByte o * length (i .program) ≡ workOfProgram (not (isNone o)) (length (i .program))
+    go none = refl
+    go (some x) = refl
 
 module _ (o : Options) (i : Inputs) (n : ℕ) {t f u t′ f′ u′ : List ℕ} {r : Ran} {a : Bool} (ea : a ≡ missingOf (i .main) o) where
   pub accepted-missing : a ≡ true → r .status ≡ 4 → Writes (importAccepted o i n) t f u t′ f′ u′ r
   accepted-missing is z = writes-refused z (λ y. omega arith) (rw (sym ea ∙ is))
 
-  module _ (there : a ≡ false) {encoded b : Bool} (ee : encoded ≡ encodedOf (chosenUnits o (units (i .main)))) (eb : b ≡ shortOf (i .work) n (i .program) encoded) where
+  module _ (there : a ≡ false) {most : ℕ} {b : Bool} (ee : most ≡ mostWork (length (i .program)) (length (i .lists)) (chosenUnits o (units (i .main))))
+      (eb : b ≡ shortOf (i .work) n most) where
     pub accepted-short : b ≡ true → r .status ≡ 5 → Writes (importAccepted o i n) t f u t′ f′ u′ r
     unfolding workNeeded
     accepted-short is z = writes-refused z (λ y. omega arith) (rw (sym ea ∙ there, units-work i (chosenUnits o (units (i .main))), ← ee, sym eb ∙ is))
 
     pub accepted-long : b ≡ false
-        → Writes (importUnits (dwarfOf (i .main) (i .supplementary)) (chosenUnits o (units (i .main))) (i .program) (i .inlines) (i .callSites) (startState (i .firstFile))) t f u t′ f′ u′ r
+        → Writes (importUnits (dwarfWith (i .main) (i .supplementary) (i .lists) (i .addresses)) (chosenUnits o (units (i .main))) (i .program) (i .inlines) (i .callSites) (startState (i .firstFile))) t f u t′ f′ u′ r
         → Writes (importAccepted o i n) t f u t′ f′ u′ r
     unfolding workNeeded answer.dwarfOf initialState
     accepted-long is W = writes-as (rw (sym ea ∙ there, units-work i (chosenUnits o (units (i .main))), ← ee, sym eb ∙ is)) W
 
 -- ---- the units
 
-pub enough-laid : (l : Layout) {main supplementary program w : List ℕ} {encoded : Bool} → l .encoded ≡ encoded → WorkEnough main supplementary program w encoded
-    → WorkEnough main supplementary program w (l .encoded)
-enough-laid l e W = rw e W
+module _ {main supplementary program lists : List ℕ} {l : Layout} {size most : ℕ} (A : Accepted main) (B : Accepted supplementary)
+    (W : WorkEnough main supplementary size most) (least : workOfProgramByte * length program ≤ most) (L : LaidOut main supplementary program lists l) where
+  pub files-room : l .files + (l .room * 45 + joinedLimit) ≤ size
+  files-room =
+      let a = L .within (A .number) (B .number) (A .is) (B .is) in
+      let b = W .long (A .number) (B .number) (A .is) (B .is) in
+      let c = L .size-is in
+      omega (arith, L .lines)
 
-module _ {main supplementary program w : List ℕ} {l : Layout} (A : Accepted main) (B : Accepted supplementary) (W : WorkEnough main supplementary program w (l .encoded))
-    (L : LaidOut main supplementary program l) where
-  pub all-room : l .keys + keysRoom main supplementary ≤ length w
-  all-room = let a = L .within (A .number) (B .number) (A .is) (B .is) in let b = W .long (A .number) (B .number) (A .is) (B .is) in omega arith
+  pub tables-room : l .files ≤ size
+  tables-room = omega (arith, files-room)
 
-  pub files-room : 0 + (l .room * 45 + joinedLimit) ≤ length w
-  files-room = let a = L .lines in let b = L .front in let c = main-behind L in let d = keys-behind L in let e = all-room in omega arith
-
-module _ {main supplementary program : List ℕ} {l : Layout} {first : ℕ} {w w₁ w₂ : List ℕ} {table : StoredFiles} {x : Tables} {stats : ConversionStats}
-    (L : LaidOut main supplementary program l) (E : Empty main supplementary w w₁ 0 (l .room) first 0 table)
-    (X : IndexesInputs main supplementary program w₁ w₂ l x) (size : length w₂ ≡ length w₁)
+module _ {main supplementary program lists : List ℕ} {l : Layout} {first : ℕ} {w w₁ w₂ : List ℕ} {table : StoredFiles} {x : Indexes} {stats : ConversionStats}
+    (L : LaidOut main supplementary program lists l) (E : Empty main supplementary w w₁ (l .files) (l .room) first 0 table)
+    (X : IndexesInputs main supplementary program lists w₁ w₂ l x) (size : length w₂ ≡ length w₁)
     (none : stats ≡ record { functions = 0; «line_rows» = 0; «inline_nodes» = 0; «rejected_ranges» = 0 }) where
   abbrev begun : ImportState
-  begun = record { table = table; at = 0; warned = 0; stats = stats; status = 0 }
+  begun = record { table = table; at = 0; warned = 0; stats = stats; status = 0; past = false }
 
   below : table .base + extent table ≤ l .lines
   below = let a = E .base-is in let b = E .room-is in let c = L .lines in omega arith
 
-  clear : table .base + extent table ≤ l .«main_units»
-  clear = let a = below in let b = L .front in omega arith
+  clear : 0 + l .files ≤ table .base
+  clear = let a = E .base-is in omega arith
 
   pub ready-first : Ready main supplementary w₂ l begun
   ready-first = record {
-    files = files-kept (E .holds) (but-one (X .rest)) (inl clear, tt) size;
+    files = files-kept (E .holds) (but-one (X .rest)) (inr clear, tt) size;
+    above = let a = clear in omega arith;
     below = below;
     status = refl;
     at = omega arith;
@@ -218,7 +216,7 @@ module _ {main supplementary program : List ℕ} {l : Layout} {first : ℕ} {w w
   }
 
   entries-none : entriesOf main supplementary w₂ table ≡ []
-  entries-none = entries-kept (E .holds) (but-one (X .rest)) (inl clear, tt) ∙ E .entries
+  entries-none = entries-kept (E .holds) (but-one (X .rest)) (inr clear, tt) ∙ E .entries
 
   -- the definition's state before any unit
   started : startState first ≡ stateOf main supplementary w₂ begun [] []
@@ -230,14 +228,14 @@ module _ {main supplementary program : List ℕ} {l : Layout} {first : ℕ} {w w
     stats = statsOf (sym none k);
   }
 
-  module _ {o : Options} {count : ℕ} {c : Chosen} (K : Chooses o count c) (many : length (units main) ≡ count) (inlines callSites : Bool) {over : List (ℕ × ℕ)}
+  module _ {o : Options} {count : ℕ} {c : Chosen} (K : Chooses o count c) (many : length (units main) ≡ count) (addresses : List ℕ) (inlines callSites : Bool) {over : List (ℕ × ℕ)}
       {t f u w₃ t₃ f₃ u₃ : List ℕ} {st : ImportState} {r : Ran} (R : LengthsOf st r)
-      (G : Grows (importUnits (dwarfOf main supplementary) (take (c .to - c .from) (drop (c .from) (units main))) program inlines callSites) main supplementary over w₂ t f u begun w₃ t₃ f₃ u₃ st) where
+      (G : Grows (importUnits (dwarfWith main supplementary lists addresses) (take (c .to - c .from) (drop (c .from) (units main))) program inlines callSites) main supplementary over w₂ t f u begun w₃ t₃ f₃ u₃ st) where
     abbrev outcome : Outcome State
-    outcome = importUnits (dwarfOf main supplementary) (chosenUnits o (units main)) program inlines callSites (startState first)
+    outcome = importUnits (dwarfWith main supplementary lists addresses) (chosenUnits o (units main)) program inlines callSites (startState first)
 
-    told : outcome ≡ importUnits (dwarfOf main supplementary) (take (c .to - c .from) (drop (c .from) (units main))) program inlines callSites (stateOf main supplementary w₂ begun [] [])
-    told = λ k. importUnits (dwarfOf main supplementary) (sym (K .is (units main) many) k) program inlines callSites (started k)
+    told : outcome ≡ importUnits (dwarfWith main supplementary lists addresses) (take (c .to - c .from) (drop (c .from) (units main))) program inlines callSites (stateOf main supplementary w₂ begun [] [])
+    told = λ k. importUnits (dwarfWith main supplementary lists addresses) (sym (K .is (units main) many) k) program inlines callSites (started k)
 
     pub writes-units : Writes outcome t f u t₃ f₃ u₃ r
     unfolding tableOf
@@ -249,6 +247,7 @@ module _ {main supplementary program : List ℕ} {l : Layout} {first : ℕ} {w w
             state = stateOf main supplementary w₃ st (G .records) (G .new);
             is = told ∙ G .ok z [] [];
             records = rw (R .records) (G .laid z);
+            past = R .past ∙ G .past z;
             files = rw (R .files) (put-as (ap filesBytes (D .entries ∙ ap (λ (es : List FileEntry). es ++ D .new) entries-none))
                 (subst (λ (p : ℕ). Put p (filesBytes (D .new)) f f₃ (st .table .written)) (E .written-is) (D .put)));
             warnings = rw (R .warnings) (G .warned z);

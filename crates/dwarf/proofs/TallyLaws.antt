@@ -79,6 +79,7 @@ pub sized : (s counts : List ℕ) → TagsCounted s counts → Sized s (record {
   entries = getD counts 0x17 0;
   attributes = getD counts 0x18 0;
   ranges = getD counts 0x19 0;
+  lists = getD counts 0x1f 0;
 })
 sized s counts T = record {
   units = T .is 0x10 (omega arith);
@@ -91,4 +92,5 @@ sized s counts T = record {
   entries = T .is 0x17 (omega arith);
   attributes = T .is 0x18 (omega arith);
   ranges = T .is 0x19 (omega arith);
+  lists = T .is 0x1f (omega arith);
 }

@@ -29,23 +29,22 @@ use Rattle.rows.proofs.StoredLaws.{lines-kept, ranges-kept}
 use Rattle.collect.specs.declared.collect.CollectedLines.{CollectedLines}
 use Rattle.collect.specs.Collects.{UnitIn, linesIn, linesExtent, LinesRoom, CollectedIn, CollectsLines}
 use Rattle.collect.proofs.FrameLaws.{but-wide}
-use Rattle.references.specs.declared.tables.Tables.{Tables}
-use Rattle.references.specs.Names.{dwarfOf}
+use Rattle.dies.specs.Details.{dwarfWith}
 use Rattle.dies.proofs.NodeStepLaws.{warnings-append}
 use Rattle.imports.specs.Import.{importUnitDetails, importUnit}
 use Rattle.subprograms.specs.declared.model.ImportContext.{ImportContext}
 use Rattle.subprograms.specs.declared.model.ImportState.{ImportState}
 use Rattle.subprograms.specs.Stats.{statsOf}
-use Rattle.subprograms.specs.Contexts.{contextOf, ContextIn, touched}
+use Rattle.subprograms.specs.Contexts.{contextWith, ContextIn, touched}
 use Rattle.subprograms.specs.Steps.{Imports, stateOf}
-use Rattle.subprograms.proofs.ContextLaws.{unit-of}
 use Rattle.dwarf.specs.declared.layout.Layout.{Layout}
 use Rattle.dwarf.specs.declared.part.Part.{Part}
-use Rattle.dwarf.specs.Layout.{RowsFit}
+use Rattle.dwarf.specs.declared.layout.UnitLayout.{UnitLayout}
+use Rattle.dwarf.specs.declared.tables.Indexes.{Indexes}
+use Rattle.dwarf.specs.Layout.{UnitLaid}
 use Rattle.dwarf.specs.Tables.{TablesIn, LinesLaid, MakesContext}
 use Rattle.dwarf.specs.Part.{PartOf}
-use Rattle.dwarf.specs.Units.{Ready, besideTables, Grows}
-use Rattle.dwarf.proofs.TablesLaws.{keys-behind, main-behind, spans-behind, text-behind}
+use Rattle.dwarf.specs.Units.{Ready, aboveTables, Grows}
 
 -- a shorter program's lines have room where the whole one's have
 part-room : (main : List ℕ) (place : ℕ) (part program : List ℕ) → length part ≤ length program → linesExtent main place part ≤ linesExtent main place program
@@ -65,42 +64,50 @@ no-zero : (n : ℕ) → n ≡ 0 → LineNumbers n → ⊥
 no-zero n z (inl p) = omega (arith, p .0)
 no-zero n z (inr p) = omega (arith, p .0)
 
-module _ {main supplementary program w : List ℕ} {l : Layout} {x : Tables} {place : ℕ} {st : ImportState} (U : UnitIn main place) (F : RowsFit l (unitHere main place))
-    (T : TablesIn main supplementary program w l x) (R : Ready main supplementary w l st) where
+module _ {main supplementary program lists w : List ℕ} {l : Layout} {p : UnitLayout} {x : Indexes} {place : ℕ} {st : ImportState} (U : UnitIn main place)
+    (P : UnitLaid main supplementary program (length w) l place p) (T : TablesIn main supplementary program lists w l x) (R : Ready main supplementary w l st) where
   module _ (part : List ℕ) (short : length part ≤ length program) where
     -- the lines of the part end below the executable ranges
-    lines-end : l .lines + linesExtent main place part ≤ l .text
-    lines-end = let a = T .laid .text place (unit-of U) F in let b = part-room main place part program short in omega arith
+    lines-end : l .lines + linesExtent main place part ≤ p .text
+    lines-end = let a = P .text in let b = part-room main place part program short in omega arith
 
-    text-within : l .text ≤ l .«main_units»
-    text-within = let a = text-behind (T .laid) U in let b = spans-behind (T .laid) in omega arith
+    -- all of the unit's parts lie within the slice
+    unit-end : p .spans ≤ length w
+    unit-end = let a = P .ranges in let b = P .stack in let c = P .sites in let d = P .keys in let e = P .room in omega arith
+
+    text-within : p .text ≤ length w
+    text-within = let a = P .spans in let b = unit-end in omega arith
 
     pub lines-room : LinesRoom main w part (st .table) place (l .lines)
     lines-room = record {
       table = R .below;
-      room = let a = lines-end in let b = text-within in let c = main-behind (T .laid) in let d = keys-behind (T .laid) in let e = T .room in omega arith;
+      room = let a = lines-end in let b = text-within in omega arith;
     }
 
     module _ {w₁ f f₁ u u₁ : List ℕ} {c : CollectedLines} (K : CollectsLines main supplementary part w w₁ f f₁ u u₁ place (st .table) (st .warned) (l .lines) c) where
-      -- below the tables of units and entries
-      low : KeptBut w w₁ (besideTables l (length w))
+      -- above the tables of units and entries
+      low : KeptBut w w₁ (aboveTables l (length w))
       low =
           let a = lines-end in
           let b = text-within in
           let d = R .below in
-          but-wide (besideTables l (length w)) (K .rest) (here (omega arith) (omega arith), (here (omega arith) (omega arith), tt))
+          let e = R .above in
+          but-wide (aboveTables l (length w)) (K .rest) (here (omega arith) (omega arith), (here (omega arith) (omega arith), tt))
 
-      pub collected-low : KeptBut w w₁ (besideTables l (length w))
+      pub collected-low : KeptBut w w₁ (aboveTables l (length w))
       collected-low = low
 
       module _ {lines : StoredLines} {indices : StoredIndices} {t₁ : StoredFiles} {warned : ℕ} (is : c ≡ CollectedLines.Lines lines indices t₁ warned) where
         C : CollectedIn main supplementary part w w₁ f f₁ u u₁ place (st .table) (st .warned) (l .lines) lines indices t₁ warned
         C = rw is at (K .is)
 
+        grown-above : l .files ≤ t₁ .base
+        grown-above = let a = C .grown .base in let c = R .above in omega arith
+
         grown-below : t₁ .base + extent t₁ ≤ l .lines
         grown-below = let a = C .grown .base in let b = C .grown .room in let c = R .below in omega arith
 
-        pub lines-laid : LinesLaid w₁ l lines indices
+        pub lines-laid : LinesLaid w₁ l p lines indices
         lines-laid = record {
           rows = C .rows;
           from = C .from;
@@ -112,9 +119,9 @@ module _ {main supplementary program w : List ℕ} {l : Layout} {x : Tables} {pl
         pub warned-fits : warned ≤ top
         warned-fits = let a = C .put .place in omega arith
 
-        module _ {w₂ : List ℕ} {inlines callSites : Bool} {q : ImportContext} (M : MakesContext main supplementary w₁ w₂ l place lines indices inlines callSites q) where
+        module _ {w₂ : List ℕ} {inlines callSites : Bool} {q : ImportContext} (M : MakesContext main supplementary lists w₁ w₂ l p place lines indices inlines callSites q) where
           pub context-stands : ContextIn main supplementary w₂ q t₁
-          context-stands = M .context t₁ grown-below (C .grown .holds)
+          context-stands = M .context t₁ grown-above grown-below (C .grown .holds)
 
           -- all of the lines stands below the text
           lines-same : linesIn w₂ lines indices ≡ linesIn w₁ lines indices
@@ -135,24 +142,24 @@ module _ {main supplementary program w : List ℕ} {l : Layout} {x : Tables} {pl
           lines-are = (λ i. linesIn w₂ (M .lines-is i) (M .indices-is i)) ∙ lines-same
 
           -- the file table stands below the lines
-          table-clear : t₁ .base + extent t₁ ≤ l .text
+          table-clear : t₁ .base + extent t₁ ≤ p .text
           table-clear = let a = lines-end in let b = grown-below in omega arith
 
           table-same : tableOf main supplementary w₂ t₁ ≡ tableOf main supplementary w₁ t₁
           table-same = table-kept (C .grown .holds) (but-one (M .rest)) (inl table-clear, tt)
 
-          module _ (same-part : part ≡ programOf (unitHere main place) program) where
+          module _ (addresses : List ℕ) (same-part : part ≡ programOf (unitHere main place) program) where
             -- the definition goes on from the context that was made
             imported : (rs : List Function) (ws : List Warning)
-                → importUnit (dwarfOf main supplementary) (unitHere main place) program inlines callSites (stateOf main supplementary w st rs ws)
-                ≡ importUnitDetails (contextOf main supplementary w₂ q) (unitHere main (q .unit) .entries)
+                → importUnit (dwarfWith main supplementary lists addresses) (unitHere main place) program inlines callSites (stateOf main supplementary w st rs ws)
+                ≡ importUnitDetails (contextWith main supplementary lists addresses w₂ q) (unitHere main (q .unit) .entries)
                 (record { table = tableOf main supplementary w₂ t₁; records = rs; warnings = ws ++ C .new; stats = statsOf (st .stats) })
             unfolding importUnit _>>=_
             imported rs ws =
                 rw (sym same-part, C .collected)
                 (sym (λ i. importUnitDetails
                 (record {
-                  dwarf = dwarfOf main supplementary;
+                  dwarf = dwarfWith main supplementary lists addresses;
                   unit = unitHere main (M .unit-is i);
                   lines = lines-are i;
                   includeInlines = M .inlines-is i;
@@ -162,37 +169,40 @@ module _ {main supplementary program w : List ℕ} {l : Layout} {x : Tables} {pl
                 (record { table = table-same i; records = rs; warnings = ws ++ C .new; stats = statsOf (st .stats) })))
 
             module _ {w₃ t t₃ f₃ u₃ : List ℕ} {r : ImportState} (size₁ : length w₁ ≡ length w) (size₂ : length w₂ ≡ length w₁)
-                (I : Imports (importUnitDetails (contextOf main supplementary w₂ q) (unitHere main (q .unit) .entries)) main supplementary q w₂ t f₁ u₁
-                (record { table = t₁; at = st .at; warned = warned; stats = st .stats; status = 0 }) w₃ t₃ f₃ u₃ r) where
+                (I : Imports (importUnitDetails (contextWith main supplementary lists addresses w₂ q) (unitHere main (q .unit) .entries)) main supplementary q w₂ t f₁ u₁
+                (record { table = t₁; at = st .at; warned = warned; stats = st .stats; status = 0; past = st .past }) w₃ t₃ f₃ u₃ r) where
               -- what the subprograms' import writes lies beside the tables
-              beside : KeptBut w₂ w₃ (touched main supplementary q t₁) → KeptBut w₂ w₃ (besideTables l (length w))
+              beside : KeptBut w₂ w₃ (touched main supplementary q t₁) → KeptBut w₂ w₃ (aboveTables l (length w))
               beside k =
                   let O = context-stands .ordered in
-                  let a = grown-below in
+                  let a = grown-above in
+                  let c = grown-below in
                   let b = table-clear in
                   let d = text-within in
                   let e = O .buffer in
                   let g = O .text in
-                  let h = spans-behind (T .laid) in
-                  let p = M .spans-is in
-                  let o = M .room-is in
-                  let v = M .ranges-is in
+                  let h = O .spans in
+                  let n = O .table in
+                  let n₂ = O .indices in
+                  let n₃ = O .lines in
+                  let n₄ = O .sequences in
                   let z = context-stands .tables .keys .room in
                   let y = O .ranges in
                   let y₂ = O .stack in
                   let y₃ = O .sites in
-                  but-wide (besideTables l (length w)) k
-                  (here (omega arith) (omega arith), (here (omega arith) (omega arith), (here (omega arith) (omega arith), (there (here (omega arith) (omega arith)), tt))))
+                  but-wide (aboveTables l (length w)) k
+                  (here (omega arith) (omega arith), (here (omega arith) (omega arith), (here (omega arith) (omega arith), (here (omega arith) (omega arith), tt))))
 
-              pub unit-grows : Grows (importUnit (dwarfOf main supplementary) (unitHere main place) program inlines callSites) main supplementary (besideTables l (length w))
+              pub unit-grows : Grows (importUnit (dwarfWith main supplementary lists addresses) (unitHere main place) program inlines callSites) main supplementary (aboveTables l (length w))
                   w t f u st w₃ t₃ f₃ u₃ r
               unit-grows = record {
                 records = I .records;
                 new = C .new ++ I .new;
                 laid = I .laid;
+                past = I .past;
                 warned = λ e. put-as (warnings-append (C .new) (I .new)) (C .put then I .warned e);
                 grown = λ e. grown-trans (grown-kept (C .grown) (but-one (M .rest)) (inl table-clear, tt) size₂) (I .grown e);
-                kept = λ e. but-trans low (but-trans (let a = text-behind (T .laid) U in let b = spans-behind (T .laid) in but-of (M .rest) (here (omega arith) (omega arith))) (beside (I .kept e)));
+                kept = λ e. but-trans low (but-trans (let a = P .spans in let b = unit-end in let d = lines-end in let e = T .laid .lines in but-of (M .rest) (here (omega arith) (omega arith))) (beside (I .kept e)));
                 ok = λ e rs ws. imported rs ws ∙ I .ok e rs (ws ++ C .new) ∙ rw (append-assoc ws (C .new) (I .new));
                 no = λ e rs ws. imported rs ws ∙ I .no e rs (ws ++ C .new);
               }
@@ -203,16 +213,17 @@ module _ {main supplementary program w : List ℕ} {l : Layout} {x : Tables} {pl
         refusing : collectLines (unitHere main place) part (tableOf main supplementary w (st .table)) ≡ refused n
         refusing = rw is at (K .is)
 
-        pub unit-refused : (inlines callSites : Bool) {t t₃ f₃ u₃ w₃ : List ℕ} {r : ImportState} → r .status ≡ n
-            → Grows (importUnit (dwarfOf main supplementary) (unitHere main place) program inlines callSites) main supplementary (besideTables l (length w)) w t f u st w₃ t₃ f₃ u₃ r
+        pub unit-refused : (addresses : List ℕ) (inlines callSites : Bool) {t t₃ f₃ u₃ w₃ : List ℕ} {r : ImportState} → r .status ≡ n
+            → Grows (importUnit (dwarfWith main supplementary lists addresses) (unitHere main place) program inlines callSites) main supplementary (aboveTables l (length w)) w t f u st w₃ t₃ f₃ u₃ r
         unfolding importUnit _>>=_
-        unit-refused inlines callSites {r = r} s =
+        unit-refused addresses inlines callSites {r = r} s =
             let number = number-of (refuses-lines (unitHere main place) part (tableOf main supplementary w (st .table))) refusing in
             let not-zero : r .status ≡ 0 → ⊥ = λ e. no-zero n (sym s ∙ e) number in
             record {
               records = [];
               new = [];
               laid = λ e. absurd (not-zero e);
+              past = λ e. absurd (not-zero e);
               warned = λ e. absurd (not-zero e);
               grown = λ e. absurd (not-zero e);
               kept = λ e. absurd (not-zero e);

@@ -1,14 +1,15 @@
 -- Refusals 1 to 5: what their tests promise. Assumes nothing.
 use mathlib.Core.Path.{_≡_}
 use mathlib.Core.Bool.{Bool, cond, false, _&&_, _||_, not}
-use mathlib.Core.List.{List}
+use mathlib.Core.List.{List, [], _∷_}
 use mathlib.Core.Option.{Option, none, some}
-use Prim.Native.Nat.{ℕ, _+_, _*_, _≤_}
+use Prim.Native.Nat.{ℕ, _+_, _*_, _≤_, max, min}
 use lib.Dec.{ltb, eqb}
 use lib.ListN.{length}
 use Rattle.tlv.specs.Outcome.{Outcome, refused, done, _>>=_}
-use Rattle.tlv.specs.Lists.{at, exists, isEmpty, isNone}
-use Rattle.tlv.specs.Limits.{inputLimit, programLimit, workOfField, workOfProgramByte, workOfEncodedByte, workBesides}
+use Rattle.tlv.specs.Lists.{at, isEmpty, isNone}
+use Rattle.tlv.specs.Limits.{inputLimit, programLimit, listLimit, workOfField, workOfProgramByte, workOfEncodedByte, workOfListByte, countedLists}
+use Rattle.tlv.specs.Limits.{workBesides}
 use Rattle.tlv.specs.Grammar.{checkInput}
 use Rattle.tlv.specs.Checked.{Accepts}
 use Rattle.tlv.specs.Model.{CompilationUnit, units}
@@ -18,14 +19,17 @@ use Rattle.dwarf.specs.declared.checks.BothChecked.{BothChecked}
 
 -- ---- 1
 
-abbrev pub oversizeOf : List ℕ → List ℕ → List ℕ → Bool
-oversizeOf main supplementary program = ltb inputLimit (length main) || ltb inputLimit (length supplementary) || ltb programLimit (length program)
+abbrev pub oversizeOf : List ℕ → List ℕ → List ℕ → List ℕ → List ℕ → Bool
+oversizeOf main supplementary program lists addresses =
+    ltb inputLimit (length main) || ltb inputLimit (length supplementary) || ltb programLimit (length program) || ltb listLimit (length lists)
+    || ltb listLimit (length addresses)
 
--- neither input and no program is oversize
-pub record NotOversize (main supplementary program : List ℕ) : Type 0 where
+-- neither input, no program and no lists are oversize
+pub record NotOversize (main supplementary program lists : List ℕ) : Type 0 where
   pub main-within : length main ≤ inputLimit
   pub supplementary-within : length supplementary ≤ inputLimit
   pub program-within : length program ≤ programLimit
+  pub lists-within : length lists ≤ listLimit
 
 -- ---- 2 and 3
 
@@ -62,18 +66,35 @@ missingOf main o = cond (o .all) false (missingUnit main (o .ordinal) (at (units
 abbrev pub isEncoded : CompilationUnit → Bool
 isEncoded u = not (isNone (u .encoding))
 
--- one of the units' do
-unfoldable pub encodedOf : List CompilationUnit → Bool
-encodedOf us = exists isEncoded us
-
 -- the work that a program of so many bytes asks for
 abbrev pub workOfProgram : Bool → ℕ → ℕ
 workOfProgram encoded size = cond encoded workOfEncodedByte workOfProgramByte * size
 
--- work is shorter than an import asks of two sheets with n fields
-abbrev pub shortOf : List ℕ → ℕ → List ℕ → Bool → Bool
-shortOf work n program encoded = ltb (length work) (workOfField * n + workOfProgram encoded (length program) + workBesides)
+-- the work that so many range lists ask for, in a section of so many bytes (document 02, E9)
+abbrev pub workOfLists : ℕ → ℕ → ℕ
+workOfLists lists bytes = workOfListByte * bytes * min lists countedLists
 
--- work is as long as an import asks
-pub record WorkEnough (main supplementary program w : List ℕ) (encoded : Bool) : Type 0 where
-  pub long : (m n : ℕ) → Accepts main m → Accepts supplementary n → workOfField * (m + n) + workOfProgram encoded (length program) + workBesides ≤ length w
+-- the work that a unit asks for beside its fields, with a program of `size` bytes and lists of `bytes`
+unfoldable pub unitWork : ℕ → ℕ → CompilationUnit → ℕ
+unitWork size bytes u = workOfProgram (isEncoded u) size + workOfLists (u .lists) bytes
+
+-- that of the unit that asks for most (document 02, E11)
+unfoldable pub mostWork : ℕ → ℕ → List CompilationUnit → ℕ
+mostWork size bytes [] = workOfProgramByte * size
+mostWork size bytes (u ∷ us) = max (unitWork size bytes u) (mostWork size bytes us)
+
+-- no unit asks for more
+abbrev pub workLimit : ℕ
+workLimit = workOfEncodedByte * programLimit + workOfListByte * countedLists * listLimit
+
+-- work is shorter than an import asks of two sheets with n fields, whose units ask for so much
+abbrev pub shortOf : List ℕ → ℕ → ℕ → Bool
+shortOf work n most = ltb (length work) (workOfField * n + most + workBesides)
+
+-- a work slice of so many bytes is long enough for two inputs and units that ask for so much
+pub record WorkEnough (main supplementary : List ℕ) (size most : ℕ) : Type 0 where
+  pub long : (m n : ℕ) → Accepts main m → Accepts supplementary n → workOfField * (m + n) + most + workBesides ≤ size
+
+-- it is long enough for this unit
+abbrev pub UnitEnough : List ℕ → List ℕ → List ℕ → List ℕ → ℕ → CompilationUnit → Type 0
+UnitEnough main supplementary program lists size u = WorkEnough main supplementary size (unitWork (length program) (length lists) u)

@@ -2,24 +2,27 @@
 use mathlib.Core.Path.{_≡_}
 use mathlib.Core.Bool.{Bool, false, cond}
 use mathlib.Core.List.{List}
-use mathlib.Core.Option.{none}
-use Prim.Native.Nat.{ℕ, _+_, _*_, _≤_, _<_, _^_}
+use Prim.Native.Nat.{ℕ, _+_, _*_, _/_, _≤_, _<_, _^_, min}
 use lib.ListN.{length, getD}
-use Rattle.tlv.specs.Tags.{attributeTag, directoryTag, encodingTag, entryTag, fileTag, fileZeroTag, rangeTag, rowTag, textTag, unitTag}
-use Rattle.tlv.specs.Limits.{workOfField, workBesides, joinedLimit}
+use Rattle.tlv.specs.Tags.{attributeTag, directoryTag, encodingTag, entryTag, fileTag, fileZeroTag, listTag, rangeTag, rowTag, textTag, unitTag}
+use Rattle.tlv.specs.Limits.{programLimit, listLimit, workOfField, workBesides, joinedLimit}
 use Rattle.tlv.specs.Fields.{fields, payloads, wholeFields}
 use Rattle.tlv.specs.Checked.{Accepts}
 use Rattle.tlv.specs.Model.{CompilationUnit}
 use Rattle.tlv.specs.Places.{unitHere, unitPlaces}
 use Rattle.files.specs.Possible.{possibleFiles}
+use Rattle.rows.specs.Sizes.{rowRoom}
 use Rattle.collect.specs.Collects.{linesExtent}
 use Rattle.references.specs.Keys.{possibleKeys}
 use Rattle.dies.specs.Details.{rangeCount, entryCount}
 use Rattle.dies.specs.DetailState.{Accepted}
 use Rattle.subprograms.specs.Contexts.{UnitOf, mapExtent}
 use Rattle.dwarf.specs.declared.layout.Layout.{Layout}
+use Rattle.dwarf.specs.declared.layout.UnitLayout.{UnitLayout}
 use Rattle.dwarf.specs.declared.layout.Counts.{Counts}
-use Rattle.dwarf.specs.Checks.{workOfProgram}
+use Rattle.dwarf.specs.Checks.{isEncoded}
+
+-- ---- counts
 
 -- how many fields of a tag an input has
 abbrev pub countOf : ℕ → List ℕ → ℕ
@@ -40,46 +43,88 @@ pub record Sized (s : List ℕ) (c : Counts) : Type 0 where
   pub entries : c .entries ≡ countOf entryTag s
   pub attributes : c .attributes ≡ countOf attributeTag s
   pub ranges : c .ranges ≡ countOf rangeTag s
+  pub lists : c .lists ≡ countOf listTag s
 
 -- how many fields the counts are of
 abbrev pub totalOf : Counts → ℕ
-totalOf c = c .units + c .text + c .directories + c .files + c .zeros + c .encodings + c .rows + c .entries + c .attributes + c .ranges
+totalOf c =
+    c .units + c .text + c .directories + c .files + c .zeros + c .encodings + c .rows + c .entries + c .attributes + c .ranges + c .lists
 
--- the most rows that a program of so many bytes gives (document 02, E8): each takes a byte
-abbrev pub programRows : ℕ → Bool → ℕ
-programRows size encoded = cond encoded size 0
+-- ---- the tables that serve all units
 
 -- what the targets that a search can follow need, with a chain's head for each entry and one more
 abbrev pub keysRoom : List ℕ → List ℕ → ℕ
 keysRoom main supplementary = (entryCount main + entryCount supplementary + 1) * 4 + 13 * length (possibleKeys main supplementary)
 
--- the unit's rows have room: they are fields, or there is room for as many as the program can give
-abbrev pub RowsFit : Layout → CompilationUnit → Type 0
-RowsFit l u = l .encoded ≡ false → u .encoding ≡ none
+-- where what belongs to one unit ends, but for what its program and its lists add
+abbrev pub roomsEnd : Layout → ℕ
+roomsEnd l = l .lines + l .«line_room» + l .«text_room» + l .«span_room» + l .«range_room» + l .«stack_room» + l .«site_room»
 
--- the tables stand one behind the other, each with room for what the inputs can bring
-pub record LaidOut (main supplementary program : List ℕ) (l : Layout) : Type 0 where
+-- all of it is far below the largest place
+pub record RoomsSmall (l : Layout) : Type 0 where
+  pub rooms : roomsEnd l < 2 ^ 32
+  pub size : l .size ≤ programLimit
+  pub third : 3 * l .third ≤ listLimit
+
+-- it is known which tags the main input does not have
+pub record TagsKnown (main : List ℕ) (l : Layout) : Type 0 where
+  pub encodings : l .«with_encodings» ≡ false → countOf encodingTag main ≡ 0
+  pub lists : l .«with_lists» ≡ false → countOf listTag main ≡ 0
+
+-- the most rows that a program of so many bytes gives (document 02, E8): each takes a byte
+abbrev pub programRows : ℕ → Bool → ℕ
+programRows size encoded = cond encoded size 0
+
+-- the tables stand one behind the other, each with room for what the inputs can bring; and so do the parts of each unit
+pub record LaidOut (main supplementary program lists : List ℕ) (l : Layout) : Type 0 where
   pub few : length (possibleFiles main supplementary) < l .room
   pub small : l .room < 2 ^ 32
-  pub lines : l .room * 45 + joinedLimit ≤ l .lines
-  pub front : l .lines ≤ l .«main_units»
-  pub text : (q : ℕ) → UnitOf main q → RowsFit l (unitHere main q) → l .lines + linesExtent main q program ≤ l .text
-  pub spans : (q : ℕ) → UnitOf main q → l .text + 16 * length (unitHere main q .text) ≤ l .spans
-  pub room-main : (q : ℕ) → UnitOf main q → mapExtent main q ≤ l .«span_room»
-  pub room-supplementary : (q : ℕ) → UnitOf supplementary q → mapExtent supplementary q ≤ l .«span_room»
-  pub main-units : l .spans + l .«span_room» ≤ l .«main_units»
-  pub main-entries : l .«main_units» + 24 * length (unitPlaces 0 (fields main)) ≤ l .«main_entries»
+  pub main-entries : 24 * length (unitPlaces 0 (fields main)) ≤ l .«main_entries»
   pub supplementary-units : l .«main_entries» + 16 * entryCount main ≤ l .«supplementary_units»
   pub supplementary-entries : l .«supplementary_units» + 24 * length (unitPlaces 0 (fields supplementary)) ≤ l .«supplementary_entries»
-  pub ranges : l .«supplementary_entries» + 16 * entryCount supplementary ≤ l .ranges
-  pub stack : l .ranges + 16 * (1 + rangeCount main) ≤ l .stack
-  pub sites : l .stack + 14 * entryCount main ≤ l .sites
-  pub keys : l .sites + 12 * entryCount main ≤ l .keys
+  pub files : l .«supplementary_entries» + 16 * entryCount supplementary ≤ l .files
+  pub lines : l .files + (l .room * 45 + joinedLimit) ≤ l .lines
+  pub line-room : (q : ℕ) → UnitOf main q → linesExtent main q program ≤ l .«line_room» + rowRoom * programRows (l .size) (isEncoded (unitHere main q))
+  pub text-room : (q : ℕ) → UnitOf main q → 16 * length (unitHere main q .text) ≤ l .«text_room»
+  pub room-main : (q : ℕ) → UnitOf main q → mapExtent main q ≤ l .«span_room»
+  pub room-supplementary : (q : ℕ) → UnitOf supplementary q → mapExtent supplementary q ≤ l .«span_room»
+  pub range-room : 16 * (1 + rangeCount main) ≤ l .«range_room»
+  pub stack-room : 14 * entryCount main ≤ l .«stack_room»
+  pub site-room : 12 * entryCount main ≤ l .«site_room»
   pub within : (m n : ℕ) → Accepts main m → Accepts supplementary n
-      → l .keys + keysRoom main supplementary ≤ workOfField * (m + n) + workOfProgram (l .encoded) (length program) + workBesides
+      → roomsEnd l + keysRoom main supplementary ≤ workOfField * (m + n) + l .size / 3 * 8 + workBesides
+  pub size-is : l .size ≡ length program
+  pub third-is : l .third ≡ length lists / 3
+  pub tags : TagsKnown main l
+  pub rooms : RoomsSmall l
 
--- the places, from the counts m and s of any two accepted inputs and the size of any program
-pub record LaysOut (m s : Counts) (size : ℕ) (encoded : Bool) (l : Layout) : Type 0 where
-  pub encoded-is : l .encoded ≡ encoded
-  pub laid : (main supplementary program : List ℕ) → Accepted main → Accepted supplementary → Sized main m → Sized supplementary s → length program ≡ size
-      → LaidOut main supplementary program l
+-- the places, from the counts m and s of any two accepted inputs and the sizes of any program and any lists
+pub record LaysOut (m s : Counts) (size bytes : ℕ) (l : Layout) : Type 0 where
+  pub laid : (main supplementary program lists : List ℕ) → Accepted main → Accepted supplementary → Sized main m → Sized supplementary s
+      → length program ≡ size → length lists ≡ bytes → LaidOut main supplementary program lists l
+
+-- ---- the parts of a unit
+
+-- how many of a unit's range lists (document 02, E9) can stand in the stack of ranges at once
+abbrev pub openLists : ℕ
+openLists = 257
+
+-- behind its lines: whether its rows come from the program, and how many lists it has
+unfoldable pub unitLayout : Layout → Bool → ℕ → UnitLayout
+unitLayout l encoded lists =
+    let text = l .lines + l .«line_room» + rowRoom * programRows (l .size) encoded in
+    let spans = text + l .«text_room» in
+    let ranges = spans + l .«span_room» in
+    let stack = ranges + l .«range_room» + 16 * (l .third * min lists openLists) in
+    let sites = stack + l .«stack_room» in
+    record { text = text; spans = spans; ranges = ranges; stack = stack; sites = sites; keys = sites + l .«site_room» }
+
+-- the parts of the unit at a place stand one behind the other, each with room for what it needs, and end within a work slice of so many bytes
+pub record UnitLaid (main supplementary program : List ℕ) (size : ℕ) (l : Layout) (unit : ℕ) (p : UnitLayout) : Type 0 where
+  pub text : l .lines + linesExtent main unit program ≤ p .text
+  pub spans : p .text + 16 * length (unitHere main unit .text) ≤ p .spans
+  pub ranges : p .spans + l .«span_room» ≤ p .ranges
+  pub stack : p .ranges + 16 * (1 + rangeCount main + l .third * min (unitHere main unit .lists) openLists) ≤ p .stack
+  pub sites : p .stack + 14 * entryCount main ≤ p .sites
+  pub keys : p .sites + 12 * entryCount main ≤ p .keys
+  pub room : p .keys + keysRoom main supplementary ≤ size

@@ -11,6 +11,7 @@ use Rattle.tlv.specs.Lists.{at}
 use Rattle.tlv.specs.Buffer.{Put}
 use Rattle.tlv.specs.Model.{CompilationUnit, units}
 use Rattle.tlv.specs.Output.{recordsBytes, filesBytes, warningsBytes}
+use Rattle.dies.specs.Past.{isPast}
 use Rattle.imports.specs.Import.{State}
 use Rattle.imports.specs.Answer.{Inputs, noStats, importWorked, importOf, importDwarfOf}
 use Rattle.subprograms.specs.declared.model.ImportState.{ImportState}
@@ -23,11 +24,13 @@ use Rattle.dwarf.specs.Checks.{missingOf}
 -- ---- what is asked
 
 -- what a caller lends and asks, as the definitions have it
-abbrev pub inputsOf : List ℕ → List ℕ → List ℕ → ℕ → Bool → Bool → ℕ → List ℕ → List ℕ → List ℕ → List ℕ → Inputs
-inputsOf main supplementary program ordinal inlines callSites first work records files warnings = record {
+abbrev pub inputsOf : List ℕ → List ℕ → List ℕ → List ℕ → List ℕ → ℕ → Bool → Bool → ℕ → List ℕ → List ℕ → List ℕ → List ℕ → Inputs
+inputsOf main supplementary program lists addresses ordinal inlines callSites first work records files warnings = record {
   main = main;
   supplementary = supplementary;
   program = program;
+  lists = lists;
+  addresses = addresses;
   ordinal = ordinal;
   inlines = inlines;
   callSites = callSites;
@@ -39,9 +42,9 @@ inputsOf main supplementary program ordinal inlines callSites first work records
 }
 
 -- the same, what is asked in one
-abbrev pub inputsBy : List ℕ → List ℕ → List ℕ → Options → List ℕ → List ℕ → List ℕ → List ℕ → Inputs
-inputsBy main supplementary program o work records files warnings =
-    inputsOf main supplementary program (o .ordinal) (o .inlines) (o .«call_sites») (o .«first_file») work records files warnings
+abbrev pub inputsBy : List ℕ → List ℕ → List ℕ → List ℕ → List ℕ → Options → List ℕ → List ℕ → List ℕ → List ℕ → Inputs
+inputsBy main supplementary program lists addresses o work records files warnings =
+    inputsOf main supplementary program lists addresses (o .ordinal) (o .inlines) (o .«call_sites») (o .«first_file») work records files warnings
 
 -- what an import comes to: of all units, or of the one of the ordinal
 abbrev pub importAll : Bool → Inputs → Outcome State
@@ -80,12 +83,14 @@ pub record LengthsOf (st : ImportState) (r : Ran) : Type 0 where
   pub warnings : r .warnings ≡ st .warned
   pub stats : r .stats ≡ st .stats
   pub status : r .status ≡ st .status
+  pub past : r .past ≡ st .past
 
 -- a state was written to the output buffers
 pub record Written (o : Outcome State) (t f u t′ f′ u′ : List ℕ) (r : Ran) : Type 0 where
   pub state : State
   pub is : o ≡ done state
   pub records : Put 0 (recordsBytes (state .records)) t t′ (r .records)
+  pub past : r .past ≡ isPast 0 (length (recordsBytes (state .records)))
   pub files : Put 0 (filesBytes (state .table .entries)) f f′ (r .files)
   pub warnings : Put 0 (warningsBytes (state .warnings)) u u′ (r .warnings)
   pub stats : statsOf (r .stats) ≡ state .stats

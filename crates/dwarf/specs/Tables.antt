@@ -2,7 +2,7 @@
 use mathlib.Core.Path.{_≡_}
 use mathlib.Core.Bool.{Bool}
 use mathlib.Core.List.{List, [], _∷_}
-use Prim.Native.Nat.{ℕ, _+_, _-_, _*_, _≤_}
+use Prim.Native.Nat.{ℕ, _+_, _-_, _*_, _/_, _≤_}
 use lib.ListN.{length}
 use Rattle.tlv.specs.Fields.{fields}
 use Rattle.tlv.specs.Table.{Kept, KeptBut}
@@ -14,13 +14,14 @@ use Rattle.rows.specs.declared.«unit_lines».StoredLines.{StoredLines}
 use Rattle.rows.specs.Sizes.{entrySize, lineSize}
 use Rattle.rows.specs.Selects.{RowsIn}
 use Rattle.references.specs.declared.tables.Index.{Index}
-use Rattle.references.specs.declared.tables.Tables.{Tables}
 use Rattle.references.specs.Tables.{IndexIn}
 use Rattle.dies.specs.Details.{entryCount}
 use Rattle.subprograms.specs.declared.model.ImportContext.{ImportContext}
 use Rattle.subprograms.specs.Contexts.{ContextIn}
 use Rattle.dwarf.specs.declared.layout.Layout.{Layout}
-use Rattle.dwarf.specs.Layout.{keysRoom, LaidOut}
+use Rattle.dwarf.specs.declared.layout.UnitLayout.{UnitLayout}
+use Rattle.dwarf.specs.declared.tables.Indexes.{Indexes}
+use Rattle.dwarf.specs.Layout.{LaidOut}
 
 -- ---- units and entries
 
@@ -37,40 +38,39 @@ pub record IndexesInput (s w w′ : List ℕ) (units entries : ℕ) (r : Index) 
   pub here : IndexedAt s w′ units entries r
   pub rest : KeptBut w w′ ((units, 24 * length (unitPlaces 0 (fields s))) ∷ (entries, 16 * entryCount s) ∷ [])
 
--- the tables of both inputs stand where the layout has them, and all of the layout has room
-pub record TablesIn (main supplementary program w : List ℕ) (l : Layout) (x : Tables) : Type 0 where
-  pub laid : LaidOut main supplementary program l
-  pub room : l .keys + keysRoom main supplementary ≤ length w
-  pub of-main : IndexedAt main w (l .«main_units») (l .«main_entries») (x .main)
+-- the tables of both inputs stand where the layout has them
+pub record TablesIn (main supplementary program lists w : List ℕ) (l : Layout) (x : Indexes) : Type 0 where
+  pub laid : LaidOut main supplementary program lists l
+  pub of-main : IndexedAt main w 0 (l .«main_entries») (x .main)
   pub of-supplementary : IndexedAt supplementary w (l .«supplementary_units») (l .«supplementary_entries») (x .supplementary)
-  pub keys : x .keys ≡ l .keys
 
 -- they were written there
-pub record IndexesInputs (main supplementary program w w′ : List ℕ) (l : Layout) (r : Tables) : Type 0 where
-  pub tables : TablesIn main supplementary program w′ l r
-  pub rest : Kept w w′ (l .«main_units») (l .ranges - l .«main_units»)
+pub record IndexesInputs (main supplementary program lists w w′ : List ℕ) (l : Layout) (r : Indexes) : Type 0 where
+  pub tables : TablesIn main supplementary program lists w′ l r
+  pub rest : Kept w w′ 0 (l .files)
 
 -- ---- a unit
 
 -- the unit's lines and its map stand in w, below the place of its executable ranges
-pub record LinesLaid (w : List ℕ) (l : Layout) (lines : StoredLines) (indices : StoredIndices) : Type 0 where
+pub record LinesLaid (w : List ℕ) (l : Layout) (p : UnitLayout) (lines : StoredLines) (indices : StoredIndices) : Type 0 where
   pub rows : RowsIn w lines
   pub from : l .lines ≤ indices .base
   pub map : indices .base + indices .count * 5 ≤ lines .lines
   pub sequences : lines .lines + lines .«line_count» * lineSize ≤ lines .sequences
-  pub within : lines .buffer + entrySize + lines .«line_count» * entrySize ≤ l .text
+  pub within : lines .buffer + entrySize + lines .«line_count» * entrySize ≤ p .text
 
 -- the context of a unit was made behind its lines, which stay as they are
-pub record MakesContext (main supplementary w w′ : List ℕ) (l : Layout) (unit : ℕ) (lines : StoredLines) (indices : StoredIndices) (inlines callSites : Bool)
-    (q : ImportContext) : Type 0 where
-  pub context : (t : StoredFiles) → t .base + extent t ≤ l .lines → FilesIn main supplementary w t → ContextIn main supplementary w′ q t
+pub record MakesContext (main supplementary lists w w′ : List ℕ) (l : Layout) (p : UnitLayout) (unit : ℕ) (lines : StoredLines) (indices : StoredIndices)
+    (inlines callSites : Bool) (q : ImportContext) : Type 0 where
+  pub context : (t : StoredFiles) → l .files ≤ t .base → t .base + extent t ≤ l .lines → FilesIn main supplementary w t → ContextIn main supplementary w′ q t
   pub unit-is : q .unit ≡ unit
   pub lines-is : q .lines ≡ lines
   pub indices-is : q .places .indices ≡ indices
   pub inlines-is : q .«include_inlines» ≡ inlines
   pub call-sites-is : q .«include_call_sites» ≡ callSites
+  pub third-is : length lists / 3 ≡ q .third
   -- where what is written for the unit stands
-  pub spans-is : q .places .spans ≡ l .spans
+  pub spans-is : q .places .spans ≡ p .spans
   pub room-is : q .places .room ≡ l .«span_room»
-  pub ranges-is : q .ranges ≡ l .ranges
-  pub rest : Kept w w′ (l .text) (l .spans - l .text)
+  pub ranges-is : q .ranges ≡ p .ranges
+  pub rest : Kept w w′ (p .text) (p .spans - p .text)

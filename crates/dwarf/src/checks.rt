@@ -1,16 +1,15 @@
 // Refusals 1 to 5.
 ghost use mathlib.Core.Path.{_≡_};
-ghost use Prim.Native.Nat.{_+_, _≤_};
-ghost use lib.ListN.{length};
-ghost use Rattle.tlv.specs.Limits.{programLimit, fieldLimit};
-ghost use Rattle.tlv.specs.Tags.{encodingTag};
+ghost use Prim.Native.Nat.{_+_, _≤_, max};
+ghost use Rattle.tlv.specs.Limits.{programLimit, fieldLimit, listLimit};
 ghost use Rattle.tlv.specs.Model.{units};
 ghost use Rattle.tlv.specs.Places.{unitHere};
 ghost use Rattle.files.specs.Pieces.{UnitPlaced};
 ghost use Rattle.dies.specs.DetailState.{Accepted};
-ghost use Rattle.dwarf.specs.Checks.{oversizeOf, ChecksBoth, isEncoded, encodedOf, workOfProgram, shortOf, missingOf};
-ghost use Rattle.dwarf.specs.Layout.{countOf};
+ghost use Rattle.dwarf.specs.Checks.{oversizeOf, ChecksBoth, isEncoded, workOfProgram, workOfLists, unitWork, mostWork, workLimit, shortOf, missingOf};
+ghost use Rattle.dwarf.specs.Layout.{Sized};
 ghost use Rattle.dwarf.specs.Runs.{chosenUnits};
+use crate::layout::Counts;
 use crate::model::Options;
 use tlv::access::Own;
 use tlv::access::Place;
@@ -20,10 +19,12 @@ use tlv::tags::ENCODING_TAG;
 use tlv::tags::UNIT_TAG;
 use tlv::tags::UNIT_WHOLE;
 
-// The longest input, and the longest line program.
+// The longest input, the longest line program, and the longest list section and address table.
 const INPUT_LIMIT: usize = 16777216;
 
 const PROGRAM_LIMIT: usize = 4194304;
+
+const LIST_LIMIT: usize = 4194304;
 
 // The work length that document 01 asks for: bytes for each field of both inputs, ..
 const WORK_OF_FIELD: usize = 64;
@@ -34,12 +35,23 @@ const WORK_OF_PROGRAM_BYTE: usize = 4;
 // .. or of one that gives rows (document 02, E8), ..
 const WORK_OF_ENCODED_BYTE: usize = 64;
 
+// .. for each byte of the range lists and each of a unit's fields 1f, of which so many count (E9), ..
+const WORK_OF_LIST_BYTE: usize = 8;
+
+const COUNTED_LISTS: usize = 256;
+
 // .. and besides.
 const WORK_BESIDES: usize = 32768;
 
-// Refusal 1 of two inputs and a program.
-pub fn is_oversize(main: &[u8], supplementary: &[u8], program: &[u8]) -> bool
-    ensures { λ r. ⌜ r ≡ oversizeOf (now (main .entry)) (now (supplementary .entry)) (now (program .entry)) ⌝ }
+// Refusal 1 of two inputs, a program, the range lists and their addresses.
+pub fn is_oversize(
+    main: &[u8],
+    supplementary: &[u8],
+    program: &[u8],
+    lists: &[u8],
+    addresses: &[u8],
+) -> bool
+    ensures { λ r. ⌜ r ≡ oversizeOf (now (main .entry)) (now (supplementary .entry)) (now (program .entry)) (now (lists .entry)) (now (addresses .entry)) ⌝ }
 {
     if INPUT_LIMIT < main.len() {
         return true;
@@ -47,7 +59,13 @@ pub fn is_oversize(main: &[u8], supplementary: &[u8], program: &[u8]) -> bool
     if INPUT_LIMIT < supplementary.len() {
         return true;
     }
-    PROGRAM_LIMIT < program.len()
+    if PROGRAM_LIMIT < program.len() {
+        return true;
+    }
+    if LIST_LIMIT < lists.len() {
+        return true;
+    }
+    LIST_LIMIT < addresses.len()
 }
 
 // The fields of both inputs, or the refusal.
@@ -90,7 +108,7 @@ pub fn is_missing(main: &[u8], options: Options) -> bool
 }
 
 // Whether the rows of the unit at a place come from the line program (document 02, E8).
-fn has_encoding(main: &[u8], place: usize) -> bool
+pub fn has_encoding(main: &[u8], place: usize) -> bool
     requires { ⌜ UnitPlaced (now main) place ⌝ }
     ensures { λ r. ⌜ r ≡ isEncoded (unitHere (now (main .entry)) place) ⌝ }
 {
@@ -101,57 +119,6 @@ fn has_encoding(main: &[u8], place: usize) -> bool
             len: _,
             next: _,
         } => true,
-    }
-}
-
-// Whether those of one of the units do.
-fn any_encoding(main: &[u8]) -> bool
-    requires { ⌜ Accepted (now main) ⌝ }
-    ensures { λ r. ⌜ r ≡ encodedOf (units (now (main .entry))) ⌝ }
-{
-    let mut p: usize = 0;
-    loop {
-        match tlv::fields::field_at(main, p) {
-            Step::End => {
-                return false;
-            }
-            Step::Cut => {
-                return false;
-            }
-            Step::Field {
-                tag,
-                start: _,
-                len: _,
-                next,
-            } => {
-                if tag == UNIT_TAG {
-                    if has_encoding(main, p) {
-                        return true;
-                    }
-                    p = next;
-                } else {
-                    p = next;
-                }
-            }
-        }
-    }
-}
-
-// Whether those of one of the units that are asked for do, in an input with so many encodings.
-pub fn is_encoded(main: &[u8], options: Options, encodings: usize) -> bool
-    requires { ⌜ Accepted (now main) ⌝ }
-    requires { ⌜ encodings ≡ countOf encodingTag (now main) ⌝ }
-    ensures { λ r. ⌜ r ≡ encodedOf (chosenUnits options (units (now (main .entry)))) ⌝ }
-{
-    if encodings == 0 {
-        return false;
-    }
-    if options.all {
-        return any_encoding(main);
-    }
-    match tlv::access::unit_by_ordinal(main, options.ordinal) {
-        Place::Missing => false,
-        Place::At(place) => has_encoding(main, place),
     }
 }
 
@@ -166,11 +133,97 @@ fn work_of_program(encoded: bool, size: usize) -> usize
     WORK_OF_PROGRAM_BYTE * size
 }
 
-// Refusal 5, of two inputs with so many fields.
-pub fn is_short(work: &[u8], number: usize, program: &[u8], encoded: bool) -> bool
-    requires { ⌜ number ≤ fieldLimit + fieldLimit ⌝ }
-    requires { ⌜ length (now program) ≤ programLimit ⌝ }
-    ensures { λ r. ⌜ r ≡ shortOf (now (work .entry)) number (now (program .entry)) encoded ⌝ }
+// The work that so many range lists ask for, in a section of so many bytes (document 02, E9).
+fn work_of_lists(lists: usize, bytes: usize) -> usize
+    requires { ⌜ bytes ≤ listLimit ⌝ }
+    ensures { λ r. ⌜ r ≡ workOfLists lists bytes ⌝ }
 {
-    work.len() < WORK_OF_FIELD * number + work_of_program(encoded, program.len()) + WORK_BESIDES
+    if lists < COUNTED_LISTS {
+        return WORK_OF_LIST_BYTE * bytes * lists;
+    }
+    WORK_OF_LIST_BYTE * bytes * COUNTED_LISTS
+}
+
+// The work that the unit at a place asks for besides its fields.
+fn work_of_unit(main: &[u8], place: usize, size: usize, bytes: usize) -> usize
+    requires { ⌜ UnitPlaced (now main) place ⌝ }
+    requires { ⌜ (size ≤ programLimit) × (bytes ≤ listLimit) ⌝ }
+    ensures { λ r. ⌜ r ≡ unitWork size bytes (unitHere (now (main .entry)) place) ⌝ }
+{
+    let program = work_of_program(has_encoding(main, place), size);
+    program + work_of_lists(tlv::access::list_count(main, place + UNIT_WHOLE), bytes)
+}
+
+// The work of the unit that asks for most, of all units; where there is none, that of the program.
+fn most_work(main: &[u8], size: usize, bytes: usize) -> usize
+    requires { ⌜ Accepted (now main) ⌝ }
+    requires { ⌜ (size ≤ programLimit) × (bytes ≤ listLimit) ⌝ }
+    ensures { λ r. ⌜ r ≡ mostWork size bytes (units (now (main .entry))) ⌝ }
+{
+    let mut most = WORK_OF_PROGRAM_BYTE * size;
+    let mut p: usize = 0;
+    loop {
+        match tlv::fields::field_at(main, p) {
+            Step::End => {
+                return most;
+            }
+            Step::Cut => {
+                return most;
+            }
+            Step::Field {
+                tag,
+                start: _,
+                len: _,
+                next,
+            } => {
+                if tag == UNIT_TAG {
+                    most = larger(most, work_of_unit(main, p, size, bytes));
+                    p = next;
+                } else {
+                    p = next;
+                }
+            }
+        }
+    }
+}
+
+fn larger(a: usize, b: usize) -> usize
+    ensures { λ r. ⌜ r ≡ max a b ⌝ }
+{
+    if a < b {
+        return b;
+    }
+    a
+}
+
+// The same of the units that are asked for, in an input with these counts.
+pub fn work_of_units(
+    main: &[u8],
+    options: Options,
+    counts: Counts,
+    size: usize,
+    bytes: usize,
+) -> usize
+    requires { ⌜ (Accepted (now main)) × (Sized (now main) counts) ⌝ }
+    requires { ⌜ (size ≤ programLimit) × (bytes ≤ listLimit) ⌝ }
+    ensures { λ r. ⌜ r ≡ mostWork size bytes (chosenUnits options (units (now (main .entry)))) ⌝ }
+{
+    if counts.encodings + counts.lists == 0 {
+        return WORK_OF_PROGRAM_BYTE * size;
+    }
+    if options.all {
+        return most_work(main, size, bytes);
+    }
+    match tlv::access::unit_by_ordinal(main, options.ordinal) {
+        Place::Missing => WORK_OF_PROGRAM_BYTE * size,
+        Place::At(place) => work_of_unit(main, place, size, bytes),
+    }
+}
+
+// Refusal 5, of two inputs with so many fields, whose units ask for so much.
+pub fn is_short(work: &[u8], number: usize, most: usize) -> bool
+    requires { ⌜ (number ≤ fieldLimit + fieldLimit) × (most ≤ workLimit) ⌝ }
+    ensures { λ r. ⌜ r ≡ shortOf (now (work .entry)) number most ⌝ }
+{
+    work.len() < WORK_OF_FIELD * number + most + WORK_BESIDES
 }

@@ -15,6 +15,8 @@ fn import_by<'a>(
     main: &'a [u8],
     supplementary: &'a [u8],
     program: &[u8],
+    lists: &[u8],
+    addresses: &[u8],
     options: Options,
     work: &mut [u8],
     records: &mut [u8],
@@ -23,7 +25,7 @@ fn import_by<'a>(
 ) -> Imported
     requires { ⌜ options .«first_file» < 2 ^ 32 ⌝ }
     ensures { λ r. ⌜ (
-        let i = inputsBy (now (main .entry)) (now (supplementary .entry)) (now (program .entry)) options
+        let i = inputsBy (now (main .entry)) (now (supplementary .entry)) (now (program .entry)) (now (lists .entry)) (now (addresses .entry)) options
         (now (work .entry)) (now (records .entry)) (now (files .entry)) (now (warnings .entry)) in
         ImportsBy (options .all) i (now (work .exit)) (now (records .exit)) (now (files .exit)) (now (warnings .exit)) r) ⌝ }
 {
@@ -31,6 +33,8 @@ fn import_by<'a>(
         main,
         supplementary,
         program,
+        lists,
+        addresses,
         options,
         work,
         records,
@@ -58,6 +62,8 @@ pub fn import_unit<'a>(
     main: &'a [u8],
     supplementary: &'a [u8],
     program: &[u8],
+    lists: &[u8],
+    addresses: &[u8],
     ordinal: u64,
     inlines: bool,
     call_sites: bool,
@@ -68,7 +74,8 @@ pub fn import_unit<'a>(
     warnings: &mut [u8],
 ) -> Imported
     ensures { λ r. ⌜ (
-        let i = inputsOf (now (main .entry)) (now (supplementary .entry)) (now (program .entry)) ordinal inlines «call_sites» «first_file»
+        let i = inputsOf (now (main .entry)) (now (supplementary .entry)) (now (program .entry)) (now (lists .entry)) (now (addresses .entry)) ordinal
+        inlines «call_sites» «first_file»
         (now (work .entry)) (now (records .entry)) (now (files .entry)) (now (warnings .entry)) in
         ImportsUnit i (now (work .exit)) (now (records .exit)) (now (files .exit)) (now (warnings .exit)) r) ⌝ }
 {
@@ -83,6 +90,8 @@ pub fn import_unit<'a>(
         main,
         supplementary,
         program,
+        lists,
+        addresses,
         options,
         work,
         records,
@@ -96,6 +105,8 @@ pub fn import_dwarf<'a>(
     main: &'a [u8],
     supplementary: &'a [u8],
     program: &[u8],
+    lists: &[u8],
+    addresses: &[u8],
     inlines: bool,
     call_sites: bool,
     first_file: u32,
@@ -105,7 +116,8 @@ pub fn import_dwarf<'a>(
     warnings: &mut [u8],
 ) -> Imported
     ensures { λ r. ⌜ (
-        let i = inputsOf (now (main .entry)) (now (supplementary .entry)) (now (program .entry)) 0 inlines «call_sites» «first_file»
+        let i = inputsOf (now (main .entry)) (now (supplementary .entry)) (now (program .entry)) (now (lists .entry)) (now (addresses .entry)) 0
+        inlines «call_sites» «first_file»
         (now (work .entry)) (now (records .entry)) (now (files .entry)) (now (warnings .entry)) in
         ImportsDwarf i (now (work .exit)) (now (records .exit)) (now (files .exit)) (now (warnings .exit)) r) ⌝ }
 {
@@ -120,6 +132,8 @@ pub fn import_dwarf<'a>(
         main,
         supplementary,
         program,
+        lists,
+        addresses,
         options,
         work,
         records,
@@ -134,11 +148,14 @@ fn measure_by<'a>(
     main: &'a [u8],
     supplementary: &'a [u8],
     program: &[u8],
+    lists: &[u8],
+    addresses: &[u8],
     options: Options,
     work: &mut [u8],
 ) -> Imported
     ensures { λ r. ⌜ (
-        let i = inputsBy (now (main .entry)) (now (supplementary .entry)) (now (program .entry)) options (now (work .entry)) [] [] [] in
+        let i = inputsBy (now (main .entry)) (now (supplementary .entry)) (now (program .entry)) (now (lists .entry)) (now (addresses .entry)) options
+        (now (work .entry)) [] [] [] in
         MeasuresBy (options .all) i (now (work .exit)) r) ⌝ }
 {
     let mut records = [0u8; 1];
@@ -148,6 +165,8 @@ fn measure_by<'a>(
         main,
         supplementary,
         program,
+        lists,
+        addresses,
         options,
         work,
         &mut records,
@@ -156,6 +175,9 @@ fn measure_by<'a>(
     );
     if run.status != 0 {
         return Imported::Refused(run.status);
+    }
+    if run.past {
+        return Imported::Refused(16);
     }
     let stats = run.stats;
     Imported::Finished {
@@ -171,6 +193,8 @@ pub fn measure_unit<'a>(
     main: &'a [u8],
     supplementary: &'a [u8],
     program: &[u8],
+    lists: &[u8],
+    addresses: &[u8],
     ordinal: u64,
     inlines: bool,
     call_sites: bool,
@@ -178,7 +202,8 @@ pub fn measure_unit<'a>(
     work: &mut [u8],
 ) -> Imported
     ensures { λ r. ⌜ (
-        let i = inputsOf (now (main .entry)) (now (supplementary .entry)) (now (program .entry)) ordinal inlines «call_sites» «first_file»
+        let i = inputsOf (now (main .entry)) (now (supplementary .entry)) (now (program .entry)) (now (lists .entry)) (now (addresses .entry)) ordinal
+        inlines «call_sites» «first_file»
         (now (work .entry)) [] [] [] in
         MeasuresUnit i (now (work .exit)) r) ⌝ }
 {
@@ -189,7 +214,7 @@ pub fn measure_unit<'a>(
         call_sites: call_sites,
         first_file: first_file,
     };
-    measure_by(main, supplementary, program, options, work)
+    measure_by(main, supplementary, program, lists, addresses, options, work)
 }
 
 // The same of the import of all units.
@@ -197,13 +222,16 @@ pub fn measure_dwarf<'a>(
     main: &'a [u8],
     supplementary: &'a [u8],
     program: &[u8],
+    lists: &[u8],
+    addresses: &[u8],
     inlines: bool,
     call_sites: bool,
     first_file: u32,
     work: &mut [u8],
 ) -> Imported
     ensures { λ r. ⌜ (
-        let i = inputsOf (now (main .entry)) (now (supplementary .entry)) (now (program .entry)) 0 inlines «call_sites» «first_file»
+        let i = inputsOf (now (main .entry)) (now (supplementary .entry)) (now (program .entry)) (now (lists .entry)) (now (addresses .entry)) 0
+        inlines «call_sites» «first_file»
         (now (work .entry)) [] [] [] in
         MeasuresDwarf i (now (work .exit)) r) ⌝ }
 {
@@ -214,5 +242,5 @@ pub fn measure_dwarf<'a>(
         call_sites: call_sites,
         first_file: first_file,
     };
-    measure_by(main, supplementary, program, options, work)
+    measure_by(main, supplementary, program, lists, addresses, options, work)
 }

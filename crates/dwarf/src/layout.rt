@@ -1,40 +1,65 @@
-// Where the tables of an import stand in the work slice: places computed from counts of fields.
+// Where the tables of an import stand in the work slice: places and rooms computed from counts of fields.
 ghost use mathlib.Core.Path.{_≡_};
-ghost use Prim.Native.Nat.{_≤_};
-ghost use Rattle.tlv.specs.Limits.{programLimit, fieldLimit};
-ghost use Rattle.dwarf.specs.Layout.{TagsCounted, Sized, totalOf, programRows, LaysOut};
+ghost use Prim.Native.Nat.{_≤_, _*_, min};
+ghost use Rattle.tlv.specs.Limits.{programLimit, fieldLimit, listLimit};
+ghost use Rattle.tlv.specs.Places.{unitHere};
+ghost use Rattle.files.specs.Pieces.{UnitPlaced};
+ghost use Rattle.subprograms.specs.Contexts.{UnitOf};
+ghost use Rattle.dwarf.specs.Checks.{isEncoded};
+ghost use Rattle.dwarf.specs.Layout.{TagsCounted, Sized, totalOf, programRows, LaysOut, openLists, unitLayout, RoomsSmall, TagsKnown};
+use crate::checks::has_encoding;
 use files::store::JOINED_LIMIT;
 use rows::line::ENTRY_SIZE;
 use rows::line::ROW_ROOM;
 use tlv::fields::Step;
 use tlv::tags::ATTRIBUTE_TAG;
 use tlv::tags::DIRECTORY_TAG;
+use tlv::tags::ENCODING_TAG;
 use tlv::tags::ENTRY_TAG;
 use tlv::tags::FILE_TAG;
 use tlv::tags::FILE_ZERO_TAG;
+use tlv::tags::LIST_TAG;
 use tlv::tags::RANGE_TAG;
 use tlv::tags::ROW_TAG;
 use tlv::tags::TEXT_TAG;
 use tlv::tags::UNIT_TAG;
+use tlv::tags::UNIT_WHOLE;
 
-// The places, from low to high: the file table with its room for files at 0, the unit's lines, its executable ranges, what a unit that is reached
-// by reference needs, the units and entries of both inputs, the open nodes' ranges, the open and the closed call sites, the followed targets.
+// How many lists can stand in the stack of ranges at once: one for each of the 256 nodes that can be open, and the one that is read.
+const OPEN_LISTS: usize = 257;
+
+// The tables that serve all units stand first: the main input's units at 0, its entries, the supplementary one's units and entries, the file table with its
+// room for files. From `lines` on stands what belongs to one unit, in rooms: its lines, its executable ranges, what a unit that is reached by reference
+// needs, the open nodes' ranges, the open and the closed call sites; behind them the followed targets.
 pub struct Layout {
-    pub room: usize,
-    pub lines: usize,
-    pub text: usize,
-    pub spans: usize,
-    pub span_room: usize,
-    pub main_units: usize,
     pub main_entries: usize,
     pub supplementary_units: usize,
     pub supplementary_entries: usize,
+    pub files: usize,
+    pub room: usize,
+    pub lines: usize,
+    pub line_room: usize,
+    pub text_room: usize,
+    pub span_room: usize,
+    pub range_room: usize,
+    pub stack_room: usize,
+    pub site_room: usize,
+    // What a unit's rows and ranges can have besides: the program's bytes, and a third of the bytes of the range lists.
+    pub size: usize,
+    pub third: usize,
+    // Whether a unit has a line encoding, or an entry a range list.
+    pub with_encodings: bool,
+    pub with_lists: bool,
+}
+
+// Where the parts of one unit stand behind its lines.
+pub struct UnitLayout {
+    pub text: usize,
+    pub spans: usize,
     pub ranges: usize,
     pub stack: usize,
     pub sites: usize,
     pub keys: usize,
-    // Whether the lines have room for as many rows as the program has bytes, beside the row fields.
-    pub encoded: bool,
 }
 
 // For each tag that needs a table, how many fields of it the input has.
@@ -49,6 +74,7 @@ pub struct Counts {
     pub entries: usize,
     pub attributes: usize,
     pub ranges: usize,
+    pub lists: usize,
 }
 
 // How many fields of each tag below 32 an input has, in one pass.
@@ -92,11 +118,48 @@ pub fn counts_of(s: &[u8]) -> Counts
         directories: counts[DIRECTORY_TAG as usize],
         files: counts[FILE_TAG as usize],
         zeros: counts[FILE_ZERO_TAG as usize],
-        encodings: counts[0x1d],
+        encodings: counts[ENCODING_TAG as usize],
         rows: counts[ROW_TAG as usize],
         entries: counts[ENTRY_TAG as usize],
         attributes: counts[ATTRIBUTE_TAG as usize],
         ranges: counts[RANGE_TAG as usize],
+        lists: counts[LIST_TAG as usize],
+    }
+}
+
+// The places and rooms for a main input with counts m, a supplementary one with counts s, a program of so many bytes, and so many bytes of range lists.
+pub fn lay_out(m: Counts, s: Counts, size: usize, bytes: usize) -> Layout
+    requires { ⌜ (totalOf m ≤ fieldLimit) × (totalOf s ≤ fieldLimit) ⌝ }
+    requires { ⌜ (size ≤ programLimit) × (bytes ≤ listLimit) ⌝ }
+    ensures { λ r. ⌜ LaysOut m s size bytes r ⌝ }
+{
+    let main_entries = 24 * m.units;
+    let supplementary_units = main_entries + 16 * m.entries;
+    let supplementary_entries = supplementary_units + 24 * s.units;
+    let files = supplementary_entries + 16 * s.entries;
+    let room = m.files + m.zeros + s.files + s.zeros + 1;
+    let line_room = size / 3 * 8
+        + 8 * m.directories
+        + 5 * (1 + m.files)
+        + ROW_ROOM * m.rows
+        + ENTRY_SIZE;
+    Layout {
+        main_entries: main_entries,
+        supplementary_units: supplementary_units,
+        supplementary_entries: supplementary_entries,
+        files: files,
+        room: room,
+        lines: files + room * 45 + JOINED_LIMIT,
+        line_room: line_room,
+        text_room: 16 * m.text,
+        span_room: 8 * (m.directories + s.directories) + 5 * (1 + m.files + s.files),
+        range_room: 16 * (1 + m.ranges),
+        stack_room: 14 * m.entries,
+        site_room: 12 * m.entries,
+        size: size,
+        third: bytes / 3,
+        with_encodings: m.encodings != 0,
+        with_lists: m.lists != 0,
     }
 }
 
@@ -110,44 +173,68 @@ fn program_rows(size: usize, encoded: bool) -> usize
     0
 }
 
-// The places for a main input with counts m, a supplementary one with counts s, and a program of so many bytes, which may give rows.
-pub fn lay_out(m: Counts, s: Counts, size: usize, encoded: bool) -> Layout
-    requires { ⌜ (totalOf m ≤ fieldLimit) × (totalOf s ≤ fieldLimit) ⌝ }
-    requires { ⌜ size ≤ programLimit ⌝ }
-    ensures { λ r. ⌜ LaysOut m s size encoded r ⌝ }
+// How many of a unit's lists can stand in the stack of ranges at once.
+fn open_lists(lists: usize) -> usize
+    ensures { λ r. ⌜ r ≡ min lists openLists ⌝ }
 {
-    let room = m.files + m.zeros + s.files + s.zeros + 1;
-    let lines = room * 45 + JOINED_LIMIT;
-    let rows = m.rows + program_rows(size, encoded);
-    let text = lines
-        + size / 3 * 8
-        + 8 * m.directories
-        + 5 * (1 + m.files)
-        + ROW_ROOM * rows
-        + ENTRY_SIZE;
-    let spans = text + 16 * m.text;
-    let span_room = 8 * (m.directories + s.directories) + 5 * (1 + m.files + s.files);
-    let main_units = spans + span_room;
-    let main_entries = main_units + 24 * m.units;
-    let supplementary_units = main_entries + 16 * m.entries;
-    let supplementary_entries = supplementary_units + 24 * s.units;
-    let ranges = supplementary_entries + 16 * s.entries;
-    let stack = ranges + 16 * (1 + m.ranges);
-    let sites = stack + 14 * m.entries;
-    Layout {
-        room: room,
-        lines: lines,
+    if lists < OPEN_LISTS {
+        return lists;
+    }
+    OPEN_LISTS
+}
+
+// The places of a unit with so many range lists, whose rows may come from the program.
+fn unit_layout(l: Layout, encoded: bool, lists: usize) -> UnitLayout
+    requires { ⌜ RoomsSmall l ⌝ }
+    ensures { λ r. ⌜ r ≡ unitLayout l encoded lists ⌝ }
+{
+    let text = l.lines + l.line_room + ROW_ROOM * program_rows(l.size, encoded);
+    let spans = text + l.text_room;
+    let ranges = spans + l.span_room;
+    let stack = ranges + l.range_room + 16 * (l.third * open_lists(lists));
+    let sites = stack + l.stack_room;
+    UnitLayout {
         text: text,
         spans: spans,
-        span_room: span_room,
-        main_units: main_units,
-        main_entries: main_entries,
-        supplementary_units: supplementary_units,
-        supplementary_entries: supplementary_entries,
         ranges: ranges,
         stack: stack,
         sites: sites,
-        keys: sites + 12 * m.entries,
-        encoded: encoded,
+        keys: sites + l.site_room,
     }
+}
+
+// How many range lists the unit at a place has.
+fn unit_lists(main: &[u8], place: usize, l: Layout) -> usize
+    requires { ⌜ UnitPlaced (now main) place ⌝ }
+    requires { ⌜ (UnitOf (now main) place) × (TagsKnown (now main) l) ⌝ }
+    ensures { λ r. ⌜ r ≡ unitHere (now (main .entry)) place .lists ⌝ }
+{
+    if l.with_lists {
+        return tlv::access::list_count(main, place + UNIT_WHOLE);
+    }
+    0
+}
+
+// Whether its rows come from the program.
+fn unit_encoded(main: &[u8], place: usize, l: Layout) -> bool
+    requires { ⌜ UnitPlaced (now main) place ⌝ }
+    requires { ⌜ (UnitOf (now main) place) × (TagsKnown (now main) l) ⌝ }
+    ensures { λ r. ⌜ r ≡ isEncoded (unitHere (now (main .entry)) place) ⌝ }
+{
+    if l.with_encodings {
+        return has_encoding(main, place);
+    }
+    false
+}
+
+// Its places.
+pub fn place_unit(main: &[u8], place: usize, l: Layout) -> UnitLayout
+    requires { ⌜ UnitPlaced (now main) place ⌝ }
+    requires { ⌜ (UnitOf (now main) place) × (TagsKnown (now main) l) ⌝ }
+    requires { ⌜ RoomsSmall l ⌝ }
+    ensures { λ r. ⌜ r ≡ unitLayout l (isEncoded (unitHere (now (main .entry)) place)) (unitHere (now (main .entry)) place .lists) ⌝ }
+{
+    let encoded = unit_encoded(main, place, l);
+    let lists = unit_lists(main, place, l);
+    unit_layout(l, encoded, lists)
 }

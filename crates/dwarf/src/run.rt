@@ -3,18 +3,18 @@ ghost use mathlib.Core.Path.{_≡_};
 ghost use Prim.Native.Nat.{ℕ};
 ghost use lib.ListN.{length, replicate};
 ghost use Rattle.tlv.specs.Model.{units};
-ghost use Rattle.references.specs.Names.{dwarfOf};
+ghost use Rattle.dies.specs.Details.{dwarfWith};
 ghost use Rattle.dies.specs.DetailState.{Accepted};
 ghost use Rattle.imports.specs.Import.{importUnits};
-ghost use Rattle.dwarf.specs.Checks.{BothAccepted, NotOversize, encodedOf, WorkEnough};
+ghost use Rattle.dwarf.specs.Checks.{BothAccepted, NotOversize, mostWork, WorkEnough};
 ghost use Rattle.dwarf.specs.Layout.{Sized};
 ghost use Rattle.dwarf.specs.Runs.{inputsBy, importAll, chosenUnits, Chooses, importAccepted, startState, LengthsOf, Writes, fitStatus};
 use crate::checks::BothChecked;
 use crate::checks::check_both;
-use crate::checks::is_encoded;
 use crate::checks::is_missing;
 use crate::checks::is_oversize;
 use crate::checks::is_short;
+use crate::checks::work_of_units;
 use crate::layout::Counts;
 use crate::layout::counts_of;
 use crate::layout::lay_out;
@@ -26,13 +26,14 @@ use subprograms::model::ConversionStats;
 use subprograms::model::ImportState;
 use subprograms::model::no_stats;
 
-// The full lengths of what an import writes, the statistics, and the refusal, 0 for none.
+// The full lengths of what an import writes, each at most the largest place, the statistics, the refusal, 0 for none, and whether the records pass that place.
 pub struct Ran {
     pub records: usize,
     pub files: usize,
     pub warnings: usize,
     pub stats: ConversionStats,
     pub status: u8,
+    pub past: bool,
 }
 
 // The units from number `from` to below `to`.
@@ -50,6 +51,7 @@ fn refused(n: u8) -> Ran
         warnings: 0,
         stats: no_stats(),
         status: n,
+        past: false,
     }
 }
 
@@ -65,6 +67,7 @@ fn lengths_of(st: ImportState) -> Ran
         warnings: st.warned,
         stats: stats,
         status: st.status,
+        past: st.past,
     }
 }
 
@@ -90,30 +93,39 @@ fn import_worked<'a>(
     main: &'a [u8],
     supplementary: &'a [u8],
     program: &[u8],
+    lists: &[u8],
+    addresses: &[u8],
     options: Options,
     counts: Counts,
-    encoded: bool,
     work: &mut [u8],
     records: &mut [u8],
     files: &mut [u8],
     warnings: &mut [u8],
 ) -> Ran
     requires { ⌜ (Accepted (now main)) × (Accepted (now supplementary)) ⌝ }
-    requires { ⌜ NotOversize (now main) (now supplementary) (now program) ⌝ }
+    requires { ⌜ NotOversize (now main) (now supplementary) (now program) (now lists) ⌝ }
     requires { ⌜ Sized (now main) counts ⌝ }
-    requires { ⌜ encoded ≡ encodedOf (chosenUnits options (units (now main))) ⌝ }
-    requires { ⌜ WorkEnough (now main) (now supplementary) (now program) (now work) encoded ⌝ }
+    requires { ⌜ WorkEnough (now main) (now supplementary) (length (now work))
+        (mostWork (length (now program)) (length (now lists)) (chosenUnits options (units (now main)))) ⌝ }
     ensures { λ r. ⌜ (
         let us = chosenUnits options (units (now (main .entry))) in
-        let d = dwarfOf (now (main .entry)) (now (supplementary .entry)) in
+        let d = dwarfWith (now (main .entry)) (now (supplementary .entry)) (now (lists .entry)) (now (addresses .entry)) in
         Writes (importUnits d us (now (program .entry)) (options .inlines) (options .«call_sites») (startState (options .«first_file»)))
         (now (records .entry)) (now (files .entry)) (now (warnings .entry)) (now (records .exit)) (now (files .exit)) (now (warnings .exit)) r) ⌝ }
 {
     let others = counts_of(supplementary);
-    let l = lay_out(counts, others, program.len(), encoded);
-    let empty = new_files(main, supplementary, work, 0, l.room, options.first_file, 0);
-    let tables = index_inputs(main, supplementary, program, work, l);
-    let index = tables.main;
+    let l = lay_out(counts, others, program.len(), lists.len());
+    let empty = new_files(
+        main,
+        supplementary,
+        work,
+        l.files,
+        l.room,
+        options.first_file,
+        0,
+    );
+    let x = index_inputs(main, supplementary, program, lists, work, l);
+    let index = x.main;
     let chosen = chosen_units(options, index.unit_count);
     let begun = ImportState {
         table: empty,
@@ -121,15 +133,18 @@ fn import_worked<'a>(
         warned: 0,
         stats: no_stats(),
         status: 0,
+        past: false,
     };
     lengths_of(import_each(
         main,
         supplementary,
         program,
+        lists,
+        addresses,
         chosen.from,
         chosen.to,
         l,
-        tables,
+        x,
         options,
         work,
         records,
@@ -144,6 +159,8 @@ fn import_accepted<'a>(
     main: &'a [u8],
     supplementary: &'a [u8],
     program: &[u8],
+    lists: &[u8],
+    addresses: &[u8],
     options: Options,
     number: usize,
     work: &mut [u8],
@@ -152,9 +169,9 @@ fn import_accepted<'a>(
     warnings: &mut [u8],
 ) -> Ran
     requires { ⌜ BothAccepted (now main) (now supplementary) (length (now program)) number ⌝ }
-    requires { ⌜ NotOversize (now main) (now supplementary) (now program) ⌝ }
+    requires { ⌜ NotOversize (now main) (now supplementary) (now program) (now lists) ⌝ }
     ensures { λ r. ⌜ (
-        let i = inputsBy (now (main .entry)) (now (supplementary .entry)) (now (program .entry)) options
+        let i = inputsBy (now (main .entry)) (now (supplementary .entry)) (now (program .entry)) (now (lists .entry)) (now (addresses .entry)) options
         (now (work .entry)) (now (records .entry)) (now (files .entry)) (now (warnings .entry)) in
         Writes (importAccepted options i number)
         (now (records .entry)) (now (files .entry)) (now (warnings .entry)) (now (records .exit)) (now (files .exit)) (now (warnings .exit)) r) ⌝ }
@@ -163,17 +180,18 @@ fn import_accepted<'a>(
         return refused(4);
     }
     let counts = counts_of(main);
-    let encoded = is_encoded(main, options, counts.encodings);
-    if is_short(work, number, program, encoded) {
+    let most = work_of_units(main, options, counts, program.len(), lists.len());
+    if is_short(work, number, most) {
         return refused(5);
     }
     import_worked(
         main,
         supplementary,
         program,
+        lists,
+        addresses,
         options,
         counts,
-        encoded,
         work,
         records,
         files,
@@ -186,6 +204,8 @@ fn run_import<'a>(
     main: &'a [u8],
     supplementary: &'a [u8],
     program: &[u8],
+    lists: &[u8],
+    addresses: &[u8],
     options: Options,
     work: &mut [u8],
     records: &mut [u8],
@@ -193,12 +213,12 @@ fn run_import<'a>(
     warnings: &mut [u8],
 ) -> Ran
     ensures { λ r. ⌜ (
-        let i = inputsBy (now (main .entry)) (now (supplementary .entry)) (now (program .entry)) options
+        let i = inputsBy (now (main .entry)) (now (supplementary .entry)) (now (program .entry)) (now (lists .entry)) (now (addresses .entry)) options
         (now (work .entry)) (now (records .entry)) (now (files .entry)) (now (warnings .entry)) in
         Writes (importAll (options .all) i)
         (now (records .entry)) (now (files .entry)) (now (warnings .entry)) (now (records .exit)) (now (files .exit)) (now (warnings .exit)) r) ⌝ }
 {
-    if is_oversize(main, supplementary, program) {
+    if is_oversize(main, supplementary, program, lists, addresses) {
         return refused(1);
     }
     match check_both(main, supplementary, program.len()) {
@@ -207,6 +227,8 @@ fn run_import<'a>(
             main,
             supplementary,
             program,
+            lists,
+            addresses,
             options,
             number,
             work,
@@ -222,6 +244,8 @@ pub fn run_cleared<'a>(
     main: &'a [u8],
     supplementary: &'a [u8],
     program: &[u8],
+    lists: &[u8],
+    addresses: &[u8],
     options: Options,
     work: &mut [u8],
     records: &mut [u8],
@@ -229,7 +253,7 @@ pub fn run_cleared<'a>(
     warnings: &mut [u8],
 ) -> Ran
     ensures { λ r. ⌜ (
-        let i = inputsBy (now (main .entry)) (now (supplementary .entry)) (now (program .entry)) options
+        let i = inputsBy (now (main .entry)) (now (supplementary .entry)) (now (program .entry)) (now (lists .entry)) (now (addresses .entry)) options
         (now (work .entry)) (now (records .entry)) (now (files .entry)) (now (warnings .entry)) in
         (Writes (importAll (options .all) i)
         (now (records .entry)) (now (files .entry)) (now (warnings .entry)) (now (records .exit)) (now (files .exit)) (now (warnings .exit)) r)
@@ -239,6 +263,8 @@ pub fn run_cleared<'a>(
         main,
         supplementary,
         program,
+        lists,
+        addresses,
         options,
         work,
         records,

@@ -6,11 +6,16 @@ ghost use Rattle.tlv.specs.Limits.{inputLimit};
 ghost use Rattle.tlv.specs.Fields.{fields, payloads, wholeFields};
 ghost use Rattle.tlv.specs.Places.{unitPlaces};
 ghost use Rattle.dies.specs.DetailState.{Accepted};
-ghost use Rattle.dwarf.specs.Layout.{LaidOut, keysRoom};
+ghost use Rattle.dwarf.specs.Layout.{LaidOut};
 ghost use Rattle.dwarf.specs.Tables.{IndexesInput, IndexesInputs};
 use crate::layout::Layout;
 use references::tables::Index;
-use references::tables::Tables;
+
+// The tables of both inputs.
+pub struct Indexes {
+    pub main: Index,
+    pub supplementary: Index,
+}
 
 // The units and the entries of an input, in tables of the work slice.
 fn index_input(s: &[u8], work: &mut [u8], units: usize, entries: usize) -> Index
@@ -28,30 +33,31 @@ fn index_input(s: &[u8], work: &mut [u8], units: usize, entries: usize) -> Index
     }
 }
 
-// The tables of both inputs, once for all units of an import.
+// The tables of both inputs are made, once for all units of an import.
 pub fn index_inputs(
     main: &[u8],
     supplementary: &[u8],
     program: &[u8],
+    lists: &[u8],
     work: &mut [u8],
     l: Layout,
-) -> Tables
+) -> Indexes
     requires { ⌜ (Accepted (now main)) × (Accepted (now supplementary)) ⌝ }
     requires { ⌜ (length (now main) ≤ inputLimit) × (length (now supplementary) ≤ inputLimit) ⌝ }
-    requires { ⌜ LaidOut (now main) (now supplementary) (now program) l ⌝ }
-    requires { ⌜ l .keys + keysRoom (now main) (now supplementary) ≤ length (now work) ⌝ }
-    ensures { λ r. ⌜ IndexesInputs (now (main .entry)) (now (supplementary .entry)) (now (program .entry)) (now (work .entry)) (now (work .exit)) l r ⌝ }
+    requires { ⌜ LaidOut (now main) (now supplementary) (now program) (now lists) l ⌝ }
+    requires { ⌜ l .files ≤ length (now work) ⌝ }
+    ensures { λ r. ⌜ IndexesInputs (now (main .entry)) (now (supplementary .entry)) (now (program .entry)) (now (lists .entry))
+        (now (work .entry)) (now (work .exit)) l r ⌝ }
 {
-    let m = index_input(main, work, l.main_units, l.main_entries);
+    let m = index_input(main, work, 0, l.main_entries);
     let s = index_input(
         supplementary,
         work,
         l.supplementary_units,
         l.supplementary_entries,
     );
-    Tables {
+    Indexes {
         main: m,
         supplementary: s,
-        keys: l.keys,
     }
 }

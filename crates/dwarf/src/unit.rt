@@ -5,14 +5,18 @@ ghost use Rattle.tlv.specs.Lists.{All};
 ghost use Rattle.tlv.specs.Model.{units};
 ghost use Rattle.tlv.specs.Places.{unitHere};
 ghost use Rattle.collect.specs.Collects.{UnitIn};
-ghost use Rattle.references.specs.Names.{dwarfOf};
+ghost use Rattle.dies.specs.Details.{dwarfWith};
 ghost use Rattle.imports.specs.Import.{importUnit, importUnits};
-ghost use Rattle.dwarf.specs.Layout.{RowsFit};
+ghost use Rattle.dwarf.specs.Checks.{UnitEnough};
+ghost use Rattle.dwarf.specs.Layout.{UnitLaid};
 ghost use Rattle.dwarf.specs.Tables.{TablesIn, LinesLaid, MakesContext};
-ghost use Rattle.dwarf.specs.Units.{Ready, besideTables, Grows};
+ghost use Rattle.dwarf.specs.Units.{Ready, aboveTables, Grows};
 use crate::layout::Layout;
+use crate::layout::UnitLayout;
+use crate::layout::place_unit;
 use crate::model::Options;
 use crate::part::program_part;
+use crate::tables::Indexes;
 use collect::collect::CollectedLines;
 use files::index::StoredIndices;
 use references::declarations::Places;
@@ -31,38 +35,50 @@ fn unit_context(
     main: &[u8],
     supplementary: &[u8],
     program: &[u8],
+    lists: &[u8],
     work: &mut [u8],
     l: Layout,
-    tables: Tables,
+    p: UnitLayout,
+    x: Indexes,
     unit: usize,
     lines: StoredLines,
     indices: StoredIndices,
     options: Options,
 ) -> ImportContext
     requires { ⌜ UnitIn (now main) unit ⌝ }
-    requires { ⌜ TablesIn (now main) (now supplementary) (now program) (now work) l tables ⌝ }
-    requires { ⌜ LinesLaid (now work) l lines indices ⌝ }
-    ensures { λ r. ⌜ MakesContext (now (main .entry)) (now (supplementary .entry)) (now (work .entry)) (now (work .exit)) l
+    requires { ⌜ TablesIn (now main) (now supplementary) (now program) (now lists) (now work) l x ⌝ }
+    requires { ⌜ UnitLaid (now main) (now supplementary) (now program) (length (now work)) l unit p ⌝ }
+    requires { ⌜ LinesLaid (now work) l p lines indices ⌝ }
+    ensures { λ r. ⌜ MakesContext (now (main .entry)) (now (supplementary .entry)) (now (lists .entry)) (now (work .entry)) (now (work .exit)) l p
         unit lines indices (options .inlines) (options .«call_sites») r ⌝ }
 {
-    let text_count = subprograms::text::index_text(main, unit, work, l.text);
+    let text_count = subprograms::text::index_text(main, unit, work, p.text);
+    let of_main = x.main;
+    let of_supplementary = x.supplementary;
+    let tables = Tables {
+        main: of_main,
+        supplementary: of_supplementary,
+        keys: p.keys,
+    };
     let places = Places {
         tables: tables,
         indices: indices,
-        spans: l.spans,
+        spans: p.spans,
         room: l.span_room,
     };
     ImportContext {
         places: places,
         unit: unit,
         lines: lines,
-        text: l.text,
+        text: p.text,
         text_count: text_count,
-        ranges: l.ranges,
-        stack: l.stack,
-        sites: l.sites,
+        ranges: p.ranges,
+        stack: p.stack,
+        sites: p.sites,
         include_inlines: options.inlines,
         include_call_sites: options.call_sites,
+        third: l.third,
+        with_lists: l.with_lists,
     }
 }
 
@@ -71,9 +87,11 @@ fn import_at<'a>(
     main: &'a [u8],
     supplementary: &'a [u8],
     program: &[u8],
+    lists: &[u8],
+    addresses: &[u8],
     place: usize,
     l: Layout,
-    tables: Tables,
+    x: Indexes,
     options: Options,
     work: &mut [u8],
     records: &mut [u8],
@@ -81,16 +99,18 @@ fn import_at<'a>(
     warnings: &mut [u8],
     st: ImportState,
 ) -> ImportState
-    requires { ⌜ (UnitIn (now main) place) × (RowsFit l (unitHere (now main) place)) ⌝ }
-    requires { ⌜ TablesIn (now main) (now supplementary) (now program) (now work) l tables ⌝ }
+    requires { ⌜ UnitIn (now main) place ⌝ }
+    requires { ⌜ UnitEnough (now main) (now supplementary) (now program) (now lists) (length (now work)) (unitHere (now main) place) ⌝ }
+    requires { ⌜ TablesIn (now main) (now supplementary) (now program) (now lists) (now work) l x ⌝ }
     requires { ⌜ Ready (now main) (now supplementary) (now work) l st ⌝ }
     ensures { λ r. ⌜ (
-        let F = importUnit (dwarfOf (now (main .entry)) (now (supplementary .entry))) (unitHere (now (main .entry)) place)
-        (now (program .entry)) (options .inlines) (options .«call_sites») in
-        Grows F (now (main .entry)) (now (supplementary .entry)) (besideTables l (length (now (work .entry))))
+        let d = dwarfWith (now (main .entry)) (now (supplementary .entry)) (now (lists .entry)) (now (addresses .entry)) in
+        let F = importUnit d (unitHere (now (main .entry)) place) (now (program .entry)) (options .inlines) (options .«call_sites») in
+        Grows F (now (main .entry)) (now (supplementary .entry)) (aboveTables l (length (now (work .entry))))
         (now (work .entry)) (now (records .entry)) (now (files .entry)) (now (warnings .entry)) st
         (now (work .exit)) (now (records .exit)) (now (files .exit)) (now (warnings .exit)) r) ⌝ }
 {
+    let p = place_unit(main, place, l);
     let part = program_part(main, place, program.len());
     let from = part.start;
     let to = part.end;
@@ -113,7 +133,7 @@ fn import_at<'a>(
             r
         }
         CollectedLines::Lines {
-            lines,
+            lines: stored,
             indices,
             table,
             warned,
@@ -122,11 +142,13 @@ fn import_at<'a>(
                 main,
                 supplementary,
                 program,
+                lists,
                 work,
                 l,
-                tables,
+                p,
+                x,
                 place,
-                lines,
+                stored,
                 indices,
                 options,
             );
@@ -137,10 +159,13 @@ fn import_at<'a>(
                 warned: warned,
                 stats: stats,
                 status: 0,
+                past: st.past,
             };
             subprograms::units::import_unit_details(
                 main,
                 supplementary,
+                lists,
+                addresses,
                 work,
                 records,
                 files,
@@ -157,10 +182,12 @@ pub fn import_each<'a>(
     main: &'a [u8],
     supplementary: &'a [u8],
     program: &[u8],
+    lists: &[u8],
+    addresses: &[u8],
     from: usize,
     to: usize,
     l: Layout,
-    tables: Tables,
+    x: Indexes,
     options: Options,
     work: &mut [u8],
     records: &mut [u8],
@@ -168,18 +195,20 @@ pub fn import_each<'a>(
     warnings: &mut [u8],
     st: ImportState,
 ) -> ImportState
-    requires { ⌜ (from ≤ to) × (to ≤ tables .main .«unit_count») ⌝ }
-    requires { ⌜ All (RowsFit l) (take (to - from) (drop from (units (now main)))) ⌝ }
-    requires { ⌜ TablesIn (now main) (now supplementary) (now program) (now work) l tables ⌝ }
+    requires { ⌜ (from ≤ to) × (to ≤ x .main .«unit_count») ⌝ }
+    requires { ⌜ All (UnitEnough (now main) (now supplementary) (now program) (now lists) (length (now work)))
+        (take (to - from) (drop from (units (now main)))) ⌝ }
+    requires { ⌜ TablesIn (now main) (now supplementary) (now program) (now lists) (now work) l x ⌝ }
     requires { ⌜ Ready (now main) (now supplementary) (now work) l st ⌝ }
     ensures { λ r. ⌜ (
         let us = take (to - from) (drop from (units (now (main .entry)))) in
-        let F = importUnits (dwarfOf (now (main .entry)) (now (supplementary .entry))) us (now (program .entry)) (options .inlines) (options .«call_sites») in
-        Grows F (now (main .entry)) (now (supplementary .entry)) (besideTables l (length (now (work .entry))))
+        let d = dwarfWith (now (main .entry)) (now (supplementary .entry)) (now (lists .entry)) (now (addresses .entry)) in
+        let F = importUnits d us (now (program .entry)) (options .inlines) (options .«call_sites») in
+        Grows F (now (main .entry)) (now (supplementary .entry)) (aboveTables l (length (now (work .entry))))
         (now (work .entry)) (now (records .entry)) (now (files .entry)) (now (warnings .entry)) st
         (now (work .exit)) (now (records .exit)) (now (files .exit)) (now (warnings .exit)) r) ⌝ }
 {
-    let index = tables.main;
+    let index = x.main;
     let units = index.units;
     let mut r = st;
     let mut k = from;
@@ -189,9 +218,11 @@ pub fn import_each<'a>(
             main,
             supplementary,
             program,
+            lists,
+            addresses,
             place,
             l,
-            tables,
+            x,
             options,
             work,
             records,

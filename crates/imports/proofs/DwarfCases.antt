@@ -27,7 +27,7 @@ unfolding Outcome._>>=_ Lists.filter Lists.takeWhile Lists.dropWhile Lists.first
     Grammar.rowShaped Grammar.entryShaped Grammar.valueShaped Grammar.attributeShaped Grammar.rangeShaped Grammar.failureShaped Grammar.payloadShaped
     Grammar.shaped Grammar.payloadLimited Grammar.limited Grammar.next Grammar.checkFrom Grammar.checkInput Model.rangeOf Model.headerOf Model.partOf
     Model.directoryOf Model.fileOf Model.rowOf Model.attributeOf Model.entryRangeOf Model.failureOf Model.entryOf Model.unitOf Model.units Model.programOf
-    LineRows.lineRows Model.dieRanges Output.kindNumber Output.functionPayload Output.rowPayload Output.nodePayload Output.rangePayload Output.sitePayload
+    LineRows.lineRows Tree.dieRanges Output.kindNumber Output.functionPayload Output.rowPayload Output.nodePayload Output.rangePayload Output.sitePayload
     Output.filePayload Output.warningPayload Output.eachOf Output.nodeBytes Output.functionBytes Output.recordsBytes Output.filesBytes Output.warningsBytes
     Program.ulebWithin Program.uleb Program.slebWithin Program.sleb Program.operandKinds Program.skipOperand Program.skipOperands Program.takeLineBytes
     Program.extendedBody Program.extended Program.skip Program.sequencesWithin Program.scanLineSequenceOffsets Program.initialLength Program.versionBytes

@@ -26,6 +26,7 @@ named depth tag letter ranges = record {
   attributes = record { name = 0x03; kind = 3; value = 0; text = letter ∷ [] } ∷ [];
   ranges = map (λ r. record { range = r; tombstone = false }) ranges;
   failure = none;
+  list = none;
 }
 
 abbrev inlined : ℕ → ℕ → List AddressRange → Entry
@@ -39,6 +40,7 @@ nameless depth ranges = record {
   attributes = [];
   ranges = map (λ r. record { range = r; tombstone = false }) ranges;
   failure = none;
+  list = none;
 }
 
 -- a unit with text from 0 to 100
@@ -58,10 +60,11 @@ unitOf entries = record {
   files = [];
   rows = [];
   entries = entries;
+  lists = 0;
 }
 
 abbrev noUnits : Dwarf
-noUnits = record { main = []; supplementary = [] }
+noUnits = record { main = []; supplementary = []; lists = []; addresses = [] }
 
 abbrev context : AddressRange → DetailContext
 context f = record { dwarf = noUnits; unit = unitOf []; functionRange = f; fileIndices = []; includeInlines = true; includeCallSites = false }
@@ -79,7 +82,7 @@ example-nested :
     ≡ done
     (record { depth = 1; name = 97 ∷ []; ranges = from-to 0 8 ∷ [] } ∷ record { depth = 2; name = 98 ∷ []; ranges = from-to 2 6 ∷ [] } ∷ record { depth = 2; name = 99 ∷ []; ranges = from-to 7 8 ∷ [] }
     ∷ record { depth = 1; name = 101 ∷ []; ranges = from-to 50 60 ∷ [] } ∷ [])
-unfolding shapes Rattle.tlv.specs.Outcome._>>=_ Rattle.tlv.specs.Lists.filter Rattle.tlv.specs.Lists.takeWhile Rattle.tlv.specs.Lists.dropWhile Rattle.tlv.specs.Lists.first Rattle.tlv.specs.Lists.orElse Rattle.tlv.specs.Lists.last Rattle.tlv.specs.Lists.exists Rattle.tlv.specs.Lists.at Rattle.tlv.specs.Lists.mapOption Rattle.tlv.specs.Lists.same Rattle.tlv.specs.Model.dieRanges Rattle.lines.specs.Rows.contains Rattle.lines.specs.Rows.compactLineRows Rattle.lines.specs.Rows.ownRows Rattle.lines.specs.Rows.earlierRow Rattle.lines.specs.Rows.selectedSequence Rattle.lines.specs.Rows.rowsFor Rattle.lines.specs.Rows.forRange Rattle.references.specs.Search.unitsIn Rattle.references.specs.Search.isVisited Rattle.references.specs.Search.attribute Rattle.references.specs.Search.unsignedAttribute Rattle.references.specs.Search.fileIndexAttribute Rattle.references.specs.Search.absoluteEntryOffset Rattle.references.specs.Search.entryAt Rattle.references.specs.Search.unitContaining Rattle.references.specs.Search.followAbsolute Rattle.references.specs.Search.followUnit Rattle.references.specs.Search.follow Rattle.references.specs.Search.ownName Rattle.references.specs.Search.referencedName Rattle.references.specs.Search.resolveNameInner Rattle.references.specs.Search.resolveNamed Rattle.references.specs.Search.resolveName Rattle.references.specs.Search.resolveReferenceName Rattle.imports.specs.Ranges.insert Rattle.imports.specs.Ranges.sort Rattle.imports.specs.Ranges.join Rattle.imports.specs.Ranges.joinAll Rattle.imports.specs.Ranges.coalesceRanges Rattle.imports.specs.Tree.fit Rattle.imports.specs.Tree.rangesOf Rattle.imports.specs.Tree.finishInlines Rattle.imports.specs.Tree.finish Rattle.imports.specs.Tree.makeCallSite Rattle.imports.specs.Tree.callFileOf Rattle.imports.specs.Tree.callLineOf Rattle.imports.specs.Tree.pushInline Rattle.imports.specs.Tree.makeInlineNode Rattle.imports.specs.Tree.collectEntry Rattle.imports.specs.Tree.collectEntries Rattle.imports.specs.Tree.collectDescendants Rattle.imports.specs.Tree.extractSubprogramDetails Rattle.imports.specs.Import.statementSequenceOffset Rattle.imports.specs.Import.isLiveRange Rattle.imports.specs.Import.isTombstone Rattle.imports.specs.Import.rejected Rattle.imports.specs.Import.addFunction Rattle.imports.specs.Import.importRange Rattle.imports.specs.Import.importRanges Rattle.imports.specs.Import.importSubprogram Rattle.imports.specs.Import.descendantsOf Rattle.imports.specs.Import.importUnitDetails Rattle.imports.specs.Import.importUnit
+unfolding shapes Rattle.tlv.specs.Outcome._>>=_ Rattle.tlv.specs.Lists.filter Rattle.tlv.specs.Lists.takeWhile Rattle.tlv.specs.Lists.dropWhile Rattle.tlv.specs.Lists.first Rattle.tlv.specs.Lists.orElse Rattle.tlv.specs.Lists.last Rattle.tlv.specs.Lists.exists Rattle.tlv.specs.Lists.at Rattle.tlv.specs.Lists.mapOption Rattle.tlv.specs.Lists.same Rattle.imports.specs.Tree.dieRanges Rattle.lines.specs.Rows.contains Rattle.lines.specs.Rows.compactLineRows Rattle.lines.specs.Rows.ownRows Rattle.lines.specs.Rows.earlierRow Rattle.lines.specs.Rows.selectedSequence Rattle.lines.specs.Rows.rowsFor Rattle.lines.specs.Rows.forRange Rattle.references.specs.Search.unitsIn Rattle.references.specs.Search.isVisited Rattle.references.specs.Search.attribute Rattle.references.specs.Search.unsignedAttribute Rattle.references.specs.Search.fileIndexAttribute Rattle.references.specs.Search.absoluteEntryOffset Rattle.references.specs.Search.entryAt Rattle.references.specs.Search.unitContaining Rattle.references.specs.Search.followAbsolute Rattle.references.specs.Search.followUnit Rattle.references.specs.Search.follow Rattle.references.specs.Search.ownName Rattle.references.specs.Search.referencedName Rattle.references.specs.Search.resolveNameInner Rattle.references.specs.Search.resolveNamed Rattle.references.specs.Search.resolveName Rattle.references.specs.Search.resolveReferenceName Rattle.imports.specs.Ranges.insert Rattle.imports.specs.Ranges.sort Rattle.imports.specs.Ranges.join Rattle.imports.specs.Ranges.joinAll Rattle.imports.specs.Ranges.coalesceRanges Rattle.imports.specs.Tree.fit Rattle.imports.specs.Tree.rangesOf Rattle.imports.specs.Tree.finishInlines Rattle.imports.specs.Tree.finish Rattle.imports.specs.Tree.makeCallSite Rattle.imports.specs.Tree.callFileOf Rattle.imports.specs.Tree.callLineOf Rattle.imports.specs.Tree.pushInline Rattle.imports.specs.Tree.makeInlineNode Rattle.imports.specs.Tree.collectEntry Rattle.imports.specs.Tree.collectEntries Rattle.imports.specs.Tree.collectDescendants Rattle.imports.specs.Tree.extractSubprogramDetails Rattle.imports.specs.Import.statementSequenceOffset Rattle.imports.specs.Import.isLiveRange Rattle.imports.specs.Import.isTombstone Rattle.imports.specs.Import.rejected Rattle.imports.specs.Import.addFunction Rattle.imports.specs.Import.importRange Rattle.imports.specs.Import.importRanges Rattle.imports.specs.Import.importSubprogram Rattle.imports.specs.Import.descendantsOf Rattle.imports.specs.Import.importUnitDetails Rattle.imports.specs.Import.importUnit
 example-nested = refl
 
 -- the limit: 256 one below the other are taken, 257 are refused
@@ -92,11 +95,11 @@ count (refused n) = 0
 count (done w) = length (w .inlines)
 
 example-256 : count (extractSubprogramDetails (context (from-to 0 9)) (nest 1 256)) ≡ 256
-unfolding nest count Rattle.tlv.specs.Outcome._>>=_ Rattle.tlv.specs.Lists.filter Rattle.tlv.specs.Lists.takeWhile Rattle.tlv.specs.Lists.dropWhile Rattle.tlv.specs.Lists.first Rattle.tlv.specs.Lists.orElse Rattle.tlv.specs.Lists.last Rattle.tlv.specs.Lists.exists Rattle.tlv.specs.Lists.at Rattle.tlv.specs.Lists.mapOption Rattle.tlv.specs.Lists.same Rattle.tlv.specs.Model.dieRanges Rattle.lines.specs.Rows.contains Rattle.lines.specs.Rows.compactLineRows Rattle.lines.specs.Rows.ownRows Rattle.lines.specs.Rows.earlierRow Rattle.lines.specs.Rows.selectedSequence Rattle.lines.specs.Rows.rowsFor Rattle.lines.specs.Rows.forRange Rattle.references.specs.Search.unitsIn Rattle.references.specs.Search.isVisited Rattle.references.specs.Search.attribute Rattle.references.specs.Search.unsignedAttribute Rattle.references.specs.Search.fileIndexAttribute Rattle.references.specs.Search.absoluteEntryOffset Rattle.references.specs.Search.entryAt Rattle.references.specs.Search.unitContaining Rattle.references.specs.Search.followAbsolute Rattle.references.specs.Search.followUnit Rattle.references.specs.Search.follow Rattle.references.specs.Search.ownName Rattle.references.specs.Search.referencedName Rattle.references.specs.Search.resolveNameInner Rattle.references.specs.Search.resolveNamed Rattle.references.specs.Search.resolveName Rattle.references.specs.Search.resolveReferenceName Rattle.imports.specs.Ranges.insert Rattle.imports.specs.Ranges.sort Rattle.imports.specs.Ranges.join Rattle.imports.specs.Ranges.joinAll Rattle.imports.specs.Ranges.coalesceRanges Rattle.imports.specs.Tree.fit Rattle.imports.specs.Tree.rangesOf Rattle.imports.specs.Tree.finishInlines Rattle.imports.specs.Tree.finish Rattle.imports.specs.Tree.makeCallSite Rattle.imports.specs.Tree.callFileOf Rattle.imports.specs.Tree.callLineOf Rattle.imports.specs.Tree.pushInline Rattle.imports.specs.Tree.makeInlineNode Rattle.imports.specs.Tree.collectEntry Rattle.imports.specs.Tree.collectEntries Rattle.imports.specs.Tree.collectDescendants Rattle.imports.specs.Tree.extractSubprogramDetails Rattle.imports.specs.Import.statementSequenceOffset Rattle.imports.specs.Import.isLiveRange Rattle.imports.specs.Import.isTombstone Rattle.imports.specs.Import.rejected Rattle.imports.specs.Import.addFunction Rattle.imports.specs.Import.importRange Rattle.imports.specs.Import.importRanges Rattle.imports.specs.Import.importSubprogram Rattle.imports.specs.Import.descendantsOf Rattle.imports.specs.Import.importUnitDetails Rattle.imports.specs.Import.importUnit
+unfolding nest count Rattle.tlv.specs.Outcome._>>=_ Rattle.tlv.specs.Lists.filter Rattle.tlv.specs.Lists.takeWhile Rattle.tlv.specs.Lists.dropWhile Rattle.tlv.specs.Lists.first Rattle.tlv.specs.Lists.orElse Rattle.tlv.specs.Lists.last Rattle.tlv.specs.Lists.exists Rattle.tlv.specs.Lists.at Rattle.tlv.specs.Lists.mapOption Rattle.tlv.specs.Lists.same Rattle.imports.specs.Tree.dieRanges Rattle.lines.specs.Rows.contains Rattle.lines.specs.Rows.compactLineRows Rattle.lines.specs.Rows.ownRows Rattle.lines.specs.Rows.earlierRow Rattle.lines.specs.Rows.selectedSequence Rattle.lines.specs.Rows.rowsFor Rattle.lines.specs.Rows.forRange Rattle.references.specs.Search.unitsIn Rattle.references.specs.Search.isVisited Rattle.references.specs.Search.attribute Rattle.references.specs.Search.unsignedAttribute Rattle.references.specs.Search.fileIndexAttribute Rattle.references.specs.Search.absoluteEntryOffset Rattle.references.specs.Search.entryAt Rattle.references.specs.Search.unitContaining Rattle.references.specs.Search.followAbsolute Rattle.references.specs.Search.followUnit Rattle.references.specs.Search.follow Rattle.references.specs.Search.ownName Rattle.references.specs.Search.referencedName Rattle.references.specs.Search.resolveNameInner Rattle.references.specs.Search.resolveNamed Rattle.references.specs.Search.resolveName Rattle.references.specs.Search.resolveReferenceName Rattle.imports.specs.Ranges.insert Rattle.imports.specs.Ranges.sort Rattle.imports.specs.Ranges.join Rattle.imports.specs.Ranges.joinAll Rattle.imports.specs.Ranges.coalesceRanges Rattle.imports.specs.Tree.fit Rattle.imports.specs.Tree.rangesOf Rattle.imports.specs.Tree.finishInlines Rattle.imports.specs.Tree.finish Rattle.imports.specs.Tree.makeCallSite Rattle.imports.specs.Tree.callFileOf Rattle.imports.specs.Tree.callLineOf Rattle.imports.specs.Tree.pushInline Rattle.imports.specs.Tree.makeInlineNode Rattle.imports.specs.Tree.collectEntry Rattle.imports.specs.Tree.collectEntries Rattle.imports.specs.Tree.collectDescendants Rattle.imports.specs.Tree.extractSubprogramDetails Rattle.imports.specs.Import.statementSequenceOffset Rattle.imports.specs.Import.isLiveRange Rattle.imports.specs.Import.isTombstone Rattle.imports.specs.Import.rejected Rattle.imports.specs.Import.addFunction Rattle.imports.specs.Import.importRange Rattle.imports.specs.Import.importRanges Rattle.imports.specs.Import.importSubprogram Rattle.imports.specs.Import.descendantsOf Rattle.imports.specs.Import.importUnitDetails Rattle.imports.specs.Import.importUnit
 example-256 = refl
 
 example-257 : shapes (extractSubprogramDetails (context (from-to 0 9)) (nest 1 257)) ≡ refused 14
-unfolding shapes nest Rattle.tlv.specs.Outcome._>>=_ Rattle.tlv.specs.Lists.filter Rattle.tlv.specs.Lists.takeWhile Rattle.tlv.specs.Lists.dropWhile Rattle.tlv.specs.Lists.first Rattle.tlv.specs.Lists.orElse Rattle.tlv.specs.Lists.last Rattle.tlv.specs.Lists.exists Rattle.tlv.specs.Lists.at Rattle.tlv.specs.Lists.mapOption Rattle.tlv.specs.Lists.same Rattle.tlv.specs.Model.dieRanges Rattle.lines.specs.Rows.contains Rattle.lines.specs.Rows.compactLineRows Rattle.lines.specs.Rows.ownRows Rattle.lines.specs.Rows.earlierRow Rattle.lines.specs.Rows.selectedSequence Rattle.lines.specs.Rows.rowsFor Rattle.lines.specs.Rows.forRange Rattle.references.specs.Search.unitsIn Rattle.references.specs.Search.isVisited Rattle.references.specs.Search.attribute Rattle.references.specs.Search.unsignedAttribute Rattle.references.specs.Search.fileIndexAttribute Rattle.references.specs.Search.absoluteEntryOffset Rattle.references.specs.Search.entryAt Rattle.references.specs.Search.unitContaining Rattle.references.specs.Search.followAbsolute Rattle.references.specs.Search.followUnit Rattle.references.specs.Search.follow Rattle.references.specs.Search.ownName Rattle.references.specs.Search.referencedName Rattle.references.specs.Search.resolveNameInner Rattle.references.specs.Search.resolveNamed Rattle.references.specs.Search.resolveName Rattle.references.specs.Search.resolveReferenceName Rattle.imports.specs.Ranges.insert Rattle.imports.specs.Ranges.sort Rattle.imports.specs.Ranges.join Rattle.imports.specs.Ranges.joinAll Rattle.imports.specs.Ranges.coalesceRanges Rattle.imports.specs.Tree.fit Rattle.imports.specs.Tree.rangesOf Rattle.imports.specs.Tree.finishInlines Rattle.imports.specs.Tree.finish Rattle.imports.specs.Tree.makeCallSite Rattle.imports.specs.Tree.callFileOf Rattle.imports.specs.Tree.callLineOf Rattle.imports.specs.Tree.pushInline Rattle.imports.specs.Tree.makeInlineNode Rattle.imports.specs.Tree.collectEntry Rattle.imports.specs.Tree.collectEntries Rattle.imports.specs.Tree.collectDescendants Rattle.imports.specs.Tree.extractSubprogramDetails Rattle.imports.specs.Import.statementSequenceOffset Rattle.imports.specs.Import.isLiveRange Rattle.imports.specs.Import.isTombstone Rattle.imports.specs.Import.rejected Rattle.imports.specs.Import.addFunction Rattle.imports.specs.Import.importRange Rattle.imports.specs.Import.importRanges Rattle.imports.specs.Import.importSubprogram Rattle.imports.specs.Import.descendantsOf Rattle.imports.specs.Import.importUnitDetails Rattle.imports.specs.Import.importUnit
+unfolding shapes nest Rattle.tlv.specs.Outcome._>>=_ Rattle.tlv.specs.Lists.filter Rattle.tlv.specs.Lists.takeWhile Rattle.tlv.specs.Lists.dropWhile Rattle.tlv.specs.Lists.first Rattle.tlv.specs.Lists.orElse Rattle.tlv.specs.Lists.last Rattle.tlv.specs.Lists.exists Rattle.tlv.specs.Lists.at Rattle.tlv.specs.Lists.mapOption Rattle.tlv.specs.Lists.same Rattle.imports.specs.Tree.dieRanges Rattle.lines.specs.Rows.contains Rattle.lines.specs.Rows.compactLineRows Rattle.lines.specs.Rows.ownRows Rattle.lines.specs.Rows.earlierRow Rattle.lines.specs.Rows.selectedSequence Rattle.lines.specs.Rows.rowsFor Rattle.lines.specs.Rows.forRange Rattle.references.specs.Search.unitsIn Rattle.references.specs.Search.isVisited Rattle.references.specs.Search.attribute Rattle.references.specs.Search.unsignedAttribute Rattle.references.specs.Search.fileIndexAttribute Rattle.references.specs.Search.absoluteEntryOffset Rattle.references.specs.Search.entryAt Rattle.references.specs.Search.unitContaining Rattle.references.specs.Search.followAbsolute Rattle.references.specs.Search.followUnit Rattle.references.specs.Search.follow Rattle.references.specs.Search.ownName Rattle.references.specs.Search.referencedName Rattle.references.specs.Search.resolveNameInner Rattle.references.specs.Search.resolveNamed Rattle.references.specs.Search.resolveName Rattle.references.specs.Search.resolveReferenceName Rattle.imports.specs.Ranges.insert Rattle.imports.specs.Ranges.sort Rattle.imports.specs.Ranges.join Rattle.imports.specs.Ranges.joinAll Rattle.imports.specs.Ranges.coalesceRanges Rattle.imports.specs.Tree.fit Rattle.imports.specs.Tree.rangesOf Rattle.imports.specs.Tree.finishInlines Rattle.imports.specs.Tree.finish Rattle.imports.specs.Tree.makeCallSite Rattle.imports.specs.Tree.callFileOf Rattle.imports.specs.Tree.callLineOf Rattle.imports.specs.Tree.pushInline Rattle.imports.specs.Tree.makeInlineNode Rattle.imports.specs.Tree.collectEntry Rattle.imports.specs.Tree.collectEntries Rattle.imports.specs.Tree.collectDescendants Rattle.imports.specs.Tree.extractSubprogramDetails Rattle.imports.specs.Import.statementSequenceOffset Rattle.imports.specs.Import.isLiveRange Rattle.imports.specs.Import.isTombstone Rattle.imports.specs.Import.rejected Rattle.imports.specs.Import.addFunction Rattle.imports.specs.Import.importRange Rattle.imports.specs.Import.importRanges Rattle.imports.specs.Import.importSubprogram Rattle.imports.specs.Import.descendantsOf Rattle.imports.specs.Import.importUnitDetails Rattle.imports.specs.Import.importUnit
 example-257 = refl
 
 -- a unit of three subprograms, the second below the first, the third of the first's range: each record has its own range and its own inlined entries,
@@ -126,7 +129,7 @@ unfolding records Rattle.machine.specs.LineRows.collectLines Rattle.lines.spec
     Rattle.references.specs.Search.referencedDeclaration Rattle.tlv.specs.Outcome._>>=_ Rattle.tlv.specs.Lists.filter Rattle.tlv.specs.Lists.takeWhile
     Rattle.tlv.specs.Lists.dropWhile Rattle.tlv.specs.Lists.first Rattle.tlv.specs.Lists.orElse Rattle.tlv.specs.Lists.last
     Rattle.tlv.specs.Lists.exists Rattle.tlv.specs.Lists.at Rattle.tlv.specs.Lists.mapOption Rattle.tlv.specs.Lists.same
-    Rattle.tlv.specs.Model.dieRanges Rattle.lines.specs.Rows.contains Rattle.lines.specs.Rows.compactLineRows Rattle.lines.specs.Rows.ownRows
+    Rattle.imports.specs.Tree.dieRanges Rattle.lines.specs.Rows.contains Rattle.lines.specs.Rows.compactLineRows Rattle.lines.specs.Rows.ownRows
     Rattle.lines.specs.Rows.earlierRow Rattle.lines.specs.Rows.selectedSequence Rattle.lines.specs.Rows.rowsFor Rattle.lines.specs.Rows.forRange
     Rattle.references.specs.Search.unitsIn Rattle.references.specs.Search.isVisited Rattle.references.specs.Search.attribute
     Rattle.references.specs.Search.unsignedAttribute Rattle.references.specs.Search.fileIndexAttribute

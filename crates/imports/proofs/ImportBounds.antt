@@ -1,5 +1,5 @@
 -- Whatever an import is done with fits the trays' fields (`Producing`). Assumes nothing.
-use mathlib.Core.Path.{_≡_}
+use mathlib.Core.Path.{_≡_, refl}
 use mathlib.Core.Bool.{Bool, true, false, _&&_, _||_, not}
 use mathlib.Core.List.{List, [], _∷_, _++_}
 use mathlib.Core.Option.{Option, none, some}
@@ -12,9 +12,9 @@ use Rattle.tlv.specs.declared.model.AddressRange.{AddressRange}
 use Rattle.tlv.specs.declared.model.LineEntry.{LineEntry}
 use Rattle.tlv.specs.Outcome.{Outcome}
 use Rattle.tlv.specs.Lists.{All, at, isEmpty}
-use Rattle.tlv.specs.Limits.{inputLimit, programLimit}
+use Rattle.tlv.specs.Limits.{inputLimit, programLimit, listLimit}
 use Rattle.tlv.specs.Grammar.{checkInput}
-use Rattle.tlv.specs.Model.{CompilationUnit, Entry, EntryRange, Attribute, RangeFailure, ProgramPart, programPart, programOf, dieRanges, units}
+use Rattle.tlv.specs.Model.{CompilationUnit, Entry, EntryRange, Attribute, RangeFailure, ProgramPart, programPart, programOf, units}
 use Rattle.tlv.specs.Output.{Function, Warning, malformedRanges, about, rejectedRange, warningPayload}
 use Rattle.tlv.specs.Accepted.{Small, String, Given, AttributeAccepted, FailureAccepted, EntryAccepted, UnitAccepted}
 use Rattle.tlv.specs.Fits.{RangeFits, LineFits, FunctionFits, WarningFits}
@@ -31,7 +31,8 @@ use Rattle.lines.proofs.RowLaws.{rows-fit}
 use Rattle.references.specs.Search.{Dwarf, attribute}
 use Rattle.references.proofs.NameBounds.{DwarfAccepted, attribute-accepted, absolute-small, gives-name}
 use Rattle.references.proofs.DeclarationBounds.{FoundFits, DeclaringFits, gives-declaration}
-use Rattle.imports.specs.Tree.{Descendants}
+use Rattle.rnglists.proofs.DieRangeLaws.{die-small, die-failure}
+use Rattle.imports.specs.Tree.{dieRanges, Descendants}
 use Rattle.imports.specs.Import.{State, ImportContext, sequenceIf, statementSequenceOffset, isLiveRange, isTombstone, rejected, sequenceWarning, declarationIf, linesWith, rooted, detailContext, addFunction, importRange, importRanges, importByFailure, importSubprogram, isSubprogram, descendantsOf, importUnitDetails, importUnit, importUnits}
 use Rattle.imports.specs.Answer.{Inputs, oversize, workNeeded, initialState, dwarfOf, importWorked, isBare, importChosen, checked, importOf}
 use Rattle.imports.specs.Answer.{importDwarfOf}
@@ -129,9 +130,9 @@ module _ (q : ImportContext) (accepted : ImportAccepted q) where
           (λ l. gives-bind (range-fits (r .range) s (live-fits (q .unit .text) (r .range) (accepted .unit .text) l) f) λ x g. later x (h .1) g)
           (λ l. later _ (h .1) (rejected-fits (about rejectedRange (r .range .start) (r .range .end) ∷ []) s (h .0, tt) f))
 
-      given-fit : (s : State) → ImportFits s → Gives ImportFits (importRanges q e below name (dieRanges e .given) s)
+      given-fit : (s : State) → ImportFits s → Gives ImportFits (importRanges q e below name (dieRanges (q .dwarf) e .given) s)
       unfolding dieRanges
-      given-fit s f = ranges-fit (e .ranges) s (entry .ranges) f
+      given-fit s f = ranges-fit (dieRanges (q .dwarf) e .given) s (die-small (q .dwarf .lists) (q .dwarf .addresses) e entry) f
 
       by-failure-fits : (o : Option RangeFailure) (s : State) → Given FailureAccepted o → ImportFits s → Gives ImportFits (importByFailure q e below name o s)
       by-failure-fits none s h f = given-fit s f
@@ -142,7 +143,7 @@ module _ (q : ImportContext) (accepted : ImportAccepted q) where
     subprogram-fits : (s : State) → ImportFits s → Gives ImportFits (importSubprogram q e below s)
     unfolding importSubprogram dieRanges
     subprogram-fits s f = gives-bind (gives-name (q .dwarf) (accepted .dwarf) (q .unit) e (accepted .unit) entry) λ name string.
-        gives-cond (isEmpty name) (λ b. gives f) (λ b. by-failure-fits name string (e .failure) s (entry .failure) f)
+        gives-cond (isEmpty name) (λ b. gives f) (λ b. by-failure-fits name string (dieRanges (q .dwarf) e .failure) s (die-failure (q .dwarf .lists) (q .dwarf .addresses) e entry) f)
 
   -- ---- a unit
 
@@ -174,9 +175,17 @@ unit-fits d u program inlines callSites s dwarf unit short f =
 
 -- ---- the import
 
+or-first : (a b : Bool) → (a || b) ≡ false → a ≡ false
+or-first true b e = e
+or-first false b e = refl
+
 program-short : (i : Inputs) → oversize i ≡ false → length (i .program) ≤ programLimit
 unfolding oversize
-program-short i e = ltb-false programLimit (length (i .program)) (or-neither (ltb inputLimit (length (i .main)) || ltb inputLimit (length (i .supplementary))) (ltb programLimit (length (i .program))) e)
+program-short i e =
+    let inputs = ltb inputLimit (length (i .main)) || ltb inputLimit (length (i .supplementary)) in
+    let program = ltb programLimit (length (i .program)) in
+    let lists = ltb listLimit (length (i .lists)) in
+    ltb-false programLimit (length (i .program)) (or-neither inputs program (or-first (inputs || program) lists (or-first (inputs || program || lists) (ltb listLimit (length (i .addresses))) e)))
 
 module _ (i : Inputs) (lent : Lent i) where
   begun : ImportFits (initialState i)

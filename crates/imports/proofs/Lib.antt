@@ -35,3 +35,4 @@ pub mod Sizing
 pub mod Joining
 pub mod Bare
 pub mod DwarfCases
+pub mod ListCases

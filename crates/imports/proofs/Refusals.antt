@@ -1,34 +1,53 @@
--- Every refusal of an import has one of document 01's numbers, 1 to 18, or document 02's 21 or 22 (E8), and by its stage: 2 and 3 the grammar, 6 to 15, 21 and 22
--- a unit, 16 to 18 the trays. Assumes nothing.
-use mathlib.Core.Path.{_≡_}
+-- Every refusal of an import has one of document 01's numbers, 1 to 18, or of document 02's, 21 and 22 (E8) and 23 to 25 (E9), and by its stage: 2 and 3 the
+-- grammar, 6 to 15 and 21 to 25 a unit, 16 to 18 the trays. Assumes nothing.
+use mathlib.Core.Path.{_≡_, refl}
 use Prim.Native.Nat.{ℕ, _+_, _≤_}
 use native.Mathlib.Omega.{arith}
-use mathlib.Core.Logic.{inl, inr}
-use mathlib.Core.Bool.{Bool, true, false}
-use mathlib.Core.List.{List, [], _∷_}
+use mathlib.Core.Logic.{_⊎_, inl, inr}
+use mathlib.Core.Bool.{Bool, true, false, cond, _&&_, _||_}
+use mathlib.Core.List.{List, [], _∷_, _++_}
 use mathlib.Core.Option.{Option, none, some}
 use Rattle.tlv.specs.declared.model.AddressRange.{AddressRange}
 use Rattle.tlv.specs.declared.model.FileIndex.{FileIndex}
 use Rattle.tlv.specs.declared.model.LineEntry.{LineEntry}
 use lib.ListN.{length}
-use lib.Dec.{ltb}
+use lib.Dec.{ltb, eqb}
 use Rattle.tlv.specs.Outcome.{Outcome, refused}
-use Rattle.tlv.specs.Lists.{at}
+use Rattle.tlv.specs.Lists.{at, isEmpty, isNone}
 use Rattle.tlv.specs.Model.{CompilationUnit, Entry, EntryRange, Attribute, RangeFailure, units, programOf}
 use Rattle.tlv.specs.Output.{Warning}
 use Rattle.tlv.proofs.RefusalLaws.{RefusesIn, never, refuses-wider, refusing, refuses-input}
 use Rattle.lines.specs.Files.{FileTable, get}
+use Rattle.lines.specs.Rows.{forRange}
 use Rattle.machine.proofs.NumberLaws.{Refuses, by-number, not-refused, number-cond, number-of, number-in, number-among, number-bind}
 use Rattle.machine.proofs.UnitLines.{LineNumbers, refuses-lines}
 use Rattle.references.specs.Search.{Dwarf, attribute, unsignedAttribute, fileIndexAttribute}
 use Rattle.references.proofs.Refusals.{refuses-offset, refuses-name, refuses-reference-name, refuses-declaration-line}
-use Rattle.imports.specs.Tree.{DetailContext, Descendants, siteWithOrigin, siteAt, makeCallSite, callFileFrom, callFileIf, callFileOf, callLineIf, callLineOf, pushInline, makeInlineNode, collectEntry, collectEntries, collectDescendants, extractSubprogramDetails}
-use Rattle.imports.specs.Import.{State, ImportContext, sequenceWarning, declarationIf, importRange, importRanges, importByFailure, importSubprogram, importUnitDetails, importUnit, importUnits}
+use Rattle.rnglists.proofs.DieRangeLaws.{FaultNumber, die-refusal}
+use Rattle.imports.specs.Tree.{dieRanges, DetailContext, Descendants, siteWithOrigin, siteAt, makeCallSite, callFileFrom, callFileIf, callFileOf, callLineIf, callLineOf, pushInline, makeInlineNode, isCallSite, isInlined, collectEntry, collectEntries, noDescendants, collectDescendants, extractSubprogramDetails}
+use Rattle.imports.specs.Import.{State, ImportContext, statementSequenceOffset, isLiveRange, isTombstone, sequenceWarning, declarationIf, detailContext, importRange, importRanges, importByFailure, importSubprogram, isSubprogram, importUnitDetails, importUnit, importUnits}
 use Rattle.imports.specs.Answer.{Inputs, Written, written, oversize, workNeeded, initialState, dwarfOf, importWorked, isBare, importChosen, checked, importOf, importDwarfOf, fitting, outcomeOf}
 use Rattle.imports.specs.Sizes.{EarlyNumber}
 use Rattle.imports.specs.Demand.{RefusalNumber, Refusals, DwarfRefusals}
 
--- ---- below a subprogram: 6 to 14
+-- ---- 6 to 15, and 21 to 25
+
+abbrev pub UnitNumber : ℕ → Type 0
+UnitNumber n = ((6 ≤ n) × (n ≤ 15)) ⊎ ((21 ≤ n) × (n ≤ 25))
+
+base-number : {A : Type 0} (lo hi : ℕ) → 6 ≤ lo → hi ≤ 15 → {x : Outcome A} → RefusesIn lo hi x → Refuses UnitNumber x
+base-number lo hi h k = number-in lo hi (λ n p q. inl (omega arith, omega arith))
+
+fault-number : (n : ℕ) → (n ≡ 6) ⊎ FaultNumber n → UnitNumber n
+fault-number n (inl e) = inl (omega arith, omega arith)
+fault-number n (inr (inl p)) = inl (omega (arith, p .0), omega (arith, p .1))
+fault-number n (inr (inr p)) = inr (omega (arith, p .0), p .1)
+
+line-number : (n : ℕ) → LineNumbers n → UnitNumber n
+line-number n (inl p) = inl p
+line-number n (inr p) = inr (p .0, omega (arith, p .1))
+
+-- ---- below a subprogram: 6 to 14, and a list's fault
 
 module _ (c : DetailContext) where
   pub refuses-call-site : (e : Entry) → RefusesIn 6 13 (makeCallSite c e)
@@ -68,24 +87,41 @@ module _ (c : DetailContext) where
   refuses-push e name [] w = never
   refuses-push e name (r ∷ rs) w = search (refusing, refuses-wider 12 12, refuses-call-file, refuses-call-line)
 
-  refuses-node : (e : Entry) (w : Descendants) → RefusesIn 6 14 (makeInlineNode c e w)
+  -- a range failure: 6, or the fault of a list
+  refuses-ranges-of : (e : Entry) (x : Outcome Descendants) → Refuses UnitNumber x
+      → Refuses UnitNumber (cond (isNone (dieRanges (c .dwarf) e .failure)) x (refused (dieRanges (c .dwarf) e .refusal)))
+  unfolding dieRanges
+  refuses-ranges-of e x h = go (isNone (dieRanges (c .dwarf) e .failure)) refl
+    where
+      go : (b : Bool) → isNone (dieRanges (c .dwarf) e .failure) ≡ b → Refuses UnitNumber (cond b x (refused (dieRanges (c .dwarf) e .refusal)))
+      go true q = h
+      go false q = by-number (fault-number _ (die-refusal (c .dwarf .lists) (c .dwarf .addresses) e q))
+
+  refuses-node : (e : Entry) (w : Descendants) → Refuses UnitNumber (makeInlineNode c e w)
   unfolding makeInlineNode
-  refuses-node e w = search (refusing, refuses-wider 6 13, refuses-name, refuses-wider 12 14, refuses-push)
+  refuses-node e w =
+      number-bind (base-number 6 13 (omega arith) (omega arith) (refuses-name (c .dwarf) (c .unit) e)) λ name.
+      number-cond (isEmpty name) not-refused
+      (refuses-ranges-of e _ (base-number 12 14 (omega arith) (omega arith) (refuses-push e name _ w)))
 
-  refuses-collect-entry : (e : Entry) (w : Descendants) → RefusesIn 6 14 (collectEntry c e w)
+  refuses-collect-entry : (e : Entry) (w : Descendants) → Refuses UnitNumber (collectEntry c e w)
   unfolding collectEntry
-  refuses-collect-entry e w = search (refusing, refuses-wider 6 13, refuses-call-site, refuses-node)
+  refuses-collect-entry e w =
+      number-cond (c .includeCallSites && isCallSite e)
+      (number-bind (base-number 6 13 (omega arith) (omega arith) (refuses-call-site e)) λ s. not-refused)
+      (number-cond (c .includeInlines && isInlined e) (refuses-node e w) not-refused)
 
-  refuses-collect-entries : (es : List Entry) (w : Descendants) → RefusesIn 6 14 (collectEntries c es w)
+  refuses-collect-entries : (es : List Entry) (w : Descendants) → Refuses UnitNumber (collectEntries c es w)
   unfolding collectEntries
-  refuses-collect-entries [] w = never
-  refuses-collect-entries (e ∷ es) w = let later = refuses-collect-entries es in search (refusing, refuses-collect-entry)
+  refuses-collect-entries [] w = not-refused
+  refuses-collect-entries (e ∷ es) w = number-bind (refuses-collect-entry e _) (refuses-collect-entries es)
 
-  pub refuses-details : (below : List Entry) → RefusesIn 6 14 (extractSubprogramDetails c below)
+  pub refuses-details : (below : List Entry) → Refuses UnitNumber (extractSubprogramDetails c below)
   unfolding extractSubprogramDetails collectDescendants
-  refuses-details below = search (refusing, refuses-collect-entries)
+  refuses-details below =
+      number-cond (c .includeInlines || c .includeCallSites) (number-bind (refuses-collect-entries below noDescendants) λ w. not-refused) not-refused
 
--- ---- a unit: 6 to 15
+-- ---- a unit
 
 refuses-sequence-warning : (u : CompilationUnit) (e : Entry) (o : Option ℕ) (invalid : Bool) → RefusesIn 12 12 (sequenceWarning u e o invalid)
 refuses-sequence-warning u e none invalid = never
@@ -98,51 +134,61 @@ module _ (q : ImportContext) where
   refuses-declaration-if e table ws (x ∷ xs) = never
 
   module _ (e : Entry) (below : List Entry) where
-    refuses-range : (name : List ℕ) (r : AddressRange) (s : State) → RefusesIn 6 15 (importRange q e below name r s)
+    refuses-range : (name : List ℕ) (r : AddressRange) (s : State) → Refuses UnitNumber (importRange q e below name r s)
     unfolding importRange
     refuses-range name r s =
-        search (refusing, refuses-wider 12 12, refuses-sequence-warning, refuses-declaration-if, refuses-wider 6 14, refuses-details) depth 7
+        let requested = statementSequenceOffset (q .unit) e in
+        let own = forRange (q .lines) r requested in
+        number-bind (base-number 12 12 (omega arith) (omega arith) (refuses-sequence-warning (q .unit) e requested (own .invalid))) λ ws.
+        number-bind (base-number 6 15 (omega arith) (omega arith) (refuses-declaration-if e (s .table) (s .warnings ++ ws) (own .rows))) λ d.
+        number-bind (refuses-details (detailContext q r) below) λ x. not-refused
 
-    refuses-ranges : (name : List ℕ) (rs : List EntryRange) (s : State) → RefusesIn 6 15 (importRanges q e below name rs s)
+    refuses-ranges : (name : List ℕ) (rs : List EntryRange) (s : State) → Refuses UnitNumber (importRanges q e below name rs s)
     unfolding importRanges
-    refuses-ranges name [] s = never
-    refuses-ranges name (r ∷ rs) s = let later = refuses-ranges name rs in search (refusing, refuses-range)
+    refuses-ranges name [] s = not-refused
+    refuses-ranges name (r ∷ rs) s =
+        let later = refuses-ranges name rs in
+        number-cond (isTombstone (q .unit .text) r) (later _)
+        (number-cond (isLiveRange (q .unit .text) (r .range)) (number-bind (refuses-range name (r .range) s) later) (later _))
 
-    refuses-by-failure : (name : List ℕ) (o : Option RangeFailure) (s : State) → RefusesIn 6 15 (importByFailure q e below name o s)
-    refuses-by-failure name none s = search refuses-ranges
-    refuses-by-failure name (some f) s = search (refusing, refuses-ranges)
+    refuses-by-failure : (name : List ℕ) (o : Option RangeFailure) (s : State) → Refuses UnitNumber (importByFailure q e below name o s)
+    refuses-by-failure name none s = refuses-ranges name _ s
+    refuses-by-failure name (some f) s = number-cond (eqb (f .stage) 0) not-refused (number-bind (refuses-ranges name _ s) λ t. not-refused)
 
-    pub refuses-subprogram : (s : State) → RefusesIn 6 15 (importSubprogram q e below s)
+    pub refuses-subprogram : (s : State) → Refuses UnitNumber (importSubprogram q e below s)
     unfolding importSubprogram
-    refuses-subprogram s = search (refusing, refuses-wider 6 13, refuses-name, refuses-by-failure)
+    refuses-subprogram s =
+        number-bind (base-number 6 13 (omega arith) (omega arith) (refuses-name (q .dwarf) (q .unit) e)) λ name.
+        number-cond (isEmpty name) not-refused (refuses-by-failure name (dieRanges (q .dwarf) e .failure) s)
 
-  refuses-unit-details : (es : List Entry) (s : State) → RefusesIn 6 15 (importUnitDetails q es s)
+  refuses-unit-details : (es : List Entry) (s : State) → Refuses UnitNumber (importUnitDetails q es s)
   unfolding importUnitDetails
-  refuses-unit-details [] s = never
-  refuses-unit-details (e ∷ es) s = let later = refuses-unit-details es in search (refusing, refuses-subprogram)
+  refuses-unit-details [] s = not-refused
+  refuses-unit-details (e ∷ es) s =
+      let later = refuses-unit-details es in
+      number-cond (isSubprogram e) (number-bind (refuses-subprogram e _ s) later) (later s)
 
--- 6 to 15, and what its lines are refused with
 pub refuses-unit : (d : Dwarf) (u : CompilationUnit) (program : List ℕ) (inlines callSites : Bool) (s : State)
-    → Refuses LineNumbers (importUnit d u program inlines callSites s)
+    → Refuses UnitNumber (importUnit d u program inlines callSites s)
 unfolding importUnit
 refuses-unit d u program inlines callSites s =
-    number-bind (refuses-lines u (programOf u program) (s .table)) λ c. number-in 6 15 (λ n p q. inl (p, q)) (refuses-unit-details _ _ _)
+    number-bind (number-among line-number (refuses-lines u (programOf u program) (s .table))) λ c. refuses-unit-details _ _ _
 
--- ---- the whole: 1 to 15, 21 and 22, then 16 to 18
+-- ---- the whole: 1 to 15, 21 to 25, then 16 to 18
 
 early : (lo hi : ℕ) → 1 ≤ lo → hi ≤ 15 → (n : ℕ) → lo ≤ n → n ≤ hi → EarlyNumber n
 early lo hi h k n p q = inl (omega arith, omega arith)
 
-line-early : (n : ℕ) → LineNumbers n → EarlyNumber n
-line-early n (inl p) = inl (omega (arith, p .0), p .1)
-line-early n (inr p) = inr p
+unit-early : (n : ℕ) → UnitNumber n → EarlyNumber n
+unit-early n (inl p) = inl (omega (arith, p .0), p .1)
+unit-early n (inr p) = inr p
 
 early-any : (n : ℕ) → EarlyNumber n → RefusalNumber n
 early-any n (inl p) = inl (p .0, omega (arith, p .1))
 early-any n (inr p) = inr p
 
 refuses-units : (d : Dwarf) (us : List CompilationUnit) (program : List ℕ) (inlines callSites : Bool) (s : State)
-    → Refuses LineNumbers (importUnits d us program inlines callSites s)
+    → Refuses UnitNumber (importUnits d us program inlines callSites s)
 unfolding importUnits
 refuses-units d [] program inlines callSites s = not-refused
 refuses-units d (u ∷ us) program inlines callSites s =
@@ -151,7 +197,7 @@ refuses-units d (u ∷ us) program inlines callSites s =
 refuses-worked : (i : Inputs) (n : ℕ) (us : List CompilationUnit) → Refuses EarlyNumber (importWorked i n us)
 refuses-worked i n us =
     number-cond (ltb (length (i .work)) (workNeeded i n us)) (by-number (inl (omega arith, omega arith)))
-    (number-among line-early (refuses-units (dwarfOf i) us (i .program) (i .inlines) (i .callSites) (initialState i)))
+    (number-among unit-early (refuses-units (dwarfOf i) us (i .program) (i .inlines) (i .callSites) (initialState i)))
 
 refuses-checked : (i : Inputs) (rest : ℕ → Outcome State) → ((n : ℕ) → Refuses EarlyNumber (rest n)) → Refuses EarlyNumber (checked i rest)
 unfolding checked

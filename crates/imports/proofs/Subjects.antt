@@ -14,14 +14,14 @@ use Rattle.tlv.specs.declared.model.LineEntry.{LineEntry}
 use Rattle.tlv.specs.Addresses.{Nonempty, Inside}
 use Rattle.tlv.specs.Outcome.{done, _>>=_}
 use Rattle.tlv.specs.Lists.{Any, filter, exists, isEmpty}
-use Rattle.tlv.specs.Model.{CompilationUnit, Entry, EntryRange, RangeFailure, dieRanges}
+use Rattle.tlv.specs.Model.{CompilationUnit, Entry, EntryRange, RangeFailure}
 use Rattle.tlv.specs.Output.{Function, malformedRanges, about, rejectedRange}
 use Rattle.tlv.proofs.TestLaws.{by-test, and-left, and-right}
 use Rattle.tlv.proofs.PlaceLaws.{front-next}
 use Rattle.tlv.proofs.OutcomeLaws.{done-is, with-done}
 use Rattle.lines.specs.Rows.{contains, forRange}
 use Rattle.references.specs.Search.{Dwarf, resolveName}
-use Rattle.imports.specs.Tree.{Descendants, liesIn, rangesOf, extractSubprogramDetails}
+use Rattle.imports.specs.Tree.{Descendants, liesIn, dieRanges, rangesOf, extractSubprogramDetails}
 use Rattle.imports.specs.Import.{State, ImportContext, statementSequenceOffset, isLiveRange, isTombstone, rejected, sequenceWarning, declarationIf, linesWith, rooted, detailContext, addFunction, importRange, importRanges, importByFailure, importSubprogram, isSubprogram, descendantsOf, importUnitDetails}
 use Rattle.imports.specs.Demand.{Subject, readRanges, subjectsOf, subjectsFrom, Live}
 use Rattle.imports.proofs.KeepLaws.{lies-true}
@@ -137,17 +137,17 @@ module _ (q : ImportContext) (n : ℕ) (e : Entry) (es : List Entry) (place : dr
 
     -- a failure before any range leaves none to be imported; one after them takes no record back
     by-failure : (o : Option RangeFailure) (s t : State) → importByFailure q e (descendantsOf (e .depth) es) name o s ≡ done t
-        → Adds (Written q) (liveSubjects (readRanges e o)) (s .records) (t .records)
+        → Adds (Written q) (liveSubjects (readRanges (q .dwarf) e o)) (s .records) (t .records)
     unfolding rangesOf rejected filter
-    by-failure none s t h = ranges (dieRanges e .given) s t h
+    by-failure none s t h = ranges (dieRanges (q .dwarf) e .given) s t h
     by-failure (some f) s t h = go (eqb (f .stage) 0) h
       where
         go : (b : Bool) → cond b (done (rejected (malformedRanges false (f .reason) ∷ []) s))
-            (importRanges q e (descendantsOf (e .depth) es) name (dieRanges e .given) s >>= λ t. done (rejected (malformedRanges true (f .reason) ∷ []) t)) ≡ done t
-            → Adds (Written q) (liveSubjects (cond b [] (map (λ r. r .range) (dieRanges e .given)))) (s .records) (t .records)
+            (importRanges q e (descendantsOf (e .depth) es) name (dieRanges (q .dwarf) e .given) s >>= λ t. done (rejected (malformedRanges true (f .reason) ∷ []) t)) ≡ done t
+            → Adds (Written q) (liveSubjects (cond b [] (map (λ r. r .range) (dieRanges (q .dwarf) e .given)))) (s .records) (t .records)
         go true k = adds-none (Written q) (sym (records-same k))
-        go false k = with-done (importRanges q e (descendantsOf (e .depth) es) name (dieRanges e .given) s) _ k λ x h₁ h₂.
-            rw (← (records-same h₂)) (ranges (dieRanges e .given) s x h₁)
+        go false k = with-done (importRanges q e (descendantsOf (e .depth) es) name (dieRanges (q .dwarf) e .given) s) _ k λ x h₁ h₂.
+            rw (← (records-same h₂)) (ranges (dieRanges (q .dwarf) e .given) s x h₁)
 
   -- a subprogram adds those of its subjects: none without a name
   one-subprogram : (s t : State) → importSubprogram q e (descendantsOf (e .depth) es) s ≡ done t → Adds (Written q) (subjectsOf (q .dwarf) (q .unit) n e) (s .records) (t .records)
@@ -155,10 +155,10 @@ module _ (q : ImportContext) (n : ℕ) (e : Entry) (es : List Entry) (place : dr
   one-subprogram s t h = with-done (resolveName (q .dwarf) (q .unit) e) _ h λ name h₁ h₂. rw (sub, h₁) (go name (isEmpty name) refl h₁ h₂)
     where
       go : (name : List ℕ) (b : Bool) → isEmpty name ≡ b → resolveName (q .dwarf) (q .unit) e ≡ done name
-          → cond b (done s) (importByFailure q e (descendantsOf (e .depth) es) name (dieRanges e .failure) s) ≡ done t
-          → Adds (Written q) (cond (not b) (map (subject n) (filter (isLiveRange (q .unit .text)) (readRanges e (dieRanges e .failure)))) []) (s .records) (t .records)
+          → cond b (done s) (importByFailure q e (descendantsOf (e .depth) es) name (dieRanges (q .dwarf) e .failure) s) ≡ done t
+          → Adds (Written q) (cond (not b) (map (subject n) (filter (isLiveRange (q .unit .text)) (readRanges (q .dwarf) e (dieRanges (q .dwarf) e .failure)))) []) (s .records) (t .records)
       go name true b f k = adds-none (Written q) (sym (records-same k))
-      go name false b f k = by-failure name f b (dieRanges e .failure) s t k
+      go name false b f k = by-failure name f b (dieRanges (q .dwarf) e .failure) s t k
 
 -- an entry that is no subprogram has no subjects
 no-subjects : (d : Dwarf) (u : CompilationUnit) (n : ℕ) (e : Entry) → isSubprogram e ≡ false → subjectsOf d u n e ≡ []

@@ -12,7 +12,7 @@ use lib.Dec.{leb, ltb, eqb}
 use Rattle.tlv.specs.declared.model.AddressRange.{AddressRange}
 use Rattle.tlv.specs.declared.model.FileIndex.{FileIndex}
 use Rattle.tlv.specs.Lists.{All, takeWhile, dropWhile, isEmpty, isNone}
-use Rattle.tlv.specs.Model.{Entry, Attribute, dieRanges}
+use Rattle.tlv.specs.Model.{Entry, Attribute}
 use Rattle.tlv.specs.Output.{InlineNode, CallSite}
 use Rattle.tlv.specs.Accepted.{String, Given, AttributeAccepted, EntryAccepted, UnitAccepted}
 use Rattle.tlv.specs.Fits.{RangeFits, NodesFit, SiteFits, WarningFits}
@@ -27,7 +27,7 @@ use Rattle.lines.proofs.Bounds.{IndexFits, IndicesFit}
 use Rattle.lines.proofs.FileBounds.{get-fits}
 use Rattle.references.specs.Search.{attribute, unsignedAttribute, fileIndexAttribute}
 use Rattle.references.proofs.NameBounds.{DwarfAccepted, attribute-accepted, unsigned-small, file-index-small, absolute-small, gives-name, gives-reference-name}
-use Rattle.imports.specs.Tree.{rangesOf, InlineFrame, Descendants, DetailContext, finishInlines, endsHere, finish, siteWithOrigin, siteAt, makeCallSite, pushCallSite, CallFile, callFileFrom, callFileIf, callFileOf, CallLine, callLineIf, callLineOf, pushInline, parentRanges, makeInlineNode, isCallSite, isInlined, collectEntry, collectEntries, noDescendants, collectDescendants, extractSubprogramDetails}
+use Rattle.imports.specs.Tree.{dieRanges, rangesOf, InlineFrame, Descendants, DetailContext, finishInlines, endsHere, finish, siteWithOrigin, siteAt, makeCallSite, pushCallSite, CallFile, callFileFrom, callFileIf, callFileOf, CallLine, callLineIf, callLineOf, pushInline, parentRanges, makeInlineNode, isCallSite, isInlined, collectEntry, collectEntries, noDescendants, collectDescendants, extractSubprogramDetails}
 use Rattle.imports.proofs.NodeBounds.{Within, kept-within, within-fit, nextDepth, nodes-append, next-append}
 
 -- ---- the walk
@@ -170,7 +170,7 @@ module _ (c : DetailContext) (context : ContextAccepted c) (e : Entry) (accepted
     unfolding makeInlineNode
     node-fits = gives-bind (gives-name (c .dwarf) (context .dwarf) (c .unit) e (context .unit) accepted) λ name s.
         gives-cond (isEmpty name) (λ q. gives fits) λ q.
-        gives-cond (isNone (dieRanges e .failure)) (λ r. push-fits name _ s (kept-within (c .functionRange) _ (rangesOf e) (parents (w .inlineStack) (fits .frames)))) (λ r. gives-none)
+        gives-cond (isNone (dieRanges (c .dwarf) e .failure)) (λ r. push-fits name _ s (kept-within (c .functionRange) _ (rangesOf (c .dwarf) e) (parents (w .inlineStack) (fits .frames)))) (λ r. gives-none)
       where
         parents : (fs : List InlineFrame) → All (λ x. All (Within (c .functionRange)) (x .ranges)) fs → All (Within (c .functionRange)) (parentRanges (c .functionRange) fs)
         parents [] h = ((context .range .filled, (omega arith, omega arith)), tt)

@@ -22,7 +22,7 @@ use Rattle.imports.proofs.MachineLaws.{steps-on}
 
 -- past the end
 abbrev blank : Entry
-blank = record { offset = 0; depth = 0; tag = 0; attributes = []; ranges = []; failure = none }
+blank = record { offset = 0; depth = 0; tag = 0; attributes = []; ranges = []; failure = none; list = none }
 
 -- ---- each entry's depth is at most the previous one's plus 1
 

@@ -13,14 +13,14 @@ use Rattle.tlv.specs.declared.model.AddressRange.{AddressRange}
 use Rattle.tlv.specs.declared.model.FileIndex.{FileIndex}
 use Rattle.tlv.specs.Outcome.{Outcome, refused, done, _>>=_}
 use Rattle.tlv.specs.Lists.{isEmpty, isNone}
-use Rattle.tlv.specs.Model.{Entry, RangeFailure, dieRanges}
+use Rattle.tlv.specs.Model.{Entry, RangeFailure}
 use Rattle.tlv.specs.Output.{CallSite}
 use Rattle.tlv.proofs.TestLaws.{by-test}
 use Rattle.tlv.proofs.OutcomeLaws.{Done, done-bind}
 use Rattle.lines.specs.Files.{get}
 use Rattle.references.specs.Search.{absoluteEntryOffset, unsignedAttribute, fileIndexAttribute, resolveName}
 use Rattle.imports.specs.Ranges.{coalesceRanges}
-use Rattle.imports.specs.Tree.{fit, rangesOf, InlineFrame, Descendants, DetailContext, makeCallSite, pushCallSite, CallFile, callFileFrom, callFileIf, callFileOf, CallLine, callLineIf, callLineOf, pushInline, parentRanges, makeInlineNode, isInlined, collectEntry}
+use Rattle.imports.specs.Tree.{fit, dieRanges, rangesOf, InlineFrame, Descendants, DetailContext, makeCallSite, pushCallSite, CallFile, callFileFrom, callFileIf, callFileOf, CallLine, callLineIf, callLineOf, pushInline, parentRanges, makeInlineNode, isInlined, collectEntry}
 use Rattle.imports.specs.Agree.{TreeEntry, foundName, treeEntry, treeNode}
 use Rattle.imports.proofs.StackMachine.{keep}
 
@@ -29,13 +29,13 @@ use Rattle.imports.proofs.StackMachine.{keep}
 -- nothing is wrong with entry e
 pub record Clean (c : DetailContext) (e : Entry) : Type 0 where
   pub name : e .tag ≡ 0x1d → (name : List ℕ) × (resolveName (c .dwarf) (c .unit) e ≡ done name)
-  pub ranges : e .tag ≡ 0x1d → foundName (resolveName (c .dwarf) (c .unit) e) ≢ [] → dieRanges e .failure ≡ none
+  pub ranges : e .tag ≡ 0x1d → foundName (resolveName (c .dwarf) (c .unit) e) ≢ [] → dieRanges (c .dwarf) e .failure ≡ none
   pub site : c .includeCallSites ≡ true → e .tag ≡ 0x48 → (x : Option CallSite) × (makeCallSite c e ≡ done x)
 
 -- entry e is refused with the number n
 pub data Fault (c : DetailContext) (e : Entry) : ℕ → Type 0 where
   bad-name : {n : ℕ} → e .tag ≡ 0x1d → resolveName (c .dwarf) (c .unit) e ≡ refused n → Fault c e n
-  bad-ranges : e .tag ≡ 0x1d → foundName (resolveName (c .dwarf) (c .unit) e) ≢ [] → dieRanges e .failure ≢ none → Fault c e 6
+  bad-ranges : e .tag ≡ 0x1d → foundName (resolveName (c .dwarf) (c .unit) e) ≢ [] → dieRanges (c .dwarf) e .failure ≢ none → Fault c e (dieRanges (c .dwarf) e .refusal)
   bad-site : {n : ℕ} → c .includeCallSites ≡ true → e .tag ≡ 0x48 → makeCallSite c e ≡ refused n → Fault c e n
 
 abbrev pub treeOf : DetailContext → Entry → TreeEntry
@@ -93,7 +93,7 @@ module _ (c : DetailContext) (e : Entry) (st : List InlineFrame) where
   unfolding keep treeEntry
   keep-nameless h = rw (h, and-false (eqb (e .tag) 0x1d))
 
-  keep-named : (b : ℕ) (bs : List ℕ) → eqb (e .tag) 0x1d ≡ true → resolveName (c .dwarf) (c .unit) e ≡ done (b ∷ bs) → keptOf c e st ≡ coalesceRanges (fit (parentRanges (c .functionRange) st) (rangesOf e))
+  keep-named : (b : ℕ) (bs : List ℕ) → eqb (e .tag) 0x1d ≡ true → resolveName (c .dwarf) (c .unit) e ≡ done (b ∷ bs) → keptOf c e st ≡ coalesceRanges (fit (parentRanges (c .functionRange) st) (rangesOf (c .dwarf) e))
   unfolding keep treeEntry
   keep-named b bs t h = rw (t, h)
 
@@ -108,7 +108,7 @@ module _ (c : DetailContext) (e : Entry) (w : Descendants) where
     site = λ a q. absurd (h a q);
   }
 
-  clean-inlined : (name : List ℕ) → e .tag ≡ 0x1d → resolveName (c .dwarf) (c .unit) e ≡ done name → (name ≢ [] → dieRanges e .failure ≡ none) → Clean c e
+  clean-inlined : (name : List ℕ) → e .tag ≡ 0x1d → resolveName (c .dwarf) (c .unit) e ≡ done name → (name ≢ [] → dieRanges (c .dwarf) e .failure ≡ none) → Clean c e
   clean-inlined name t h r = record { name = λ q. (name, h); ranges = λ q z. r (rw h at z); site = λ a q. absurd (omega arith) }
 
   -- a call site
@@ -157,16 +157,16 @@ module _ (c : DetailContext) (e : Entry) (w : Descendants) where
     unfolding makeInlineNode _>>=_
     inline-step t = go (resolveName (c .dwarf) (c .unit) e) refl
       where
-        ranges : (b : ℕ) (bs : List ℕ) → resolveName (c .dwarf) (c .unit) e ≡ done (b ∷ bs) → (o : Option RangeFailure) → dieRanges e .failure ≡ o →
-            Step c e w (cond (isNone o) (pushInline c e (b ∷ bs) (coalesceRanges (fit (parentRanges (c .functionRange) (w .inlineStack)) (rangesOf e))) w) (refused 6))
+        ranges : (b : ℕ) (bs : List ℕ) → resolveName (c .dwarf) (c .unit) e ≡ done (b ∷ bs) → (o : Option RangeFailure) → dieRanges (c .dwarf) e .failure ≡ o →
+            Step c e w (cond (isNone o) (pushInline c e (b ∷ bs) (coalesceRanges (fit (parentRanges (c .functionRange) (w .inlineStack)) (rangesOf (c .dwarf) e))) w) (refused (dieRanges (c .dwarf) e .refusal)))
         ranges b bs h none q = push-step (b ∷ bs) _ h (clean-inlined (b ∷ bs) t h (λ z. q)) (keep-named c e (w .inlineStack) b bs (eq-eqb (e .tag) 0x1d t) h)
         ranges b bs h (some x) q = fails (bad-ranges t (rw h cons≢nil) (λ z. Option·some-ne-none x (sym q ∙ z)))
 
         go : (o : Outcome (List ℕ)) → resolveName (c .dwarf) (c .unit) e ≡ o →
-            Step c e w (o >>= λ name. cond (isEmpty name) (done w) (cond (isNone (dieRanges e .failure)) (pushInline c e name (coalesceRanges (fit (parentRanges (c .functionRange) (w .inlineStack)) (rangesOf e))) w) (refused 6)))
+            Step c e w (o >>= λ name. cond (isEmpty name) (done w) (cond (isNone (dieRanges (c .dwarf) e .failure)) (pushInline c e name (coalesceRanges (fit (parentRanges (c .functionRange) (w .inlineStack)) (rangesOf (c .dwarf) e))) w) (refused (dieRanges (c .dwarf) e .refusal))))
         go (refused n) h = fails (bad-name t h)
         go (done []) h = passes (clean-inlined [] t h (λ z. absurd (z refl))) (keep-nameless c e (w .inlineStack) h) refl refl
-        go (done (b ∷ bs)) h = ranges b bs h (dieRanges e .failure) refl
+        go (done (b ∷ bs)) h = ranges b bs h (dieRanges (c .dwarf) e .failure) refl
 
     pub step : c .includeInlines ≡ true → Step c e w (collectEntry c e w)
     unfolding collectEntry

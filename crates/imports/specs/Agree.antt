@@ -48,7 +48,7 @@ foundName (refused n) = []
 foundName (done name) = name
 
 unfoldable pub treeEntry : Dwarf → CompilationUnit → Entry → TreeEntry
-treeEntry d u e = record { depth = e .depth; tag = e .tag; name = foundName (resolveName d u e); ranges = rangesOf e }
+treeEntry d u e = record { depth = e .depth; tag = e .tag; name = foundName (resolveName d u e); ranges = rangesOf d e }
 
 -- the entries of a unit, number 0 first
 unfoldable pub treeEntries : Dwarf → CompilationUnit → List TreeEntry

@@ -13,14 +13,14 @@ use Rattle.tlv.specs.Addresses.{Nonempty, Inside}
 use Rattle.tlv.specs.Outcome.{Outcome, refused, done}
 use Rattle.tlv.specs.Lists.{Any, All, filter, at, isEmpty}
 use Rattle.tlv.specs.Bytes.{Bytes}
-use Rattle.tlv.specs.Model.{CompilationUnit, Entry, RangeFailure, dieRanges, units}
+use Rattle.tlv.specs.Model.{CompilationUnit, Entry, RangeFailure, units}
 use Rattle.tlv.specs.Accepted.{UnitAccepted}
 use Rattle.tlv.specs.Output.{InlineNode, CallSite, Function}
 use Rattle.tlv.specs.Reader.{readRecords, readFiles, readWarnings}
 use Rattle.tlv.specs.Fits.{FunctionFits, FileFits, WarningFits}
 use Rattle.lines.specs.RowsAgree.{RowsAgree}
 use Rattle.references.specs.Search.{Dwarf, resolveName}
-use Rattle.imports.specs.Tree.{rangesOf, DetailContext, Descendants, makeCallSite, extractSubprogramDetails}
+use Rattle.imports.specs.Tree.{dieRanges, rangesOf, DetailContext, Descendants, makeCallSite, extractSubprogramDetails}
 use Rattle.imports.specs.Import.{State, isLiveRange, isSubprogram, descendantsOf, rooted, importUnit}
 use Rattle.imports.specs.Answer.{Inputs, dwarfOf, importOf, importDwarfOf, outcomeOf, After, after, afterDwarf}
 use Rattle.imports.specs.Agree.{TreeEntry, foundName, treeEntries, entry, Below, TreeNode, treeNode, TreeAgrees, TooDeep}
@@ -32,15 +32,15 @@ pub record Subject : Type 0 where
   pub range : AddressRange
 
 -- the ranges that were read: none where reading failed before any
-abbrev pub readRanges : Entry → Option RangeFailure → List AddressRange
-readRanges e none = rangesOf e
-readRanges e (some f) = cond (eqb (f .stage) 0) [] (rangesOf e)
+abbrev pub readRanges : Dwarf → Entry → Option RangeFailure → List AddressRange
+readRanges d e none = rangesOf d e
+readRanges d e (some f) = cond (eqb (f .stage) 0) [] (rangesOf d e)
 
 -- the subjects of entry number n
 unfoldable pub subjectsOf : Dwarf → CompilationUnit → ℕ → Entry → List Subject
 subjectsOf d u n e =
     cond (isSubprogram e && not (isEmpty (foundName (resolveName d u e))))
-    (map (λ r. record { number = n; range = r }) (filter (isLiveRange (u .text)) (readRanges e (dieRanges e .failure))))
+    (map (λ r. record { number = n; range = r }) (filter (isLiveRange (u .text)) (readRanges d e (dieRanges d e .failure))))
     []
 
 unfoldable pub subjectsFrom : Dwarf → CompilationUnit → ℕ → List Entry → List Subject
@@ -96,7 +96,7 @@ OneTree = (f : AddressRange) (us : List TreeEntry) (s : ℕ) (ns ms : List TreeN
 -- ---- when a walk below a subprogram finishes, and what a refusal says
 
 abbrev pub unitEntry : CompilationUnit → ℕ → Entry
-unitEntry u i = getD (u .entries) i (record { offset = 0; depth = 0; tag = 0; attributes = []; ranges = []; failure = none })
+unitEntry u i = getD (u .entries) i (record { offset = 0; depth = 0; tag = 0; attributes = []; ranges = []; failure = none; list = none })
 
 -- the entries below entry s, as the walk meets them
 abbrev pub entriesBelow : CompilationUnit → ℕ → List Entry
@@ -119,14 +119,15 @@ HasName c i = foundName (resolveName (c .dwarf) (c .unit) (unitEntry (c .unit) i
 
 pub record WalkFinishes (c : DetailContext) (s : ℕ) : Type 0 where
   pub names : (i : ℕ) → InlinedBelow c s i → (name : List ℕ) × (resolveName (c .dwarf) (c .unit) (unitEntry (c .unit) i) ≡ done name)
-  pub ranges : (i : ℕ) → InlinedBelow c s i → HasName c i → dieRanges (unitEntry (c .unit) i) .failure ≡ none
+  pub ranges : (i : ℕ) → InlinedBelow c s i → HasName c i → dieRanges (c .dwarf) (unitEntry (c .unit) i) .failure ≡ none
   pub shallow : ¬ TooDeep (c .functionRange) (treeEntries (c .dwarf) (c .unit)) s
   pub sites : (i : ℕ) → SiteBelow c s i → (x : Option CallSite) × (makeCallSite c (unitEntry (c .unit) i) ≡ done x)
 
 -- which entry a refusal is for, and why
 pub data Blamed (c : DetailContext) (s : ℕ) : ℕ → Type 0 where
   by-name : {n i : ℕ} → InlinedBelow c s i → resolveName (c .dwarf) (c .unit) (unitEntry (c .unit) i) ≡ refused n → Blamed c s n
-  by-ranges : {i : ℕ} → InlinedBelow c s i → HasName c i → dieRanges (unitEntry (c .unit) i) .failure ≢ none → Blamed c s 6
+  by-ranges : {i : ℕ} → InlinedBelow c s i → HasName c i → dieRanges (c .dwarf) (unitEntry (c .unit) i) .failure ≢ none
+      → Blamed c s (dieRanges (c .dwarf) (unitEntry (c .unit) i) .refusal)
   by-depth : TooDeep (c .functionRange) (treeEntries (c .dwarf) (c .unit)) s → Blamed c s 14
   by-site : {n i : ℕ} → SiteBelow c s i → makeCallSite c (unitEntry (c .unit) i) ≡ refused n → Blamed c s n
 
@@ -158,10 +159,10 @@ Producing = (i : Inputs) (s : State) → Lent i → importOf i ≡ done s → St
 abbrev pub DwarfProducing : Type 0
 DwarfProducing = (i : Inputs) (s : State) → Lent i → importDwarfOf i ≡ done s → StateFits s
 
--- ---- every refusal is one of document 01's numbers, or document 02's 21 or 22 (E8)
+-- ---- every refusal is one of document 01's numbers, or one of document 02's 21 and 22 (E8) and 23 to 25 (E9)
 
 abbrev pub RefusalNumber : ℕ → Type 0
-RefusalNumber n = ((1 ≤ n) × (n ≤ 18)) ⊎ ((21 ≤ n) × (n ≤ 22))
+RefusalNumber n = ((1 ≤ n) × (n ≤ 18)) ⊎ ((21 ≤ n) × (n ≤ 25))
 
 abbrev pub Refusals : Type 0
 Refusals = (i : Inputs) (n : ℕ) → outcomeOf i (importOf i) ≡ refused n → RefusalNumber n

@@ -10,14 +10,14 @@ use Rattle.tlv.specs.declared.model.AddressRange.{AddressRange}
 use Rattle.tlv.specs.declared.model.LineEntry.{LineEntry}
 use Rattle.tlv.specs.Outcome.{Outcome, done, _>>=_}
 use Rattle.tlv.specs.Lists.{takeWhile, exists, isEmpty}
-use Rattle.tlv.specs.Model.{CompilationUnit, Entry, EntryRange, Attribute, RangeFailure, programOf, dieRanges}
+use Rattle.tlv.specs.Model.{CompilationUnit, Entry, EntryRange, Attribute, RangeFailure, programOf}
 use Rattle.tlv.specs.Output.{InlineNode, Function, Warning, malformedRanges, about, rejectedRange, invalidStatementSequence}
 use Rattle.lines.specs.Files.{FileTable, fileIndex}
 use Rattle.lines.specs.Lines.{UnitLines}
 use Rattle.machine.specs.LineRows.{collectLines}
 use Rattle.lines.specs.Rows.{contains, forRange}
 use Rattle.references.specs.Search.{Dwarf, Declaring, emptyTrail, attribute, absoluteEntryOffset, resolveName, resolveDeclarationLine}
-use Rattle.imports.specs.Tree.{DetailContext, extractSubprogramDetails, liesIn}
+use Rattle.imports.specs.Tree.{DetailContext, dieRanges, extractSubprogramDetails, liesIn}
 
 -- ConversionStats, as far as document 01's four statistics go
 pub record ConversionStats : Type 0 where
@@ -150,15 +150,15 @@ importRanges q e below name (r ∷ rs) s =
 
 -- a failure before any range leaves none; one after them warns when they are done
 abbrev pub importByFailure : ImportContext → Entry → List Entry → List ℕ → Option RangeFailure → State → Outcome State
-importByFailure q e below name none s = importRanges q e below name (dieRanges e .given) s
+importByFailure q e below name none s = importRanges q e below name (dieRanges (q .dwarf) e .given) s
 importByFailure q e below name (some f) s =
     cond (eqb (f .stage) 0) (done (rejected (malformedRanges false (f .reason) ∷ []) s))
-    (importRanges q e below name (dieRanges e .given) s >>= λ t. done (rejected (malformedRanges true (f .reason) ∷ []) t))
+    (importRanges q e below name (dieRanges (q .dwarf) e .given) s >>= λ t. done (rejected (malformedRanges true (f .reason) ∷ []) t))
 
 -- names come before ranges: a nameless subprogram gives no warning and no count
 unfoldable pub importSubprogram : ImportContext → Entry → List Entry → State → Outcome State
 importSubprogram q e below s = resolveName (q .dwarf) (q .unit) e >>= λ name.
-    cond (isEmpty name) (done s) (importByFailure q e below name (dieRanges e .failure) s)
+    cond (isEmpty name) (done s) (importByFailure q e below name (dieRanges (q .dwarf) e .failure) s)
 
 -- DW_TAG_subprogram
 abbrev pub isSubprogram : Entry → Bool

@@ -11,3 +11,4 @@ pub mod Sizes
 pub mod Bare
 pub mod Joined
 pub mod DwarfCases
+pub mod ListCases

@@ -10,10 +10,11 @@ use Rattle.tlv.specs.declared.model.AddressRange.{AddressRange}
 use Rattle.tlv.specs.declared.model.FileIndex.{FileIndex}
 use Rattle.tlv.specs.Outcome.{Outcome, refused, done, _>>=_}
 use Rattle.tlv.specs.Lists.{takeWhile, dropWhile, isEmpty, isNone}
-use Rattle.tlv.specs.Model.{CompilationUnit, Entry, Attribute, dieRanges}
+use Rattle.tlv.specs.Model.{CompilationUnit, Entry, Attribute}
 use Rattle.tlv.specs.Output.{InlineNode, CallSite, Warning, about, missingInlineCallFile, invalidInlineCallLine}
 use Rattle.lines.specs.Files.{FileIndices, fileIndex, get}
 use Rattle.lines.specs.Rows.{contains}
+use Rattle.rnglists.specs.RangeLists.{DieRanges, dieRangesBy}
 use Rattle.references.specs.Search.{Dwarf, attribute, unsignedAttribute, fileIndexAttribute, absoluteEntryOffset, resolveName, resolveReferenceName}
 use Rattle.imports.specs.Ranges.{coalesceRanges}
 
@@ -29,9 +30,13 @@ unfoldable pub fit : List AddressRange → List AddressRange → List AddressRan
 fit ps [] = []
 fit ps (r ∷ rs) = cond (ltb (r .start) (r .end) && liesIn ps r) (r ∷ fit ps rs) (fit ps rs)
 
+-- dwarf.die_ranges: an entry's ranges, and where reading them failed
+unfoldable pub dieRanges : Dwarf → Entry → DieRanges
+dieRanges d e = dieRangesBy (d .lists) (d .addresses) e (e .list)
+
 -- an entry's ranges, as they are given
-unfoldable pub rangesOf : Entry → List AddressRange
-rangesOf e = map (λ r. r .range) (dieRanges e .given)
+unfoldable pub rangesOf : Dwarf → Entry → List AddressRange
+rangesOf d e = map (λ r. r .range) (dieRanges d e .given)
 
 -- ---- the walk's state: the stacks have their tops first
 
@@ -170,13 +175,13 @@ abbrev pub parentRanges : AddressRange → List InlineFrame → List AddressRang
 parentRanges f [] = f ∷ []
 parentRanges f (t ∷ ts) = t .ranges
 
--- make_inline_node: 6 for a range failure of a named inlined entry
+-- make_inline_node: a range failure of a named inlined entry refuses, with 6 or with the number of its list's fault
 unfoldable pub makeInlineNode : DetailContext → Entry → Descendants → Outcome Descendants
 makeInlineNode c e w = resolveName (c .dwarf) (c .unit) e >>= λ name.
     cond (isEmpty name) (done w)
-    (cond (isNone (dieRanges e .failure))
-    (pushInline c e name (coalesceRanges (fit (parentRanges (c .functionRange) (w .inlineStack)) (rangesOf e))) w)
-    (refused 6))
+    (cond (isNone (dieRanges (c .dwarf) e .failure))
+    (pushInline c e name (coalesceRanges (fit (parentRanges (c .functionRange) (w .inlineStack)) (rangesOf (c .dwarf) e))) w)
+    (refused (dieRanges (c .dwarf) e .refusal)))
 
 -- ---- collect_descendants
 

@@ -66,6 +66,7 @@ unitOf compilation directories = record {
   files = [];
   rows = [];
   entries = [];
+  lists = 0;
 }
 
 abbrev pub header : ℕ → LineHeader

@@ -221,6 +221,7 @@ fn written(buffer: &[u8], n: usize) -> &[u8] {
     &buffer[..n]
 }
 
+// There is no file for a list section and none for an address table: both are empty.
 fn list<'a>(main: &'a [u8], supplementary: &'a [u8], program: &[u8]) {
     let mut work = [0u8; 57344];
     let mut records = [0u8; 32768];
@@ -230,6 +231,8 @@ fn list<'a>(main: &'a [u8], supplementary: &'a [u8], program: &[u8]) {
         main,
         supplementary,
         program,
+        b"",
+        b"",
         0,
         true,
         true,

@@ -54,3 +54,7 @@ no-word-below n h = rw (the-zero n h)
   where
     the-zero : (n : ℕ) → n < 1 → n ≡ 0
     the-zero n h = omega arith
+
+-- there is no number from a on that is below a
+pub no-word-between : (a n : ℕ) → a ≤ n → n < a → refusalWord n ≡ []
+no-word-between a n h k = absurd (omega arith)

@@ -25,7 +25,7 @@ module _ {x : Joined} where
 
 -- ---- numbers that have no word
 
-pub no-word-past : (n : ℕ) → 23 ≤ n → (n ≡ 26 → ⊥) → (n ≡ 27 → ⊥) → refusalWord n ≡ []
+pub no-word-past : (n : ℕ) → 26 ≤ n → (n ≡ 26 → ⊥) → (n ≡ 27 → ⊥) → refusalWord n ≡ []
 unfolding refusalWord
 no-word-past n h k l =
     rw (
@@ -51,6 +51,9 @@ no-word-past n h k l =
       other 20 (omega arith),
       other 21 (omega arith),
       other 22 (omega arith),
+      other 23 (omega arith),
+      other 24 (omega arith),
+      other 25 (omega arith),
       ne-eqb n 26 k,
       ne-eqb n 27 l,
     )

@@ -1,12 +1,10 @@
--- The answers of the look-ups as numbers, and the numbers that have no word. Assumes nothing.
+-- The answers of the look-ups as numbers. Assumes nothing.
 use mathlib.Core.Path.{_≡_, refl, sym, ap, subst, _∙_}
 use mathlib.Core.Bool.{Bool, false}
 use mathlib.Core.List.{List, [], _∷_}
-use Prim.Native.Nat.{ℕ, suc, _-_, _≤_, _<_}
+use Prim.Native.Nat.{ℕ}
 use native.Mathlib.Omega.{arith}
-use lib.Dec.{eqb}
 use lib.ListN.{getD, drop, replicate}
-use borrow.Author.Tests.{ne-eqb}
 use Rattle.tlv.specs.Outcome.{Outcome, refused, done}
 use Rattle.lookup.specs.declared.model.Refusal.{Refusal}
 use Rattle.lookup.specs.declared.model.Row.{Row}
@@ -19,7 +17,6 @@ use Rattle.lookup.specs.declared.model.Indexed.{Indexed}
 use Rattle.lookup.specs.Lookup.{Frames, lookUp, nearestBelow}
 use Rattle.lookup.specs.Window.{ListAfter}
 use Rattle.lookup.specs.Answers.{refusalNumber, framesGiven, LooksUp, nearestGiven, listGiven}
-use Rattle.pezgok.specs.Exported.{refusalWord}
 use Rattle.lookup.specs.LookIn.{LooksUpIn}
 use Rattle.pezgok.specs.Looked.{ToldIndex, ExportsLookUpIn, framesIn, nodesOf, ToldFrames, ExportsLookUp, nearestIn, listIn, ToldList}
 
@@ -104,11 +101,3 @@ index-finished x n rising e = record { finished = λ z. e; refused = λ z. absur
 pub exports-look-up-in : {tray w found chain : List ℕ} {n a r : ℕ} {rising : Bool} (x : LookedUp) → LooksUpIn tray w n rising a x → ToldFrames x found chain r
     → ExportsLookUpIn tray w n rising a found chain r
 exports-look-up-in x L T = record { answer = x; is = L; told = T; own = λ I. exports-look-up (L .own I) T }
-
--- ---- numbers that have no word
-
-pub no-word-between : (n : ℕ) → 19 ≤ n → n < 19 → refusalWord n ≡ []
-no-word-between n h k = absurd (omega arith)
-
-pub no-word-looked : (n : ℕ) → 21 ≤ n → n < 21 → refusalWord n ≡ []
-no-word-looked n h k = absurd (omega arith)

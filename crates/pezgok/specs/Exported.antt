@@ -39,7 +39,7 @@ pub record ExportsMeasure (i : Inputs) (w values : List ℕ) (r : ℕ) : Type 0 
 pub record ExportsMeasureDwarf (i : Inputs) (w values : List ℕ) (r : ℕ) : Type 0 where
   pub is : record { answer = answerIn r values; work = w } ≡ measureDwarf i
 
--- ---- words for the refusals, as bytes: document 01's, and those for document 02's 19 to 22, 26 and 27
+-- ---- words for the refusals, as bytes: document 01's, and those for document 02's 19 to 27
 
 unfoldable pub refusalWord : ℕ → List ℕ
 refusalWord n =
@@ -65,6 +65,9 @@ refusalWord n =
     (cond (eqb n 20) (110 ∷ 111 ∷ 32 ∷ 102 ∷ 117 ∷ 110 ∷ 99 ∷ 116 ∷ 105 ∷ 111 ∷ 110 ∷ [])  -- no function
     (cond (eqb n 21) (108 ∷ 105 ∷ 110 ∷ 101 ∷ 32 ∷ 101 ∷ 110 ∷ 99 ∷ 111 ∷ 100 ∷ 105 ∷ 110 ∷ 103 ∷ [])  -- line encoding
     (cond (eqb n 22) (108 ∷ 105 ∷ 110 ∷ 101 ∷ 32 ∷ 97 ∷ 100 ∷ 100 ∷ 114 ∷ 101 ∷ 115 ∷ 115 ∷ [])  -- line address
+    (cond (eqb n 23) (99 ∷ 117 ∷ 116 ∷ 32 ∷ 108 ∷ 105 ∷ 115 ∷ 116 ∷ [])  -- cut list
+    (cond (eqb n 24) (110 ∷ 111 ∷ 32 ∷ 97 ∷ 100 ∷ 100 ∷ 114 ∷ 101 ∷ 115 ∷ 115 ∷ [])  -- no address
+    (cond (eqb n 25) (119 ∷ 105 ∷ 100 ∷ 101 ∷ 32 ∷ 97 ∷ 100 ∷ 100 ∷ 114 ∷ 101 ∷ 115 ∷ 115 ∷ [])  -- wide address
     (cond (eqb n 26) (109 ∷ 105 ∷ 115 ∷ 115 ∷ 104 ∷ 97 ∷ 112 ∷ 101 ∷ 110 ∷ 32 ∷ 115 ∷ 121 ∷ 109 ∷ 98 ∷ 111 ∷ 108 ∷ [])  -- misshapen symbol
     (cond (eqb n 27) (115 ∷ 104 ∷ 111 ∷ 114 ∷ 116 ∷ 32 ∷ 114 ∷ 101 ∷ 115 ∷ 117 ∷ 108 ∷ 116 ∷ [])  -- short result
-    [])))))))))))))))))))))))
+    []))))))))))))))))))))))))))

@@ -49,6 +49,8 @@ pub extern "C" fn pezgok_import<'a>(
     main: &'a [u8],
     supplementary: &'a [u8],
     program: &[u8],
+    lists: &[u8],
+    addresses: &[u8],
     ordinal: u64,
     inlines: bool,
     call_sites: bool,
@@ -59,14 +61,18 @@ pub extern "C" fn pezgok_import<'a>(
     warnings: &mut [u8],
     values: &mut [u64; 7],
 ) -> u8
-    ensures { λ r. ⌜ Exports (inputsOf (now (main .entry)) (now (supplementary .entry)) (now (program .entry)) ordinal inlines «call_sites» «first_file»
-        (now (work .entry)) (now (records .entry)) (now (files .entry)) (now (warnings .entry))) (now (work .exit)) (now (records .exit)) (now (files .exit))
-        (now (warnings .exit)) (now (values .exit)) r ⌝ }
+    ensures { λ r. ⌜ (
+        let i = inputsOf (now (main .entry)) (now (supplementary .entry)) (now (program .entry)) (now (lists .entry)) (now (addresses .entry)) ordinal
+        inlines «call_sites» «first_file»
+        (now (work .entry)) (now (records .entry)) (now (files .entry)) (now (warnings .entry)) in
+        Exports i (now (work .exit)) (now (records .exit)) (now (files .exit)) (now (warnings .exit)) (now (values .exit)) r) ⌝ }
 {
     let answer = dwarf::import::import_unit(
         main,
         supplementary,
         program,
+        lists,
+        addresses,
         ordinal,
         inlines,
         call_sites,
@@ -85,6 +91,8 @@ pub extern "C" fn pezgok_measure<'a>(
     main: &'a [u8],
     supplementary: &'a [u8],
     program: &[u8],
+    lists: &[u8],
+    addresses: &[u8],
     ordinal: u64,
     inlines: bool,
     call_sites: bool,
@@ -92,13 +100,18 @@ pub extern "C" fn pezgok_measure<'a>(
     work: &mut [u8],
     values: &mut [u64; 7],
 ) -> u8
-    ensures { λ r. ⌜ ExportsMeasure (inputsOf (now (main .entry)) (now (supplementary .entry)) (now (program .entry)) ordinal inlines «call_sites»
-        «first_file» (now (work .entry)) [] [] []) (now (work .exit)) (now (values .exit)) r ⌝ }
+    ensures { λ r. ⌜ (
+        let i = inputsOf (now (main .entry)) (now (supplementary .entry)) (now (program .entry)) (now (lists .entry)) (now (addresses .entry)) ordinal
+        inlines «call_sites» «first_file»
+        (now (work .entry)) [] [] [] in
+        ExportsMeasure i (now (work .exit)) (now (values .exit)) r) ⌝ }
 {
     let answer = dwarf::import::measure_unit(
         main,
         supplementary,
         program,
+        lists,
+        addresses,
         ordinal,
         inlines,
         call_sites,
@@ -122,8 +135,11 @@ pub extern "C" fn pezgok_refusal_name(refusal: u8, name: &mut [u8]) -> usize
     if refusal < 21 {
         return look::look_name(refusal, name);
     }
-    if refusal < 26 {
+    if refusal < 23 {
         return line_name(refusal, name);
+    }
+    if refusal < 26 {
+        return list_name(refusal, name);
     }
     joins::join_name(refusal, name)
 }
@@ -166,12 +182,25 @@ fn late_name(refusal: u8, name: &mut [u8]) -> usize
 
 // Document 02's refusals of a line program (E8).
 fn line_name(refusal: u8, name: &mut [u8]) -> usize
-    requires { ⌜ (21 ≤ refusal) × (refusal < 26) ⌝ }
+    requires { ⌜ (21 ≤ refusal) × (refusal < 23) ⌝ }
     ensures { λ r. ⌜ Put 0 (refusalWord refusal) (now (name .entry)) (now (name .exit)) r ⌝ }
 {
     match refusal {
         21 => tlv::output::put_bytes(name, 0, b"line encoding"),
         22 => tlv::output::put_bytes(name, 0, b"line address"),
+        _ => 0,
+    }
+}
+
+// Document 02's refusals of a range list (E9).
+fn list_name(refusal: u8, name: &mut [u8]) -> usize
+    requires { ⌜ (23 ≤ refusal) × (refusal < 26) ⌝ }
+    ensures { λ r. ⌜ Put 0 (refusalWord refusal) (now (name .entry)) (now (name .exit)) r ⌝ }
+{
+    match refusal {
+        23 => tlv::output::put_bytes(name, 0, b"cut list"),
+        24 => tlv::output::put_bytes(name, 0, b"no address"),
+        25 => tlv::output::put_bytes(name, 0, b"wide address"),
         _ => 0,
     }
 }

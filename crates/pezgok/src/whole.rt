@@ -9,6 +9,8 @@ pub extern "C" fn pezgok_import_dwarf<'a>(
     main: &'a [u8],
     supplementary: &'a [u8],
     program: &[u8],
+    lists: &[u8],
+    addresses: &[u8],
     inlines: bool,
     call_sites: bool,
     first_file: u32,
@@ -19,7 +21,8 @@ pub extern "C" fn pezgok_import_dwarf<'a>(
     values: &mut [u64; 7],
 ) -> u8
     ensures { λ r. ⌜ (
-        let i = inputsOf (now (main .entry)) (now (supplementary .entry)) (now (program .entry)) 0 inlines «call_sites» «first_file»
+        let i = inputsOf (now (main .entry)) (now (supplementary .entry)) (now (program .entry)) (now (lists .entry)) (now (addresses .entry)) 0
+        inlines «call_sites» «first_file»
         (now (work .entry)) (now (records .entry)) (now (files .entry)) (now (warnings .entry)) in
         ExportsDwarf i (now (work .exit)) (now (records .exit)) (now (files .exit)) (now (warnings .exit)) (now (values .exit)) r) ⌝ }
 {
@@ -27,6 +30,8 @@ pub extern "C" fn pezgok_import_dwarf<'a>(
         main,
         supplementary,
         program,
+        lists,
+        addresses,
         inlines,
         call_sites,
         first_file,
@@ -44,6 +49,8 @@ pub extern "C" fn pezgok_measure_dwarf<'a>(
     main: &'a [u8],
     supplementary: &'a [u8],
     program: &[u8],
+    lists: &[u8],
+    addresses: &[u8],
     inlines: bool,
     call_sites: bool,
     first_file: u32,
@@ -51,7 +58,8 @@ pub extern "C" fn pezgok_measure_dwarf<'a>(
     values: &mut [u64; 7],
 ) -> u8
     ensures { λ r. ⌜ (
-        let i = inputsOf (now (main .entry)) (now (supplementary .entry)) (now (program .entry)) 0 inlines «call_sites» «first_file»
+        let i = inputsOf (now (main .entry)) (now (supplementary .entry)) (now (program .entry)) (now (lists .entry)) (now (addresses .entry)) 0
+        inlines «call_sites» «first_file»
         (now (work .entry)) [] [] [] in
         ExportsMeasureDwarf i (now (work .exit)) (now (values .exit)) r) ⌝ }
 {
@@ -59,6 +67,8 @@ pub extern "C" fn pezgok_measure_dwarf<'a>(
         main,
         supplementary,
         program,
+        lists,
+        addresses,
         inlines,
         call_sites,
         first_file,

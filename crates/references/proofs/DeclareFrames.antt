@@ -27,7 +27,7 @@ use Rattle.references.specs.Search.{DieKey, sameKey}
 use Rattle.references.specs.Tables.{IndexIn}
 use Rattle.references.specs.Keys.{keysAt, chainCount, Pushed, PossibleKey, keysFrom, TrailIn}
 use Rattle.references.specs.Names.{SearchIn}
-use Rattle.references.specs.Declarations.{DeclaringIn, lower, searched}
+use Rattle.references.specs.Declarations.{Beside, DeclaringIn, lower, searched}
 use Rattle.references.proofs.ChainLaws.{keys-clear, chained-clear}
 use Rattle.references.proofs.KeyLaws.{keys-inside}
 use Rattle.references.proofs.FollowLaws.{push-room, push-kept, push-search}
@@ -46,9 +46,6 @@ index-clear {x = x} I K cu ce size = record {
 }
 
 module _ {main supplementary w : List ℕ} {d : Places} {st : DeclaringState} (D : DeclaringIn main supplementary w d st) where
-  keys-above : d .spans + d .room ≤ d .tables .keys
-  keys-above = let a = D .main-units in let b = D .search-tables .main-units in omega arith
-
   table-below : st .table .base + extent (st .table) ≤ d .spans
   table-below = let a = D .table in let b = D .indices in omega arith
 
@@ -62,7 +59,7 @@ module _ {main supplementary w : List ℕ} {d : Places} {st : DeclaringState} (D
   unit-room DebugSource.Supplementary q h = D .room-supplementary q h
 
   pub spans-inside : d .spans + d .room ≤ length w
-  spans-inside = let a = D .main-units in let b = D .search-tables .main-index .units-within in omega arith
+  spans-inside = let a = D .keys in let b = D .search-tables .keys .room in omega arith
 
   pub map-inside : d .indices .base + d .indices .count * 5 ≤ length w
   map-inside = let a = D .indices in omega (arith, spans-inside)
@@ -72,16 +69,21 @@ module _ {main supplementary w : List ℕ} {d : Places} {st : DeclaringState} (D
     above : (p n : ℕ) → d .spans + d .room ≤ p → Clear p n (lower d (st .table))
     above p n h = let t = table-below in (inr (omega arith), (inr (omega arith), tt))
 
+    beside : (p n k : ℕ) → n ≡ k → Beside d (st .table) p n → Clear p k (lower d (st .table))
+    beside p n k e (inl h) = above p k h
+    beside p n k e (inr h) = let t = table-below in (inl (omega arith), (inl (omega arith), tt))
+
     pub lower-keys : keysAt w′ (keysFrom (d .tables)) (st .count) ≡ keysAt w (keysFrom (d .tables)) (st .count)
-    lower-keys = keys-clear (keysFrom (d .tables)) (st .count) K (above (keysFrom (d .tables)) (st .count * 13) (let a = keys-above in omega arith))
+    lower-keys = keys-clear (keysFrom (d .tables)) (st .count) K (above (keysFrom (d .tables)) (st .count * 13) (let a = D .keys in omega arith))
 
     lower-search : SearchIn main supplementary w′ (d .tables) (st .count)
     lower-search =
         let S = D .search-tables in
         record {
-          main-index = index-clear (S .main-index) K (above _ _ (D .main-units)) (above _ _ (D .main-entries)) size;
-          supplementary-index = index-clear (S .supplementary-index) K (above _ _ (D .supplementary-units)) (above _ _ (D .supplementary-entries)) size;
-          keys = record { distinct = rw lower-keys (S .keys .distinct); possible = rw lower-keys (S .keys .possible); chained = λ y. chained-clear (S .keys .chained y) K (above (d .tables .keys) _ keys-above); room = rw size (S .keys .room) };
+          main-index = index-clear (S .main-index) K (beside _ _ _ (omega arith) (D .main-units)) (beside _ _ _ (omega arith) (D .main-entries)) size;
+          supplementary-index = index-clear (S .supplementary-index) K (beside _ _ _ (omega arith) (D .supplementary-units))
+              (beside _ _ _ (omega arith) (D .supplementary-entries)) size;
+          keys = record { distinct = rw lower-keys (S .keys .distinct); possible = rw lower-keys (S .keys .possible); chained = λ y. chained-clear (S .keys .chained y) K (above (d .tables .keys) _ (D .keys)); room = rw size (S .keys .room) };
           main-units = S .main-units;
           main-entries = S .main-entries;
           supplementary-units = S .supplementary-units;
@@ -96,10 +98,11 @@ module _ {main supplementary w : List ℕ} {d : Places} {st : DeclaringState} (D
       warned = warned;
       table = rw (base, room) (D .table);
       indices = D .indices;
-      main-units = D .main-units;
-      main-entries = D .main-entries;
-      supplementary-units = D .supplementary-units;
-      supplementary-entries = D .supplementary-entries;
+      keys = D .keys;
+      main-units = rw base (D .main-units);
+      main-entries = rw base (D .main-entries);
+      supplementary-units = rw base (D .supplementary-units);
+      supplementary-entries = rw base (D .supplementary-entries);
       room-main = D .room-main;
       room-supplementary = D .room-supplementary;
     }
@@ -113,7 +116,7 @@ module _ {main supplementary w : List ℕ} {d : Places} {st : DeclaringState} (D
   searched-map K =
       let a = D .table in
       let b = D .indices in
-      let c = keys-above in
+      let c = D .keys in
       records-but indexOf 5 (d .indices .base) (d .indices .count) K (inr (omega arith), (inl (omega arith), (inl (omega arith), tt)))
 
   -- ---- a target is written down
@@ -129,7 +132,7 @@ module _ {main supplementary w : List ℕ} {d : Places} {st : DeclaringState} (D
       pushed-rest = but-of (push-kept (D .search-tables) possible new P) (there (there (here (omega arith) (omega arith))))
 
       table-clear : Clear (st .table .base) (extent (st .table)) ((d .tables .keys, chainCount (d .tables) * 4 + (st .count + 1) * 13) ∷ [])
-      table-clear = let t = table-below in let a = keys-above in (inl (omega arith), tt)
+      table-clear = let t = table-below in let a = D .keys in (inl (omega arith), tt)
 
       pub pushed-table : tableOf main supplementary w′ (st .table) ≡ tableOf main supplementary w (st .table)
       pushed-table = table-kept (D .files) (but-one (P .rest)) table-clear
@@ -144,6 +147,7 @@ module _ {main supplementary w : List ℕ} {d : Places} {st : DeclaringState} (D
         warned = D .warned;
         table = D .table;
         indices = D .indices;
+        keys = D .keys;
         main-units = D .main-units;
         main-entries = D .main-entries;
         supplementary-units = D .supplementary-units;

@@ -24,3 +24,4 @@ pub mod JoinLaws
 pub mod AimLaws
 pub mod ResolveLaws
 pub mod ReferencedLaws
+pub mod SectionLaws

@@ -22,7 +22,7 @@ abbrev bad : Attribute
 bad = attr 0x03 1 7
 
 abbrev entry : ℕ → List Attribute → Entry
-entry offset attributes = record { offset = offset; depth = 1; tag = 0x2e; attributes = attributes; ranges = []; failure = none }
+entry offset attributes = record { offset = offset; depth = 1; tag = 0x2e; attributes = attributes; ranges = []; failure = none; list = none }
 
 abbrev unit : ℕ → List Entry → CompilationUnit
 unit offset entries = record {
@@ -40,10 +40,11 @@ unit offset entries = record {
   files = [];
   rows = [];
   entries = entries;
+  lists = 0;
 }
 
 abbrev alone : List Entry → Dwarf
-alone entries = record { main = unit 0 entries ∷ []; supplementary = [] }
+alone entries = record { main = unit 0 entries ∷ []; supplementary = []; lists = []; addresses = [] }
 
 abbrev no-files : FileTable
 no-files = record { entries = []; first = 1 }
@@ -108,7 +109,7 @@ no-site-reads = refl
 
 -- no reference, and a supplementary sheet: the second bound is met
 lone : Dwarf
-lone = record { main = unit 0 (entry 1 [] ∷ []) ∷ []; supplementary = unit 0 (entry 1 [] ∷ []) ∷ [] }
+lone = record { main = unit 0 (entry 1 [] ∷ []) ∷ []; supplementary = unit 0 (entry 1 [] ∷ []) ∷ []; lists = []; addresses = [] }
 
 lone-reads : nameReads lone (unit 0 (entry 1 [] ∷ [])) (entry 1 []) ≡ 1 + 2 * (referenceAttributes (lone .main) + referenceAttributes (lone .supplementary))
 unfolding lone nameReads countedName countedReferencedName ownName attribute first follow referenceAttributes entryReferences filter _>>=_
@@ -119,7 +120,7 @@ abbrev start : Entry
 start = entry 1 (attr 0x31 6 1 ∷ [])
 
 abbrev into : List Entry → Dwarf
-into there = record { main = unit 20 (start ∷ []) ∷ []; supplementary = unit 0 there ∷ [] }
+into there = record { main = unit 20 (start ∷ []) ∷ []; supplementary = unit 0 there ∷ []; lists = []; addresses = [] }
 
 -- of two: 5 of 3 attributes, 2 below the second bound. No web of 2 or more attributes comes nearer: one stands in the main sheet and makes one target,
 -- and so does a section reference of the supplementary sheet, without which nothing there is followed as a main target too
@@ -176,13 +177,14 @@ failing = record {
   files = record { failed = true; directory = 0; path = [] } ∷ [];
   rows = [];
   entries = entry 3 [] ∷ [];
+  lists = 0;
 }
 
 abbrev reaching : Entry
 reaching = entry 1 (attr 0x47 5 23 ∷ [])
 
 abbrev files-refuse : Dwarf
-files-refuse = record { main = unit 0 (reaching ∷ []) ∷ failing ∷ []; supplementary = [] }
+files-refuse = record { main = unit 0 (reaching ∷ []) ∷ failing ∷ []; supplementary = []; lists = []; addresses = [] }
 
 files-refuse-reads : declarationReads files-refuse (unit 0 (reaching ∷ [])) reaching [] no-files [] ≡ 2
 unfolding declarationReads countedDeclaration countedReferencedDeclaration ownDeclaration fileIndexAttribute unsignedAttribute attribute first follow followAbsolute entryAt unitContaining unitsIn isVisited exists internHeaderFiles internFiles internFile fileEntry _>>=_

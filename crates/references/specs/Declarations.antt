@@ -1,6 +1,7 @@
 -- What the declaration search promises: the file and line, the files that join the table, the warnings. Assumes nothing.
 use Prim.Native.Nat.{ℕ, _+_, _*_, _≤_}
 use mathlib.Core.Path.{_≡_}
+use mathlib.Core.Logic.{_⊎_}
 use mathlib.Core.Bool.{Bool, true, cond}
 use mathlib.Core.List.{List, [], _∷_, _++_}
 use mathlib.Core.Option.{Option, none, some}
@@ -56,18 +57,23 @@ declaringAt main supplementary w d st ws reads = record {
   found = none;
 }
 
--- the file table stands below the imported unit's map, this below the spans of a unit's directories, these below the search's tables and its targets;
--- there is room for the directories of every unit, and for its map, which is written and not read
+-- the n bytes at p stand above the spans of a unit's directories, or below the file table t
+abbrev pub Beside : Places → StoredFiles → ℕ → ℕ → Type 0
+Beside d t p n = (d .spans + d .room ≤ p) ⊎ (p + n ≤ t .base)
+
+-- the file table stands below the imported unit's map, this below the spans of a unit's directories, these below the followed targets; the tables of both
+-- sheets stand beside them; there is room for the directories of every unit, and for its map, which is written and not read
 pub record DeclaringIn (main supplementary w : List ℕ) (d : Places) (st : DeclaringState) : Type 0 where
   pub search-tables : SearchIn main supplementary w (d .tables) (st .count)
   pub files : FilesIn main supplementary w (st .table)
   pub warned : st .warned ≤ top
   pub table : st .table .base + extent (st .table) ≤ d .indices .base
   pub indices : d .indices .base + d .indices .count * 5 ≤ d .spans
-  pub main-units : d .spans + d .room ≤ d .tables .main .units
-  pub main-entries : d .spans + d .room ≤ d .tables .main .entries
-  pub supplementary-units : d .spans + d .room ≤ d .tables .supplementary .units
-  pub supplementary-entries : d .spans + d .room ≤ d .tables .supplementary .entries
+  pub keys : d .spans + d .room ≤ d .tables .keys
+  pub main-units : Beside d (st .table) (d .tables .main .units) (24 * d .tables .main .«unit_count»)
+  pub main-entries : Beside d (st .table) (d .tables .main .entries) (16 * d .tables .main .«entry_count»)
+  pub supplementary-units : Beside d (st .table) (d .tables .supplementary .units) (24 * d .tables .supplementary .«unit_count»)
+  pub supplementary-entries : Beside d (st .table) (d .tables .supplementary .entries) (16 * d .tables .supplementary .«entry_count»)
   pub room-main : (q : ℕ) → Any (λ p. p ≡ q) (unitPlaces 0 (fields main))
       → 8 * length (unitHere main q .directories) + 5 * (1 + length (unitHere main q .files)) ≤ d .room
   pub room-supplementary : (q : ℕ) → Any (λ p. p ≡ q) (unitPlaces 0 (fields supplementary))

@@ -27,7 +27,7 @@ use Rattle.references.specs.Keys.{keysAt, keyIn, PossibleKey, KeysIn, ke
 
 -- the units of both sheets
 abbrev pub dwarfOf : List ℕ → List ℕ → Dwarf
-dwarfOf main supplementary = record { main = units main; supplementary = units supplementary }
+dwarfOf main supplementary = record { main = units main; supplementary = units supplementary; lists = []; addresses = [] }
 
 abbrev pub searchSource : DebugSource → Rattle.references.specs.Search.DebugSource
 searchSource DebugSource.Main = mainSource

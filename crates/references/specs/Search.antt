@@ -15,10 +15,13 @@ use Rattle.lines.specs.Files.{FileTable, FileIndices, Indexed, internHeaderFile
 
 -- ---- where a search looks
 
--- the units of the two sheets; no supplementary units where there is no supplementary sheet
+-- the units of the two sheets; no supplementary units where there is no supplementary sheet. And the sections that range lists are read from,
+-- which no search looks at
 pub record Dwarf : Type 0 where
   pub main : List CompilationUnit
   pub supplementary : List CompilationUnit
+  pub lists : List ℕ
+  pub addresses : List ℕ
 
 -- DebugSource
 pub data DebugSource : Type 0 where

@@ -187,10 +187,11 @@ module _ {s t w : List ℕ} {d : Places} {files : ℕ} (S : SearchesIn s t w d f
       warned = omega arith;
       table = omega (arith, S .table);
       indices = S .indices;
-      main-units = S .main-units;
-      main-entries = S .main-entries;
-      supplementary-units = S .supplementary-units;
-      supplementary-entries = S .supplementary-entries;
+      keys = omega (arith, S .main-units, S .search-tables .main-units);
+      main-units = inl (S .main-units);
+      main-entries = inl (S .main-entries);
+      supplementary-units = inl (S .supplementary-units);
+      supplementary-entries = inl (S .supplementary-entries);
       room-main = S .room-main;
       room-supplementary = S .room-supplementary;
     }

@@ -20,7 +20,7 @@ use Rattle.dies.specs.RangeTable.{rangesAt}
 use Rattle.dies.proofs.CallLaws.{warn-none}
 use Rattle.subprograms.specs.declared.model.ImportState.{ImportState}
 use Rattle.subprograms.specs.declared.model.ImportContext.{ImportContext}
-use Rattle.subprograms.specs.Contexts.{ContextIn, contextOf}
+use Rattle.subprograms.specs.Contexts.{ContextIn, contextWith}
 use Rattle.subprograms.specs.Steps.{Imports, Rejects, belowEntry, importOne}
 use Rattle.subprograms.proofs.StepLaws.{imports-as, imports-rejected}
 
@@ -44,35 +44,35 @@ module _ (q : import.ImportContext) (e : Entry) (below : List Entry) (name : Lis
 -- ---- what was done
 
 -- the tests were made on the unit's executable ranges
-module _ {main supplementary w : List ℕ} {q : ImportContext} {T : StoredFiles} (C : ContextIn main supplementary w q T) where
+module _ {main supplementary w : List ℕ} (lists addresses : List ℕ) {q : ImportContext} {T : StoredFiles} (C : ContextIn main supplementary w q T) where
   tombstone-is : {b v : Bool} (x : EntryRange) → b ≡ isTombstone (rangesAt w (q .text) (q .«text_count»)) x → b ≡ v
-      → isTombstone (contextOf main supplementary w q .unit .text) x ≡ v
+      → isTombstone (contextWith main supplementary lists addresses w q .unit .text) x ≡ v
   tombstone-is x is h = ap (λ ts. isTombstone ts x) (sym (C .text)) ∙ sym is ∙ h
 
   live-is : {b v : Bool} (x : AddressRange) → b ≡ isLiveRange (rangesAt w (q .text) (q .«text_count»)) x → b ≡ v
-      → isLiveRange (contextOf main supplementary w q .unit .text) x ≡ v
+      → isLiveRange (contextWith main supplementary lists addresses w q .unit .text) x ≡ v
   live-is x is h = ap (λ ts. isLiveRange ts x) (sym (C .text)) ∙ sym is ∙ h
 
-module _ {main supplementary w : List ℕ} {q : ImportContext} {st : ImportState} (name : List ℕ) (p : ℕ) (x : EntryRange)
+module _ {main supplementary w : List ℕ} (lists addresses : List ℕ) {q : ImportContext} {st : ImportState} (name : List ℕ) (p : ℕ) (x : EntryRange)
     (C : ContextIn main supplementary w q (st .table)) {b : Bool} (tomb : b ≡ isTombstone (rangesAt w (q .text) (q .«text_count»)) x) where
   pub candidate-tombstone : {t f u : List ℕ} {r : ImportState} → b ≡ true → st .status ≡ 0 → st .at ≤ top → st .warned ≤ top
       → length t < top → length f < top → length u < top → Rejects st (st .warned) r
-      → Imports (importOne (contextOf main supplementary w q) (entryHere main p) (belowEntry main p) name x) main supplementary q w t f u st w t f u r
+      → Imports (importOne (contextWith main supplementary lists addresses w q) (entryHere main p) (belowEntry main p) name x) main supplementary q w t f u st w t f u r
   candidate-tombstone h z fits warned kt kf ku R =
-      imports-as (λ s. one-tombstone (contextOf main supplementary w q) (entryHere main p) (belowEntry main p) name x s (tombstone-is C x tomb h))
+      imports-as (λ s. one-tombstone (contextWith main supplementary lists addresses w q) (entryHere main p) (belowEntry main p) name x s (tombstone-is lists addresses C x tomb h))
       (imports-rejected [] C z fits kt kf (warn-none warned ku) R)
 
   module _ (h : b ≡ false) {c : Bool} (live : c ≡ isLiveRange (rangesAt w (q .text) (q .«text_count»)) (x .range)) where
     pub candidate-live : {t f u w′ t′ f′ u′ : List ℕ} {r : ImportState} → c ≡ true
-        → Imports (importRange (contextOf main supplementary w q) (entryHere main p) (belowEntry main p) name (x .range)) main supplementary q w t f u st w′ t′ f′ u′ r
-        → Imports (importOne (contextOf main supplementary w q) (entryHere main p) (belowEntry main p) name x) main supplementary q w t f u st w′ t′ f′ u′ r
-    candidate-live k I = imports-as (λ s. one-live (contextOf main supplementary w q) (entryHere main p) (belowEntry main p) name x s (tombstone-is C x tomb h) (live-is C (x .range) live k)) I
+        → Imports (importRange (contextWith main supplementary lists addresses w q) (entryHere main p) (belowEntry main p) name (x .range)) main supplementary q w t f u st w′ t′ f′ u′ r
+        → Imports (importOne (contextWith main supplementary lists addresses w q) (entryHere main p) (belowEntry main p) name x) main supplementary q w t f u st w′ t′ f′ u′ r
+    candidate-live k I = imports-as (λ s. one-live (contextWith main supplementary lists addresses w q) (entryHere main p) (belowEntry main p) name x s (tombstone-is lists addresses C x tomb h) (live-is lists addresses C (x .range) live k)) I
 
     pub candidate-dead : {t f u u′ : List ℕ} {warned : ℕ} {r : ImportState} → c ≡ false → st .status ≡ 0 → st .at ≤ top → length t < top → length f < top
         → Put (st .warned) (encode 0x46 ((3 ∷ []) ++ bytesOf 8 (x .range .start) ++ bytesOf 8 (x .range .end))) u u′ warned → Rejects st warned r
-        → Imports (importOne (contextOf main supplementary w q) (entryHere main p) (belowEntry main p) name x) main supplementary q w t f u st w t f u′ r
+        → Imports (importOne (contextWith main supplementary lists addresses w q) (entryHere main p) (belowEntry main p) name x) main supplementary q w t f u st w t f u′ r
     unfolding kindNumber
     candidate-dead k z fits kt kf P R =
-        imports-as (λ s. one-dead (contextOf main supplementary w q) (entryHere main p) (belowEntry main p) name x s (tombstone-is C x tomb h) (live-is C (x .range) live k))
+        imports-as (λ s. one-dead (contextWith main supplementary lists addresses w q) (entryHere main p) (belowEntry main p) name x s (tombstone-is lists addresses C x tomb h) (live-is lists addresses C (x .range) live k))
         (imports-rejected (about rejectedRange (x .range .start) (x .range .end) ∷ []) C z fits kt kf
         (about-put rejectedRange 3 (x .range .start) (x .range .end) refl P) R)

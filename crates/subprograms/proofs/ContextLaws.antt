@@ -23,12 +23,12 @@ use Rattle.rows.specs.Sizes.{entrySize, lineSize, rangeSize}
 use Rattle.rows.specs.Stored.{lineOf, linesOf, rangeOf, rangesOf}
 use Rattle.collect.specs.Collects.{UnitIn, linesIn}
 use Rattle.references.specs.declared.tables.Index.{Index}
-use Rattle.references.specs.Names.{dwarfOf}
 use Rattle.references.specs.Tables.{IndexIn}
 use Rattle.references.proofs.KeyLaws.{keys-in-none}
+use Rattle.dies.specs.Details.{dwarfWith}
 use Rattle.dies.specs.RangeTable.{rangesAt}
 use Rattle.subprograms.specs.declared.model.ImportContext.{ImportContext}
-use Rattle.subprograms.specs.Contexts.{UnitOf, contextOf, Ordered, ContextIn, touched, walkExtent}
+use Rattle.subprograms.specs.Contexts.{UnitOf, contextWith, Ordered, ContextIn, touched, walkExtent}
 
 -- ---- a unit by its number stands among all
 
@@ -55,20 +55,17 @@ unit-of {s} {p} U = at-any p (U .number) (unitPlaces 0 (fields s)) (U .is)
 pub ordered-as : {main supplementary : List ℕ} {q : ImportContext} {t t′ : StoredFiles} → t′ .base ≡ t .base → t′ .room ≡ t .room
     → Ordered main supplementary q t → Ordered main supplementary q t′
 ordered-as b r O = record {
+  main-units = omega (arith, O .main-units);
+  main-entries = omega (arith, O .main-entries);
+  supplementary-units = omega (arith, O .supplementary-units);
+  supplementary-entries = omega (arith, O .supplementary-entries);
   table = omega (arith, O .table);
   indices = O .indices;
   lines = O .lines;
   sequences = O .sequences;
   buffer = O .buffer;
   text = O .text;
-  spans-main-units = O .spans-main-units;
-  spans-main-entries = O .spans-main-entries;
-  spans-supplementary-units = O .spans-supplementary-units;
-  spans-supplementary-entries = O .spans-supplementary-entries;
-  main-units = O .main-units;
-  main-entries = O .main-entries;
-  supplementary-units = O .supplementary-units;
-  supplementary-entries = O .supplementary-entries;
+  spans = O .spans;
   ranges = O .ranges;
   stack = O .stack;
   sites = O .sites;
@@ -83,7 +80,7 @@ module _ {main supplementary : List ℕ} {q : ImportContext} {t : StoredFiles} (
   below-rows : (p k : ℕ) → q .places .indices .base ≤ p → p + k ≤ q .lines .buffer → Clear p k (touched main supplementary q t)
   below-rows p k h g =
       let up : q .lines .buffer + (entrySize + q .lines .«line_count» * entrySize) ≤ q .places .spans = omega (arith, O .buffer, O .text) in
-      let far : q .places .spans ≤ q .ranges = omega (arith, O .spans-main-units, O .main-units) in
+      let far : q .places .spans ≤ q .ranges = omega (arith, O .spans) in
       (inr (omega (arith, O .table)), (inl g, (inl (omega arith), (inl (omega arith), tt))))
 
   -- the executable ranges
@@ -91,28 +88,29 @@ module _ {main supplementary : List ℕ} {q : ImportContext} {t : StoredFiles} (
       → Clear p k (touched main supplementary q t)
   below-spans p k h g =
       let down : t .base + extent t ≤ q .lines .buffer = omega (arith, O .table, O .indices, O .lines, O .sequences) in
-      let far : q .places .spans ≤ q .ranges = omega (arith, O .spans-main-units, O .main-units) in
+      let far : q .places .spans ≤ q .ranges = omega (arith, O .spans) in
       (inr (omega arith), (inr (omega arith), (inl g, (inl (omega arith), tt))))
 
   -- the units and entries of the inputs
-  below-walk : (p k : ℕ) → q .places .spans + q .places .room ≤ p → p + k ≤ q .ranges → Clear p k (touched main supplementary q t)
-  below-walk p k h g =
+  below-table : (p k : ℕ) → p + k ≤ t .base → Clear p k (touched main supplementary q t)
+  below-table p k h =
       let down : t .base + extent t ≤ q .lines .buffer = omega (arith, O .table, O .indices, O .lines, O .sequences) in
-      let up : q .lines .buffer + (entrySize + q .lines .«line_count» * entrySize) ≤ q .places .spans = omega (arith, O .buffer, O .text) in
-      (inr (omega arith), (inr (omega arith), (inr h, (inl g, tt))))
+      let up : q .lines .buffer ≤ q .places .spans = omega (arith, O .buffer, O .text) in
+      let far : q .places .spans ≤ q .ranges = omega (arith, O .spans) in
+      (inl h, (inl (omega arith), (inl (omega arith), (inl (omega arith), tt))))
 
 -- ---- what stays
 
 module _ {main supplementary w w′ : List ℕ} {q : ImportContext} {t : StoredFiles} (C : ContextIn main supplementary w q t)
     (K : KeptBut w w′ (touched main supplementary q t)) where
   -- an input's units and entries
-  index-same : {s : List ℕ} {x : Index} → q .places .spans + q .places .room ≤ x .units → q .places .spans + q .places .room ≤ x .entries
-      → x .units + 24 * x .«unit_count» ≤ q .ranges → x .entries + 16 * x .«entry_count» ≤ q .ranges → length w′ ≡ length w → IndexIn s w x → IndexIn s w′ x
-  index-same {s} {x} from-units from-entries to-units to-entries size I = record {
+  index-same : {s : List ℕ} {x : Index} → x .units + 24 * x .«unit_count» ≤ t .base → x .entries + 16 * x .«entry_count» ≤ t .base → length w′ ≡ length w
+      → IndexIn s w x → IndexIn s w′ x
+  index-same {s} {x} to-units to-entries size I = record {
     number = I .number;
     accepted = I .accepted;
-    units = records-but unitOf24 24 (x .units) (x .«unit_count») K (below-walk (C .ordered) _ _ from-units (omega arith)) ∙ I .units;
-    entries = records-but indexedOf 16 (x .entries) (x .«entry_count») K (below-walk (C .ordered) _ _ from-entries (omega arith)) ∙ I .entries;
+    units = records-but unitOf24 24 (x .units) (x .«unit_count») K (below-table (C .ordered) _ _ (omega arith)) ∙ I .units;
+    entries = records-but indexedOf 16 (x .entries) (x .«entry_count») K (below-table (C .ordered) _ _ (omega arith)) ∙ I .entries;
     units-within = rw size (I .units-within);
     entries-within = rw size (I .entries-within);
   }
@@ -150,9 +148,8 @@ module _ {main supplementary w w′ : List ℕ} {q : ImportContext} {t : StoredF
       record {
         unit = C .unit;
         tables = record {
-          main-index = index-same (O .spans-main-units) (O .spans-main-entries) (O .main-units) (O .main-entries) size (S .main-index);
-          supplementary-index =
-              index-same (O .spans-supplementary-units) (O .spans-supplementary-entries) (O .supplementary-units) (O .supplementary-entries) size (S .supplementary-index);
+          main-index = index-same (O .main-units) (O .main-entries) size (S .main-index);
+          supplementary-index = index-same (O .supplementary-units) (O .supplementary-entries) size (S .supplementary-index);
           keys = keys-in-none (rw size (S .keys .room));
           main-units = S .main-units;
           main-entries = S .main-entries;
@@ -168,6 +165,8 @@ module _ {main supplementary w w′ : List ℕ} {q : ImportContext} {t : StoredF
         text = text-same ∙ C .text;
         files = F;
         ordered = ordered-as b r O;
+        third = C .third;
+        listless = C .listless;
       }
 
   lines-in-same : linesIn w′ (q .lines) (q .places .indices) ≡ linesIn w (q .lines) (q .places .indices)
@@ -175,9 +174,9 @@ module _ {main supplementary w w′ : List ℕ} {q : ImportContext} {t : StoredF
   lines-in-same = λ i. record { entries = lines-same i; files = map-same i; sequences = sequences-same i }
 
   -- and so does the definition's context
-  pub context-same : contextOf main supplementary w′ q ≡ contextOf main supplementary w q
-  context-same = λ i. record {
-    dwarf = dwarfOf main supplementary;
+  pub context-same : (lists addresses : List ℕ) → contextWith main supplementary lists addresses w′ q ≡ contextWith main supplementary lists addresses w q
+  context-same lists addresses = λ i. record {
+    dwarf = dwarfWith main supplementary lists addresses;
     unit = unitHere main (q .unit);
     lines = lines-in-same i;
     includeInlines = q .«include_inlines»;

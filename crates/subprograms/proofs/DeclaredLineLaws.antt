@@ -1,7 +1,9 @@
 -- The declaration of a subprogram as its only row: what the search is given, and what its answers make of the rows. Assumes nothing.
 use mathlib.Core.Path.{_≡_, refl, sym, ap, _∙_}
+use mathlib.Core.Logic.{inr}
 use mathlib.Core.List.{List, [], _∷_, append-nil}
-use Prim.Native.Nat.{ℕ, _≤_, _<_}
+use mathlib.Core.Bool.{Bool, _||_}
+use Prim.Native.Nat.{ℕ, _*_, _≤_, _<_}
 use native.Mathlib.Omega.{arith}
 use lib.ListN.{length}
 use Rattle.tlv.specs.declared.model.FileIndex.{FileIndex}
@@ -26,11 +28,14 @@ use Rattle.references.specs.Declarations.{declaringAt, DeclaringIn, Declares, s
 use Rattle.references.proofs.Refusals.{refuses-declaration-line}
 use Rattle.references.proofs.ResolveLaws.{declaration-line}
 use Rattle.imports.specs.Import.{linesWith}
+use Rattle.dies.specs.Past.{isPast}
+use Rattle.dies.proofs.PastLaws.{past-same}
 use Rattle.subprograms.specs.declared.model.ImportContext.{ImportContext}
 use Rattle.subprograms.specs.declared.model.ImportState.{ImportState}
 use Rattle.subprograms.specs.declared.functions.FoundLines.{FoundLines}
 use Rattle.subprograms.specs.Contexts.{ContextIn, contextOf, touched}
 use Rattle.subprograms.specs.Steps.{FunctionLines, declaredLine, FindsLines}
+use Rattle.subprograms.proofs.LaidPastLaws.{lines-length}
 
 -- where the search starts: no target is followed yet
 abbrev pub declaringFrom : ImportState → DeclaringState
@@ -56,10 +61,11 @@ module _ {main supplementary w : List ℕ} {q : ImportContext} (st : ImportState
         warned = h;
         table = o .table;
         indices = omega (arith, o .indices, o .lines, o .sequences, o .buffer, o .text);
-        main-units = o .spans-main-units;
-        main-entries = o .spans-main-entries;
-        supplementary-units = o .spans-supplementary-units;
-        supplementary-entries = o .spans-supplementary-entries;
+        keys = omega (arith, o .spans, o .ranges, o .stack, o .sites);
+        main-units = inr (o .main-units);
+        main-entries = inr (o .main-entries);
+        supplementary-units = inr (o .supplementary-units);
+        supplementary-entries = inr (o .supplementary-entries);
         room-main = o .room-main;
         room-supplementary = o .room-supplementary;
       }
@@ -105,6 +111,7 @@ module _ {main supplementary w : List ℕ} {q : ImportContext} (st : ImportState
               new = [];
               count = λ z. absurd (not-done z);
               laid = λ z. absurd (not-done z);
+              past = λ z. absurd (not-done z);
               warned = λ z. absurd (not-done z);
               grown = λ z. absurd (not-done z);
               kept = λ z. absurd (not-done z);
@@ -114,7 +121,7 @@ module _ {main supplementary w : List ℕ} {q : ImportContext} (st : ImportState
 
         pub finds-nothing : {st′ : DeclaringState} {t : List ℕ} → d ≡ Declared.Missing st′ → st .at ≤ top → length t < top
             → FindsLines (declaredLine (contextOf main supplementary w q) (entryHere main p) start) main supplementary q w t f u st w′ t f′ u′
-            (record { table = st′ .table; at = st .at; warned = st′ .warned; count = 0; status = 0 })
+            (record { table = st′ .table; at = st .at; warned = st′ .warned; count = 0; status = 0; past = st .past })
         unfolding _>>=_ eachOf
         finds-nothing {st′} e h small =
             let D : Searches main supplementary q st p w w′ f f′ u u′ (Declared.Missing st′) = rw e at S in
@@ -123,6 +130,7 @@ module _ {main supplementary w : List ℕ} {q : ImportContext} (st : ImportState
               new = D .new;
               count = λ z. refl;
               laid = λ z. put-none h small;
+              past = λ z. past-same (st .past) (st .at) h;
               warned = λ z. D .after .put;
               grown = λ z. D .after .grown;
               kept = λ z. searched-touched (D .rest);
@@ -130,12 +138,13 @@ module _ {main supplementary w : List ℕ} {q : ImportContext} (st : ImportState
               no = λ n. absurd (n refl);
             }
 
-        pub finds-line : {st′ : DeclaringState} {file : FileIndex} {line a : ℕ} {t t′ : List ℕ} → d ≡ Declared.Found st′ file line
+        pub finds-line : {st′ : DeclaringState} {file : FileIndex} {line a : ℕ} {b : Bool} {t t′ : List ℕ} → d ≡ Declared.Found st′ file line
+            → b ≡ isPast (st .at) (21 * 1)
             → Put (st .at) (encode 0x42 (rowPayload (record { address = start; file = file; line = line; column = 0 }))) t t′ a
             → FindsLines (declaredLine (contextOf main supplementary w q) (entryHere main p) start) main supplementary q w t f u st w′ t′ f′ u′
-            (record { table = st′ .table; at = a; warned = st′ .warned; count = 1; status = 0 })
+            (record { table = st′ .table; at = a; warned = st′ .warned; count = 1; status = 0; past = st .past || b })
         unfolding _>>=_ eachOf
-        finds-line {st′} {file} {line} e P =
+        finds-line {st′} {file} {line} e B P =
             let D : Searches main supplementary q st p w w′ f f′ u u′ (Declared.Found st′ file line) = rw e at S in
             record {
               rows = record { address = start; file = file; line = line; column = 0 } ∷ [];
@@ -143,6 +152,8 @@ module _ {main supplementary w : List ℕ} {q : ImportContext} (st : ImportState
               count = λ z. refl;
               laid = λ z. put-as (append-nil (encode 0x42 (rowPayload (record { address = start; file = file; line = line; column = 0 })))) P;
               warned = λ z. D .after .put;
+              past = λ z. ap (λ (y : Bool). st .past || y)
+                  (B ∙ ap (isPast (st .at)) (sym (lines-length (record { address = start; file = file; line = line; column = 0 } ∷ []))));
               grown = λ z. D .after .grown;
               kept = λ z. searched-touched (D .rest);
               ok = λ z ws. goes ws (D .is 1 ws);

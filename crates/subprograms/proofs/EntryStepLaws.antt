@@ -12,7 +12,7 @@ use Rattle.tlv.specs.Lists.{All, isEmpty, at, mapOption}
 use Rattle.tlv.specs.Bytes.{Bytes, leAt}
 use Rattle.tlv.specs.Buffer.{top}
 use Rattle.tlv.specs.Table.{Kept, KeptBut}
-use Rattle.tlv.specs.Model.{Entry, units, dieRanges}
+use Rattle.tlv.specs.Model.{Entry, units}
 use Rattle.tlv.specs.Accepted.{EntryAccepted, UnitAccepted}
 use Rattle.tlv.specs.Places.{entryHere, unitHere}
 use Rattle.tlv.proofs.ListLaws.{any-one, all-at, given-some}
@@ -26,17 +26,20 @@ use Rattle.references.specs.Search.{resolveName}
 use Rattle.references.specs.Keys.{keysExtent}
 use Rattle.references.specs.Tables.{EntryKnown}
 use Rattle.references.specs.Names.{dwarfOf, Resolved, foundName}
+use Rattle.references.proofs.SectionLaws.{name-same}
 use Rattle.references.proofs.NameBounds.{DwarfAccepted, name-string}
 use Rattle.references.proofs.TargetLaws.{known-entry}
+use Rattle.imports.specs.Tree.{dieRanges}
 use Rattle.imports.specs.Import.{State, importSubprogram, importByFailure}
 use Rattle.imports.specs.Import as import
+use Rattle.dies.specs.Details.{dwarfWith}
 use Rattle.dies.specs.DetailState.{Accepted}
 use Rattle.dies.proofs.CallLaws.{entry-tag-here}
 use Rattle.dies.proofs.SiteStepLaws.{given-refused, given-done}
 use Rattle.subprograms.specs.declared.model.ImportState.{ImportState}
 use Rattle.subprograms.specs.declared.model.ImportContext.{ImportContext}
 use Rattle.references.specs.declared.names.FoundName.{FoundName}
-use Rattle.subprograms.specs.Contexts.{ContextIn, contextOf, touched, walkExtent}
+use Rattle.subprograms.specs.Contexts.{ContextIn, contextWith, touched, walkExtent}
 use Rattle.subprograms.specs.Steps.{Imports, importEntry, belowEntry}
 use Rattle.subprograms.proofs.ContextLaws.{context-kept, context-same, touched-walk}
 use Rattle.subprograms.proofs.StepLaws.{imports-none, imports-then, imports-as}
@@ -66,7 +69,7 @@ module _ (x : import.ImportContext) (e : Entry) (below : List Entry) (s : State)
       unfolding importEntry importSubprogram _>>=_
       entry-nameless n = rw (eq-eqb (e .tag) 0x2e is, h, n)
 
-      entry-named : isEmpty name ≡ false → importEntry x e below s ≡ (done s >>= importByFailure x e below name (dieRanges e .failure))
+      entry-named : isEmpty name ≡ false → importEntry x e below s ≡ (done s >>= importByFailure x e below name (dieRanges (x .dwarf) e .failure))
       unfolding importEntry importSubprogram _>>=_
       entry-named n = rw (eq-eqb (e .tag) 0x2e is, h, n)
 
@@ -114,7 +117,7 @@ module _ {main supplementary w w₁ : List ℕ} {q : ImportContext} {table : Sto
   table-below : table .base + extent table ≤ q .places .tables .keys
   table-below =
       let O = C .ordered in
-      omega (arith, O .table, O .indices, O .lines, O .sequences, O .buffer, O .text, O .spans-main-units, O .main-units, O .ranges, O .stack, O .sites)
+      omega (arith, O .table, O .indices, O .lines, O .sequences, O .buffer, O .text, O .spans, O .ranges, O .stack, O .sites)
 
   same-table : tableOf main supplementary w₁ table ≡ tableOf main supplementary w table
   same-table = table-kept (C .files) (but-one R) (inl table-below, tt)
@@ -127,28 +130,33 @@ module _ {main supplementary w w₁ : List ℕ} {q : ImportContext} {table : Sto
 
 -- ---- the step
 
-module _ {main supplementary w : List ℕ} {q : ImportContext} {p : ℕ} (st : ImportState) (C : ContextIn main supplementary w q (st .table)) (K : EntryKnown main (q .unit) p) where
+module _ {main supplementary w : List ℕ} (lists addresses : List ℕ) {q : ImportContext} {p : ℕ} (st : ImportState) (C : ContextIn main supplementary w q (st .table)) (K : EntryKnown main (q .unit) p) where
   -- another entry than a subprogram
   pub entry-passed : {t f u : List ℕ} → (leAt 2 main (p + 13) ≡ 0x2e → ⊥) → st .status ≡ 0 → st .at ≤ top → st .warned ≤ top → length t < top → length f < top → length u < top
-      → Imports (importEntry (contextOf main supplementary w q) (entryHere main p) (belowEntry main p)) main supplementary q w t f u st w t f u st
+      → Imports (importEntry (contextWith main supplementary lists addresses w q) (entryHere main p) (belowEntry main p)) main supplementary q w t f u st w t f u st
   entry-passed h ok at warned small tiny few =
-      imports-as (λ s. entry-other (contextOf main supplementary w q) (entryHere main p) (belowEntry main p) s (λ e. h (sym (tag-is C K) ∙ e)))
+      imports-as (λ s. entry-other (contextWith main supplementary lists addresses w q) (entryHere main p) (belowEntry main p) s (λ e. h (sym (tag-is C K) ∙ e)))
       (imports-none C (but-refl w _) refl (C .files) ok at warned small tiny few)
 
   module _ (is : leAt 2 main (p + 13) ≡ 0x2e) {w₁ name : List ℕ} {st′ : ℕ}
       (R : Resolved main supplementary (q .places .tables) w w₁ (resolveName (dwarfOf main supplementary) (unitHere main (q .unit)) (entryHere main p)) st′ name) where
+    same-name : resolveName (dwarfWith main supplementary lists addresses) (unitHere main (q .unit)) (entryHere main p)
+        ≡ resolveName (dwarfOf main supplementary) (unitHere main (q .unit)) (entryHere main p)
+    same-name = name-same lists addresses (dwarfOf main supplementary) (unitHere main (q .unit)) (entryHere main p)
+
     pub name-refused : {t f u : List ℕ} → (st′ ≡ 0 → ⊥)
-        → Imports (importEntry (contextOf main supplementary w q) (entryHere main p) (belowEntry main p)) main supplementary q w t f u st w₁ t f u
-        (record { table = st .table; at = st .at; warned = st .warned; stats = st .stats; status = st′ })
+        → Imports (importEntry (contextWith main supplementary lists addresses w q) (entryHere main p) (belowEntry main p)) main supplementary q w t f u st w₁ t f u
+        (record { table = st .table; at = st .at; warned = st .warned; stats = st .stats; status = st′; past = st .past })
     name-refused h = record {
       records = [];
       new = [];
       laid = λ z. absurd (h z);
+      past = λ z. absurd (h z);
       warned = λ z. absurd (h z);
       grown = λ z. absurd (h z);
       kept = λ z. absurd (h z);
       ok = λ z. absurd (h z);
-      no = λ z rs ws. entry-refused (contextOf main supplementary w q) (entryHere main p) (belowEntry main p) _ (tag-is C K ∙ is) (given-refused st′ name (R .is) h);
+      no = λ z rs ws. entry-refused (contextWith main supplementary lists addresses w q) (entryHere main p) (belowEntry main p) _ (tag-is C K ∙ is) (same-name ∙ given-refused st′ name (R .is) h);
     }
 
     module _ (size : length w₁ ≡ length w) (z : st′ ≡ 0) {found : FoundName} (ef : found ≡ foundName name) {t f u : List ℕ}
@@ -157,17 +165,17 @@ module _ {main supplementary w : List ℕ} {q : ImportContext} {p : ℕ} (st : I
       searched = imports-none C (walk-written C (R .rest)) (same-table C (R .rest)) (files-after C (R .rest) size) ok at warned small tiny few
 
       pub name-empty : found ≡ FoundName.Missing
-          → Imports (importEntry (contextOf main supplementary w q) (entryHere main p) (belowEntry main p)) main supplementary q w t f u st w₁ t f u st
+          → Imports (importEntry (contextWith main supplementary lists addresses w q) (entryHere main p) (belowEntry main p)) main supplementary q w t f u st w₁ t f u st
       name-empty e =
-          imports-as (λ s. entry-nameless (contextOf main supplementary w q) (entryHere main p) (belowEntry main p) s (tag-is C K ∙ is) (given-done st′ name (R .is) z) (name-missing name found ef e))
+          imports-as (λ s. entry-nameless (contextWith main supplementary lists addresses w q) (entryHere main p) (belowEntry main p) s (tag-is C K ∙ is) (same-name ∙ given-done st′ name (R .is) z) (name-missing name found ef e))
           searched
 
       pub name-given : {k : ℕ} → found ≡ FoundName.Found k → {w₂ t₂ f₂ u₂ : List ℕ} {r : ImportState}
-          → Imports (importByFailure (contextOf main supplementary w₁ q) (entryHere main p) (belowEntry main p) name (dieRanges (entryHere main p) .failure)) main supplementary q w₁ t f u st w₂ t₂ f₂ u₂ r
-          → Imports (importEntry (contextOf main supplementary w q) (entryHere main p) (belowEntry main p)) main supplementary q w t f u st w₂ t₂ f₂ u₂ r
+          → Imports (importByFailure (contextWith main supplementary lists addresses w₁ q) (entryHere main p) (belowEntry main p) name (dieRanges (dwarfWith main supplementary lists addresses) (entryHere main p) .failure)) main supplementary q w₁ t f u st w₂ t₂ f₂ u₂ r
+          → Imports (importEntry (contextWith main supplementary lists addresses w q) (entryHere main p) (belowEntry main p)) main supplementary q w t f u st w₂ t₂ f₂ u₂ r
       name-given {k} e I =
           imports-as
-          (λ s. entry-named (contextOf main supplementary w q) (entryHere main p) (belowEntry main p) s (tag-is C K ∙ is) (given-done st′ name (R .is) z) (name-found name found k ef e)
-          ∙ ap (λ (x : import.ImportContext). done s >>= importByFailure x (entryHere main p) (belowEntry main p) name (dieRanges (entryHere main p) .failure))
-          (sym (context-same C (walk-written C (R .rest)))))
+          (λ s. entry-named (contextWith main supplementary lists addresses w q) (entryHere main p) (belowEntry main p) s (tag-is C K ∙ is) (same-name ∙ given-done st′ name (R .is) z) (name-found name found k ef e)
+          ∙ ap (λ (x : import.ImportContext). done s >>= importByFailure x (entryHere main p) (belowEntry main p) name (dieRanges (dwarfWith main supplementary lists addresses) (entryHere main p) .failure))
+          (sym (context-same C (walk-written C (R .rest)) lists addresses)))
           (imports-then ok searched I)

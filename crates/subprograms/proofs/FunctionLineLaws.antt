@@ -1,7 +1,7 @@
 -- The rows of a record: how they are laid, and its own rows or its declaration after the warning of its sequence. Assumes nothing.
 use mathlib.Core.Path.{_≡_, refl, sym, ap, _∙_}
 use mathlib.Core.Logic.{inl}
-use mathlib.Core.Bool.{Bool, cond, not, _&&_}
+use mathlib.Core.Bool.{Bool, cond, not, _&&_, _||_}
 use mathlib.Core.List.{List, [], _∷_, _++_, append-assoc}
 use mathlib.Core.Option.{Option, none, some}
 use Prim.Native.Nat.{ℕ, _+_, _*_, _≤_, _<_}
@@ -37,6 +37,7 @@ use Rattle.references.specs.Search.{Declaring, resolveDeclarationLine}
 use Rattle.imports.specs.Import as import
 use Rattle.imports.specs.Import.{statementSequenceOffset, sequenceWarning, declarationIf, linesWith}
 use Rattle.dies.specs.declared.dies.Warned.{Warned}
+use Rattle.dies.specs.Past.{isPast}
 use Rattle.dies.proofs.NodeStepLaws.{warnings-append}
 use Rattle.subprograms.specs.declared.model.ConversionStats.{ConversionStats}
 use Rattle.subprograms.specs.declared.model.ImportContext.{ImportContext}
@@ -45,6 +46,7 @@ use Rattle.subprograms.specs.declared.functions.FoundLines.{FoundLines}
 use Rattle.subprograms.specs.Contexts.{ContextIn, contextOf, touched}
 use Rattle.subprograms.specs.Steps.{linesBytes, FunctionLines, declaredLine, functionLines, SequenceWarned, FindsLines}
 use Rattle.subprograms.proofs.ContextLaws.{context-kept, context-same, touched-rows}
+use Rattle.subprograms.proofs.LaidPastLaws.{lines-length}
 
 -- ---- laid into an output buffer
 
@@ -159,6 +161,7 @@ module _ {main supplementary w w₁ u u₁ : List ℕ} {q : ImportContext} (st :
         new = [];
         count = λ z. absurd (not-done z);
         laid = λ z. absurd (not-done z);
+        past = λ z. absurd (not-done z);
         warned = λ z. absurd (not-done z);
         grown = λ z. absurd (not-done z);
         kept = λ z. absurd (not-done z);
@@ -196,10 +199,11 @@ module _ {main supplementary w w₁ u u₁ : List ℕ} {q : ImportContext} (st :
     from ws k = from-is (contextOf main supplementary w q) (entryHere main p) range (tableOf main supplementary w (st .table)) ws (warns-as ∙ W .ok warned) (rows-are ∙ k)
 
     -- the function's own rows
-    pub finds-own : {t t′ f : List ℕ} {a : ℕ} → (own .count ≡ 0 → ⊥) → length f < top → Put (st .at) (linesBytes (entriesOf w₁ (own .rows) (own .count))) t t′ a
+    pub finds-own : {t t′ f : List ℕ} {a : ℕ} {b : Bool} → (own .count ≡ 0 → ⊥) → length f < top → b ≡ isPast (st .at) (21 * own .count)
+        → Put (st .at) (linesBytes (entriesOf w₁ (own .rows) (own .count))) t t′ a
         → FindsLines (functionLines (contextOf main supplementary w q) (entryHere main p) range) main supplementary q w t f u st w₁ t′ f u₁
-        (record { table = st .table; at = a; warned = x .at; count = own .count; status = 0 })
-    finds-own some-rows small P =
+        (record { table = st .table; at = a; warned = x .at; count = own .count; status = 0; past = st .past || b })
+    finds-own some-rows small B P =
         let rows = entriesOf w₁ (own .rows) (own .count) in
         let long : length rows ≡ own .count = entries-length w₁ (own .rows) (own .count) in
         record {
@@ -207,6 +211,7 @@ module _ {main supplementary w w₁ u u₁ : List ℕ} {q : ImportContext} (st :
           new = W .new;
           count = λ z. sym long;
           laid = λ z. P;
+          past = λ z. ap (λ (y : Bool). st .past || y) (B ∙ ap (isPast (st .at)) (sym (lines-length rows ∙ ap (λ (n : ℕ). 21 * n) long)));
           warned = λ z. W .laid warned;
           grown = λ z. grown-kept (grown-none (C .files) small) written apart size;
           kept = λ z. rows-touched;
@@ -219,7 +224,7 @@ module _ {main supplementary w w₁ u u₁ : List ℕ} {q : ImportContext} (st :
     -- the declaration, where it has none
     pub finds-declared : {stats : ConversionStats} {t f w₂ t₂ f₂ u₂ : List ℕ} {r : FoundLines} → own .count ≡ 0
         → FindsLines (declaredLine (contextOf main supplementary w₁ q) (entryHere main p) (range .start)) main supplementary q w₁ t f u₁
-        (record { table = st .table; at = st .at; warned = x .at; stats = stats; status = 0 }) w₂ t₂ f₂ u₂ r
+        (record { table = st .table; at = st .at; warned = x .at; stats = stats; status = 0; past = st .past }) w₂ t₂ f₂ u₂ r
         → FindsLines (functionLines (contextOf main supplementary w q) (entryHere main p) range) main supplementary q w t f u st w₂ t₂ f₂ u₂ r
     finds-declared {w₂ = w₂} {r = r} no-rows D =
         let none-own : entriesOf w₁ (own .rows) (own .count) ≡ [] = ap (entriesOf w₁ (own .rows)) no-rows ∙ entries-nil w₁ (own .rows) in
@@ -227,12 +232,13 @@ module _ {main supplementary w w₁ u u₁ : List ℕ} {q : ImportContext} (st :
         ≡ declaredLine (contextOf main supplementary w₁ q) (entryHere main p) (range .start) (tableOf main supplementary w₁ (st .table)) (ws ++ W .new) =
         λ ws. from ws none-own
         ∙ from-declared (contextOf main supplementary w q) (entryHere main p) range (tableOf main supplementary w (st .table)) ws (W .new)
-        ∙ (λ i. declaredLine (sym (context-same C rows-touched) i) (entryHere main p) (range .start) (sym same-table i) (ws ++ W .new)) in
+        ∙ (λ i. declaredLine (sym (context-same C rows-touched [] []) i) (entryHere main p) (range .start) (sym same-table i) (ws ++ W .new)) in
         record {
           rows = D .rows;
           new = W .new ++ D .new;
           count = D .count;
           laid = D .laid;
+          past = D .past;
           warned = λ z. put-as (warnings-append (W .new) (D .new)) (W .laid warned then D .warned z);
           grown = λ z. grown-after (C .files) written apart (D .grown z);
           kept = λ z. but-trans rows-touched (D .kept z);

@@ -1,4 +1,6 @@
 pub mod ContextLaws
+pub mod LaidPastLaws
+pub mod SectionStepLaws
 pub mod StepLaws
 pub mod SequenceLaws
 pub mod DeclaredLineLaws
@@ -8,6 +10,7 @@ pub mod DetailStepLaws
 pub mod RangeStepLaws
 pub mod CandidateLaws
 pub mod RangesLaws
+pub mod ListStepLaws
 pub mod EntryStepLaws
 pub mod UnitLaws
 pub mod TextLaws

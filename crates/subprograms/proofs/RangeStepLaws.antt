@@ -2,7 +2,8 @@
 use mathlib.Core.Path.{_≡_, refl, ap, sym, _∙_}
 use mathlib.Core.Logic.{inl}
 use mathlib.Core.List.{List, [], _∷_, _++_, append-nil, append-assoc}
-use Prim.Native.Nat.{ℕ, _≤_}
+use mathlib.Core.Bool.{Bool, _||_}
+use Prim.Native.Nat.{ℕ, _+_, _≤_}
 use native.Mathlib.Omega.{arith}
 use lib.ListN.{length}
 use Rattle.tlv.specs.declared.model.AddressRange.{AddressRange}
@@ -23,14 +24,16 @@ use Rattle.references.proofs.DeclareLaws.{warnings-append}
 use Rattle.imports.specs.Tree.{Descendants, extractSubprogramDetails}
 use Rattle.imports.specs.Import.{State, ConversionStats, ImportContext, rooted, detailContext, addFunction, importRange}
 use Rattle.dies.specs.Details.{detailBytes}
+use Rattle.dies.specs.Past.{isPast}
 use Rattle.subprograms.specs.declared.functions.FoundLines.{FoundLines}
 use Rattle.subprograms.specs.declared.model.ConversionStats.{ConversionStats as Stats}
 use Rattle.subprograms.specs.declared.model.ImportContext.{ImportContext as Context}
 use Rattle.subprograms.specs.declared.model.ImportState.{ImportState}
 use Rattle.subprograms.specs.Stats.{statsOf, withFunction}
-use Rattle.subprograms.specs.Contexts.{contextOf, ContextIn, walkExtent}
+use Rattle.subprograms.specs.Contexts.{contextWith, ContextIn, walkExtent}
 use Rattle.subprograms.specs.Steps.{FunctionLines, functionLines, linesBytes, FindsLines, ImportsDetails, Imports, stateOf, belowEntry}
 use Rattle.subprograms.proofs.ContextLaws.{context-kept, context-same, touched-walk}
+use Rattle.subprograms.proofs.LaidPastLaws.{head-length, past-both}
 
 -- ---- the definition, by its two parts
 
@@ -79,12 +82,13 @@ record-bytes name r rows x =
 
 -- the state after the rows
 abbrev linedState : FoundLines → Stats → ImportState
-linedState l stats = record { table = l .table; at = l .at; warned = l .warned; stats = stats; status = l .status }
+linedState l stats = record { table = l .table; at = l .at; warned = l .warned; stats = stats; status = l .status; past = l .past }
 
-module _ {main supplementary w w₁ : List ℕ} {q : Context} {t₁ t₂ f f₁ u u₁ : List ℕ} (st : ImportState) (p : ℕ) (r : AddressRange) {headed : ℕ} {l : FoundLines}
+module _ {main supplementary w w₁ : List ℕ} (lists addresses : List ℕ) {q : Context} {t₁ t₂ f f₁ u u₁ : List ℕ} (st : ImportState) (p : ℕ) (r : AddressRange) (name : List ℕ) {headed : ℕ} {over : Bool} {l : FoundLines}
+    (B : over ≡ isPast (st .at) (19 + length name))
     (C : ContextIn main supplementary w q (st .table))
-    (L : FindsLines (functionLines (contextOf main supplementary w q) (entryHere main p) r) main supplementary q
-    w t₁ f u (record { table = st .table; at = headed; warned = st .warned; stats = st .stats; status = 0 }) w₁ t₂ f₁ u₁ l) where
+    (L : FindsLines (functionLines (contextWith main supplementary lists addresses w q) (entryHere main p) r) main supplementary q
+    w t₁ f u (record { table = st .table; at = headed; warned = st .warned; stats = st .stats; status = 0; past = st .past || over }) w₁ t₂ f₁ u₁ l) where
   -- the tables stand for the walk
   pub lined-context : l .status ≡ 0 → length w₁ ≡ length w → ContextIn main supplementary w₁ q (l .table)
   lined-context z size = let G = L .grown z in context-kept C (L .kept z) size (G .base) (G .room) (G .holds)
@@ -92,49 +96,50 @@ module _ {main supplementary w w₁ : List ℕ} {q : Context} {t₁ t₂ f f₁ 
   pub lined-at : l .status ≡ 0 → (l .at ≤ top) × (l .warned ≤ top)
   lined-at z = (omega (arith, L .laid z .place), omega (arith, L .warned z .place))
 
-  module _ (name : List ℕ) {t : List ℕ} (H : Put (st .at) (encode 0x41 (functionPayload r name)) t t₁ headed) where
+  module _ {t : List ℕ} (H : Put (st .at) (encode 0x41 (functionPayload r name)) t t₁ headed) where
     -- the rows are refused
-    pub range-unlined : (l .status ≡ 0 → ⊥) → Imports (importRange (contextOf main supplementary w q) (entryHere main p) (belowEntry main p) name r) main supplementary q w t f u st w₁ t₂ f₁ u₁ (linedState l (st .stats))
+    pub range-unlined : (l .status ≡ 0 → ⊥) → Imports (importRange (contextWith main supplementary lists addresses w q) (entryHere main p) (belowEntry main p) name r) main supplementary q w t f u st w₁ t₂ f₁ u₁ (linedState l (st .stats))
     unfolding _>>=_
     range-unlined z = record {
       records = [];
       new = [];
       laid = λ k. absurd (z k);
+      past = λ k. absurd (z k);
       warned = λ k. absurd (z k);
       grown = λ k. absurd (z k);
       kept = λ k. absurd (z k);
       ok = λ k rs ws. absurd (z k);
       no = λ k rs ws.
           let s = stateOf main supplementary w st rs ws in
-          range-parts (contextOf main supplementary w q) (entryHere main p) (belowEntry main p) name r s
-          ∙ ap (λ (o : Outcome FunctionLines). o >>= rangeThen (contextOf main supplementary w q) (belowEntry main p) name r s) (L .no z ws);
+          range-parts (contextWith main supplementary lists addresses w q) (entryHere main p) (belowEntry main p) name r s
+          ∙ ap (λ (o : Outcome FunctionLines). o >>= rangeThen (contextWith main supplementary lists addresses w q) (belowEntry main p) name r s) (L .no z ws);
     }
 
     module _ {w₂ t₃ u₂ : List ℕ} {r′ : ImportState} (z : l .status ≡ 0) (size : length w₁ ≡ length w) (size₂ : length w₂ ≡ length w₁)
-        (D : ImportsDetails (extractSubprogramDetails (detailContext (contextOf main supplementary w₁ q) r) (belowEntry main p)) main supplementary q name r (l .count)
+        (D : ImportsDetails (extractSubprogramDetails (detailContext (contextWith main supplementary lists addresses w₁ q) r) (belowEntry main p)) main supplementary q name r (l .count)
         w₁ t₂ u₁ (linedState l (st .stats)) w₂ t₃ u₂ r′) where
       -- the file table stands below the walk's part
       table-below : Clear (l .table .base) (extent (l .table)) ((q .ranges, walkExtent main supplementary q) ∷ [])
       table-below =
           let o = lined-context z size .ordered in
-          (inl (omega (arith, o .table, o .indices, o .lines, o .sequences, o .buffer, o .text, o .spans-main-units, o .main-units)), tt)
+          (inl (omega (arith, o .table, o .indices, o .lines, o .sequences, o .buffer, o .text, o .spans)), tt)
 
       -- the rows that were found behind warnings ws
       abbrev linesFound : List Warning → FunctionLines
       linesFound ws = record { rows = L .rows; table = tableOf main supplementary w₁ (l .table); warnings = ws ++ L .new }
 
       -- the definition after the rows
-      after-rows : (rs : List Function) (ws : List Warning) → importRange (contextOf main supplementary w q) (entryHere main p) (belowEntry main p) name r (stateOf main supplementary w st rs ws)
-          ≡ rangeThen (contextOf main supplementary w₁ q) (belowEntry main p) name r (stateOf main supplementary w st rs ws) (linesFound ws)
+      after-rows : (rs : List Function) (ws : List Warning) → importRange (contextWith main supplementary lists addresses w q) (entryHere main p) (belowEntry main p) name r (stateOf main supplementary w st rs ws)
+          ≡ rangeThen (contextWith main supplementary lists addresses w₁ q) (belowEntry main p) name r (stateOf main supplementary w st rs ws) (linesFound ws)
       unfolding _>>=_
       after-rows rs ws =
           let s = stateOf main supplementary w st rs ws in
-          range-parts (contextOf main supplementary w q) (entryHere main p) (belowEntry main p) name r s
-          ∙ ap (λ (o : Outcome FunctionLines). o >>= rangeThen (contextOf main supplementary w q) (belowEntry main p) name r s) (L .ok z ws)
-          ∙ ap (λ (k : ImportContext). rangeThen k (belowEntry main p) name r s (linesFound ws)) (sym (context-same C (L .kept z)))
+          range-parts (contextWith main supplementary lists addresses w q) (entryHere main p) (belowEntry main p) name r s
+          ∙ ap (λ (o : Outcome FunctionLines). o >>= rangeThen (contextWith main supplementary lists addresses w q) (belowEntry main p) name r s) (L .ok z ws)
+          ∙ ap (λ (k : ImportContext). rangeThen k (belowEntry main p) name r s (linesFound ws)) (sym (context-same C (L .kept z) lists addresses))
 
       -- and after the walk
-      ends-as : r′ .status ≡ 0 → (rs : List Function) (ws : List Warning) → importRange (contextOf main supplementary w q) (entryHere main p) (belowEntry main p) name r (stateOf main supplementary w st rs ws)
+      ends-as : r′ .status ≡ 0 → (rs : List Function) (ws : List Warning) → importRange (contextWith main supplementary lists addresses w q) (entryHere main p) (belowEntry main p) name r (stateOf main supplementary w st rs ws)
           ≡ done (stateOf main supplementary w₂ r′ (rs ++ (recordOf name r (L .rows) (D .descendants) ∷ [])) (ws ++ (L .new ++ D .descendants .warnings)))
       unfolding _>>=_ addFunction
       ends-as k rs ws =
@@ -147,13 +152,22 @@ module _ {main supplementary w w₁ : List ℕ} {q : Context} {t₁ t₂ f f₁ 
           ∙ ap (λ (o : Outcome Descendants). o >>= rangeEnd name r (stateOf main supplementary w st rs ws) (linesFound ws)) (D .ok k)
           ∙ ap done (state-as (rs ++ (recordOf name r (L .rows) x ∷ [])) (sym table) (append-assoc ws (L .new) (x .warnings)) (sym stats))
 
+      -- the head, the rows or the rest pass the largest place
+      passes : r′ .status ≡ 0 → r′ .past ≡ (st .past || isPast (st .at) (length (recordsBytes (recordOf name r (L .rows) (D .descendants) ∷ []))))
+      passes k =
+          let headed-past = ap (λ (y : Bool). st .past || y) (B ∙ ap (isPast (st .at)) (sym (head-length r name))) in
+          let lined-past = past-both H (st .past) (linesBytes (L .rows)) headed-past (L .past z) in
+          past-both (H then L .laid z) (st .past) (detailBytes name r (D .descendants)) lined-past (D .past k)
+          ∙ ap (λ (bs : List ℕ). st .past || isPast (st .at) (length bs)) (sym (record-bytes name r (L .rows) (D .descendants)))
+
       -- the record is laid, or the walk is refused
-      pub range-imported : Imports (importRange (contextOf main supplementary w q) (entryHere main p) (belowEntry main p) name r) main supplementary q w t f u st w₂ t₃ f₁ u₂ r′
+      pub range-imported : Imports (importRange (contextWith main supplementary lists addresses w q) (entryHere main p) (belowEntry main p) name r) main supplementary q w t f u st w₂ t₃ f₁ u₂ r′
       unfolding _>>=_
       range-imported = record {
         records = recordOf name r (L .rows) (D .descendants) ∷ [];
         new = L .new ++ D .descendants .warnings;
         laid = λ k. put-as (record-bytes name r (L .rows) (D .descendants)) (H then L .laid z then D .laid k);
+        past = passes;
         warned = λ k. put-as (warnings-append (L .new) (D .descendants .warnings)) (L .warned z then D .warned k);
         grown = λ k. rw (D .table) (grown-kept (L .grown z) (but-one (D .rest)) table-below size₂);
         kept = λ k. but-trans (L .kept z) (touched-walk main supplementary q (st .table) (D .rest));

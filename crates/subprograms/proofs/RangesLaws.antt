@@ -16,7 +16,7 @@ use Rattle.tlv.specs.Lists.{mapOption}
 use Rattle.tlv.specs.Fields.{encode, fields, payloadOf}
 use Rattle.tlv.specs.Buffer.{top, Put}
 use Rattle.tlv.specs.Table.{chunk}
-use Rattle.tlv.specs.Model.{Entry, EntryRange, RangeFailure, rangeOf, entryRangeOf, failureOf, dieRanges}
+use Rattle.tlv.specs.Model.{Entry, EntryRange, RangeFailure, rangeOf, entryRangeOf, failureOf}
 use Rattle.tlv.specs.Output.{eachOf, warningPayload, warningsBytes, malformedRanges, about, rejectedRange}
 use Rattle.tlv.specs.Checked.{Placed}
 use Rattle.tlv.specs.Places.{ownFields, entryHere}
@@ -34,13 +34,13 @@ use Rattle.tlv.proofs.EntryPlaceLaws.{entry-ranges, entry-failure}
 use Rattle.files.specs.declared.store.StoredFiles.{StoredFiles}
 use Rattle.references.specs.Tables.{EntryKnown}
 use Rattle.references.proofs.ReferenceLaws.{entry-step}
-use Rattle.imports.specs.Import.{State, isTombstone, isLiveRange, rejected, importRange, importRanges, importByFailure}
+use Rattle.imports.specs.Import.{State, isTombstone, isLiveRange, rejected, importRange, importRanges}
 use Rattle.imports.specs.Import as import
 use Rattle.dies.specs.RangeTable.{rangeFields}
 use Rattle.subprograms.specs.declared.model.ImportState.{ImportState}
 use Rattle.subprograms.specs.declared.model.ImportContext.{ImportContext}
-use Rattle.subprograms.specs.Contexts.{ContextIn, contextOf, touched}
-use Rattle.subprograms.specs.Steps.{Imports, Rejects, importOne, belowEntry}
+use Rattle.subprograms.specs.Contexts.{ContextIn, contextWith, touched}
+use Rattle.subprograms.specs.Steps.{Imports, Rejects, importOne, importFailing, belowEntry}
 use Rattle.subprograms.proofs.ContextLaws.{context-same}
 use Rattle.subprograms.proofs.StepLaws.{imports-none, imports-then, imports-refused, imports-as, imports-rejected, imports-at, imports-context}
 
@@ -48,7 +48,7 @@ use Rattle.subprograms.proofs.StepLaws.{imports-none, imports-then, imp
 
 module _ (q : import.ImportContext) (e : Entry) (below : List Entry) (name : List ℕ) where
   -- one range, and then the others
-  ranges-step : (x : EntryRange) (xs : List EntryRange) (s : State) → importRanges q e below name (x ∷ xs) s ≡ importOne q e below name x s >>= importRanges q e below name xs
+  pub ranges-step : (x : EntryRange) (xs : List EntryRange) (s : State) → importRanges q e below name (x ∷ xs) s ≡ importOne q e below name x s >>= importRanges q e below name xs
   unfolding importRanges importOne _>>=_
   ranges-step x xs s = go (isTombstone (q .unit .text) x) (isLiveRange (q .unit .text) (x .range))
     where
@@ -62,7 +62,7 @@ module _ (q : import.ImportContext) (e : Entry) (below : List Entry) (name : Lis
       go false true = refl
       go false false = refl
 
-  ranges-none : (s : State) → importRanges q e below name [] s ≡ done s
+  pub ranges-none : (s : State) → importRanges q e below name [] s ≡ done s
   unfolding importRanges
   ranges-none s = refl
 
@@ -70,15 +70,13 @@ module _ (q : import.ImportContext) (e : Entry) (below : List Entry) (name : Lis
 
 -- an entry, by the place of its field 17
 module _ {main supplementary w : List ℕ} {q : ImportContext} {T : StoredFiles} {p : ℕ} (C : ContextIn main supplementary w q T) (K : EntryKnown main (q .unit) p) where
-  start-placed : Placed main 0
+  pub start-placed : Placed main 0
   start-placed = placed-start main (C .tables .main-index .number) (C .tables .main-index .accepted)
 
-  given-is : dieRanges (entryHere main p) .given ≡ map entryRangeOf (rangeFields main (p + 15))
-  unfolding dieRanges
+  given-is : entryHere main p .ranges ≡ map entryRangeOf (rangeFields main (p + 15))
   given-is = entry-ranges main p _ 0x17 (p + 3) 12 (p + 15) refl (entry-step start-placed K)
 
-  failure-is : dieRanges (entryHere main p) .failure ≡ mapOption failureOf (payloadOf 0x1a (ownFields (fields (drop (p + 15) main))))
-  unfolding dieRanges
+  failure-is : entryHere main p .failure ≡ mapOption failureOf (payloadOf 0x1a (ownFields (fields (drop (p + 15) main))))
   failure-is = entry-failure main p _ 0x17 (p + 3) 12 (p + 15) refl (entry-step start-placed K)
 
 module _ (s : List ℕ) (p : ℕ) (r : Own) (own : NextOwn s p 0x19 r) where
@@ -107,18 +105,18 @@ module _ (s : List ℕ) (p : ℕ) (r : Own) (own : NextOwn s p 0x19 r) where
 -- ---- the loop
 
 -- what the definition does, in the context that stands in w: these ranges, and one range
-abbrev RangesFrom : List ℕ → List ℕ → ImportContext → List ℕ → ℕ → List ℕ → List EntryRange → State → Outcome State
-RangesFrom main supplementary q name p w xs = importRanges (contextOf main supplementary w q) (entryHere main p) (belowEntry main p) name xs
+abbrev RangesFrom : List ℕ → List ℕ → List ℕ → List ℕ → ImportContext → List ℕ → ℕ → List ℕ → List EntryRange → State → Outcome State
+RangesFrom main supplementary lists addresses q name p w xs = importRanges (contextWith main supplementary lists addresses w q) (entryHere main p) (belowEntry main p) name xs
 
-abbrev RangeOne : List ℕ → List ℕ → ImportContext → List ℕ → ℕ → List ℕ → AddressRange → ℕ → State → Outcome State
-RangeOne main supplementary q name p w x flag = importOne (contextOf main supplementary w q) (entryHere main p) (belowEntry main p) name (record { range = x; tombstone = eqb flag 1 })
+abbrev pub RangeOne : List ℕ → List ℕ → List ℕ → List ℕ → ImportContext → List ℕ → ℕ → List ℕ → AddressRange → ℕ → State → Outcome State
+RangeOne main supplementary lists addresses q name p w x flag = importOne (contextWith main supplementary lists addresses w q) (entryHere main p) (belowEntry main p) name (record { range = x; tombstone = eqb flag 1 })
 
 -- whoever imports the ranges from place `at` on has imported all
-pub record Going (main supplementary : List ℕ) (q : ImportContext) (name : List ℕ) (p : ℕ) (w₀ t₀ f₀ u₀ : List ℕ) (st₀ : ImportState)
+pub record Going (main supplementary lists addresses : List ℕ) (q : ImportContext) (name : List ℕ) (p : ℕ) (w₀ t₀ f₀ u₀ : List ℕ) (st₀ : ImportState)
     (w t f u : List ℕ) (st : ImportState) (at : ℕ) : Type 0 where
   pub placed : Placed main at
   pub context : ContextIn main supplementary w q (st .table)
-  pub same : contextOf main supplementary w q ≡ contextOf main supplementary w₀ q
+  pub same : contextWith main supplementary lists addresses w q ≡ contextWith main supplementary lists addresses w₀ q
   pub status : st .status ≡ 0
   pub records : st .at ≤ top
   pub warned : st .warned ≤ top
@@ -127,13 +125,13 @@ pub record Going (main supplementary : List ℕ) (q : ImportContext) (name : Lis
   pub files-size : length f ≡ length f₀
   pub warnings-size : length u ≡ length u₀
   pub finish : (w′ t′ f′ u′ : List ℕ) (r : ImportState)
-      → Imports (RangesFrom main supplementary q name p w₀ (map entryRangeOf (rangeFields main at))) main supplementary q w t f u st w′ t′ f′ u′ r
-      → Imports (RangesFrom main supplementary q name p w₀ (dieRanges (entryHere main p) .given)) main supplementary q w₀ t₀ f₀ u₀ st₀ w′ t′ f′ u′ r
+      → Imports (RangesFrom main supplementary lists addresses q name p w₀ (map entryRangeOf (rangeFields main at))) main supplementary q w t f u st w′ t′ f′ u′ r
+      → Imports (RangesFrom main supplementary lists addresses q name p w₀ (entryHere main p .ranges)) main supplementary q w₀ t₀ f₀ u₀ st₀ w′ t′ f′ u′ r
 
-module _ {main supplementary w₀ : List ℕ} {q : ImportContext} {p : ℕ} {st₀ : ImportState} (name t₀ f₀ u₀ : List ℕ) where
+module _ {main supplementary w₀ : List ℕ} {q : ImportContext} {p : ℕ} {st₀ : ImportState} (lists addresses name t₀ f₀ u₀ : List ℕ) where
   pub going-start : ContextIn main supplementary w₀ q (st₀ .table) → EntryKnown main (q .unit) p → Placed main (p + 15)
       → st₀ .status ≡ 0 → st₀ .at ≤ top → st₀ .warned ≤ top
-      → Going main supplementary q name p w₀ t₀ f₀ u₀ st₀ w₀ t₀ f₀ u₀ st₀ (p + 15)
+      → Going main supplementary lists addresses q name p w₀ t₀ f₀ u₀ st₀ w₀ t₀ f₀ u₀ st₀ (p + 15)
   going-start C K h z a b = record {
     placed = h;
     context = C;
@@ -145,16 +143,16 @@ module _ {main supplementary w₀ : List ℕ} {q : ImportContext} {p : ℕ} {st�
     records-size = refl;
     files-size = refl;
     warnings-size = refl;
-    finish = λ w′ t′ f′ u′ r I. rw (given-is C K) I;
+    finish = λ w′ t′ f′ u′ r I. imports-as (λ s. ap (λ (xs : List EntryRange). RangesFrom main supplementary lists addresses q name p w₀ xs s) (given-is C K)) I;
   }
 
-module _ {main supplementary : List ℕ} {q : ImportContext} {name : List ℕ} {p : ℕ} {w₀ t₀ f₀ u₀ : List ℕ} {st₀ : ImportState} {w t f u : List ℕ} {st : ImportState} {at : ℕ}
-    (G : Going main supplementary q name p w₀ t₀ f₀ u₀ st₀ w t f u st at) {own : Own} (N : NextOwn main at 0x19 own) where
+module _ {main supplementary lists addresses : List ℕ} {q : ImportContext} {name : List ℕ} {p : ℕ} {w₀ t₀ f₀ u₀ : List ℕ} {st₀ : ImportState} {w t f u : List ℕ} {st : ImportState} {at : ℕ}
+    (G : Going main supplementary lists addresses q name p w₀ t₀ f₀ u₀ st₀ w t f u st at) {own : Own} (N : NextOwn main at 0x19 own) where
   pub going-done : own ≡ Own.Missing → length t < top → length f < top → length u < top
-      → Imports (RangesFrom main supplementary q name p w₀ (dieRanges (entryHere main p) .given)) main supplementary q w₀ t₀ f₀ u₀ st₀ w t f u st
+      → Imports (RangesFrom main supplementary lists addresses q name p w₀ (entryHere main p .ranges)) main supplementary q w₀ t₀ f₀ u₀ st₀ w t f u st
   going-done e kt kf ku =
       G .finish w t f u st
-      (imports-as (λ s. ap (λ xs. RangesFrom main supplementary q name p w₀ xs s) (given-end main at own N e) ∙ ranges-none (contextOf main supplementary w₀ q) (entryHere main p) (belowEntry main p) name s)
+      (imports-as (λ s. ap (λ xs. RangesFrom main supplementary lists addresses q name p w₀ xs s) (given-end main at own N e) ∙ ranges-none (contextWith main supplementary lists addresses w₀ q) (entryHere main p) (belowEntry main p) name s)
       (imports-none (G .context) (but-refl w (touched main supplementary q (st .table))) refl (G .context .files) (G .status) (G .records) (G .warned) kt kf ku))
 
   module _ (start len next : ℕ) (e : own ≡ Own.Field start len next) where
@@ -162,25 +160,25 @@ module _ {main supplementary : List ℕ} {q : ImportContext} {name : List ℕ} {
     going-within = omega (arith, long main at own N start len next e (G .placed), own-within main at 0x19 own start len next N e)
 
     module _ {x : AddressRange} {flag : ℕ} (ex : x ≡ rangeOf (chunk main start 16)) (ef : flag ≡ leAt 1 main (start + 16)) {w′ t′ f′ u′ : List ℕ} {r : ImportState}
-        (I : Imports (RangeOne main supplementary q name p w x flag) main supplementary q w t f u st w′ t′ f′ u′ r) where
-      turn : (s : State) → RangesFrom main supplementary q name p w₀ (map entryRangeOf (rangeFields main at)) s
-          ≡ RangeOne main supplementary q name p w x flag s
-          >>= RangesFrom main supplementary q name p w₀ (map entryRangeOf (rangeFields main next))
+        (I : Imports (RangeOne main supplementary lists addresses q name p w x flag) main supplementary q w t f u st w′ t′ f′ u′ r) where
+      turn : (s : State) → RangesFrom main supplementary lists addresses q name p w₀ (map entryRangeOf (rangeFields main at)) s
+          ≡ RangeOne main supplementary lists addresses q name p w x flag s
+          >>= RangesFrom main supplementary lists addresses q name p w₀ (map entryRangeOf (rangeFields main next))
       turn s =
-          ap (λ xs. RangesFrom main supplementary q name p w₀ xs s) (given-more main at own N start len next e (G .placed) x flag ex ef)
-          ∙ ranges-step (contextOf main supplementary w₀ q) (entryHere main p) (belowEntry main p) name (record { range = x; tombstone = eqb flag 1 }) (map entryRangeOf (rangeFields main next)) s
-          ∙ ap (λ (k : import.ImportContext). importOne k (entryHere main p) (belowEntry main p) name (record { range = x; tombstone = eqb flag 1 }) s >>= RangesFrom main supplementary q name p w₀ (map entryRangeOf (rangeFields main next))) (sym (G .same))
+          ap (λ xs. RangesFrom main supplementary lists addresses q name p w₀ xs s) (given-more main at own N start len next e (G .placed) x flag ex ef)
+          ∙ ranges-step (contextWith main supplementary lists addresses w₀ q) (entryHere main p) (belowEntry main p) name (record { range = x; tombstone = eqb flag 1 }) (map entryRangeOf (rangeFields main next)) s
+          ∙ ap (λ (k : import.ImportContext). importOne k (entryHere main p) (belowEntry main p) name (record { range = x; tombstone = eqb flag 1 }) s >>= RangesFrom main supplementary lists addresses q name p w₀ (map entryRangeOf (rangeFields main next))) (sym (G .same))
 
       pub going-refused : (r .status ≡ 0 → ⊥)
-          → Imports (RangesFrom main supplementary q name p w₀ (dieRanges (entryHere main p) .given)) main supplementary q w₀ t₀ f₀ u₀ st₀ w′ t′ f′ u′ r
-      going-refused n = G .finish w′ t′ f′ u′ r (imports-as turn (imports-refused (RangesFrom main supplementary q name p w₀ (map entryRangeOf (rangeFields main next))) n I))
+          → Imports (RangesFrom main supplementary lists addresses q name p w₀ (entryHere main p .ranges)) main supplementary q w₀ t₀ f₀ u₀ st₀ w′ t′ f′ u′ r
+      going-refused n = G .finish w′ t′ f′ u′ r (imports-as turn (imports-refused (RangesFrom main supplementary lists addresses q name p w₀ (map entryRangeOf (rangeFields main next))) n I))
 
       pub going-turn : r .status ≡ 0 → length w′ ≡ length w → length t′ ≡ length t → length f′ ≡ length f → length u′ ≡ length u
-          → Going main supplementary q name p w₀ t₀ f₀ u₀ st₀ w′ t′ f′ u′ r next
+          → Going main supplementary lists addresses q name p w₀ t₀ f₀ u₀ st₀ w′ t′ f′ u′ r next
       going-turn z sw st sf su = record {
         placed = own-placed main at 0x19 own start len next N e (G .placed);
         context = imports-context sw z (G .context) I;
-        same = context-same (G .context) (I .kept z) ∙ G .same;
+        same = context-same (G .context) (I .kept z) lists addresses ∙ G .same;
         status = z;
         records = imports-at I z .0;
         warned = imports-at I z .1;
@@ -193,11 +191,12 @@ module _ {main supplementary : List ℕ} {q : ImportContext} {name : List ℕ} {
 
 -- ---- a failure
 
-abbrev ByFailure : List ℕ → List ℕ → ImportContext → List ℕ → ℕ → List ℕ → Option RangeFailure → State → Outcome State
-ByFailure main supplementary q name p w o = importByFailure (contextOf main supplementary w q) (entryHere main p) (belowEntry main p) name o
+abbrev ByFailure : List ℕ → List ℕ → List ℕ → List ℕ → ImportContext → List ℕ → ℕ → List ℕ → Option RangeFailure → State → Outcome State
+ByFailure main supplementary lists addresses q name p w o =
+    importFailing (contextWith main supplementary lists addresses w q) (entryHere main p) (belowEntry main p) name (entryHere main p .ranges) o
 
 -- the warning, as it was laid
-reason-put : {at r : ℕ} {u u′ : List ℕ} (stopped : Bool) (reason : List ℕ) → Put at (encode 0x46 (warningPayload (malformedRanges stopped reason))) u u′ r
+pub reason-put : {at r : ℕ} {u u′ : List ℕ} (stopped : Bool) (reason : List ℕ) → Put at (encode 0x46 (warningPayload (malformedRanges stopped reason))) u u′ r
     → Put at (warningsBytes (malformedRanges stopped reason ∷ [])) u u′ r
 unfolding warningsBytes eachOf
 reason-put stopped reason P = put-as (append-nil (encode 0x46 (warningPayload (malformedRanges stopped reason)))) P
@@ -232,46 +231,46 @@ module _ {main : List ℕ} {at : ℕ} (h : Placed main at) {own : Own} (N : Next
 -- the failure of the entry
 module _ {main supplementary w : List ℕ} {q : ImportContext} {T : StoredFiles} {p : ℕ} (C : ContextIn main supplementary w q T) (K : EntryKnown main (q .unit) p)
     {own : Own} (N : NextOwn main (p + 15) 0x1a own) where
-  failure-none : own ≡ Own.Missing → dieRanges (entryHere main p) .failure ≡ none
+  failure-none : own ≡ Own.Missing → entryHere main p .failure ≡ none
   unfolding payloadOf mapOption
   failure-none e = rw (failure-is C K, ← N .is, e)
 
   failure-some : (h : Placed main (p + 15)) (start len next stage : ℕ) → own ≡ Own.Field start len next → stage ≡ leAt 1 main start
-      → dieRanges (entryHere main p) .failure ≡ some (record { stage = stage; reason = reasonAt main start len })
+      → entryHere main p .failure ≡ some (record { stage = stage; reason = reasonAt main start len })
   unfolding payloadOf mapOption
   failure-some h start len next stage e es = rw (failure-is C K, ← N .is, e) (ap some (failure-here h N start len next e stage es))
 
-module _ {main supplementary w : List ℕ} {q : ImportContext} {st : ImportState} {p : ℕ} (name : List ℕ) (C : ContextIn main supplementary w q (st .table)) (K : EntryKnown main (q .unit) p)
+module _ {main supplementary w : List ℕ} {q : ImportContext} {st : ImportState} {p : ℕ} (lists addresses name : List ℕ) (C : ContextIn main supplementary w q (st .table)) (K : EntryKnown main (q .unit) p)
     (h : Placed main (p + 15)) {own : Own} (N : NextOwn main (p + 15) 0x1a own) where
   pub named-whole : {t f u w′ t′ f′ u′ : List ℕ} {r : ImportState} → own ≡ Own.Missing
-      → Imports (RangesFrom main supplementary q name p w (dieRanges (entryHere main p) .given)) main supplementary q w t f u st w′ t′ f′ u′ r
-      → Imports (ByFailure main supplementary q name p w (dieRanges (entryHere main p) .failure)) main supplementary q w t f u st w′ t′ f′ u′ r
+      → Imports (RangesFrom main supplementary lists addresses q name p w (entryHere main p .ranges)) main supplementary q w t f u st w′ t′ f′ u′ r
+      → Imports (ByFailure main supplementary lists addresses q name p w (entryHere main p .failure)) main supplementary q w t f u st w′ t′ f′ u′ r
   named-whole e I = imports-as (λ s. rw (failure-none C K N e)) I
 
   module _ (start len next : ℕ) (e : own ≡ Own.Field start len next) {stage : ℕ} (es : stage ≡ leAt 1 main start) where
     -- before any range
     pub named-none : {t f u u′ : List ℕ} {warned : ℕ} {r : ImportState} → stage ≡ 0 → st .status ≡ 0 → st .at ≤ top → length t < top → length f < top
         → Put (st .warned) (encode 0x46 (warningPayload (malformedRanges false (reasonAt main start len)))) u u′ warned → Rejects st warned r
-        → Imports (ByFailure main supplementary q name p w (dieRanges (entryHere main p) .failure)) main supplementary q w t f u st w t f u′ r
+        → Imports (ByFailure main supplementary lists addresses q name p w (entryHere main p .failure)) main supplementary q w t f u st w t f u′ r
     named-none z ok fits kt kf P R =
         imports-as (λ s. rw (failure-some C K N h start len next stage e es, eq-eqb stage 0 z))
         (imports-rejected (malformedRanges false (reasonAt main start len) ∷ []) C ok fits kt kf (reason-put false (reasonAt main start len) P) R)
 
     module _ (n : stage ≡ 0 → ⊥) {t f u w′ t′ f′ u′ : List ℕ} {st′ : ImportState}
-        (I : Imports (RangesFrom main supplementary q name p w (dieRanges (entryHere main p) .given)) main supplementary q w t f u st w′ t′ f′ u′ st′) where
-      after : (s : State) → ByFailure main supplementary q name p w (dieRanges (entryHere main p) .failure) s
-          ≡ RangesFrom main supplementary q name p w (dieRanges (entryHere main p) .given) s >>= λ t. done (rejected (malformedRanges true (reasonAt main start len) ∷ []) t)
+        (I : Imports (RangesFrom main supplementary lists addresses q name p w (entryHere main p .ranges)) main supplementary q w t f u st w′ t′ f′ u′ st′) where
+      after : (s : State) → ByFailure main supplementary lists addresses q name p w (entryHere main p .failure) s
+          ≡ RangesFrom main supplementary lists addresses q name p w (entryHere main p .ranges) s >>= λ t. done (rejected (malformedRanges true (reasonAt main start len) ∷ []) t)
       after s = rw (failure-some C K N h start len next stage e es, ne-eqb stage 0 n)
 
       -- the ranges were refused
       pub named-refused : (st′ .status ≡ 0 → ⊥)
-          → Imports (ByFailure main supplementary q name p w (dieRanges (entryHere main p) .failure)) main supplementary q w t f u st w′ t′ f′ u′ st′
+          → Imports (ByFailure main supplementary lists addresses q name p w (entryHere main p .failure)) main supplementary q w t f u st w′ t′ f′ u′ st′
       named-refused k = imports-as after (imports-refused (λ s. done (rejected (malformedRanges true (reasonAt main start len) ∷ []) s)) k I)
 
       -- after the ranges
       pub named-after : {u″ : List ℕ} {warned : ℕ} {r : ImportState} → st′ .status ≡ 0 → length w′ ≡ length w → length t′ < top → length f′ < top
           → Put (st′ .warned) (encode 0x46 (warningPayload (malformedRanges true (reasonAt main start len)))) u′ u″ warned → Rejects st′ warned r
-          → Imports (ByFailure main supplementary q name p w (dieRanges (entryHere main p) .failure)) main supplementary q w t f u st w′ t′ f′ u″ r
+          → Imports (ByFailure main supplementary lists addresses q name p w (entryHere main p .failure)) main supplementary q w t f u st w′ t′ f′ u″ r
       named-after z size kt kf P R =
           imports-as after
           (imports-then z I

@@ -1,5 +1,6 @@
 -- Steps of an import one after the other. Assumes nothing.
-use mathlib.Core.Path.{_≡_, refl, ap, _∙_}
+use mathlib.Core.Path.{_≡_, refl, sym, ap, _∙_}
+use mathlib.Core.Bool.{_||_}
 use mathlib.Core.List.{List, [], _++_, append-nil, append-assoc}
 use Prim.Native.Nat.{ℕ, _≤_, _<_}
 use native.Mathlib.Omega.{arith}
@@ -14,12 +15,15 @@ use Rattle.lines.specs.Files.{FileTable}
 use Rattle.files.specs.Store.{entriesOf, tableOf, FilesIn, Grown}
 use Rattle.files.proofs.GrownLaws.{grown-none, grown-trans}
 use Rattle.imports.specs.Import.{State, rejected}
+use Rattle.dies.specs.Past.{isPast}
+use Rattle.dies.proofs.PastLaws.{past-same}
 use Rattle.dies.proofs.NodeStepLaws.{each-append, warnings-append}
 use Rattle.subprograms.specs.declared.model.ImportState.{ImportState}
 use Rattle.subprograms.specs.declared.model.ImportContext.{ImportContext}
 use Rattle.subprograms.specs.Contexts.{ContextIn, touched}
 use Rattle.subprograms.specs.Steps.{Imports, Rejects, stateOf}
 use Rattle.subprograms.proofs.ContextLaws.{context-kept, touched-as}
+use Rattle.subprograms.proofs.LaidPastLaws.{past-both}
 
 pub records-append : (xs ys : List Function) → recordsBytes (xs ++ ys) ≡ recordsBytes xs ++ recordsBytes ys
 unfolding recordsBytes
@@ -44,6 +48,7 @@ module _ {main supplementary : List ℕ} {q : ImportContext} where
     records = [];
     new = [];
     laid = λ e. put-as no-records (put-none at-fits t-small);
+    past = λ e. past-same (st .past) (st .at) at-fits ∙ ap (λ (l : List ℕ). st .past || isPast (st .at) (length l)) (sym no-records);
     warned = λ e. put-as no-warnings (put-none warned-fits u-small);
     grown = λ e. grown;
     kept = λ e. K;
@@ -74,6 +79,8 @@ module _ {main supplementary : List ℕ} {q : ImportContext} where
     records = A .records ++ B .records;
     new = A .new ++ B .new;
     laid = λ e. put-as (records-append (A .records) (B .records)) (A .laid z then B .laid e);
+    past = λ e. past-both (A .laid z) (st .past) (recordsBytes (B .records)) (A .past z) (B .past e)
+        ∙ ap (λ (l : List ℕ). st .past || isPast (st .at) (length l)) (sym (records-append (A .records) (B .records)));
     warned = λ e. put-as (warnings-append (A .new) (B .new)) (A .warned z then B .warned e);
     grown = λ e. grown-trans (A .grown z) (B .grown e);
     kept = λ e. but-trans (A .kept z) (touched-as main supplementary q (st .table) (st₁ .table) (A .grown z .base) (A .grown z .room) (B .kept e));
@@ -92,6 +99,7 @@ module _ {main supplementary : List ℕ} {q : ImportContext} where
     records = A .records;
     new = A .new;
     laid = A .laid;
+    past = A .past;
     warned = A .warned;
     grown = A .grown;
     kept = A .kept;
@@ -106,6 +114,7 @@ module _ {main supplementary : List ℕ} {q : ImportContext} where
     records = A .records;
     new = A .new;
     laid = A .laid;
+    past = A .past;
     warned = A .warned;
     grown = A .grown;
     kept = A .kept;
@@ -123,6 +132,7 @@ module _ {main supplementary : List ℕ} {q : ImportContext} where
     records = [];
     new = ws;
     laid = λ e. rw (R .at) (put-as no-records (put-none at-fits t-small));
+    past = λ e. R .past ∙ past-same (st .past) (st .at) at-fits ∙ ap (λ (l : List ℕ). st .past || isPast (st .at) (length l)) (sym no-records);
     warned = λ e. rw (R .warned-is) W;
     grown = λ e. rw (R .table) (grown-none (C .files) f-small);
     kept = λ e. but-refl w (touched main supplementary q (st .table));

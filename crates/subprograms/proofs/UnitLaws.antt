@@ -34,7 +34,7 @@ use Rattle.dies.proofs.EntryWalkLaws.{from-end, from-cut, from-unit, from-entry
 use Rattle.dies.proofs.EntryStartLaws.{known-start}
 use Rattle.subprograms.specs.declared.model.ImportState.{ImportState}
 use Rattle.subprograms.specs.declared.model.ImportContext.{ImportContext}
-use Rattle.subprograms.specs.Contexts.{ContextIn, contextOf}
+use Rattle.subprograms.specs.Contexts.{ContextIn, contextWith}
 use Rattle.subprograms.specs.Steps.{Imports, importEntry, belowEntry}
 use Rattle.subprograms.proofs.ContextLaws.{unit-of, context-same}
 use Rattle.subprograms.proofs.EntryStepLaws.{entry-passed}
@@ -77,11 +77,11 @@ module _ {main supplementary w : List ℕ} {q : ImportContext} {table : StoredFi
 -- ---- the loop
 
 -- what was done so far, and that the whole is this and then the entries that are left
-pub record Importing (main supplementary : List ℕ) (q : ImportContext) (w₀ t₀ f₀ u₀ : List ℕ) (st₀ : ImportState) (w t f u : List ℕ) (st : ImportState) (place : ℕ) : Type 0 where
+pub record Importing (main supplementary lists addresses : List ℕ) (q : ImportContext) (w₀ t₀ f₀ u₀ : List ℕ) (st₀ : ImportState) (w t f u : List ℕ) (st : ImportState) (place : ℕ) : Type 0 where
   pub placed : Placed main place
   pub known : EntriesKnown main (q .unit) place
   pub context : ContextIn main supplementary w q (st .table)
-  pub same : contextOf main supplementary w q ≡ contextOf main supplementary w₀ q
+  pub same : contextWith main supplementary lists addresses w q ≡ contextWith main supplementary lists addresses w₀ q
   pub status : st .status ≡ 0
   pub bounds : (st .at ≤ top) × (st .warned ≤ top)
   pub size : length w ≡ length w₀
@@ -90,12 +90,12 @@ pub record Importing (main supplementary : List ℕ) (q : ImportContext) (w₀ t
   pub warnings-size : length u ≡ length u₀
   pub before : State → Outcome State
   pub does : Imports before main supplementary q w₀ t₀ f₀ u₀ st₀ w t f u st
-  pub left : (s : State) → importUnitDetails (contextOf main supplementary w₀ q) (unitHere main (q .unit) .entries) s
-      ≡ (before s >>= importUnitDetails (contextOf main supplementary w₀ q) (entriesFrom main place))
+  pub left : (s : State) → importUnitDetails (contextWith main supplementary lists addresses w₀ q) (unitHere main (q .unit) .entries) s
+      ≡ (before s >>= importUnitDetails (contextWith main supplementary lists addresses w₀ q) (entriesFrom main place))
 
-pub importing-start : {main supplementary w t f u : List ℕ} {q : ImportContext} {st : ImportState} → ContextIn main supplementary w q (st .table) → st .status ≡ 0 → st .at ≤ top → st .warned ≤ top
-    → length t < top → length f < top → length u < top → Importing main supplementary q w t f u st w t f u st (q .unit + 21)
-importing-start {main} {supplementary} {w} {q = q} {st} C ok at warned small tiny few = record {
+pub importing-start : {main supplementary w t f u : List ℕ} (lists addresses : List ℕ) {q : ImportContext} {st : ImportState} → ContextIn main supplementary w q (st .table) → st .status ≡ 0 → st .at ≤ top → st .warned ≤ top
+    → length t < top → length f < top → length u < top → Importing main supplementary lists addresses q w t f u st w t f u st (q .unit + 21)
+importing-start {main} {supplementary} {w} lists addresses {q} {st} C ok at warned small tiny few = record {
   placed = unit-next (stands C);
   known = known-start main (q .unit) (q .unit + 3) 18 (q .unit + 21) (stands C .is) (unit-of (C .unit));
   context = C;
@@ -108,30 +108,30 @@ importing-start {main} {supplementary} {w} {q = q} {st} C ok at warned small tin
   warnings-size = refl;
   before = done;
   does = imports-none C (but-refl w _) refl (C .files) ok at warned small tiny few;
-  left = λ s. ap (λ (es : List Entry). importUnitDetails (contextOf main supplementary w q) es s) (entries-here (stands C)) ∙ after-done (contextOf main supplementary w q) (entriesFrom main (q .unit + 21)) s;
+  left = λ s. ap (λ (es : List Entry). importUnitDetails (contextWith main supplementary lists addresses w q) es s) (entries-here (stands C)) ∙ after-done (contextWith main supplementary lists addresses w q) (entriesFrom main (q .unit + 21)) s;
 }
 
-module _ {main supplementary : List ℕ} {q : ImportContext} {w₀ t₀ f₀ u₀ : List ℕ} {st₀ : ImportState} {w t f u : List ℕ} {st : ImportState} {place : ℕ}
-    (I : Importing main supplementary q w₀ t₀ f₀ u₀ st₀ w t f u st place) where
+module _ {main supplementary lists addresses : List ℕ} {q : ImportContext} {w₀ t₀ f₀ u₀ : List ℕ} {st₀ : ImportState} {w t f u : List ℕ} {st : ImportState} {place : ℕ}
+    (I : Importing main supplementary lists addresses q w₀ t₀ f₀ u₀ st₀ w t f u st place) where
   -- nothing is left
-  ended : entriesFrom main place ≡ [] → Imports (importUnitDetails (contextOf main supplementary w₀ q) (unitHere main (q .unit) .entries)) main supplementary q w₀ t₀ f₀ u₀ st₀ w t f u st
+  ended : entriesFrom main place ≡ [] → Imports (importUnitDetails (contextWith main supplementary lists addresses w₀ q) (unitHere main (q .unit) .entries)) main supplementary q w₀ t₀ f₀ u₀ st₀ w t f u st
   ended e =
       imports-as
-      (λ s. I .left s ∙ ap (λ (es : List Entry). I .before s >>= importUnitDetails (contextOf main supplementary w₀ q) es) e ∙ after-none (contextOf main supplementary w₀ q) (I .before s))
+      (λ s. I .left s ∙ ap (λ (es : List Entry). I .before s >>= importUnitDetails (contextWith main supplementary lists addresses w₀ q) es) e ∙ after-none (contextWith main supplementary lists addresses w₀ q) (I .before s))
       (I .does)
 
   module _ {r : Step} (reads : r ≡ stepAt main place) where
-    pub importing-end : r ≡ Step.End → Imports (importUnitDetails (contextOf main supplementary w₀ q) (unitHere main (q .unit) .entries)) main supplementary q w₀ t₀ f₀ u₀ st₀ w t f u st
+    pub importing-end : r ≡ Step.End → Imports (importUnitDetails (contextWith main supplementary lists addresses w₀ q) (unitHere main (q .unit) .entries)) main supplementary q w₀ t₀ f₀ u₀ st₀ w t f u st
     importing-end e = ended (from-end main place r reads e)
 
-    pub importing-cut : r ≡ Step.Cut → Imports (importUnitDetails (contextOf main supplementary w₀ q) (unitHere main (q .unit) .entries)) main supplementary q w₀ t₀ f₀ u₀ st₀ w t f u st
+    pub importing-cut : r ≡ Step.Cut → Imports (importUnitDetails (contextWith main supplementary lists addresses w₀ q) (unitHere main (q .unit) .entries)) main supplementary q w₀ t₀ f₀ u₀ st₀ w t f u st
     importing-cut e = ended (from-cut main place r reads e)
 
     module _ {tag start len next : ℕ} (e : r ≡ Step.Field tag start len next) where
-      pub importing-unit : tag ≡ 0x10 → Imports (importUnitDetails (contextOf main supplementary w₀ q) (unitHere main (q .unit) .entries)) main supplementary q w₀ t₀ f₀ u₀ st₀ w t f u st
+      pub importing-unit : tag ≡ 0x10 → Imports (importUnitDetails (contextWith main supplementary lists addresses w₀ q) (unitHere main (q .unit) .entries)) main supplementary q w₀ t₀ f₀ u₀ st₀ w t f u st
       importing-unit is = ended (from-unit main place r reads tag start len next e is)
 
-      importing-other : (tag ≡ 0x10 → ⊥) → (tag ≡ 0x17 → ⊥) → Importing main supplementary q w₀ t₀ f₀ u₀ st₀ w t f u st next
+      importing-other : (tag ≡ 0x10 → ⊥) → (tag ≡ 0x17 → ⊥) → Importing main supplementary lists addresses q w₀ t₀ f₀ u₀ st₀ w t f u st next
       importing-other h k = record {
         placed = placed-next main place r tag start len next (I .placed) reads e;
         known = known-other main place r reads tag start len next e (I .known) h k;
@@ -145,7 +145,7 @@ module _ {main supplementary : List ℕ} {q : ImportContext} {w₀ t₀ f₀ u�
         warnings-size = I .warnings-size;
         before = I .before;
         does = I .does;
-        left = λ s. I .left s ∙ ap (λ (es : List Entry). I .before s >>= importUnitDetails (contextOf main supplementary w₀ q) es) (from-other main place r reads tag start len next e h k);
+        left = λ s. I .left s ∙ ap (λ (es : List Entry). I .before s >>= importUnitDetails (contextWith main supplementary lists addresses w₀ q) es) (from-other main place r reads tag start len next e h k);
       }
 
       module _ (is : tag ≡ 0x17) where
@@ -165,31 +165,31 @@ module _ {main supplementary : List ℕ} {q : ImportContext} {w₀ t₀ f₀ u�
         entries-are = from-entry main place r reads tag start len next e is ∙ ap (λ (n : ℕ). entryHere main place ∷ entriesFrom main n) next-is
 
         module _ {w′ t′ f′ u′ : List ℕ} {st′ : ImportState}
-            (A : Imports (importEntry (contextOf main supplementary w q) (entryHere main place) (belowEntry main place)) main supplementary q w t f u st w′ t′ f′ u′ st′) where
+            (A : Imports (importEntry (contextWith main supplementary lists addresses w q) (entryHere main place) (belowEntry main place)) main supplementary q w t f u st w′ t′ f′ u′ st′) where
           abbrev through : State → Outcome State
-          through s = I .before s >>= importEntry (contextOf main supplementary w q) (entryHere main place) (belowEntry main place)
+          through s = I .before s >>= importEntry (contextWith main supplementary lists addresses w q) (entryHere main place) (belowEntry main place)
 
           passed : Imports through main supplementary q w₀ t₀ f₀ u₀ st₀ w′ t′ f′ u′ st′
           passed = imports-then (I .status) (I .does) A
 
-          left-after : (s : State) → importUnitDetails (contextOf main supplementary w₀ q) (unitHere main (q .unit) .entries) s
-              ≡ (through s >>= importUnitDetails (contextOf main supplementary w₀ q) (entriesFrom main (place + 15)))
+          left-after : (s : State) → importUnitDetails (contextWith main supplementary lists addresses w₀ q) (unitHere main (q .unit) .entries) s
+              ≡ (through s >>= importUnitDetails (contextWith main supplementary lists addresses w₀ q) (entriesFrom main (place + 15)))
           left-after s =
-              let x = contextOf main supplementary w₀ q in
+              let x = contextWith main supplementary lists addresses w₀ q in
               I .left s ∙ ap (λ (es : List Entry). I .before s >>= importUnitDetails x es) entries-are ∙ after-cons x (entryHere main place) (entriesFrom main (place + 15)) (I .before s)
               ∙ ap (λ (y : import.ImportContext). (I .before s >>= importEntry y (entryHere main place) (belowEntry main place)) >>= importUnitDetails x (entriesFrom main (place + 15))) (sym (I .same))
 
           pub importing-refused : (st′ .status ≡ 0 → ⊥)
-              → Imports (importUnitDetails (contextOf main supplementary w₀ q) (unitHere main (q .unit) .entries)) main supplementary q w₀ t₀ f₀ u₀ st₀ w′ t′ f′ u′ st′
-          importing-refused z = imports-as left-after (imports-refused (importUnitDetails (contextOf main supplementary w₀ q) (entriesFrom main (place + 15))) z passed)
+              → Imports (importUnitDetails (contextWith main supplementary lists addresses w₀ q) (unitHere main (q .unit) .entries)) main supplementary q w₀ t₀ f₀ u₀ st₀ w′ t′ f′ u′ st′
+          importing-refused z = imports-as left-after (imports-refused (importUnitDetails (contextWith main supplementary lists addresses w₀ q) (entriesFrom main (place + 15))) z passed)
 
           pub importing-entry : st′ .status ≡ 0 → length w′ ≡ length w → length t′ ≡ length t → length f′ ≡ length f → length u′ ≡ length u
-              → Importing main supplementary q w₀ t₀ f₀ u₀ st₀ w′ t′ f′ u′ st′ next
+              → Importing main supplementary lists addresses q w₀ t₀ f₀ u₀ st₀ w′ t′ f′ u′ st′ next
           importing-entry z lw lt lf lu = record {
             placed = placed-next main place r tag start len next (I .placed) reads e;
             known = known-entry main place r reads tag start len next e (I .known) is;
             context = imports-context lw z (I .context) A;
-            same = context-same (I .context) (A .kept z) ∙ I .same;
+            same = context-same (I .context) (A .kept z) lists addresses ∙ I .same;
             status = z;
             bounds = imports-at A z;
             size = lw ∙ I .size;
@@ -213,13 +213,13 @@ module _ {main supplementary : List ℕ} {q : ImportContext} {w₀ t₀ f₀ u�
         subprogram-here y = eqb-true (leAt 2 main (place + 13)) 0x2e (and-right (eqb tag 0x17) (eqb (leAt 2 main (place + 13)) 0x2e) (sym test ∙ y))
 
         -- none stands here
-        pub importing-passed : (tag ≡ 0x10 → ⊥) → b ≡ false → Importing main supplementary q w₀ t₀ f₀ u₀ st₀ w t f u st next
+        pub importing-passed : (tag ≡ 0x10 → ⊥) → b ≡ false → Importing main supplementary lists addresses q w₀ t₀ f₀ u₀ st₀ w t f u st next
         importing-passed h n =
             either (eqb tag 0x17)
             (λ y.
             let is : tag ≡ 0x17 = eqb-true tag 0x17 y in
             importing-entry is
-            (entry-passed st (I .context) (entry-here is) (λ z. false≢true (sym n ∙ test ∙ rw (y, eq-eqb (leAt 2 main (place + 13)) 0x2e z)))
+            (entry-passed lists addresses st (I .context) (entry-here is) (λ z. false≢true (sym n ∙ test ∙ rw (y, eq-eqb (leAt 2 main (place + 13)) 0x2e z)))
             (I .status) (I .bounds .0) (I .bounds .1)
             (omega (arith, I .records-size, I .does .laid (I .status) .small))
             (omega (arith, I .files-size, I .does .grown (I .status) .put .small))

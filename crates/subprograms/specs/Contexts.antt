@@ -1,20 +1,22 @@
 -- What is the same for every subprogram of a unit, as it stands in the work slice, and what an import writes to. Assumes nothing.
 use mathlib.Core.Path.{_≡_}
 use mathlib.Core.List.{List, [], _∷_}
-use Prim.Native.Nat.{ℕ, _+_, _-_, _*_, _≤_}
+use mathlib.Core.Bool.{false}
+use Prim.Native.Nat.{ℕ, _+_, _-_, _*_, _≤_, min}
 use lib.ListN.{length}
 use Rattle.tlv.specs.Lists.{Any}
 use Rattle.tlv.specs.Fields.{fields}
+use Rattle.tlv.specs.Limits.{listLimit}
 use Rattle.tlv.specs.Places.{unitHere, unitPlaces}
 use Rattle.files.specs.declared.store.StoredFiles.{StoredFiles}
 use Rattle.files.specs.Store.{extent, FilesIn}
 use Rattle.rows.specs.Sizes.{entrySize, lineSize, rangeSize}
 use Rattle.rows.specs.Selects.{RowsIn}
 use Rattle.collect.specs.Collects.{UnitIn, linesIn}
-use Rattle.references.specs.Names.{dwarfOf, SearchIn}
+use Rattle.references.specs.Names.{SearchIn}
 use Rattle.references.specs.Keys.{keysExtent}
 use Rattle.imports.specs.Import as import
-use Rattle.dies.specs.Details.{rangeCount, entryCount}
+use Rattle.dies.specs.Details.{rangeCount, entryCount, dwarfWith}
 use Rattle.dies.specs.RangeTable.{rangesAt}
 use Rattle.subprograms.specs.declared.model.ImportContext.{ImportContext}
 
@@ -26,34 +28,42 @@ UnitOf s q = Any (λ p. p ≡ q) (unitPlaces 0 (fields s))
 abbrev pub mapExtent : List ℕ → ℕ → ℕ
 mapExtent s q = 8 * length (unitHere s q .directories) + 5 * (1 + length (unitHere s q .files))
 
--- the context that stands in w
-abbrev pub contextOf : List ℕ → List ℕ → List ℕ → ImportContext → import.ImportContext
-contextOf main supplementary w q = record {
-  dwarf = dwarfOf main supplementary;
+-- the context that stands in w, with the list section and the address table
+abbrev pub contextWith : List ℕ → List ℕ → List ℕ → List ℕ → List ℕ → ImportContext → import.ImportContext
+contextWith main supplementary lists addresses w q = record {
+  dwarf = dwarfWith main supplementary lists addresses;
   unit = unitHere main (q .unit);
   lines = linesIn w (q .lines) (q .places .indices);
   includeInlines = q .«include_inlines»;
   includeCallSites = q .«include_call_sites»;
 }
 
--- the tables stand in order: the file table t, the unit's map, its rows, its sequences, the rows of a function, the executable ranges, the room for
--- a unit that is reached, the units and entries of both inputs, the ranges of open nodes, open and closed call sites, followed targets
+-- the same without sections: what only searches does not look at them
+abbrev pub contextOf : List ℕ → List ℕ → List ℕ → ImportContext → import.ImportContext
+contextOf main supplementary w q = contextWith main supplementary [] [] w q
+
+-- how many range lists (document 02, E9) the unit has, and their room in the stack of ranges, as the walk asks for it
+abbrev pub unitLists : List ℕ → ImportContext → ℕ
+unitLists main q = unitHere main (q .unit) .lists
+
+unfoldable pub unitListRoom : List ℕ → ImportContext → ℕ
+unitListRoom main q = q .third * min (unitLists main q) 257
+
+-- the tables stand in order: the units and entries of both inputs, the file table t, the unit's map, its rows, its sequences, the rows of a function, the
+-- executable ranges, the room for a unit that is reached, the ranges of open nodes, open and closed call sites, followed targets
 pub record Ordered (main supplementary : List ℕ) (q : ImportContext) (t : StoredFiles) : Type 0 where
+  pub main-units : q .places .tables .main .units + 24 * q .places .tables .main .«unit_count» ≤ t .base
+  pub main-entries : q .places .tables .main .entries + 16 * q .places .tables .main .«entry_count» ≤ t .base
+  pub supplementary-units : q .places .tables .supplementary .units + 24 * q .places .tables .supplementary .«unit_count» ≤ t .base
+  pub supplementary-entries : q .places .tables .supplementary .entries + 16 * q .places .tables .supplementary .«entry_count» ≤ t .base
   pub table : t .base + extent t ≤ q .places .indices .base
   pub indices : q .places .indices .base + q .places .indices .count * 5 ≤ q .lines .lines
   pub lines : q .lines .lines + q .lines .«line_count» * lineSize ≤ q .lines .sequences
   pub sequences : q .lines .sequences + q .lines .«sequence_count» * rangeSize ≤ q .lines .buffer
   pub buffer : q .lines .buffer + entrySize + q .lines .«line_count» * entrySize ≤ q .text
   pub text : q .text + q .«text_count» * 16 ≤ q .places .spans
-  pub spans-main-units : q .places .spans + q .places .room ≤ q .places .tables .main .units
-  pub spans-main-entries : q .places .spans + q .places .room ≤ q .places .tables .main .entries
-  pub spans-supplementary-units : q .places .spans + q .places .room ≤ q .places .tables .supplementary .units
-  pub spans-supplementary-entries : q .places .spans + q .places .room ≤ q .places .tables .supplementary .entries
-  pub main-units : q .places .tables .main .units + 24 * q .places .tables .main .«unit_count» ≤ q .ranges
-  pub main-entries : q .places .tables .main .entries + 16 * q .places .tables .main .«entry_count» ≤ q .ranges
-  pub supplementary-units : q .places .tables .supplementary .units + 24 * q .places .tables .supplementary .«unit_count» ≤ q .ranges
-  pub supplementary-entries : q .places .tables .supplementary .entries + 16 * q .places .tables .supplementary .«entry_count» ≤ q .ranges
-  pub ranges : q .ranges + 16 * (1 + rangeCount main) ≤ q .stack
+  pub spans : q .places .spans + q .places .room ≤ q .ranges
+  pub ranges : q .ranges + 16 * (1 + rangeCount main + unitListRoom main q) ≤ q .stack
   pub stack : q .stack + 14 * entryCount main ≤ q .sites
   pub sites : q .sites + 12 * entryCount main ≤ q .places .tables .keys
   pub room-main : (p : ℕ) → UnitOf main p → mapExtent main p ≤ q .places .room
@@ -67,6 +77,8 @@ pub record ContextIn (main supplementary w : List ℕ) (q : ImportContext) (t : 
   pub text : rangesAt w (q .text) (q .«text_count») ≡ unitHere main (q .unit) .text
   pub files : FilesIn main supplementary w t
   pub ordered : Ordered main supplementary q t
+  pub third : 3 * q .third ≤ listLimit
+  pub listless : q .«with_lists» ≡ false → unitLists main q ≡ 0
 
 -- how far the walk's part reaches, followed targets included
 abbrev pub walkExtent : List ℕ → List ℕ → ImportContext → ℕ

@@ -1,30 +1,35 @@
 -- What each step of the import of a unit promises, in terms of the definition's step. Assumes nothing.
 use mathlib.Core.Path.{_≡_}
-use mathlib.Core.Bool.{Bool, cond}
+use mathlib.Core.Bool.{Bool, true, false, cond, _||_}
 use mathlib.Core.List.{List, [], _∷_, _++_}
-use mathlib.Core.Option.{Option}
+use mathlib.Core.Option.{Option, none, some}
 use Prim.Native.Nat.{ℕ, _+_}
+use lib.Dec.{eqb}
 use lib.ListN.{length}
-use Rattle.tlv.specs.Tags.{trayRowTag}
+use Rattle.tlv.specs.Tags.{trayRowTag, trayWarningTag}
 use Rattle.tlv.specs.declared.model.AddressRange.{AddressRange}
 use Rattle.tlv.specs.declared.model.LineEntry.{LineEntry}
 use Rattle.tlv.specs.Outcome.{Outcome, refused, done, _>>=_}
+use Rattle.tlv.specs.Bytes.{leAt}
 use Rattle.tlv.specs.Buffer.{Put}
 use Rattle.tlv.specs.Fields.{encode}
 use Rattle.tlv.specs.Table.{Kept, KeptBut}
-use Rattle.tlv.specs.Model.{Entry, EntryRange}
+use Rattle.tlv.specs.Model.{Entry, EntryRange, RangeFailure}
 use Rattle.tlv.specs.Places.{entryHere, unitHere}
-use Rattle.tlv.specs.Output.{Function, Warning, eachOf, rowPayload, recordsBytes, warningsBytes, about, rejectedRange}
+use Rattle.tlv.specs.Output.{Function, Warning, eachOf, rowPayload, warningPayload, recordsBytes, warningsBytes, about, rejectedRange, malformedRanges}
 use Rattle.lines.specs.Files.{FileTable}
 use Rattle.lines.specs.Rows.{forRange}
+use Rattle.rnglists.specs.RangeLists.{ListRanges, failureBy, decimal}
 use Rattle.files.specs.Store.{tableOf, Grown}
 use Rattle.references.specs.Search.{resolveDeclarationLine}
 use Rattle.imports.specs.Tree.{Descendants}
 use Rattle.imports.specs.Import.{State, ImportContext, statementSequenceOffset, sequenceWarning, declarationIf, linesWith, isTombstone, isLiveRange, rejected}
-use Rattle.imports.specs.Import.{importRange, importSubprogram, isSubprogram, descendantsOf}
+use Rattle.imports.specs.Import.{importRange, importRanges, importSubprogram, isSubprogram, descendantsOf}
 use Rattle.dies.specs.declared.dies.Details.{Details}
 use Rattle.dies.specs.declared.dies.Warned.{Warned}
 use Rattle.dies.specs.Details.{entriesFrom, detailBytes}
+use Rattle.dies.specs.RangeTable.{listAt}
+use Rattle.dies.specs.Past.{isPast}
 use Rattle.subprograms.specs.declared.model.ImportState.{ImportState}
 use Rattle.subprograms.specs.declared.model.ImportContext.{ImportContext as Context}
 use Rattle.subprograms.specs.declared.functions.FoundLines.{FoundLines}
@@ -72,6 +77,7 @@ pub record FindsLines (F : FileTable → List Warning → Outcome FunctionLines)
   pub new : List Warning
   pub count : r .status ≡ 0 → r .count ≡ length rows
   pub laid : r .status ≡ 0 → Put (st .at) (linesBytes rows) t t′ (r .at)
+  pub past : r .status ≡ 0 → r .past ≡ (st .past || isPast (st .at) (length (linesBytes rows)))
   pub warned : r .status ≡ 0 → Put (st .warned) (warningsBytes new) u u′ (r .warned)
   pub grown : r .status ≡ 0 → Grown main supplementary w w′ f f′ (st .table) (r .table)
   pub kept : r .status ≡ 0 → KeptBut w w′ (touched main supplementary q (st .table))
@@ -92,6 +98,8 @@ detailsOf q r = record {
   ranges = q .ranges;
   stack = q .stack;
   sites = q .sites;
+  third = q .third;
+  «with_lists» = q .«with_lists»;
 }
 
 -- the outcome o of the walk below a subprogram is laid, and its record with so many rows is counted; or it is refused
@@ -102,6 +110,7 @@ pub record ImportsDetails (o : Outcome Descendants) (main supplementary : List �
   pub descendants : Descendants
   pub ok : r .status ≡ 0 → o ≡ done descendants
   pub laid : r .status ≡ 0 → Put (st .at) (detailBytes name range descendants) t t′ (r .at)
+  pub past : r .status ≡ 0 → r .past ≡ (st .past || isPast (st .at) (length (detailBytes name range descendants)))
   pub warned : r .status ≡ 0 → Put (st .warned) (warningsBytes (descendants .warnings)) u u′ (r .warned)
   pub counted : r .status ≡ 0 → statsOf (r .stats) ≡ withFunction rows (length (descendants .inlines)) (statsOf (st .stats))
   pub no : (r .status ≡ 0 → ⊥) → o ≡ refused (r .status)
@@ -123,6 +132,7 @@ pub record Imports (F : State → Outcome State) (main supplementary : List ℕ)
   pub records : List Function
   pub new : List Warning
   pub laid : r .status ≡ 0 → Put (st .at) (recordsBytes records) t t′ (r .at)
+  pub past : r .status ≡ 0 → r .past ≡ (st .past || isPast (st .at) (length (recordsBytes records)))
   pub warned : r .status ≡ 0 → Put (st .warned) (warningsBytes new) u u′ (r .warned)
   pub grown : r .status ≡ 0 → Grown main supplementary w w′ f f′ (st .table) (r .table)
   pub kept : r .status ≡ 0 → KeptBut w w′ (touched main supplementary q (st .table))
@@ -136,7 +146,14 @@ pub record Rejects (st : ImportState) (warned : ℕ) (r : ImportState) : Type 0 
   pub at : r .at ≡ st .at
   pub warned-is : r .warned ≡ warned
   pub status : r .status ≡ st .status
+  pub past : r .past ≡ st .past
   pub counted : statsOf (r .stats) ≡ withRejected (statsOf (st .stats))
+
+-- the fault n of a list was rejected, with a warning whose reason is its number in decimal
+pub record RejectsList (st : ImportState) (n : ℕ) (u u′ : List ℕ) (r : ImportState) : Type 0 where
+  pub warned : ℕ
+  pub put : Put (st .warned) (encode trayWarningTag (warningPayload (malformedRanges true (decimal n)))) u u′ warned
+  pub rejects : Rejects st warned r
 
 -- the entries below the one at place p
 abbrev pub belowEntry : List ℕ → ℕ → List Entry
@@ -148,6 +165,21 @@ importOne q e below name r s =
     cond (isTombstone (q .unit .text) r) (done (rejected [] s))
     (cond (isLiveRange (q .unit .text) (r .range)) (importRange q e below name (r .range) s)
     (done (rejected (about rejectedRange (r .range .start) (r .range .end) ∷ []) s)))
+
+-- importByFailure, of ranges and a failure that are given
+abbrev pub importFailing : ImportContext → Entry → List Entry → List ℕ → List EntryRange → Option RangeFailure → State → Outcome State
+importFailing q e below name rs none s = importRanges q e below name rs s
+importFailing q e below name rs (some f) s =
+    cond (eqb (f .stage) 0) (done (rejected (malformedRanges false (f .reason) ∷ []) s))
+    (importRanges q e below name rs s >>= λ t. done (rejected (malformedRanges true (f .reason) ∷ []) t))
+
+-- of a list, whose fault is a failure of stage 1
+abbrev pub importListed : ImportContext → Entry → List Entry → List ℕ → ListRanges → State → Outcome State
+importListed q e below name l s = importFailing q e below name (l .given) (failureBy (l .fault)) s
+
+-- the list of the field 1f whose payload is at `start`
+abbrev pub listOf : List ℕ → List ℕ → List ℕ → ℕ → ListRanges
+listOf main lists addresses start = listAt lists addresses (leAt 8 main (start + 16)) (leAt 1 main (start + 24)) (leAt 8 main start) (leAt 8 main (start + 8))
 
 -- one entry of importUnitDetails
 unfoldable pub importEntry : ImportContext → Entry → List Entry → State → Outcome State

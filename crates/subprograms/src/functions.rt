@@ -2,7 +2,7 @@
 ghost use mathlib.Core.Path.{_≡_};
 ghost use mathlib.Core.Bool.{cond};
 ghost use mathlib.Core.Option.{none, some};
-ghost use Prim.Native.Nat.{_+_, _-_, _*_, _^_, _≤_, _<_};
+ghost use Prim.Native.Nat.{_+_, _-_, _*_, _/_, _^_, _≤_, _<_};
 ghost use lib.Dec.{eqb};
 ghost use lib.ListN.{length};
 ghost use Rattle.tlv.specs.Buffer.{Put, top};
@@ -13,9 +13,10 @@ ghost use Rattle.collect.specs.Collects.{UnitIn};
 ghost use Rattle.references.specs.Tables.{EntryKnown};
 ghost use Rattle.dies.specs.Details.{entriesFrom};
 ghost use Rattle.dies.specs.DetailState.{Accepted};
+ghost use Rattle.dies.specs.Past.{isPast};
 ghost use Rattle.imports.specs.Tree.{extractSubprogramDetails};
 ghost use Rattle.imports.specs.Import.{statementSequenceOffset, detailContext, importRange, descendantsOf};
-ghost use Rattle.subprograms.specs.Contexts.{ContextIn, contextOf};
+ghost use Rattle.subprograms.specs.Contexts.{ContextIn, contextOf, contextWith};
 ghost use Rattle.subprograms.specs.Entries.{BeginsAt};
 ghost use Rattle.subprograms.specs.Steps.{linesBytes, SequenceWarned, functionLines, declaredLine, FindsLines, detailsOf, ImportsDetails, Imports};
 use crate::model::ImportContext;
@@ -35,13 +36,15 @@ use tlv::model::LineEntry;
 use tlv::tags::ENTRY_DEPTH;
 use tlv::tags::ENTRY_WHOLE;
 
-// The file table and the places in the records and the warnings after a function's rows, how many these are, and the refusal, 0 for none.
+// The file table and the places in the records and the warnings after a function's rows, how many these are, the refusal, 0 for none,
+// and whether the records pass the largest place.
 pub struct FoundLines {
     pub table: StoredFiles,
     pub at: usize,
     pub warned: usize,
     pub count: usize,
     pub status: u8,
+    pub past: bool,
 }
 
 // The largest number of a unit's word, which asks for no sequence.
@@ -131,6 +134,13 @@ fn put_lines(records: &mut [u8], at: usize, work: &[u8], from: usize, n: usize) 
     place
 }
 
+// Whether n rows from a place in the records on pass the largest place; a row has 21 bytes.
+fn rows_past(at: usize, n: usize) -> bool
+    ensures { λ r. ⌜ r ≡ isPast at (21 * n) ⌝ }
+{
+    (18446744073709551615 - at) / 21 < n
+}
+
 // The declaration of the entry at place p as the only row, at the address `start`; none where it has no declaration.
 fn declared_line<'a>(
     main: &'a [u8],
@@ -175,6 +185,7 @@ fn declared_line<'a>(
             warned: st.warned,
             count: 0,
             status: n,
+            past: st.past,
         },
         Declared::Missing(after) => {
             let grown = after.table;
@@ -184,6 +195,7 @@ fn declared_line<'a>(
                 warned: after.warned,
                 count: 0,
                 status: 0,
+                past: st.past,
             }
         }
         Declared::Found { state, file, line } => {
@@ -193,6 +205,7 @@ fn declared_line<'a>(
                 line: line,
                 column: 0,
             };
+            let past = rows_past(st.at, 1);
             let placed = tlv::output::put_line(records, st.at, row);
             let grown = state.table;
             FoundLines {
@@ -201,6 +214,7 @@ fn declared_line<'a>(
                 warned: state.warned,
                 count: 1,
                 status: 0,
+                past: st.past | past,
             }
         }
     }
@@ -239,6 +253,7 @@ fn function_lines<'a>(
             warned: warned.at,
             count: 0,
             status: warned.status,
+            past: st.past,
         };
     }
     if own.count == 0 {
@@ -248,6 +263,7 @@ fn function_lines<'a>(
             warned: warned.at,
             stats: stats,
             status: 0,
+            past: st.past,
         };
         return declared_line(
             main,
@@ -262,12 +278,14 @@ fn function_lines<'a>(
             next,
         );
     }
+    let past = rows_past(st.at, own.count);
     FoundLines {
         table: table,
         at: put_lines(records, st.at, work, own.rows, own.count),
         warned: warned.at,
         count: own.count,
         status: 0,
+        past: st.past | past,
     }
 }
 
@@ -288,6 +306,8 @@ fn details_of(q: ImportContext, range: AddressRange) -> Details
         ranges: q.ranges,
         stack: q.stack,
         sites: q.sites,
+        third: q.third,
+        with_lists: q.with_lists,
     }
 }
 
@@ -295,6 +315,8 @@ fn details_of(q: ImportContext, range: AddressRange) -> Details
 fn import_details<'a>(
     main: &'a [u8],
     supplementary: &'a [u8],
+    lists: &[u8],
+    addresses: &[u8],
     work: &mut [u8],
     records: &mut [u8],
     warnings: &mut [u8],
@@ -310,11 +332,13 @@ fn import_details<'a>(
     requires { ⌜ EntryKnown (now main) (q .unit) p ⌝ }
     requires { ⌜ BeginsAt (now main) (q .unit) (p + 15) below ⌝ }
     requires { ⌜ 16 + length (now name) < 65536 ⌝ }
+    requires { ⌜ length (now lists) / 3 ≡ q .third ⌝ }
     requires { ⌜ (st .at ≤ top) × (st .warned ≤ top) ⌝ }
-    ensures { λ r. ⌜ ImportsDetails (extractSubprogramDetails (detailContext (contextOf (now (main .entry)) (now (supplementary .entry)) (now (work .entry))
-        q) range) (descendantsOf (entryHere (now (main .entry)) p .depth) (entriesFrom (now (main .entry)) (p + 15)))) (now (main .entry))
-        (now (supplementary .entry)) q (now (name .entry)) range rows (now (work .entry)) (now (records .entry)) (now (warnings .entry)) st (now (work .exit))
-        (now (records .exit)) (now (warnings .exit)) r ⌝ }
+    ensures { λ r. ⌜ ImportsDetails (extractSubprogramDetails (detailContext (contextWith (now (main .entry)) (now (supplementary .entry))
+        (now (lists .entry)) (now (addresses .entry)) (now (work .entry)) q) range)
+        (descendantsOf (entryHere (now (main .entry)) p .depth) (entriesFrom (now (main .entry)) (p + 15)))) (now (main .entry)) (now (supplementary .entry))
+        q (now (name .entry)) range rows (now (work .entry)) (now (records .entry)) (now (warnings .entry)) st (now (work .exit)) (now (records .exit))
+        (now (warnings .exit)) r ⌝ }
 {
     let d = details_of(q, range);
     let depth = tlv::bytes::read_u16(main, p + ENTRY_DEPTH);
@@ -323,6 +347,8 @@ fn import_details<'a>(
     match dies::dies::extract_subprogram_details(
         main,
         supplementary,
+        lists,
+        addresses,
         work,
         records,
         warnings,
@@ -339,13 +365,20 @@ fn import_details<'a>(
             warned: st.warned,
             stats: stats,
             status: n,
+            past: st.past,
         },
-        Extracted::Details { nodes, at, warned } => ImportState {
+        Extracted::Details {
+            nodes,
+            at,
+            warned,
+            past,
+        } => ImportState {
             table: table,
             at: at,
             warned: warned,
             stats: crate::model::count_function(stats, rows, nodes),
             status: 0,
+            past: st.past | past,
         },
     }
 }
@@ -354,6 +387,8 @@ fn import_details<'a>(
 pub fn import_range<'a>(
     main: &'a [u8],
     supplementary: &'a [u8],
+    lists: &[u8],
+    addresses: &[u8],
     work: &mut [u8],
     records: &mut [u8],
     files: &mut [u8],
@@ -369,20 +404,24 @@ pub fn import_range<'a>(
     requires { ⌜ EntryKnown (now main) (q .unit) p ⌝ }
     requires { ⌜ BeginsAt (now main) (q .unit) (p + 15) below ⌝ }
     requires { ⌜ 16 + length (now name) < 65536 ⌝ }
+    requires { ⌜ length (now lists) / 3 ≡ q .third ⌝ }
     requires { ⌜ (st .status ≡ 0) × (st .at ≤ top) × (st .warned ≤ top) ⌝ }
-    ensures { λ r. ⌜ Imports (importRange (contextOf (now (main .entry)) (now (supplementary .entry)) (now (work .entry)) q) (entryHere (now (main .entry)) p)
+    ensures { λ r. ⌜ Imports (importRange (contextWith (now (main .entry)) (now (supplementary .entry)) (now (lists .entry)) (now (addresses .entry))
+        (now (work .entry)) q) (entryHere (now (main .entry)) p)
         (descendantsOf (entryHere (now (main .entry)) p .depth) (entriesFrom (now (main .entry)) (p + 15))) (now (name .entry)) range) (now (main .entry))
         (now (supplementary .entry)) q (now (work .entry)) (now (records .entry)) (now (files .entry)) (now (warnings .entry)) st (now (work .exit))
         (now (records .exit)) (now (files .exit)) (now (warnings .exit)) r ⌝ }
 {
     let table = st.table;
     let stats = st.stats;
+    let past = dies::past::is_past(st.at, 19 + name.len());
     let headed = ImportState {
         table: table,
         at: tlv::output::put_function(records, st.at, range, name),
         warned: st.warned,
         stats: stats,
         status: 0,
+        past: st.past | past,
     };
     let l = function_lines(
         main,
@@ -403,6 +442,7 @@ pub fn import_range<'a>(
         warned: l.warned,
         stats: stats,
         status: l.status,
+        past: l.past,
     };
     if l.status != 0 {
         return lined;
@@ -410,6 +450,8 @@ pub fn import_range<'a>(
     import_details(
         main,
         supplementary,
+        lists,
+        addresses,
         work,
         records,
         warnings,

@@ -15,7 +15,7 @@ pub struct ConversionStats {
 }
 
 // What is the same for every subprogram of a unit: the places of the searches, of the unit and of its lines, its n executable ranges at `text`,
-// the places of the walk below a subprogram, and the two switches.
+// the places of the walk below a subprogram, the two switches, a third of the bytes of the range lists, and whether the main sheet has any.
 pub struct ImportContext {
     pub places: Places,
     pub unit: usize,
@@ -27,15 +27,19 @@ pub struct ImportContext {
     pub sites: usize,
     pub include_inlines: bool,
     pub include_call_sites: bool,
+    pub third: usize,
+    pub with_lists: bool,
 }
 
-// What changes from range to range: the file table, the places in the records and the warnings, the statistics, and the refusal, 0 for none.
+// What changes from range to range: the file table, the places in the records and the warnings, the statistics, the refusal, 0 for none,
+// and whether the records pass the largest place.
 pub struct ImportState {
     pub table: StoredFiles,
     pub at: usize,
     pub warned: usize,
     pub stats: ConversionStats,
     pub status: u8,
+    pub past: bool,
 }
 
 // No statistics yet.

@@ -1,6 +1,7 @@
 -- What the grammar promises of each field by its tag, whatever stands before it. Assumes nothing.
 use mathlib.Core.Path.{_≡_}
-use mathlib.Core.Bool.{true}
+use mathlib.Core.Bool.{true, _&&_, _||_}
+use mathlib.Core.Logic.{inl, inr}
 use mathlib.Core.List.{List, [], _∷_}
 use Prim.Native.Nat.{ℕ, _+_, _-_, _^_, _≤_, _<_}
 use native.Mathlib.Omega.{arith}
@@ -12,10 +13,10 @@ use Rattle.tlv.specs.Bytes.{Bytes, leAt}
 use Rattle.tlv.specs.Limits.{fieldLimit, stringLimit, depthLimit}
 use Rattle.tlv.specs.Fields.{Field, headOf, payloads, payloadOf}
 use Rattle.tlv.specs.declared.grammar.Context.{Context}
-use Rattle.tlv.specs.Grammar.{mayFollow, payloadShaped, payloadLimited, shaped, limited, next, unitShaped, rowShaped, entryShaped, rowLineAt, rowColumnAt}
-use Rattle.tlv.specs.Model.{rangeOf, directoryOf, fileOf, rowOf, attributeOf, entryRangeOf, failureOf}
-use Rattle.tlv.specs.Accepted.{Small, String, Given, AttributeAccepted, FailureAccepted, RowAccepted}
-use Rattle.tlv.proofs.TestLaws.{by-test, and-left, and-right}
+use Rattle.tlv.specs.Grammar.{mayFollow, payloadShaped, payloadLimited, shaped, limited, next, unitShaped, rowShaped, entryShaped, listShaped, rowLineAt, rowColumnAt}
+use Rattle.tlv.specs.Model.{rangeOf, directoryOf, fileOf, rowOf, attributeOf, entryRangeOf, failureOf, rangeListOf}
+use Rattle.tlv.specs.Accepted.{Small, String, Given, AttributeAccepted, FailureAccepted, ListAccepted, RowAccepted}
+use Rattle.tlv.proofs.TestLaws.{by-test, and-left, and-right, or-either}
 use Rattle.tlv.proofs.ListLaws.{all-drop}
 use Rattle.tlv.proofs.ByteLaws.{leAt-bound}
 
@@ -122,6 +123,15 @@ failure-promise c p b s l = record {
   bytes = all-drop (λ x. x < 256) 1 p b;
   short = rw length-drop (leb-true _ _ l);
 }
+
+pub list-promise : Promised 0x1f (λ p. ListAccepted (rangeListOf p))
+unfolding payloadShaped listShaped rangeListOf
+list-promise c p b s l =
+    let n = leAt 1 p 24 in
+    elim (or-either (eqb n 4) (eqb n 8) (and-right (eqb (length p) 25 && eqb (c .version) 5) (eqb n 4 || eqb n 8) s)) [
+      | inl e ↦ inl (eqb-true n 4 e)
+      | inr e ↦ inr (eqb-true n 8 e)
+    ]
 
 -- a unit ends below 2 ^ 64
 pub unit-promise : Promised 0x10 (λ p. leAt 8 p 0 + leAt 8 p 8 < 2 ^ 64)

@@ -12,12 +12,12 @@ use Rattle.tlv.specs.Bytes.{leAt}
 use Rattle.tlv.specs.Fields.{Field, Group, Groups, grouped, fields, wholeFields, payloads, payloadOf}
 use Rattle.tlv.specs.declared.grammar.Context.{Context}
 use Rattle.tlv.specs.Grammar.{start, next, checkInput}
-use Rattle.tlv.specs.Model.{rangeOf, directoryOf, fileOf, rowOf, attributeOf, entryRangeOf, failureOf, entryOf, unitOf, units}
-use Rattle.tlv.specs.Accepted.{Small, String, AttributeAccepted, FailureAccepted, RowAccepted, EntryAccepted, Ordered, UnitAccepted, Accepting}
+use Rattle.tlv.specs.Model.{rangeOf, directoryOf, fileOf, rowOf, attributeOf, entryRangeOf, failureOf, rangeListOf, entryOf, unitOf, units}
+use Rattle.tlv.specs.Accepted.{Small, String, AttributeAccepted, FailureAccepted, ListAccepted, RowAccepted, EntryAccepted, Ordered, UnitAccepted, Accepting}
 use Rattle.tlv.proofs.ListLaws.{all-map, all-image, given-image}
 use Rattle.tlv.proofs.AcceptedFields.{Passed, AllPassed, shape-is, limit-is, promised-all, promised-first}
 use Rattle.tlv.proofs.AcceptedFields.{unit-promise, directory-promise, text-promise, directories-promise, file-promise, file-zero-promise}
-use Rattle.tlv.proofs.AcceptedFields.{row-promise, attribute-promise, range-promise, failure-promise, entry-from, entry-within, entry-step, entry-depth}
+use Rattle.tlv.proofs.AcceptedFields.{row-promise, attribute-promise, range-promise, failure-promise, list-promise, entry-from, entry-within, entry-step, entry-depth}
 use Rattle.tlv.proofs.AcceptedCounts.{few-payloads}
 use Rattle.tlv.proofs.AcceptedGroups.{Without, Passage, fields-bytes, checked-passed, grouped-passed}
 
@@ -58,6 +58,7 @@ entry-accepted c g is h rest =
       attributes = all-image AttributeAccepted attributeOf (payloads 0x18 r) (promised-all 0x18 _ attribute-promise c′ r rest);
       ranges = all-image (λ x. Small (x .range)) entryRangeOf (payloads 0x19 r) (promised-all 0x19 _ range-promise c′ r rest);
       failure = given-image FailureAccepted failureOf (payloadOf 0x1a r) (promised-first 0x1a _ failure-promise c′ r rest);
+      list = given-image ListAccepted rangeListOf (payloadOf 0x1f r) (promised-first 0x1f _ list-promise c′ r rest);
     }
 
 module _ (c : Context) (f : Field) (g : Groups) where

@@ -118,6 +118,9 @@ module _ (s : List ℕ) (start len : ℕ) (fits : start + len ≤ length s) (c :
   pub unit-second : t ≡ 0x10 → start + 8 + 8 ≤ length s
   unit-second e = let l = unit-here e in omega arith
 
+  pub unit-third : t ≡ 0x10 → start + 16 < length s
+  unit-third e = let l = unit-here e in omega arith
+
   pub entry-first : t ≡ 0x17 → start + 8 ≤ length s
   entry-first e = let l = entry-here e in omega arith
 
@@ -138,13 +141,24 @@ module _ (s : List ℕ) (start len : ℕ) (fits : start + len ≤ length s) (c :
       let below = rw (number-first s start len 8 o (omega arith) eo) at (entry-within c (take len (drop start s)) (rw e at shape)) in
       omega arith
 
-  pub next-unit : (o n : ℕ) → t ≡ 0x10 → o ≡ leAt 8 s start → n ≡ leAt 8 s (start + 8)
-      → record { previous = t; count = c .count + 1; units = c .units + 1; end = o + n; length = n; offset = 0; depth = 0; program = c .program; encoded = false }
+  pub next-unit : (o n v : ℕ) → t ≡ 0x10 → o ≡ leAt 8 s start → n ≡ leAt 8 s (start + 8) → v ≡ leAt 1 s (start + 16)
+      → record {
+        previous = t;
+        count = c .count + 1;
+        units = c .units + 1;
+        end = o + n;
+        length = n;
+        version = v;
+        offset = 0;
+        depth = 0;
+        program = c .program;
+        encoded = false;
+      }
       ≡ next c (fieldIn s t start len)
   unfolding next
-  next-unit o n e eo en =
+  next-unit o n v e eo en ev =
       let l = unit-here e in
-      rw (e, number-first s start len 8 o (omega arith) eo, number-at s start len 8 8 n (omega arith) en)
+      rw (e, number-first s start len 8 o (omega arith) eo, number-at s start len 8 8 n (omega arith) en, number-at s start len 1 16 v (omega arith) ev)
 
   pub next-entry : (o d : ℕ) → t ≡ 0x17 → o ≡ leAt 8 s start → d ≡ leAt 2 s (start + 8)
       → record {
@@ -153,6 +167,7 @@ module _ (s : List ℕ) (start len : ℕ) (fits : start + len ≤ length s) (c :
         units = c .units;
         end = c .end;
         length = c .length;
+        version = c .version;
         offset = o + 1;
         depth = d + 1;
         program = c .program;
@@ -171,6 +186,7 @@ pub next-other : (c : Context) (t : ℕ) (p : List ℕ) → (t ≡ 0x10 → ⊥)
       units = c .units;
       end = c .end;
       length = c .length;
+      version = c .version;
       offset = c .offset;
       depth = c .depth;
       program = c .program;

@@ -9,7 +9,7 @@ use Rattle.tlv.specs.declared.access.Value.{Value}
 use Rattle.tlv.specs.Lists.{first, mapOption}
 use Rattle.tlv.specs.Bytes.{leAt}
 use Rattle.tlv.specs.Fields.{fields, payloads, payloadOf}
-use Rattle.tlv.specs.Model.{attributeOf, entryRangeOf, failureOf, entryOf}
+use Rattle.tlv.specs.Model.{attributeOf, entryRangeOf, failureOf, rangeListOf, entryOf}
 use Rattle.tlv.specs.Cursor.{stepAt}
 use Rattle.tlv.specs.Checked.{Placed}
 use Rattle.tlv.specs.Places.{ownFields, entryHere}
@@ -30,6 +30,10 @@ module _ (s : List ℕ) (p : ℕ) (r : Step) (t start len next : ℕ) (reads : r
   pub entry-failure : entryHere s p .failure ≡ mapOption failureOf (payloadOf 0x1a (ownFields (fields (drop next s))))
   unfolding entryHere entryOf
   entry-failure = rw (fields-field s p r t start len next reads e)
+
+  pub entry-list : entryHere s p .list ≡ mapOption rangeListOf (payloadOf 0x1f (ownFields (fields (drop next s))))
+  unfolding entryHere entryOf
+  entry-list = rw (fields-field s p r t start len next reads e)
 
   module _ (h : Placed s p) (is : t ≡ 0x17) where
     pub entry-offset-is : entryHere s p .offset ≡ leAt 8 s start

@@ -36,6 +36,7 @@ pub mod AttributeLaws
 pub mod EntryPlaceLaws
 pub mod UnitPlaceLaws
 pub mod UnitFacts
+pub mod ListCountLaws
 pub mod IndexOrder
 pub mod IndexLaws
 pub mod FindLaws

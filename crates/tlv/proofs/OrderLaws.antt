@@ -94,7 +94,7 @@ may-attribute t =
     by-test P (eqb t 0x16) (λ _ k. absurd (false≢true k)) (λ _.
     by-test P (eqb t 0x17 || eqb t 0x18) (λ e k. e) (λ _.
     by-test P (eqb t 0x19) (λ _ k. absurd (false≢true k)) (λ _.
-    by-test P (eqb t 0x1a) (λ _ k. absurd (false≢true k)) (λ _ k. absurd (false≢true k)))))))))))
+    by-test P (eqb t 0x1a || eqb t 0x1f) (λ _ k. absurd (false≢true k)) (λ _ k. absurd (false≢true k)))))))))))
 
 passing-attributes : Passing 0x18 (λ t. t ≡ 0x18 → ⊥)
 passing-attributes = record { never = λ late own. late refl; keeps = keeps }

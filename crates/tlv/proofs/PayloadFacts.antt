@@ -6,7 +6,7 @@ use Prim.Native.Nat.{ℕ, _≤_}
 use lib.ListN.{length}
 use borrow.Author.Tests.{leb-true, eqb-true}
 use Rattle.tlv.specs.declared.grammar.Context.{Context}
-use Rattle.tlv.specs.Grammar.{payloadShaped, unitShaped, textShaped, headerShaped, encodingShaped, partShaped, directoryShaped, fileShaped, rowShaped, entryShaped, attributeShaped, rangeShaped, failureShaped}
+use Rattle.tlv.specs.Grammar.{payloadShaped, unitShaped, textShaped, headerShaped, encodingShaped, partShaped, directoryShaped, fileShaped, rowShaped, entryShaped, attributeShaped, rangeShaped, failureShaped, listShaped}
 use Rattle.tlv.specs.Grammar.{encodingFieldSize, partFieldSize, rowFieldSize}
 use Rattle.tlv.specs.Tags.{encodingTag, partTag}
 use Rattle.tlv.proofs.TestLaws.{and-left, and-right}
@@ -63,3 +63,7 @@ module _ (c : Context) (p : List ℕ) where
   pub failure-long : payloadShaped c 0x1a p ≡ true → 1 ≤ length p
   unfolding payloadShaped failureShaped
   failure-long s = leb-true _ _ (search and-left)
+
+  pub list-long : payloadShaped c 0x1f p ≡ true → length p ≡ 25
+  unfolding payloadShaped listShaped
+  list-long s = eqb-true _ _ (search and-left)

@@ -19,7 +19,7 @@ use Rattle.tlv.proofs.CursorLaws.{payload-within, payload-length}
 use Rattle.tlv.proofs.AcceptedFields.{entry-depth}
 use Rattle.tlv.proofs.ShapeLaws.{number-at}
 use Rattle.tlv.proofs.CheckLaws.{unit-fits}
-use Rattle.tlv.proofs.PayloadFacts.{unit-long, text-long, header-long, encoding-long, part-long, directory-long, file-long, file-zero-long, row-long, entry-long, attribute-long, range-long, failure-long}
+use Rattle.tlv.proofs.PayloadFacts.{unit-long, text-long, header-long, encoding-long, part-long, directory-long, file-long, file-zero-long, row-long, entry-long, attribute-long, range-long, failure-long, list-long}
 use Rattle.tlv.proofs.PlaceFacts.{placed-shaped, placed-limited}
 
 -- the least length of the payload of a field of a tag
@@ -37,7 +37,8 @@ leastOf t =
     (cond (eqb t 0x18) 3
     (cond (eqb t 0x19) 17
     (cond (eqb t 0x1a) 1
-    0)))))))))))
+    (cond (eqb t 0x1f) 25
+    0))))))))))))
 
 module _ (s : List ℕ) (p : ℕ) (r : Step) (t start len past : ℕ) (h : Placed s p) (at : r ≡ stepAt s p) (e : r ≡ Step.Field t start len past) where
   shape : payloadShaped (h .context) t (take len (drop start s)) ≡ true
@@ -93,6 +94,9 @@ module _ (s : List ℕ) (p : ℕ) (r : Step) (t start len past : ℕ) (h : Place
   pub placed-failure : t ≡ 0x1a → 1 ≤ len
   placed-failure is = by-length (λ n. 1 ≤ n) (failure-long _ _ (rw is at shape))
 
+  pub placed-list : t ≡ 0x1f → len ≡ 25
+  placed-list is = by-length (λ n. n ≡ 25) (list-long _ _ (rw is at shape))
+
   least : leastOf t ≤ len
   least =
       let Q : ℕ → Type 0 = λ n. n ≤ len in
@@ -107,7 +111,8 @@ module _ (s : List ℕ) (p : ℕ) (r : Step) (t start len past : ℕ) (h : Place
       by-test Q (eqb t 0x17) (λ is. let l = placed-entry (eqb-true t 0x17 is) in omega arith) (λ _.
       by-test Q (eqb t 0x18) (λ is. placed-attribute (eqb-true t 0x18 is)) (λ _.
       by-test Q (eqb t 0x19) (λ is. let l = placed-range (eqb-true t 0x19 is) in omega arith) (λ _.
-      by-test Q (eqb t 0x1a) (λ is. placed-failure (eqb-true t 0x1a is)) (λ _. omega arith))))))))))))
+      by-test Q (eqb t 0x1a) (λ is. placed-failure (eqb-true t 0x1a is)) (λ _.
+      by-test Q (eqb t 0x1f) (λ is. let l = placed-list (eqb-true t 0x1f is) in omega arith) (λ _. omega arith)))))))))))))
 
   -- what of it can be read, at a literal place and width: the test computes
   module _ (m : ℕ) (is : t ≡ m) where

@@ -13,7 +13,7 @@ use borrow.Author.Tests.{le-leb, lt-leb, lt-ltb, le-ltb, eq-eqb, ne-eqb}
 use Rattle.tlv.specs.declared.grammar.Context.{Context}
 use Rattle.tlv.specs.Lists.{exists}
 use Rattle.tlv.specs.Bytes.{leAt}
-use Rattle.tlv.specs.Grammar.{unitShaped, textShaped, headerShaped, encodingShaped, partShaped, directoryShaped, fileShaped, rowShaped, entryShaped, valueShaped, attributeShaped, rangeShaped, failureShaped}
+use Rattle.tlv.specs.Grammar.{unitShaped, textShaped, headerShaped, encodingShaped, partShaped, directoryShaped, fileShaped, rowShaped, entryShaped, valueShaped, attributeShaped, rangeShaped, failureShaped, listShaped}
 use Rattle.tlv.specs.Grammar.{encodingFlagAt, encodingFieldSize, partLengthAt, partFieldSize, rowFieldSize, rowKindAt}
 use Rattle.tlv.proofs.WidthLaws.{leAt-part}
 
@@ -186,6 +186,14 @@ module _ (s : List ℕ) (start len : ℕ) (fits : start + len ≤ length s) wher
   pub range-is : (f : ℕ) → len ≡ 17 → f ≡ leAt 1 s (start + 16) → leb f 1 ≡ rangeShaped (take len (drop start s))
   unfolding rangeShaped
   range-is f h e = rw (part-length s start len fits, eq-eqb len 17 h, number-at s start len 1 16 f (omega arith) e)
+
+  pub list-not : (c : Context) → (len ≡ 25 → ⊥) → false ≡ listShaped c (take len (drop start s))
+  unfolding listShaped
+  list-not c h = rw (part-length s start len fits, ne-eqb len 25 h)
+
+  pub list-is : (c : Context) (n : ℕ) → len ≡ 25 → n ≡ leAt 1 s (start + 24) → (eqb (c .version) 5 && (eqb n 4 || eqb n 8)) ≡ listShaped c (take len (drop start s))
+  unfolding listShaped
+  list-is c n h e = rw (part-length s start len fits, eq-eqb len 25 h, number-at s start len 1 24 n (omega arith) e)
 
   pub failure-not : (previous : ℕ) → len < 1 → false ≡ failureShaped previous (take len (drop start s))
   unfolding failureShaped

@@ -1,6 +1,7 @@
 -- What the grammar promises of a unit (document 01, "The sheet", refusals 2 and 3), as far as what is read of it goes. Assumes nothing.
 use Prim.Native.Nat.{ℕ, suc, _+_, _^_, _≤_, _<_}
 use mathlib.Core.Path.{_≡_}
+use mathlib.Core.Logic.{_⊎_}
 use mathlib.Core.List.{List, [], _∷_}
 use mathlib.Core.Option.{Option, none, some}
 use lib.ListN.{length}
@@ -9,7 +10,7 @@ use Rattle.tlv.specs.Lists.{All}
 use Rattle.tlv.specs.Bytes.{Bytes}
 use Rattle.tlv.specs.Limits.{fieldLimit, stringLimit, reasonLimit, depthLimit}
 use Rattle.tlv.specs.Checked.{Accepts}
-use Rattle.tlv.specs.Model.{Attribute, RangeFailure, Entry, LineRow, CompilationUnit, units}
+use Rattle.tlv.specs.Model.{Attribute, RangeFailure, RangeList, Entry, LineRow, CompilationUnit, units}
 
 abbrev pub Small : AddressRange → Type 0
 Small r = (r .start < 2 ^ 64) × (r .end < 2 ^ 64)
@@ -29,6 +30,9 @@ pub record FailureAccepted (f : RangeFailure) : Type 0 where
   pub bytes : Bytes (f .reason)
   pub short : length (f .reason) ≤ reasonLimit
 
+abbrev pub ListAccepted : RangeList → Type 0
+ListAccepted l = (l .size ≡ 4) ⊎ (l .size ≡ 8)
+
 pub record RowAccepted (r : LineRow) : Type 0 where
   pub address : r .address < 2 ^ 64
   pub file : r .file < 2 ^ 64
@@ -43,6 +47,7 @@ pub record EntryAccepted (n : ℕ) (e : Entry) : Type 0 where
   pub attributes : All AttributeAccepted (e .attributes)
   pub ranges : All (λ r. Small (r .range)) (e .ranges)
   pub failure : Given FailureAccepted (e .failure)
+  pub list : Given ListAccepted (e .list)
 
 -- each entry's offset is at least o and its depth at most d, and the next one's then more, and at most one more
 abbrev pub Ordered : ℕ → ℕ → List Entry → Type 0

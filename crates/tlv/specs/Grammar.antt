@@ -5,8 +5,8 @@ use mathlib.Core.Bool.{Bool, true, false, cond, _&&_, _||_, not}
 use mathlib.Core.List.{List, [], _∷_}
 use lib.ListN.{length}
 use lib.Dec.{leb, ltb, eqb}
-use Rattle.tlv.specs.Tags.{attributeTag, compilationTag, directoryTag, encodingTag, entryTag, failureTag, fileTag, fileZeroTag, headerTag, partTag}
-use Rattle.tlv.specs.Tags.{rangeTag, rowTag, textTag, unitTag}
+use Rattle.tlv.specs.Tags.{attributeTag, compilationTag, directoryTag, encodingTag, entryTag, failureTag, fileTag, fileZeroTag, headerTag, listTag}
+use Rattle.tlv.specs.Tags.{partTag, rangeTag, rowTag, textTag, unitTag}
 use Rattle.tlv.specs.declared.grammar.Context.{Context}
 use Rattle.tlv.specs.Outcome.{Outcome, refused, done}
 use Rattle.tlv.specs.Lists.{exists}
@@ -16,7 +16,18 @@ use Rattle.tlv.specs.Fields.{Field, FieldList, end, cut, more, fields}
 
 -- before the first field, with a line program of so many bytes
 abbrev pub start : ℕ → Context
-start program = record { previous = 0; count = 0; units = 0; end = 0; length = 0; offset = 0; depth = 0; program = program; encoded = false }
+start program = record {
+  previous = 0;
+  count = 0;
+  units = 0;
+  end = 0;
+  length = 0;
+  version = 0;
+  offset = 0;
+  depth = 0;
+  program = program;
+  encoded = false;
+}
 
 -- ---- the order: "A unit is 10, at most one 11, any 12; then optionally 13 and, only after one, any 14, at most one 1c, any 15, any 16; then entries, .."
 -- Document 02, E8: "A new field, 1d hex, after the line header"; E11: "A field 1e hex after a line header (and its 1d)": directly behind it, at most one each
@@ -45,9 +56,9 @@ after t =
     (cond (eqb t partTag || eqb t directoryTag) (unitTag ∷ directoryTag ∷ fileZeroTag ∷ fileTag ∷ rowTag ∷ entryTag ∷ [])
     (cond (eqb t fileZeroTag || eqb t fileTag) (unitTag ∷ fileTag ∷ rowTag ∷ entryTag ∷ [])
     (cond (eqb t rowTag) (unitTag ∷ rowTag ∷ entryTag ∷ [])
-    (cond (eqb t entryTag || eqb t attributeTag) (unitTag ∷ entryTag ∷ attributeTag ∷ rangeTag ∷ failureTag ∷ [])
+    (cond (eqb t entryTag || eqb t attributeTag) (unitTag ∷ entryTag ∷ attributeTag ∷ rangeTag ∷ failureTag ∷ listTag ∷ [])
     (cond (eqb t rangeTag) (unitTag ∷ entryTag ∷ rangeTag ∷ failureTag ∷ [])
-    (cond (eqb t failureTag) (unitTag ∷ entryTag ∷ [])
+    (cond (eqb t failureTag || eqb t listTag) (unitTag ∷ entryTag ∷ [])
     (unitTag ∷ []))))))))))
 
 unfoldable pub mayFollow : ℕ → ℕ → Bool
@@ -141,6 +152,11 @@ rangeShaped p = eqb (length p) 17 && isFlag (leAt 1 p 16)
 unfoldable pub failureShaped : ℕ → List ℕ → Bool
 failureShaped previous p = leb 1 (length p) && isFlag (leAt 1 p 0) && (eqb (leAt 1 p 0) 1 || not (eqb previous rangeTag))
 
+-- 1f range list (document 02, E9), "in place of 19 and 1a": list offset, unit base address, byte place of the unit's addresses in the table,
+-- address size (1 byte, 4 or 8). "In version 5 units (1f is misshapen in others)": the version of field 10
+unfoldable pub listShaped : Context → List ℕ → Bool
+listShaped c p = eqb (length p) 25 && eqb (c .version) 5 && isWord (leAt 1 p 24)
+
 -- the payload of a field of tag t
 unfoldable pub payloadShaped : Context → ℕ → List ℕ → Bool
 payloadShaped c t p =
@@ -157,7 +173,8 @@ payloadShaped c t p =
     (cond (eqb t attributeTag) (attributeShaped p)
     (cond (eqb t rangeTag) (rangeShaped p)
     (cond (eqb t failureTag) (failureShaped (c .previous) p)
-    false))))))))))))
+    (cond (eqb t listTag) (listShaped c p)
+    false)))))))))))))
 
 -- 2: a field that is no breach of the grammar
 unfoldable pub shaped : Context → Field → Bool
@@ -192,6 +209,7 @@ next c f =
       units = c .units + 1;
       end = leAt 8 p 0 + leAt 8 p 8;
       length = leAt 8 p 8;
+      version = leAt 1 p 16;
       offset = 0;
       depth = 0;
       program = c .program;
@@ -204,6 +222,7 @@ next c f =
       units = c .units;
       end = c .end;
       length = c .length;
+      version = c .version;
       offset = leAt 8 p 0 + 1;
       depth = leAt 2 p 8 + 1;
       program = c .program;
@@ -215,6 +234,7 @@ next c f =
       units = c .units;
       end = c .end;
       length = c .length;
+      version = c .version;
       offset = c .offset;
       depth = c .depth;
       program = c .program;

@@ -8,6 +8,10 @@ inputLimit = 16777216
 abbrev pub programLimit : ℕ
 programLimit = 4194304
 
+-- bytes of a list section and of an address table (E9)
+abbrev pub listLimit : ℕ
+listLimit = 4194304
+
 -- 3, past limit: fields and units of a sheet, bytes of a string and of a reason, depth of an entry
 abbrev pub fieldLimit : ℕ
 fieldLimit = 65536
@@ -40,6 +44,13 @@ workOfProgramByte = 4
 -- E8: with an encoding a unit's "import's work needs 64 × program bytes in place of 4 ×"
 abbrev pub workOfEncodedByte : ℕ
 workOfEncodedByte = 64
+
+-- .. for each byte of the list section, as often as the unit has fields 1f, of which so many count at most (E9)
+abbrev pub workOfListByte : ℕ
+workOfListByte = 8
+
+abbrev pub countedLists : ℕ
+countedLists = 256
 
 abbrev pub workBesides : ℕ
 workBesides = 32768

@@ -5,8 +5,8 @@ use mathlib.Core.List.{List, map}
 use mathlib.Core.Option.{Option, none, some}
 use lib.ListN.{length, take, drop}
 use lib.Dec.{eqb}
-use Rattle.tlv.specs.Tags.{attributeTag, compilationTag, directoryTag, encodingTag, entryTag, failureTag, fileTag, fileZeroTag, headerTag, partTag}
-use Rattle.tlv.specs.Tags.{rangeTag, rowTag, textTag, unitTag}
+use Rattle.tlv.specs.Tags.{attributeTag, compilationTag, directoryTag, encodingTag, entryTag, failureTag, fileTag, fileZeroTag, headerTag, listTag}
+use Rattle.tlv.specs.Tags.{partTag, rangeTag, rowTag, textTag, unitTag}
 use Rattle.tlv.specs.declared.model.AddressRange.{AddressRange}
 use Rattle.tlv.specs.Lists.{mapOption}
 use Rattle.tlv.specs.Bytes.{leAt}
@@ -30,6 +30,14 @@ pub record RangeFailure : Type 0 where
   pub stage : ℕ
   pub reason : List ℕ
 
+-- a range list (document 02, E9): its offset in the list section, the unit's base address, the byte place of the unit's addresses in the table, the address
+-- size
+pub record RangeList : Type 0 where
+  pub offset : ℕ
+  pub base : ℕ
+  pub addresses : ℕ
+  pub size : ℕ
+
 pub record Entry : Type 0 where
   pub offset : ℕ
   pub depth : ℕ
@@ -37,6 +45,7 @@ pub record Entry : Type 0 where
   pub attributes : List Attribute
   pub ranges : List EntryRange
   pub failure : Option RangeFailure
+  pub list : Option RangeList
 
 pub record LineHeader : Type 0 where
   pub offset : ℕ
@@ -91,6 +100,7 @@ pub record CompilationUnit : Type 0 where
   pub files : List HeaderFile
   pub rows : List LineRow
   pub entries : List Entry
+  pub lists : ℕ  -- how many fields 1f it has
 
 -- ---- the fields' payloads
 
@@ -150,6 +160,10 @@ entryRangeOf p = record { range = rangeOf p; tombstone = flagAt p 16 }
 unfoldable pub failureOf : List ℕ → RangeFailure
 failureOf p = record { stage = leAt 1 p 0; reason = drop 1 p }
 
+-- 1f
+unfoldable pub rangeListOf : List ℕ → RangeList
+rangeListOf p = record { offset = leAt 8 p 0; base = leAt 8 p 8; addresses = leAt 8 p 16; size = leAt 1 p 24 }
+
 -- 17 and what follows it
 unfoldable pub entryOf : Group → Entry
 entryOf g =
@@ -161,6 +175,7 @@ entryOf g =
       attributes = map attributeOf (payloads attributeTag (g .rest));
       ranges = map entryRangeOf (payloads rangeTag (g .rest));
       failure = mapOption failureOf (payloadOf failureTag (g .rest));
+      list = mapOption rangeListOf (payloadOf listTag (g .rest));
     }
 
 -- 10 and what follows it: the fields before the first entry, and the entries
@@ -183,6 +198,7 @@ unitOf g =
       files = map fileOf (payloads fileTag own);
       rows = map rowOf (payloads rowTag own);
       entries = map entryOf (grouped entryTag (g .rest) .groups);
+      lists = length (payloads listTag (g .rest));
     }
 
 -- the units of a sheet
@@ -198,13 +214,3 @@ programPart (some p) program = take (p .length) (drop (p .start) program)
 -- "names the unit's part of the lent program by start and length; .. without 1e it is the whole program"
 unfoldable pub programOf : CompilationUnit → List ℕ → List ℕ
 programOf u program = programPart (u .part) program
-
--- ---- where ranges come from
-
--- die_ranges: an entry's ranges, and where reading them failed
-pub record DieRanges : Type 0 where
-  pub given : List EntryRange
-  pub failure : Option RangeFailure
-
-unfoldable pub dieRanges : Entry → DieRanges
-dieRanges e = record { given = e .ranges; failure = e .failure }

@@ -5,10 +5,10 @@ use mathlib.Core.Option.{Option, none, some}
 use Prim.Native.Nat.{ℕ, zero, suc, _+_}
 use lib.Dec.{eqb}
 use lib.ListN.{length, drop}
-use Rattle.tlv.specs.Tags.{entryTag, unitTag}
+use Rattle.tlv.specs.Tags.{entryTag, listTag, unitTag}
 use Rattle.tlv.specs.Lists.{takeWhile}
 use Rattle.tlv.specs.Bytes.{leAt}
-use Rattle.tlv.specs.Fields.{Field, FieldList, end, cut, more, fields, wholeFields}
+use Rattle.tlv.specs.Fields.{Field, FieldList, end, cut, more, fields, wholeFields, payloads}
 use Rattle.tlv.specs.Model.{Entry, CompilationUnit, entryOf, unitOf}
 
 -- the fields up to the next unit or entry: those of an entry, or a unit's own
@@ -40,6 +40,10 @@ unitFrom (more f fs) = unitOf (record { head = f; rest = unitFields fs })
 -- the unit at a place
 unfoldable pub unitHere : List ℕ → ℕ → CompilationUnit
 unitHere s p = unitFrom (fields (drop p s))
+
+-- how many fields 1f stand from a place on before the next unit
+unfoldable pub listsFrom : List ℕ → ℕ → ℕ
+listsFrom s p = length (payloads listTag (unitFields (fields (drop p s))))
 
 -- the place behind a field that stands at p
 abbrev pub behind : ℕ → Field → ℕ

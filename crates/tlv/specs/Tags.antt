@@ -49,6 +49,10 @@ rangeTag = 0x19
 abbrev pub failureTag : ℕ
 failureTag = 0x1a
 
+-- a range list
+abbrev pub listTag : ℕ
+listTag = 0x1f
+
 -- ---- the trays
 
 abbrev pub trayFileTag : ℕ

@@ -10,7 +10,7 @@ ghost use Rattle.tlv.specs.Fields.{fields, payloads};
 ghost use Rattle.tlv.specs.Grammar.{attributeShaped};
 ghost use Rattle.tlv.specs.Model.{attributeOf};
 ghost use Rattle.tlv.specs.Checked.{Placed};
-ghost use Rattle.tlv.specs.Places.{ownFields, unitPlaces};
+ghost use Rattle.tlv.specs.Places.{ownFields, unitPlaces, listsFrom};
 ghost use Rattle.tlv.specs.Access.{NextOwn, isNamed, numberValue, valueOf, meaningOf, Says, placeOf};
 use crate::bytes::read_u8;
 use crate::bytes::read_u16;
@@ -21,6 +21,7 @@ use crate::grammar::ROW_FIELD;
 use crate::grammar::ROW_WHOLE;
 use crate::tags::ATTRIBUTE_TAG;
 use crate::tags::ENTRY_TAG;
+use crate::tags::LIST_TAG;
 use crate::tags::ROW_TAG;
 use crate::tags::UNIT_TAG;
 
@@ -252,6 +253,40 @@ pub fn unit_by_ordinal(s: &[u8], ordinal: u64) -> Place
                     p = next;
                 } else {
                     p = next;
+                }
+            }
+        }
+    }
+}
+
+// How many range lists, fields 1f, stand from a place on before the next unit.
+pub fn list_count(s: &[u8], p: usize) -> usize
+    ensures { λ r. ⌜ r ≡ listsFrom (now (s .entry)) p ⌝ }
+{
+    let mut at = p;
+    let mut n: usize = 0;
+    loop {
+        match field_at(s, at) {
+            Step::End => {
+                return n;
+            }
+            Step::Cut => {
+                return n;
+            }
+            Step::Field {
+                tag,
+                start: _,
+                len: _,
+                next,
+            } => {
+                if tag == UNIT_TAG {
+                    return n;
+                }
+                if tag == LIST_TAG {
+                    n += 1;
+                    at = next;
+                } else {
+                    at = next;
                 }
             }
         }

@@ -4,8 +4,8 @@ ghost use mathlib.Core.Bool.{true};
 ghost use Prim.Native.Nat.{_+_, _≤_};
 ghost use lib.ListN.{length, take, drop};
 ghost use Rattle.tlv.specs.Grammar.{mayFollow, unitShaped, textShaped, headerShaped, encodingShaped, partShaped, directoryShaped, fileShaped};
-ghost use Rattle.tlv.specs.Grammar.{rowShaped, entryShaped, valueShaped, attributeShaped, rangeShaped, failureShaped, payloadShaped, payloadLimited};
-ghost use Rattle.tlv.specs.Grammar.{shaped, limited, next, checkInput};
+ghost use Rattle.tlv.specs.Grammar.{rowShaped, entryShaped, valueShaped, attributeShaped, rangeShaped, failureShaped, listShaped, payloadShaped};
+ghost use Rattle.tlv.specs.Grammar.{payloadLimited, shaped, limited, next, checkInput};
 ghost use Rattle.tlv.specs.Checked.{fieldIn, judgedOf, checkedOf};
 use crate::bytes::read_u8;
 use crate::bytes::read_u16;
@@ -21,6 +21,7 @@ use crate::tags::FAILURE_TAG;
 use crate::tags::FILE_TAG;
 use crate::tags::FILE_ZERO_TAG;
 use crate::tags::HEADER_TAG;
+use crate::tags::LIST_TAG;
 use crate::tags::PART_TAG;
 use crate::tags::RANGE_TAG;
 use crate::tags::ROW_TAG;
@@ -67,6 +68,7 @@ pub struct Context {
     pub units: u64, // units so far
     pub end: u64, // where the last unit ends
     pub length: u64, // its length
+    pub version: u8, // its version
     pub offset: u64, // the least offset that the next entry may have
     pub depth: u64, // the largest depth that the next entry may have
     pub program: u64, // the bytes of the line program that is lent with the input
@@ -128,17 +130,20 @@ pub fn may_follow(previous: u8, tag: u8) -> bool
             | (tag == ENTRY_TAG)
             | (tag == ATTRIBUTE_TAG)
             | (tag == RANGE_TAG)
-            | (tag == FAILURE_TAG),
+            | (tag == FAILURE_TAG)
+            | (tag == LIST_TAG),
         ATTRIBUTE_TAG => (tag == UNIT_TAG)
             | (tag == ENTRY_TAG)
             | (tag == ATTRIBUTE_TAG)
             | (tag == RANGE_TAG)
-            | (tag == FAILURE_TAG),
+            | (tag == FAILURE_TAG)
+            | (tag == LIST_TAG),
         RANGE_TAG => (tag == UNIT_TAG)
             | (tag == ENTRY_TAG)
             | (tag == RANGE_TAG)
             | (tag == FAILURE_TAG),
         FAILURE_TAG => (tag == UNIT_TAG) | (tag == ENTRY_TAG),
+        LIST_TAG => (tag == UNIT_TAG) | (tag == ENTRY_TAG),
         _ => tag == UNIT_TAG,
     }
 }
@@ -300,6 +305,17 @@ pub fn failure_shaped(previous: u8, s: &[u8], start: usize, len: usize) -> bool
     (stage <= 1) & ((stage == 1) | (previous != RANGE_TAG))
 }
 
+pub fn list_shaped(c: Context, s: &[u8], start: usize, len: usize) -> bool
+    requires { ⌜ start + len ≤ length (now s) ⌝ }
+    ensures { λ r. ⌜ r ≡ listShaped c (take len (drop start (now (s .entry)))) ⌝ }
+{
+    if len != 25 {
+        return false;
+    }
+    let size = read_u8(s, start + 24);
+    (c.version == 5) & ((size == 4) | (size == 8))
+}
+
 pub fn payload_shaped(c: Context, tag: u8, s: &[u8], start: usize, len: usize) -> bool
     requires { ⌜ start + len ≤ length (now s) ⌝ }
     ensures { λ r. ⌜ r ≡ payloadShaped c tag (take len (drop start (now (s .entry)))) ⌝ }
@@ -319,6 +335,7 @@ pub fn payload_shaped(c: Context, tag: u8, s: &[u8], start: usize, len: usize) -
         ATTRIBUTE_TAG => attribute_shaped(s, start, len),
         RANGE_TAG => range_shaped(s, start, len),
         FAILURE_TAG => failure_shaped(c.previous, s, start, len),
+        LIST_TAG => list_shaped(c, s, start, len),
         _ => false,
     }
 }
@@ -354,12 +371,14 @@ pub fn next(c: Context, tag: u8, s: &[u8], start: usize, len: usize) -> Context
         UNIT_TAG => {
             let offset = read_u64(s, start);
             let size = read_u64(s, start + 8);
+            let version = read_u8(s, start + 16);
             Context {
                 previous: tag,
                 count: count,
                 units: c.units + 1,
                 end: offset + size,
                 length: size,
+                version: version,
                 offset: 0,
                 depth: 0,
                 program: c.program,
@@ -375,6 +394,7 @@ pub fn next(c: Context, tag: u8, s: &[u8], start: usize, len: usize) -> Context
                 units: c.units,
                 end: c.end,
                 length: c.length,
+                version: c.version,
                 offset: offset + 1,
                 depth: depth + 1,
                 program: c.program,
@@ -387,6 +407,7 @@ pub fn next(c: Context, tag: u8, s: &[u8], start: usize, len: usize) -> Context
             units: c.units,
             end: c.end,
             length: c.length,
+            version: c.version,
             offset: c.offset,
             depth: c.depth,
             program: c.program,
@@ -439,6 +460,7 @@ pub fn check_input(s: &[u8], program: usize) -> Checked
         units: 0,
         end: 0,
         length: 0,
+        version: 0,
         offset: 0,
         depth: 0,
         program: program as u64,

@@ -27,6 +27,8 @@ pub const RANGE_TAG: u8 = 0x19;
 
 pub const FAILURE_TAG: u8 = 0x1a; // a failure to read ranges
 
+pub const LIST_TAG: u8 = 0x1f; // a range list
+
 // The head of a field: its tag and the two bytes of its length.
 pub const FIELD_HEAD: usize = 3;
 

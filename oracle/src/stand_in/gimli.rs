@@ -9,6 +9,7 @@ use std::num::NonZeroU64;
 use std::rc::Rc;
 
 use crate::machine::{LineEncoding, Program};
+use crate::rnglists::{Cursor, RangeList, Sections};
 use crate::trace::{Event, trace};
 
 pub use constants::*;
@@ -36,6 +37,8 @@ pub enum Error {
     Ranges(String),
     /// A fault of a program that is run for its rows (E8), by its number.
     Program(u8),
+    /// A fault of a range list (E9), by its number, which is its reason too.
+    List(u8),
 }
 
 impl fmt::Display for Error {
@@ -45,6 +48,7 @@ impl fmt::Display for Error {
             Self::Value => formatter.write_str("failed value"),
             Self::Ranges(reason) => formatter.write_str(reason),
             Self::Program(number) => write!(formatter, "fault {number} of a line program"),
+            Self::List(number) => write!(formatter, "{number}"),
         }
     }
 }
@@ -74,6 +78,8 @@ pub struct UnitData<R: Reader> {
     pub offset: usize,
     pub length: usize,
     pub format: Format,
+    /// Field 10's, which decides where field 1f may stand (E9).
+    pub version: u16,
     pub directory: Option<R>,
     pub text: Vec<Range>,
     pub lines: Option<LineProgramHeader<R>>,
@@ -82,6 +88,8 @@ pub struct UnitData<R: Reader> {
     pub encoding: Option<LineEncoding>,
     pub ran: OnceCell<Vec<LineRow>>,
     pub entries: Vec<EntryData<R>>,
+    /// How many fields 1f it has.
+    pub lists: usize,
     /// The tombstone flag of the range that was given last.
     pub tombstone: Cell<bool>,
 }
@@ -115,6 +123,8 @@ pub struct EntryData<R: Reader> {
     pub ranges: Vec<(Range, bool)>,
     /// Whether it comes after the ranges, and the reason.
     pub failure: Option<(bool, R)>,
+    /// Where its ranges are, in place of both (E9).
+    pub list: Option<RangeList>,
 }
 
 impl<R: Reader> EntryData<R> {
@@ -204,11 +214,28 @@ pub struct Dwarf<R: Reader> {
     pub debug_line: DebugLine<R>,
     pub units: Vec<Rc<UnitData<R>>>,
     pub sup: Option<Box<Self>>,
+    /// The list section and the address table (E9).
+    pub lists: R,
+    pub addresses: R,
 }
 
 impl<R: Reader> Dwarf<R> {
-    pub fn new(units: Vec<Rc<UnitData<R>>>, sup: Option<Box<Self>>) -> Self {
-        Self { file_type: DwarfFileType::Main, debug_line: DebugLine(PhantomData), units, sup }
+    pub fn new(units: Vec<Rc<UnitData<R>>>, sup: Option<Box<Self>>, lists: R, addresses: R) -> Self {
+        Self { file_type: DwarfFileType::Main, debug_line: DebugLine(PhantomData), units, sup, lists, addresses }
+    }
+
+    /// The ranges of an entry, from its fields or from its list, and what its list is refused with.
+    pub fn ranges_of(&self, entry: &EntryData<R>) -> (Vec<(Range, bool)>, Option<u8>) {
+        let Some(list) = entry.list else { return (entry.ranges.clone(), None) };
+        let [lists, addresses] = [&self.lists, &self.addresses].map(|section| section.to_slice().expect("a slice that is lent"));
+        let (mut cursor, mut ranges) = (Cursor::new(list), Vec::new());
+        loop {
+            match cursor.next(Sections { lists: &lists, addresses: &addresses }) {
+                Ok(Some(range)) => ranges.push(range),
+                Ok(None) => return (ranges, None),
+                Err(fault) => return (ranges, Some(fault)),
+            }
+        }
     }
 
     answers! {
@@ -240,9 +267,13 @@ impl<R: Reader> Dwarf<R> {
 
     pub fn die_ranges(&self, unit: &Unit<R>, entry: &DebuggingInformationEntry<R>) -> Result<RangeIter<R>> {
         trace(|| Event::Ranges { entry: entry.index });
-        match &entry.data()?.failure {
+        let data = entry.data()?;
+        match &data.failure {
             Some((false, reason)) => Err(range_error(reason)?),
-            _ => Ok(RangeIter { unit: Rc::clone(&unit.header), entry: entry.index, next: 0 }),
+            _ => {
+                let list = data.list.map(|list| (Cursor::new(list), self.lists.clone(), self.addresses.clone()));
+                Ok(RangeIter { unit: Rc::clone(&unit.header), entry: entry.index, next: 0, list })
+            }
         }
     }
 }
@@ -255,10 +286,19 @@ pub struct RangeIter<R: Reader> {
     unit: Rc<UnitData<R>>,
     entry: usize,
     next: usize,
+    /// The list that is read, in the list section, with the address table (E9).
+    list: Option<(Cursor, R, R)>,
 }
 
 impl<R: Reader> RangeIter<R> {
     pub fn next(&mut self) -> Result<Option<Range>> {
+        if let Some((cursor, lists, addresses)) = &mut self.list {
+            let range = cursor.next(Sections { lists: &lists.to_slice()?, addresses: &addresses.to_slice()? }).map_err(Error::List)?;
+            return Ok(range.map(|(range, tombstone)| {
+                self.unit.tombstone.set(tombstone);
+                range
+            }));
+        }
         let entry = &self.unit.entries[self.entry];
         if let Some(&(range, tombstone)) = entry.ranges.get(self.next) {
             self.next += 1;
@@ -269,6 +309,15 @@ impl<R: Reader> RangeIter<R> {
             Some((_, reason)) => Err(range_error(reason)?),
             None => Ok(None),
         }
+    }
+}
+
+impl<R: Reader> RangeIter<R> {
+    /// The fault of a list, if it has one: for a deliberate fault that asks for it too soon.
+    #[allow(dead_code)]
+    pub fn faultless(mut self) -> Result<()> {
+        while self.list.is_some() && self.next()?.is_some() {}
+        Ok(())
     }
 }
 

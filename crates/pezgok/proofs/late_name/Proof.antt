@@ -3,9 +3,8 @@ use native.Mathlib.Omega.{arith}
 use mathlib.Core.Path.{ap}
 use borrow.Author.Needs.{needs}
 use Rattle.tlv.proofs.BufferLaws.{put-as, put-nothing}
-use Rattle.pezgok.proofs.ExportLaws.{above}
+use Rattle.pezgok.proofs.ExportLaws.{above, no-word-between}
 use Rattle.pezgok.specs.Exported.{refusalWord}
-use Rattle.pezgok.proofs.LookLaws.{no-word-between}
 use Rattle.pezgok.proofs.late_name.Statement.{statement}
 use Rattle.pezgok.proofs.late_name.Tie as tie
 
@@ -127,7 +126,7 @@ unfolding refusalWord
 returns-9 c = put-as (ap refusalWord (c .before .before .before .before .before .match .keys9)) (c .before .before .put-bytes9 .ensures)
 
 returns-10 : tie.Need-returns-10
-returns-10 c = put-nothing (no-word-between _ (above 18 _ (above 17 _ (above 16 _ (above 15 _ (above 14 _ (above 13 _ (above 12 _ (above 11 _ (above 10 _ (c .before .before .pre .0) (c .match .rest .0 .0 .0 .0 .0 .0 .0 .0 .1)) (c .match .rest .0 .0 .0 .0 .0 .0 .0 .1)) (c .match .rest .0 .0 .0 .0 .0 .0 .1)) (c .match .rest .0 .0 .0 .0 .0 .1)) (c .match .rest .0 .0 .0 .0 .1)) (c .match .rest .0 .0 .0 .1)) (c .match .rest .0 .0 .1)) (c .match .rest .0 .1)) (c .match .rest .1)) (c .before .before .pre .1)) (omega arith) (omega arith)
+returns-10 c = put-nothing (no-word-between 19 _ (above 18 _ (above 17 _ (above 16 _ (above 15 _ (above 14 _ (above 13 _ (above 12 _ (above 11 _ (above 10 _ (c .before .before .pre .0) (c .match .rest .0 .0 .0 .0 .0 .0 .0 .0 .1)) (c .match .rest .0 .0 .0 .0 .0 .0 .0 .1)) (c .match .rest .0 .0 .0 .0 .0 .0 .1)) (c .match .rest .0 .0 .0 .0 .0 .1)) (c .match .rest .0 .0 .0 .0 .1)) (c .match .rest .0 .0 .0 .1)) (c .match .rest .0 .0 .1)) (c .match .rest .0 .1)) (c .match .rest .1)) (c .before .before .pre .1)) (omega arith) (omega arith)
 
 pub late-name-spec : {M : Type 1} → statement M
 late-name-spec =

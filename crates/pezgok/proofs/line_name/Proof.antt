@@ -1,10 +1,9 @@
--- `line_name` meets its contract: 21 and 22 lay their words, and another number lays nothing. Assumes nothing.
+-- `line_name` meets its contract: 21 and 22 lay their words, and there is no other number. Assumes nothing.
 use native.Mathlib.Omega.{arith}
 use mathlib.Core.Path.{ap}
 use Rattle.tlv.proofs.BufferLaws.{put-as, put-nothing}
-use Rattle.pezgok.proofs.ExportLaws.{above}
+use Rattle.pezgok.proofs.ExportLaws.{above, no-word-between}
 use Rattle.pezgok.specs.Exported.{refusalWord}
-use Rattle.pezgok.proofs.JoinedLaws.{no-word-past}
 use borrow.Author.Needs.{needs}
 use Rattle.pezgok.proofs.line_name.Statement.{statement}
 use Rattle.pezgok.proofs.line_name.Tie as tie
@@ -38,9 +37,7 @@ returns-2 c = put-as (ap refusalWord (c .before .before .before .before .before 
 returns-3 : tie.Need-returns-3
 returns-3 c =
     let P = c .before .before .pre in
-    put-nothing
-    (no-word-past _ (above 22 _ (above 21 _ (P .0) (c .match .rest .0 .1)) (c .match .rest .1)) (λ e. omega (arith, P .1, e)) (λ e. omega (arith, P .1, e)))
-    (omega arith) (omega arith)
+    put-nothing (no-word-between 23 _ (above 22 _ (above 21 _ (P .0) (c .match .rest .0 .1)) (c .match .rest .1)) (P .1)) (omega arith) (omega arith)
 
 pub line-name-spec : {M : Type 1} → statement M
 line-name-spec =

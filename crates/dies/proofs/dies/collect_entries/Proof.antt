@@ -10,13 +10,13 @@ use Rattle.dies.proofs.dies.collect_entries.Statement.{statement}
 use Rattle.dies.proofs.dies.collect_entries.Tie as tie
 
 abbrev Inv-loop : tie.InvT-loop
-Inv-loop main supplementary work₀ records₀ warnings₀ d name p depth r₀ at₀ work records warnings r at = Collecting main supplementary name d p depth work₀ records₀ warnings₀ r₀ work records warnings r at
+Inv-loop main supplementary lists addresses work₀ records₀ warnings₀ d name p depth r₀ at₀ work records warnings r at = Collecting main supplementary lists addresses name d p depth work₀ records₀ warnings₀ r₀ work records warnings r at
 
 abbrev μ-loop : tie.MeasureT-loop
-μ-loop main supplementary work₀ records₀ warnings₀ d name p depth r₀ at₀ work records warnings r at = length main - at
+μ-loop main supplementary lists addresses work₀ records₀ warnings₀ d name p depth r₀ at₀ work records warnings r at = length main - at
 
 loop-holds : tie.Need-loop-holds Inv-loop μ-loop
-loop-holds c = let s = c .before .before .before .before .before .before in collecting-start _ _ _ _ (s .pre .0) (s .pre .1 .0) (s .pre .1 .1 .0) (s .pre .1 .1 .1 .0) (s .pre .1 .1 .1 .1 .0) (omega arith) (omega arith)
+loop-holds c = let s = c .before .before .before .before .before .before .before .before in collecting-start _ _ _ _ _ _ (s .pre .0) (s .pre .1 .0) (s .pre .1 .1 .0) (s .pre .1 .1 .1 .0) (s .pre .1 .1 .1 .1 .0 .0) (omega arith) (omega arith)
 
 field-at-requires : tie.Need-field-at-requires Inv-loop μ-loop
 field-at-requires c κs = search needs
@@ -85,16 +85,16 @@ returns-4 : tie.Need-returns-4 Inv-loop μ-loop
 returns-4 c = collecting-stop (c .before .before .before .before .before .before .before .before .loop .inv) (c .before .before .before .before .before .before .before .field-at .ensures) (c .before .before .before .before .before .tag .given .1) (c .before .before .if2 .taken) (c .before .read-u16 .ensures) (c .if3 .taken)
 
 collect-entry-requires : tie.Need-collect-entry-requires Inv-loop μ-loop
-collect-entry-requires c κs = let C = c .before .before .before .before .before .before .before .before .before .before .before .loop .inv in (C .details, (entry-known C (c .before .before .before .before .before .before .before .before .before .before .field-at .ensures) (c .before .before .before .before .before .before .before .before .tag .given .1) (c .before .before .before .before .before .if2 .taken), (C .fits, (C .status, c .before .before .before .before .before .before .before .before .before .before .before .before .before .before .before .before .before .before .pre .1 .1 .1 .1 .1))))
+collect-entry-requires c κs = let C = c .before .before .before .before .before .before .before .before .before .before .before .loop .inv in (C .details, (entry-known C (c .before .before .before .before .before .before .before .before .before .before .field-at .ensures) (c .before .before .before .before .before .before .before .before .tag .given .1) (c .before .before .before .before .before .if2 .taken), (C .fits, ((C .status, c .before .before .before .before .before .before .before .before .before .before .before .before .before .before .before .before .before .before .before .before .pre .1 .1 .1 .1 .0 .1), c .before .before .before .before .before .before .before .before .before .before .before .before .before .before .before .before .before .before .before .before .pre .1 .1 .1 .1 .1))))
 
 same-length-13 : tie.Need-same-length-13 Inv-loop μ-loop
-same-length-13 c = c .before .before .before .before .before .before .before .before .collect-entry .kept .1 .1 .0 ∙ c .before .before .before .before .before .before .before .before .before .before .before .before .before .before .before .before .before .before .before .before .loop .inv .size
+same-length-13 c = c .before .before .before .before .before .before .before .before .collect-entry .kept .1 .1 .1 .1 .0 ∙ c .before .before .before .before .before .before .before .before .before .before .before .before .before .before .before .before .before .before .before .before .loop .inv .size
 
 same-length-14 : tie.Need-same-length-14 Inv-loop μ-loop
-same-length-14 c = c .before .before .before .before .before .before .before .before .collect-entry .kept .1 .1 .1 .0 ∙ c .before .before .before .before .before .before .before .before .before .before .before .before .before .before .before .before .before .before .before .before .loop .inv .records-size
+same-length-14 c = c .before .before .before .before .before .before .before .before .collect-entry .kept .1 .1 .1 .1 .1 .0 ∙ c .before .before .before .before .before .before .before .before .before .before .before .before .before .before .before .before .before .before .before .before .loop .inv .records-size
 
 same-length-15 : tie.Need-same-length-15 Inv-loop μ-loop
-same-length-15 c = c .before .before .before .before .before .before .before .before .collect-entry .kept .1 .1 .1 .1 .0 ∙ c .before .before .before .before .before .before .before .before .before .before .before .before .before .before .before .before .before .before .before .before .loop .inv .warnings-size
+same-length-15 c = c .before .before .before .before .before .before .before .before .collect-entry .kept .1 .1 .1 .1 .1 .1 .0 ∙ c .before .before .before .before .before .before .before .before .before .before .before .before .before .before .before .before .before .before .before .before .loop .inv .warnings-size
 
 returns-5 : tie.Need-returns-5 Inv-loop μ-loop
 returns-5 c = collecting-refused (c .before .before .before .before .before .before .before .before .before .before .before .before .before .before .before .before .before .before .before .before .loop .inv) (c .before .before .before .before .before .before .before .before .before .before .before .before .before .before .before .before .before .before .before .field-at .ensures) (c .before .before .before .before .before .before .before .before .before .before .before .before .before .before .before .before .before .tag .given .1) (c .before .before .before .before .before .before .before .before .before .before .before .before .before .before .if2 .taken) (c .before .before .before .before .before .before .before .before .before .before .before .before .before .read-u16 .ensures) (c .before .before .before .before .before .before .before .before .before .before .before .before .if3 .left) (c .before .before .before .before .before .before .before .before .collect-entry .ensures) (c .if4 .taken)
@@ -103,7 +103,7 @@ loop-less : tie.Need-loop-less Inv-loop μ-loop
 loop-less c = next-less _ _ _ _ _ _ _ (c .before .before .before .before .before .before .before .before .before .before .before .before .before .before .before .before .before .before .before .field-at .ensures) (c .before .before .before .before .before .before .before .before .before .before .before .before .before .before .before .before .before .tag .given .1)
 
 loop-again : tie.Need-loop-again Inv-loop μ-loop
-loop-again c = collecting-entry (c .before .before .before .before .before .before .before .before .before .before .before .before .before .before .before .before .before .before .before .before .loop .inv) (c .before .before .before .before .before .before .before .before .before .before .before .before .before .before .before .before .before .before .before .field-at .ensures) (c .before .before .before .before .before .before .before .before .before .before .before .before .before .before .before .before .before .tag .given .1) (c .before .before .before .before .before .before .before .before .before .before .before .before .before .before .if2 .taken) (c .before .before .before .before .before .before .before .before .before .before .before .before .before .read-u16 .ensures) (c .before .before .before .before .before .before .before .before .before .before .before .before .if3 .left) (c .before .before .before .before .before .before .before .before .collect-entry .ensures) (c .if4 .left) (c .before .before .before .before .before .before .before .before .collect-entry .kept .1 .1 .0)
+loop-again c = collecting-entry (c .before .before .before .before .before .before .before .before .before .before .before .before .before .before .before .before .before .before .before .before .loop .inv) (c .before .before .before .before .before .before .before .before .before .before .before .before .before .before .before .before .before .before .before .field-at .ensures) (c .before .before .before .before .before .before .before .before .before .before .before .before .before .before .before .before .before .tag .given .1) (c .before .before .before .before .before .before .before .before .before .before .before .before .before .before .if2 .taken) (c .before .before .before .before .before .before .before .before .before .before .before .before .before .read-u16 .ensures) (c .before .before .before .before .before .before .before .before .before .before .before .before .if3 .left) (c .before .before .before .before .before .before .before .before .collect-entry .ensures) (c .if4 .left) (c .before .before .before .before .before .before .before .before .collect-entry .kept .1 .1 .1 .1 .0)
 
 loop-less-2 : tie.Need-loop-less-2 Inv-loop μ-loop
 loop-less-2 c = next-less _ _ _ _ _ _ _ (c .before .before .before .before .before .field-at .ensures) (c .before .before .before .tag .given .1)

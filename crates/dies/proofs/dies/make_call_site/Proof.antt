@@ -15,16 +15,16 @@ enum-told : tie.Need-enum-told
 enum-told c = search needs
 
 returns : tie.Need-returns
-returns c = let s = c .before .before .before .before .before .before in site-failed (s .pre .0) (s .pre .1 .0) (s .pre .1 .1 .0) (c .before .before .return-address .ensures) (c .enum-told .given .1)
+returns c = λ lists addresses. let s = c .before .before .before .before .before .before in site-failed (s .pre .0) (s .pre .1 .0) (s .pre .1 .1 .0) lists addresses (c .before .before .return-address .ensures) (c .enum-told .given .1)
 
 enum-known-a : tie.Need-enum-known-a
 enum-known-a c = search needs
 
 returns-2 : tie.Need-returns-2
-returns-2 c = let s = c .before .before .before .before .before .before .before .before in site-low (s .pre .0) (s .pre .1 .0) (s .pre .1 .1 .0) (c .before .before .before .before .return-address .ensures) (c .before .before .a .given .1) (s .pre .1 .1 .1) (c .if1 .taken)
+returns-2 c = λ lists addresses. let s = c .before .before .before .before .before .before .before .before in site-low (s .pre .0) (s .pre .1 .0) (s .pre .1 .1 .0) lists addresses (c .before .before .before .before .return-address .ensures) (c .before .before .a .given .1) (s .pre .1 .1 .1) (c .if1 .taken)
 
 returns-3 : tie.Need-returns-3
-returns-3 c = let s = c .before .before .before .before .before .before .before .before .before in site-high (s .pre .0) (s .pre .1 .0) (s .pre .1 .1 .0) (c .before .before .before .before .before .return-address .ensures) (c .before .before .before .a .given .1) (s .pre .1 .1 .1) (c .before .if1 .left) (c .if2 .taken)
+returns-3 c = λ lists addresses. let s = c .before .before .before .before .before .before .before .before .before in site-high (s .pre .0) (s .pre .1 .0) (s .pre .1 .1 .0) lists addresses (c .before .before .before .before .before .return-address .ensures) (c .before .before .before .a .given .1) (s .pre .1 .1 .1) (c .before .if1 .left) (c .if2 .taken)
 
 resolve-reference-name-requires : tie.Need-resolve-reference-name-requires
 resolve-reference-name-requires c κs = search needs
@@ -33,7 +33,7 @@ same-length : tie.Need-same-length
 same-length c = search needs
 
 returns-4 : tie.Need-returns-4
-returns-4 c = let s = c .before .before .before .before .before .before .before .before .before .before .before .before .before .before .before .before in site-unnamed (s .pre .0) (s .pre .1 .0) (s .pre .1 .1 .0) (c .before .before .before .before .before .before .before .before .before .before .before .before .return-address .ensures) (c .before .before .before .before .before .before .before .before .before .before .a .given .1) (c .before .before .before .before .before .before .before .before .if1 .left) (c .before .before .before .before .before .before .before .if2 .left) (c .before .before .before .resolve-reference-name .ensures) (c .if3 .taken)
+returns-4 c = λ lists addresses. let s = c .before .before .before .before .before .before .before .before .before .before .before .before .before .before .before .before in site-unnamed (s .pre .0) (s .pre .1 .0) (s .pre .1 .1 .0) lists addresses (c .before .before .before .before .before .before .before .before .before .before .before .before .return-address .ensures) (c .before .before .before .before .before .before .before .before .before .before .a .given .1) (c .before .before .before .before .before .before .before .before .if1 .left) (c .before .before .before .before .before .before .before .if2 .left) (c .before .before .before .resolve-reference-name .ensures) (c .if3 .taken)
 
 add-read-u16 : tie.Need-add-read-u16
 add-read-u16 c = let s = c .before .before .before .before .before .before .before .before .before .before .before .before .before .before .before .before in omega (arith, entry-read (details-accepted (s .pre .0)) (s .pre .1 .0))
@@ -57,13 +57,13 @@ same-length-2 : tie.Need-same-length-2
 same-length-2 c = search needs
 
 returns-5 : tie.Need-returns-5
-returns-5 c = let s = c .before .before .before .before .before .before .before .before .before .before .before .before .before .before .before .before .before .before .before .before .before .before .before .before in site-pushed (s .pre .0) (s .pre .1 .0) (s .pre .1 .1 .0) (c .before .before .before .before .before .before .before .before .before .before .before .before .before .before .before .before .before .before .before .before .return-address .ensures) (c .before .before .before .before .before .before .before .before .before .before .before .before .before .before .before .before .before .before .a .given .1) (c .before .before .before .before .before .before .before .before .before .before .before .before .before .before .before .before .if1 .left) (c .before .before .before .before .before .before .before .before .before .before .before .before .before .before .before .if2 .left) (c .before .before .before .before .before .before .before .before .before .before .before .resolve-reference-name .ensures) (c .before .before .before .before .before .before .before .before .if3 .left) (s .pre .1 .1 .1) (entry-depth-here (details-accepted (s .pre .0)) (s .pre .1 .0) ∙ sym (c .before .before .before .before .before .before .before .read-u16 .ensures)) (c .before .before .before .put-open-site .ensures)
+returns-5 c = λ lists addresses. let s = c .before .before .before .before .before .before .before .before .before .before .before .before .before .before .before .before .before .before .before .before .before .before .before .before in site-pushed (s .pre .0) (s .pre .1 .0) (s .pre .1 .1 .0) lists addresses (c .before .before .before .before .before .before .before .before .before .before .before .before .before .before .before .before .before .before .before .before .return-address .ensures) (c .before .before .before .before .before .before .before .before .before .before .before .before .before .before .before .before .before .before .a .given .1) (c .before .before .before .before .before .before .before .before .before .before .before .before .before .before .before .before .if1 .left) (c .before .before .before .before .before .before .before .before .before .before .before .before .before .before .before .if2 .left) (c .before .before .before .before .before .before .before .before .before .before .before .resolve-reference-name .ensures) (c .before .before .before .before .before .before .before .before .if3 .left) (s .pre .1 .1 .1) (entry-depth-here (details-accepted (s .pre .0)) (s .pre .1 .0) ∙ sym (c .before .before .before .before .before .before .before .read-u16 .ensures)) (c .before .before .before .put-open-site .ensures)
 
 enum-told-2 : tie.Need-enum-told-2
 enum-told-2 c = search needs
 
 returns-6 : tie.Need-returns-6
-returns-6 c = let s = c .before .before .before .before .before .before in site-missing (s .pre .0) (s .pre .1 .0) (s .pre .1 .1 .0) (c .before .before .return-address .ensures) (s .pre .1 .1 .1) (c .enum-told2 .given .1)
+returns-6 c = λ lists addresses. let s = c .before .before .before .before .before .before in site-missing (s .pre .0) (s .pre .1 .0) (s .pre .1 .1 .0) lists addresses (c .before .before .return-address .ensures) (s .pre .1 .1 .1) (c .enum-told2 .given .1)
 
 pub make-call-site-spec : {M : Type 1} → statement M
 make-call-site-spec =

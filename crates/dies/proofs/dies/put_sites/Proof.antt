@@ -10,10 +10,10 @@ use Rattle.dies.proofs.dies.put_sites.Statement.{statement}
 use Rattle.dies.proofs.dies.put_sites.Tie as tie
 
 abbrev Inv-loop : tie.InvT-loop
-Inv-loop main supplementary work₀ records₀ d at n tables place₀ i₀ work records place i = Siting main supplementary d n at work₀ records₀ work records place i
+Inv-loop main supplementary work₀ records₀ d at n tables place₀ past₀ i₀ work records place past i = Siting main supplementary d n at work₀ records₀ work records place i past
 
 abbrev μ-loop : tie.MeasureT-loop
-μ-loop main supplementary work₀ records₀ d at n tables place₀ i₀ work records place i = n - i
+μ-loop main supplementary work₀ records₀ d at n tables place₀ past₀ i₀ work records place past i = n - i
 
 loop-holds : tie.Need-loop-holds Inv-loop μ-loop
 loop-holds c = siting-start _ _ _ (c .before .before .before .before .before .pre .0) (omega arith) (omega arith)
@@ -39,17 +39,23 @@ read-u64-requires c κs = let s = c .before .before .before .before .before .bef
 resolve-reference-name-requires : tie.Need-resolve-reference-name-requires Inv-loop μ-loop
 resolve-reference-name-requires c κs = let s = c .before .before .before .before .before .before .before .before .before .before .before .before .before .before in (c .before .before .before .before .before .before .before .before .loop .inv .details .tables, (refl, siting-entry (s .pre .0) (s .pre .1) (c .before .before .before .before .before .before .before .before .loop .inv) (c .before .before .before .before .before .before .before .loop-test .taken) (c .before .before .before .before .read-u32 .ensures)))
 
+add-is-past : tie.Need-add-is-past Inv-loop μ-loop
+add-is-past c = let s = c .before .before .before .before .before .before .before .before .before .before .before .before .before .before .before .before .before in omega (arith, pattern-short (s .pre .0) (siting-entry (s .pre .0) (s .pre .1) (c .before .before .before .before .before .before .before .before .before .before .before .loop .inv) (c .before .before .before .before .before .before .before .before .before .before .loop-test .taken) (c .before .before .before .before .before .before .before .read-u32 .ensures)) (slice-bytes (s .args .main .now) (c .before .before .before .before .before .before .before .before .before .before .before .before .before .before .before .before .shared-slice-known .given)) (slice-bytes (s .args .supplementary .now) (c .before .before .before .before .before .before .before .before .before .before .before .before .before .before .before .shared-slice-known2 .given)) 0x7f (siting-named (s .pre .0) (s .pre .1) (c .before .before .before .before .before .before .before .before .before .before .before .loop .inv) (c .before .before .before .before .before .before .before .before .before .before .loop-test .taken) (c .before .before .before .before .before .before .before .read-u32 .ensures) (c .before .before .before .before .before .read-u64 .ensures) (c .before .before .resolve-reference-name .ensures)))
+
+is-past-requires : tie.Need-is-past-requires Inv-loop μ-loop
+is-past-requires c κs = search needs
+
 put-call-site-requires : tie.Need-put-call-site-requires Inv-loop μ-loop
-put-call-site-requires c κs = let s = c .before .before .before .before .before .before .before .before .before .before .before .before .before .before .before .before .before .before in pattern-short (s .pre .0) (siting-entry (s .pre .0) (s .pre .1) (c .before .before .before .before .before .before .before .before .before .before .before .before .loop .inv) (c .before .before .before .before .before .before .before .before .before .before .before .loop-test .taken) (c .before .before .before .before .before .before .before .before .read-u32 .ensures)) (slice-bytes (s .args .main .now) (c .before .before .before .before .before .before .before .before .before .before .before .before .before .before .before .before .before .shared-slice-known .given)) (slice-bytes (s .args .supplementary .now) (c .before .before .before .before .before .before .before .before .before .before .before .before .before .before .before .before .shared-slice-known2 .given)) 0x7f (siting-named (s .pre .0) (s .pre .1) (c .before .before .before .before .before .before .before .before .before .before .before .before .loop .inv) (c .before .before .before .before .before .before .before .before .before .before .before .loop-test .taken) (c .before .before .before .before .before .before .before .before .read-u32 .ensures) (c .before .before .before .before .before .before .read-u64 .ensures) (c .before .before .before .resolve-reference-name .ensures))
+put-call-site-requires c κs = let s = c .before .before .before .before .before .before .before .before .before .before .before .before .before .before .before .before .before .before .before in pattern-short (s .pre .0) (siting-entry (s .pre .0) (s .pre .1) (c .before .before .before .before .before .before .before .before .before .before .before .before .before .loop .inv) (c .before .before .before .before .before .before .before .before .before .before .before .before .loop-test .taken) (c .before .before .before .before .before .before .before .before .before .read-u32 .ensures)) (slice-bytes (s .args .main .now) (c .before .before .before .before .before .before .before .before .before .before .before .before .before .before .before .before .before .before .shared-slice-known .given)) (slice-bytes (s .args .supplementary .now) (c .before .before .before .before .before .before .before .before .before .before .before .before .before .before .before .before .before .shared-slice-known2 .given)) 0x7f (siting-named (s .pre .0) (s .pre .1) (c .before .before .before .before .before .before .before .before .before .before .before .before .before .loop .inv) (c .before .before .before .before .before .before .before .before .before .before .before .before .loop-test .taken) (c .before .before .before .before .before .before .before .before .before .read-u32 .ensures) (c .before .before .before .before .before .before .before .read-u64 .ensures) (c .before .before .before .before .resolve-reference-name .ensures))
 
 add-i : tie.Need-add-i Inv-loop μ-loop
-add-i c = let l = c .before .before .before .before .before .before .before .before .before .before .before .before .before .before .loop-test .taken in let s = c .before .before .before .before .before .before .before .before .before .before .before .before .before .before .before .before .before .before .before .before .before in let D = s .pre .0 in let F = s .pre .1 in omega (arith, F .sites, D .sites, D .tables .keys .room)
+add-i c = let l = c .before .before .before .before .before .before .before .before .before .before .before .before .before .before .before .loop-test .taken in let s = c .before .before .before .before .before .before .before .before .before .before .before .before .before .before .before .before .before .before .before .before .before .before in let D = s .pre .0 in let F = s .pre .1 in omega (arith, F .sites, D .sites, D .tables .keys .room)
 
 loop-less : tie.Need-loop-less Inv-loop μ-loop
 loop-less c = omega arith
 
 loop-again : tie.Need-loop-again Inv-loop μ-loop
-loop-again c = let s = c .before .before .before .before .before .before .before .before .before .before .before .before .before .before .before .before .before .before .before .before .before in siting-next (s .pre .0) (s .pre .1) (c .before .before .before .before .before .before .before .before .before .before .before .before .before .before .before .loop .inv) (c .before .before .before .before .before .before .before .before .before .before .before .before .before .before .loop-test .taken) (c .before .before .before .before .before .before .before .before .before .before .before .read-u32 .ensures) (c .before .before .before .before .before .before .before .before .before .read-u64 .ensures) (c .before .before .before .before .before .before .resolve-reference-name .ensures) (c .before .before .put-call-site .ensures) (c .before .before .before .before .before .before .resolve-reference-name .kept .1 .1 .0)
+loop-again c = let s = c .before .before .before .before .before .before .before .before .before .before .before .before .before .before .before .before .before .before .before .before .before .before in siting-next (s .pre .0) (s .pre .1) (c .before .before .before .before .before .before .before .before .before .before .before .before .before .before .before .before .loop .inv) (c .before .before .before .before .before .before .before .before .before .before .before .before .before .before .before .loop-test .taken) (c .before .before .before .before .before .before .before .before .before .before .before .before .read-u32 .ensures) (c .before .before .before .before .before .before .before .before .before .before .read-u64 .ensures) (c .before .before .before .before .before .before .before .resolve-reference-name .ensures) (c .before .before .put-call-site .ensures) (c .before .before .before .before .before .before .before .resolve-reference-name .kept .1 .1 .0) (c .before .before .before .before .is-past .ensures)
 
 same-length : tie.Need-same-length Inv-loop μ-loop
 same-length c = search needs
@@ -74,6 +80,8 @@ put-sites-spec =
     add-read-u64
     read-u64-requires
     resolve-reference-name-requires
+    add-is-past
+    is-past-requires
     put-call-site-requires
     add-i
     loop-less

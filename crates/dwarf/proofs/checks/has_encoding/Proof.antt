@@ -2,7 +2,7 @@
 use borrow.Author.Needs.{needs}
 use native.Mathlib.Omega.{arith}
 use Rattle.files.proofs.UnitLaws.{unit-next, unit-within}
-use Rattle.dwarf.proofs.EncodingLaws.{encoding-missing, encoding-found}
+use Rattle.dwarf.proofs.WorkLaws.{encoding-missing, encoding-found}
 use Rattle.dwarf.proofs.checks.has_encoding.Statement.{statement}
 use Rattle.dwarf.proofs.checks.has_encoding.Tie as tie
 

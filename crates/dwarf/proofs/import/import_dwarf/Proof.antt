@@ -5,7 +5,7 @@ use Rattle.dwarf.proofs.import.import_dwarf.Statement.{statement}
 use Rattle.dwarf.proofs.import.import_dwarf.Tie as tie
 
 import-by-requires : tie.Need-import-by-requires
-import-by-requires c κs = c .before .before .before .before .before .before .before .before .before .before .before .fits .first-file .fits
+import-by-requires c κs = c .before .before .before .before .before .before .before .before .before .before .before .before .before .fits .first-file .fits
 
 same-length : tie.Need-same-length
 same-length c = search needs

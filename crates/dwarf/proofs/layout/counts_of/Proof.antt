@@ -52,47 +52,62 @@ mul-t25 c = search needs
 array-read-t28 : tie.Need-array-read-t28
 array-read-t28 c = search needs
 
-array-read-t31 : tie.Need-array-read-t31
-array-read-t31 c = search needs
+cast-t29 : tie.Need-cast-t29
+cast-t29 c = search needs
 
-cast-t32 : tie.Need-cast-t32
-cast-t32 c = search needs
+mul-t30 : tie.Need-mul-t30
+mul-t30 c = search needs
 
-mul-t33 : tie.Need-mul-t33
-mul-t33 c = search needs
+array-read-t33 : tie.Need-array-read-t33
+array-read-t33 c = search needs
 
-array-read-t36 : tie.Need-array-read-t36
-array-read-t36 c = search needs
+cast-t34 : tie.Need-cast-t34
+cast-t34 c = search needs
 
-cast-t37 : tie.Need-cast-t37
-cast-t37 c = search needs
+mul-t35 : tie.Need-mul-t35
+mul-t35 c = search needs
 
-mul-t38 : tie.Need-mul-t38
-mul-t38 c = search needs
+array-read-t38 : tie.Need-array-read-t38
+array-read-t38 c = search needs
 
-array-read-t41 : tie.Need-array-read-t41
-array-read-t41 c = search needs
+cast-t39 : tie.Need-cast-t39
+cast-t39 c = search needs
 
-cast-t42 : tie.Need-cast-t42
-cast-t42 c = search needs
+mul-t40 : tie.Need-mul-t40
+mul-t40 c = search needs
 
-mul-t43 : tie.Need-mul-t43
-mul-t43 c = search needs
+array-read-t43 : tie.Need-array-read-t43
+array-read-t43 c = search needs
 
-array-read-t46 : tie.Need-array-read-t46
-array-read-t46 c = search needs
+cast-t44 : tie.Need-cast-t44
+cast-t44 c = search needs
 
-cast-t47 : tie.Need-cast-t47
-cast-t47 c = search needs
+mul-t45 : tie.Need-mul-t45
+mul-t45 c = search needs
 
-mul-t48 : tie.Need-mul-t48
-mul-t48 c = search needs
+array-read-t48 : tie.Need-array-read-t48
+array-read-t48 c = search needs
 
-array-read-t51 : tie.Need-array-read-t51
-array-read-t51 c = search needs
+cast-t49 : tie.Need-cast-t49
+cast-t49 c = search needs
+
+mul-t50 : tie.Need-mul-t50
+mul-t50 c = search needs
+
+array-read-t53 : tie.Need-array-read-t53
+array-read-t53 c = search needs
+
+cast-t54 : tie.Need-cast-t54
+cast-t54 c = search needs
+
+mul-t55 : tie.Need-mul-t55
+mul-t55 c = search needs
+
+array-read-t58 : tie.Need-array-read-t58
+array-read-t58 c = search needs
 
 returns : tie.Need-returns
-returns c = search sized
+returns c = sized _ _ (c .count-tags .ensures)
 
 pub counts-of-spec : {M : Type 1} → statement M
 counts-of-spec =
@@ -114,17 +129,22 @@ counts-of-spec =
     cast-t24
     mul-t25
     array-read-t28
-    array-read-t31
-    cast-t32
-    mul-t33
-    array-read-t36
-    cast-t37
-    mul-t38
-    array-read-t41
-    cast-t42
-    mul-t43
-    array-read-t46
-    cast-t47
-    mul-t48
-    array-read-t51
+    cast-t29
+    mul-t30
+    array-read-t33
+    cast-t34
+    mul-t35
+    array-read-t38
+    cast-t39
+    mul-t40
+    array-read-t43
+    cast-t44
+    mul-t45
+    array-read-t48
+    cast-t49
+    mul-t50
+    array-read-t53
+    cast-t54
+    mul-t55
+    array-read-t58
     returns)

@@ -1,183 +1,151 @@
--- `layout::lay_out` meets its contract. No sum wraps, since the counts of an accepted input are together at most the limit of fields. Assumes nothing.
+-- `layout::lay_out` meets its contract: no sum passes 2^64, since the counts are few. Assumes nothing.
 use borrow.Author.Needs.{needs}
 use native.Mathlib.Omega.{arith}
-use Rattle.dwarf.proofs.LayoutLaws.{program-few, lays-out}
+use Rattle.dwarf.proofs.LayoutLaws.{lays-out}
 use Rattle.dwarf.proofs.layout.lay_out.Statement.{statement}
 use Rattle.dwarf.proofs.layout.lay_out.Tie as tie
 
-add-room : tie.Need-add-room
-add-room c = omega (arith, c .before .pre)
-
-add-room-2 : tie.Need-add-room-2
-add-room-2 c = omega (arith, c .before .before .pre)
-
-add-room-3 : tie.Need-add-room-3
-add-room-3 c = omega (arith, c .before .before .before .pre)
-
-add-room-4 : tie.Need-add-room-4
-add-room-4 c = omega (arith, c .before .before .before .pre)
-
-mul-lines : tie.Need-mul-lines
-mul-lines c = omega (arith, c .before .before .before .pre)
-
-add-lines : tie.Need-add-lines
-add-lines c = omega (arith, c .before .before .before .pre)
-
-program-rows-requires : tie.Need-program-rows-requires
-program-rows-requires c κs = search needs
-
-add-rows : tie.Need-add-rows
-add-rows c = omega (arith, c .before .before .before .before .before .pre, program-few (c .before .before .before .before .before .args .size) (c .before .before .before .before .before .args .encoded) (c .before .program-rows .ensures))
-
-mul-text : tie.Need-mul-text
-mul-text c = omega (arith, c .before .before .before .before .before .pre, program-few (c .before .before .before .before .before .args .size) (c .before .before .before .before .before .args .encoded) (c .before .program-rows .ensures))
-
-add-text : tie.Need-add-text
-add-text c = omega (arith, c .before .before .before .before .before .pre, program-few (c .before .before .before .before .before .args .size) (c .before .before .before .before .before .args .encoded) (c .before .program-rows .ensures))
-
-mul-text-2 : tie.Need-mul-text-2
-mul-text-2 c = omega (arith, c .before .before .before .before .before .before .pre, program-few (c .before .before .before .before .before .before .args .size) (c .before .before .before .before .before .before .args .encoded) (c .before .before .program-rows .ensures))
-
-add-text-2 : tie.Need-add-text-2
-add-text-2 c = omega (arith, c .before .before .before .before .before .before .pre, program-few (c .before .before .before .before .before .before .args .size) (c .before .before .before .before .before .before .args .encoded) (c .before .before .program-rows .ensures))
-
-add-text-3 : tie.Need-add-text-3
-add-text-3 c = omega (arith, c .before .before .before .before .before .before .before .pre, program-few (c .before .before .before .before .before .before .before .args .size) (c .before .before .before .before .before .before .before .args .encoded) (c .before .before .before .program-rows .ensures))
-
-mul-text-3 : tie.Need-mul-text-3
-mul-text-3 c = omega (arith, c .before .before .before .before .before .before .before .pre, program-few (c .before .before .before .before .before .before .before .args .size) (c .before .before .before .before .before .before .before .args .encoded) (c .before .before .before .program-rows .ensures))
-
-add-text-4 : tie.Need-add-text-4
-add-text-4 c = omega (arith, c .before .before .before .before .before .before .before .pre, program-few (c .before .before .before .before .before .before .before .args .size) (c .before .before .before .before .before .before .before .args .encoded) (c .before .before .before .program-rows .ensures))
-
-mul-text-4 : tie.Need-mul-text-4
-mul-text-4 c = omega (arith, c .before .before .before .before .before .before .before .pre, program-few (c .before .before .before .before .before .before .before .args .size) (c .before .before .before .before .before .before .before .args .encoded) (c .before .before .before .program-rows .ensures))
-
-add-text-5 : tie.Need-add-text-5
-add-text-5 c = omega (arith, c .before .before .before .before .before .before .before .pre, program-few (c .before .before .before .before .before .before .before .args .size) (c .before .before .before .before .before .before .before .args .encoded) (c .before .before .before .program-rows .ensures))
-
-add-text-6 : tie.Need-add-text-6
-add-text-6 c = omega (arith, c .before .before .before .before .before .before .before .pre, program-few (c .before .before .before .before .before .before .before .args .size) (c .before .before .before .before .before .before .before .args .encoded) (c .before .before .before .program-rows .ensures))
-
-mul-spans : tie.Need-mul-spans
-mul-spans c = omega (arith, c .before .before .before .before .before .before .before .before .pre, program-few (c .before .before .before .before .before .before .before .before .args .size) (c .before .before .before .before .before .before .before .before .args .encoded) (c .before .before .before .before .program-rows .ensures))
-
-add-spans : tie.Need-add-spans
-add-spans c = omega (arith, c .before .before .before .before .before .before .before .before .pre, program-few (c .before .before .before .before .before .before .before .before .args .size) (c .before .before .before .before .before .before .before .before .args .encoded) (c .before .before .before .before .program-rows .ensures))
-
-add-span-room : tie.Need-add-span-room
-add-span-room c = omega (arith, c .before .before .before .before .before .before .before .before .before .before .pre, program-few (c .before .before .before .before .before .before .before .before .before .before .args .size) (c .before .before .before .before .before .before .before .before .before .before .args .encoded) (c .before .before .before .before .before .before .program-rows .ensures))
-
-mul-span-room : tie.Need-mul-span-room
-mul-span-room c = omega (arith, c .before .before .before .before .before .before .before .before .before .before .pre, program-few (c .before .before .before .before .before .before .before .before .before .before .args .size) (c .before .before .before .before .before .before .before .before .before .before .args .encoded) (c .before .before .before .before .before .before .program-rows .ensures))
-
-add-span-room-2 : tie.Need-add-span-room-2
-add-span-room-2 c = omega (arith, c .before .before .before .before .before .before .before .before .before .before .before .pre, program-few (c .before .before .before .before .before .before .before .before .before .before .before .args .size) (c .before .before .before .before .before .before .before .before .before .before .before .args .encoded) (c .before .before .before .before .before .before .before .program-rows .ensures))
-
-add-span-room-3 : tie.Need-add-span-room-3
-add-span-room-3 c = omega (arith, c .before .before .before .before .before .before .before .before .before .before .before .before .pre, program-few (c .before .before .before .before .before .before .before .before .before .before .before .before .args .size) (c .before .before .before .before .before .before .before .before .before .before .before .before .args .encoded) (c .before .before .before .before .before .before .before .before .program-rows .ensures))
-
-mul-span-room-2 : tie.Need-mul-span-room-2
-mul-span-room-2 c = omega (arith, c .before .before .before .before .before .before .before .before .before .before .before .before .pre, program-few (c .before .before .before .before .before .before .before .before .before .before .before .before .args .size) (c .before .before .before .before .before .before .before .before .before .before .before .before .args .encoded) (c .before .before .before .before .before .before .before .before .program-rows .ensures))
-
-add-span-room-4 : tie.Need-add-span-room-4
-add-span-room-4 c = omega (arith, c .before .before .before .before .before .before .before .before .before .before .before .before .pre, program-few (c .before .before .before .before .before .before .before .before .before .before .before .before .args .size) (c .before .before .before .before .before .before .before .before .before .before .before .before .args .encoded) (c .before .before .before .before .before .before .before .before .program-rows .ensures))
-
-add-main-units : tie.Need-add-main-units
-add-main-units c = omega (arith, c .before .before .before .before .before .before .before .before .before .before .before .before .pre, program-few (c .before .before .before .before .before .before .before .before .before .before .before .before .args .size) (c .before .before .before .before .before .before .before .before .before .before .before .before .args .encoded) (c .before .before .before .before .before .before .before .before .program-rows .ensures))
-
 mul-main-entries : tie.Need-mul-main-entries
-mul-main-entries c = omega (arith, c .before .before .before .before .before .before .before .before .before .before .before .before .before .pre, program-few (c .before .before .before .before .before .before .before .before .before .before .before .before .before .args .size) (c .before .before .before .before .before .before .before .before .before .before .before .before .before .args .encoded) (c .before .before .before .before .before .before .before .before .before .program-rows .ensures))
-
-add-main-entries : tie.Need-add-main-entries
-add-main-entries c = omega (arith, c .before .before .before .before .before .before .before .before .before .before .before .before .before .pre, program-few (c .before .before .before .before .before .before .before .before .before .before .before .before .before .args .size) (c .before .before .before .before .before .before .before .before .before .before .before .before .before .args .encoded) (c .before .before .before .before .before .before .before .before .before .program-rows .ensures))
+mul-main-entries c = omega (arith, c .before .pre)
 
 mul-supplementary-units : tie.Need-mul-supplementary-units
-mul-supplementary-units c = omega (arith, c .before .before .before .before .before .before .before .before .before .before .before .before .before .before .pre, program-few (c .before .before .before .before .before .before .before .before .before .before .before .before .before .before .args .size) (c .before .before .before .before .before .before .before .before .before .before .before .before .before .before .args .encoded) (c .before .before .before .before .before .before .before .before .before .before .program-rows .ensures))
+mul-supplementary-units c = omega (arith, c .before .before .pre)
 
 add-supplementary-units : tie.Need-add-supplementary-units
-add-supplementary-units c = omega (arith, c .before .before .before .before .before .before .before .before .before .before .before .before .before .before .pre, program-few (c .before .before .before .before .before .before .before .before .before .before .before .before .before .before .args .size) (c .before .before .before .before .before .before .before .before .before .before .before .before .before .before .args .encoded) (c .before .before .before .before .before .before .before .before .before .before .program-rows .ensures))
+add-supplementary-units c = omega (arith, c .before .before .pre)
 
 mul-supplementary-entries : tie.Need-mul-supplementary-entries
-mul-supplementary-entries c = omega (arith, c .before .before .before .before .before .before .before .before .before .before .before .before .before .before .before .pre, program-few (c .before .before .before .before .before .before .before .before .before .before .before .before .before .before .before .args .size) (c .before .before .before .before .before .before .before .before .before .before .before .before .before .before .before .args .encoded) (c .before .before .before .before .before .before .before .before .before .before .before .program-rows .ensures))
+mul-supplementary-entries c = omega (arith, c .before .before .before .pre)
 
 add-supplementary-entries : tie.Need-add-supplementary-entries
-add-supplementary-entries c = omega (arith, c .before .before .before .before .before .before .before .before .before .before .before .before .before .before .before .pre, program-few (c .before .before .before .before .before .before .before .before .before .before .before .before .before .before .before .args .size) (c .before .before .before .before .before .before .before .before .before .before .before .before .before .before .before .args .encoded) (c .before .before .before .before .before .before .before .before .before .before .before .program-rows .ensures))
+add-supplementary-entries c = omega (arith, c .before .before .before .pre)
 
-mul-ranges : tie.Need-mul-ranges
-mul-ranges c = omega (arith, c .before .before .before .before .before .before .before .before .before .before .before .before .before .before .before .before .pre, program-few (c .before .before .before .before .before .before .before .before .before .before .before .before .before .before .before .before .args .size) (c .before .before .before .before .before .before .before .before .before .before .before .before .before .before .before .before .args .encoded) (c .before .before .before .before .before .before .before .before .before .before .before .before .program-rows .ensures))
+mul-files : tie.Need-mul-files
+mul-files c = omega (arith, c .before .before .before .before .pre)
 
-add-ranges : tie.Need-add-ranges
-add-ranges c = omega (arith, c .before .before .before .before .before .before .before .before .before .before .before .before .before .before .before .before .pre, program-few (c .before .before .before .before .before .before .before .before .before .before .before .before .before .before .before .before .args .size) (c .before .before .before .before .before .before .before .before .before .before .before .before .before .before .before .before .args .encoded) (c .before .before .before .before .before .before .before .before .before .before .before .before .program-rows .ensures))
+add-files : tie.Need-add-files
+add-files c = omega (arith, c .before .before .before .before .pre)
 
-add-stack : tie.Need-add-stack
-add-stack c = omega (arith, c .before .before .before .before .before .before .before .before .before .before .before .before .before .before .before .before .before .pre, program-few (c .before .before .before .before .before .before .before .before .before .before .before .before .before .before .before .before .before .args .size) (c .before .before .before .before .before .before .before .before .before .before .before .before .before .before .before .before .before .args .encoded) (c .before .before .before .before .before .before .before .before .before .before .before .before .before .program-rows .ensures))
+add-room : tie.Need-add-room
+add-room c = omega (arith, c .before .before .before .before .before .pre)
 
-mul-stack : tie.Need-mul-stack
-mul-stack c = omega (arith, c .before .before .before .before .before .before .before .before .before .before .before .before .before .before .before .before .before .pre, program-few (c .before .before .before .before .before .before .before .before .before .before .before .before .before .before .before .before .before .args .size) (c .before .before .before .before .before .before .before .before .before .before .before .before .before .before .before .before .before .args .encoded) (c .before .before .before .before .before .before .before .before .before .before .before .before .before .program-rows .ensures))
+add-room-2 : tie.Need-add-room-2
+add-room-2 c = omega (arith, c .before .before .before .before .before .before .pre)
 
-add-stack-2 : tie.Need-add-stack-2
-add-stack-2 c = omega (arith, c .before .before .before .before .before .before .before .before .before .before .before .before .before .before .before .before .before .pre, program-few (c .before .before .before .before .before .before .before .before .before .before .before .before .before .before .before .before .before .args .size) (c .before .before .before .before .before .before .before .before .before .before .before .before .before .before .before .before .before .args .encoded) (c .before .before .before .before .before .before .before .before .before .before .before .before .before .program-rows .ensures))
+add-room-3 : tie.Need-add-room-3
+add-room-3 c = omega (arith, c .before .before .before .before .before .before .before .pre)
 
-mul-sites : tie.Need-mul-sites
-mul-sites c = omega (arith, c .before .before .before .before .before .before .before .before .before .before .before .before .before .before .before .before .before .before .pre, program-few (c .before .before .before .before .before .before .before .before .before .before .before .before .before .before .before .before .before .before .args .size) (c .before .before .before .before .before .before .before .before .before .before .before .before .before .before .before .before .before .before .args .encoded) (c .before .before .before .before .before .before .before .before .before .before .before .before .before .before .program-rows .ensures))
+add-room-4 : tie.Need-add-room-4
+add-room-4 c = omega (arith, c .before .before .before .before .before .before .before .pre)
 
-add-sites : tie.Need-add-sites
-add-sites c = omega (arith, c .before .before .before .before .before .before .before .before .before .before .before .before .before .before .before .before .before .before .pre, program-few (c .before .before .before .before .before .before .before .before .before .before .before .before .before .before .before .before .before .before .args .size) (c .before .before .before .before .before .before .before .before .before .before .before .before .before .before .before .before .before .before .args .encoded) (c .before .before .before .before .before .before .before .before .before .before .before .before .before .before .program-rows .ensures))
+mul-line-room : tie.Need-mul-line-room
+mul-line-room c = omega (arith, c .before .before .before .before .before .before .before .pre)
+
+mul-line-room-2 : tie.Need-mul-line-room-2
+mul-line-room-2 c = omega (arith, c .before .before .before .before .before .before .before .before .pre)
+
+add-line-room : tie.Need-add-line-room
+add-line-room c = omega (arith, c .before .before .before .before .before .before .before .before .pre)
+
+add-line-room-2 : tie.Need-add-line-room-2
+add-line-room-2 c = omega (arith, c .before .before .before .before .before .before .before .before .before .pre)
+
+mul-line-room-3 : tie.Need-mul-line-room-3
+mul-line-room-3 c = omega (arith, c .before .before .before .before .before .before .before .before .before .pre)
+
+add-line-room-3 : tie.Need-add-line-room-3
+add-line-room-3 c = omega (arith, c .before .before .before .before .before .before .before .before .before .pre)
+
+mul-line-room-4 : tie.Need-mul-line-room-4
+mul-line-room-4 c = omega (arith, c .before .before .before .before .before .before .before .before .before .before .pre)
+
+add-line-room-4 : tie.Need-add-line-room-4
+add-line-room-4 c = omega (arith, c .before .before .before .before .before .before .before .before .before .before .pre)
+
+add-line-room-5 : tie.Need-add-line-room-5
+add-line-room-5 c = omega (arith, c .before .before .before .before .before .before .before .before .before .before .pre)
+
+mul-t11 : tie.Need-mul-t11
+mul-t11 c = omega (arith, c .before .before .before .before .before .before .before .before .before .before .pre)
+
+add-t19 : tie.Need-add-t19
+add-t19 c = omega (arith, c .before .before .before .before .before .before .before .before .before .before .pre)
+
+add-t18 : tie.Need-add-t18
+add-t18 c = omega (arith, c .before .before .before .before .before .before .before .before .before .before .pre)
+
+mul-t17 : tie.Need-mul-t17
+mul-t17 c = omega (arith, c .before .before .before .before .before .before .before .before .before .before .before .pre)
+
+add-t16 : tie.Need-add-t16
+add-t16 c = omega (arith, c .before .before .before .before .before .before .before .before .before .before .before .before .before .pre)
+
+mul-t15 : tie.Need-mul-t15
+mul-t15 c = omega (arith, c .before .before .before .before .before .before .before .before .before .before .before .before .before .pre)
+
+add-t14 : tie.Need-add-t14
+add-t14 c = omega (arith, c .before .before .before .before .before .before .before .before .before .before .before .before .before .before .pre)
+
+add-t12 : tie.Need-add-t12
+add-t12 c = omega (arith, c .before .before .before .before .before .before .before .before .before .before .before .before .before .before .before .pre)
+
+mul-t13 : tie.Need-mul-t13
+mul-t13 c = omega (arith, c .before .before .before .before .before .before .before .before .before .before .before .before .before .before .before .pre)
+
+add-t20 : tie.Need-add-t20
+add-t20 c = omega (arith, c .before .before .before .before .before .before .before .before .before .before .before .before .before .before .before .pre)
+
+add-t21 : tie.Need-add-t21
+add-t21 c = omega (arith, c .before .before .before .before .before .before .before .before .before .before .before .before .before .before .before .before .pre)
+
+mul-t22 : tie.Need-mul-t22
+mul-t22 c = omega (arith, c .before .before .before .before .before .before .before .before .before .before .before .before .before .before .before .before .pre)
+
+mul-t23 : tie.Need-mul-t23
+mul-t23 c = omega (arith, c .before .before .before .before .before .before .before .before .before .before .before .before .before .before .before .before .before .pre)
 
 mul-t24 : tie.Need-mul-t24
-mul-t24 c = omega (arith, c .before .before .before .before .before .before .before .before .before .before .before .before .before .before .before .before .before .before .before .pre, program-few (c .before .before .before .before .before .before .before .before .before .before .before .before .before .before .before .before .before .before .before .args .size) (c .before .before .before .before .before .before .before .before .before .before .before .before .before .before .before .before .before .before .before .args .encoded) (c .before .before .before .before .before .before .before .before .before .before .before .before .before .before .before .program-rows .ensures))
-
-add-t25 : tie.Need-add-t25
-add-t25 c = omega (arith, c .before .before .before .before .before .before .before .before .before .before .before .before .before .before .before .before .before .before .before .pre, program-few (c .before .before .before .before .before .before .before .before .before .before .before .before .before .before .before .before .before .before .before .args .size) (c .before .before .before .before .before .before .before .before .before .before .before .before .before .before .before .before .before .before .before .args .encoded) (c .before .before .before .before .before .before .before .before .before .before .before .before .before .before .before .program-rows .ensures))
+mul-t24 c = omega (arith, c .before .before .before .before .before .before .before .before .before .before .before .before .before .before .before .before .before .before .pre)
 
 returns : tie.Need-returns
-returns c = lays-out _ _ _ _ (c .before .before .before .before .before .before .before .before .before .before .before .before .before .before .before .before .before .before .before .args .encoded) (c .before .before .before .before .before .before .before .before .before .before .before .before .before .before .before .program-rows .ensures)
+returns c = lays-out _ _ _ _ (c .before .before .before .before .before .before .before .before .before .before .before .before .before .before .before .before .before .before .before .before .pre .1 .0) (c .before .before .before .before .before .before .before .before .before .before .before .before .before .before .before .before .before .before .before .before .pre .1 .1)
 
 pub lay-out-spec : {M : Type 1} → statement M
 lay-out-spec =
     tie.close
     (tie.spec
-    add-room
-    add-room-2
-    add-room-3
-    add-room-4
-    mul-lines
-    add-lines
-    program-rows-requires
-    add-rows
-    mul-text
-    add-text
-    mul-text-2
-    add-text-2
-    add-text-3
-    mul-text-3
-    add-text-4
-    mul-text-4
-    add-text-5
-    add-text-6
-    mul-spans
-    add-spans
-    add-span-room
-    mul-span-room
-    add-span-room-2
-    add-span-room-3
-    mul-span-room-2
-    add-span-room-4
-    add-main-units
     mul-main-entries
-    add-main-entries
     mul-supplementary-units
     add-supplementary-units
     mul-supplementary-entries
     add-supplementary-entries
-    mul-ranges
-    add-ranges
-    add-stack
-    mul-stack
-    add-stack-2
-    mul-sites
-    add-sites
+    mul-files
+    add-files
+    add-room
+    add-room-2
+    add-room-3
+    add-room-4
+    mul-line-room
+    mul-line-room-2
+    add-line-room
+    add-line-room-2
+    mul-line-room-3
+    add-line-room-3
+    mul-line-room-4
+    add-line-room-4
+    add-line-room-5
+    mul-t11
+    add-t19
+    add-t18
+    mul-t17
+    add-t16
+    mul-t15
+    add-t14
+    add-t12
+    mul-t13
+    add-t20
+    add-t21
+    mul-t22
+    mul-t23
     mul-t24
-    add-t25
     returns)

@@ -2,6 +2,7 @@
 use borrow.Author.Needs.{needs}
 use Rattle.dwarf.specs.Runs.{inputsBy}
 use Rattle.dwarf.proofs.CheckLaws.{both-few, accepted-both, work-enough}
+use Rattle.dwarf.proofs.WorkLaws.{most-small}
 use Rattle.dwarf.proofs.RunLaws.{accepted-missing, accepted-short, accepted-long}
 use Rattle.dwarf.proofs.run.import_accepted.Statement.{statement}
 use Rattle.dwarf.proofs.run.import_accepted.Tie as tie
@@ -14,19 +15,19 @@ refused-requires c κs = search needs
 
 returns : tie.Need-returns
 returns c =
-    let s = c .before .before .before .before .before .before .before .before .before .before in
-    let i = inputsBy (s .args .main .now) (s .args .supplementary .now) (s .args .program .now) (s .args .options) (s .args .work .now) (s .args .records .now)
-    (s .args .files .now) (s .args .warnings .now) in
-    accepted-missing (s .args .options) i (s .args .number) (c .before .before .is-missing .ensures) (c .before .if1 .taken) (c .refused .ensures)
+    let s = c .before .before .before .before .before .before .before .before .before .before .before .before in
+        let i = inputsBy (s .args .main .now) (s .args .supplementary .now) (s .args .program .now) (s .args .lists .now) (s .args .addresses .now) (s .args .options) (s .args .work .now) (s .args .records .now)
+        (s .args .files .now) (s .args .warnings .now) in
+        accepted-missing (s .args .options) i (s .args .number) (c .before .before .is-missing .ensures) (c .before .if1 .taken) (c .refused .ensures)
 
 counts-of-requires : tie.Need-counts-of-requires
 counts-of-requires c κs = search needs
 
-is-encoded-requires : tie.Need-is-encoded-requires
-is-encoded-requires c κs = (accepted-both (c .before .before .before .before .before .before .before .before .before .before .pre .0) .0, c .counts-of .ensures .encodings)
+work-of-units-requires : tie.Need-work-of-units-requires
+work-of-units-requires c κs = ((accepted-both (c .before .before .before .before .before .before .before .before .before .before .before .before .pre .0) .0, c .counts-of .ensures), (c .before .before .before .before .before .before .before .before .before .before .before .before .pre .1 .program-within, c .before .before .before .before .before .before .before .before .before .before .before .before .pre .1 .lists-within))
 
 is-short-requires : tie.Need-is-short-requires
-is-short-requires c κs = (both-few (c .before .before .before .before .before .before .before .before .before .before .before .before .pre .0), c .before .before .before .before .before .before .before .before .before .before .before .before .pre .1 .program-within)
+is-short-requires c κs = (both-few (c .before .before .before .before .before .before .before .before .before .before .before .before .before .before .pre .0), most-small _ _ (c .before .before .before .before .before .before .before .before .before .before .before .before .before .before .pre .1 .program-within) (c .before .before .before .before .before .before .before .before .before .before .before .before .before .before .pre .1 .lists-within) _ (c .before .work-of-units .ensures))
 
 refused-requires-2 : tie.Need-refused-requires-2
 refused-requires-2 c κs = search needs
@@ -36,15 +37,15 @@ same-length c = search needs
 
 returns-2 : tie.Need-returns-2
 returns-2 c =
-    let s = c .before .before .before .before .before .before .before .before .before .before .before .before .before .before .before in
-    let i = inputsBy (s .args .main .now) (s .args .supplementary .now) (s .args .program .now) (s .args .options) (s .args .work .now) (s .args .records .now)
-    (s .args .files .now) (s .args .warnings .now) in
-    accepted-short (s .args .options) i (s .args .number) (c .before .before .before .before .before .before .before .is-missing .ensures) (c .before .before .before .before .before .before .if1 .left) (c .before .before .before .before .is-encoded .ensures) (c .before .before .is-short .ensures) (c .before .if2 .taken) (c .refused2 .ensures)
+    let s = c .before .before .before .before .before .before .before .before .before .before .before .before .before .before .before .before .before in
+        let i = inputsBy (s .args .main .now) (s .args .supplementary .now) (s .args .program .now) (s .args .lists .now) (s .args .addresses .now) (s .args .options) (s .args .work .now) (s .args .records .now)
+        (s .args .files .now) (s .args .warnings .now) in
+        accepted-short (s .args .options) i (s .args .number) (c .before .before .before .before .before .before .before .is-missing .ensures) (c .before .before .before .before .before .before .if1 .left) (c .before .before .before .before .work-of-units .ensures) (c .before .before .is-short .ensures) (c .before .if2 .taken) (c .refused2 .ensures)
 
 import-worked-requires : tie.Need-import-worked-requires
 import-worked-requires c κs =
-    let P = c .before .before .before .before .before .before .before .before .before .before .before .before .before .before .before .before .before .before .pre in
-    (accepted-both (P .0), (P .1, (c .before .before .before .before .before .before .before .before .counts-of .ensures, (c .before .before .before .before .before .before .before .is-encoded .ensures, work-enough (P .0) _ _ _ (c .before .before .before .before .before .is-short .ensures) (c .before .before .before .before .if2 .left)))))
+    let P = c .before .before .before .before .before .before .before .before .before .before .before .before .before .before .before .before .before .before .before .before .pre in
+    (accepted-both (P .0), (P .1, (c .before .before .before .before .before .before .before .before .counts-of .ensures, rw (← c .before .before .before .before .before .before .before .work-of-units .ensures) (work-enough (P .0) (c .before .before .before .before .before .before .before .before .before .before .before .before .before .before .before .before .before .before .before .before .args .work .now) (c .before .before .before .before .before .before .before .work-of-units .result) (c .before .before .before .before .before .is-short .ensures) (c .before .before .before .before .if2 .left)))))
 
 same-length-2 : tie.Need-same-length-2
 same-length-2 c = search needs
@@ -60,10 +61,10 @@ same-length-5 c = search needs
 
 returns-3 : tie.Need-returns-3
 returns-3 c =
-    let s = c .before .before .before .before .before .before .before .before .before .before .before .before .before .before .before .before .before .before .before .before .before .before .before .before .before .before .before in
-    let i = inputsBy (s .args .main .now) (s .args .supplementary .now) (s .args .program .now) (s .args .options) (s .args .work .now) (s .args .records .now)
-    (s .args .files .now) (s .args .warnings .now) in
-    accepted-long (s .args .options) i (s .args .number) (c .before .before .before .before .before .before .before .before .before .before .before .before .before .before .before .before .before .before .before .is-missing .ensures) (c .before .before .before .before .before .before .before .before .before .before .before .before .before .before .before .before .before .before .if1 .left) (c .before .before .before .before .before .before .before .before .before .before .before .before .before .before .before .before .is-encoded .ensures) (c .before .before .before .before .before .before .before .before .before .before .before .before .before .before .is-short .ensures) (c .before .before .before .before .before .before .before .before .before .before .before .before .before .if2 .left) (c .before .before .before .before .before .before .before .before .import-worked .ensures)
+    let s = c .before .before .before .before .before .before .before .before .before .before .before .before .before .before .before .before .before .before .before .before .before .before .before .before .before .before .before .before .before in
+        let i = inputsBy (s .args .main .now) (s .args .supplementary .now) (s .args .program .now) (s .args .lists .now) (s .args .addresses .now) (s .args .options) (s .args .work .now) (s .args .records .now)
+        (s .args .files .now) (s .args .warnings .now) in
+        accepted-long (s .args .options) i (s .args .number) (c .before .before .before .before .before .before .before .before .before .before .before .before .before .before .before .before .before .before .before .is-missing .ensures) (c .before .before .before .before .before .before .before .before .before .before .before .before .before .before .before .before .before .before .if1 .left) (c .before .before .before .before .before .before .before .before .before .before .before .before .before .before .before .before .work-of-units .ensures) (c .before .before .before .before .before .before .before .before .before .before .before .before .before .before .is-short .ensures) (c .before .before .before .before .before .before .before .before .before .before .before .before .before .if2 .left) (c .before .before .before .before .before .before .before .before .import-worked .ensures)
 
 pub import-accepted-spec : {M : Type 1} → statement M
 import-accepted-spec =
@@ -73,7 +74,7 @@ import-accepted-spec =
     refused-requires
     returns
     counts-of-requires
-    is-encoded-requires
+    work-of-units-requires
     is-short-requires
     refused-requires-2
     same-length

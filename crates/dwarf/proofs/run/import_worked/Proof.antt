@@ -4,8 +4,8 @@ use mathlib.Core.Path.{refl, _∙_}
 use native.Mathlib.Omega.{arith}
 use Rattle.dwarf.proofs.CountLaws.{total-small}
 use Rattle.dwarf.proofs.EachLaws.{units-many}
-use Rattle.dwarf.proofs.EncodingLaws.{rows-fit}
-use Rattle.dwarf.proofs.RunLaws.{enough-laid, all-room, files-room, ready-first, writes-units}
+use Rattle.dwarf.proofs.WorkLaws.{most-least, each-enough}
+use Rattle.dwarf.proofs.RunLaws.{files-room, tables-room, ready-first, writes-units}
 use Rattle.dwarf.proofs.run.import_worked.Statement.{statement}
 use Rattle.dwarf.proofs.run.import_worked.Tie as tie
 
@@ -14,22 +14,24 @@ counts-of-requires c κs = search needs
 
 lay-out-requires : tie.Need-lay-out-requires
 lay-out-requires c κs =
-    let P = c .before .before .before .before .before .before .before .before .pre in
-    ((total-small (P .0 .0) (P .1 .1 .0), total-small (P .0 .1) (c .counts-of .ensures)), P .1 .0 .program-within)
+    let P = c .before .before .before .before .before .before .before .before .before .before .pre in
+    ((total-small (P .0 .0) (P .1 .1 .0), total-small (P .0 .1) (c .counts-of .ensures)), (P .1 .0 .program-within, P .1 .0 .lists-within))
 
 new-files-requires : tie.Need-new-files-requires
 new-files-requires c κs =
-    let P = c .before .before .before .before .before .before .before .before .before .before .pre in
-    let L = c .before .lay-out .ensures .laid _ _ _ (P .0 .0) (P .0 .1) (P .1 .1 .0) (c .before .before .counts-of .ensures) refl in
+    let P = c .before .before .before .before .before .before .before .before .before .before .before .before .pre in
+    let L = c .before .lay-out .ensures .laid (c .before .before .before .before .before .before .before .before .before .before .before .before .args .main .now) (c .before .before .before .before .before .before .before .before .before .before .before .before .args .supplementary .now) (c .before .before .before .before .before .before .before .before .before .before .before .before .args .program .now) (c .before .before .before .before .before .before .before .before .before .before .before .before .args .lists .now)
+    (P .0 .0) (P .0 .1) (P .1 .1 .0) (c .before .before .counts-of .ensures) refl refl in
     let main-small = P .1 .0 .main-within in
     let supplementary-small = P .1 .0 .supplementary-within in
-    (L .few, (L .small, (files-room (P .0 .0) (P .0 .1) (enough-laid (c .before .lay-out .result) (c .before .lay-out .ensures .encoded-is) (P .1 .1 .1 .1)) L, (omega arith, omega arith))))
+    (L .few, (L .small, (files-room (P .0 .0) (P .0 .1) (P .1 .1 .1) (most-least _ _ _) L, (omega arith, omega arith))))
 
 index-inputs-requires : tie.Need-index-inputs-requires
 index-inputs-requires c κs =
-    let P = c .before .before .before .before .before .before .before .before .before .before .before .before .before .before .pre in
-    let L = c .before .before .before .before .before .lay-out .ensures .laid _ _ _ (P .0 .0) (P .0 .1) (P .1 .1 .0) (c .before .before .before .before .before .before .counts-of .ensures) refl in
-    let room = all-room (P .0 .0) (P .0 .1) (enough-laid (c .before .before .before .before .before .lay-out .result) (c .before .before .before .before .before .lay-out .ensures .encoded-is) (P .1 .1 .1 .1)) L in
+    let P = c .before .before .before .before .before .before .before .before .before .before .before .before .before .before .before .before .pre in
+    let L = c .before .before .before .before .before .lay-out .ensures .laid (c .before .before .before .before .before .before .before .before .before .before .before .before .before .before .before .before .args .main .now) (c .before .before .before .before .before .before .before .before .before .before .before .before .before .before .before .before .args .supplementary .now) (c .before .before .before .before .before .before .before .before .before .before .before .before .before .before .before .before .args .program .now) (c .before .before .before .before .before .before .before .before .before .before .before .before .before .before .before .before .args .lists .now)
+    (P .0 .0) (P .0 .1) (P .1 .1 .0) (c .before .before .before .before .before .before .counts-of .ensures) refl refl in
+    let room = tables-room (P .0 .0) (P .0 .1) (P .1 .1 .1) (most-least _ _ _) L in
     let size = c .before .before .before .new-files .kept .1 .1 .0 in
     (P .0, ((P .1 .0 .main-within, P .1 .0 .supplementary-within), (L, omega arith)))
 
@@ -41,17 +43,20 @@ no-stats-requires c κs = search needs
 
 import-each-requires : tie.Need-import-each-requires
 import-each-requires c κs =
-    let P = c .before .before .before .before .before .before .before .before .before .before .before .before .before .before .before .before .before .before .before .before .before .before .before .before .pre in
+    let P = c .before .before .before .before .before .before .before .before .before .before .before .before .before .before .before .before .before .before .before .before .before .before .before .before .before .before .pre in
+    let L = c .before .before .before .before .before .before .before .before .before .before .before .before .before .before .before .lay-out .ensures .laid (c .before .before .before .before .before .before .before .before .before .before .before .before .before .before .before .before .before .before .before .before .before .before .before .before .before .before .args .main .now) (c .before .before .before .before .before .before .before .before .before .before .before .before .before .before .before .before .before .before .before .before .before .before .before .before .before .before .args .supplementary .now) (c .before .before .before .before .before .before .before .before .before .before .before .before .before .before .before .before .before .before .before .before .before .before .before .before .before .before .args .program .now) (c .before .before .before .before .before .before .before .before .before .before .before .before .before .before .before .before .before .before .before .before .before .before .before .before .before .before .args .lists .now)
+    (P .0 .0) (P .0 .1) (P .1 .1 .0) (c .before .before .before .before .before .before .before .before .before .before .before .before .before .before .before .before .counts-of .ensures) refl refl in
     let K = c .before .before .before .before .before .chosen-units .ensures in
     let X = c .before .before .before .before .before .before .before .before .before .index-inputs .ensures in
-    let fit = rows-fit (c .before .before .before .before .before .before .before .before .before .before .before .before .before .before .before .lay-out .result) (c .before .before .before .before .before .before .before .before .before .before .before .before .before .before .before .lay-out .ensures .encoded-is) (P .1 .1 .1 .0) (K .is _ (units-many (X .tables))) in
-    ((K .order, K .within), (fit, (X .tables, ready-first (c .before .before .before .before .before .before .before .before .before .before .before .before .before .before .before .lay-out .ensures .laid _ _ _ (P .0 .0) (P .0 .1) (P .1 .1 .0) (c .before .before .before .before .before .before .before .before .before .before .before .before .before .before .before .before .counts-of .ensures) refl) (c .before .before .before .before .before .before .before .before .before .before .before .before .before .new-files .ensures) X (c .before .before .before .before .before .before .before .before .before .index-inputs .kept .1 .1 .1 .0) (c .before .before .before .before .no-stats .ensures))))
+    let size = c .before .before .before .before .before .before .before .before .before .index-inputs .kept .1 .1 .1 .1 .0 ∙ c .before .before .before .before .before .before .before .before .before .before .before .before .before .new-files .kept .1 .1 .0 in
+    ((K .order, K .within), (rw size (each-enough (c .before .before .before .before .before .before .before .before .before .before .before .before .before .before .before .before .before .before .before .before .before .before .before .before .before .before .args .program .now) (c .before .before .before .before .before .before .before .before .before .before .before .before .before .before .before .before .before .before .before .before .before .before .before .before .before .before .args .lists .now) (K .is _ (units-many (X .tables))) (P .1 .1 .1)), (X .tables,
+    ready-first L (c .before .before .before .before .before .before .before .before .before .before .before .before .before .new-files .ensures) X (c .before .before .before .before .before .before .before .before .before .index-inputs .kept .1 .1 .1 .1 .0) (c .before .before .before .before .no-stats .ensures))))
 
 lengths-of-requires : tie.Need-lengths-of-requires
 lengths-of-requires c κs = search needs
 
 same-length : tie.Need-same-length
-same-length c = c .before .before .before .before .before .before .before .before .before .import-each .kept .1 .1 .1 .1 .1 .1 .1 .1 .0 ∙ c .before .before .before .before .before .before .before .before .before .before .before .before .before .before .before .before .before .before .before .index-inputs .kept .1 .1 .1 .0 ∙ c .before .before .before .before .before .before .before .before .before .before .before .before .before .before .before .before .before .before .before .before .before .before .before .new-files .kept .1 .1 .0
+same-length c = c .before .before .before .before .before .before .before .before .before .import-each .kept .1 .1 .1 .1 .1 .1 .1 .1 .1 .1 .0 ∙ c .before .before .before .before .before .before .before .before .before .before .before .before .before .before .before .before .before .before .before .index-inputs .kept .1 .1 .1 .1 .0 ∙ c .before .before .before .before .before .before .before .before .before .before .before .before .before .before .before .before .before .before .before .before .before .before .before .new-files .kept .1 .1 .0
 
 same-length-2 : tie.Need-same-length-2
 same-length-2 c = search needs
@@ -64,11 +69,13 @@ same-length-4 c = search needs
 
 returns : tie.Need-returns
 returns c =
-    let P = c .before .before .before .before .before .before .before .before .before .before .before .before .before .before .before .before .before .before .before .before .before .before .before .before .before .before .before .before .before .before .before .before .before .before .pre in
+    let P = c .before .before .before .before .before .before .before .before .before .before .before .before .before .before .before .before .before .before .before .before .before .before .before .before .before .before .before .before .before .before .before .before .before .before .before .before .pre in
+    let L = c .before .before .before .before .before .before .before .before .before .before .before .before .before .before .before .before .before .before .before .before .before .before .before .before .before .lay-out .ensures .laid (c .before .before .before .before .before .before .before .before .before .before .before .before .before .before .before .before .before .before .before .before .before .before .before .before .before .before .before .before .before .before .before .before .before .before .before .before .args .main .now) (c .before .before .before .before .before .before .before .before .before .before .before .before .before .before .before .before .before .before .before .before .before .before .before .before .before .before .before .before .before .before .before .before .before .before .before .before .args .supplementary .now) (c .before .before .before .before .before .before .before .before .before .before .before .before .before .before .before .before .before .before .before .before .before .before .before .before .before .before .before .before .before .before .before .before .before .before .before .before .args .program .now) (c .before .before .before .before .before .before .before .before .before .before .before .before .before .before .before .before .before .before .before .before .before .before .before .before .before .before .before .before .before .before .before .before .before .before .before .before .args .lists .now)
+    (P .0 .0) (P .0 .1) (P .1 .1 .0) (c .before .before .before .before .before .before .before .before .before .before .before .before .before .before .before .before .before .before .before .before .before .before .before .before .before .before .counts-of .ensures) refl refl in
     let X = c .before .before .before .before .before .before .before .before .before .before .before .before .before .before .before .before .before .before .before .index-inputs .ensures in
-    let o = c .before .before .before .before .before .before .before .before .before .before .before .before .before .before .before .before .before .before .before .before .before .before .before .before .before .before .before .before .before .before .before .before .before .before .args .options in
-    writes-units (c .before .before .before .before .before .before .before .before .before .before .before .before .before .before .before .before .before .before .before .before .before .before .before .before .before .lay-out .ensures .laid _ _ _ (P .0 .0) (P .0 .1) (P .1 .1 .0) (c .before .before .before .before .before .before .before .before .before .before .before .before .before .before .before .before .before .before .before .before .before .before .before .before .before .before .counts-of .ensures) refl) (c .before .before .before .before .before .before .before .before .before .before .before .before .before .before .before .before .before .before .before .before .before .before .before .new-files .ensures) X (c .before .before .before .before .before .before .before .before .before .before .before .before .before .before .before .before .before .before .before .index-inputs .kept .1 .1 .1 .0) (c .before .before .before .before .before .before .before .before .before .before .before .before .before .before .no-stats .ensures) (c .before .before .before .before .before .before .before .before .before .before .before .before .before .before .before .chosen-units .ensures) (units-many (X .tables))
-    (o .inlines) (o .«call_sites») (c .lengths-of .ensures) (c .before .before .before .before .before .before .before .before .before .import-each .ensures)
+    let o = c .before .before .before .before .before .before .before .before .before .before .before .before .before .before .before .before .before .before .before .before .before .before .before .before .before .before .before .before .before .before .before .before .before .before .before .before .args .options in
+    writes-units L (c .before .before .before .before .before .before .before .before .before .before .before .before .before .before .before .before .before .before .before .before .before .before .before .new-files .ensures) X (c .before .before .before .before .before .before .before .before .before .before .before .before .before .before .before .before .before .before .before .index-inputs .kept .1 .1 .1 .1 .0) (c .before .before .before .before .before .before .before .before .before .before .before .before .before .before .no-stats .ensures) (c .before .before .before .before .before .before .before .before .before .before .before .before .before .before .before .chosen-units .ensures) (units-many (X .tables))
+    (c .before .before .before .before .before .before .before .before .before .before .before .before .before .before .before .before .before .before .before .before .before .before .before .before .before .before .before .before .before .before .before .before .before .before .before .before .args .addresses .now) (o .inlines) (o .«call_sites») (c .lengths-of .ensures) (c .before .before .before .before .before .before .before .before .before .import-each .ensures)
 
 pub import-worked-spec : {M : Type 1} → statement M
 import-worked-spec =

@@ -23,7 +23,7 @@ same-length-4 : tie.Need-same-length-4
 same-length-4 c = search needs
 
 returns : tie.Need-returns
-returns c = (c .before .before .before .before .before .before .before .before .before .before .before .before .run-import .ensures, cleared (c .before .before .before .before .before .before .before .before .before .before .before .before .before .before .before .before .before .before .before .before .before .before .before .before .args .work .now) (c .before .before .before .before .before .before .before .before .before .before .before .before .run-import .kept .1 .1 .1 .1 .0) (c .before .before .clear .ensures))
+returns c = (c .before .before .before .before .before .before .before .before .before .before .before .before .run-import .ensures, cleared (c .before .before .before .before .before .before .before .before .before .before .before .before .before .before .before .before .before .before .before .before .before .before .before .before .before .before .args .work .now) (c .before .before .before .before .before .before .before .before .before .before .before .before .run-import .kept .1 .1 .1 .1 .1 .1 .0) (c .before .before .clear .ensures))
 
 pub run-cleared-spec : {M : Type 1} → statement M
 run-cleared-spec =

@@ -15,8 +15,8 @@ refused-requires c κs = search needs
 
 returns : tie.Need-returns
 returns c =
-    let s = c .before .before .before .before .before .before .before .before .before .before in
-    let i = inputsBy (s .args .main .now) (s .args .supplementary .now) (s .args .program .now) (s .args .options) (s .args .work .now) (s .args .records .now) (s .args .files .now) (s .args .warnings .now) in run-oversize (s .args .options) i refl (c .before .before .is-oversize .ensures) (c .before .if1 .taken) (c .refused .ensures)
+    let s = c .before .before .before .before .before .before .before .before .before .before .before .before in
+        let i = inputsBy (s .args .main .now) (s .args .supplementary .now) (s .args .program .now) (s .args .lists .now) (s .args .addresses .now) (s .args .options) (s .args .work .now) (s .args .records .now) (s .args .files .now) (s .args .warnings .now) in run-oversize (s .args .options) i refl (c .before .before .is-oversize .ensures) (c .before .if1 .taken) (c .refused .ensures)
 
 check-both-requires : tie.Need-check-both-requires
 check-both-requires c κs = search needs
@@ -31,12 +31,12 @@ enum-known-number : tie.Need-enum-known-number
 enum-known-number c = search needs
 
 import-accepted-requires : tie.Need-import-accepted-requires
-import-accepted-requires c κs = (both-accepted (c .before .before .before .before .before .before .before .check-both .ensures) (c .before .before .before .before .before .number .given .1), not-oversize _ _ _ (c .before .before .before .before .before .before .before .before .before .is-oversize .ensures) (c .before .before .before .before .before .before .before .before .if1 .left))
+import-accepted-requires c κs = (both-accepted (c .before .before .before .before .before .before .before .check-both .ensures) (c .before .before .before .before .before .number .given .1), not-oversize (c .before .before .before .before .before .before .before .before .before .before .before .before .before .before .before .before .before .before .before .args .main .now) (c .before .before .before .before .before .before .before .before .before .before .before .before .before .before .before .before .before .before .before .args .supplementary .now) (c .before .before .before .before .before .before .before .before .before .before .before .before .before .before .before .before .before .before .before .args .program .now) (c .before .before .before .before .before .before .before .before .before .before .before .before .before .before .before .before .before .before .before .args .lists .now) (c .before .before .before .before .before .before .before .before .before .before .before .before .before .before .before .before .before .before .before .args .addresses .now) (c .before .before .before .before .before .before .before .before .before .is-oversize .ensures) (c .before .before .before .before .before .before .before .before .if1 .left))
 
 returns-2 : tie.Need-returns-2
 returns-2 c =
-    let s = c .before .before .before .before .before .before .before .before .before .before .before .before .before .before in
-    let i = inputsBy (s .args .main .now) (s .args .supplementary .now) (s .args .program .now) (s .args .options) (s .args .work .now) (s .args .records .now) (s .args .files .now) (s .args .warnings .now) in run-refused (s .args .options) i refl (c .before .before .before .before .before .before .is-oversize .ensures) (c .before .before .before .before .before .if1 .left) (c .before .before .before .before .check-both .ensures) (c .before .before .n .given .1) (c .refused2 .ensures)
+    let s = c .before .before .before .before .before .before .before .before .before .before .before .before .before .before .before .before in
+        let i = inputsBy (s .args .main .now) (s .args .supplementary .now) (s .args .program .now) (s .args .lists .now) (s .args .addresses .now) (s .args .options) (s .args .work .now) (s .args .records .now) (s .args .files .now) (s .args .warnings .now) in run-refused (s .args .options) i refl (c .before .before .before .before .before .before .is-oversize .ensures) (c .before .before .before .before .before .if1 .left) (c .before .before .before .before .check-both .ensures) (c .before .before .n .given .1) (c .refused2 .ensures)
 
 same-length : tie.Need-same-length
 same-length c = search needs
@@ -52,8 +52,8 @@ same-length-4 c = search needs
 
 returns-3 : tie.Need-returns-3
 returns-3 c =
-    let s = c .before .before .before .before .before .before .before .before .before .before .before .before .before .before .before .before .before .before .before .before .before .before .before .before .before .before in
-    let i = inputsBy (s .args .main .now) (s .args .supplementary .now) (s .args .program .now) (s .args .options) (s .args .work .now) (s .args .records .now) (s .args .files .now) (s .args .warnings .now) in run-accepted (s .args .options) i refl (c .before .before .before .before .before .before .before .before .before .before .before .before .before .before .before .before .before .before .is-oversize .ensures) (c .before .before .before .before .before .before .before .before .before .before .before .before .before .before .before .before .before .if1 .left) (c .before .before .before .before .before .before .before .before .before .before .before .before .before .before .before .before .check-both .ensures) (c .before .before .before .before .before .before .before .before .before .before .before .before .before .before .number .given .1) (c .before .before .before .before .before .before .before .before .import-accepted .ensures)
+    let s = c .before .before .before .before .before .before .before .before .before .before .before .before .before .before .before .before .before .before .before .before .before .before .before .before .before .before .before .before in
+        let i = inputsBy (s .args .main .now) (s .args .supplementary .now) (s .args .program .now) (s .args .lists .now) (s .args .addresses .now) (s .args .options) (s .args .work .now) (s .args .records .now) (s .args .files .now) (s .args .warnings .now) in run-accepted (s .args .options) i refl (c .before .before .before .before .before .before .before .before .before .before .before .before .before .before .before .before .before .before .is-oversize .ensures) (c .before .before .before .before .before .before .before .before .before .before .before .before .before .before .before .before .before .if1 .left) (c .before .before .before .before .before .before .before .before .before .before .before .before .before .before .before .before .check-both .ensures) (c .before .before .before .before .before .before .before .before .before .before .before .before .before .before .number .given .1) (c .before .before .before .before .before .before .before .before .import-accepted .ensures)
 
 pub run-import-spec : {M : Type 1} → statement M
 run-import-spec =

@@ -8,21 +8,21 @@ use Rattle.dwarf.proofs.unit.import_each.Statement.{statement}
 use Rattle.dwarf.proofs.unit.import_each.Tie as tie
 
 abbrev Inv-loop : tie.InvT-loop
-Inv-loop main supplementary program from to l tables options work₀ records₀ files₀ warnings₀ units r₀ k₀ work records files warnings r k =
-    (units ≡ tables .main .units) × ImportingUnits main supplementary program l tables (options .inlines) (options .«call_sites») from to
+Inv-loop main supplementary program lists addresses from to l x options work₀ records₀ files₀ warnings₀ units r₀ k₀ work records files warnings r k =
+    (units ≡ x .main .units) × ImportingUnits main supplementary program lists addresses l x (options .inlines) (options .«call_sites») from to
     work₀ records₀ files₀ warnings₀ r₀ work records files warnings r k
 
 abbrev μ-loop : tie.MeasureT-loop
-μ-loop main supplementary program from to l tables options work₀ records₀ files₀ warnings₀ units r₀ k₀ work records files warnings r k = to - k
+μ-loop main supplementary program lists addresses from to l x options work₀ records₀ files₀ warnings₀ units r₀ k₀ work records files warnings r k = to - k
 
 loop-holds : tie.Need-loop-holds Inv-loop μ-loop
 loop-holds c =
-    let s = c .before .before .before .before .before .before .before .before in
-    let P = s .pre in (
-      refl,
-      units-start (s .args .options .inlines) (s .args .options .«call_sites») (P .0 .0) (P .0 .1) (P .1 .0) (P .1 .1 .0) (P .1 .1 .1)
-          (omega (arith, s .good)) (omega (arith, s .good)) (omega (arith, s .good)),
-    )
+    let s = c .before .before .before .before .before .before .before .before .before .before in
+        let P = s .pre in (
+          refl,
+          units-start (s .args .addresses .now) (s .args .options .inlines) (s .args .options .«call_sites») (P .0 .0) (P .0 .1) (P .1 .0) (P .1 .1 .0) (P .1 .1 .1)
+              (omega (arith, s .good)) (omega (arith, s .good)) (omega (arith, s .good)),
+        )
 
 mul-read-u64 : tie.Need-mul-read-u64 Inv-loop μ-loop
 mul-read-u64 c = omega (arith, record-inside (c .before .before .loop .inv .1) (c .before .loop-test .taken))
@@ -39,35 +39,36 @@ read-u64-requires c κs = omega (arith, record-inside (c .before .before .loop .
 import-at-requires : tie.Need-import-at-requires Inv-loop μ-loop
 import-at-requires c κs =
     let I = c .before .before .before .before .before .before .before .loop .inv .1 in
-    ((unit-in I (c .before .before .before .before .before .before .loop-test .taken) (search needs), unit-fits I (c .before .before .before .before .before .before .loop-test .taken) (search needs)), (I .tables, I .ready))
+    (unit-in I (c .before .before .before .before .before .before .loop-test .taken) (search needs), (unit-fits I (c .before .before .before .before .before .before .loop-test .taken) (search needs), (I .tables, I .ready)))
 
 same-length : tie.Need-same-length Inv-loop μ-loop
-same-length c = c .before .before .before .before .before .before .before .before .before .before .import-at .kept .1 .1 .1 .1 .1 .1 .1 .0 ∙ c .before .before .before .before .before .before .before .before .before .before .before .before .before .before .before .before .before .before .loop .inv .1 .size
+same-length c = c .before .before .before .before .before .before .before .before .before .before .import-at .kept .1 .1 .1 .1 .1 .1 .1 .1 .1 .0 ∙ c .before .before .before .before .before .before .before .before .before .before .before .before .before .before .before .before .before .before .loop .inv .1 .size
 
 same-length-2 : tie.Need-same-length-2 Inv-loop μ-loop
-same-length-2 c = c .before .before .before .before .before .before .before .before .before .before .import-at .kept .1 .1 .1 .1 .1 .1 .1 .1 .0 ∙ c .before .before .before .before .before .before .before .before .before .before .before .before .before .before .before .before .before .before .loop .inv .1 .records-size
+same-length-2 c = c .before .before .before .before .before .before .before .before .before .before .import-at .kept .1 .1 .1 .1 .1 .1 .1 .1 .1 .1 .0 ∙ c .before .before .before .before .before .before .before .before .before .before .before .before .before .before .before .before .before .before .loop .inv .1 .records-size
 
 same-length-3 : tie.Need-same-length-3 Inv-loop μ-loop
-same-length-3 c = c .before .before .before .before .before .before .before .before .before .before .import-at .kept .1 .1 .1 .1 .1 .1 .1 .1 .1 .0 ∙ c .before .before .before .before .before .before .before .before .before .before .before .before .before .before .before .before .before .before .loop .inv .1 .files-size
+same-length-3 c = c .before .before .before .before .before .before .before .before .before .before .import-at .kept .1 .1 .1 .1 .1 .1 .1 .1 .1 .1 .1 .0 ∙ c .before .before .before .before .before .before .before .before .before .before .before .before .before .before .before .before .before .before .loop .inv .1 .files-size
 
 same-length-4 : tie.Need-same-length-4 Inv-loop μ-loop
-same-length-4 c = c .before .before .before .before .before .before .before .before .before .before .import-at .kept .1 .1 .1 .1 .1 .1 .1 .1 .1 .1 .0 ∙ c .before .before .before .before .before .before .before .before .before .before .before .before .before .before .before .before .before .before .loop .inv .1 .warnings-size
+same-length-4 c = c .before .before .before .before .before .before .before .before .before .before .import-at .kept .1 .1 .1 .1 .1 .1 .1 .1 .1 .1 .1 .1 .0 ∙ c .before .before .before .before .before .before .before .before .before .before .before .before .before .before .before .before .before .before .loop .inv .1 .warnings-size
 
 returns : tie.Need-returns Inv-loop μ-loop
 returns c = units-refused (c .before .before .before .before .before .before .before .before .before .before .before .before .before .before .before .before .before .before .loop .inv .1) (c .before .before .before .before .before .before .before .before .before .before .before .before .before .before .before .before .before .loop-test .taken) (search needs) (c .before .before .before .before .before .before .before .before .before .before .import-at .ensures) (c .if1 .taken)
 
 add-k : tie.Need-add-k Inv-loop μ-loop
-add-k c = omega (arith, c .before .before .before .before .before .before .before .before .before .before .before .before .before .before .before .before .before .before .before .before .before .before .before .before .before .before .before .fits .to .fits, c .before .before .before .before .before .before .before .before .before .before .before .before .before .before .before .before .before .loop-test .taken)
+add-k c = omega (arith, c .before .before .before .before .before .before .before .before .before .before .before .before .before .before .before .before .before .before .before .before .before .before .before .before .before .before .before .before .before .fits .to .fits, c .before .before .before .before .before .before .before .before .before .before .before .before .before .before .before .before .before .loop-test .taken)
 
 loop-less : tie.Need-loop-less Inv-loop μ-loop
 loop-less c = search needs
 
 loop-again : tie.Need-loop-again Inv-loop μ-loop
-loop-again c = (
-  c .before .before .before .before .before .before .before .before .before .before .before .before .before .before .before .before .before .before .loop .inv .0,
-  units-turn (c .before .before .before .before .before .before .before .before .before .before .before .before .before .before .before .before .before .before .loop .inv .1) (c .before .before .before .before .before .before .before .before .before .before .before .before .before .before .before .before .before .loop-test .taken) (search needs) (c .before .before .before .before .before .before .before .before .before .before .import-at .ensures) (c .if1 .left)
-      (c .before .before .before .before .before .before .before .before .before .before .import-at .kept .1 .1 .1 .1 .1 .1 .1 .0) (c .before .before .before .before .before .before .before .before .before .before .import-at .kept .1 .1 .1 .1 .1 .1 .1 .1 .0) (c .before .before .before .before .before .before .before .before .before .before .import-at .kept .1 .1 .1 .1 .1 .1 .1 .1 .1 .0) (c .before .before .before .before .before .before .before .before .before .before .import-at .kept .1 .1 .1 .1 .1 .1 .1 .1 .1 .1 .0),
-)
+loop-again c =
+    (
+      c .before .before .before .before .before .before .before .before .before .before .before .before .before .before .before .before .before .before .loop .inv .0,
+      units-turn (c .before .before .before .before .before .before .before .before .before .before .before .before .before .before .before .before .before .before .loop .inv .1) (c .before .before .before .before .before .before .before .before .before .before .before .before .before .before .before .before .before .loop-test .taken) (search needs) (c .before .before .before .before .before .before .before .before .before .before .import-at .ensures) (c .if1 .left)
+          (c .before .before .before .before .before .before .before .before .before .before .import-at .kept .1 .1 .1 .1 .1 .1 .1 .1 .1 .0) (c .before .before .before .before .before .before .before .before .before .before .import-at .kept .1 .1 .1 .1 .1 .1 .1 .1 .1 .1 .0) (c .before .before .before .before .before .before .before .before .before .before .import-at .kept .1 .1 .1 .1 .1 .1 .1 .1 .1 .1 .1 .0) (c .before .before .before .before .before .before .before .before .before .before .import-at .kept .1 .1 .1 .1 .1 .1 .1 .1 .1 .1 .1 .1 .0),
+    )
 
 same-length-5 : tie.Need-same-length-5 Inv-loop μ-loop
 same-length-5 c = c .before .loop .inv .1 .size

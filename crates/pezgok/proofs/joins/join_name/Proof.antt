@@ -35,7 +35,7 @@ unfolding refusalWord
 returns-2 c = put-as (ap refusalWord (c .before .before .before .before .before .match .keys2)) (c .before .before .put-bytes2 .ensures)
 
 returns-3 : tie.Need-returns-3
-returns-3 c = put-nothing (no-word-past _ (omega (arith, c .before .before .pre)) (c .match .rest .0 .1) (c .match .rest .1)) (omega arith) (omega arith)
+returns-3 c = put-nothing (no-word-past _ (c .before .before .pre) (c .match .rest .0 .1) (c .match .rest .1)) (omega arith) (omega arith)
 
 pub join-name-spec : {M : Type 1} → statement M
 join-name-spec =

@@ -2,9 +2,8 @@
 use native.Mathlib.Omega.{arith}
 use mathlib.Core.Path.{ap}
 use Rattle.tlv.proofs.BufferLaws.{put-as, put-nothing}
-use Rattle.pezgok.proofs.ExportLaws.{above}
+use Rattle.pezgok.proofs.ExportLaws.{above, no-word-between}
 use Rattle.pezgok.specs.Exported.{refusalWord}
-use Rattle.pezgok.proofs.LookLaws.{no-word-looked}
 use borrow.Author.Needs.{needs}
 use Rattle.pezgok.proofs.look.look_name.Statement.{statement}
 use Rattle.pezgok.proofs.look.look_name.Tie as tie
@@ -36,7 +35,7 @@ unfolding refusalWord
 returns-2 c = put-as (ap refusalWord (c .before .before .before .before .before .match .keys2)) (c .before .before .put-bytes2 .ensures)
 
 returns-3 : tie.Need-returns-3
-returns-3 c = put-nothing (no-word-looked _ (above 20 _ (above 19 _ (c .before .before .pre .0) (c .match .rest .0 .1)) (c .match .rest .1)) (c .before .before .pre .1)) (omega arith) (omega arith)
+returns-3 c = put-nothing (no-word-between 21 _ (above 20 _ (above 19 _ (c .before .before .pre .0) (c .match .rest .0 .1)) (c .match .rest .1)) (c .before .before .pre .1)) (omega arith) (omega arith)
 
 pub look-name-spec : {M : Type 1} → statement M
 look-name-spec =

@@ -1,7 +1,7 @@
 -- `functions::declared_line` meets its contract. Assumes nothing.
+use borrow.Author.Needs.{needs}
 use mathlib.Core.Path.{refl}
 use native.Mathlib.Omega.{arith}
-use borrow.Author.Needs.{needs}
 use Rattle.subprograms.proofs.DeclaredLineLaws.{declaring-in, finds-refused, finds-nothing, finds-line}
 use Rattle.subprograms.proofs.functions.declared_line.Statement.{statement}
 use Rattle.subprograms.proofs.functions.declared_line.Tie as tie
@@ -17,6 +17,9 @@ enum-known-after c = search needs
 
 enum-known-state : tie.Need-enum-known-state
 enum-known-state c = search needs
+
+rows-past-requires : tie.Need-rows-past-requires
+rows-past-requires c κs = search needs
 
 put-line-requires : tie.Need-put-line-requires
 put-line-requires c κs = search needs
@@ -58,7 +61,9 @@ same-length-10 : tie.Need-same-length-10
 same-length-10 c = search needs
 
 returns-3 : tie.Need-returns-3
-returns-3 c = let s = c .before .before .before .before .before .before .before .before .before .before .before .before .before .before .before .before .before .before .before .before .before .before .before .before .before .before in finds-line (s .args .st) (s .pre .0) (s .args .p) (s .args .start) (c .before .before .before .before .before .before .before .before .before .before .before .before .before .before .resolve-declaration-line .ensures) (c .before .before .before .before .before .before .state .given .1) (c .before .before .before .put-line .ensures)
+returns-3 c =
+    let s = c .before .before .before .before .before .before .before .before .before .before .before .before .before .before .before .before .before .before .before .before .before .before .before .before .before .before .before .before in
+    finds-line (s .args .st) (s .pre .0) (s .args .p) (s .args .start) (c .before .before .before .before .before .before .before .before .before .before .before .before .before .before .before .before .resolve-declaration-line .ensures) (c .before .before .before .before .before .before .before .before .state .given .1) (c .before .before .before .before .before .before .rows-past .ensures) (c .before .before .before .before .put-line .ensures)
 
 pub declared-line-spec : {M : Type 1} → statement M
 declared-line-spec =
@@ -68,6 +73,7 @@ declared-line-spec =
     enum-known-n
     enum-known-after
     enum-known-state
+    rows-past-requires
     put-line-requires
     same-length
     same-length-2

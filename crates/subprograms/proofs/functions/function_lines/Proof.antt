@@ -1,7 +1,7 @@
 -- `functions::function_lines` meets its contract. Assumes nothing.
+use borrow.Author.Needs.{needs}
 use mathlib.Core.Path.{refl, _∙_}
 use native.Mathlib.Omega.{arith}
-use borrow.Author.Needs.{needs}
 use Rattle.subprograms.proofs.FunctionLineLaws.{finds-unwarned, context-next, rows-within, warned-fits, finds-own, finds-declared}
 use Rattle.subprograms.proofs.functions.function_lines.Statement.{statement}
 use Rattle.subprograms.proofs.functions.function_lines.Tie as tie
@@ -22,10 +22,12 @@ same-length-2 : tie.Need-same-length-2
 same-length-2 c = search needs
 
 returns : tie.Need-returns
-returns c = finds-unwarned (c .before .before .before .before .before .before .before .before .before .before .before .before .before .before .before .before .before .before .before .before .args .st) (c .before .before .before .before .before .before .before .before .before .before .before .before .before .before .before .before .before .before .before .before .pre .0) (c .before .before .before .before .before .before .before .before .before .before .before .before .before .statement-sequence-offset .ensures) (c .before .before .before .before .before .before .before .before .before .before .for-range .ensures) (c .before .before .before .before .before .before .warn-sequence .ensures) (c .if1 .taken) refl
+returns c = let s = c .before .before .before .before .before .before .before .before .before .before .before .before .before .before .before .before .before .before .before .before in finds-unwarned (s .args .st) (s .pre .0) (c .before .before .before .before .before .before .before .before .before .before .before .before .before .statement-sequence-offset .ensures) (c .before .before .before .before .before .before .before .before .before .before .for-range .ensures) (c .before .before .before .before .before .before .warn-sequence .ensures) (c .if1 .taken) refl
 
 declared-line-requires : tie.Need-declared-line-requires
-declared-line-requires c κs = let s = c .before .before .before .before .before .before .before .before .before .before .before .before .before .before .before .before .before .before .before .before .before .before .before .before .before .before in (context-next (c .before .before .before .before .before .before .before .before .before .before .before .before .before .before .before .before .before .before .before .before .before .before .before .before .before .before .args .st) (c .before .before .before .before .before .before .before .before .before .before .before .before .before .before .before .before .before .before .before .before .before .before .before .before .before .before .pre .0) (c .before .before .before .before .before .before .before .before .before .before .before .before .before .before .before .before .before .before .before .statement-sequence-offset .ensures) (c .before .before .before .before .before .before .before .before .before .before .before .before .before .before .before .before .for-range .ensures) (c .before .before .before .before .before .before .before .before .before .before .before .before .warn-sequence .ensures) (c .before .before .before .before .before .before .before .before .before .before .before .before .before .before .before .before .for-range .kept .0), (s .pre .1 .0, (s .pre .1 .1 .0, warned-fits (c .before .before .before .before .before .before .before .before .before .before .before .before .before .before .before .before .before .before .before .before .before .before .before .before .before .before .args .st) (c .before .before .before .before .before .before .before .before .before .before .before .before .before .before .before .before .before .before .before .before .before .before .before .before .before .before .pre .0) (c .before .before .before .before .before .before .before .before .before .before .before .before .before .before .before .before .before .before .before .statement-sequence-offset .ensures) (c .before .before .before .before .before .before .before .before .before .before .before .before .before .before .before .before .for-range .ensures) (c .before .before .before .before .before .before .before .before .before .before .before .before .warn-sequence .ensures) (c .before .before .before .before .before .before .if1 .left) (c .before .before .before .before .before .before .before .before .before .before .before .before .before .before .before .before .for-range .kept .0))))
+declared-line-requires c κs =
+    let s = c .before .before .before .before .before .before .before .before .before .before .before .before .before .before .before .before .before .before .before .before .before .before .before .before .before .before in
+    (context-next (s .args .st) (s .pre .0) (c .before .before .before .before .before .before .before .before .before .before .before .before .before .before .before .before .before .before .before .statement-sequence-offset .ensures) (c .before .before .before .before .before .before .before .before .before .before .before .before .before .before .before .before .for-range .ensures) (c .before .before .before .before .before .before .before .before .before .before .before .before .warn-sequence .ensures) (c .before .before .before .before .before .before .before .before .before .before .before .before .before .before .before .before .for-range .kept .0), (s .pre .1 .0, (s .pre .1 .1 .0, warned-fits (s .args .st) (s .pre .0) (c .before .before .before .before .before .before .before .before .before .before .before .before .before .before .before .before .before .before .before .statement-sequence-offset .ensures) (c .before .before .before .before .before .before .before .before .before .before .before .before .before .before .before .before .for-range .ensures) (c .before .before .before .before .before .before .before .before .before .before .before .before .warn-sequence .ensures) (c .before .before .before .before .before .before .if1 .left) (c .before .before .before .before .before .before .before .before .before .before .before .before .before .before .before .before .for-range .kept .0))))
 
 same-length-3 : tie.Need-same-length-3
 same-length-3 c = c .before .before .before .before .before .before .before .before .declared-line .kept .1 .1 .0 ∙ c .before .before .before .before .before .before .before .before .before .before .before .before .before .before .before .before .before .before .before .before .before .before .before .before .before .for-range .kept .0
@@ -40,10 +42,15 @@ same-length-6 : tie.Need-same-length-6
 same-length-6 c = search needs
 
 returns-2 : tie.Need-returns-2
-returns-2 c = finds-declared (c .before .before .before .before .before .before .before .before .before .before .before .before .before .before .before .before .before .before .before .before .before .before .before .before .before .before .before .before .before .before .before .before .before .before .before .args .st) (c .before .before .before .before .before .before .before .before .before .before .before .before .before .before .before .before .before .before .before .before .before .before .before .before .before .before .before .before .before .before .before .before .before .before .before .pre .0) (c .before .before .before .before .before .before .before .before .before .before .before .before .before .before .before .before .before .before .before .before .before .before .before .before .before .before .before .before .statement-sequence-offset .ensures) (c .before .before .before .before .before .before .before .before .before .before .before .before .before .before .before .before .before .before .before .before .before .before .before .before .before .for-range .ensures) (c .before .before .before .before .before .before .before .before .before .before .before .before .before .before .before .before .before .before .before .before .before .warn-sequence .ensures) (c .before .before .before .before .before .before .before .before .before .before .before .before .before .before .before .if1 .left) (c .before .before .before .before .before .before .before .before .before .before .before .before .before .before .before .before .before .before .before .before .before .before .before .before .before .for-range .kept .0) (c .before .before .before .before .before .before .before .before .before .before .before .before .before .if2 .taken) (c .before .before .before .before .before .before .before .before .declared-line .ensures)
+returns-2 c =
+    let s = c .before .before .before .before .before .before .before .before .before .before .before .before .before .before .before .before .before .before .before .before .before .before .before .before .before .before .before .before .before .before .before .before .before .before .before in
+    finds-declared (s .args .st) (s .pre .0) (c .before .before .before .before .before .before .before .before .before .before .before .before .before .before .before .before .before .before .before .before .before .before .before .before .before .before .before .before .statement-sequence-offset .ensures) (c .before .before .before .before .before .before .before .before .before .before .before .before .before .before .before .before .before .before .before .before .before .before .before .before .before .for-range .ensures) (c .before .before .before .before .before .before .before .before .before .before .before .before .before .before .before .before .before .before .before .before .before .warn-sequence .ensures) (c .before .before .before .before .before .before .before .before .before .before .before .before .before .before .before .if1 .left) (c .before .before .before .before .before .before .before .before .before .before .before .before .before .before .before .before .before .before .before .before .before .before .before .before .before .for-range .kept .0) (c .before .before .before .before .before .before .before .before .before .before .before .before .before .if2 .taken) (c .before .before .before .before .before .before .before .before .declared-line .ensures)
+
+rows-past-requires : tie.Need-rows-past-requires
+rows-past-requires c κs = search needs
 
 put-lines-requires : tie.Need-put-lines-requires
-put-lines-requires c κs = let s = c .before .before .before .before .before .before .before .before .before .before .before .before .before .before .before .before .before .before .before .before .before .before .before .before in (rows-within (c .before .before .before .before .before .before .before .before .before .before .before .before .before .before .before .before .before .before .before .before .before .before .before .before .args .st) (c .before .before .before .before .before .before .before .before .before .before .before .before .before .before .before .before .before .before .before .before .before .before .before .before .pre .0) (c .before .before .before .before .before .before .before .before .before .before .before .before .before .before .before .before .before .statement-sequence-offset .ensures) (c .before .before .before .before .before .before .before .before .before .before .before .before .before .before .for-range .ensures) (c .before .before .before .before .before .before .before .before .before .before .warn-sequence .ensures) (c .before .before .before .before .before .before .before .before .before .before .before .before .before .before .for-range .kept .0), s .pre .1 .1 .0)
+put-lines-requires c κs = let s = c .before .before .before .before .before .before .before .before .before .before .before .before .before .before .before .before .before .before .before .before .before .before .before .before .before in (rows-within (s .args .st) (s .pre .0) (c .before .before .before .before .before .before .before .before .before .before .before .before .before .before .before .before .before .before .statement-sequence-offset .ensures) (c .before .before .before .before .before .before .before .before .before .before .before .before .before .before .before .for-range .ensures) (c .before .before .before .before .before .before .before .before .before .before .before .warn-sequence .ensures) (c .before .before .before .before .before .before .before .before .before .before .before .before .before .before .before .for-range .kept .0), s .pre .1 .1 .0)
 
 same-length-7 : tie.Need-same-length-7
 same-length-7 c = search needs
@@ -55,7 +62,9 @@ same-length-9 : tie.Need-same-length-9
 same-length-9 c = search needs
 
 returns-3 : tie.Need-returns-3
-returns-3 c = finds-own (c .before .before .before .before .before .before .before .before .before .before .before .before .before .before .before .before .before .before .before .before .before .before .before .before .before .before .before .args .st) (c .before .before .before .before .before .before .before .before .before .before .before .before .before .before .before .before .before .before .before .before .before .before .before .before .before .before .before .pre .0) (c .before .before .before .before .before .before .before .before .before .before .before .before .before .before .before .before .before .before .before .before .statement-sequence-offset .ensures) (c .before .before .before .before .before .before .before .before .before .before .before .before .before .before .before .before .before .for-range .ensures) (c .before .before .before .before .before .before .before .before .before .before .before .before .before .warn-sequence .ensures) (c .before .before .before .before .before .before .before .if1 .left) (c .before .before .before .before .before .before .before .before .before .before .before .before .before .before .before .before .before .for-range .kept .0) (c .before .before .before .before .before .if2 .left) (omega (arith, c .before .before .before .before .before .before .before .before .before .before .before .before .before .before .before .before .before .before .before .before .before .before .before .before .before .before .before .good)) (c .before .before .put-lines .ensures)
+returns-3 c =
+    let s = c .before .before .before .before .before .before .before .before .before .before .before .before .before .before .before .before .before .before .before .before .before .before .before .before .before .before .before .before .before in
+    finds-own (s .args .st) (s .pre .0) (c .before .before .before .before .before .before .before .before .before .before .before .before .before .before .before .before .before .before .before .before .before .before .statement-sequence-offset .ensures) (c .before .before .before .before .before .before .before .before .before .before .before .before .before .before .before .before .before .before .before .for-range .ensures) (c .before .before .before .before .before .before .before .before .before .before .before .before .before .before .before .warn-sequence .ensures) (c .before .before .before .before .before .before .before .before .before .if1 .left) (c .before .before .before .before .before .before .before .before .before .before .before .before .before .before .before .before .before .before .before .for-range .kept .0) (c .before .before .before .before .before .before .before .if2 .left) (omega (arith, s .good)) (c .before .before .before .before .before .before .rows-past .ensures) (c .before .before .before .put-lines .ensures)
 
 pub function-lines-spec : {M : Type 1} → statement M
 function-lines-spec =
@@ -73,6 +82,7 @@ function-lines-spec =
     same-length-5
     same-length-6
     returns-2
+    rows-past-requires
     put-lines-requires
     same-length-7
     same-length-8

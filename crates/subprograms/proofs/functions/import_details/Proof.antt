@@ -1,8 +1,8 @@
 -- `functions::import_details` meets its contract. Assumes nothing.
+use borrow.Author.Needs.{needs}
 use native.Mathlib.Omega.{arith}
 use Rattle.dies.proofs.CallLaws.{entry-read}
 use Rattle.subprograms.proofs.DetailStepLaws.{context-accepted, details-in, extracts-here, details-refused, details-done}
-use borrow.Author.Needs.{needs}
 use Rattle.subprograms.proofs.functions.import_details.Statement.{statement}
 use Rattle.subprograms.proofs.functions.import_details.Tie as tie
 
@@ -10,13 +10,16 @@ details-of-requires : tie.Need-details-of-requires
 details-of-requires c κs = search needs
 
 add-read-u16 : tie.Need-add-read-u16
-add-read-u16 c = let s = c .before .before .before .before .before .before .before in omega (arith, entry-read (context-accepted (s .pre .0)) (s .pre .1 .0))
+add-read-u16 c = let s = c .before .before .before .before .before .before .before .before .before in omega (arith, entry-read (context-accepted (s .pre .0)) (s .pre .1 .0))
 
 read-u16-requires : tie.Need-read-u16-requires
-read-u16-requires c κs = let s = c .before .before .before .before .before .before .before in omega (arith, entry-read (context-accepted (s .pre .0)) (s .pre .1 .0))
+read-u16-requires c κs = let s = c .before .before .before .before .before .before .before .before .before in omega (arith, entry-read (context-accepted (s .pre .0)) (s .pre .1 .0))
 
 extract-subprogram-details-requires : tie.Need-extract-subprogram-details-requires
-extract-subprogram-details-requires c κs = let s = c .before .before .before .before .before .before .before .before .before .before .before .before .before in rw (c .before .before .before .before .before .before .details-of .ensures) (details-in (s .pre .0) (s .args .range), (s .pre .1 .1 .0 .placed, (s .pre .1 .1 .0 .known, omega arith)))
+extract-subprogram-details-requires c κs =
+    let s = c .before .before .before .before .before .before .before .before .before .before .before .before .before .before .before in
+    rw (c .before .before .before .before .before .before .details-of .ensures)
+    (details-in (s .pre .0) (s .args .range), (s .pre .1 .1 .0 .placed, (s .pre .1 .1 .0 .known, (omega (arith, s .pre .1 .1 .1 .0), s .pre .1 .1 .1 .1 .0))))
 
 enum-known-n : tie.Need-enum-known-n
 enum-known-n c = search needs
@@ -37,7 +40,10 @@ same-length-3 : tie.Need-same-length-3
 same-length-3 c = search needs
 
 returns : tie.Need-returns
-returns c = let s = c .before .before .before .before .before .before .before .before .before .before .before .before .before .before .before .before .before .before .before .before .before .before .before in details-refused (s .args .p) (s .args .rows) (s .args .st) (s .pre .1 .1 .0 .same) (extracts-here (s .pre .0) (s .pre .1 .0) (c .before .before .before .before .before .before .before .before .before .before .before .before .before .before .before .before .details-of .ensures) (c .before .before .before .before .before .before .before .before .before .before .before .before .before .before .before .read-u16 .ensures) (c .before .before .before .before .before .before .before .before .before .extract-subprogram-details .ensures)) (c .before .n .given .1)
+returns c =
+    let s = c .before .before .before .before .before .before .before .before .before .before .before .before .before .before .before .before .before .before .before .before .before .before .before .before .before in
+    details-refused (s .args .p) (s .args .rows) (s .args .st) (s .pre .1 .1 .0 .same)
+    (extracts-here (s .pre .0) (s .pre .1 .0) (c .before .before .before .before .before .before .before .before .before .before .before .before .before .before .before .before .details-of .ensures) (c .before .before .before .before .before .before .before .before .before .before .before .before .before .before .before .read-u16 .ensures) (c .before .before .before .before .before .before .before .before .before .extract-subprogram-details .ensures)) (c .before .n .given .1)
 
 same-length-4 : tie.Need-same-length-4
 same-length-4 c = search needs
@@ -49,7 +55,10 @@ same-length-6 : tie.Need-same-length-6
 same-length-6 c = search needs
 
 returns-2 : tie.Need-returns-2
-returns-2 c = let s = c .before .before .before .before .before .before .before .before .before .before .before .before .before .before .before .before .before .before .before .before .before .before .before .before in details-done (s .args .p) (s .args .rows) (s .args .st) (s .pre .1 .1 .0 .same) (extracts-here (s .pre .0) (s .pre .1 .0) (c .before .before .before .before .before .before .before .before .before .before .before .before .before .before .before .before .before .details-of .ensures) (c .before .before .before .before .before .before .before .before .before .before .before .before .before .before .before .before .read-u16 .ensures) (c .before .before .before .before .before .before .before .before .before .before .extract-subprogram-details .ensures)) (c .before .before .nodes .given .1) (c .count-function .ensures)
+returns-2 c =
+    let s = c .before .before .before .before .before .before .before .before .before .before .before .before .before .before .before .before .before .before .before .before .before .before .before .before .before .before .before in
+    details-done (s .args .p) (s .args .rows) (s .args .st) (s .pre .1 .1 .0 .same)
+    (extracts-here (s .pre .0) (s .pre .1 .0) (c .before .before .before .before .before .before .before .before .before .before .before .before .before .before .before .before .before .before .details-of .ensures) (c .before .before .before .before .before .before .before .before .before .before .before .before .before .before .before .before .before .read-u16 .ensures) (c .before .before .before .before .before .before .before .before .before .before .before .extract-subprogram-details .ensures)) (c .before .before .before .nodes .given .1) (c .before .count-function .ensures)
 
 pub import-details-spec : {M : Type 1} → statement M
 import-details-spec =

@@ -1,8 +1,8 @@
 -- `units::import_candidate` meets its contract. Assumes nothing.
+use borrow.Author.Needs.{needs}
 use native.Mathlib.Omega.{arith}
 use lib.Dec.{eqb}
 use Rattle.subprograms.proofs.CandidateLaws.{candidate-tombstone, candidate-live, candidate-dead}
-use borrow.Author.Needs.{needs}
 use Rattle.subprograms.proofs.units.import_candidate.Statement.{statement}
 use Rattle.subprograms.proofs.units.import_candidate.Tie as tie
 
@@ -16,7 +16,10 @@ same-length : tie.Need-same-length
 same-length c = search needs
 
 returns : tie.Need-returns
-returns c = let s = c .before .before .before .before .before .before .before .before .before .before .before in candidate-tombstone (s .args .name .now) (s .args .p) (record { range = s .args .range; tombstone = eqb (s .args .flag) 1 }) (s .pre .0) (c .before .before .is-tombstone .ensures) (c .before .if1 .taken) (s .pre .1 .1 .1 .1 .0) (s .pre .1 .1 .1 .1 .1) (s .pre .1 .1 .1 .1 .2) (omega arith) (omega arith) (omega arith) (c .reject .ensures)
+returns c =
+    let s = c .before .before .before .before .before .before .before .before .before .before .before .before .before in
+    candidate-tombstone (s .args .lists .now) (s .args .addresses .now) (s .args .name .now) (s .args .p) (record { range = s .args .range; tombstone = eqb (s .args .flag) 1 }) (s .pre .0) (c .before .before .is-tombstone .ensures) (c .before .if1 .taken)
+    (s .pre .1 .1 .1 .1 .1 .0) (s .pre .1 .1 .1 .1 .1 .1) (s .pre .1 .1 .1 .1 .1 .2) (omega (arith, s .good)) (omega (arith, s .good)) (omega (arith, s .good)) (c .reject .ensures)
 
 is-live-range-requires : tie.Need-is-live-range-requires
 is-live-range-requires c κs = search needs
@@ -37,7 +40,10 @@ same-length-5 : tie.Need-same-length-5
 same-length-5 c = search needs
 
 returns-2 : tie.Need-returns-2
-returns-2 c = let s = c .before .before .before .before .before .before .before .before .before .before .before .before .before .before .before .before .before .before .before .before .before .before .before .before .before .before in candidate-live (s .args .name .now) (s .args .p) (record { range = s .args .range; tombstone = eqb (s .args .flag) 1 }) (s .pre .0) (c .before .before .before .before .before .before .before .before .before .before .before .before .before .before .before .before .before .is-tombstone .ensures) (c .before .before .before .before .before .before .before .before .before .before .before .before .before .before .before .before .if1 .left) (c .before .before .before .before .before .before .before .before .before .before .before .before .before .before .is-live-range .ensures) (c .before .before .before .before .before .before .before .before .before .before .before .before .before .if2 .taken) (c .before .before .before .before .before .before .before .before .import-range .ensures)
+returns-2 c =
+    let s = c .before .before .before .before .before .before .before .before .before .before .before .before .before .before .before .before .before .before .before .before .before .before .before .before .before .before .before .before in
+    candidate-live (s .args .lists .now) (s .args .addresses .now) (s .args .name .now) (s .args .p) (record { range = s .args .range; tombstone = eqb (s .args .flag) 1 }) (s .pre .0) (c .before .before .before .before .before .before .before .before .before .before .before .before .before .before .before .before .before .is-tombstone .ensures) (c .before .before .before .before .before .before .before .before .before .before .before .before .before .before .before .before .if1 .left)
+    (c .before .before .before .before .before .before .before .before .before .before .before .before .before .before .is-live-range .ensures) (c .before .before .before .before .before .before .before .before .before .before .before .before .before .if2 .taken) (c .before .before .before .before .before .before .before .before .import-range .ensures)
 
 put-warning-requires : tie.Need-put-warning-requires
 put-warning-requires c κs = search needs
@@ -52,7 +58,10 @@ same-length-7 : tie.Need-same-length-7
 same-length-7 c = search needs
 
 returns-3 : tie.Need-returns-3
-returns-3 c = let s = c .before .before .before .before .before .before .before .before .before .before .before .before .before .before .before .before .before .before in candidate-dead (s .args .name .now) (s .args .p) (record { range = s .args .range; tombstone = eqb (s .args .flag) 1 }) (s .pre .0) (c .before .before .before .before .before .before .before .before .before .is-tombstone .ensures) (c .before .before .before .before .before .before .before .before .if1 .left) (c .before .before .before .before .before .before .is-live-range .ensures) (c .before .before .before .before .before .if2 .left) (s .pre .1 .1 .1 .1 .0) (s .pre .1 .1 .1 .1 .1) (omega arith) (omega arith) (c .before .before .before .put-warning .ensures) (c .reject2 .ensures)
+returns-3 c =
+    let s = c .before .before .before .before .before .before .before .before .before .before .before .before .before .before .before .before .before .before .before .before in
+    candidate-dead (s .args .lists .now) (s .args .addresses .now) (s .args .name .now) (s .args .p) (record { range = s .args .range; tombstone = eqb (s .args .flag) 1 }) (s .pre .0) (c .before .before .before .before .before .before .before .before .before .is-tombstone .ensures) (c .before .before .before .before .before .before .before .before .if1 .left)
+    (c .before .before .before .before .before .before .is-live-range .ensures) (c .before .before .before .before .before .if2 .left) (s .pre .1 .1 .1 .1 .1 .0) (s .pre .1 .1 .1 .1 .1 .1) (omega (arith, s .good)) (omega (arith, s .good)) (c .before .before .before .put-warning .ensures) (c .reject2 .ensures)
 
 pub import-candidate-spec : {M : Type 1} → statement M
 import-candidate-spec =

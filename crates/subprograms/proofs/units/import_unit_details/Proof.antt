@@ -1,25 +1,26 @@
 -- `units::import_unit_details` meets its contract. Assumes nothing.
+use borrow.Author.Needs.{needs}
 use mathlib.Core.Path.{_∙_}
 use Prim.Native.Nat.{_-_}
 use native.Mathlib.Omega.{arith}
 use lib.ListN.{length}
-use borrow.Author.Needs.{needs}
 use Rattle.tlv.proofs.CursorLaws.{next-less}
 use Rattle.subprograms.proofs.UnitLaws.{unit-inside, Importing, importing-start, importing-end, importing-cut, importing-unit, importing-passed, subprogram-inside, subprogram-entry, subprogram-here, entry-here, entry-rest, importing-refused, importing-entry}
 use Rattle.subprograms.proofs.units.import_unit_details.Statement.{statement}
 use Rattle.subprograms.proofs.units.import_unit_details.Tie as tie
 
 abbrev Inv-loop : tie.InvT-loop
-Inv-loop main supplementary work₀ records₀ files₀ warnings₀ q r₀ at₀ work records files warnings r at = Importing main supplementary q work₀ records₀ files₀ warnings₀ r₀ work records files warnings r at
+Inv-loop main supplementary lists addresses work₀ records₀ files₀ warnings₀ q r₀ at₀ work records files warnings r at =
+    Importing main supplementary lists addresses q work₀ records₀ files₀ warnings₀ r₀ work records files warnings r at
 
 abbrev μ-loop : tie.MeasureT-loop
-μ-loop main supplementary work₀ records₀ files₀ warnings₀ q r₀ at₀ work records files warnings r at = length main - at
+μ-loop main supplementary lists addresses work₀ records₀ files₀ warnings₀ q r₀ at₀ work records files warnings r at = length main - at
 
 add-at : tie.Need-add-at Inv-loop μ-loop
-add-at c = let s = c .before .before .before .before .before .before .before in omega (arith, unit-inside (s .pre .0))
+add-at c = let s = c .before .before .before .before .before .before .before .before .before in omega (arith, unit-inside (s .pre .0))
 
 loop-holds : tie.Need-loop-holds Inv-loop μ-loop
-loop-holds c = let s = c .before .before .before .before .before .before .before in importing-start (s .pre .0) (s .pre .1 .0) (s .pre .1 .1) (s .pre .1 .2) (omega arith) (omega arith) (omega arith)
+loop-holds c = let s = c .before .before .before .before .before .before .before .before .before in importing-start _ _ (s .pre .0) (s .pre .1 .1 .0) (s .pre .1 .1 .1) (s .pre .1 .1 .2) (omega arith) (omega arith) (omega arith)
 
 field-at-requires : tie.Need-field-at-requires Inv-loop μ-loop
 field-at-requires c κs = search needs
@@ -86,29 +87,46 @@ import-entry-requires c κs =
     let I = c .before .before .before .before .before .before .before .before .before .before .before .loop .inv in
     let reads = c .before .before .before .before .before .before .before .before .before .before .field-at .ensures in
     let told = c .before .before .before .before .before .before .before .before .tag .given .1 in
-    let is = subprogram-entry I reads told (c .before .before .before .before .before .is-subprogram .ensures) (c .before .before .before .before .if2 .taken) in
-    (I .context, (entry-here I reads told is, (entry-rest I reads told is, (subprogram-here I reads told (c .before .before .before .before .before .is-subprogram .ensures) (c .before .before .before .before .if2 .taken), (I .status, I .bounds .0, I .bounds .1)))))
+    let is = subprogram-entry I reads told (c .before .before .before .before .before .is-subprogram .ensures) (c .before .before .before .before .if2 .taken) in (
+      I .context,
+      (
+        entry-here I reads told is,
+        (
+          entry-rest I reads told is,
+          (
+            subprogram-here I reads told (c .before .before .before .before .before .is-subprogram .ensures) (c .before .before .before .before .if2 .taken),
+            (c .before .before .before .before .before .before .before .before .before .before .before .before .before .before .before .before .before .before .before .before .before .pre .1 .0, (I .status, I .bounds .0, I .bounds .1)),
+          ),
+        ),
+      ),
+    )
 
 same-length-13 : tie.Need-same-length-13 Inv-loop μ-loop
-same-length-13 c = c .before .before .before .before .before .before .before .before .before .before .import-entry .kept .1 .1 .0 ∙ c .before .before .before .before .before .before .before .before .before .before .before .before .before .before .before .before .before .before .before .before .before .before .loop .inv .size
+same-length-13 c = c .before .before .before .before .before .before .before .before .before .before .import-entry .kept .1 .1 .1 .1 .0 ∙ c .before .before .before .before .before .before .before .before .before .before .before .before .before .before .before .before .before .before .before .before .before .before .loop .inv .size
 
 same-length-14 : tie.Need-same-length-14 Inv-loop μ-loop
-same-length-14 c = c .before .before .before .before .before .before .before .before .before .before .import-entry .kept .1 .1 .1 .0 ∙ c .before .before .before .before .before .before .before .before .before .before .before .before .before .before .before .before .before .before .before .before .before .before .loop .inv .records-size
+same-length-14 c = c .before .before .before .before .before .before .before .before .before .before .import-entry .kept .1 .1 .1 .1 .1 .0 ∙ c .before .before .before .before .before .before .before .before .before .before .before .before .before .before .before .before .before .before .before .before .before .before .loop .inv .records-size
 
 same-length-15 : tie.Need-same-length-15 Inv-loop μ-loop
-same-length-15 c = c .before .before .before .before .before .before .before .before .before .before .import-entry .kept .1 .1 .1 .1 .0 ∙ c .before .before .before .before .before .before .before .before .before .before .before .before .before .before .before .before .before .before .before .before .before .before .loop .inv .files-size
+same-length-15 c = c .before .before .before .before .before .before .before .before .before .before .import-entry .kept .1 .1 .1 .1 .1 .1 .0 ∙ c .before .before .before .before .before .before .before .before .before .before .before .before .before .before .before .before .before .before .before .before .before .before .loop .inv .files-size
 
 same-length-16 : tie.Need-same-length-16 Inv-loop μ-loop
-same-length-16 c = c .before .before .before .before .before .before .before .before .before .before .import-entry .kept .1 .1 .1 .1 .1 .0 ∙ c .before .before .before .before .before .before .before .before .before .before .before .before .before .before .before .before .before .before .before .before .before .before .loop .inv .warnings-size
+same-length-16 c = c .before .before .before .before .before .before .before .before .before .before .import-entry .kept .1 .1 .1 .1 .1 .1 .1 .0 ∙ c .before .before .before .before .before .before .before .before .before .before .before .before .before .before .before .before .before .before .before .before .before .before .loop .inv .warnings-size
 
 returns-4 : tie.Need-returns-4 Inv-loop μ-loop
-returns-4 c = importing-refused (c .before .before .before .before .before .before .before .before .before .before .before .before .before .before .before .before .before .before .before .before .before .before .loop .inv) (c .before .before .before .before .before .before .before .before .before .before .before .before .before .before .before .before .before .before .before .before .before .field-at .ensures) (c .before .before .before .before .before .before .before .before .before .before .before .before .before .before .before .before .before .before .before .tag .given .1) (subprogram-entry (c .before .before .before .before .before .before .before .before .before .before .before .before .before .before .before .before .before .before .before .before .before .before .loop .inv) (c .before .before .before .before .before .before .before .before .before .before .before .before .before .before .before .before .before .before .before .before .before .field-at .ensures) (c .before .before .before .before .before .before .before .before .before .before .before .before .before .before .before .before .before .before .before .tag .given .1) (c .before .before .before .before .before .before .before .before .before .before .before .before .before .before .before .before .is-subprogram .ensures) (c .before .before .before .before .before .before .before .before .before .before .before .before .before .before .before .if2 .taken)) (c .before .before .before .before .before .before .before .before .before .before .import-entry .ensures) (c .if3 .taken)
+returns-4 c =
+    importing-refused (c .before .before .before .before .before .before .before .before .before .before .before .before .before .before .before .before .before .before .before .before .before .before .loop .inv) (c .before .before .before .before .before .before .before .before .before .before .before .before .before .before .before .before .before .before .before .before .before .field-at .ensures) (c .before .before .before .before .before .before .before .before .before .before .before .before .before .before .before .before .before .before .before .tag .given .1)
+    (subprogram-entry (c .before .before .before .before .before .before .before .before .before .before .before .before .before .before .before .before .before .before .before .before .before .before .loop .inv) (c .before .before .before .before .before .before .before .before .before .before .before .before .before .before .before .before .before .before .before .before .before .field-at .ensures) (c .before .before .before .before .before .before .before .before .before .before .before .before .before .before .before .before .before .before .before .tag .given .1) (c .before .before .before .before .before .before .before .before .before .before .before .before .before .before .before .before .is-subprogram .ensures) (c .before .before .before .before .before .before .before .before .before .before .before .before .before .before .before .if2 .taken)) (c .before .before .before .before .before .before .before .before .before .before .import-entry .ensures) (c .if3 .taken)
 
 loop-less : tie.Need-loop-less Inv-loop μ-loop
 loop-less c = next-less _ _ _ _ _ _ _ (c .before .before .before .before .before .before .before .before .before .before .before .before .before .before .before .before .before .before .before .before .before .field-at .ensures) (c .before .before .before .before .before .before .before .before .before .before .before .before .before .before .before .before .before .before .before .tag .given .1)
 
 loop-again : tie.Need-loop-again Inv-loop μ-loop
-loop-again c = importing-entry (c .before .before .before .before .before .before .before .before .before .before .before .before .before .before .before .before .before .before .before .before .before .before .loop .inv) (c .before .before .before .before .before .before .before .before .before .before .before .before .before .before .before .before .before .before .before .before .before .field-at .ensures) (c .before .before .before .before .before .before .before .before .before .before .before .before .before .before .before .before .before .before .before .tag .given .1) (subprogram-entry (c .before .before .before .before .before .before .before .before .before .before .before .before .before .before .before .before .before .before .before .before .before .before .loop .inv) (c .before .before .before .before .before .before .before .before .before .before .before .before .before .before .before .before .before .before .before .before .before .field-at .ensures) (c .before .before .before .before .before .before .before .before .before .before .before .before .before .before .before .before .before .before .before .tag .given .1) (c .before .before .before .before .before .before .before .before .before .before .before .before .before .before .before .before .is-subprogram .ensures) (c .before .before .before .before .before .before .before .before .before .before .before .before .before .before .before .if2 .taken)) (c .before .before .before .before .before .before .before .before .before .before .import-entry .ensures) (c .if3 .left) (c .before .before .before .before .before .before .before .before .before .before .import-entry .kept .1 .1 .0) (c .before .before .before .before .before .before .before .before .before .before .import-entry .kept .1 .1 .1 .0) (c .before .before .before .before .before .before .before .before .before .before .import-entry .kept .1 .1 .1 .1 .0) (c .before .before .before .before .before .before .before .before .before .before .import-entry .kept .1 .1 .1 .1 .1 .0)
+loop-again c =
+    let k = c .before .before .before .before .before .before .before .before .before .before .import-entry .kept in
+    importing-entry (c .before .before .before .before .before .before .before .before .before .before .before .before .before .before .before .before .before .before .before .before .before .before .loop .inv) (c .before .before .before .before .before .before .before .before .before .before .before .before .before .before .before .before .before .before .before .before .before .field-at .ensures) (c .before .before .before .before .before .before .before .before .before .before .before .before .before .before .before .before .before .before .before .tag .given .1)
+    (subprogram-entry (c .before .before .before .before .before .before .before .before .before .before .before .before .before .before .before .before .before .before .before .before .before .before .loop .inv) (c .before .before .before .before .before .before .before .before .before .before .before .before .before .before .before .before .before .before .before .before .before .field-at .ensures) (c .before .before .before .before .before .before .before .before .before .before .before .before .before .before .before .before .before .before .before .tag .given .1) (c .before .before .before .before .before .before .before .before .before .before .before .before .before .before .before .before .is-subprogram .ensures) (c .before .before .before .before .before .before .before .before .before .before .before .before .before .before .before .if2 .taken)) (c .before .before .before .before .before .before .before .before .before .before .import-entry .ensures) (c .if3 .left)
+    (k .1 .1 .1 .1 .0) (k .1 .1 .1 .1 .1 .0) (k .1 .1 .1 .1 .1 .1 .0) (k .1 .1 .1 .1 .1 .1 .1 .0)
 
 loop-less-2 : tie.Need-loop-less-2 Inv-loop μ-loop
 loop-less-2 c = next-less _ _ _ _ _ _ _ (c .before .before .before .before .before .before .field-at .ensures) (c .before .before .before .before .tag .given .1)

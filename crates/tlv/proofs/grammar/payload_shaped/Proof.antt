@@ -44,6 +44,9 @@ range-shaped-requires c κs = search needs
 failure-shaped-requires : tie.Need-failure-shaped-requires
 failure-shaped-requires c κs = search needs
 
+list-shaped-requires : tie.Need-list-shaped-requires
+list-shaped-requires c κs = search needs
+
 returns : tie.Need-returns
 unfolding payloadShaped
 returns c = rw (c .before .match .keys1) (c .unit-shaped .ensures)
@@ -102,7 +105,11 @@ returns-14 c = rw (c .before .match .keys14) (c .failure-shaped .ensures)
 
 returns-15 : tie.Need-returns-15
 unfolding payloadShaped
-returns-15 c = simp (ne-eqb _ _ (c .match .rest .1), ne-eqb _ _ (c .match .rest .0 .1), ne-eqb _ _ (c .match .rest .0 .0 .1), ne-eqb _ _ (c .match .rest .0 .0 .0 .1), ne-eqb _ _ (c .match .rest .0 .0 .0 .0 .1), ne-eqb _ _ (c .match .rest .0 .0 .0 .0 .0 .1), ne-eqb _ _ (c .match .rest .0 .0 .0 .0 .0 .0 .1), ne-eqb _ _ (c .match .rest .0 .0 .0 .0 .0 .0 .0 .1), ne-eqb _ _ (c .match .rest .0 .0 .0 .0 .0 .0 .0 .0 .1), ne-eqb _ _ (c .match .rest .0 .0 .0 .0 .0 .0 .0 .0 .0 .1), ne-eqb _ _ (c .match .rest .0 .0 .0 .0 .0 .0 .0 .0 .0 .0 .1), ne-eqb _ _ (c .match .rest .0 .0 .0 .0 .0 .0 .0 .0 .0 .0 .0 .1), ne-eqb _ _ (c .match .rest .0 .0 .0 .0 .0 .0 .0 .0 .0 .0 .0 .0 .1), ne-eqb _ _ (c .match .rest .0 .0 .0 .0 .0 .0 .0 .0 .0 .0 .0 .0 .0 .1))
+returns-15 c = rw (c .before .match .keys15) (c .list-shaped .ensures)
+
+returns-16 : tie.Need-returns-16
+unfolding payloadShaped
+returns-16 c = simp (ne-eqb _ _ (c .match .rest .1), ne-eqb _ _ (c .match .rest .0 .1), ne-eqb _ _ (c .match .rest .0 .0 .1), ne-eqb _ _ (c .match .rest .0 .0 .0 .1), ne-eqb _ _ (c .match .rest .0 .0 .0 .0 .1), ne-eqb _ _ (c .match .rest .0 .0 .0 .0 .0 .1), ne-eqb _ _ (c .match .rest .0 .0 .0 .0 .0 .0 .1), ne-eqb _ _ (c .match .rest .0 .0 .0 .0 .0 .0 .0 .1), ne-eqb _ _ (c .match .rest .0 .0 .0 .0 .0 .0 .0 .0 .1), ne-eqb _ _ (c .match .rest .0 .0 .0 .0 .0 .0 .0 .0 .0 .1), ne-eqb _ _ (c .match .rest .0 .0 .0 .0 .0 .0 .0 .0 .0 .0 .1), ne-eqb _ _ (c .match .rest .0 .0 .0 .0 .0 .0 .0 .0 .0 .0 .0 .1), ne-eqb _ _ (c .match .rest .0 .0 .0 .0 .0 .0 .0 .0 .0 .0 .0 .0 .1), ne-eqb _ _ (c .match .rest .0 .0 .0 .0 .0 .0 .0 .0 .0 .0 .0 .0 .0 .1), ne-eqb _ _ (c .match .rest .0 .0 .0 .0 .0 .0 .0 .0 .0 .0 .0 .0 .0 .0 .1))
 
 pub payload-shaped-spec : {M : Type 1} → statement M
 payload-shaped-spec =
@@ -121,6 +128,7 @@ payload-shaped-spec =
     attribute-shaped-requires
     range-shaped-requires
     failure-shaped-requires
+    list-shaped-requires
     returns
     returns-2
     returns-3
@@ -135,4 +143,5 @@ payload-shaped-spec =
     returns-12
     returns-13
     returns-14
-    returns-15)
+    returns-15
+    returns-16)

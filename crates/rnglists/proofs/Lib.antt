@@ -1,0 +1,9 @@
+pub mod Cases
+pub mod EntryLaws
+pub mod RangeListLaws
+pub mod Conforms
+pub mod DieRangeLaws
+pub mod RoomLaws
+pub mod MeaningLaws
+pub mod ReadLaws
+pub mod NextLaws

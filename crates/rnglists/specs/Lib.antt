@@ -1,0 +1,5 @@
+pub mod Standard
+pub mod RangeLists
+pub mod Conforms
+pub mod Cases
+pub mod Steps
