@@ -20,7 +20,7 @@ use Rattle.lines.specs.Files.{Indexed, internHeaderFiles}
 use Rattle.lines.specs.Lines.{Run, runRows, Collected}
 use Rattle.machine.specs.LineRows.{lineRows, collectLines}
 use Rattle.files.specs.declared.index.StoredIndices.{StoredIndices}
-use Rattle.files.specs.declared.pieces.FileUnit.{FileUnit}
+use Rattle.files.specs.declared.spans.FileUnit.{FileUnit}
 use Rattle.files.specs.declared.store.StoredFiles.{StoredFiles}
 use Rattle.files.specs.Pieces.{headerHere, UnitPlaced}
 use Rattle.files.specs.Store.{extent, tableOf, FilesIn}
@@ -29,7 +29,7 @@ use Rattle.files.proofs.UnitLaws.{unit-next}
 use Rattle.files.proofs.UnnamedLaws.{unnamed}
 use Rattle.files.proofs.GrownLaws.{files-kept, table-kept, grown-trans, grown-after}
 use Rattle.collect.specs.declared.collect.CollectedLines.{CollectedLines}
-use Rattle.collect.specs.declared.collect.InternedUnit.{InternedUnit}
+use Rattle.collect.specs.declared.interned.InternedUnit.{InternedUnit}
 use Rattle.collect.specs.declared.convert.Conversion.{Conversion}
 use Rattle.collect.specs.declared.source.RowSource.{RowSource}
 use Rattle.collect.specs.Passes.{offsetsAt}

@@ -29,7 +29,7 @@ use Rattle.collect.specs.declared.convert.Conversion.{Conversion}
 use Rattle.collect.specs.declared.convert.Converting.{Converting}
 use Rattle.collect.specs.declared.convert.ConvertedRow.{ConvertedRow}
 use Rattle.collect.specs.declared.convert.Row.{Row}
-use Rattle.collect.specs.declared.convert.SoughtFile.{SoughtFile}
+use Rattle.collect.specs.declared.sought.SoughtFile.{SoughtFile}
 use Rattle.collect.specs.Converts.{unitAt, headerIn, offsetsOf, Unnamed, convertedIn, ConversionIn, rawOf, soughtOf, linedIn, LineConverted, KnownConverted, RowConverts}
 use Rattle.collect.proofs.SoughtLaws.{is-missing, is-unnamed}
 use Rattle.collect.proofs.LineLaws.{none-put, about-put, line-put}

@@ -24,7 +24,7 @@ use Rattle.tlv.proofs.PlacePromises.{placed-file-zero, placed-file-zero-string}
 use Rattle.tlv.proofs.UnitFacts.{unit-file-zero}
 use Rattle.lines.specs.Paths.{fileEntry}
 use Rattle.lines.specs.Files.{get, headerFile}
-use Rattle.files.specs.declared.pieces.Span.{Span}
+use Rattle.files.specs.declared.spans.Span.{Span}
 use Rattle.files.specs.Pieces.{spanIn}
 use Rattle.files.specs.Indices.{indicesIn}
 use Rattle.files.specs.Interns.{FileSpanIn, OfUnit}
@@ -32,7 +32,7 @@ use Rattle.files.proofs.PieceLaws.{at-some, at-none}
 use Rattle.files.proofs.UnitLaws.{first-none, first-found, unit-next}
 use Rattle.collect.specs.declared.convert.Conversion.{Conversion}
 use Rattle.collect.specs.declared.convert.Converting.{Converting}
-use Rattle.collect.specs.declared.convert.SoughtFile.{SoughtFile}
+use Rattle.collect.specs.declared.sought.SoughtFile.{SoughtFile}
 use Rattle.collect.specs.Converts.{unitAt, headerIn, ConversionIn, zeroOf, listedOf, soughtOf}
 
 -- ---- what the code finds

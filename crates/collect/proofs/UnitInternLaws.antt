@@ -15,14 +15,14 @@ use Rattle.tlv.specs.Places.{unitHere}
 use Rattle.tlv.proofs.OutcomeLaws.{done-is, with-done}
 use Rattle.tlv.proofs.TableLaws.{here, there, but-of, but-one, but-trans}
 use Rattle.lines.specs.Files.{FileTable, FileIndices, internFile, Indexed, internFiles, internHeaderFiles}
-use Rattle.files.specs.declared.pieces.FileUnit.{FileUnit}
+use Rattle.files.specs.declared.spans.FileUnit.{FileUnit}
 use Rattle.files.specs.declared.store.StoredFiles.{StoredFiles}
-use Rattle.files.specs.declared.intern.InternedFiles.{InternedFiles}
+use Rattle.files.specs.declared.header.InternedFiles.{InternedFiles}
 use Rattle.files.specs.Pieces.{headerHere, UnitPlaced, Described}
 use Rattle.files.specs.Store.{extent, tableOf, FilesIn, Grown}
 use Rattle.files.specs.Interns.{Listed, MapRoom, InternsHeader, indexedOf}
 use Rattle.files.proofs.GrownLaws.{unit-kept, files-kept, table-kept, grown-after}
-use Rattle.collect.specs.declared.collect.InternedUnit.{InternedUnit}
+use Rattle.collect.specs.declared.interned.InternedUnit.{InternedUnit}
 use Rattle.collect.specs.Stages.{unitExtent, UnitRoom, InternsUnit}
 use Rattle.collect.proofs.FrameLaws.{but-wide}
 

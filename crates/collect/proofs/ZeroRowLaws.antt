@@ -18,7 +18,7 @@ use Rattle.tlv.proofs.RecordLaws.{records-but}
 use Rattle.lines.specs.Paths.{fileEntry}
 use Rattle.lines.specs.Files.{FileTable, FileIndices, Interned, addFile, internEntry, internFile, get, insertIndex}
 use Rattle.lines.specs.Lines.{convertRow}
-use Rattle.files.specs.declared.pieces.Span.{Span}
+use Rattle.files.specs.declared.spans.Span.{Span}
 use Rattle.files.specs.declared.store.StoredFiles.{StoredFiles}
 use Rattle.files.specs.declared.intern.InternedFile.{InternedFile}
 use Rattle.files.specs.Pieces.{spanIn, FileUnitIn}
@@ -30,7 +30,7 @@ use Rattle.collect.specs.declared.convert.Conversion.{Conversion}
 use Rattle.collect.specs.declared.convert.Converting.{Converting}
 use Rattle.collect.specs.declared.convert.ConvertedRow.{ConvertedRow}
 use Rattle.collect.specs.declared.convert.Row.{Row}
-use Rattle.collect.specs.declared.convert.SoughtFile.{SoughtFile}
+use Rattle.collect.specs.declared.sought.SoughtFile.{SoughtFile}
 use Rattle.collect.specs.Converts.{unitAt, headerIn, Unnamed, convertedIn, ConversionIn, soughtOf, LineConverted, RowConverts}
 use Rattle.rows.specs.Sizes.{lineSize}
 use Rattle.collect.proofs.SoughtLaws.{is-zero}

@@ -30,7 +30,7 @@ use Rattle.collect.specs.declared.convert.Conversion.{Conversion}
 use Rattle.collect.specs.declared.convert.Converting.{Converting}
 use Rattle.collect.specs.declared.convert.ConvertedRow.{ConvertedRow}
 use Rattle.collect.specs.declared.convert.Row.{Row}
-use Rattle.collect.specs.declared.convert.SoughtFile.{SoughtFile}
+use Rattle.collect.specs.declared.sought.SoughtFile.{SoughtFile}
 use Rattle.collect.specs.Passes.{offsetsAt, convertFrom}
 
 abbrev pub unitAt : List ℕ → Conversion → CompilationUnit

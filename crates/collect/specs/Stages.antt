@@ -23,13 +23,13 @@ use Rattle.rows.specs.Sizes.{entrySize, lineSize, rangeSize, rowRoom}
 use Rattle.rows.specs.Stored.{linesOf, rangesOf}
 use Rattle.rows.specs.Selects.{RowsIn}
 use Rattle.files.specs.declared.index.StoredIndices.{StoredIndices}
-use Rattle.files.specs.declared.pieces.FileUnit.{FileUnit}
+use Rattle.files.specs.declared.spans.FileUnit.{FileUnit}
 use Rattle.files.specs.declared.store.StoredFiles.{StoredFiles}
 use Rattle.files.specs.Pieces.{headerHere, FileUnitIn}
 use Rattle.files.specs.Store.{extent, tableOf, FilesIn, Grown}
 use Rattle.files.specs.Indices.{indicesIn}
 use Rattle.collect.specs.declared.collect.CollectedLines.{CollectedLines}
-use Rattle.collect.specs.declared.collect.InternedUnit.{InternedUnit}
+use Rattle.collect.specs.declared.interned.InternedUnit.{InternedUnit}
 use Rattle.collect.specs.declared.convert.Conversion.{Conversion}
 use Rattle.collect.specs.declared.source.RowSource.{RowSource}
 use Rattle.collect.specs.Passes.{sequencesFrom, offsetsAt, withOffset}

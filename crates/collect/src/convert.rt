@@ -3,30 +3,22 @@ ghost use mathlib.Core.Path.{_≡_};
 ghost use mathlib.Core.Option.{none};
 ghost use Prim.Native.Nat.{_+_, _*_, _≤_, _<_};
 ghost use lib.ListN.{length};
-ghost use Rattle.tlv.specs.Grammar.{rowFieldSize};
-ghost use Rattle.tlv.specs.Model.{rowOf};
-ghost use Rattle.tlv.specs.Table.{chunk};
 ghost use Rattle.lines.specs.Files.{get};
-ghost use Rattle.lines.specs.Lines.{rawLine};
 ghost use Rattle.files.specs.Indices.{indicesIn};
-ghost use Rattle.collect.specs.Passes.{rowsFrom};
-ghost use Rattle.collect.specs.Converts.{ConversionIn, rawOf, zeroOf, listedOf, soughtOf, LineAppended};
-ghost use Rattle.collect.specs.Converts.{LineConverted, ConvertsKnown, RowConverts, RowsConvert};
+ghost use Rattle.collect.specs.Converts.{ConversionIn, soughtOf, LineAppended, LineConverted, ConvertsKnown, RowConverts};
 ghost use Rattle.rows.specs.Sizes.{lineSize};
+use crate::sought::SoughtFile;
+use crate::sought::sought_file;
 use files::index::FileNumber;
 use files::index::FoundIndex;
 use files::index::StoredIndices;
 use files::intern::InternedFile;
-use files::pieces::FileUnit;
-use files::pieces::Span;
+use files::spans::FileUnit;
+use files::spans::Span;
 use files::store::StoredFiles;
 use rows::line::LINE_SIZE;
 use tlv::access::Own;
-use tlv::grammar::ROW_COLUMN;
-use tlv::grammar::ROW_KIND;
-use tlv::grammar::ROW_LINE;
 use tlv::model::DebugSource;
-use tlv::tags::UNIT_WHOLE;
 
 // The unit, its file 0 before version 5, its map of file numbers, the table of its sequences' offsets, and where its lines go.
 pub struct Conversion {
@@ -58,58 +50,6 @@ pub struct Row {
 pub enum ConvertedRow {
     Refused(u8),
     Next(Converting),
-}
-
-// What a header has at a file number that the unit's map has no number for: nothing, a file with no path, or file 0 before version 5.
-pub enum SoughtFile {
-    Missing,
-    Unnamed,
-    Zero(Span),
-}
-
-fn zero_file(zero: Own) -> SoughtFile
-    ensures { λ r. ⌜ r ≡ zeroOf zero ⌝ }
-{
-    match zero {
-        Own::Missing => {
-            return SoughtFile::Missing;
-        }
-        Own::Field {
-            start,
-            len,
-            next: _,
-        } => {
-            return SoughtFile::Zero(Span {
-                start: start,
-                len: len,
-            });
-        }
-    }
-}
-
-fn listed_file(indices: StoredIndices, file: FileNumber) -> SoughtFile
-    ensures { λ r. ⌜ r ≡ listedOf (indices .count) (file .0) ⌝ }
-{
-    if file.0 < indices.count as u64 {
-        return SoughtFile::Unnamed;
-    }
-    SoughtFile::Missing
-}
-
-// The header's file of a number that the unit's map has no number for.
-fn sought_file(c: Conversion, file: FileNumber) -> SoughtFile
-    ensures { λ r. ⌜ r ≡ soughtOf c (file .0) ⌝ }
-{
-    let unit = c.unit;
-    let zero = c.zero;
-    let indices = c.indices;
-    if unit.version <= 4 {
-        if file.0 == 0 {
-            return zero_file(zero);
-        }
-        return listed_file(indices, file);
-    }
-    listed_file(indices, file)
 }
 
 // Appends the line of a row whose file has a number and whose line fits 32 bits.
@@ -277,24 +217,6 @@ pub fn convert_row(
     ConvertedRow::Next(convert_line(c, row, index, work, warnings, st))
 }
 
-// The row whose payload starts at a place, of the sequence of a number.
-pub fn read_row(main: &[u8], start: usize, sequence: usize) -> Row
-    requires { ⌜ start + rowFieldSize ≤ length (now main) ⌝ }
-    ensures { λ r. ⌜ rawOf r ≡ rawLine (rowOf (chunk (now (main .entry)) start rowFieldSize)) sequence ⌝ }
-{
-    let address = tlv::bytes::read_u64(main, start);
-    let file = tlv::bytes::read_u64(main, start + 8);
-    let line = tlv::bytes::read_u64(main, start + ROW_LINE);
-    let column = tlv::bytes::read_u16(main, start + ROW_COLUMN);
-    Row {
-        address: address,
-        file: FileNumber(file),
-        line: line,
-        column: column,
-        sequence: sequence,
-    }
-}
-
 // Appends the line of a row whose file has a number in the unit's map and whose line fits 32 bits; whether it did.
 pub fn convert_known(c: Conversion, row: Row, work: &mut [u8], count: usize) -> bool
     requires { ⌜ c .indices .base + c .indices .count * 5 ≤ length (now work) ⌝ }
@@ -312,60 +234,4 @@ pub fn convert_known(c: Conversion, row: Row, work: &mut [u8], count: usize) -> 
         return true;
     }
     false
-}
-
-// Converts `left` row fields of the unit, from its first on.
-pub fn convert_rows(
-    main: &[u8],
-    supplementary: &[u8],
-    c: Conversion,
-    left: usize,
-    work: &mut [u8],
-    files: &mut [u8],
-    warnings: &mut [u8],
-    st: Converting,
-) -> ConvertedRow
-    requires { ⌜ ConversionIn (now main) (now supplementary) (now work) c st ⌝ }
-    requires { ⌜ c .lines + st .count * lineSize + left * lineSize ≤ length (now work) ⌝ }
-    ensures { λ r. ⌜ RowsConvert (rowsFrom (now (main .entry)) (c .unit .place + 21)) (now (main .entry)) (now (supplementary .entry))
-        (now (work .entry)) (now (work .exit)) (now (files .entry)) (now (files .exit)) (now (warnings .entry)) (now (warnings .exit)) c st left r ⌝ }
-{
-    let unit = c.unit;
-    let mut at = unit.place + UNIT_WHOLE;
-    let mut sequence: usize = 0;
-    let mut more = left;
-    let mut state = st;
-    loop {
-        if more == 0 {
-            return ConvertedRow::Next(state);
-        }
-        let Own::Field {
-            start,
-            len: _,
-            next,
-        } = tlv::access::next_row(main, at)
-        else {
-            return ConvertedRow::Next(state);
-        };
-        let row = read_row(main, start, sequence);
-        if tlv::bytes::read_u8(main, start + ROW_KIND) == 1 {
-            sequence += 1;
-            at = next;
-        } else if convert_known(c, row, work, state.count) {
-            state.count += 1;
-            more -= 1;
-            at = next;
-        } else {
-            match convert_row(main, supplementary, c, row, work, files, warnings, state) {
-                ConvertedRow::Refused(n) => {
-                    return ConvertedRow::Refused(n);
-                }
-                ConvertedRow::Next(converted) => {
-                    state = converted;
-                    more -= 1;
-                    at = next;
-                }
-            }
-        }
-    }
 }

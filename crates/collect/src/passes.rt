@@ -10,7 +10,7 @@ ghost use Rattle.rows.specs.Stored.{sequenceOf};
 ghost use Rattle.collect.specs.Passes.{rowsFrom, countRows, countedOf, offsetsAt, sequencesFrom, SequencePut, SequencesIn};
 use rows::line::RANGE_SIZE;
 use tlv::access::Own;
-use tlv::grammar::ROW_KIND;
+use tlv::shapes::ROW_KIND;
 
 // The refusal of a row that could not be read.
 const FAILED_ROW: u8 = 6;

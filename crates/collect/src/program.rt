@@ -12,10 +12,10 @@ use machine::machine::next_row;
 use machine::registers::Encoding;
 use machine::registers::LINE_ENCODING;
 use machine::registers::Registers;
-use tlv::grammar::ROW_COLUMN;
-use tlv::grammar::ROW_FIELD;
-use tlv::grammar::ROW_KIND;
-use tlv::grammar::ROW_LINE;
+use tlv::shapes::ROW_COLUMN;
+use tlv::shapes::ROW_FIELD;
+use tlv::shapes::ROW_KIND;
+use tlv::shapes::ROW_LINE;
 
 // The largest column that a row has: a larger one is written so.
 const LAST_COLUMN: u64 = 65535;

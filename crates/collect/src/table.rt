@@ -12,13 +12,13 @@ use crate::convert::ConvertedRow;
 use crate::convert::Converting;
 use crate::convert::convert_known;
 use crate::convert::convert_row;
-use crate::convert::read_row;
 use crate::passes::put_sequence_record;
+use crate::row_fields::read_row;
 use rows::line::RANGE_SIZE;
 use tlv::bytes::read_u8;
 use tlv::bytes::read_u64;
-use tlv::grammar::ROW_FIELD;
-use tlv::grammar::ROW_KIND;
+use tlv::shapes::ROW_FIELD;
+use tlv::shapes::ROW_KIND;
 
 // Converts `left` of the `count` rows at `at`, from the first on.
 pub fn convert_table_rows(

@@ -27,7 +27,7 @@ use Rattle.tlv.proofs.EntryPlaceLaws.{entry-attributes}
 use Rattle.references.specs.Search.{attribute}
 use Rattle.references.specs.Tables.{EntryKnown}
 use Rattle.references.proofs.ReferenceLaws.{by-kind, ofKind, entry-step, entry-next, attribute-says}
-use Rattle.dies.specs.declared.dies.Address.{Address}
+use Rattle.dies.specs.declared.sites.Address.{Address}
 use Rattle.dies.specs.DetailState.{Accepted, addressOf, addressIn}
 
 -- ---- the kinds of an accepted sheet

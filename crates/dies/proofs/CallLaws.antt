@@ -29,7 +29,7 @@ use Rattle.references.specs.Tables.{EntryKnown, numberGiven}
 use Rattle.references.proofs.NumberLaws.{given-none, given-some}
 use Rattle.references.proofs.ReferenceLaws.{entry-placed, entry-step, entry-inside}
 use Rattle.references.proofs.TargetLaws.{known-unit}
-use Rattle.dies.specs.declared.dies.Warned.{Warned}
+use Rattle.dies.specs.declared.calls.Warned.{Warned}
 use Rattle.imports.specs.Tree.{DetailContext, callFileFrom, callFileOf, callLineIf, callLineOf}
 use Rattle.dies.specs.DetailState.{Accepted, AboutWarned, FileCalled, LineCalled}
 use Rattle.dies.proofs.AttributeReads.{accepted-placed}

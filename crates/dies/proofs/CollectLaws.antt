@@ -17,7 +17,7 @@ use Rattle.tlv.proofs.BufferLaws.{put-none}
 use Rattle.tlv.proofs.TableLaws.{kept-refl, kept-trans}
 use Rattle.references.specs.Tables.{EntryKnown}
 use Rattle.dies.specs.declared.dies.Details.{Details}
-use Rattle.dies.specs.declared.dies.Walk.{Walk}
+use Rattle.dies.specs.declared.walk.Walk.{Walk}
 use Rattle.imports.specs.Tree.{Descendants, DetailContext, finish, makeInlineNode, collectEntry}
 use Rattle.dies.specs.Details.{DetailsIn, contextIn}
 use Rattle.dies.specs.DetailState.{rangesLater, entriesLeft, walkOf, Fits, walked, Advances, Quiet, Shut, collectSite, stepEntry}

@@ -24,7 +24,7 @@ use Rattle.tlv.proofs.PlacePromises.{placed-entry}
 use Rattle.tlv.proofs.EntryPlaceLaws.{entry-depth-is}
 use Rattle.references.specs.Tables.{EntryKnown}
 use Rattle.dies.specs.declared.dies.Details.{Details}
-use Rattle.dies.specs.declared.dies.Walk.{Walk}
+use Rattle.dies.specs.declared.walk.Walk.{Walk}
 use Rattle.imports.specs.Import.{descendantsOf}
 use Rattle.imports.specs.Tree.{Descendants, DetailContext, collectEntries}
 use Rattle.dies.specs.Past.{isPast}

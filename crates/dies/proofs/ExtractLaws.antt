@@ -17,9 +17,9 @@ use Rattle.tlv.proofs.BufferLaws.{_then_, put-none}
 use Rattle.tlv.proofs.TableLaws.{kept-refl, kept-trans}
 use Rattle.tlv.proofs.IndexModel.{either}
 use Rattle.dies.specs.declared.dies.Details.{Details}
-use Rattle.dies.specs.declared.dies.Walk.{Walk}
+use Rattle.dies.specs.declared.walk.Walk.{Walk}
 use Rattle.dies.specs.declared.dies.Extracted.{Extracted}
-use Rattle.dies.specs.declared.dies.LaidSites.{LaidSites}
+use Rattle.dies.specs.declared.sites.LaidSites.{LaidSites}
 use Rattle.dies.specs.Past.{isPast}
 use Rattle.dies.specs.declared.frames.Open.{Open}
 use Rattle.dies.specs.FrameStack.{Empty}

@@ -23,7 +23,7 @@ use Rattle.references.proofs.ReferenceLaws.{entry-step}
 use Rattle.references.proofs.SectionLaws.{name-same}
 use Rattle.rnglists.specs.RangeLists.{DieRanges}
 use Rattle.dies.specs.declared.dies.Details.{Details}
-use Rattle.dies.specs.declared.dies.Walk.{Walk}
+use Rattle.dies.specs.declared.walk.Walk.{Walk}
 use Rattle.dies.specs.declared.inlined.Merged.{Merged}
 use Rattle.imports.specs.Ranges.{coalesceRanges}
 use Rattle.imports.specs.Tree.{Descendants, DetailContext, fit, dieRanges, rangesOf, parentRanges, pushInline, makeInlineNode}

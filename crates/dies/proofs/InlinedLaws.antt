@@ -30,7 +30,7 @@ use Rattle.tlv.proofs.PlacePromises.{placed-list}
 use Rattle.rnglists.specs.RangeLists.{ListRanges, rangesIn, listRanges, failureBy, listed}
 use Rattle.imports.specs.Ranges.{coalesceRanges}
 use Rattle.imports.specs.Tree.{fit}
-use Rattle.dies.specs.declared.ranges.ListGathered.{ListGathered}
+use Rattle.dies.specs.declared.gather.ListGathered.{ListGathered}
 use Rattle.dies.specs.declared.inlined.Merged.{Merged}
 use Rattle.dies.specs.RangeTable.{rangesAt, rangeFields, ownLists, MergedAt, Gathered, listAt, listGiven, GatheredList, readBy, readAt, MergedBy, MergedFew, Merges, MergesList, MergesFields}
 use Rattle.dies.proofs.GatherLaws.{fit-nonempty}

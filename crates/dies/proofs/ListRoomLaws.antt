@@ -9,7 +9,7 @@ use Rattle.tlv.specs.Bytes.{Bytes}
 use Rattle.references.specs.Tables.{EntryKnown}
 use Rattle.rnglists.proofs.RoomLaws.{list-room, list-left}
 use Rattle.dies.specs.declared.dies.Details.{Details}
-use Rattle.dies.specs.declared.dies.Walk.{Walk}
+use Rattle.dies.specs.declared.walk.Walk.{Walk}
 use Rattle.dies.specs.RangeTable.{rangeFields, ownLists}
 use Rattle.dies.specs.Details.{DetailsIn, rangeCount, listCount, listRoom, rangeRoom}
 use Rattle.dies.specs.DetailState.{Later, rangesLater, entriesLeft, Fits, OwnRanges}

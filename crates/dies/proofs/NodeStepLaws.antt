@@ -24,10 +24,10 @@ use Rattle.references.specs.Tables.{EntryKnown}
 pub use Rattle.references.proofs.DeclareLaws.{warnings-append}
 use Rattle.files.specs.Indices.{indicesIn}
 use Rattle.dies.specs.declared.dies.Details.{Details}
-use Rattle.dies.specs.declared.dies.Walk.{Walk}
-use Rattle.dies.specs.declared.dies.CalledFile.{CalledFile}
-use Rattle.dies.specs.declared.dies.CalledLine.{CalledLine}
-use Rattle.dies.specs.declared.dies.Laid.{Laid}
+use Rattle.dies.specs.declared.walk.Walk.{Walk}
+use Rattle.dies.specs.declared.calls.CalledFile.{CalledFile}
+use Rattle.dies.specs.declared.calls.CalledLine.{CalledLine}
+use Rattle.dies.specs.declared.nodes.Laid.{Laid}
 use Rattle.imports.specs.Tree.{Descendants, DetailContext, CallFile, CallLine, callFileOf, callLineOf, pushInline}
 use Rattle.dies.specs.RangeTable.{rangesAt, rangeFields}
 use Rattle.dies.specs.FrameStack.{openIn, grown}

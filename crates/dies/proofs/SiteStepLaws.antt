@@ -30,8 +30,8 @@ use Rattle.references.specs.Names.{dwarfOf, referenceName, Resolved}
 use Rattle.references.proofs.ReferenceLaws.{entry-step}
 use Rattle.references.proofs.SectionLaws.{reference-name-same}
 use Rattle.dies.specs.declared.dies.Details.{Details}
-use Rattle.dies.specs.declared.dies.Walk.{Walk}
-use Rattle.dies.specs.declared.dies.Address.{Address}
+use Rattle.dies.specs.declared.walk.Walk.{Walk}
+use Rattle.dies.specs.declared.sites.Address.{Address}
 use Rattle.dies.specs.FrameStack.{openIn}
 use Rattle.imports.specs.Tree.{Descendants, DetailContext, siteWithOrigin, siteAt, makeCallSite, pushCallSite}
 use Rattle.dies.specs.RangeTable as table

@@ -25,7 +25,7 @@ use Rattle.references.specs.Tables.{EntryKnown, bytesGiven}
 use Rattle.references.specs.Names.{dwarfOf, referenceName, Resolved}
 use Rattle.references.specs.Keys.{keysExtent}
 use Rattle.dies.specs.declared.dies.Details.{Details}
-use Rattle.dies.specs.declared.dies.Walk.{Walk}
+use Rattle.dies.specs.declared.walk.Walk.{Walk}
 use Rattle.dies.specs.Past.{isPast}
 use Rattle.dies.specs.Details.{DetailsIn}
 use Rattle.dies.specs.DetailState.{noneLater, originOf, originName, siteOf, sitesAt, SiteKnown, Fits, SitesPut}

@@ -17,8 +17,8 @@ use Rattle.references.specs.Keys.{keysExtent}
 use Rattle.references.proofs.KeyLaws.{keys-in-none}
 use Rattle.references.proofs.FollowLaws.{index-kept}
 use Rattle.dies.specs.declared.dies.Details.{Details}
-use Rattle.dies.specs.declared.dies.Walk.{Walk}
-use Rattle.dies.specs.declared.dies.Sites.{Sites}
+use Rattle.dies.specs.declared.walk.Walk.{Walk}
+use Rattle.dies.specs.declared.sites.Sites.{Sites}
 use Rattle.dies.specs.declared.frames.Open.{Open}
 use Rattle.imports.specs.Tree.{finish}
 use Rattle.dies.specs.FrameStack.{Popped}

@@ -28,14 +28,14 @@ use Rattle.references.specs.Names.{dwarfOf, referenceName}
 use Rattle.references.specs.Keys.{keysExtent}
 use Rattle.dies.specs.declared.dies.Details.{Details}
 use Rattle.dies.specs.declared.dies.Extracted.{Extracted}
-use Rattle.dies.specs.declared.dies.Walk.{Walk}
-use Rattle.dies.specs.declared.dies.Sites.{Sites}
-use Rattle.dies.specs.declared.dies.Address.{Address}
-use Rattle.dies.specs.declared.dies.Warned.{Warned}
-use Rattle.dies.specs.declared.dies.CalledFile.{CalledFile}
-use Rattle.dies.specs.declared.dies.CalledLine.{CalledLine}
-use Rattle.dies.specs.declared.dies.Laid.{Laid}
-use Rattle.dies.specs.declared.dies.LaidSites.{LaidSites}
+use Rattle.dies.specs.declared.walk.Walk.{Walk}
+use Rattle.dies.specs.declared.sites.Sites.{Sites}
+use Rattle.dies.specs.declared.sites.Address.{Address}
+use Rattle.dies.specs.declared.calls.Warned.{Warned}
+use Rattle.dies.specs.declared.calls.CalledFile.{CalledFile}
+use Rattle.dies.specs.declared.calls.CalledLine.{CalledLine}
+use Rattle.dies.specs.declared.nodes.Laid.{Laid}
+use Rattle.dies.specs.declared.sites.LaidSites.{LaidSites}
 use Rattle.imports.specs.Tree.{CallSiteFrame, Descendants, DetailContext, callFileOf, callLineOf, endsHere, finish, makeCallSite, pushCallSite, collectEntry}
 use Rattle.imports.specs.Tree.{collectDescendants}
 use Rattle.dies.specs.RangeTable.{rangesAt, rangeFields, ownLists}

@@ -15,7 +15,7 @@ use Rattle.tlv.specs.Places.{ownFields}
 use Rattle.tlv.specs.Lists.{Any, isNone, mapOption}
 use Rattle.tlv.specs.Table.{chunk, records, Kept, KeptBut}
 use Rattle.rnglists.specs.RangeLists.{ListRanges, rangesIn, listRanges, DieRanges, listed}
-use Rattle.dies.specs.declared.ranges.ListGathered.{ListGathered}
+use Rattle.dies.specs.declared.gather.ListGathered.{ListGathered}
 use Rattle.dies.specs.declared.inlined.Merged.{Merged}
 use Rattle.imports.specs.Ranges.{Apart, coalesceRanges}
 use Rattle.imports.specs.Tree.{fit}

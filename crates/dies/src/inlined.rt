@@ -7,7 +7,7 @@ ghost use lib.ListN.{length};
 ghost use Rattle.tlv.specs.Bytes.{leAt};
 ghost use Rattle.tlv.specs.Checked.{Placed};
 ghost use Rattle.dies.specs.RangeTable.{rangeFields, ownLists, listAt, readAt, Merges, MergesList, MergesFields};
-use crate::ranges::ListGathered;
+use crate::gather::ListGathered;
 use tlv::access::Own;
 use tlv::tags::FAILURE_TAG;
 use tlv::tags::LIST_TAG;
@@ -41,7 +41,7 @@ fn list_ranges(
     let base = tlv::bytes::read_u64(main, start + 8);
     let place = tlv::bytes::read_u64(main, start + 16);
     let size = tlv::bytes::read_u8(main, start + 24);
-    match crate::ranges::gather_list(lists, addresses, place, size, offset, base, work, q, m, to) {
+    match crate::gather::gather_list(lists, addresses, place, size, offset, base, work, q, m, to) {
         ListGathered::Fault(fault) => {
             return Merged::Refused(fault);
         }

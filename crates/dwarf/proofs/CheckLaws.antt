@@ -54,13 +54,21 @@ module _ (main supplementary program lists addresses : List ℕ) where
       module _ (p : length program ≤ programLimit) where
         pub oversize-lists : listLimit < length lists → true ≡ over
         oversize-lists q =
-            sym (rw (le-ltb inputLimit (length main) h, le-ltb inputLimit (length supplementary) k, le-ltb programLimit (length program) p,
-            lt-ltb listLimit (length lists) q))
+            sym (rw (
+              le-ltb inputLimit (length main) h,
+              le-ltb inputLimit (length supplementary) k,
+              le-ltb programLimit (length program) p,
+              lt-ltb listLimit (length lists) q,
+            ))
 
         pub oversize-addresses : length lists ≤ listLimit → ltb listLimit (length addresses) ≡ over
         oversize-addresses q =
-            sym (rw (le-ltb inputLimit (length main) h, le-ltb inputLimit (length supplementary) k, le-ltb programLimit (length program) p,
-            le-ltb listLimit (length lists) q))
+            sym (rw (
+              le-ltb inputLimit (length main) h,
+              le-ltb inputLimit (length supplementary) k,
+              le-ltb programLimit (length program) p,
+              le-ltb listLimit (length lists) q,
+            ))
 
   pub not-oversize : {b : Bool} → b ≡ over → b ≡ false → NotOversize main supplementary program lists
   not-oversize e is =

@@ -214,7 +214,15 @@ pub fn measure_unit<'a>(
         call_sites: call_sites,
         first_file: first_file,
     };
-    measure_by(main, supplementary, program, lists, addresses, options, work)
+    measure_by(
+        main,
+        supplementary,
+        program,
+        lists,
+        addresses,
+        options,
+        work,
+    )
 }
 
 // The same of the import of all units.
@@ -242,5 +250,13 @@ pub fn measure_dwarf<'a>(
         call_sites: call_sites,
         first_file: first_file,
     };
-    measure_by(main, supplementary, program, lists, addresses, options, work)
+    measure_by(
+        main,
+        supplementary,
+        program,
+        lists,
+        addresses,
+        options,
+        work,
+    )
 }

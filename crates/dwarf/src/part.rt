@@ -5,7 +5,7 @@ ghost use Rattle.collect.specs.Collects.{UnitIn};
 ghost use Rattle.dies.specs.DetailState.{Accepted};
 ghost use Rattle.dwarf.specs.Part.{PartOf};
 use tlv::access::Own;
-use tlv::grammar::PART_LENGTH;
+use tlv::shapes::PART_LENGTH;
 use tlv::tags::PART_TAG;
 use tlv::tags::UNIT_WHOLE;
 

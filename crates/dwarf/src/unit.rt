@@ -19,7 +19,7 @@ use crate::part::program_part;
 use crate::tables::Indexes;
 use collect::collect::CollectedLines;
 use files::index::StoredIndices;
-use references::declarations::Places;
+use references::declaring::Places;
 use references::tables::Tables;
 use rows::unit_lines::StoredLines;
 use subprograms::model::ImportContext;

@@ -18,7 +18,7 @@ use Rattle.tlv.proofs.TableLaws.{kept-refl, kept-trans, kept-wide, leAt-kept}
 use Rattle.tlv.proofs.RecordLaws.{records-length, records-nil, records-push}
 use Rattle.tlv.proofs.PlacePromises.{placed-directory, placed-directory-string}
 use Rattle.tlv.proofs.OwnLaws.{own-within, own-field, own-placed}
-use Rattle.files.specs.declared.pieces.Span.{Span}
+use Rattle.files.specs.declared.spans.Span.{Span}
 use Rattle.files.specs.Pieces.{spanIn, spanOf, spannedOf, PutSpan, DirectoryIn, DirectoriesIn}
 
 -- ---- a span

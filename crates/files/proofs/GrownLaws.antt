@@ -10,7 +10,7 @@ use Rattle.tlv.specs.Fields.{encode}
 use Rattle.tlv.specs.Output.{FileEntry, filePayload, eachOf, filesBytes}
 use Rattle.tlv.proofs.BufferLaws.{_then_, put-none, put-as}
 use Rattle.tlv.proofs.RecordLaws.{records-but}
-use Rattle.files.specs.declared.pieces.FileUnit.{FileUnit}
+use Rattle.files.specs.declared.spans.FileUnit.{FileUnit}
 use Rattle.files.specs.declared.store.StoredFiles.{StoredFiles}
 use Rattle.files.specs.Pieces.{spanIn, spanOf, spannedOf, FileUnitIn}
 use Rattle.files.specs.Store.{extent, entriesOf, tableOf, FilesIn, Grown}

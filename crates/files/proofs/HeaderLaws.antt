@@ -16,9 +16,9 @@ use Rattle.tlv.specs.Places.{unitHere}
 use Rattle.tlv.proofs.TableLaws.{here, there, but-of, but-one, but-trans}
 use Rattle.tlv.proofs.RecordLaws.{records-nil, records-suc}
 use Rattle.lines.specs.Files.{FileTable, FileIndices, internFiles, internHeaderFiles}
-use Rattle.files.specs.declared.pieces.FileUnit.{FileUnit}
+use Rattle.files.specs.declared.spans.FileUnit.{FileUnit}
 use Rattle.files.specs.declared.store.StoredFiles.{StoredFiles}
-use Rattle.files.specs.declared.intern.InternedFiles.{InternedFiles}
+use Rattle.files.specs.declared.header.InternedFiles.{InternedFiles}
 use Rattle.files.specs.Pieces.{headerHere, FileUnitIn}
 use Rattle.files.specs.Store.{extent, tableOf, FilesIn}
 use Rattle.files.specs.Indices.{indexOf, indicesOf, PutIndex}

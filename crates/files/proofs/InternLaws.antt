@@ -20,9 +20,9 @@ use Rattle.tlv.proofs.TableLaws.{kept-refl, here, there, but-of, but-one, but-t
 use Rattle.lines.specs.Paths.{fileEntry}
 use Rattle.lines.specs.Files.{addFile, internFile}
 use Rattle.tlv.specs.declared.model.DebugSource.{DebugSource}
-use Rattle.files.specs.declared.pieces.Span.{Span}
+use Rattle.files.specs.declared.spans.Span.{Span}
 use Rattle.files.specs.declared.pieces.FilePieces.{FilePieces}
-use Rattle.files.specs.declared.pieces.FileUnit.{FileUnit}
+use Rattle.files.specs.declared.spans.FileUnit.{FileUnit}
 use Rattle.files.specs.declared.pieces.Named.{Named}
 use Rattle.files.specs.declared.store.StoredFiles.{StoredFiles}
 use Rattle.files.specs.declared.store.AddedFile.{AddedFile}

@@ -25,11 +25,11 @@ use Rattle.tlv.proofs.OwnLaws.{own-within, own-field, own-placed}
 use Rattle.tlv.proofs.UnitFacts.{unit-files}
 use Rattle.lines.specs.Files.{FileTable, FileIndices, internFile, Indexed, internFiles}
 use Rattle.tlv.specs.declared.model.DebugSource.{DebugSource}
-use Rattle.files.specs.declared.pieces.Span.{Span}
-use Rattle.files.specs.declared.pieces.FileUnit.{FileUnit}
+use Rattle.files.specs.declared.spans.Span.{Span}
+use Rattle.files.specs.declared.spans.FileUnit.{FileUnit}
 use Rattle.files.specs.declared.store.StoredFiles.{StoredFiles}
 use Rattle.files.specs.declared.intern.InternedFile.{InternedFile}
-use Rattle.files.specs.declared.intern.InternedFiles.{InternedFiles}
+use Rattle.files.specs.declared.header.InternedFiles.{InternedFiles}
 use Rattle.files.specs.Pieces.{sourceIn, spanIn, headerHere, UnitPlaced, FileUnitIn}
 use Rattle.files.specs.Possible.{withZero}
 use Rattle.files.specs.Store.{extent, tableOf, FilesIn, Grown}

@@ -12,7 +12,7 @@ use Rattle.lines.specs.Join.{Laid}
 use Rattle.lines.proofs.Joining.{append-first}
 use Rattle.lines.proofs.PathBounds.{append-path-length}
 use Rattle.lines.proofs.JoinLaws.{laid-as, append-two, join-room}
-use Rattle.files.specs.declared.pieces.Span.{Span}
+use Rattle.files.specs.declared.spans.Span.{Span}
 use Rattle.files.specs.declared.pieces.FilePieces.{FilePieces}
 use Rattle.files.specs.Pieces.{spanIn, SpanIn, fileIn}
 use Rattle.files.proofs.DirectoryLaws.{cut-span}

@@ -30,7 +30,7 @@ use Rattle.lines.specs.Files.{FileTable, FileIndices, fileIndex, placeOf, get}
 use Rattle.files.specs.declared.index.FileNumber.{FileNumber}
 use Rattle.files.specs.declared.index.FoundIndex.{FoundIndex}
 use Rattle.files.specs.declared.pieces.FilePieces.{FilePieces}
-use Rattle.files.specs.declared.pieces.FileUnit.{FileUnit}
+use Rattle.files.specs.declared.spans.FileUnit.{FileUnit}
 use Rattle.files.specs.declared.pieces.Named.{Named}
 use Rattle.files.specs.declared.store.StoredFiles.{StoredFiles}
 use Rattle.files.specs.declared.store.FoundFile.{FoundFile}

@@ -24,8 +24,8 @@ use Rattle.tlv.proofs.ChunkLaws.{chunk-length}
 use Rattle.tlv.proofs.RecordLaws.{records-length, records-at}
 use Rattle.lines.specs.Paths.{baseStart, basenameOf, rootLength, directoryName, isAbsolute, appendPath, readDirectory, namedDirectory, needsCompilation}
 use Rattle.lines.specs.Paths.{joinedDirectory, fileEntry}
-use Rattle.files.specs.declared.pieces.Span.{Span}
-use Rattle.files.specs.declared.pieces.FileUnit.{FileUnit}
+use Rattle.files.specs.declared.spans.Span.{Span}
+use Rattle.files.specs.declared.spans.FileUnit.{FileUnit}
 use Rattle.files.specs.declared.pieces.Named.{Named}
 use Rattle.lines.proofs.PathBounds.{base-start-within}
 use Rattle.files.specs.declared.pieces.NamedDirectory.{NamedDirectory}

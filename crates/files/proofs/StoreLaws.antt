@@ -11,7 +11,7 @@ use Rattle.tlv.specs.Table.{chunk, Wrote}
 use Rattle.tlv.proofs.ChunkLaws.{chunk-part, leAt-chunk}
 use Rattle.tlv.proofs.TableLaws.{kept-trans, kept-wide, leAt-kept, here, there, but-of, but-trans}
 use Rattle.tlv.specs.declared.model.DebugSource.{DebugSource}
-use Rattle.files.specs.declared.pieces.Span.{Span}
+use Rattle.files.specs.declared.spans.Span.{Span}
 use Rattle.files.specs.declared.pieces.FilePieces.{FilePieces}
 use Rattle.files.specs.declared.store.StoredFiles.{StoredFiles}
 use Rattle.files.specs.Pieces.{spanOf, PutSpan}

@@ -21,7 +21,7 @@ use Rattle.tlv.proofs.PlaceFacts.{placed-next}
 use Rattle.tlv.proofs.PlacePromises.{placed-header, placed-string}
 use Rattle.tlv.proofs.OwnLaws.{own-within, own-field}
 use Rattle.tlv.proofs.UnitFacts.{unit-directory, unit-header, unit-directories}
-use Rattle.files.specs.declared.pieces.Span.{Span}
+use Rattle.files.specs.declared.spans.Span.{Span}
 use Rattle.files.specs.Pieces.{orHeader, headerHere, versionIn, CompilationIn, DirectoriesIn, UnitPlaced, Described}
 use Rattle.files.proofs.DirectoryLaws.{spanned-length}
 

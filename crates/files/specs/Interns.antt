@@ -13,11 +13,11 @@ use Rattle.tlv.specs.Places.{unitHere}
 use Rattle.tlv.specs.Output.{FileEntry}
 use Rattle.lines.specs.Paths.{fileEntry}
 use Rattle.lines.specs.Files.{FileIndices, Interned, internFile, Indexed, internFiles, internHeaderFiles}
-use Rattle.files.specs.declared.pieces.Span.{Span}
-use Rattle.files.specs.declared.pieces.FileUnit.{FileUnit}
+use Rattle.files.specs.declared.spans.Span.{Span}
+use Rattle.files.specs.declared.spans.FileUnit.{FileUnit}
 use Rattle.files.specs.declared.store.StoredFiles.{StoredFiles}
 use Rattle.files.specs.declared.intern.InternedFile.{InternedFile}
-use Rattle.files.specs.declared.intern.InternedFiles.{InternedFiles}
+use Rattle.files.specs.declared.header.InternedFiles.{InternedFiles}
 use Rattle.files.specs.Pieces.{spanIn, headerHere}
 use Rattle.files.specs.Possible.{withZero, Possible}
 use Rattle.files.specs.Store.{extent, tableOf, Grown}

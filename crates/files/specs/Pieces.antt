@@ -22,9 +22,9 @@ use Rattle.lines.specs.Standard.{slash}
 use Rattle.lines.specs.Paths.{orEmpty, basenameOf, directoryName, appendPath, needsCompilation, namedDirectory, joinedDirectory, fileEntry}
 use Rattle.lines.specs.Scan.{headerAt}
 use Rattle.tlv.specs.declared.model.DebugSource.{DebugSource}
-use Rattle.files.specs.declared.pieces.Span.{Span}
+use Rattle.files.specs.declared.spans.Span.{Span}
 use Rattle.files.specs.declared.pieces.FilePieces.{FilePieces}
-use Rattle.files.specs.declared.pieces.FileUnit.{FileUnit}
+use Rattle.files.specs.declared.spans.FileUnit.{FileUnit}
 use Rattle.files.specs.declared.pieces.Named.{Named}
 use Rattle.files.specs.declared.pieces.NamedDirectory.{NamedDirectory}
 use Rattle.files.specs.declared.pieces.PathParts.{PathParts}

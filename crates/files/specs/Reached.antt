@@ -19,7 +19,7 @@ use Rattle.tlv.specs.Places.{ownFields, unitHere}
 use Rattle.tlv.specs.Output.{FileEntry}
 use Rattle.lines.specs.Paths.{fileEntry}
 use Rattle.lines.specs.Files.{FileTable, FileIndices, fileIndex, placeOf, get}
-use Rattle.files.specs.declared.pieces.FileUnit.{FileUnit}
+use Rattle.files.specs.declared.spans.FileUnit.{FileUnit}
 use Rattle.files.specs.declared.store.StoredFiles.{StoredFiles}
 use Rattle.files.specs.declared.index.FileNumber.{FileNumber}
 use Rattle.files.specs.declared.index.FoundIndex.{FoundIndex}

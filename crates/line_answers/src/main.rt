@@ -1,21 +1,17 @@
 // Reads calls of the lines layer from standard input and writes what its functions answer (oracle/README.md says how both stand).
 ghost use Prim.Native.Nat.{_+_, _*_, _≤_};
 ghost use lib.ListN.{length};
-ghost use Rattle.tlv.specs.Checked.{Accepts};
-ghost use Rattle.rows.specs.Sizes.{entrySize};
 ghost use Rattle.rows.specs.Selects.{RowsIn};
-ghost use Rattle.collect.specs.Collects.{UnitIn};
-ghost use Rattle.line_answers.specs.Answers.{Room, HasRoom, CollectedRows};
+use crate::collected::collect_case;
+use crate::output::write_offsets;
+use crate::output::write_path;
+use crate::output::write_refused;
+use crate::output::write_rows;
 use collect::collect::CollectedLines;
-use files::store::JOINED_LIMIT;
-use rows::line::ENTRY_SIZE;
-use rows::line::ROW_ROOM;
 use rows::unit_lines::StoredLines;
 
-mod front;
-
-// The room for a byte of a program that gives rows: at most a row, and an offset of eight bytes in three.
-const BYTE_ROOM: usize = ROW_ROOM + 3;
+pub mod collected;
+pub mod output;
 
 // The number in the next 4 bytes.
 fn next_u32() -> u32 {
@@ -31,58 +27,6 @@ fn next_u8() -> u8 {
     bytes[0]
 }
 
-fn wide(b: u8) -> u64 {
-    b as u64
-}
-
-fn write_refused(refusal: u8) {
-    io::write_all(1, b"refused ");
-    io::print_decimal(1, wide(refusal));
-}
-
-// Whether a byte of a path is written as it is.
-fn is_plain(b: u8) -> bool {
-    if b == 0x5c {
-        return false;
-    }
-    if b == 0x7c {
-        return false;
-    }
-    if b < 0x21 {
-        return false;
-    }
-    b < 0x7f
-}
-
-fn write_byte(b: u8) {
-    if is_plain(b) {
-        let byte = [b];
-        io::write_all(1, &byte);
-    } else {
-        io::write_all(1, b"\\");
-        io::print_hex(1, wide(b), 2);
-    }
-}
-
-fn write_path(path: &[u8]) {
-    let mut i = 0;
-    while i < path.len() {
-        write_byte(path[i]);
-        i += 1;
-    }
-}
-
-// The numbers of a table, eight bytes each.
-fn write_offsets(table: &[u8]) {
-    io::write_all(1, b"sequences");
-    let mut p = 0;
-    while 8 <= table.len() - p {
-        io::write_all(1, b" ");
-        io::print_hex(1, tlv::bytes::read_u64(table, p), 1);
-        p += 8;
-    }
-}
-
 // The answers follow, one function for each kind of call; false where the call is cut off or has no room.
 
 // A place (8 bytes), then the program.
@@ -91,14 +35,14 @@ fn answer_operand(call: &[u8]) -> bool {
         return false;
     }
     let place = tlv::bytes::read_u64(call, 0) as usize;
-    match lines::lines::read_line_uleb(&call[8..], place) {
-        lines::lines::Operand::Value { value, next } => {
+    match lines::operands::read_line_uleb(&call[8..], place) {
+        lines::operands::Operand::Value { value, next } => {
             io::write_all(1, b"operand ");
             io::print_decimal(1, value);
             io::write_all(1, b" ");
             io::print_decimal(1, next as u64);
         }
-        lines::lines::Operand::Fault(refusal) => {
+        lines::operands::Operand::Fault(refusal) => {
             write_refused(refusal);
         }
     }
@@ -178,129 +122,6 @@ fn join(first: &[u8], second: &[u8], work: &mut [u8]) -> bool {
     io::write_all(1, b"joined ");
     write_path(&work[..m]);
     true
-}
-
-// Collects the lines of a sheet's first unit, behind the file table; refused where the sheet is not accepted, has no unit, or the work has no room.
-fn collect_case(
-    main: &[u8],
-    program: &[u8],
-    work: &mut [u8],
-    files: &mut [u8],
-    warnings: &mut [u8],
-) -> CollectedLines
-    ensures { λ r. ⌜ CollectedRows (now (work .exit)) r ⌝ }
-{
-    match tlv::grammar::check_input(main, program.len()) {
-        tlv::grammar::Checked::Accepted(n) => collect_accepted(
-            main,
-            program,
-            n as usize,
-            work,
-            files,
-            warnings,
-        ),
-        tlv::grammar::Checked::Misshapen => CollectedLines::Refused(2),
-        tlv::grammar::Checked::PastLimit => CollectedLines::Refused(3),
-    }
-}
-
-// The same for an accepted sheet of n fields.
-fn collect_accepted(
-    main: &[u8],
-    program: &[u8],
-    n: usize,
-    work: &mut [u8],
-    files: &mut [u8],
-    warnings: &mut [u8],
-) -> CollectedLines
-    requires { ⌜ Accepts (now main) n ⌝ }
-    ensures { λ r. ⌜ CollectedRows (now (work .exit)) r ⌝ }
-{
-    match tlv::access::unit_by_ordinal(main, 0) {
-        tlv::access::Place::At(place) => {
-            if has_room(main.len(), program.len(), n, work.len()) {
-                collect_placed(main, program, n, place, work, files, warnings)
-            } else {
-                CollectedLines::Refused(5)
-            }
-        }
-        tlv::access::Place::Missing => CollectedLines::Refused(4),
-    }
-}
-
-// The same for a unit at a place.
-fn collect_placed(
-    main: &[u8],
-    program: &[u8],
-    n: usize,
-    place: usize,
-    work: &mut [u8],
-    files: &mut [u8],
-    warnings: &mut [u8],
-) -> CollectedLines
-    requires { ⌜ Accepts (now main) n ⌝ }
-    requires { ⌜ UnitIn (now main) place ⌝ }
-    requires { ⌜ Room (length (now main)) (length (now program)) n (length (now work)) ⌝ }
-    ensures { λ r. ⌜ CollectedRows (now (work .exit)) r ⌝ }
-{
-    let room = n + 1;
-    let free = room * 45 + JOINED_LIMIT;
-    let table = files::store::new_files(main, b"", work, 0, room, 1, 0);
-    collect::collect::collect_lines(
-        main,
-        b"",
-        program,
-        place,
-        work,
-        files,
-        warnings,
-        table,
-        0,
-        free,
-    )
-}
-
-// Whether a work slice has room for the file table and the lines of a sheet of n fields.
-fn has_room(main: usize, program: usize, n: usize, work: usize) -> bool
-    ensures { λ r. ⌜ HasRoom main program n work r ⌝ }
-{
-    if 4294967296 <= main {
-        return false;
-    }
-    if 65536 < n {
-        return false;
-    }
-    let need = n * 108 + (JOINED_LIMIT + 82);
-    if work < need {
-        return false;
-    }
-    if (work - need) / BYTE_ROOM < program {
-        return false;
-    }
-    true
-}
-
-fn write_entry(entry: tlv::model::LineEntry) {
-    let file = entry.file;
-    io::write_all(1, b" ");
-    io::print_hex(1, entry.address, 1);
-    io::write_all(1, b":");
-    io::print_decimal(1, file.0 as u64);
-    io::write_all(1, b":");
-    io::print_decimal(1, entry.line as u64);
-    io::write_all(1, b":");
-    io::print_decimal(1, entry.column as u64);
-}
-
-// The `count` rows that stand at a place.
-fn write_rows(work: &[u8], rows: usize, count: usize)
-    requires { ⌜ rows + count * entrySize ≤ length (now work) ⌝ }
-{
-    let mut i = 0;
-    while i < count {
-        write_entry(rows::line::entry_at(work, rows + i * ENTRY_SIZE));
-        i += 1;
-    }
 }
 
 // A query: start (8 bytes), end (8), whether a sequence is asked for (1), its offset (8).
@@ -419,7 +240,7 @@ fn next_answer(buffer: &mut [u8], work: &mut [u8]) -> bool {
     true
 }
 
-fn main() {
+pub fn main() {
     let mut buffer = [0u8; 16384];
     let mut work = [0u8; 65536];
     let count = next_u32();

@@ -16,11 +16,11 @@ use crate::registers::advance;
 use crate::registers::advance_special;
 use crate::registers::move_by;
 use crate::registers::wide;
-use lines::lines::Operand;
-use lines::lines::Skipped;
 use lines::lines::operand_count;
-use lines::lines::read_line_uleb;
-use lines::lines::skip_operands;
+use lines::operands::Operand;
+use lines::operands::Skipped;
+use lines::operands::read_line_uleb;
+use lines::operands::skip_operands;
 
 // The last special opcode: const_add_pc advances the address as it does.
 const LAST_OPCODE: u8 = 255;

@@ -10,9 +10,9 @@ use Rattle.tlv.specs.Model.{units}
 use Rattle.files.specs.Pieces.{sourceIn}
 use Rattle.references.specs.declared.tables.Tables.{Tables}
 use Rattle.references.specs.declared.tables.Target.{Target}
-use Rattle.references.specs.declared.names.EntryAt.{EntryAt}
-use Rattle.references.specs.declared.names.OffsetAt.{OffsetAt}
-use Rattle.references.specs.declared.declarations.Aim.{Aim}
+use Rattle.references.specs.declared.ways.EntryAt.{EntryAt}
+use Rattle.references.specs.declared.ways.OffsetAt.{OffsetAt}
+use Rattle.references.specs.declared.aims.Aim.{Aim}
 use Rattle.references.specs.Search.{DieKey, sameKey, isVisited, visit, visitEntry, nothing, byOffset, followedNothing, unitsIn, unitContaining, followIn, followAbsolute}
 use Rattle.references.specs.Tables.{Leads}
 use Rattle.references.specs.Keys.{keysAt, keyIn, keysFrom}

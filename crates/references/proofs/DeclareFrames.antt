@@ -21,8 +21,8 @@ use Rattle.files.specs.Store.{extent, tableOf, FilesIn}
 use Rattle.files.specs.Indices.{indexOf, indicesOf, indicesIn}
 use Rattle.files.proofs.GrownLaws.{table-kept, files-kept}
 use Rattle.references.specs.declared.tables.Index.{Index}
-use Rattle.references.specs.declared.declarations.Places.{Places}
-use Rattle.references.specs.declared.declarations.DeclaringState.{DeclaringState}
+use Rattle.references.specs.declared.declaring.Places.{Places}
+use Rattle.references.specs.declared.declaring.DeclaringState.{DeclaringState}
 use Rattle.references.specs.Search.{DieKey, sameKey}
 use Rattle.references.specs.Tables.{IndexIn}
 use Rattle.references.specs.Keys.{keysAt, chainCount, Pushed, PossibleKey, keysFrom, TrailIn}

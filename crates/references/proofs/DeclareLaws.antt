@@ -19,13 +19,13 @@ use Rattle.tlv.specs.Output.{Warning, warningPayload, eachOf, warningsBytes}
 use Rattle.tlv.proofs.BufferLaws.{_then_, put-none, put-as}
 use Rattle.tlv.proofs.TableLaws.{but-refl, but-trans}
 use Rattle.files.proofs.GrownLaws.{grown-none, grown-trans}
-use Rattle.references.specs.declared.declarations.Places.{Places}
-use Rattle.references.specs.declared.declarations.DeclaringState.{DeclaringState}
-use Rattle.references.specs.declared.declarations.Declared.{Declared}
+use Rattle.references.specs.declared.declaring.Places.{Places}
+use Rattle.references.specs.declared.declaring.DeclaringState.{DeclaringState}
+use Rattle.references.specs.declared.declaring.Declared.{Declared}
 use Rattle.references.specs.Search.{Declaring, withFound}
 use Rattle.references.specs.Declarations.{declaringAt, DeclaringIn, DeclaredState, searched, DeclaresCounted}
 use Rattle.references.specs.Reads.{Counted, after, _>>>_}
-use Rattle.references.proofs.declarations.Declared.{the-type}
+use Rattle.references.proofs.declaring.Declared.{the-type}
 
 abbrev Search : Type 0
 Search = Declaring → Counted Declaring

@@ -27,7 +27,7 @@ use Rattle.files.specs.Pieces.{sourceIn}
 use Rattle.references.specs.declared.tables.Index.{Index}
 use Rattle.references.specs.declared.tables.Tables.{Tables}
 use Rattle.references.specs.declared.attributes.Reference.{Reference}
-use Rattle.references.specs.declared.names.EntryAt.{EntryAt}
+use Rattle.references.specs.declared.ways.EntryAt.{EntryAt}
 use Rattle.references.specs.Search.{DieKey, sameKey, attribute}
 use Rattle.references.specs.Tables.{IndexIn, EntryKnown, referenceOf}
 use Rattle.references.specs.Keys.{keysAt, keyIn, Pushed, PossibleKey, KeysIn, keysFrom, keysExtent, TrailIn}

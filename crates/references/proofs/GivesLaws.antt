@@ -18,8 +18,8 @@ use Rattle.tlv.proofs.TableLaws.{kept-refl, kept-trans}
 use Rattle.files.specs.Pieces.{sourceIn}
 use Rattle.references.specs.declared.tables.Tables.{Tables}
 use Rattle.references.specs.declared.tables.Target.{Target}
-use Rattle.references.specs.declared.names.EntryAt.{EntryAt}
-use Rattle.references.specs.declared.names.OffsetAt.{OffsetAt}
+use Rattle.references.specs.declared.ways.EntryAt.{EntryAt}
+use Rattle.references.specs.declared.ways.OffsetAt.{OffsetAt}
 use Rattle.references.specs.Search.{Trail, DieKey, sameKey, isVisited, visit, visitEntry, unitContaining, unitsIn, followIn, followAbsolute, Named}
 use Rattle.references.specs.Reads.{Counted, after, _>>>_, countedName}
 use Rattle.references.specs.Tables.{Leads, bytesGiven}

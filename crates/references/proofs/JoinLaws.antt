@@ -18,17 +18,17 @@ use Rattle.tlv.specs.Places.{unitHere, unitPlaces}
 use Rattle.tlv.proofs.TableLaws.{but-one, but-refl, but-trans}
 use Rattle.tlv.proofs.UnitPlaceLaws.{units-at}
 use Rattle.lines.specs.Files.{FileTable, Indexed, internHeaderFiles}
-use Rattle.files.specs.declared.pieces.FileUnit.{FileUnit}
+use Rattle.files.specs.declared.spans.FileUnit.{FileUnit}
 use Rattle.files.specs.declared.store.StoredFiles.{StoredFiles}
-use Rattle.files.specs.declared.intern.InternedFiles.{InternedFiles}
+use Rattle.files.specs.declared.header.InternedFiles.{InternedFiles}
 use Rattle.files.specs.Pieces.{sourceIn, orHeader, headerHere, Described}
 use Rattle.files.specs.Store.{tableOf}
 use Rattle.files.specs.Interns.{Listed, MapRoom, indexedOf, InternsHeader}
 use Rattle.files.proofs.GrownLaws.{grown-none, grown-after}
 use Rattle.files.proofs.ListedLaws.{listed, listed-supplementary}
-use Rattle.references.specs.declared.declarations.Places.{Places}
-use Rattle.references.specs.declared.declarations.DeclaringState.{DeclaringState}
-use Rattle.references.specs.declared.declarations.Joined.{Joined}
+use Rattle.references.specs.declared.declaring.Places.{Places}
+use Rattle.references.specs.declared.declaring.DeclaringState.{DeclaringState}
+use Rattle.references.specs.declared.aims.Joined.{Joined}
 use Rattle.references.specs.Search.{unitFiles}
 use Rattle.references.specs.Declarations.{reachedFiles, ReachedUnit, DeclaringIn, lower}
 use Rattle.references.specs.DeclaredSteps.{UnitKnown, Joins}

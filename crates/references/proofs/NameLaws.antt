@@ -15,9 +15,9 @@ use Rattle.tlv.specs.Table.{Kept}
 use Rattle.tlv.proofs.TableLaws.{kept-refl, kept-trans}
 use Rattle.files.specs.Pieces.{sourceIn}
 use Rattle.references.specs.declared.tables.Tables.{Tables}
-use Rattle.references.specs.declared.names.EntryAt.{EntryAt}
-use Rattle.references.specs.declared.names.OffsetAt.{OffsetAt}
-use Rattle.references.specs.declared.names.Way.{Way}
+use Rattle.references.specs.declared.ways.EntryAt.{EntryAt}
+use Rattle.references.specs.declared.ways.OffsetAt.{OffsetAt}
+use Rattle.references.specs.declared.ways.Way.{Way}
 use Rattle.references.specs.declared.names.FoundName.{FoundName}
 use Rattle.references.specs.Search.{Dwarf, Trail, Followed, emptyTrail, attribute, follow, placeIn, originAttributes, nameAttributes, ownName, Named, resolveNamed, resolveName, resolveReferenceName}
 use Rattle.references.specs.Reads.{Counted, after, _>>>_, countedNameAt, countedReferencedName, countedName, countedReferenceName, nameReads, referenceNameReads, ReadsWithin}

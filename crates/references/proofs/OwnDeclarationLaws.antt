@@ -29,19 +29,19 @@ use Rattle.tlv.proofs.PlaceFacts.{placed-start}
 use Rattle.tlv.proofs.PlacePromises.{placed-unit}
 use Rattle.tlv.proofs.UnitFacts.{UnitAt, all-unit-places}
 use Rattle.lines.specs.Files.{FileTable, FileIndices, get}
-use Rattle.files.specs.declared.pieces.FileUnit.{FileUnit}
+use Rattle.files.specs.declared.spans.FileUnit.{FileUnit}
 use Rattle.files.specs.declared.index.FileNumber.{FileNumber}
 use Rattle.files.specs.declared.index.FoundIndex.{FoundIndex}
 use Rattle.files.specs.Pieces.{sourceIn, orHeader, headerHere, UnitPlaced, FileUnitIn, Described}
 use Rattle.files.specs.Store.{extent, entriesOf, tableOf, FilesIn}
 use Rattle.files.specs.Indices.{indicesIn, numberOf}
 use Rattle.files.proofs.GrownLaws.{table-kept, files-kept, grown-none}
-use Rattle.references.specs.declared.names.EntryAt.{EntryAt}
-use Rattle.references.specs.declared.declarations.Places.{Places}
-use Rattle.references.specs.declared.declarations.DeclaringState.{DeclaringState}
-use Rattle.references.specs.declared.declarations.Declared.{Declared}
+use Rattle.references.specs.declared.ways.EntryAt.{EntryAt}
+use Rattle.references.specs.declared.declaring.Places.{Places}
+use Rattle.references.specs.declared.declaring.DeclaringState.{DeclaringState}
+use Rattle.references.specs.declared.declaring.Declared.{Declared}
 use Rattle.references.specs.declared.attributes.Number.{Number}
-use Rattle.references.specs.declared.declarations.OwnLine.{OwnLine}
+use Rattle.references.specs.declared.«own_declarations».OwnLine.{OwnLine}
 use Rattle.references.specs.Search.{Declaring, absoluteEntryOffset, warnDeclaration, declarationOf, ownDeclaration}
 use Rattle.files.specs.Reached.{reachedIndices, LookedUp}
 use Rattle.references.specs.Keys.{keysFrom}

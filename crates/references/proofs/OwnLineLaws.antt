@@ -18,7 +18,7 @@ use Rattle.tlv.proofs.EntryPlaceLaws.{entry-offset-is}
 use Rattle.files.specs.Pieces.{UnitPlaced}
 use Rattle.files.proofs.UnitLaws.{first-none, first-found, unit-within}
 use Rattle.references.specs.declared.attributes.Number.{Number}
-use Rattle.references.specs.declared.declarations.OwnLine.{OwnLine}
+use Rattle.references.specs.declared.«own_declarations».OwnLine.{OwnLine}
 use Rattle.references.specs.Search.{unsignedAttribute, fileIndexAttribute, absoluteEntryOffset, ownDeclaration}
 use Rattle.references.specs.Tables.{EntryKnown, numberGiven}
 use Rattle.references.specs.DeclaredSteps.{OwnAt, absoluteGiven}

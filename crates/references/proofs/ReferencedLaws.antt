@@ -20,14 +20,14 @@ use Rattle.files.specs.Pieces.{sourceIn}
 use Rattle.files.specs.declared.store.StoredFiles.{StoredFiles}
 use Rattle.files.specs.Store.{entriesOf, tableOf}
 use Rattle.files.proofs.GrownLaws.{grown-trans}
-use Rattle.references.specs.declared.names.EntryAt.{EntryAt}
-use Rattle.references.specs.declared.names.OffsetAt.{OffsetAt}
-use Rattle.references.specs.declared.names.Way.{Way}
-use Rattle.references.specs.declared.declarations.Places.{Places}
-use Rattle.references.specs.declared.declarations.DeclaringState.{DeclaringState}
-use Rattle.references.specs.declared.declarations.Declared.{Declared}
-use Rattle.references.specs.declared.declarations.Joined.{Joined}
-use Rattle.references.specs.declared.declarations.Aim.{Aim}
+use Rattle.references.specs.declared.ways.EntryAt.{EntryAt}
+use Rattle.references.specs.declared.ways.OffsetAt.{OffsetAt}
+use Rattle.references.specs.declared.ways.Way.{Way}
+use Rattle.references.specs.declared.declaring.Places.{Places}
+use Rattle.references.specs.declared.declaring.DeclaringState.{DeclaringState}
+use Rattle.references.specs.declared.declaring.Declared.{Declared}
+use Rattle.references.specs.declared.aims.Joined.{Joined}
+use Rattle.references.specs.declared.aims.Aim.{Aim}
 use Rattle.references.specs.Search.{DieKey, sameKey, Followed, Target, nothing, sameUnit, byOffset, Declaring, withTrail}
 use Rattle.references.specs.Reads.{after, _>>>_, CountedDeclarations, countedDeclarationAt, countedDeclaration}
 use Rattle.references.specs.Keys.{keysAt, keyIn, Pushed, PossibleKey, keysFrom}

@@ -19,10 +19,10 @@ use Rattle.tlv.proofs.OutcomeLaws.{Gives, gives, gives-none, gives-cond, gives-
 use Rattle.files.specs.declared.store.StoredFiles.{StoredFiles}
 use Rattle.files.specs.Store.{tableOf, Grown}
 use Rattle.files.specs.Indices.{indicesIn}
-use Rattle.references.specs.declared.names.EntryAt.{EntryAt}
-use Rattle.references.specs.declared.declarations.Places.{Places}
-use Rattle.references.specs.declared.declarations.DeclaringState.{DeclaringState}
-use Rattle.references.specs.declared.declarations.Declared.{Declared}
+use Rattle.references.specs.declared.ways.EntryAt.{EntryAt}
+use Rattle.references.specs.declared.declaring.Places.{Places}
+use Rattle.references.specs.declared.declaring.DeclaringState.{DeclaringState}
+use Rattle.references.specs.declared.declaring.Declared.{Declared}
 use Rattle.references.specs.Search.{DebugSource as Source, Dwarf, mainSource, supplementarySource, Place, Trail, DieKey, isVisited, Target, nothing, sameUnit, byOffset, absoluteEntryOffset, entryAt, followIn, followAbsolute, followUnit, followSupplementary, follow, unitContaining, unitsIn, attribute, originAttributes, Declaring, ownDeclaration, resolveDeclaration, resolveDeclarationLine}
 use Rattle.references.specs.Reads.{Counted, after, countedReferencedDeclaration, countedDeclaration, declarationReads}
 use Rattle.references.specs.Tables.{EntryKnown}
@@ -30,7 +30,7 @@ use Rattle.references.specs.Keys.{keysAt}
 use Rattle.lines.specs.Files.{FileIndices}
 use Rattle.references.specs.Names.{dwarfOf, placeAt, startAt, followFrom}
 use Rattle.references.specs.Declarations.{reachedFiles, ReachedUnit, indicesAt, declaringAt, DeclaringIn, DeclaredAs, Declares, CountedAs, DeclaresCounted, LineRead, searched, Reaching, resolveReference}
-use Rattle.references.proofs.declarations.Declared.{the-type}
+use Rattle.references.proofs.declaring.Declared.{the-type}
 use Rattle.files.proofs.ReachedLaws.{reached-grown}
 use Rattle.references.proofs.ReadLaws.{counts-declaration}
 use Rattle.references.proofs.ReadBounds.{bounded-at}

@@ -26,8 +26,8 @@ use Rattle.files.specs.Pieces.{sourceIn}
 use Rattle.references.specs.declared.tables.Tables.{Tables}
 use Rattle.references.specs.declared.tables.Target.{Target}
 use Rattle.references.specs.declared.attributes.Reference.{Reference}
-use Rattle.references.specs.declared.names.EntryAt.{EntryAt}
-use Rattle.references.specs.declared.names.Way.{Way}
+use Rattle.references.specs.declared.ways.EntryAt.{EntryAt}
+use Rattle.references.specs.declared.ways.Way.{Way}
 use Rattle.references.specs.Search.{Dwarf, Place, Trail, DieKey, sameKey, mainSource, isVisited, visitEntry, attribute, absoluteEntryOffset, entryAt, Followed, sameUnit, followedNothing, followUnit, followAbsolute, followSupplementary, follow}
 use Rattle.references.specs.Tables.{EntryKnown, referenceOf, LeadsIn}
 use Rattle.references.specs.Keys.{keysAt, keyIn, PossibleKey, keysFrom}

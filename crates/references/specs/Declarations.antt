@@ -21,11 +21,11 @@ use Rattle.files.specs.declared.store.StoredFiles.{StoredFiles}
 use Rattle.files.specs.Store.{extent, tableOf, FilesIn, Grown}
 use Rattle.files.specs.Indices.{indicesIn}
 use Rattle.files.specs.Reached.{reachedIndices, Reached}
-use Rattle.references.specs.declared.declarations.Places.{Places}
-use Rattle.references.specs.declared.declarations.DeclaringState.{DeclaringState}
-use Rattle.references.specs.declared.declarations.Declared.{Declared}
-use Rattle.references.specs.declared.names.EntryAt.{EntryAt}
-use Rattle.references.specs.declared.names.OffsetAt.{OffsetAt}
+use Rattle.references.specs.declared.declaring.Places.{Places}
+use Rattle.references.specs.declared.declaring.DeclaringState.{DeclaringState}
+use Rattle.references.specs.declared.declaring.Declared.{Declared}
+use Rattle.references.specs.declared.ways.EntryAt.{EntryAt}
+use Rattle.references.specs.declared.ways.OffsetAt.{OffsetAt}
 use Rattle.references.specs.Search.{Declaring, withFound, withTrail, followAbsolute}
 use Rattle.references.specs.Reads.{Counted, after, _>>>_, countedDeclarationAt, countedDeclaration, declarationReads, ReadsWithin}
 use Rattle.references.specs.Keys.{keysFrom, keysExtent}

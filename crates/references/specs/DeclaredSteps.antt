@@ -22,15 +22,15 @@ use Rattle.files.specs.Pieces.{UnitPlaced}
 use Rattle.files.specs.Store.{tableOf, FilesIn, Grown}
 use Rattle.files.specs.Indices.{numberOf}
 use Rattle.references.specs.declared.tables.Tables.{Tables}
-use Rattle.references.specs.declared.names.EntryAt.{EntryAt}
-use Rattle.references.specs.declared.names.OffsetAt.{OffsetAt}
-use Rattle.references.specs.declared.declarations.Places.{Places}
-use Rattle.references.specs.declared.declarations.DeclaringState.{DeclaringState}
-use Rattle.references.specs.declared.declarations.Declared.{Declared}
+use Rattle.references.specs.declared.ways.EntryAt.{EntryAt}
+use Rattle.references.specs.declared.ways.OffsetAt.{OffsetAt}
+use Rattle.references.specs.declared.declaring.Places.{Places}
+use Rattle.references.specs.declared.declaring.DeclaringState.{DeclaringState}
+use Rattle.references.specs.declared.declaring.Declared.{Declared}
 use Rattle.references.specs.declared.attributes.Number.{Number}
-use Rattle.references.specs.declared.declarations.OwnLine.{OwnLine}
-use Rattle.references.specs.declared.declarations.Joined.{Joined}
-use Rattle.references.specs.declared.declarations.Aim.{Aim}
+use Rattle.references.specs.declared.«own_declarations».OwnLine.{OwnLine}
+use Rattle.references.specs.declared.aims.Joined.{Joined}
+use Rattle.references.specs.declared.aims.Aim.{Aim}
 use Rattle.references.specs.Search.{Trail, sameKey, visit, visitEntry, Followed, byOffset, nothing, followAbsolute, followedNothing}
 use Rattle.references.specs.Search.{absoluteEntryOffset, Declaring, declarationOf, ownDeclaration, unitFiles}
 use Rattle.references.specs.Keys.{keysAt, keyIn, keysFrom}

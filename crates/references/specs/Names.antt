@@ -15,9 +15,9 @@ use Rattle.tlv.specs.Places.{entryHere, unitHere}
 use Rattle.files.specs.Pieces.{sourceIn}
 use Rattle.references.specs.declared.tables.Index.{Index}
 use Rattle.references.specs.declared.tables.Tables.{Tables}
-use Rattle.references.specs.declared.names.EntryAt.{EntryAt}
-use Rattle.references.specs.declared.names.OffsetAt.{OffsetAt}
-use Rattle.references.specs.declared.names.Way.{Way}
+use Rattle.references.specs.declared.ways.EntryAt.{EntryAt}
+use Rattle.references.specs.declared.ways.OffsetAt.{OffsetAt}
+use Rattle.references.specs.declared.ways.Way.{Way}
 use Rattle.references.specs.declared.names.FoundName.{FoundName}
 use Rattle.references.specs.Search.{Dwarf, mainSource, supplementarySource, Place, Trail, sameKey, visitEntry, Followed, sameUnit, followedNothing}
 use Rattle.references.specs.Search.{attribute, followUnit, followAbsolute, follow, Named, resolveReferenceName}

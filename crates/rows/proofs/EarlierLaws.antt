@@ -17,8 +17,8 @@ use Rattle.lines.specs.Lines.{SequencedLine}
 use Rattle.lines.specs.Rows.{belongs, movedTo, earlierRow}
 use Rattle.rows.specs.declared.line.StatementSequence.{StatementSequence}
 use Rattle.rows.specs.declared.«unit_lines».StoredLines.{StoredLines}
-use Rattle.rows.specs.declared.«unit_lines».Covering.{Covering}
-use Rattle.rows.specs.declared.«unit_lines».Earlier.{Earlier}
+use Rattle.rows.specs.declared.earlier.Covering.{Covering}
+use Rattle.rows.specs.declared.earlier.Earlier.{Earlier}
 use Rattle.rows.specs.Sizes.{entrySize, lineSize}
 use Rattle.rows.specs.Stored.{sequenceOf, storedSequence, entryOf, lineAt, linesOf, rangesOf}
 use Rattle.rows.specs.Sorts.{leading}

@@ -20,7 +20,7 @@ use Rattle.tlv.proofs.RecordLaws.{records-nil, records-rest-cons, records-add, 
 use Rattle.lines.specs.Rows.{compactLineRows, ownRows, earlierRow, startsLate, sequenceExists, selectedSequence, rowsFor, forRange}
 use Rattle.rows.specs.declared.line.StatementSequence.{StatementSequence}
 use Rattle.rows.specs.declared.«unit_lines».StoredLines.{StoredLines}
-use Rattle.rows.specs.declared.«unit_lines».Earlier.{Earlier}
+use Rattle.rows.specs.declared.earlier.Earlier.{Earlier}
 use Rattle.rows.specs.declared.«unit_lines».OwnRows.{OwnRows}
 use Rattle.rows.specs.declared.«unit_lines».Rows.{Rows}
 use Rattle.rows.specs.Sizes.{entrySize, lineSize, rangeSize}

@@ -14,7 +14,7 @@ use Rattle.lines.specs.Lines.{LineSequenceRange, sameSequence}
 use Rattle.lines.specs.Rows.{contains, belongs, sequenceExists}
 use Rattle.rows.specs.declared.line.StatementSequence.{StatementSequence}
 use Rattle.rows.specs.declared.«unit_lines».StoredLines.{StoredLines}
-use Rattle.rows.specs.declared.«unit_lines».Covering.{Covering}
+use Rattle.rows.specs.declared.earlier.Covering.{Covering}
 use Rattle.rows.specs.Sizes.{rangeSequenceAt, rangeSize}
 use Rattle.rows.specs.Stored.{sequenceOf, storedSequence, rangeAt, rangesOf}
 use Rattle.rows.specs.Selects.{unitLinesOf, coveringOf}

@@ -13,8 +13,8 @@ use Rattle.lines.specs.Lines.{LineSequenceRange, UnitLines}
 use Rattle.lines.specs.Rows.{earlierRow, startsLate, forRange}
 use Rattle.rows.specs.declared.line.StatementSequence.{StatementSequence}
 use Rattle.rows.specs.declared.«unit_lines».StoredLines.{StoredLines}
-use Rattle.rows.specs.declared.«unit_lines».Covering.{Covering}
-use Rattle.rows.specs.declared.«unit_lines».Earlier.{Earlier}
+use Rattle.rows.specs.declared.earlier.Covering.{Covering}
+use Rattle.rows.specs.declared.earlier.Earlier.{Earlier}
 use Rattle.rows.specs.declared.«unit_lines».OwnRows.{OwnRows}
 use Rattle.rows.specs.declared.«unit_lines».Rows.{Rows}
 use Rattle.rows.specs.declared.«unit_lines».FunctionRows.{FunctionRows}

@@ -24,8 +24,8 @@ use Rattle.files.specs.declared.store.StoredFiles.{StoredFiles}
 use Rattle.files.proofs.FewLaws.{tags-few, possible-few, directories-few, files-few-in}
 use Rattle.references.specs.declared.tables.Index.{Index}
 use Rattle.references.specs.declared.tables.Target.{Target}
-use Rattle.references.specs.declared.declarations.Places.{Places}
-use Rattle.references.specs.declared.declarations.Declared.{Declared}
+use Rattle.references.specs.declared.declaring.Places.{Places}
+use Rattle.references.specs.declared.declaring.Declared.{Declared}
 use Rattle.references.specs.Search.{Declaring}
 use Rattle.references.specs.Tables.{IndexIn, EntryKnown, Leads}
 use Rattle.references.specs.Names.{Resolved}

@@ -11,7 +11,7 @@ use Rattle.tlv.specs.Places.{unitHere, unitPlaces}
 use Rattle.tlv.specs.Table.{Kept}
 use Rattle.files.specs.Possible.{possibleFiles}
 use Rattle.references.specs.declared.tables.Index.{Index}
-use Rattle.references.specs.declared.declarations.Places.{Places}
+use Rattle.references.specs.declared.declaring.Places.{Places}
 use Rattle.references.specs.Tables.{IndexIn}
 use Rattle.references.specs.Names.{SearchIn}
 

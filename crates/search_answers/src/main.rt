@@ -1,186 +1,28 @@
 // Reads calls of the searches from standard input and writes what they answer, with how many entries each read (oracle/README.md says how both stand).
-ghost use Prim.Native.Nat.{_+_, _*_, _^_, _≤_, _<_};
+ghost use Prim.Native.Nat.{_+_, _≤_, _<_};
 ghost use lib.ListN.{length};
 ghost use Rattle.tlv.specs.Checked.{Accepts};
 ghost use Rattle.references.specs.Tables.{EntryKnown};
-ghost use Rattle.search_answers.specs.Searches.{Room, HasRoom, IndexedSheet, SearchesIn};
-use files::index::StoredIndices;
-use files::store::JOINED_LIMIT;
-use references::declarations::Declared;
-use references::declarations::DeclaringState;
-use references::declarations::Places;
-use references::tables::Index;
-use references::tables::Tables;
+ghost use Rattle.search_answers.specs.Searches.{SearchesIn};
+use crate::output::end_line;
+use crate::output::write_declared;
+use crate::output::write_found;
+use crate::output::write_refused_line;
+use crate::tables::build_tables;
+use crate::tables::has_room;
+use references::declaring::DeclaringState;
+use references::declaring::Places;
 use references::tables::Target;
 use tlv::constants::DW_AT_CALL_ORIGIN;
 
-// What the file table takes besides a record for each file: the longest joined path, and a record more.
-const TABLE_BESIDES: usize = JOINED_LIMIT + 45;
-
-// What all tables take besides so much for each field.
-const ROOM_BESIDES: usize = JOINED_LIMIT + 54;
+pub mod output;
+pub mod tables;
 
 // The number in the next 4 bytes.
 fn next_u32() -> u32 {
     let mut bytes = [0u8; 4];
     io::read_full(0, &mut bytes);
     tlv::bytes::read_u32(&bytes, 0)
-}
-
-fn wide(b: u8) -> u64 {
-    b as u64
-}
-
-fn end_line() {
-    io::write_all(1, b"\n");
-}
-
-fn write_refused(refusal: u8) {
-    io::write_all(1, b"refused ");
-    io::print_decimal(1, wide(refusal));
-}
-
-// Whether a byte of a name is written as it is.
-fn is_plain(b: u8) -> bool {
-    if b == 0x5c {
-        return false;
-    }
-    if b == 0x7c {
-        return false;
-    }
-    if b < 0x21 {
-        return false;
-    }
-    b < 0x7f
-}
-
-fn write_byte(b: u8) {
-    if is_plain(b) {
-        let byte = [b];
-        io::write_all(1, &byte);
-    } else {
-        io::write_all(1, b"\\");
-        io::print_hex(1, wide(b), 2);
-    }
-}
-
-fn write_bytes(name: &[u8]) {
-    let mut i = 0;
-    while i < name.len() {
-        write_byte(name[i]);
-        i += 1;
-    }
-}
-
-// How many entries were read.
-fn write_reads(reads: usize) {
-    io::write_all(1, b" ");
-    io::print_decimal(1, reads as u64);
-}
-
-// What a name search has found, or its refusal.
-fn write_found(status: u8, name: &[u8], reads: usize) {
-    if status != 0 {
-        write_refused(status);
-    } else {
-        io::write_all(1, b"name ");
-        write_bytes(name);
-    }
-    write_reads(reads);
-}
-
-// What a declaration search has found, or its refusal.
-fn write_declared(declared: Declared, reads: usize) {
-    match declared {
-        Declared::Refused(refusal) => {
-            write_refused(refusal);
-        }
-        Declared::Missing(_) => {
-            io::write_all(1, b"no line");
-        }
-        Declared::Found {
-            state: _,
-            file,
-            line,
-        } => {
-            io::write_all(1, b"line ");
-            io::print_decimal(1, file.0 as u64);
-            io::write_all(1, b" ");
-            io::print_decimal(1, line as u64);
-        }
-    }
-    write_reads(reads);
-}
-
-// Whether a work slice has room for the tables of two sheets of so many bytes and fields, for their files below and the targets that a search follows above.
-fn has_room(main: usize, supplementary: usize, n: usize, m: usize, work: usize) -> bool
-    ensures { λ r. ⌜ HasRoom main supplementary n m work r ⌝ }
-{
-    if 4294967296 <= main {
-        return false;
-    }
-    if 4294967296 <= supplementary {
-        return false;
-    }
-    if 65536 < n {
-        return false;
-    }
-    if 65536 < m {
-        return false;
-    }
-    if work < n * 110 + m * 123 + ROOM_BESIDES {
-        return false;
-    }
-    true
-}
-
-// Writes the tables of a sheet of n fields, the entries behind the units.
-fn index_sheet(s: &[u8], n: usize, work: &mut [u8], base: usize) -> Index
-    requires { ⌜ Accepts (now s) n ⌝ }
-    requires { ⌜ length (now s) < 2 ^ 32 ⌝ }
-    requires { ⌜ base + n * 40 ≤ length (now work) ⌝ }
-    ensures { λ r. ⌜ IndexedSheet (now (s .entry)) (now (work .entry)) (now (work .exit)) base n r ⌝ }
-{
-    let entries = base + n * 24;
-    let unit_count = tlv::units::index_units(s, work, base);
-    let entry_count = tlv::index::index_entries(s, work, entries);
-    Index {
-        units: base,
-        unit_count: unit_count,
-        entries: entries,
-        entry_count: entry_count,
-    }
-}
-
-// Writes the tables of both sheets, which have n and m fields. Below them is room for a file table of n + m + 1 files and for a unit's directories and map,
-// above
-// them for the followed targets. No files of the unit where a search starts are known.
-fn build_tables(main: &[u8], supplementary: &[u8], n: usize, m: usize, work: &mut [u8]) -> Places
-    requires { ⌜ Accepts (now main) n ⌝ }
-    requires { ⌜ Accepts (now supplementary) m ⌝ }
-    requires { ⌜ Room (length (now main)) (length (now supplementary)) n m (length (now work)) ⌝ }
-    ensures { λ r. ⌜ SearchesIn (now (main .entry)) (now (supplementary .entry)) (now (work .exit)) r (n + m + 1) ⌝ }
-{
-    let spans = (n + m) * 45 + TABLE_BESIDES;
-    let room = (n + m) * 8 + 5;
-    let base = spans + room;
-    let next = base + n * 40;
-    let keys = next + m * 40;
-    let first = index_sheet(main, n, work, base);
-    let second = index_sheet(supplementary, m, work, next);
-    Places {
-        tables: Tables {
-            main: first,
-            supplementary: second,
-            keys: keys,
-        },
-        indices: StoredIndices {
-            base: spans,
-            count: 0,
-        },
-        spans: spans,
-        room: room,
-    }
 }
 
 // The name of an entry.
@@ -230,7 +72,7 @@ fn answer_reference<'a>(
     let tables = d.tables;
     let mut status: u8 = 0;
     let mut reads: usize = 0;
-    let name = references::names::resolve_reference_name_counted(
+    let name = references::reference_names::resolve_reference_name_counted(
         main,
         supplementary,
         work,
@@ -267,7 +109,7 @@ fn answer_declaration<'a>(
         table: table,
         warned: 0,
     };
-    let declared = references::declarations::resolve_declaration_line_counted(
+    let declared = references::declaration_lines::resolve_declaration_line_counted(
         main,
         supplementary,
         work,
@@ -358,12 +200,6 @@ fn answer_accepted<'a>(
     false
 }
 
-fn write_refused_line(refusal: u8) -> bool {
-    write_refused(refusal);
-    end_line();
-    true
-}
-
 // The queries of two sheets, the first of which is accepted and has n fields.
 fn answer_main<'a>(
     main: &'a [u8],
@@ -438,7 +274,7 @@ fn next_answer(buffer: &mut [u8], work: &mut [u8]) -> bool {
     true
 }
 
-fn main() {
+pub fn main() {
     let mut buffer = [0u8; 16384];
     let mut work = [0u8; 65536];
     let count = next_u32();

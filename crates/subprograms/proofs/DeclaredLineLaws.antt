@@ -20,8 +20,8 @@ use Rattle.files.specs.Store.{tableOf}
 use Rattle.files.specs.Indices.{indicesIn}
 use Rattle.collect.specs.Collects.{linesIn}
 use Rattle.collect.proofs.FrameLaws.{but-wide}
-use Rattle.references.specs.declared.declarations.DeclaringState.{DeclaringState}
-use Rattle.references.specs.declared.declarations.Declared.{Declared}
+use Rattle.references.specs.declared.declaring.DeclaringState.{DeclaringState}
+use Rattle.references.specs.declared.declaring.Declared.{Declared}
 use Rattle.references.specs.Search.{Declaring, resolveDeclaration, resolveDeclarationLine}
 use Rattle.references.specs.Names.{dwarfOf, placeAt, startAt}
 use Rattle.references.specs.Declarations.{declaringAt, DeclaringIn, Declares, searched}
@@ -32,7 +32,7 @@ use Rattle.dies.specs.Past.{isPast}
 use Rattle.dies.proofs.PastLaws.{past-same}
 use Rattle.subprograms.specs.declared.model.ImportContext.{ImportContext}
 use Rattle.subprograms.specs.declared.model.ImportState.{ImportState}
-use Rattle.subprograms.specs.declared.functions.FoundLines.{FoundLines}
+use Rattle.subprograms.specs.declared.«function_lines».FoundLines.{FoundLines}
 use Rattle.subprograms.specs.Contexts.{ContextIn, contextOf, touched}
 use Rattle.subprograms.specs.Steps.{FunctionLines, declaredLine, FindsLines}
 use Rattle.subprograms.proofs.LaidPastLaws.{lines-length}

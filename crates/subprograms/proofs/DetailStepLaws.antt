@@ -36,19 +36,19 @@ module _ {main supplementary w : List ℕ} {q : ImportContext} {t : StoredFiles}
   pub details-in : (r : AddressRange) → DetailsIn main supplementary w (detailsOf q r)
   unfolding unitListRoom listRoom
   details-in r = let o = C .ordered in
-    let below : t .base ≤ q .ranges = omega (arith, o .table, o .indices, o .lines, o .sequences, o .buffer, o .text, o .spans) in record {
-    tables = C .tables;
-    indices = omega (arith, o .indices, o .lines, o .sequences, o .buffer, o .text, o .spans);
-    main-units = omega (arith, below, o .main-units);
-    main-entries = omega (arith, below, o .main-entries);
-    supplementary-units = omega (arith, below, o .supplementary-units);
-    supplementary-entries = omega (arith, below, o .supplementary-entries);
-    ranges = o .ranges;
-    stack = o .stack;
-    sites = o .sites;
-    third = C .third;
-    listless = C .listless;
-  }
+      let below : t .base ≤ q .ranges = omega (arith, o .table, o .indices, o .lines, o .sequences, o .buffer, o .text, o .spans) in record {
+        tables = C .tables;
+        indices = omega (arith, o .indices, o .lines, o .sequences, o .buffer, o .text, o .spans);
+        main-units = omega (arith, below, o .main-units);
+        main-entries = omega (arith, below, o .main-entries);
+        supplementary-units = omega (arith, below, o .supplementary-units);
+        supplementary-entries = omega (arith, below, o .supplementary-entries);
+        ranges = o .ranges;
+        stack = o .stack;
+        sites = o .sites;
+        third = C .third;
+        listless = C .listless;
+      }
 
 no-zero : {n : ℕ} → UnitNumber n → n ≡ 0 → ⊥
 no-zero (inl p) z = omega (arith, p .0)

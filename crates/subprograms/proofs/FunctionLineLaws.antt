@@ -36,13 +36,13 @@ use Rattle.collect.specs.Collects.{linesIn}
 use Rattle.references.specs.Search.{Declaring, resolveDeclarationLine}
 use Rattle.imports.specs.Import as import
 use Rattle.imports.specs.Import.{statementSequenceOffset, sequenceWarning, declarationIf, linesWith}
-use Rattle.dies.specs.declared.dies.Warned.{Warned}
+use Rattle.dies.specs.declared.calls.Warned.{Warned}
 use Rattle.dies.specs.Past.{isPast}
 use Rattle.dies.proofs.NodeStepLaws.{warnings-append}
 use Rattle.subprograms.specs.declared.model.ConversionStats.{ConversionStats}
 use Rattle.subprograms.specs.declared.model.ImportContext.{ImportContext}
 use Rattle.subprograms.specs.declared.model.ImportState.{ImportState}
-use Rattle.subprograms.specs.declared.functions.FoundLines.{FoundLines}
+use Rattle.subprograms.specs.declared.«function_lines».FoundLines.{FoundLines}
 use Rattle.subprograms.specs.Contexts.{ContextIn, contextOf, touched}
 use Rattle.subprograms.specs.Steps.{linesBytes, FunctionLines, declaredLine, functionLines, SequenceWarned, FindsLines}
 use Rattle.subprograms.proofs.ContextLaws.{context-kept, context-same, touched-rows}

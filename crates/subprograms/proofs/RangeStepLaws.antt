@@ -25,7 +25,7 @@ use Rattle.imports.specs.Tree.{Descendants, extractSubprogramDetails}
 use Rattle.imports.specs.Import.{State, ConversionStats, ImportContext, rooted, detailContext, addFunction, importRange}
 use Rattle.dies.specs.Details.{detailBytes}
 use Rattle.dies.specs.Past.{isPast}
-use Rattle.subprograms.specs.declared.functions.FoundLines.{FoundLines}
+use Rattle.subprograms.specs.declared.«function_lines».FoundLines.{FoundLines}
 use Rattle.subprograms.specs.declared.model.ConversionStats.{ConversionStats as Stats}
 use Rattle.subprograms.specs.declared.model.ImportContext.{ImportContext as Context}
 use Rattle.subprograms.specs.declared.model.ImportState.{ImportState}

@@ -16,7 +16,7 @@ use Rattle.files.specs.Store.{tableOf}
 use Rattle.references.specs.Names.{dwarfOf}
 use Rattle.references.proofs.SectionLaws.{declaration-line-same}
 use Rattle.imports.specs.Import.{statementSequenceOffset, sequenceWarning, declarationIf, linesWith}
-use Rattle.subprograms.specs.declared.functions.FoundLines.{FoundLines}
+use Rattle.subprograms.specs.declared.«function_lines».FoundLines.{FoundLines}
 use Rattle.subprograms.specs.declared.model.ImportContext.{ImportContext}
 use Rattle.subprograms.specs.declared.model.ImportState.{ImportState}
 use Rattle.subprograms.specs.Contexts.{contextOf, contextWith}

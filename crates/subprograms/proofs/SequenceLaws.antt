@@ -37,7 +37,7 @@ use Rattle.references.specs.Search.{attribute}
 use Rattle.references.specs.Tables.{EntryKnown}
 use Rattle.references.proofs.ReferenceLaws.{attribute-says}
 use Rattle.imports.specs.Import.{sequenceIf, statementSequenceOffset, sequenceWarning}
-use Rattle.dies.specs.declared.dies.Warned.{Warned}
+use Rattle.dies.specs.declared.calls.Warned.{Warned}
 use Rattle.dies.specs.DetailState.{Accepted, AboutWarned}
 use Rattle.dies.proofs.AttributeReads.{accepted-placed}
 use Rattle.subprograms.specs.Steps.{SequenceWarned}

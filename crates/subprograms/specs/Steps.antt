@@ -26,13 +26,13 @@ use Rattle.imports.specs.Tree.{Descendants}
 use Rattle.imports.specs.Import.{State, ImportContext, statementSequenceOffset, sequenceWarning, declarationIf, linesWith, isTombstone, isLiveRange, rejected}
 use Rattle.imports.specs.Import.{importRange, importRanges, importSubprogram, isSubprogram, descendantsOf}
 use Rattle.dies.specs.declared.dies.Details.{Details}
-use Rattle.dies.specs.declared.dies.Warned.{Warned}
+use Rattle.dies.specs.declared.calls.Warned.{Warned}
 use Rattle.dies.specs.Details.{entriesFrom, detailBytes}
 use Rattle.dies.specs.RangeTable.{listAt}
 use Rattle.dies.specs.Past.{isPast}
 use Rattle.subprograms.specs.declared.model.ImportState.{ImportState}
 use Rattle.subprograms.specs.declared.model.ImportContext.{ImportContext as Context}
-use Rattle.subprograms.specs.declared.functions.FoundLines.{FoundLines}
+use Rattle.subprograms.specs.declared.«function_lines».FoundLines.{FoundLines}
 use Rattle.subprograms.specs.Stats.{statsOf, withFunction, withRejected}
 use Rattle.subprograms.specs.Contexts.{touched, walkExtent}
 

@@ -90,7 +90,7 @@ fn settle(work: &mut [u8], p: usize, n: usize) -> usize
     requires { ⌜ All Nonempty (rangesAt (now work) p n) ⌝ }
     ensures { λ r. ⌜ MergedAt (now (work .entry)) (now (work .exit)) p n r ⌝ }
 {
-    dies::ranges::order_ranges(work, p, n);
+    dies::order::order_ranges(work, p, n);
     dies::ranges::merge_ranges(work, p, n)
 }
 

@@ -37,17 +37,17 @@ same-length-4 c = search needs
 returns : tie.Need-returns
 returns c =
     let s = c .before .before .before .before .before .before .before .before .before .before .before .before .before .before .before .before .before .before .before .before .before .before .before .before .before .before .before .before .before .before .before .before .before .before .before .before in
-        let i = inputsBy (s .args .main .now) (s .args .supplementary .now) (s .args .program .now) (s .args .lists .now) (s .args .addresses .now) (s .args .options) (s .args .work .now) (s .args .records .now)
-        (s .args .files .now) (s .args .warnings .now) in
-        let R = c .before .before .before .before .before .before .before .before .before .before .before .before .before .before .before .before .before .before .before .before .before .before .run-cleared in
-        let L : Lent i = record {
-          main = slice-bytes (s .args .main .now) (c .before .before .before .before .before .before .before .before .before .before .before .before .before .before .before .before .before .before .before .before .before .before .before .before .before .before .before .before .before .before .before .before .before .before .before .shared-slice-known .given);
-          supplementary = slice-bytes (s .args .supplementary .now) (c .before .before .before .before .before .before .before .before .before .before .before .before .before .before .before .before .before .before .before .before .before .before .before .before .before .before .before .before .before .before .before .before .before .before .shared-slice-known2 .given);
-          firstFile = s .pre;
-        } in
-        answers-refused (s .args .options .all) i L (R .ensures .0) (c .before .before .before .before .before .before .before .before .before .before .before .before .before .fitting .ensures) (c .before .before .before .before .before .before .before .before .before .before .before .before .if1 .taken) (R .ensures .1)
-        (cleared (s .args .records .now) (R .kept .1 .1 .1 .1 .1 .1 .1 .0) (c .before .before .before .before .before .before .before .before .before .before .clear .ensures)) (cleared (s .args .files .now) (R .kept .1 .1 .1 .1 .1 .1 .1 .1 .0) (c .before .before .before .before .before .before .clear2 .ensures))
-        (cleared (s .args .warnings .now) (R .kept .1 .1 .1 .1 .1 .1 .1 .1 .1 .0) (c .before .before .clear3 .ensures))
+    let i = inputsBy (s .args .main .now) (s .args .supplementary .now) (s .args .program .now) (s .args .lists .now) (s .args .addresses .now) (s .args .options) (s .args .work .now) (s .args .records .now)
+    (s .args .files .now) (s .args .warnings .now) in
+    let R = c .before .before .before .before .before .before .before .before .before .before .before .before .before .before .before .before .before .before .before .before .before .before .run-cleared in
+    let L : Lent i = record {
+      main = slice-bytes (s .args .main .now) (c .before .before .before .before .before .before .before .before .before .before .before .before .before .before .before .before .before .before .before .before .before .before .before .before .before .before .before .before .before .before .before .before .before .before .before .shared-slice-known .given);
+      supplementary = slice-bytes (s .args .supplementary .now) (c .before .before .before .before .before .before .before .before .before .before .before .before .before .before .before .before .before .before .before .before .before .before .before .before .before .before .before .before .before .before .before .before .before .before .shared-slice-known2 .given);
+      firstFile = s .pre;
+    } in
+    answers-refused (s .args .options .all) i L (R .ensures .0) (c .before .before .before .before .before .before .before .before .before .before .before .before .before .fitting .ensures) (c .before .before .before .before .before .before .before .before .before .before .before .before .if1 .taken) (R .ensures .1)
+    (cleared (s .args .records .now) (R .kept .1 .1 .1 .1 .1 .1 .1 .0) (c .before .before .before .before .before .before .before .before .before .before .clear .ensures)) (cleared (s .args .files .now) (R .kept .1 .1 .1 .1 .1 .1 .1 .1 .0) (c .before .before .before .before .before .before .clear2 .ensures))
+    (cleared (s .args .warnings .now) (R .kept .1 .1 .1 .1 .1 .1 .1 .1 .1 .0) (c .before .before .clear3 .ensures))
 
 same-length-5 : tie.Need-same-length-5
 same-length-5 c = search needs
@@ -64,15 +64,15 @@ same-length-8 c = search needs
 returns-2 : tie.Need-returns-2
 returns-2 c =
     let s = c .before .before .before .before .before .before .before .before .before .before .before .before .before .before .before .before .before .before .before .before .before .before .before .before .before in
-        let i = inputsBy (s .args .main .now) (s .args .supplementary .now) (s .args .program .now) (s .args .lists .now) (s .args .addresses .now) (s .args .options) (s .args .work .now) (s .args .records .now)
-        (s .args .files .now) (s .args .warnings .now) in
-        let R = c .before .before .before .before .before .before .before .before .before .before .before .run-cleared in
-        let L : Lent i = record {
-          main = slice-bytes (s .args .main .now) (c .before .before .before .before .before .before .before .before .before .before .before .before .before .before .before .before .before .before .before .before .before .before .before .before .shared-slice-known .given);
-          supplementary = slice-bytes (s .args .supplementary .now) (c .before .before .before .before .before .before .before .before .before .before .before .before .before .before .before .before .before .before .before .before .before .before .before .shared-slice-known2 .given);
-          firstFile = s .pre;
-        } in
-        answers-done (s .args .options .all) i L (R .ensures .0) (c .before .before .fitting .ensures) (c .before .if1 .left) (R .ensures .1)
+    let i = inputsBy (s .args .main .now) (s .args .supplementary .now) (s .args .program .now) (s .args .lists .now) (s .args .addresses .now) (s .args .options) (s .args .work .now) (s .args .records .now)
+    (s .args .files .now) (s .args .warnings .now) in
+    let R = c .before .before .before .before .before .before .before .before .before .before .before .run-cleared in
+    let L : Lent i = record {
+      main = slice-bytes (s .args .main .now) (c .before .before .before .before .before .before .before .before .before .before .before .before .before .before .before .before .before .before .before .before .before .before .before .before .shared-slice-known .given);
+      supplementary = slice-bytes (s .args .supplementary .now) (c .before .before .before .before .before .before .before .before .before .before .before .before .before .before .before .before .before .before .before .before .before .before .before .shared-slice-known2 .given);
+      firstFile = s .pre;
+    } in
+    answers-done (s .args .options .all) i L (R .ensures .0) (c .before .before .fitting .ensures) (c .before .if1 .left) (R .ensures .1)
 
 pub import-by-spec : {M : Type 1} → statement M
 import-by-spec =

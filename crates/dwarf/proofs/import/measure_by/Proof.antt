@@ -24,9 +24,9 @@ same-length c = search needs
 returns : tie.Need-returns
 returns c =
     let s = c .before .before .before .before .before .before .before .before .before .before .before .before .before .before .before .before .before .before in
-        let i = inputsBy (s .args .main .now) (s .args .supplementary .now) (s .args .program .now) (s .args .lists .now) (s .args .addresses .now) (s .args .options) (s .args .work .now) [] [] [] in
-        let R = c .before .before .before .before .before .before .before .run-cleared in
-        measures-refused (s .args .options .all) i (R .ensures .0) (c .if1 .taken) (R .ensures .1)
+    let i = inputsBy (s .args .main .now) (s .args .supplementary .now) (s .args .program .now) (s .args .lists .now) (s .args .addresses .now) (s .args .options) (s .args .work .now) [] [] [] in
+    let R = c .before .before .before .before .before .before .before .run-cleared in
+    measures-refused (s .args .options .all) i (R .ensures .0) (c .if1 .taken) (R .ensures .1)
 
 same-length-2 : tie.Need-same-length-2
 same-length-2 c = search needs
@@ -34,9 +34,9 @@ same-length-2 c = search needs
 returns-2 : tie.Need-returns-2
 returns-2 c =
     let s = c .before .before .before .before .before .before .before .before .before .before .before .before .before .before .before .before .before .before .before in
-        let i = inputsBy (s .args .main .now) (s .args .supplementary .now) (s .args .program .now) (s .args .lists .now) (s .args .addresses .now) (s .args .options) (s .args .work .now) [] [] [] in
-        let R = c .before .before .before .before .before .before .before .before .run-cleared in
-        measures-past (s .args .options .all) i (R .ensures .0) (c .before .if1 .left) (c .if2 .taken) (R .ensures .1)
+    let i = inputsBy (s .args .main .now) (s .args .supplementary .now) (s .args .program .now) (s .args .lists .now) (s .args .addresses .now) (s .args .options) (s .args .work .now) [] [] [] in
+    let R = c .before .before .before .before .before .before .before .before .run-cleared in
+    measures-past (s .args .options .all) i (R .ensures .0) (c .before .if1 .left) (c .if2 .taken) (R .ensures .1)
 
 same-length-3 : tie.Need-same-length-3
 same-length-3 c = search needs
@@ -44,9 +44,9 @@ same-length-3 c = search needs
 returns-3 : tie.Need-returns-3
 returns-3 c =
     let s = c .before .before .before .before .before .before .before .before .before .before .before .before .before .before .before .before .before .before .before .before in
-        let i = inputsBy (s .args .main .now) (s .args .supplementary .now) (s .args .program .now) (s .args .lists .now) (s .args .addresses .now) (s .args .options) (s .args .work .now) [] [] [] in
-        let R = c .before .before .before .before .before .before .before .before .before .run-cleared in
-        measures-done (s .args .options .all) i (R .ensures .0) (c .before .before .if1 .left) (c .before .if2 .left) (R .ensures .1)
+    let i = inputsBy (s .args .main .now) (s .args .supplementary .now) (s .args .program .now) (s .args .lists .now) (s .args .addresses .now) (s .args .options) (s .args .work .now) [] [] [] in
+    let R = c .before .before .before .before .before .before .before .before .before .run-cleared in
+    measures-done (s .args .options .all) i (R .ensures .0) (c .before .before .if1 .left) (c .before .if2 .left) (R .ensures .1)
 
 pub measure-by-spec : {M : Type 1} → statement M
 measure-by-spec =

@@ -16,9 +16,9 @@ refused-requires c κs = search needs
 returns : tie.Need-returns
 returns c =
     let s = c .before .before .before .before .before .before .before .before .before .before .before .before in
-        let i = inputsBy (s .args .main .now) (s .args .supplementary .now) (s .args .program .now) (s .args .lists .now) (s .args .addresses .now) (s .args .options) (s .args .work .now) (s .args .records .now)
-        (s .args .files .now) (s .args .warnings .now) in
-        accepted-missing (s .args .options) i (s .args .number) (c .before .before .is-missing .ensures) (c .before .if1 .taken) (c .refused .ensures)
+    let i = inputsBy (s .args .main .now) (s .args .supplementary .now) (s .args .program .now) (s .args .lists .now) (s .args .addresses .now) (s .args .options) (s .args .work .now) (s .args .records .now)
+    (s .args .files .now) (s .args .warnings .now) in
+    accepted-missing (s .args .options) i (s .args .number) (c .before .before .is-missing .ensures) (c .before .if1 .taken) (c .refused .ensures)
 
 counts-of-requires : tie.Need-counts-of-requires
 counts-of-requires c κs = search needs
@@ -38,9 +38,9 @@ same-length c = search needs
 returns-2 : tie.Need-returns-2
 returns-2 c =
     let s = c .before .before .before .before .before .before .before .before .before .before .before .before .before .before .before .before .before in
-        let i = inputsBy (s .args .main .now) (s .args .supplementary .now) (s .args .program .now) (s .args .lists .now) (s .args .addresses .now) (s .args .options) (s .args .work .now) (s .args .records .now)
-        (s .args .files .now) (s .args .warnings .now) in
-        accepted-short (s .args .options) i (s .args .number) (c .before .before .before .before .before .before .before .is-missing .ensures) (c .before .before .before .before .before .before .if1 .left) (c .before .before .before .before .work-of-units .ensures) (c .before .before .is-short .ensures) (c .before .if2 .taken) (c .refused2 .ensures)
+    let i = inputsBy (s .args .main .now) (s .args .supplementary .now) (s .args .program .now) (s .args .lists .now) (s .args .addresses .now) (s .args .options) (s .args .work .now) (s .args .records .now)
+    (s .args .files .now) (s .args .warnings .now) in
+    accepted-short (s .args .options) i (s .args .number) (c .before .before .before .before .before .before .before .is-missing .ensures) (c .before .before .before .before .before .before .if1 .left) (c .before .before .before .before .work-of-units .ensures) (c .before .before .is-short .ensures) (c .before .if2 .taken) (c .refused2 .ensures)
 
 import-worked-requires : tie.Need-import-worked-requires
 import-worked-requires c κs =
@@ -62,9 +62,9 @@ same-length-5 c = search needs
 returns-3 : tie.Need-returns-3
 returns-3 c =
     let s = c .before .before .before .before .before .before .before .before .before .before .before .before .before .before .before .before .before .before .before .before .before .before .before .before .before .before .before .before .before in
-        let i = inputsBy (s .args .main .now) (s .args .supplementary .now) (s .args .program .now) (s .args .lists .now) (s .args .addresses .now) (s .args .options) (s .args .work .now) (s .args .records .now)
-        (s .args .files .now) (s .args .warnings .now) in
-        accepted-long (s .args .options) i (s .args .number) (c .before .before .before .before .before .before .before .before .before .before .before .before .before .before .before .before .before .before .before .is-missing .ensures) (c .before .before .before .before .before .before .before .before .before .before .before .before .before .before .before .before .before .before .if1 .left) (c .before .before .before .before .before .before .before .before .before .before .before .before .before .before .before .before .work-of-units .ensures) (c .before .before .before .before .before .before .before .before .before .before .before .before .before .before .is-short .ensures) (c .before .before .before .before .before .before .before .before .before .before .before .before .before .if2 .left) (c .before .before .before .before .before .before .before .before .import-worked .ensures)
+    let i = inputsBy (s .args .main .now) (s .args .supplementary .now) (s .args .program .now) (s .args .lists .now) (s .args .addresses .now) (s .args .options) (s .args .work .now) (s .args .records .now)
+    (s .args .files .now) (s .args .warnings .now) in
+    accepted-long (s .args .options) i (s .args .number) (c .before .before .before .before .before .before .before .before .before .before .before .before .before .before .before .before .before .before .before .is-missing .ensures) (c .before .before .before .before .before .before .before .before .before .before .before .before .before .before .before .before .before .before .if1 .left) (c .before .before .before .before .before .before .before .before .before .before .before .before .before .before .before .before .work-of-units .ensures) (c .before .before .before .before .before .before .before .before .before .before .before .before .before .before .is-short .ensures) (c .before .before .before .before .before .before .before .before .before .before .before .before .before .if2 .left) (c .before .before .before .before .before .before .before .before .import-worked .ensures)
 
 pub import-accepted-spec : {M : Type 1} → statement M
 import-accepted-spec =

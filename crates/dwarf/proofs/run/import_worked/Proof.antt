@@ -48,9 +48,16 @@ import-each-requires c κs =
     (P .0 .0) (P .0 .1) (P .1 .1 .0) (c .before .before .before .before .before .before .before .before .before .before .before .before .before .before .before .before .counts-of .ensures) refl refl in
     let K = c .before .before .before .before .before .chosen-units .ensures in
     let X = c .before .before .before .before .before .before .before .before .before .index-inputs .ensures in
-    let size = c .before .before .before .before .before .before .before .before .before .index-inputs .kept .1 .1 .1 .1 .0 ∙ c .before .before .before .before .before .before .before .before .before .before .before .before .before .new-files .kept .1 .1 .0 in
-    ((K .order, K .within), (rw size (each-enough (c .before .before .before .before .before .before .before .before .before .before .before .before .before .before .before .before .before .before .before .before .before .before .before .before .before .before .args .program .now) (c .before .before .before .before .before .before .before .before .before .before .before .before .before .before .before .before .before .before .before .before .before .before .before .before .before .before .args .lists .now) (K .is _ (units-many (X .tables))) (P .1 .1 .1)), (X .tables,
-    ready-first L (c .before .before .before .before .before .before .before .before .before .before .before .before .before .new-files .ensures) X (c .before .before .before .before .before .before .before .before .before .index-inputs .kept .1 .1 .1 .1 .0) (c .before .before .before .before .no-stats .ensures))))
+    let size = c .before .before .before .before .before .before .before .before .before .index-inputs .kept .1 .1 .1 .1 .0 ∙ c .before .before .before .before .before .before .before .before .before .before .before .before .before .new-files .kept .1 .1 .0 in (
+      (K .order, K .within),
+      (
+        rw size (each-enough (c .before .before .before .before .before .before .before .before .before .before .before .before .before .before .before .before .before .before .before .before .before .before .before .before .before .before .args .program .now) (c .before .before .before .before .before .before .before .before .before .before .before .before .before .before .before .before .before .before .before .before .before .before .before .before .before .before .args .lists .now) (K .is _ (units-many (X .tables))) (P .1 .1 .1)),
+        (
+          X .tables,
+          ready-first L (c .before .before .before .before .before .before .before .before .before .before .before .before .before .new-files .ensures) X (c .before .before .before .before .before .before .before .before .before .index-inputs .kept .1 .1 .1 .1 .0) (c .before .before .before .before .no-stats .ensures),
+        ),
+      ),
+    )
 
 lengths-of-requires : tie.Need-lengths-of-requires
 lengths-of-requires c κs = search needs

@@ -16,7 +16,7 @@ refused-requires c κs = search needs
 returns : tie.Need-returns
 returns c =
     let s = c .before .before .before .before .before .before .before .before .before .before .before .before in
-        let i = inputsBy (s .args .main .now) (s .args .supplementary .now) (s .args .program .now) (s .args .lists .now) (s .args .addresses .now) (s .args .options) (s .args .work .now) (s .args .records .now) (s .args .files .now) (s .args .warnings .now) in run-oversize (s .args .options) i refl (c .before .before .is-oversize .ensures) (c .before .if1 .taken) (c .refused .ensures)
+    let i = inputsBy (s .args .main .now) (s .args .supplementary .now) (s .args .program .now) (s .args .lists .now) (s .args .addresses .now) (s .args .options) (s .args .work .now) (s .args .records .now) (s .args .files .now) (s .args .warnings .now) in run-oversize (s .args .options) i refl (c .before .before .is-oversize .ensures) (c .before .if1 .taken) (c .refused .ensures)
 
 check-both-requires : tie.Need-check-both-requires
 check-both-requires c κs = search needs
@@ -36,7 +36,7 @@ import-accepted-requires c κs = (both-accepted (c .before .before .before .befo
 returns-2 : tie.Need-returns-2
 returns-2 c =
     let s = c .before .before .before .before .before .before .before .before .before .before .before .before .before .before .before .before in
-        let i = inputsBy (s .args .main .now) (s .args .supplementary .now) (s .args .program .now) (s .args .lists .now) (s .args .addresses .now) (s .args .options) (s .args .work .now) (s .args .records .now) (s .args .files .now) (s .args .warnings .now) in run-refused (s .args .options) i refl (c .before .before .before .before .before .before .is-oversize .ensures) (c .before .before .before .before .before .if1 .left) (c .before .before .before .before .check-both .ensures) (c .before .before .n .given .1) (c .refused2 .ensures)
+    let i = inputsBy (s .args .main .now) (s .args .supplementary .now) (s .args .program .now) (s .args .lists .now) (s .args .addresses .now) (s .args .options) (s .args .work .now) (s .args .records .now) (s .args .files .now) (s .args .warnings .now) in run-refused (s .args .options) i refl (c .before .before .before .before .before .before .is-oversize .ensures) (c .before .before .before .before .before .if1 .left) (c .before .before .before .before .check-both .ensures) (c .before .before .n .given .1) (c .refused2 .ensures)
 
 same-length : tie.Need-same-length
 same-length c = search needs
@@ -53,7 +53,7 @@ same-length-4 c = search needs
 returns-3 : tie.Need-returns-3
 returns-3 c =
     let s = c .before .before .before .before .before .before .before .before .before .before .before .before .before .before .before .before .before .before .before .before .before .before .before .before .before .before .before .before in
-        let i = inputsBy (s .args .main .now) (s .args .supplementary .now) (s .args .program .now) (s .args .lists .now) (s .args .addresses .now) (s .args .options) (s .args .work .now) (s .args .records .now) (s .args .files .now) (s .args .warnings .now) in run-accepted (s .args .options) i refl (c .before .before .before .before .before .before .before .before .before .before .before .before .before .before .before .before .before .before .is-oversize .ensures) (c .before .before .before .before .before .before .before .before .before .before .before .before .before .before .before .before .before .if1 .left) (c .before .before .before .before .before .before .before .before .before .before .before .before .before .before .before .before .check-both .ensures) (c .before .before .before .before .before .before .before .before .before .before .before .before .before .before .number .given .1) (c .before .before .before .before .before .before .before .before .import-accepted .ensures)
+    let i = inputsBy (s .args .main .now) (s .args .supplementary .now) (s .args .program .now) (s .args .lists .now) (s .args .addresses .now) (s .args .options) (s .args .work .now) (s .args .records .now) (s .args .files .now) (s .args .warnings .now) in run-accepted (s .args .options) i refl (c .before .before .before .before .before .before .before .before .before .before .before .before .before .before .before .before .before .before .is-oversize .ensures) (c .before .before .before .before .before .before .before .before .before .before .before .before .before .before .before .before .before .if1 .left) (c .before .before .before .before .before .before .before .before .before .before .before .before .before .before .before .before .check-both .ensures) (c .before .before .before .before .before .before .before .before .before .before .before .before .before .before .number .given .1) (c .before .before .before .before .before .before .before .before .import-accepted .ensures)
 
 pub run-import-spec : {M : Type 1} → statement M
 run-import-spec =

@@ -18,11 +18,11 @@ abbrev μ-loop : tie.MeasureT-loop
 loop-holds : tie.Need-loop-holds Inv-loop μ-loop
 loop-holds c =
     let s = c .before .before .before .before .before .before .before .before .before .before in
-        let P = s .pre in (
-          refl,
-          units-start (s .args .addresses .now) (s .args .options .inlines) (s .args .options .«call_sites») (P .0 .0) (P .0 .1) (P .1 .0) (P .1 .1 .0) (P .1 .1 .1)
-              (omega (arith, s .good)) (omega (arith, s .good)) (omega (arith, s .good)),
-        )
+    let P = s .pre in (
+      refl,
+      units-start (s .args .addresses .now) (s .args .options .inlines) (s .args .options .«call_sites») (P .0 .0) (P .0 .1) (P .1 .0) (P .1 .1 .0) (P .1 .1 .1)
+          (omega (arith, s .good)) (omega (arith, s .good)) (omega (arith, s .good)),
+    )
 
 mul-read-u64 : tie.Need-mul-read-u64 Inv-loop μ-loop
 mul-read-u64 c = omega (arith, record-inside (c .before .before .loop .inv .1) (c .before .loop-test .taken))
@@ -63,12 +63,11 @@ loop-less : tie.Need-loop-less Inv-loop μ-loop
 loop-less c = search needs
 
 loop-again : tie.Need-loop-again Inv-loop μ-loop
-loop-again c =
-    (
-      c .before .before .before .before .before .before .before .before .before .before .before .before .before .before .before .before .before .before .loop .inv .0,
-      units-turn (c .before .before .before .before .before .before .before .before .before .before .before .before .before .before .before .before .before .before .loop .inv .1) (c .before .before .before .before .before .before .before .before .before .before .before .before .before .before .before .before .before .loop-test .taken) (search needs) (c .before .before .before .before .before .before .before .before .before .before .import-at .ensures) (c .if1 .left)
-          (c .before .before .before .before .before .before .before .before .before .before .import-at .kept .1 .1 .1 .1 .1 .1 .1 .1 .1 .0) (c .before .before .before .before .before .before .before .before .before .before .import-at .kept .1 .1 .1 .1 .1 .1 .1 .1 .1 .1 .0) (c .before .before .before .before .before .before .before .before .before .before .import-at .kept .1 .1 .1 .1 .1 .1 .1 .1 .1 .1 .1 .0) (c .before .before .before .before .before .before .before .before .before .before .import-at .kept .1 .1 .1 .1 .1 .1 .1 .1 .1 .1 .1 .1 .0),
-    )
+loop-again c = (
+  c .before .before .before .before .before .before .before .before .before .before .before .before .before .before .before .before .before .before .loop .inv .0,
+  units-turn (c .before .before .before .before .before .before .before .before .before .before .before .before .before .before .before .before .before .before .loop .inv .1) (c .before .before .before .before .before .before .before .before .before .before .before .before .before .before .before .before .before .loop-test .taken) (search needs) (c .before .before .before .before .before .before .before .before .before .before .import-at .ensures) (c .if1 .left)
+      (c .before .before .before .before .before .before .before .before .before .before .import-at .kept .1 .1 .1 .1 .1 .1 .1 .1 .1 .0) (c .before .before .before .before .before .before .before .before .before .before .import-at .kept .1 .1 .1 .1 .1 .1 .1 .1 .1 .1 .0) (c .before .before .before .before .before .before .before .before .before .before .import-at .kept .1 .1 .1 .1 .1 .1 .1 .1 .1 .1 .1 .0) (c .before .before .before .before .before .before .before .before .before .before .import-at .kept .1 .1 .1 .1 .1 .1 .1 .1 .1 .1 .1 .1 .0),
+)
 
 same-length-5 : tie.Need-same-length-5 Inv-loop μ-loop
 same-length-5 c = c .before .loop .inv .1 .size

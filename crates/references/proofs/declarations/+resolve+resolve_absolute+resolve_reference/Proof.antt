@@ -3,11 +3,11 @@ mod Falls
 mod Resolve
 mod Absolute
 mod Reference
-use Rattle.references.proofs.declarations.own_declaration.Reads as own-declaration-reads
-use Rattle.references.proofs.declarations.aim_of.Reads as aim-of-reads
-use Rattle.references.proofs.declarations.join_files.Reads as join-files-reads
+use Rattle.references.proofs.own_declarations.own_declaration.Reads as own-declaration-reads
+use Rattle.references.proofs.aims.aim_of.Reads as aim-of-reads
+use Rattle.references.proofs.aims.join_files.Reads as join-files-reads
 use Rattle.references.proofs.keys.push_key.Reads as push-key-reads
-use Rattle.references.proofs.names.way_of.Reads as way-of-reads
+use Rattle.references.proofs.ways.way_of.Reads as way-of-reads
 use Rattle.references.proofs.declarations.resolve.Reads as resolve
 use Rattle.references.proofs.declarations.resolve_absolute.Reads as resolve-absolute
 use Rattle.references.proofs.declarations.resolve_reference.Reads as resolve-reference

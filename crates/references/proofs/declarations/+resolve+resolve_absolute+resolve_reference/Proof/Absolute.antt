@@ -5,8 +5,8 @@ use native.Mathlib.Omega.{arith}
 use Rattle.references.proofs.DeclareFrames.{pushed-room, pushed-ready}
 use Rattle.references.proofs.OwnDeclarationLaws.{unit-known}
 use Rattle.references.proofs.ReferencedLaws.{absolute-seen, absolute-refused, aim-out, aim-in, absolute-outside, absolute-join-refused, joined-ready, joined-reaching, absolute-entry}
-use Rattle.references.proofs.declarations.aim_of.Reads as aim-of-reads
-use Rattle.references.proofs.declarations.join_files.Reads as join-files-reads
+use Rattle.references.proofs.aims.aim_of.Reads as aim-of-reads
+use Rattle.references.proofs.aims.join_files.Reads as join-files-reads
 use Rattle.references.proofs.keys.push_key.Reads as push-key-reads
 use Rattle.references.proofs.declarations.resolve.Reads as resolve
 use Rattle.references.proofs.declarations.resolve_absolute.Reads as resolve-absolute

@@ -5,7 +5,7 @@ use native.Mathlib.Omega.{arith}
 use Rattle.references.proofs.DeclareFrames.{pushed-room, pushed-ready}
 use Rattle.references.proofs.ReferencedLaws.{reference-nothing, reference-refused, entry-next, offset-next, entry-reaching, reference-entry, reference-offset}
 use Rattle.references.proofs.keys.push_key.Reads as push-key-reads
-use Rattle.references.proofs.names.way_of.Reads as way-of-reads
+use Rattle.references.proofs.ways.way_of.Reads as way-of-reads
 use Rattle.references.proofs.declarations.resolve.Reads as resolve
 use Rattle.references.proofs.declarations.resolve_absolute.Reads as resolve-absolute
 use Rattle.references.proofs.declarations.resolve_reference.Reads as resolve-reference

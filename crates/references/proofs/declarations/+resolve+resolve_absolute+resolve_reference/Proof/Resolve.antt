@@ -3,7 +3,7 @@ use Prim.Native.Nat.{ℕ}
 use borrow.Author.Needs.{needs}
 use native.Mathlib.Omega.{arith}
 use Rattle.references.proofs.ResolveLaws.{resolve-deep, resolve-own, resolve-first, resolve-second, first-reaching, second-reaching, missing-is, missing-ready, missing-few}
-use Rattle.references.proofs.declarations.own_declaration.Reads as own-declaration-reads
+use Rattle.references.proofs.own_declarations.own_declaration.Reads as own-declaration-reads
 use Rattle.references.proofs.declarations.resolve.Reads as resolve
 use Rattle.references.proofs.declarations.resolve_reference.Reads as resolve-reference
 use Rattle.references.proofs.declarations.+resolve+resolve_absolute+resolve_reference.Lts-resolve as resolve-lts

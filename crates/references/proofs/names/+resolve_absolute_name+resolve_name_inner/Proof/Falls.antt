@@ -9,14 +9,14 @@ use Rattle.references.proofs.names.+resolve_absolute_name+resolve_name_
 use Rattle.references.proofs.names.resolve_name_inner.Reads as resolve-name-inner
 use Rattle.references.proofs.names.resolve_name_inner.Kinds as resolve-name-inner-kinds
 use Rattle.references.proofs.names.+resolve_absolute_name+resolve_name_inner.Lts-resolve_name_inner as resolve-name-inner-lts
-use Rattle.references.proofs.names.index_of.Reads as index-of-reads
-use Rattle.references.proofs.names.input_of.Reads as input-of-reads
+use Rattle.references.proofs.ways.index_of.Reads as index-of-reads
+use Rattle.references.proofs.ways.input_of.Reads as input-of-reads
 use Rattle.references.proofs.names.is_answer.Reads as is-answer-reads
 use Rattle.references.proofs.keys.is_visited.Reads as is-visited-reads
 use Rattle.references.proofs.attributes.own_name.Reads as own-name-reads
 use Rattle.references.proofs.keys.push_key.Reads as push-key-reads
 use Rattle.references.proofs.tables.target_at.Reads as target-at-reads
-use Rattle.references.proofs.names.way_of.Reads as way-of-reads
+use Rattle.references.proofs.ways.way_of.Reads as way-of-reads
 
 abbrev pub μ-resolve-absolute-name : Measures 5 resolve-absolute-name-kinds.ps ℕ
 μ-resolve-absolute-name κs a = 2 * (64 - a .1 .1 .1 .1 .1 .1 .1 .0 .depth) + 1

@@ -1,0 +1,20 @@
+-- `shapes::list_shaped` meets its contract: each return is what the grammar says of the payload. Assumes nothing.
+use borrow.Author.Needs.{needs}
+use Rattle.tlv.proofs.ShapeLaws.{list-not, list-is}
+use Rattle.tlv.proofs.shapes.list_shaped.Statement.{statement}
+use Rattle.tlv.proofs.shapes.list_shaped.Tie as tie
+
+returns : tie.Need-returns
+returns c = search list-not
+
+add-read-u8 : tie.Need-add-read-u8
+add-read-u8 c = search needs
+
+read-u8-requires : tie.Need-read-u8-requires
+read-u8-requires c κs = search needs
+
+returns-2 : tie.Need-returns-2
+returns-2 c = search list-is
+
+pub list-shaped-spec : {M : Type 1} → statement M
+list-shaped-spec = tie.close (tie.spec returns add-read-u8 read-u8-requires returns-2)
