@@ -35,14 +35,14 @@ fn answer_operand(call: &[u8]) -> bool {
         return false;
     }
     let place = tlv::bytes::read_u64(call, 0) as usize;
-    match lines::operands::read_line_uleb(&call[8..], place) {
-        lines::operands::Operand::Value { value, next } => {
+    match lines::operand::read_line_uleb(&call[8..], place) {
+        lines::operand::Operand::Value { value, next } => {
             io::write_all(1, b"operand ");
             io::print_decimal(1, value);
             io::write_all(1, b" ");
             io::print_decimal(1, next as u64);
         }
-        lines::operands::Operand::Fault(refusal) => {
+        lines::operand::Operand::Fault(refusal) => {
             write_refused(refusal);
         }
     }

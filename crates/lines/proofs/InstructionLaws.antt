@@ -10,8 +10,8 @@ use lib.Dec.{leb, ltb, eqb}
 use lib.ListN.{length, getD, drop, length-drop, drop-of-length-le}
 use lib.Seq.{drop-drop}
 use Rattle.tlv.specs.Outcome.{Outcome, refused, done, _>>=_}
-use Rattle.lines.specs.declared.operands.Operand.{Operand}
-use Rattle.lines.specs.declared.operands.Skipped.{Skipped}
+use Rattle.lines.specs.declared.operand.Operand.{Operand}
+use Rattle.lines.specs.declared.operand.Skipped.{Skipped}
 use Rattle.lines.specs.Standard.{OperandKind, half, Passed}
 use Rattle.lines.specs.Program.{bare, countedKinds, operandKinds, skipOperand, skipOperands, takeLineBytes, extendedBody, extended, skip}
 use Rattle.lines.specs.Scan.{over, kindsBy, Reads, Passes}

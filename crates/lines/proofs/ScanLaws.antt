@@ -11,7 +11,7 @@ use Rattle.tlv.specs.Bytes.{le}
 use Rattle.tlv.specs.Table.{Kept, Wrote}
 use Rattle.tlv.proofs.TableLaws.{kept-refl, kept-wide, kept-trans}
 use Rattle.tlv.proofs.RecordLaws.{records-nil, numbers-push}
-use Rattle.lines.specs.declared.operands.Skipped.{Skipped}
+use Rattle.lines.specs.declared.operand.Skipped.{Skipped}
 use Rattle.lines.specs.declared.lines.Scan.{Scan}
 use Rattle.tlv.specs.Outcome.{Outcome, refused, done, _>>=_}
 use Rattle.lines.specs.Program.{skip, sequencesWithin, scanLineSequenceOffsets}

@@ -7,7 +7,7 @@ use native.Mathlib.Omega.{arith}
 use borrow.Author.Tests.{lt-ltb, le-ltb, lt-leb, le-leb, ltb-true, ltb-false, eq-eqb, ne-eqb, not-true, not-false}
 use lib.Dec.{leb, ltb, eqb}
 use lib.ListN.{length, getD, drop, replicate, drop-of-length-le}
-use Rattle.lines.specs.declared.operands.Skipped.{Skipped}
+use Rattle.lines.specs.declared.operand.Skipped.{Skipped}
 use Rattle.tlv.specs.Outcome.{Outcome, refused, done, _>>=_}
 use Rattle.lines.specs.Standard.{Operand as Number, SignedOperand, unsigned, signed, Passed}
 use Rattle.lines.specs.Program.{ulebWithin, uleb, isSign, signedByte, slebWithin, sleb, countedKinds, skipOperand, skipOperands}

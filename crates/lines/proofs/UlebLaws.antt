@@ -10,7 +10,7 @@ use borrow.Author.Tests.{lt-ltb, le-ltb}
 use lib.Dec.{ltb}
 use lib.ListN.{length, getD, drop, drop-of-length-le}
 use lib.Seq.{drop-cons}
-use Rattle.lines.specs.declared.operands.Operand.{Operand}
+use Rattle.lines.specs.declared.operand.Operand.{Operand}
 use Rattle.tlv.specs.Outcome.{Outcome, refused, done, _>>=_}
 use Rattle.lines.specs.Program.{ulebWithin, uleb}
 use Rattle.lines.specs.Standard.{Operand as Number}

@@ -8,8 +8,8 @@ use Rattle.tlv.specs.Bytes.{le}
 use Rattle.tlv.specs.Table.{records, Kept}
 use Rattle.tlv.specs.Outcome.{Outcome, refused, done, _>>=_}
 use Rattle.tlv.specs.Model.{LineHeader}
-use Rattle.lines.specs.declared.operands.Operand.{Operand}
-use Rattle.lines.specs.declared.operands.Skipped.{Skipped}
+use Rattle.lines.specs.declared.operand.Operand.{Operand}
+use Rattle.lines.specs.declared.operand.Skipped.{Skipped}
 use Rattle.lines.specs.declared.lines.Scan.{Scan}
 use Rattle.lines.specs.declared.lines.Offset.{Offset}
 use Rattle.lines.specs.declared.lines.Header.{Header}

@@ -5,12 +5,12 @@ ghost use lib.ListN.{length, getD, drop};
 ghost use Rattle.lines.specs.Program.{skipOperands, extendedBody, extended, skip};
 ghost use Rattle.lines.specs.Program.{scanLineSequenceOffsets, initialLength, versionBytes, programOffset, lineSequenceOffsets};
 ghost use Rattle.lines.specs.Scan.{Passes, Scanned, OffsetIs, over, kindsBy, headerAt, headerWith};
-use crate::operands::Operand;
-use crate::operands::Skipped;
-use crate::operands::read_line_uleb;
-use crate::operands::skip_counted;
-use crate::operands::take_line_bytes;
-use crate::operands::wide;
+use crate::operand::Operand;
+use crate::operand::Skipped;
+use crate::operand::read_line_uleb;
+use crate::operand::skip_counted;
+use crate::operand::take_line_bytes;
+use crate::operand::wide;
 
 // What a line header says of its place and its opcodes; the opcode lengths are a slice of their own.
 pub struct Header {

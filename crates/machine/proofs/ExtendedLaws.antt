@@ -9,8 +9,8 @@ use lib.Dec.{leb, ltb}
 use lib.ListN.{length, getD, take, drop, length-drop, drop-of-length-le}
 use Rattle.tlv.specs.Outcome.{Outcome, refused, done, _>>=_}
 use Rattle.tlv.proofs.OutcomeLaws.{done-is, refused-not}
-use Rattle.lines.specs.declared.operands.Operand.{Operand}
-use Rattle.lines.specs.declared.operands.Skipped.{Skipped}
+use Rattle.lines.specs.declared.operand.Operand.{Operand}
+use Rattle.lines.specs.declared.operand.Skipped.{Skipped}
 use Rattle.lines.specs.declared.lines.Offset.{Offset}
 use Rattle.lines.specs.Standard.{Passed}
 use Rattle.lines.specs.Scan.{Reads, over, Passes, OffsetIs}

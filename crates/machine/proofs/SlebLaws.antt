@@ -9,7 +9,7 @@ use borrow.Author.Tests.{lt-ltb, le-ltb, le-leb, lt-leb, ne-eqb}
 use lib.Dec.{leb}
 use lib.ListN.{length, getD, drop, drop-of-length-le}
 use Rattle.tlv.specs.Outcome.{Outcome, refused, done, _>>=_}
-use Rattle.lines.specs.declared.operands.Operand.{Operand}
+use Rattle.lines.specs.declared.operand.Operand.{Operand}
 use Rattle.lines.specs.Standard.{Operand as Number, SignedOperand}
 use Rattle.lines.specs.Program.{slebWithin, sleb}
 use Rattle.lines.proofs.UlebLaws.{drop-at, roomy}

@@ -10,8 +10,8 @@ use lib.Seq.{drop-cons, drop-drop}
 use Rattle.tlv.specs.Outcome.{Outcome, refused, done, _>>=_}
 use Rattle.tlv.specs.Bytes.{le}
 use Rattle.tlv.proofs.OutcomeLaws.{done-is, refused-not}
-use Rattle.lines.specs.declared.operands.Operand.{Operand}
-use Rattle.lines.specs.declared.operands.Skipped.{Skipped}
+use Rattle.lines.specs.declared.operand.Operand.{Operand}
+use Rattle.lines.specs.declared.operand.Skipped.{Skipped}
 use Rattle.lines.specs.Standard.{Operand as Number, SignedOperand, unsigned, Passed}
 use Rattle.lines.specs.Scan.{Reads, over, Passes}
 use Rattle.lines.specs.Program.{skipOperands, sleb}

@@ -6,7 +6,7 @@ use lib.ListN.{length, getD, take, drop, replicate}
 use Rattle.tlv.specs.Bytes.{le}
 use Rattle.tlv.specs.Outcome.{Outcome, refused, done, _>>=_}
 use Rattle.tlv.specs.Model.{LineEncoding, LineRow}
-use Rattle.lines.specs.declared.operands.Operand.{Operand}
+use Rattle.lines.specs.declared.operand.Operand.{Operand}
 use Rattle.lines.specs.Standard.{SignedOperand, unsigned, Opcodes}
 use Rattle.lines.specs.Scan.{operandOf, OperandWithin}
 use Rattle.lines.specs.Program.{skipOperands, sleb}

@@ -11,10 +11,10 @@ use crate::registers::move_to;
 use crate::steps::Stepped;
 use crate::steps::quiet;
 use lines::lines::Offset;
-use lines::operands::Operand;
-use lines::operands::Skipped;
-use lines::operands::read_line_uleb;
-use lines::operands::take_line_bytes;
+use lines::operand::Operand;
+use lines::operand::Skipped;
+use lines::operand::read_line_uleb;
+use lines::operand::take_line_bytes;
 
 // DW_LNE_set_address, whose operand stands from one place to below another.
 fn step_set_address(program: &[u8], e: Encoding, r: Registers, from: usize, next: usize) -> Stepped

@@ -9,7 +9,7 @@ ghost use Rattle.lines.specs.Scan.{OffsetIs};
 ghost use Rattle.machine.specs.Steps.{ReadsSigned};
 use crate::registers::wide;
 use lines::lines::Offset;
-use lines::operands::Operand;
+use lines::operand::Operand;
 
 // 2^64 - 1.
 const LAST: u64 = 18446744073709551615;

@@ -17,10 +17,10 @@ use crate::registers::advance_special;
 use crate::registers::move_by;
 use crate::registers::wide;
 use lines::lines::operand_count;
-use lines::operands::Operand;
-use lines::operands::Skipped;
-use lines::operands::read_line_uleb;
-use lines::operands::skip_operands;
+use lines::operand::Operand;
+use lines::operand::Skipped;
+use lines::operand::read_line_uleb;
+use lines::operand::skip_operands;
 
 // The last special opcode: const_add_pc advances the address as it does.
 const LAST_OPCODE: u8 = 255;

@@ -12,7 +12,7 @@ use lib.ListN.{length, getD, drop, length-drop, drop-of-length-le}
 use lib.Seq.{drop-drop}
 use Rattle.tlv.specs.Outcome.{Outcome, refused, done, _>>=_}
 use Rattle.tlv.specs.Bytes.{leAt}
-use Rattle.lines.specs.declared.operands.Operand.{Operand}
+use Rattle.lines.specs.declared.operand.Operand.{Operand}
 use Rattle.lines.specs.Scan.{operandOf, Reads, OperandWithin as OperandRead}
 use Rattle.lines.proofs.UlebLaws.{drop-at}
 use Rattle.rnglists.specs.declared.entries.ListEntry.{ListEntry}

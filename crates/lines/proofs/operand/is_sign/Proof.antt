@@ -1,7 +1,7 @@
--- `operands::is_sign` meets its contract. Assumes nothing.
+-- `operand::is_sign` meets its contract. Assumes nothing.
 use Rattle.lines.proofs.SkipLaws.{sign-zero, sign-other}
-use Rattle.lines.proofs.operands.is_sign.Statement.{statement}
-use Rattle.lines.proofs.operands.is_sign.Tie as tie
+use Rattle.lines.proofs.operand.is_sign.Statement.{statement}
+use Rattle.lines.proofs.operand.is_sign.Tie as tie
 
 returns : tie.Need-returns
 returns c = search sign-zero

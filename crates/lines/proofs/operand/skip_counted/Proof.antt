@@ -1,8 +1,8 @@
--- `operands::skip_counted` meets its contract. Another opcode, another count, or the signed operand. Assumes nothing.
+-- `operand::skip_counted` meets its contract. Another opcode, another count, or the signed operand. Assumes nothing.
 use borrow.Author.Needs.{needs}
 use Rattle.lines.proofs.SkipLaws.{counted-other, counted-more, counted-signed}
-use Rattle.lines.proofs.operands.skip_counted.Statement.{statement}
-use Rattle.lines.proofs.operands.skip_counted.Tie as tie
+use Rattle.lines.proofs.operand.skip_counted.Statement.{statement}
+use Rattle.lines.proofs.operand.skip_counted.Tie as tie
 
 skip-operands-requires : tie.Need-skip-operands-requires
 skip-operands-requires c κs = search needs

@@ -1,11 +1,11 @@
--- `operands::read_line_uleb` meets its contract. The value so far, what a bit more is worth, and what is left. Assumes nothing.
+-- `operand::read_line_uleb` meets its contract. The value so far, what a bit more is worth, and what is left. Assumes nothing.
 use Prim.Native.Nat.{_-_, _%_}
 use borrow.Author.Needs.{needs}
 use native.Mathlib.Omega.{arith}
 use lib.ListN.{length}
 use Rattle.lines.proofs.UlebLaws.{Reading, reading-start, turn-cut, turn-overflow, turn-tenth, turn-overlong, turn-end, turn-more, fits-more, fits-last, roomy}
-use Rattle.lines.proofs.operands.read_line_uleb.Statement.{statement}
-use Rattle.lines.proofs.operands.read_line_uleb.Tie as tie
+use Rattle.lines.proofs.operand.read_line_uleb.Statement.{statement}
+use Rattle.lines.proofs.operand.read_line_uleb.Tie as tie
 
 abbrev Inv-loop : tie.InvT-loop
 Inv-loop program at value₀ scale₀ left₀ p₀ value scale left p = Reading program at value scale left p

@@ -1,4 +1,4 @@
--- `operands::skip_operands` meets its contract. What is left of the operands is passed over as all are. Assumes nothing.
+-- `operand::skip_operands` meets its contract. What is left of the operands is passed over as all are. Assumes nothing.
 use borrow.Author.Needs.{needs}
 use native.Mathlib.Omega.{arith}
 use Rattle.lines.specs.Program.{skipOperands}
@@ -6,8 +6,8 @@ use Rattle.lines.specs.Standard.{unsigned}
 use Rattle.lines.specs.Scan.{over}
 use lib.ListN.{drop, replicate}
 use Rattle.lines.proofs.SkipLaws.{Going, going-start, going-done, going-fault, going-ended, going-next}
-use Rattle.lines.proofs.operands.skip_operands.Statement.{statement}
-use Rattle.lines.proofs.operands.skip_operands.Tie as tie
+use Rattle.lines.proofs.operand.skip_operands.Statement.{statement}
+use Rattle.lines.proofs.operand.skip_operands.Tie as tie
 
 abbrev Inv-loop : tie.InvT-loop
 Inv-loop program n at left₀ p₀ left p = Going program at p (over (skipOperands (replicate n unsigned) (drop at program))) left

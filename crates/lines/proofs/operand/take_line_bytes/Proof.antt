@@ -1,9 +1,9 @@
--- `operands::take_line_bytes` meets its contract. The bytes end past the last number, past the program, or in it. Assumes nothing.
+-- `operand::take_line_bytes` meets its contract. The bytes end past the last number, past the program, or in it. Assumes nothing.
 use native.Mathlib.Omega.{arith}
 use Rattle.lines.proofs.InstructionLaws.{take-past, take-cut, take-to}
 use borrow.Author.Needs.{needs}
-use Rattle.lines.proofs.operands.take_line_bytes.Statement.{statement}
-use Rattle.lines.proofs.operands.take_line_bytes.Tie as tie
+use Rattle.lines.proofs.operand.take_line_bytes.Statement.{statement}
+use Rattle.lines.proofs.operand.take_line_bytes.Tie as tie
 
 sub-room : tie.Need-sub-room
 sub-room c = search needs

@@ -1,4 +1,4 @@
--- `operands::skip_operand` meets its contract. What is left of the operand is passed over as the whole is. Assumes nothing.
+-- `operand::skip_operand` meets its contract. What is left of the operand is passed over as the whole is. Assumes nothing.
 use native.Mathlib.Omega.{arith}
 use Prim.Native.Nat.{_-_}
 use lib.ListN.{length}
@@ -9,8 +9,8 @@ use Rattle.lines.specs.Program.{skipOperand}
 use Rattle.lines.specs.Scan.{over}
 use Rattle.lines.proofs.SkipLaws.{Passing, fitsUnsigned, passing-unsigned, passing-cut, passing-overflow, passing-tenth, passing-overlong, passing-end}
 use Rattle.lines.proofs.SkipLaws.{passing-more}
-use Rattle.lines.proofs.operands.skip_operand.Statement.{statement}
-use Rattle.lines.proofs.operands.skip_operand.Tie as tie
+use Rattle.lines.proofs.operand.skip_operand.Statement.{statement}
+use Rattle.lines.proofs.operand.skip_operand.Tie as tie
 
 abbrev Inv-loop : tie.InvT-loop
 Inv-loop program at left₀ p₀ left p = Passing fitsUnsigned (over (skipOperand unsigned (drop at program))) program at left p

@@ -1,4 +1,4 @@
--- `operands::skip_signed_operand` meets its contract. What is left of the operand is passed over as the whole is. Assumes nothing.
+-- `operand::skip_signed_operand` meets its contract. What is left of the operand is passed over as the whole is. Assumes nothing.
 use borrow.Author.Needs.{needs}
 use native.Mathlib.Omega.{arith}
 use Prim.Native.Nat.{_-_}
@@ -9,8 +9,8 @@ use Rattle.lines.specs.Program.{isSign, skipOperand}
 use Rattle.lines.specs.Scan.{over}
 use Rattle.lines.proofs.SkipLaws.{Passing, sign-not, sign-is, passing-signed, passing-cut, passing-overflow, passing-tenth, passing-overlong}
 use Rattle.lines.proofs.SkipLaws.{passing-end, passing-more}
-use Rattle.lines.proofs.operands.skip_signed_operand.Statement.{statement}
-use Rattle.lines.proofs.operands.skip_signed_operand.Tie as tie
+use Rattle.lines.proofs.operand.skip_signed_operand.Statement.{statement}
+use Rattle.lines.proofs.operand.skip_signed_operand.Tie as tie
 
 abbrev Inv-loop : tie.InvT-loop
 Inv-loop program at left₀ p₀ left p = Passing isSign (over (skipOperand signed (drop at program))) program at left p
