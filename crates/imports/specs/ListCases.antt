@@ -69,7 +69,7 @@ lists =
     2 ∷ 0 ∷ 1 ∷ 8 ∷  -- startx_endx 0 1, no kind
     2 ∷ 0 ∷ 3 ∷ 0 ∷  -- startx_endx 0 3
     3 ∷ 2 ∷ 4 ∷ 0 ∷  -- startx_length 2 4, end of list
-    4 ∷ 0 ∷ 0x80 ∷ 0x80 ∷ 0x80 ∷ 0x80 ∷ unitTag ∷ 0 ∷ []  -- offset_pair 0 2^32, end of list
+    4 ∷ 0 ∷ 0x80 ∷ 0x80 ∷ 0x80 ∷ 0x80 ∷ 0x10 ∷ 0 ∷ []  -- offset_pair 0 2^32, end of list
 
 abbrev pub addresses : List ℕ
 addresses = bytesOf 4 0x1000 ++ bytesOf 4 0x1010 ++ bytesOf 4 (2 ^ 32 - 1)
