@@ -13,6 +13,7 @@ use oracle::plain::{finished, inputs, written};
 use oracle::{Case, judged};
 
 mod joins;
+mod lists;
 mod looks;
 mod programs;
 mod sheets;
@@ -25,6 +26,7 @@ bench wholes [TURNS]                65,536 fields in 1 to 256 units, all importe
 bench pass CASES [TURNS]            the pass that writes no buffer beside the import: the cases of a file, each family at 65,536 fields, the worst
 bench programs [CASES CASES TIMES] [TURNS]  imports with rows as fields beside imports with rows from the line program: the units of two files, in both
                                     forms, with how long the decoder runs each program; families with many rows, the longest program
+bench lists CASES [TURNS]           imports with range lists beside imports of the same ranges as fields: the units of a file; lists of many ranges
 bench joins [TURNS]                 joins of symbols to trays of 65,536 fields to a million
 bench looks CASES [TURNS]           look-ups in the records of the cases, joined to megabytes: by the records alone, and by an index of them
 bench run ours|rust FAMILY FIELDS TURNS     one of them alone, for a profiler; FAMILY may be one of the worst, FIELDS is then not read
@@ -105,6 +107,7 @@ fn run(arguments: &[String]) -> Result<(), String> {
             programs::programs(&read(rows)?, &read(programs)?, &programs::nanoseconds(times)?, self::turns(turns, 9)?)
         }
         ["programs", ref turns @ ..] => programs::programs(&[], &[], &[], self::turns(turns, 9)?),
+        ["lists", cases, ref turns @ ..] => lists::lists(&read(cases)?, self::turns(turns, 9)?),
         ["joins", ref turns @ ..] => joins::joins(self::turns(turns, 9)?),
         ["looks", cases, ref turns @ ..] => looks::looks(&read(cases)?, self::turns(turns, 9)?),
         ["run", side, "corpus", cases, ref turns @ ..] => alone(side, &read(cases)?, self::turns(turns, 1)?),

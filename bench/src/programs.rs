@@ -60,7 +60,7 @@ pub fn nanoseconds(path: &str) -> Result<Vec<Duration>, String> {
     text.lines().map(|line| line.parse().map(Duration::from_nanos).map_err(|_| format!("{path}: {line} is no time"))).collect()
 }
 
-fn each(time: Duration, rows: usize) -> String {
+pub fn each(time: Duration, rows: usize) -> String {
     format!("{:.1}", time.as_secs_f64() * 1e9 / rows.max(1) as f64)
 }
 
@@ -87,7 +87,7 @@ fn line(name: &str, pairs: &[Pair], turns: u32) -> Result<(), String> {
 }
 
 /// The least time of some turns, and what was written; none where the import is refused.
-fn least(case: &Case, turns: u32) -> Result<Option<(Duration, [Vec<u8>; 3])>, String> {
+pub fn least(case: &Case, turns: u32) -> Result<Option<(Duration, [Vec<u8>; 3])>, String> {
     let mut buffers = buffers(case)?;
     if buffers.refused {
         return Ok(None);
