@@ -11,6 +11,7 @@ use collect::collect::CollectedLines;
 use rows::unit_lines::StoredLines;
 
 pub mod collected;
+mod front;
 pub mod output;
 
 // The number in the next 4 bytes.
