@@ -61,7 +61,8 @@ pub record CollectedIn (main supplementary program w w′ files files′ warning
   pub within : l .buffer + entrySize + l .«line_count» * entrySize ≤ free + linesExtent main p program
   pub rest : KeptBut w w′ ((t .base, extent t) ∷ (free, linesExtent main p program) ∷ [])
 
-abbrev pub CollectsBy : List ℕ → List ℕ → List ℕ → List ℕ → List ℕ → List ℕ → List ℕ → List ℕ → List ℕ → ℕ → StoredFiles → ℕ → ℕ → CollectedLines → Type 0
+abbrev pub CollectsBy : List ℕ → List ℕ → List ℕ → List ℕ → List ℕ → List ℕ → List ℕ → List ℕ → List ℕ → ℕ → StoredFiles
+    → ℕ → ℕ → CollectedLines → Type 0
 CollectsBy main supplementary program w w′ files files′ warnings warnings′ p t warned free (CollectedLines.Refused n) =
     collectLines (unitHere main p) program (tableOf main supplementary w t) ≡ refused n
 CollectsBy main supplementary program w w′ files files′ warnings warnings′ p t warned free (CollectedLines.Lines l is t′ warned′) =

@@ -45,7 +45,8 @@ offsetsOf w c = offsetsAt w (c .offsets) (c .«offset_count»)
 
 -- where a number of the header has no number of the table, its file has no path; but for file 0 before version 5, which may not have been looked at
 pub record Unnamed (u : CompilationUnit) (h : LineHeader) (is : FileIndices) : Type 0 where
-  pub unnamed : (n : ℕ) (f : HeaderFile) → get is n ≡ none → headerFile u h n ≡ some f → ((n ≡ 0) × (leb (h .version) 4 ≡ true)) ⊎ (fileEntry u h f ≡ done none)
+  pub unnamed : (n : ℕ) (f : HeaderFile) → get is n ≡ none → headerFile u h n ≡ some f → ((n ≡ 0) × (leb (h .version) 4 ≡ true))
+      ⊎ (fileEntry u h f ≡ done none)
 
 -- what has become of the rows so far stands in w, without the warnings
 unfoldable pub convertedIn : List ℕ → List ℕ → List ℕ → Conversion → Converting → List Warning → Converted
@@ -101,7 +102,8 @@ pub record LineAppended (w w′ : List ℕ) (c : Conversion) (r : Row) (file : F
       ≡ linedIn w′ c (count + 1) table indices []
   pub rest : Kept w w′ (c .lines + count * lineSize) lineSize
 
-pub record LineConverted (w w′ warnings warnings′ : List ℕ) (c : Conversion) (st : Converting) (r : Row) (file : FileIndex) (st′ : Converting) : Type 0 where
+pub record LineConverted (w w′ warnings warnings′ : List ℕ) (c : Conversion) (st : Converting) (r : Row) (file : FileIndex)
+    (st′ : Converting) : Type 0 where
   pub new : List Warning
   pub is : (table : FileTable) (indices : FileIndices) → convertLine (offsetsOf w c) (rawOf r) file (linedIn w c (st .count) table indices [])
       ≡ linedIn w′ c (st′ .count) table indices new
@@ -124,8 +126,8 @@ ConvertsKnown w w′ c r count false = w′ ≡ w
 -- ---- a row
 
 -- the state after a row, with its warnings written
-pub record RowConverted (main supplementary w w′ files files′ warnings warnings′ : List ℕ) (c : Conversion) (st : Converting) (r : Row) (st′ : Converting)
-    : Type 0 where
+pub record RowConverted (main supplementary w w′ files files′ warnings warnings′ : List ℕ) (c : Conversion) (st : Converting) (r : Row)
+    (st′ : Converting) : Type 0 where
   pub new : List Warning
   pub is : convertRow (unitAt main c) (headerIn main c) (offsetsOf w c) (rawOf r) (convertedIn main supplementary w c st [])
       ≡ done (convertedIn main supplementary w′ c st′ new)
@@ -134,15 +136,16 @@ pub record RowConverted (main supplementary w w′ files files′ warnings warni
   pub holds : ConversionIn main supplementary w′ c st′
   pub more : (st .count ≤ st′ .count) × (st′ .count ≤ st .count + 1)
 
-abbrev pub ConvertsRow : List ℕ → List ℕ → List ℕ → List ℕ → List ℕ → List ℕ → List ℕ → List ℕ → Conversion → Converting → Row → ConvertedRow → Type 0
+abbrev pub ConvertsRow : List ℕ → List ℕ → List ℕ → List ℕ → List ℕ → List ℕ → List ℕ → List ℕ → Conversion → Converting
+    → Row → ConvertedRow → Type 0
 ConvertsRow main supplementary w w′ files files′ warnings warnings′ c st r (ConvertedRow.Refused n) =
     convertRow (unitAt main c) (headerIn main c) (offsetsOf w c) (rawOf r) (convertedIn main supplementary w c st []) ≡ refused n
 ConvertsRow main supplementary w w′ files files′ warnings warnings′ c st r (ConvertedRow.Next st′) =
     RowConverted main supplementary w w′ files files′ warnings warnings′ c st r st′
 
 -- a refusal too keeps what lies outside the file table, the unit's map and the place of the next line
-pub record RowConverts (main supplementary w w′ files files′ warnings warnings′ : List ℕ) (c : Conversion) (st : Converting) (row : Row) (r : ConvertedRow)
-    : Type 0 where
+pub record RowConverts (main supplementary w w′ files files′ warnings warnings′ : List ℕ) (c : Conversion) (st : Converting) (row : Row)
+    (r : ConvertedRow) : Type 0 where
   pub is : ConvertsRow main supplementary w w′ files files′ warnings warnings′ c st row r
   pub rest : KeptBut w w′ ((st .table .base, extent (st .table)) ∷ (c .indices .base, c .indices .count * 5)
       ∷ (c .lines + st .count * lineSize, lineSize) ∷ [])
@@ -158,16 +161,16 @@ pub record RowsConverted (rows : List LineRow) (main supplementary w w′ files 
   pub holds : ConversionIn main supplementary w′ c st′
   pub more : st′ .count ≤ st .count + left
 
-abbrev pub ConvertsRows : List LineRow → List ℕ → List ℕ → List ℕ → List ℕ → List ℕ → List ℕ → List ℕ → List ℕ → Conversion → Converting → ℕ → ConvertedRow
-    → Type 0
+abbrev pub ConvertsRows : List LineRow → List ℕ → List ℕ → List ℕ → List ℕ → List ℕ → List ℕ → List ℕ → List ℕ → Conversion
+    → Converting → ℕ → ConvertedRow → Type 0
 ConvertsRows rows main supplementary w w′ files files′ warnings warnings′ c st left (ConvertedRow.Refused n) =
     convertFrom (unitAt main c) (headerIn main c) (offsetsOf w c) rows 0 left (convertedIn main supplementary w c st []) ≡ refused n
 ConvertsRows rows main supplementary w w′ files files′ warnings warnings′ c st left (ConvertedRow.Next st′) =
     RowsConverted rows main supplementary w w′ files files′ warnings warnings′ c st left st′
 
 -- a refusal too keeps what lies outside the file table, the unit's map and the places of the next lines
-pub record RowsConvert (rows : List LineRow) (main supplementary w w′ files files′ warnings warnings′ : List ℕ) (c : Conversion) (st : Converting) (left : ℕ)
-    (r : ConvertedRow) : Type 0 where
+pub record RowsConvert (rows : List LineRow) (main supplementary w w′ files files′ warnings warnings′ : List ℕ) (c : Conversion) (st : Converting)
+    (left : ℕ) (r : ConvertedRow) : Type 0 where
   pub is : ConvertsRows rows main supplementary w w′ files files′ warnings warnings′ c st left r
   pub rest : KeptBut w w′ ((st .table .base, extent (st .table)) ∷ (c .indices .base, c .indices .count * 5)
       ∷ (c .lines + st .count * lineSize, left * lineSize) ∷ [])

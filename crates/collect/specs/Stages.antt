@@ -80,8 +80,8 @@ internedOf main supplementary w (InternedUnit.Refused n) = refused n
 internedOf main supplementary w (InternedUnit.Unit unit indices t) = done (record { table = tableOf main supplementary w t; indices = indicesIn w indices })
 
 -- the unit at p is described at base, and its map stands behind its directories
-pub record UnitInterned (main supplementary w w′ files files′ : List ℕ) (p : ℕ) (t : StoredFiles) (base : ℕ) (unit : FileUnit) (indices : StoredIndices)
-    (t′ : StoredFiles) : Type 0 where
+pub record UnitInterned (main supplementary w w′ files files′ : List ℕ) (p : ℕ) (t : StoredFiles) (base : ℕ) (unit : FileUnit)
+    (indices : StoredIndices) (t′ : StoredFiles) : Type 0 where
   pub grown : Grown main supplementary w w′ files files′ t t′
   pub described : FileUnitIn main w′ unit
   pub place : unit .place ≡ p
@@ -104,7 +104,14 @@ pub record InternsUnit (main supplementary w w′ files files′ : List ℕ) (p 
 
 -- a unit's conversion, with its lines behind its map
 pub record ConversionOf (main : List ℕ) (unit : FileUnit) (indices : StoredIndices) (offsets count : ℕ) (r : Conversion) : Type 0 where
-  pub is : r ≡ record { unit = unit; zero = r .zero; indices = indices; offsets = offsets; «offset_count» = count; lines = indices .base + indices .count * 5 }
+  pub is : r ≡ record {
+    unit = unit;
+    zero = r .zero;
+    indices = indices;
+    offsets = offsets;
+    «offset_count» = count;
+    lines = indices .base + indices .count * 5;
+  }
   pub zero : NextOwn main (unit .place + 21) fileZeroTag (r .zero)
 
 -- the sequences of a unit's rows were written behind its `count` lines, and these sorted and freed of equal neighbours
@@ -134,7 +141,8 @@ finishRows x main supplementary w c t = x >>= λ rows. runRows rows 0 [] >>= fin
 pub record Finished (x : Outcome (List LineRow)) (most : ℕ) (main supplementary w w′ files files′ warnings warnings′ : List ℕ) (c : Conversion)
     (t : StoredFiles) (warned : ℕ) (l : StoredLines) (is : StoredIndices) (t′ : StoredFiles) (warned′ : ℕ) : Type 0 where
   pub new : List Warning
-  pub finished : finishRows x main supplementary w c t ≡ done (record { table = tableOf main supplementary w′ t′; lines = linesIn w′ l is; warnings = new })
+  pub finished : finishRows x main supplementary w c t
+      ≡ done (record { table = tableOf main supplementary w′ t′; lines = linesIn w′ l is; warnings = new })
   pub grown : Grown main supplementary w w′ files files′ t t′
   pub put : Put warned (warningsBytes new) warnings warnings′ warned′
   pub rows : RowsIn w′ l
@@ -143,8 +151,8 @@ pub record Finished (x : Outcome (List LineRow)) (most : ℕ) (main supplementar
   pub sequences : l .lines + l .«line_count» * lineSize ≤ l .sequences
   pub within : l .buffer + entrySize + l .«line_count» * entrySize ≤ c .lines + rowRoom * most + entrySize
 
-abbrev pub FinishesBy : Outcome (List LineRow) → ℕ → List ℕ → List ℕ → List ℕ → List ℕ → List ℕ → List ℕ → List ℕ → List ℕ → Conversion → StoredFiles → ℕ
-    → CollectedLines → Type 0
+abbrev pub FinishesBy : Outcome (List LineRow) → ℕ → List ℕ → List ℕ → List ℕ → List ℕ → List ℕ → List ℕ → List ℕ → List ℕ
+    → Conversion → StoredFiles → ℕ → CollectedLines → Type 0
 FinishesBy x most main supplementary w w′ files files′ warnings warnings′ c t warned (CollectedLines.Refused n) =
     finishRows x main supplementary w c t ≡ refused n
 FinishesBy x most main supplementary w w′ files files′ warnings warnings′ c t warned (CollectedLines.Lines l is t′ warned′) =

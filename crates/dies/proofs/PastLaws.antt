@@ -17,7 +17,6 @@ use Rattle.tlv.specs.Output.{InlineNode, CallSite, nodePayload, rangePayload, s
 use Rattle.tlv.proofs.TestLaws.{by-less}
 use Rattle.tlv.proofs.ByteLaws.{length-bytesOf}
 use Rattle.lines.specs.Files.{fileIndex}
-use Rattle.rnglists.proofs.RoomLaws.{past-then}
 use Rattle.dies.specs.Past.{isPast, nodeSize}
 use Rattle.dies.specs.DetailState.{leadBytes, newBytes}
 
@@ -43,6 +42,13 @@ past-none at h = le-ltb top (at + 0) (omega arith)
 pub past-same : (b : Bool) (at : ℕ) → at ≤ top → b ≡ (b || isPast at 0)
 past-same b at h = or-false b ∙ ap (λ (x : Bool). b || x) (sym (past-none at h))
 
+-- of two lays, one after the other: the first passes it, or the second does from where the first ends
+past-then : (at m n : ℕ) → at ≤ top → isPast at (m + n) ≡ (isPast at m || isPast (moved at m) n)
+past-then at m n h =
+    by-less (isPast at (m + n) ≡ (isPast at m || isPast (moved at m) n)) top (at + m)
+    (λ l. rw (lt-ltb top (at + m) l, lt-ltb top (at + (m + n)) (omega arith)))
+    (λ l. let e : moved at m ≡ at + m = omega arith in let f : at + m + n ≡ at + (m + n) = omega arith in rw (le-ltb top (at + m) l, e, f))
+
 module _ {at q : ℕ} {xs t t₁ : List ℕ} (h : at ≤ top) (P : Put at xs t t₁ q) where
   -- the place behind a lay, and another
   pub past-next : (ys : List ℕ) → isPast at (length (xs ++ ys)) ≡ (isPast at (length xs) || isPast q (length ys))
@@ -58,7 +64,7 @@ module _ {at q : ℕ} {xs t t₁ : List ℕ} (h : at ≤ top) (P : Put at xs t t
 
 -- ---- the bytes of a node
 
-encode-length : (tag : ℕ) (p : List ℕ) → length (encode tag p) ≡ 3 + length p
+pub encode-length : (tag : ℕ) (p : List ℕ) → length (encode tag p) ≡ 3 + length p
 unfolding encode
 encode-length tag p = omega (arith, length-append (bytesOf 2 (length p)) p, length-bytesOf 2 (length p))
 

@@ -80,7 +80,8 @@ module _ (f : ℕ → List ℕ) where
 
 -- an open call site was written at p
 pub record PutSite (w w′ : List ℕ) (p depth place offset : ℕ) : Type 0 where
-  pub value : (f : ℕ → List ℕ) → siteFrameOf f (chunk w′ p 14) ≡ record { dieDepth = depth; callSite = record { returnOffset = offset; pattern = f place } }
+  pub value : (f : ℕ → List ℕ) → siteFrameOf f (chunk w′ p 14)
+      ≡ record { dieDepth = depth; callSite = record { returnOffset = offset; pattern = f place } }
   pub place-is : leAt 4 w′ (p + 2) ≡ place
   pub rest : Kept w w′ p 14
 
@@ -187,8 +188,8 @@ walked main supplementary d = d .tables .keys + keysExtent main supplementary (d
 
 -- what the definition does by F is done in memory: nodes and warnings are laid, and the rest stands in w′, with room for a ranges and b entries; or it is
 -- refused
-pub record Advances (F : Descendants → Outcome Descendants) (main supplementary name : List ℕ) (d : Details) (a : Later) (b : ℕ) (w t u : List ℕ) (s : Walk)
-    (w′ t′ u′ : List ℕ) (s′ : Walk) : Type 0 where
+pub record Advances (F : Descendants → Outcome Descendants) (main supplementary name : List ℕ) (d : Details) (a : Later) (b : ℕ) (w t u : List ℕ)
+    (s : Walk) (w′ t′ u′ : List ℕ) (s′ : Walk) : Type 0 where
   pub nodes : List InlineNode
   pub warnings : List Warning
   pub laid : s′ .status ≡ 0 → Put (s .at) (newBytes name (d .range) (s .nodes) nodes) t t′ (s′ .at)
@@ -206,8 +207,8 @@ abbrev pub OwnRanges : List ℕ → Details → ℕ → ℕ → Type 0
 OwnRanges main d p k = (k ≤ length (rangeFields main (p + 15))) ⊎ ((k ≤ d .third) × (1 ≤ ownLists main (p + 15)))
 
 -- the same of what lays nothing
-pub record Quiet (F : Descendants → Outcome Descendants) (main supplementary : List ℕ) (d : Details) (a : Later) (b : ℕ) (w : List ℕ) (s : Walk) (w′ : List ℕ)
-    (s′ : Walk) : Type 0 where
+pub record Quiet (F : Descendants → Outcome Descendants) (main supplementary : List ℕ) (d : Details) (a : Later) (b : ℕ) (w : List ℕ) (s : Walk)
+    (w′ : List ℕ) (s′ : Walk) : Type 0 where
   pub place : s′ .at ≡ s .at
   pub warned : s′ .warned ≡ s .warned
   pub nodes : s′ .nodes ≡ s .nodes
@@ -294,14 +295,15 @@ pub record LineCalled (main : List ℕ) (unit p at : ℕ) (u u′ : List ℕ) (r
 -- the n closed call sites were laid
 pub record SitesPut (main supplementary : List ℕ) (d : Details) (n at : ℕ) (w w′ t t′ : List ℕ) (r : LaidSites) : Type 0 where
   pub put : Put at (eachOf (λ x. encode traySiteTag (sitePayload x)) (sitesAt (originName main supplementary (d .unit)) w (d .sites) n)) t t′ (r .at)
-  pub past : r .past ≡ isPast at (length (eachOf (λ x. encode traySiteTag (sitePayload x)) (sitesAt (originName main supplementary (d .unit)) w (d .sites) n)))
+  pub past : r .past ≡ isPast at (length (eachOf (λ x. encode traySiteTag (sitePayload x))
+      (sitesAt (originName main supplementary (d .unit)) w (d .sites) n)))
   pub rest : Kept w w′ (d .ranges) (walked main supplementary d)
 
 -- ---- the whole, where a switch is on
 
 -- its bytes and its warnings were written, and its nodes counted
-pub record Descended (o : Outcome Descendants) (d : Details) (name : List ℕ) (at warned : ℕ) (t t′ u u′ : List ℕ) (nodes at′ warned′ : ℕ) (past : Bool)
-    : Type 0 where
+pub record Descended (o : Outcome Descendants) (d : Details) (name : List ℕ) (at warned : ℕ) (t t′ u u′ : List ℕ) (nodes at′ warned′ : ℕ)
+    (past : Bool) : Type 0 where
   pub descendants : Descendants
   pub is : o ≡ done descendants
   pub count : nodes ≡ length (descendants .inlines)
@@ -309,9 +311,11 @@ pub record Descended (o : Outcome Descendants) (d : Details) (name : List ℕ) (
   pub warns : Put warned (warningsBytes (descendants .warnings)) u u′ warned′
   pub passes : past ≡ isPast at (length (detailBytes name (d .range) descendants))
 
-abbrev pub DescendedBy : Outcome Descendants → Details → List ℕ → ℕ → ℕ → List ℕ → List ℕ → List ℕ → List ℕ → Extracted → Type 0
+abbrev pub DescendedBy : Outcome Descendants → Details → List ℕ → ℕ → ℕ → List ℕ → List ℕ → List ℕ → List ℕ → Extracted
+    → Type 0
 DescendedBy o d name at warned t t′ u u′ (Extracted.Refused n) = o ≡ refused n
-DescendedBy o d name at warned t t′ u u′ (Extracted.Details nodes at′ warned′ past) = Descended o d name at warned t t′ u u′ nodes at′ warned′ past
+DescendedBy o d name at warned t t′ u u′ (Extracted.Details nodes at′ warned′ past) =
+    Descended o d name at warned t t′ u u′ nodes at′ warned′ past
 
 pub record Descends (main supplementary lists addresses w w′ : List ℕ) (d : Details) (name : List ℕ) (p depth at warned : ℕ) (t t′ u u′ : List ℕ)
     (r : Extracted) : Type 0 where

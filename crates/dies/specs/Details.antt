@@ -1,5 +1,5 @@
 -- The entries of a unit by place, and what the extraction of a function's inline nodes and call sites promises. Assumes nothing.
-use Prim.Native.Nat.{ℕ, _+_, _-_, _*_, _≤_, min}
+use Prim.Native.Nat.{ℕ, _+_, _-_, _*_, _≤_}
 use mathlib.Core.Path.{_≡_}
 use mathlib.Core.Bool.{Bool, false}
 use mathlib.Core.List.{List, _++_, map}
@@ -21,6 +21,7 @@ use Rattle.references.specs.Names.{SearchIn}
 use Rattle.references.specs.Keys.{keysExtent}
 use Rattle.imports.specs.Tree.{DetailContext, Descendants, extractSubprogramDetails}
 use Rattle.imports.specs.Import.{descendantsOf, rooted}
+use Rattle.rnglists.specs.Room.{openLists}
 use Rattle.dies.specs.declared.dies.Details.{Details}
 use Rattle.dies.specs.declared.dies.Extracted.{Extracted}
 use Rattle.dies.specs.Past.{isPast}
@@ -57,7 +58,7 @@ listCount main d = unitHere main (d .unit) .lists
 
 -- the room of range lists in the stack of ranges: one list, of `third` ranges at the most, for each of the 256 nodes that can be open, and one that is read
 unfoldable pub listRoom : List ℕ → Details → ℕ
-listRoom main d = d .third * min (listCount main d) 257
+listRoom main d = d .third * openLists (listCount main d)
 
 -- the room of the stack of ranges: the function's own, the fields 19, the lists
 abbrev pub rangeRoom : List ℕ → Details → ℕ
@@ -101,10 +102,12 @@ pub record ExtractedIn (main supplementary lists addresses w : List ℕ) (d : De
   pub passes : past ≡ isPast at (length (detailBytes name (d .range) descendants))
 
 -- the outcome of the extraction over the entries that follow place p and are deeper than `depth`: refused, or its bytes were written
-abbrev pub ExtractedBy : List ℕ → List ℕ → List ℕ → List ℕ → List ℕ → Details → List ℕ → ℕ → ℕ → ℕ → ℕ → List ℕ → List ℕ → List ℕ → List ℕ → Extracted → Type 0
+abbrev pub ExtractedBy : List ℕ → List ℕ → List ℕ → List ℕ → List ℕ → Details → List ℕ → ℕ → ℕ → ℕ → ℕ → List ℕ
+    → List ℕ → List ℕ → List ℕ → Extracted → Type 0
 ExtractedBy main supplementary lists addresses w d name p depth at warned records records′ warnings warnings′ (Extracted.Refused n) =
     extractSubprogramDetails (contextIn main supplementary lists addresses w d) (descendantsOf depth (entriesFrom main p)) ≡ refused n
-ExtractedBy main supplementary lists addresses w d name p depth at warned records records′ warnings warnings′ (Extracted.Details nodes at′ warned′ past) =
+ExtractedBy main supplementary lists addresses w d name p depth at warned records records′ warnings warnings′
+    (Extracted.Details nodes at′ warned′ past) =
     ExtractedIn main supplementary lists addresses w d name p depth at warned records records′ warnings warnings′ nodes at′ warned′ past
 
 pub record Extracts (main supplementary lists addresses w w′ : List ℕ) (d : Details) (name : List ℕ) (p depth at warned : ℕ)

@@ -9,6 +9,8 @@ use lib.Dec.{ltb}
 use lib.ListN.{length, drop}
 use Rattle.tlv.specs.Tags.{failureTag, listTag, rangeTag}
 use Rattle.tlv.specs.declared.model.AddressRange.{AddressRange}
+use Rattle.tlv.specs.Bytes.{leAt}
+use Rattle.tlv.specs.Grammar.{listBaseAt, listAddressesAt, listSizeAt}
 use Rattle.tlv.specs.Fields.{fields, payloads, payloadOf}
 use Rattle.tlv.specs.Model.{RangeList, rangeOf, entryRangeOf, failureOf, rangeListOf}
 use Rattle.tlv.specs.Places.{ownFields}
@@ -118,13 +120,19 @@ ownLists s p = length (payloads listTag (ownFields (fields (drop p s))))
 abbrev pub listAt : List ℕ → List ℕ → ℕ → ℕ → ℕ → ℕ → ListRanges
 listAt lists addresses place size offset from = rangesIn size (drop place addresses) from (drop offset lists)
 
+-- that of the field whose payload starts at a place
+abbrev pub listOf : List ℕ → List ℕ → List ℕ → ℕ → ListRanges
+listOf main lists addresses start =
+    listAt lists addresses (leAt 8 main (start + listAddressesAt)) (leAt 1 main (start + listSizeAt)) (leAt 8 main start) (leAt 8 main (start + listBaseAt))
+
 -- the ranges that it gives
 abbrev pub listGiven : ListRanges → List AddressRange
 listGiven l = map (λ x. x .range) (l .given)
 
 -- those that are nonempty and lie inside one of the m at q stand at `to`, as they come: a third of the section's bytes at the most; or the list has a fault
 abbrev pub ListFit : List ℕ → ListRanges → List ℕ → List ℕ → ℕ → ℕ → ℕ → ListGathered → Type 0
-ListFit lists l w w′ q m to (ListGathered.Ranges r) = (l .fault ≡ 0) × (rangesAt w′ to r ≡ fit (rangesAt w q m) (listGiven l)) × (r ≤ length lists / 3)
+ListFit lists l w w′ q m to (ListGathered.Ranges r) = (l .fault ≡ 0) × (rangesAt w′ to r ≡ fit (rangesAt w q m) (listGiven l))
+    × (r ≤ length lists / 3)
 ListFit lists l w w′ q m to (ListGathered.Fault n) = (l .fault ≡ n) × (7 ≤ n)
 
 pub record GatheredList (lists addresses : List ℕ) (place size offset from : ℕ) (w w′ : List ℕ) (q m to : ℕ) (r : ListGathered) : Type 0 where

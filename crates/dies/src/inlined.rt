@@ -5,10 +5,14 @@ ghost use mathlib.Core.Logic.{_⊎_};
 ghost use Prim.Native.Nat.{_+_, _*_, _/_, _≤_};
 ghost use lib.ListN.{length};
 ghost use Rattle.tlv.specs.Bytes.{leAt};
+ghost use Rattle.tlv.specs.Grammar.{listSizeAt, listFieldSize};
 ghost use Rattle.tlv.specs.Checked.{Placed};
-ghost use Rattle.dies.specs.RangeTable.{rangeFields, ownLists, listAt, readAt, Merges, MergesList, MergesFields};
+ghost use Rattle.dies.specs.RangeTable.{rangeFields, ownLists, listOf, readAt, Merges, MergesList, MergesFields};
 use crate::gather::ListGathered;
 use tlv::access::Own;
+use tlv::shapes::LIST_ADDRESSES;
+use tlv::shapes::LIST_BASE;
+use tlv::shapes::LIST_SIZE;
 use tlv::tags::FAILURE_TAG;
 use tlv::tags::LIST_TAG;
 
@@ -29,18 +33,17 @@ fn list_ranges(
     m: usize,
     to: usize,
 ) -> Merged
-    requires { ⌜ start + 25 ≤ length (now main) ⌝ }
-    requires { ⌜ (leAt 1 (now main) (start + 24) ≡ 4) ⊎ (leAt 1 (now main) (start + 24) ≡ 8) ⌝ }
+    requires { ⌜ start + listFieldSize ≤ length (now main) ⌝ }
+    requires { ⌜ (leAt 1 (now main) (start + listSizeAt) ≡ 4) ⊎ (leAt 1 (now main) (start + listSizeAt) ≡ 8) ⌝ }
     requires { ⌜ q + m * 16 ≤ to ⌝ }
     requires { ⌜ to + 16 * (length (now lists) / 3) ≤ length (now work) ⌝ }
-    ensures { λ r. ⌜ MergesList (listAt (now (lists .entry)) (now (addresses .entry)) (leAt 8 (now (main .entry)) (start + 16))
-        (leAt 1 (now (main .entry)) (start + 24)) (leAt 8 (now (main .entry)) start) (leAt 8 (now (main .entry)) (start + 8))) (now (lists .entry))
+    ensures { λ r. ⌜ MergesList (listOf (now (main .entry)) (now (lists .entry)) (now (addresses .entry)) start) (now (lists .entry))
         (now (work .entry)) (now (work .exit)) q m to r ⌝ }
 {
     let offset = tlv::bytes::read_u64(main, start);
-    let base = tlv::bytes::read_u64(main, start + 8);
-    let place = tlv::bytes::read_u64(main, start + 16);
-    let size = tlv::bytes::read_u8(main, start + 24);
+    let base = tlv::bytes::read_u64(main, start + LIST_BASE);
+    let place = tlv::bytes::read_u64(main, start + LIST_ADDRESSES);
+    let size = tlv::bytes::read_u8(main, start + LIST_SIZE);
     match crate::gather::gather_list(lists, addresses, place, size, offset, base, work, q, m, to) {
         ListGathered::Fault(fault) => {
             return Merged::Refused(fault);

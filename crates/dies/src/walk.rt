@@ -135,7 +135,8 @@ pub fn collect_entries<'a>(
     requires { ⌜ length (now lists) / 3 ≡ d .third ⌝ }
     ensures { λ r. ⌜ Advances (collectEntries (contextIn (now (main .entry)) (now (supplementary .entry)) (now (lists .entry)) (now (addresses .entry))
         (now (work .entry)) d) (descendantsOf depth (entriesFrom (now (main .entry)) p))) (now (main .entry)) (now (supplementary .entry)) (now (name .entry))
-        d noneLater 0 (now (work .entry)) (now (records .entry)) (now (warnings .entry)) s (now (work .exit)) (now (records .exit)) (now (warnings .exit)) r ⌝ }
+        d noneLater 0 (now (work .entry)) (now (records .entry)) (now (warnings .entry)) s (now (work .exit)) (now (records .exit))
+        (now (warnings .exit)) r ⌝ }
 {
     let mut r = s;
     let mut at = p;

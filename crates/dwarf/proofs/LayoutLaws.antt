@@ -18,20 +18,22 @@ use Rattle.tlv.proofs.UnitsOrder.{unit-places-length}
 use Rattle.files.specs.Possible.{possibleFiles}
 use Rattle.files.proofs.FewLaws.{directories-few, files-few-in, rows-few, possible-few}
 use Rattle.machine.specs.LineRows.{mostBy, rowsMost}
-use Rattle.machine.proofs.UnitLines.{most-few}
 use Rattle.collect.specs.Collects.{linesExtent}
 use Rattle.references.specs.Keys.{possibleKeys}
 use Rattle.references.proofs.FewKeys.{keys-few}
+use Rattle.rnglists.specs.Room.{openMost, openLists}
 use Rattle.rnglists.proofs.RoomLaws.{list-bytes}
+use Rattle.imports.specs.Answer.{workOfUnit}
 use Rattle.dies.specs.DetailState.{Accepted}
 use Rattle.dwarf.specs.declared.layout.Counts.{Counts}
 use Rattle.dwarf.specs.declared.layout.Layout.{Layout}
 use Rattle.dwarf.specs.declared.layout.UnitLayout.{UnitLayout}
 use Rattle.subprograms.specs.Contexts.{UnitOf, mapExtent}
-use Rattle.dwarf.specs.Layout.{countOf, Sized, totalOf, roomsEnd, keysRoom, programRows, LaidOut, LaysOut, openLists, unitLayout, UnitLaid}
-use Rattle.dwarf.specs.Checks.{isEncoded, workOfProgram, unitWork, UnitEnough}
+use Rattle.dwarf.specs.Layout.{countOf, Sized, totalOf, roomsEnd, keysRoom, programRows, LaidOut, LaysOut, unitLayout, UnitLaid}
+use Rattle.dwarf.specs.Checks.{isEncoded, workOfProgram, UnitEnough}
 use Rattle.rows.specs.Sizes.{entrySize, rowRoom}
 use Rattle.dwarf.proofs.CountLaws.{total-few, total-small, text-few}
+use Rattle.dwarf.proofs.WorkLaws.{of-program}
 
 -- ---- the places and rooms, from the counts m of the main input, s of the supplementary one, the program's size and the lists' bytes
 
@@ -201,10 +203,10 @@ pub program-few : (size : ℕ) (encoded : Bool) {y : ℕ} → y ≡ programRows 
 program-few size true e = omega arith
 program-few size false e = omega arith
 
-pub open-few : (third lists : ℕ) {n : ℕ} → n ≡ min lists openLists → third * n ≤ third * openLists
+pub open-few : (third lists : ℕ) {n : ℕ} → n ≡ openLists lists → third * n ≤ third * openMost
 open-few third lists e = mul-le-mul-left third (omega arith)
 
-pub laid-unit : (l : Layout) (encoded : Bool) (lists : ℕ) {y n : ℕ} → y ≡ programRows (l .size) encoded → n ≡ min lists openLists
+pub laid-unit : (l : Layout) (encoded : Bool) (lists : ℕ) {y n : ℕ} → y ≡ programRows (l .size) encoded → n ≡ openLists lists
     → unitFrom l y n ≡ unitLayout l encoded lists
 unfolding unitLayout
 laid-unit l encoded lists ey en = λ k. unitFrom l (ey k) (en k)
@@ -220,12 +222,12 @@ module _ {main supplementary program lists : List ℕ} {l : Layout} (L : LaidOut
   here = unitHere main unit
 
   -- what the program and the lists add is within what the unit asks for
-  added : rowRoom * programRows (l .size) (isEncoded here) + l .size / 3 * 8 + 16 * (l .third * min (here .lists) openLists)
-      ≤ unitWork (length program) (length lists) here
-  unfolding unitWork
+  added : rowRoom * programRows (l .size) (isEncoded here) + l .size / 3 * 8 + 16 * (l .third * openLists (here .lists))
+      ≤ workOfUnit (length program) (length lists) here
+  unfolding workOfUnit
   added =
       rw (L .size-is, L .third-is)
-      (omega (arith, program-room (isEncoded here) (length program), list-bytes (length lists) (here .lists)))
+      (omega (arith, of-program (here .encoding) (length program), program-room (isEncoded here) (length program), list-bytes (length lists) (here .lists)))
 
   pub unit-laid : {p : UnitLayout} → p ≡ unitLayout l (isEncoded here) (here .lists) → UnitLaid main supplementary program size l unit p
   unfolding unitLayout

@@ -25,7 +25,7 @@ use Rattle.dies.specs.Details.{dwarfWith}
 use Rattle.dies.specs.DetailState.{Accepted}
 use Rattle.imports.specs.Import.{State, importUnits}
 use Rattle.imports.specs.Answer as answer
-use Rattle.imports.specs.Answer.{Inputs, isBare, workOfByte, workOfUnit, workOfUnits, workNeeded, initialState, importWorked, importChosen, checked, importOf, importDwarfOf}
+use Rattle.imports.specs.Answer.{Inputs, isBare, workOfUnits, workNeeded, initialState, importWorked, importChosen, checked, importOf, importDwarfOf}
 use Rattle.subprograms.specs.declared.model.ConversionStats.{ConversionStats}
 use Rattle.subprograms.specs.declared.model.ImportState.{ImportState}
 use Rattle.subprograms.specs.Stats.{statsOf}
@@ -37,7 +37,7 @@ use Rattle.dwarf.specs.declared.run.Ran.{Ran}
 use Rattle.dwarf.specs.declared.run.Chosen.{Chosen}
 use Rattle.dwarf.specs.declared.tables.Indexes.{Indexes}
 use Rattle.dwarf.specs.Layout.{LaidOut}
-use Rattle.dwarf.specs.Checks.{oversizeOf, CheckedAs, ChecksBoth, missingOf, missingUnit, workOfProgram, workOfLists, unitWork, mostWork, shortOf, WorkEnough}
+use Rattle.dwarf.specs.Checks.{oversizeOf, CheckedAs, ChecksBoth, missingOf, missingUnit, shortOf, WorkEnough}
 use Rattle.dwarf.specs.Tables.{IndexesInputs}
 use Rattle.dwarf.specs.Units.{Ready, Grows}
 use Rattle.dwarf.specs.Runs.{importAll, listed, chosenUnits, Chooses, importAccepted, startState, LengthsOf, Writes}
@@ -152,31 +152,21 @@ module _ (o : Options) (i : Inputs) (asked : i .ordinal ≡ o .ordinal) {t f u t
 
 -- ---- refusals 4 and 5
 
--- what the unit that needs most asks for, by the lengths of the program and of the lists
-units-work : (i : Inputs) (us : List CompilationUnit) → workOfUnits i us ≡ mostWork (length (i .program)) (length (i .lists)) us
-unfolding workOfUnits workOfUnit mostWork unitWork
-units-work i [] = refl
-units-work i (u ∷ us) = λ k. max (go (u .encoding) k + workOfLists (u .lists) (length (i .lists))) (units-work i us k)
-  where
-    go : (o : Option LineEncoding) → workOfByte o * length (i .program) ≡ workOfProgram (not (isNone o)) (length (i .program))
-    go none = refl
-    go (some x) = refl
-
 module _ (o : Options) (i : Inputs) (n : ℕ) {t f u t′ f′ u′ : List ℕ} {r : Ran} {a : Bool} (ea : a ≡ missingOf (i .main) o) where
   pub accepted-missing : a ≡ true → r .status ≡ 4 → Writes (importAccepted o i n) t f u t′ f′ u′ r
   accepted-missing is z = writes-refused z (λ y. omega arith) (rw (sym ea ∙ is))
 
-  module _ (there : a ≡ false) {most : ℕ} {b : Bool} (ee : most ≡ mostWork (length (i .program)) (length (i .lists)) (chosenUnits o (units (i .main))))
+  module _ (there : a ≡ false) {most : ℕ} {b : Bool} (ee : most ≡ workOfUnits (length (i .program)) (length (i .lists)) (chosenUnits o (units (i .main))))
       (eb : b ≡ shortOf (i .work) n most) where
     pub accepted-short : b ≡ true → r .status ≡ 5 → Writes (importAccepted o i n) t f u t′ f′ u′ r
     unfolding workNeeded
-    accepted-short is z = writes-refused z (λ y. omega arith) (rw (sym ea ∙ there, units-work i (chosenUnits o (units (i .main))), ← ee, sym eb ∙ is))
+    accepted-short is z = writes-refused z (λ y. omega arith) (rw (sym ea ∙ there, ← ee, sym eb ∙ is))
 
     pub accepted-long : b ≡ false
         → Writes (importUnits (dwarfWith (i .main) (i .supplementary) (i .lists) (i .addresses)) (chosenUnits o (units (i .main))) (i .program) (i .inlines) (i .callSites) (startState (i .firstFile))) t f u t′ f′ u′ r
         → Writes (importAccepted o i n) t f u t′ f′ u′ r
     unfolding workNeeded answer.dwarfOf initialState
-    accepted-long is W = writes-as (rw (sym ea ∙ there, units-work i (chosenUnits o (units (i .main))), ← ee, sym eb ∙ is)) W
+    accepted-long is W = writes-as (rw (sym ea ∙ there, ← ee, sym eb ∙ is)) W
 
 -- ---- the units
 

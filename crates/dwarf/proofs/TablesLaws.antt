@@ -6,16 +6,14 @@ use Prim.Native.Nat.{ℕ, _+_, _-_, _*_, _≤_}
 use native.Mathlib.Omega.{arith}
 use lib.ListN.{length}
 use Rattle.tlv.specs.Fields.{fields}
-use Rattle.tlv.specs.Index.{indexedOf}
-use Rattle.tlv.specs.Units.{unitOf24}
 use Rattle.tlv.specs.Places.{unitPlaces}
 use Rattle.tlv.specs.Table.{Kept, Clear, KeptBut}
-use Rattle.tlv.proofs.RecordLaws.{records-but}
 use Rattle.tlv.proofs.TableLaws.{kept-trans, kept-wide, here}
 use Rattle.collect.proofs.FrameLaws.{kept-one}
 use Rattle.references.specs.declared.tables.Index.{Index}
 use Rattle.references.specs.Tables.{IndexIn}
 use Rattle.references.proofs.FollowLaws.{index-kept}
+use Rattle.references.proofs.DeclareFrames.{index-clear}
 use Rattle.dies.specs.Details.{entryCount}
 use Rattle.dies.specs.DetailState.{Accepted}
 use Rattle.dwarf.specs.declared.layout.Layout.{Layout}
@@ -86,22 +84,7 @@ module _ {main supplementary program lists : List ℕ} (w : List ℕ) {l : Layou
 
 index-but : {s w w′ : List ℕ} {units entries : ℕ} {x : Index} {rs : List (ℕ × ℕ)} → IndexedAt s w units entries x → KeptBut w w′ rs
     → Clear (x .units) (x .«unit_count» * 24) rs → Clear (x .entries) (x .«entry_count» * 16) rs → length w′ ≡ length w → IndexedAt s w′ units entries x
-index-but {x = x} H K a b size =
-    let I = H .index in
-    record {
-      index = record {
-        number = I .number;
-        accepted = I .accepted;
-        units = records-but unitOf24 24 (x .units) (x .«unit_count») K a ∙ I .units;
-        entries = records-but indexedOf 16 (x .entries) (x .«entry_count») K b ∙ I .entries;
-        units-within = rw size (I .units-within);
-        entries-within = rw size (I .entries-within);
-      };
-      units-at = H .units-at;
-      entries-at = H .entries-at;
-      unit-count = H .unit-count;
-      entry-count = H .entry-count;
-    }
+index-but H K a b size = record { index = index-clear (H .index) K a b size; units-at = H .units-at; entries-at = H .entries-at; unit-count = H .unit-count; entry-count = H .entry-count }
 
 module _ {main supplementary program lists w : List ℕ} {l : Layout} {x : Indexes} (T : TablesIn main supplementary program lists w l x) where
   pub accepted-main : Accepted main

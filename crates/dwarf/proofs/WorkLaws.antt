@@ -32,16 +32,21 @@ use Rattle.files.specs.Pieces.{UnitPlaced}
 use Rattle.files.proofs.FewLaws.{unit-few, grouped-few}
 use Rattle.files.proofs.UnitLaws.{first-none, first-found}
 use Rattle.collect.proofs.HeaderPlaces.{encoding-here, unit-stands}
+use Rattle.imports.specs.Answer.{workOfByte, workOfLists, workOfUnit, workOfUnits}
 use Rattle.dies.specs.DetailState.{Accepted}
 use Rattle.subprograms.specs.Contexts.{UnitOf}
 use Rattle.dwarf.specs.declared.layout.Counts.{Counts}
 use Rattle.dwarf.specs.declared.layout.Layout.{Layout}
 use Rattle.dwarf.specs.declared.model.Options.{Options}
-use Rattle.dwarf.specs.Checks.{isEncoded, workOfProgram, workOfLists, unitWork, mostWork, workLimit, WorkEnough, UnitEnough}
+use Rattle.dwarf.specs.Checks.{isEncoded, workOfProgram, workLimit, WorkEnough, UnitEnough}
 use Rattle.dwarf.specs.Layout.{countOf, Sized, TagsKnown}
 use Rattle.dwarf.specs.Runs.{listed, chosenUnits}
 
 -- ---- the work of a unit
+
+pub of-program : (o : Option LineEncoding) (size : ℕ) → workOfByte o * size ≡ workOfProgram (not (isNone o)) size
+of-program none size = refl
+of-program (some e) size = refl
 
 pub program-work : (encoded : Bool) (size : ℕ) {n : ℕ} → n ≡ workOfProgram encoded size → n ≤ workOfEncodedByte * size
 program-work true size e = omega arith
@@ -65,37 +70,37 @@ pub lists-most : (lists bytes : ℕ) {n : ℕ} → n ≡ workOfLists lists bytes
 lists-most lists bytes e = omega (arith, lists-work bytes (min lists countedLists) (omega arith))
 
 module _ (size bytes : ℕ) where
-  unit-least : (u : CompilationUnit) → workOfProgramByte * size ≤ unitWork size bytes u
-  unfolding unitWork
-  unit-least u = omega (arith, least-work (isEncoded u) size)
+  unit-least : (u : CompilationUnit) → workOfProgramByte * size ≤ workOfUnit size bytes u
+  unfolding workOfUnit
+  unit-least u = omega (arith, of-program (u .encoding) size, least-work (isEncoded u) size)
 
-  pub most-least : (us : List CompilationUnit) → workOfProgramByte * size ≤ mostWork size bytes us
-  unfolding mostWork
+  pub most-least : (us : List CompilationUnit) → workOfProgramByte * size ≤ workOfUnits size bytes us
+  unfolding workOfUnits
   most-least [] = omega arith
   most-least (u ∷ us) = omega (arith, most-least us)
 
   module _ (small : size ≤ programLimit) (few : bytes ≤ listLimit) where
-    unit-small : (u : CompilationUnit) → unitWork size bytes u ≤ workLimit
-    unfolding unitWork
-    unit-small u = omega (arith, program-work (isEncoded u) size refl, lists-most (u .lists) bytes refl)
+    unit-small : (u : CompilationUnit) → workOfUnit size bytes u ≤ workLimit
+    unfolding workOfUnit
+    unit-small u = omega (arith, of-program (u .encoding) size, program-work (isEncoded u) size refl, lists-most (u .lists) bytes refl)
 
-    most-limited : (us : List CompilationUnit) → mostWork size bytes us ≤ workLimit
-    unfolding mostWork
+    most-limited : (us : List CompilationUnit) → workOfUnits size bytes us ≤ workLimit
+    unfolding workOfUnits
     most-limited [] = omega arith
     most-limited (u ∷ us) = omega (arith, unit-small u, most-limited us)
 
-    pub most-small : (us : List CompilationUnit) {n : ℕ} → n ≡ mostWork size bytes us → n ≤ workLimit
+    pub most-small : (us : List CompilationUnit) {n : ℕ} → n ≡ workOfUnits size bytes us → n ≤ workLimit
     most-small us e = omega (arith, most-limited us)
 
 -- ---- work that is long enough for the unit that asks for most is so for each
 
 pub each-enough : {main supplementary : List ℕ} (program lists : List ℕ) {size : ℕ} {us vs : List CompilationUnit} → vs ≡ us
-    → WorkEnough main supplementary size (mostWork (length program) (length lists) us) → All (UnitEnough main supplementary program lists size) vs
-unfolding mostWork
+    → WorkEnough main supplementary size (workOfUnits (length program) (length lists) us) → All (UnitEnough main supplementary program lists size) vs
+unfolding workOfUnits
 each-enough {main} {supplementary} program lists {size} {us} same W = rw same (go us (λ m n a b. W .long m n a b))
   where
     go : (xs : List CompilationUnit)
-        → ((m n : ℕ) → Accepts main m → Accepts supplementary n → workOfField * (m + n) + mostWork (length program) (length lists) xs + workBesides ≤ size)
+        → ((m n : ℕ) → Accepts main m → Accepts supplementary n → workOfField * (m + n) + workOfUnits (length program) (length lists) xs + workBesides ≤ size)
         → All (UnitEnough main supplementary program lists size) xs
     go [] h = tt
     go (x ∷ xs) h = (
@@ -112,11 +117,11 @@ Bare u = (isEncoded u ≡ false) × (u .lists ≡ 0)
 abbrev Plain : List CompilationUnit → Type 0
 Plain us = All Bare us
 
-plain-work : (size bytes : ℕ) (us : List CompilationUnit) → Plain us → mostWork size bytes us ≡ workOfProgramByte * size
-unfolding mostWork unitWork
+plain-work : (size bytes : ℕ) (us : List CompilationUnit) → Plain us → workOfUnits size bytes us ≡ workOfProgramByte * size
+unfolding workOfUnits workOfUnit
 plain-work size bytes [] p = refl
 plain-work size bytes (u ∷ us) p =
-    let a : unitWork size bytes u ≡ workOfProgramByte * size + workOfListByte * bytes * 0 = rw (p .0 .0, p .0 .1) in
+    let a : workOfUnit size bytes u ≡ workOfProgramByte * size + workOfListByte * bytes * 0 = rw (of-program (u .encoding) size, p .0 .0, p .0 .1) in
     omega (arith, plain-work size bytes us (p .1))
 
 abbrev once : CompilationUnit → ℕ
@@ -177,7 +182,7 @@ plain-chosen o us p = go (o .all)
     go false = one (at us (o .ordinal)) refl
 
 pub work-plain : {s : List ℕ} {c : Counts} (o : Options) (size bytes : ℕ) → Sized s c → c .encodings + c .lists ≡ 0
-    → workOfProgramByte * size ≡ mostWork size bytes (chosenUnits o (units s))
+    → workOfProgramByte * size ≡ workOfUnits size bytes (chosenUnits o (units s))
 work-plain {s} {c} o size bytes S z =
     sym (plain-work size bytes (chosenUnits o (units s))
     (plain-chosen o (units s) (plain-without s (omega (arith, S .encodings)) (omega (arith, S .lists)))))
@@ -198,40 +203,40 @@ pub lists-here : {s : List ℕ} {p : ℕ} (U : UnitPlaced s p) {n : ℕ} → n �
 lists-here {s} {p} U e = e ∙ sym (unit-lists s p (stepAt s p) refl 0x10 (p + 3) 18 (p + 21) (U .is))
 
 pub unit-work : {s : List ℕ} {p : ℕ} (U : UnitPlaced s p) (size bytes : ℕ) {a b k : ℕ} {c : Bool} → c ≡ isEncoded (unitHere s p) → a ≡ workOfProgram c size
-    → k ≡ listsFrom s (p + 21) → b ≡ workOfLists k bytes → a + b ≡ unitWork size bytes (unitHere s p)
-unfolding unitWork
-unit-work {s} {p} U size bytes ec ea ek eb = rw (ea, eb, ec, lists-here U ek)
+    → k ≡ listsFrom s (p + 21) → b ≡ workOfLists k bytes → a + b ≡ workOfUnit size bytes (unitHere s p)
+unfolding workOfUnit
+unit-work {s} {p} U size bytes ec ea ek eb = rw (of-program (unitHere s p .encoding) size, ea, eb, ec, lists-here U ek)
 
 -- ---- the unit that asks for most from a place on
 
 module _ (size bytes : ℕ) where
   abbrev mostFrom : List ℕ → ℕ → ℕ
-  mostFrom s p = mostWork size bytes (map (unitHere s) (unitPlaces p (fields (drop p s))))
+  mostFrom s p = workOfUnits size bytes (map (unitHere s) (unitPlaces p (fields (drop p s))))
 
   -- at place p: of the units before it `most`, and the program's bytes at the least
   pub record Seeking (s : List ℕ) (p most : ℕ) : Type 0 where
     pub placed : Placed s p
     pub least : workOfProgramByte * size ≤ most
-    pub left : mostWork size bytes (units s) ≡ max most (mostFrom s p)
+    pub left : workOfUnits size bytes (units s) ≡ max most (mostFrom s p)
 
   pub seek-start : {s : List ℕ} → Accepted s → Seeking s 0 (workOfProgramByte * size)
   seek-start {s} A = record {
     placed = placed-start s (A .number) (A .is);
     least = omega arith;
-    left = let e : mostWork size bytes (units s) ≡ mostFrom s 0 = ap (mostWork size bytes) (units-places s) in
+    left = let e : workOfUnits size bytes (units s) ≡ mostFrom s 0 = ap (workOfUnits size bytes) (units-places s) in
         omega (arith, most-least size bytes (map (unitHere s) (unitPlaces 0 (fields s))));
   }
 
   module _ {s : List ℕ} {p most : ℕ} (S : Seeking s p most) (r : Step) (reads : r ≡ stepAt s p) where
-    turn : mostWork size bytes (units s) ≡ max most (mostWork size bytes (map (unitHere s) (unitPlaces p (fieldsOf s r))))
+    turn : workOfUnits size bytes (units s) ≡ max most (workOfUnits size bytes (map (unitHere s) (unitPlaces p (fieldsOf s r))))
     turn = S .left ∙ rw (fields-at s p, ← reads)
 
-    pub seek-end : r ≡ Step.End → most ≡ mostWork size bytes (units s)
-    unfolding unitPlaces mostWork
+    pub seek-end : r ≡ Step.End → most ≡ workOfUnits size bytes (units s)
+    unfolding unitPlaces workOfUnits
     seek-end e = let t = rw e at turn in omega (arith, S .least)
 
-    pub seek-cut : r ≡ Step.Cut → most ≡ mostWork size bytes (units s)
-    unfolding unitPlaces mostWork
+    pub seek-cut : r ≡ Step.Cut → most ≡ workOfUnits size bytes (units s)
+    unfolding unitPlaces workOfUnits
     seek-cut e = let t = rw e at turn in omega (arith, S .least)
 
     module _ (t start len next : ℕ) (e : r ≡ Step.Field t start len next) where
@@ -254,34 +259,34 @@ module _ (size bytes : ℕ) where
             let e₂ : next ≡ p + 21 = omega arith in
             record { placed = S .placed; is = sym reads ∙ e ∙ (λ i. Step.Field (h i) (e₁ i) (l i) (e₂ i)) }
 
-        here-first : mostWork size bytes (units s) ≡ max most (max (unitWork size bytes (unitHere s p)) (mostFrom s next))
-        unfolding unitPlaces mostWork
+        here-first : workOfUnits size bytes (units s) ≡ max most (max (workOfUnit size bytes (unitHere s p)) (mostFrom s next))
+        unfolding unitPlaces workOfUnits
         here-first = rw (e, eq-eqb t 0x10 h, next-is) at turn
 
-        pub seek-unit : {k n : ℕ} → k ≡ unitWork size bytes (unitHere s p) → n ≡ max most k → Seeking s next n
+        pub seek-unit : {k n : ℕ} → k ≡ workOfUnit size bytes (unitHere s p) → n ≡ max most k → Seeking s next n
         seek-unit ek en = record { placed = next-placed; least = omega (arith, S .least); left = omega (arith, here-first) }
 
 -- ---- the units that are asked for
 
-pub work-all : (s : List ℕ) (o : Options) (size bytes : ℕ) {n : ℕ} → o .all ≡ true → n ≡ mostWork size bytes (units s) → n ≡ mostWork size bytes (chosenUnits o (units s))
+pub work-all : (s : List ℕ) (o : Options) (size bytes : ℕ) {n : ℕ} → o .all ≡ true → n ≡ workOfUnits size bytes (units s) → n ≡ workOfUnits size bytes (chosenUnits o (units s))
 unfolding chosenUnits
 work-all s o size bytes is e = e ∙ sym (rw is)
 
 module _ (s : List ℕ) (o : Options) (size bytes : ℕ) (one : o .all ≡ false) (x : Place) (e : placeOf x ≡ at (unitPlaces 0 (fields s)) (o .ordinal)) where
-  by-place : mostWork size bytes (chosenUnits o (units s)) ≡ mostWork size bytes (listed (mapOption (unitHere s) (placeOf x)))
+  by-place : workOfUnits size bytes (chosenUnits o (units s)) ≡ workOfUnits size bytes (listed (mapOption (unitHere s) (placeOf x)))
   unfolding chosenUnits
-  by-place = rw one (ap (λ (y : Option CompilationUnit). mostWork size bytes (listed y)) (unit-of-place s (o .ordinal) x e))
+  by-place = rw one (ap (λ (y : Option CompilationUnit). workOfUnits size bytes (listed y)) (unit-of-place s (o .ordinal) x e))
 
-  pub work-missing : x ≡ Place.Missing → workOfProgramByte * size ≡ mostWork size bytes (chosenUnits o (units s))
-  unfolding mapOption mostWork
+  pub work-missing : x ≡ Place.Missing → workOfProgramByte * size ≡ workOfUnits size bytes (chosenUnits o (units s))
+  unfolding mapOption workOfUnits
   work-missing is = sym (rw is at by-place)
 
   module _ {q : ℕ} (is : x ≡ Place.At q) where
     pub asked-placed : Accepted s → UnitPlaced s q
     asked-placed A = unit-stands (placed-start s (A .number) (A .is)) (record { number = o .ordinal; is = sym (rw is at e) })
 
-    pub work-one : {n : ℕ} → n ≡ unitWork size bytes (unitHere s q) → n ≡ mostWork size bytes (chosenUnits o (units s))
-    unfolding mapOption mostWork
+    pub work-one : {n : ℕ} → n ≡ workOfUnit size bytes (unitHere s q) → n ≡ workOfUnits size bytes (chosenUnits o (units s))
+    unfolding mapOption workOfUnits
     work-one {n} en =
-        let a : mostWork size bytes (chosenUnits o (units s)) ≡ max (unitWork size bytes (unitHere s q)) (workOfProgramByte * size) = rw is at by-place in
+        let a : workOfUnits size bytes (chosenUnits o (units s)) ≡ max (workOfUnit size bytes (unitHere s q)) (workOfProgramByte * size) = rw is at by-place in
         omega (arith, unit-least size bytes (unitHere s q))

@@ -3,7 +3,7 @@ use mathlib.Core.Path.{_≡_}
 use mathlib.Core.Bool.{Bool, cond, false, _&&_, _||_, not}
 use mathlib.Core.List.{List, [], _∷_}
 use mathlib.Core.Option.{Option, none, some}
-use Prim.Native.Nat.{ℕ, _+_, _*_, _≤_, max, min}
+use Prim.Native.Nat.{ℕ, _+_, _*_, _≤_}
 use lib.Dec.{ltb, eqb}
 use lib.ListN.{length}
 use Rattle.tlv.specs.Outcome.{Outcome, refused, done, _>>=_}
@@ -14,6 +14,7 @@ use Rattle.tlv.specs.Grammar.{checkInput}
 use Rattle.tlv.specs.Checked.{Accepts}
 use Rattle.tlv.specs.Model.{CompilationUnit, units}
 use Rattle.imports.specs.Import.{State}
+use Rattle.imports.specs.Answer.{workOfUnit}
 use Rattle.dwarf.specs.declared.model.Options.{Options}
 use Rattle.dwarf.specs.declared.checks.BothChecked.{BothChecked}
 
@@ -70,19 +71,6 @@ isEncoded u = not (isNone (u .encoding))
 abbrev pub workOfProgram : Bool → ℕ → ℕ
 workOfProgram encoded size = cond encoded workOfEncodedByte workOfProgramByte * size
 
--- the work that so many range lists ask for, in a section of so many bytes (document 02, E9)
-abbrev pub workOfLists : ℕ → ℕ → ℕ
-workOfLists lists bytes = workOfListByte * bytes * min lists countedLists
-
--- the work that a unit asks for beside its fields, with a program of `size` bytes and lists of `bytes`
-unfoldable pub unitWork : ℕ → ℕ → CompilationUnit → ℕ
-unitWork size bytes u = workOfProgram (isEncoded u) size + workOfLists (u .lists) bytes
-
--- that of the unit that asks for most (document 02, E11)
-unfoldable pub mostWork : ℕ → ℕ → List CompilationUnit → ℕ
-mostWork size bytes [] = workOfProgramByte * size
-mostWork size bytes (u ∷ us) = max (unitWork size bytes u) (mostWork size bytes us)
-
 -- no unit asks for more
 abbrev pub workLimit : ℕ
 workLimit = workOfEncodedByte * programLimit + workOfListByte * countedLists * listLimit
@@ -97,4 +85,4 @@ pub record WorkEnough (main supplementary : List ℕ) (size most : ℕ) : Type 0
 
 -- it is long enough for this unit
 abbrev pub UnitEnough : List ℕ → List ℕ → List ℕ → List ℕ → ℕ → CompilationUnit → Type 0
-UnitEnough main supplementary program lists size u = WorkEnough main supplementary size (unitWork (length program) (length lists) u)
+UnitEnough main supplementary program lists size u = WorkEnough main supplementary size (workOfUnit (length program) (length lists) u)

@@ -2,7 +2,7 @@
 use mathlib.Core.Path.{_≡_}
 use mathlib.Core.Bool.{Bool, false, cond}
 use mathlib.Core.List.{List}
-use Prim.Native.Nat.{ℕ, _+_, _*_, _/_, _≤_, _<_, _^_, min}
+use Prim.Native.Nat.{ℕ, _+_, _*_, _/_, _≤_, _<_, _^_}
 use lib.ListN.{length, getD}
 use Rattle.tlv.specs.Tags.{attributeTag, directoryTag, encodingTag, entryTag, fileTag, fileZeroTag, listTag, rangeTag, rowTag, textTag, unitTag}
 use Rattle.tlv.specs.Limits.{programLimit, listLimit, workOfField, workBesides, joinedLimit}
@@ -10,6 +10,7 @@ use Rattle.tlv.specs.Fields.{fields, payloads, wholeFields}
 use Rattle.tlv.specs.Checked.{Accepts}
 use Rattle.tlv.specs.Model.{CompilationUnit}
 use Rattle.tlv.specs.Places.{unitHere, unitPlaces}
+use Rattle.rnglists.specs.Room.{openLists}
 use Rattle.files.specs.Possible.{possibleFiles}
 use Rattle.rows.specs.Sizes.{rowRoom}
 use Rattle.collect.specs.Collects.{linesExtent}
@@ -84,7 +85,8 @@ pub record LaidOut (main supplementary program lists : List ℕ) (l : Layout) : 
   pub supplementary-entries : l .«supplementary_units» + 24 * length (unitPlaces 0 (fields supplementary)) ≤ l .«supplementary_entries»
   pub files : l .«supplementary_entries» + 16 * entryCount supplementary ≤ l .files
   pub lines : l .files + (l .room * 45 + joinedLimit) ≤ l .lines
-  pub line-room : (q : ℕ) → UnitOf main q → linesExtent main q program ≤ l .«line_room» + rowRoom * programRows (l .size) (isEncoded (unitHere main q))
+  pub line-room : (q : ℕ) → UnitOf main q → linesExtent main q program
+      ≤ l .«line_room» + rowRoom * programRows (l .size) (isEncoded (unitHere main q))
   pub text-room : (q : ℕ) → UnitOf main q → 16 * length (unitHere main q .text) ≤ l .«text_room»
   pub room-main : (q : ℕ) → UnitOf main q → mapExtent main q ≤ l .«span_room»
   pub room-supplementary : (q : ℕ) → UnitOf supplementary q → mapExtent supplementary q ≤ l .«span_room»
@@ -105,17 +107,13 @@ pub record LaysOut (m s : Counts) (size bytes : ℕ) (l : Layout) : Type 0 where
 
 -- ---- the parts of a unit
 
--- how many of a unit's range lists (document 02, E9) can stand in the stack of ranges at once
-abbrev pub openLists : ℕ
-openLists = 257
-
 -- behind its lines: whether its rows come from the program, and how many lists it has
 unfoldable pub unitLayout : Layout → Bool → ℕ → UnitLayout
 unitLayout l encoded lists =
     let text = l .lines + l .«line_room» + rowRoom * programRows (l .size) encoded in
     let spans = text + l .«text_room» in
     let ranges = spans + l .«span_room» in
-    let stack = ranges + l .«range_room» + 16 * (l .third * min lists openLists) in
+    let stack = ranges + l .«range_room» + 16 * (l .third * openLists lists) in
     let sites = stack + l .«stack_room» in
     record { text = text; spans = spans; ranges = ranges; stack = stack; sites = sites; keys = sites + l .«site_room» }
 
@@ -124,7 +122,7 @@ pub record UnitLaid (main supplementary program : List ℕ) (size : ℕ) (l : La
   pub text : l .lines + linesExtent main unit program ≤ p .text
   pub spans : p .text + 16 * length (unitHere main unit .text) ≤ p .spans
   pub ranges : p .spans + l .«span_room» ≤ p .ranges
-  pub stack : p .ranges + 16 * (1 + rangeCount main + l .third * min (unitHere main unit .lists) openLists) ≤ p .stack
+  pub stack : p .ranges + 16 * (1 + rangeCount main + l .third * openLists (unitHere main unit .lists)) ≤ p .stack
   pub sites : p .stack + 14 * entryCount main ≤ p .sites
   pub keys : p .sites + 12 * entryCount main ≤ p .keys
   pub room : p .keys + keysRoom main supplementary ≤ size

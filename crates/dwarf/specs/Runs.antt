@@ -24,7 +24,8 @@ use Rattle.dwarf.specs.Checks.{missingOf}
 -- ---- what is asked
 
 -- what a caller lends and asks, as the definitions have it
-abbrev pub inputsOf : List ℕ → List ℕ → List ℕ → List ℕ → List ℕ → ℕ → Bool → Bool → ℕ → List ℕ → List ℕ → List ℕ → List ℕ → Inputs
+abbrev pub inputsOf : List ℕ → List ℕ → List ℕ → List ℕ → List ℕ → ℕ → Bool → Bool → ℕ → List ℕ → List ℕ → List ℕ
+    → List ℕ → Inputs
 inputsOf main supplementary program lists addresses ordinal inlines callSites first work records files warnings = record {
   main = main;
   supplementary = supplementary;

@@ -62,7 +62,8 @@ pub record LinesLaid (w : List ℕ) (l : Layout) (p : UnitLayout) (lines : Store
 -- the context of a unit was made behind its lines, which stay as they are
 pub record MakesContext (main supplementary lists w w′ : List ℕ) (l : Layout) (p : UnitLayout) (unit : ℕ) (lines : StoredLines) (indices : StoredIndices)
     (inlines callSites : Bool) (q : ImportContext) : Type 0 where
-  pub context : (t : StoredFiles) → l .files ≤ t .base → t .base + extent t ≤ l .lines → FilesIn main supplementary w t → ContextIn main supplementary w′ q t
+  pub context : (t : StoredFiles) → l .files ≤ t .base → t .base + extent t ≤ l .lines → FilesIn main supplementary w t
+      → ContextIn main supplementary w′ q t
   pub unit-is : q .unit ≡ unit
   pub lines-is : q .lines ≡ lines
   pub indices-is : q .places .indices ≡ indices

@@ -6,7 +6,8 @@ ghost use Rattle.tlv.specs.Model.{units};
 ghost use Rattle.tlv.specs.Places.{unitHere};
 ghost use Rattle.files.specs.Pieces.{UnitPlaced};
 ghost use Rattle.dies.specs.DetailState.{Accepted};
-ghost use Rattle.dwarf.specs.Checks.{oversizeOf, ChecksBoth, isEncoded, workOfProgram, workOfLists, unitWork, mostWork, workLimit, shortOf, missingOf};
+ghost use Rattle.imports.specs.Answer.{workOfLists, workOfUnit, workOfUnits};
+ghost use Rattle.dwarf.specs.Checks.{oversizeOf, ChecksBoth, isEncoded, workOfProgram, workLimit, shortOf, missingOf};
 ghost use Rattle.dwarf.specs.Layout.{Sized};
 ghost use Rattle.dwarf.specs.Runs.{chosenUnits};
 use crate::layout::Counts;
@@ -51,7 +52,8 @@ pub fn is_oversize(
     lists: &[u8],
     addresses: &[u8],
 ) -> bool
-    ensures { λ r. ⌜ r ≡ oversizeOf (now (main .entry)) (now (supplementary .entry)) (now (program .entry)) (now (lists .entry)) (now (addresses .entry)) ⌝ }
+    ensures { λ r. ⌜ r ≡ oversizeOf (now (main .entry)) (now (supplementary .entry)) (now (program .entry)) (now (lists .entry))
+        (now (addresses .entry)) ⌝ }
 {
     if INPUT_LIMIT < main.len() {
         return true;
@@ -148,7 +150,7 @@ fn work_of_lists(lists: usize, bytes: usize) -> usize
 fn work_of_unit(main: &[u8], place: usize, size: usize, bytes: usize) -> usize
     requires { ⌜ UnitPlaced (now main) place ⌝ }
     requires { ⌜ (size ≤ programLimit) × (bytes ≤ listLimit) ⌝ }
-    ensures { λ r. ⌜ r ≡ unitWork size bytes (unitHere (now (main .entry)) place) ⌝ }
+    ensures { λ r. ⌜ r ≡ workOfUnit size bytes (unitHere (now (main .entry)) place) ⌝ }
 {
     let program = work_of_program(has_encoding(main, place), size);
     program + work_of_lists(tlv::access::list_count(main, place + UNIT_WHOLE), bytes)
@@ -158,7 +160,7 @@ fn work_of_unit(main: &[u8], place: usize, size: usize, bytes: usize) -> usize
 fn most_work(main: &[u8], size: usize, bytes: usize) -> usize
     requires { ⌜ Accepted (now main) ⌝ }
     requires { ⌜ (size ≤ programLimit) × (bytes ≤ listLimit) ⌝ }
-    ensures { λ r. ⌜ r ≡ mostWork size bytes (units (now (main .entry))) ⌝ }
+    ensures { λ r. ⌜ r ≡ workOfUnits size bytes (units (now (main .entry))) ⌝ }
 {
     let mut most = WORK_OF_PROGRAM_BYTE * size;
     let mut p: usize = 0;
@@ -206,7 +208,7 @@ pub fn work_of_units(
 ) -> usize
     requires { ⌜ (Accepted (now main)) × (Sized (now main) counts) ⌝ }
     requires { ⌜ (size ≤ programLimit) × (bytes ≤ listLimit) ⌝ }
-    ensures { λ r. ⌜ r ≡ mostWork size bytes (chosenUnits options (units (now (main .entry)))) ⌝ }
+    ensures { λ r. ⌜ r ≡ workOfUnits size bytes (chosenUnits options (units (now (main .entry)))) ⌝ }
 {
     if counts.encodings + counts.lists == 0 {
         return WORK_OF_PROGRAM_BYTE * size;

@@ -1,12 +1,13 @@
 // Where the tables of an import stand in the work slice: places and rooms computed from counts of fields.
 ghost use mathlib.Core.Path.{_≡_};
-ghost use Prim.Native.Nat.{_≤_, _*_, min};
+ghost use Prim.Native.Nat.{_≤_, _*_};
 ghost use Rattle.tlv.specs.Limits.{programLimit, fieldLimit, listLimit};
 ghost use Rattle.tlv.specs.Places.{unitHere};
+ghost use Rattle.rnglists.specs.Room.{openLists};
 ghost use Rattle.files.specs.Pieces.{UnitPlaced};
 ghost use Rattle.subprograms.specs.Contexts.{UnitOf};
 ghost use Rattle.dwarf.specs.Checks.{isEncoded};
-ghost use Rattle.dwarf.specs.Layout.{TagsCounted, Sized, totalOf, programRows, LaysOut, openLists, unitLayout, RoomsSmall, TagsKnown};
+ghost use Rattle.dwarf.specs.Layout.{TagsCounted, Sized, totalOf, programRows, LaysOut, unitLayout, RoomsSmall, TagsKnown};
 use crate::checks::has_encoding;
 use files::store::JOINED_LIMIT;
 use rows::line::ENTRY_SIZE;
@@ -27,6 +28,31 @@ use tlv::tags::UNIT_WHOLE;
 
 // How many lists can stand in the stack of ranges at once: one for each of the 256 nodes that can be open, and the one that is read.
 const OPEN_LISTS: usize = 257;
+
+// Bytes of a record in the work slice: of a unit and of an entry in their tables, of a file with its chains, of a directory's span, of a file's index, of an
+// address range, of an open and a closed call site; and of a sequence's offset, with the fewest bytes of the program that give one.
+pub const UNIT_RECORD: usize = 24;
+
+const ENTRY_RECORD: usize = 16;
+
+const FILE_RECORD: usize = 45;
+
+const SPAN: usize = 8;
+
+const FILE_INDEX: usize = 5;
+
+const RANGE: usize = 16;
+
+const OPEN_SITE: usize = 14;
+
+const CLOSED_SITE: usize = 12;
+
+const SEQUENCE_OFFSET: usize = 8;
+
+const SEQUENCE_BYTES: usize = 3;
+
+// The fewest bytes of a list that give a range.
+const RANGE_BYTES: usize = 3;
 
 // The tables that serve all units stand first: the main input's units at 0, its entries, the supplementary one's units and entries, the file table with its
 // room for files. From `lines` on stands what belongs to one unit, in rooms: its lines, its executable ranges, what a unit that is reached by reference
@@ -133,14 +159,14 @@ pub fn lay_out(m: Counts, s: Counts, size: usize, bytes: usize) -> Layout
     requires { ⌜ (size ≤ programLimit) × (bytes ≤ listLimit) ⌝ }
     ensures { λ r. ⌜ LaysOut m s size bytes r ⌝ }
 {
-    let main_entries = 24 * m.units;
-    let supplementary_units = main_entries + 16 * m.entries;
-    let supplementary_entries = supplementary_units + 24 * s.units;
-    let files = supplementary_entries + 16 * s.entries;
+    let main_entries = UNIT_RECORD * m.units;
+    let supplementary_units = main_entries + ENTRY_RECORD * m.entries;
+    let supplementary_entries = supplementary_units + UNIT_RECORD * s.units;
+    let files = supplementary_entries + ENTRY_RECORD * s.entries;
     let room = m.files + m.zeros + s.files + s.zeros + 1;
-    let line_room = size / 3 * 8
-        + 8 * m.directories
-        + 5 * (1 + m.files)
+    let line_room = size / SEQUENCE_BYTES * SEQUENCE_OFFSET
+        + SPAN * m.directories
+        + FILE_INDEX * (1 + m.files)
         + ROW_ROOM * m.rows
         + ENTRY_SIZE;
     Layout {
@@ -149,15 +175,15 @@ pub fn lay_out(m: Counts, s: Counts, size: usize, bytes: usize) -> Layout
         supplementary_entries: supplementary_entries,
         files: files,
         room: room,
-        lines: files + room * 45 + JOINED_LIMIT,
+        lines: files + room * FILE_RECORD + JOINED_LIMIT,
         line_room: line_room,
-        text_room: 16 * m.text,
-        span_room: 8 * (m.directories + s.directories) + 5 * (1 + m.files + s.files),
-        range_room: 16 * (1 + m.ranges),
-        stack_room: 14 * m.entries,
-        site_room: 12 * m.entries,
+        text_room: RANGE * m.text,
+        span_room: SPAN * (m.directories + s.directories) + FILE_INDEX * (1 + m.files + s.files),
+        range_room: RANGE * (1 + m.ranges),
+        stack_room: OPEN_SITE * m.entries,
+        site_room: CLOSED_SITE * m.entries,
         size: size,
-        third: bytes / 3,
+        third: bytes / RANGE_BYTES,
         with_encodings: m.encodings != 0,
         with_lists: m.lists != 0,
     }
@@ -175,7 +201,7 @@ fn program_rows(size: usize, encoded: bool) -> usize
 
 // How many of a unit's lists can stand in the stack of ranges at once.
 fn open_lists(lists: usize) -> usize
-    ensures { λ r. ⌜ r ≡ min lists openLists ⌝ }
+    ensures { λ r. ⌜ r ≡ openLists lists ⌝ }
 {
     if lists < OPEN_LISTS {
         return lists;
@@ -191,7 +217,7 @@ fn unit_layout(l: Layout, encoded: bool, lists: usize) -> UnitLayout
     let text = l.lines + l.line_room + ROW_ROOM * program_rows(l.size, encoded);
     let spans = text + l.text_room;
     let ranges = spans + l.span_room;
-    let stack = ranges + l.range_room + 16 * (l.third * open_lists(lists));
+    let stack = ranges + l.range_room + RANGE * (l.third * open_lists(lists));
     let sites = stack + l.stack_room;
     UnitLayout {
         text: text,

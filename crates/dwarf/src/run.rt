@@ -5,8 +5,9 @@ ghost use lib.ListN.{length, replicate};
 ghost use Rattle.tlv.specs.Model.{units};
 ghost use Rattle.dies.specs.Details.{dwarfWith};
 ghost use Rattle.dies.specs.DetailState.{Accepted};
+ghost use Rattle.imports.specs.Answer.{workOfUnits};
 ghost use Rattle.imports.specs.Import.{importUnits};
-ghost use Rattle.dwarf.specs.Checks.{BothAccepted, NotOversize, mostWork, WorkEnough};
+ghost use Rattle.dwarf.specs.Checks.{BothAccepted, NotOversize, WorkEnough};
 ghost use Rattle.dwarf.specs.Layout.{Sized};
 ghost use Rattle.dwarf.specs.Runs.{inputsBy, importAll, chosenUnits, Chooses, importAccepted, startState, LengthsOf, Writes, fitStatus};
 use crate::checks::BothChecked;
@@ -106,7 +107,7 @@ fn import_worked<'a>(
     requires { ⌜ NotOversize (now main) (now supplementary) (now program) (now lists) ⌝ }
     requires { ⌜ Sized (now main) counts ⌝ }
     requires { ⌜ WorkEnough (now main) (now supplementary) (length (now work))
-        (mostWork (length (now program)) (length (now lists)) (chosenUnits options (units (now main)))) ⌝ }
+        (workOfUnits (length (now program)) (length (now lists)) (chosenUnits options (units (now main)))) ⌝ }
     ensures { λ r. ⌜ (
         let us = chosenUnits options (units (now (main .entry))) in
         let d = dwarfWith (now (main .entry)) (now (supplementary .entry)) (now (lists .entry)) (now (addresses .entry)) in

@@ -12,6 +12,7 @@ ghost use Rattle.dwarf.specs.Layout.{UnitLaid};
 ghost use Rattle.dwarf.specs.Tables.{TablesIn, LinesLaid, MakesContext};
 ghost use Rattle.dwarf.specs.Units.{Ready, aboveTables, Grows};
 use crate::layout::Layout;
+use crate::layout::UNIT_RECORD;
 use crate::layout::UnitLayout;
 use crate::layout::place_unit;
 use crate::model::Options;
@@ -25,9 +26,7 @@ use rows::unit_lines::StoredLines;
 use subprograms::model::ImportContext;
 use subprograms::model::ImportState;
 
-// A record of the table of units, and where in it the unit's place stands.
-const UNIT_RECORD: usize = 24;
-
+// Where in a record of the table of units the unit's place stands.
 const UNIT_PLACE: usize = 16;
 
 // What is the same for every subprogram of a unit whose lines were collected.

@@ -51,7 +51,8 @@ InternedAfter main supplementary w w′ files files′ t (InternedFile.Refused n
 InternedAfter main supplementary w w′ files files′ t InternedFile.Unnamed = Grown main supplementary w w′ files files′ t t
 InternedAfter main supplementary w w′ files files′ t (InternedFile.Number t′ n) = Grown main supplementary w w′ files files′ t t′
 
-pub record Interns (main supplementary w w′ files files′ : List ℕ) (t : StoredFiles) (s : List ℕ) (u : FileUnit) (file : Span) (r : InternedFile) : Type 0 where
+pub record Interns (main supplementary w w′ files files′ : List ℕ) (t : StoredFiles) (s : List ℕ) (u : FileUnit) (file : Span)
+    (r : InternedFile) : Type 0 where
   pub is : internedOf main supplementary w′ t r
       ≡ internFile (unitHere s (u .place)) (headerHere s (u .place)) (tableOf main supplementary w t) (fileOf (spanIn s file))
   pub after : InternedAfter main supplementary w w′ files files′ t r
@@ -65,8 +66,8 @@ NumberedAt w p (InternedFile.Refused n) = Unit
 NumberedAt w p InternedFile.Unnamed = indexOf (chunk w p 5) ≡ none
 NumberedAt w p (InternedFile.Number t n) = indexOf (chunk w p 5) ≡ some n
 
-pub record InternsAt (main supplementary w w′ files files′ : List ℕ) (t : StoredFiles) (s : List ℕ) (u : FileUnit) (file : Span) (p : ℕ) (r : InternedFile)
-    : Type 0 where
+pub record InternsAt (main supplementary w w′ files files′ : List ℕ) (t : StoredFiles) (s : List ℕ) (u : FileUnit) (file : Span) (p : ℕ)
+    (r : InternedFile) : Type 0 where
   pub is : internedOf main supplementary w′ t r
       ≡ internFile (unitHere s (u .place)) (headerHere s (u .place)) (tableOf main supplementary w t) (fileOf (spanIn s file))
   pub after : InternedAfter main supplementary w w′ files files′ t r

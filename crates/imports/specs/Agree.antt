@@ -94,7 +94,8 @@ pub record Rule (ps mine : List AddressRange) (e : TreeEntry) : Type 0 where
 
 -- the rule at every entry below the subprogram s, for a record with the range f
 abbrev pub Judged : AddressRange → List TreeEntry → ℕ → (ℕ → List AddressRange) → Type 0
-Judged f us s merged = (i : ℕ) → Below us s i → (up : Option ℕ) × Nearest merged (entryDepth us) s i up × Rule (against f merged up) (merged i) (entry us i)
+Judged f us s merged = (i : ℕ) → Below us s i → (up : Option ℕ) × Nearest merged (entryDepth us) s i up
+    × Rule (against f merged up) (merged i) (entry us i)
 
 -- the rule leaves no choice: two judgements are one
 abbrev pub OneJudgement : AddressRange → List TreeEntry → ℕ → Type 0
@@ -127,7 +128,8 @@ pub data NodeOf (entryOf : ℕ → ℕ) (many : ℕ) : Option ℕ → ℕ → Ty
   below : {k : ℕ} → k < many → NodeOf entryOf many (some (entryOf k)) (suc k)
 
 -- node number suc j of the record against the entry of the unit that it is paired with
-pub record Pair (f : AddressRange) (us : List TreeEntry) (s : ℕ) (ns : List TreeNode) (merged : ℕ → List AddressRange) (entryOf : ℕ → ℕ) (j : ℕ) : Type 0 where
+pub record Pair (f : AddressRange) (us : List TreeEntry) (s : ℕ) (ns : List TreeNode) (merged : ℕ → List AddressRange) (entryOf : ℕ → ℕ)
+    (j : ℕ) : Type 0 where
   pub under : Below us s (entryOf j)
   pub kept : Kept merged (entryOf j)
   pub name : (node f ns (suc j)) .name ≡ (entry us (entryOf j)) .name
@@ -136,7 +138,8 @@ pub record Pair (f : AddressRange) (us : List TreeEntry) (s : ℕ) (ns : List Tr
   pub upNode : ℕ
   pub stands : NodeOf entryOf (length ns) up upNode
   pub parent : ParentOf (nodeDepth f ns) (suc j) upNode
-  pub addresses : (a : ℕ) → Holds ((node f ns (suc j)) .ranges) a ↔ Any (λ r. RangeHolds r a × Fits (against f merged up) r) ((entry us (entryOf j)) .ranges)
+  pub addresses : (a : ℕ) → Holds ((node f ns (suc j)) .ranges) a
+      ↔ Any (λ r. RangeHolds r a × Fits (against f merged up) r) ((entry us (entryOf j)) .ranges)
   pub filled : (node f ns (suc j)) .ranges ≢ []
   pub apart : Apart ((node f ns (suc j)) .ranges)
   pub within : All (λ r. Inside r f) ((node f ns (suc j)) .ranges)

@@ -26,10 +26,12 @@ pub record Tested (i : Inputs) (n : ℕ) : Type 0 where
 pub record Bare (i : Inputs) : Type 0 where
   -- "With an empty main sheet and ordinal 0, the import is done, lengths and statistics are zero, and the line program is not read": only its length is
   -- asked. So does the pass of E1 answer
-  pub bare : (n : ℕ) → Tested i n → i .ordinal ≡ 0 → workNeeded i n [] ≤ length (i .work) → (after i ≡ untouched i) × (measure i .answer ≡ nothingDone)
+  pub bare : (n : ℕ) → Tested i n → i .ordinal ≡ 0 → workNeeded i n [] ≤ length (i .work) → (after i ≡ untouched i)
+      × (measure i .answer ≡ nothingDone)
   -- "Sizes, the supplementary sheet and the work length are still tested", in document 01's order
   pub sizes : oversize i ≡ true → after i .answer .refusal ≡ 1
-  pub supplementary : (k : ℕ) → oversize i ≡ false → checkInput (length (i .program)) (i .supplementary) ≡ refused k → after i .answer .refusal ≡ k
+  pub supplementary : (k : ℕ) → oversize i ≡ false → checkInput (length (i .program)) (i .supplementary) ≡ refused k
+      → after i .answer .refusal ≡ k
   pub work : (n : ℕ) → Tested i n → i .ordinal ≡ 0 → length (i .work) < workNeeded i n [] → after i .answer .refusal ≡ 5
   -- "any other ordinal is still 4", also where work is short
   pub other : (n : ℕ) → Tested i n → i .ordinal ≢ 0 → after i .answer .refusal ≡ 4

@@ -43,6 +43,6 @@ pub record Counted (c : ConversionStats) : Type 0 where
   pub rejectedRanges : c .rejectedRanges ≤ 2 ^ 64 - 1
 
 abbrev pub OneAfterAnother : Type 0
-OneAfterAnother = (d : Dwarf) (u : CompilationUnit) (us : List CompilationUnit) (program : List ℕ) (inlines callSites : Bool) (s : State) → Counted (s .stats)
-    → importUnits d (u ∷ us) program inlines callSites s
+OneAfterAnother = (d : Dwarf) (u : CompilationUnit) (us : List CompilationUnit) (program : List ℕ) (inlines callSites : Bool) (s : State)
+    → Counted (s .stats) → importUnits d (u ∷ us) program inlines callSites s
     ≡ (importUnit d u program inlines callSites (fresh (s .table)) >>= λ t. importUnits d us program inlines callSites (joined s t))

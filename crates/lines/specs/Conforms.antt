@@ -157,7 +157,8 @@ Programs = (h : Opcodes) → DeclaresStandard h → ProgramConforms h
 
 -- E2: opcode 3 with a single declared operand is the Standard's within the limits of a signed one, whatever the header declares for other opcodes
 abbrev pub AdvanceLine : Type 0
-AdvanceLine = (h : Opcodes) → 3 < h .base → declared h 3 ≡ 1 → (whole : ℕ) (s : List ℕ) → Agrees 11 (skip h whole 3 s) (instruction h 3 s) (Narrow signed s)
+AdvanceLine = (h : Opcodes) → 3 < h .base → declared h 3 ≡ 1 → (whole : ℕ) (s : List ℕ)
+    → Agrees 11 (skip h whole 3 s) (instruction h 3 s) (Narrow signed s)
 
 -- ---- E3: the two parts of a path that Windows wrote
 
@@ -255,7 +256,8 @@ Joins u h f compilation =
 -- the named cases are left out: a path that failed or names no file, a full path of two slashes and a name, and a relative path that is a Windows path or
 -- begins with two backslashes, or whose directory is none of the three above
 pub record PathConforms (u : CompilationUnit) (h : LineHeader) (f : HeaderFile) (compilation : List ℕ) : Type 0 where
-  pub full : NamesFile f → isFull (f .path) ≡ true → (directoryName (f .path) ≡ slash ∷ [] → f .path ≡ slash ∷ basenameOf (f .path)) → Joins u h f compilation
+  pub full : NamesFile f → isFull (f .path) ≡ true → (directoryName (f .path) ≡ slash ∷ [] → f .path ≡ slash ∷ basenameOf (f .path))
+      → Joins u h f compilation
   pub relative : NamesFile f → Relative (f .path) → PlainDirectory u h f compilation → Joins u h f compilation
   pub inFirst : NamesFile f → Relative (f .path) → FirstDirectory u h f → Joins u h f compilation
   pub inFull : NamesFile f → Relative (f .path) → FullDirectory u h f → Joins u h f compilation

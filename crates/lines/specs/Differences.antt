@@ -21,9 +21,11 @@ opcodes second = record { base = 13; lengths = 0 ∷ second ∷ 1 ∷ 1 ∷ 1 �
 
 pub record ProgramDifferences : Type 0 where
   -- an operand padded to eleven bytes
-  pub padded : (leb128 (replicate 10 0x80 ++ (0x00 ∷ [])) ≡ some (record { value = 0; rest = [] })) × (uleb (replicate 10 0x80 ++ (0x00 ∷ [])) ≡ refused 11)
+  pub padded : (leb128 (replicate 10 0x80 ++ (0x00 ∷ [])) ≡ some (record { value = 0; rest = [] }))
+      × (uleb (replicate 10 0x80 ++ (0x00 ∷ [])) ≡ refused 11)
   -- an operand of 65 bits
-  pub wide : (leb128 (replicate 9 0x80 ++ (0x02 ∷ [])) ≡ some (record { value = 2 ^ 64; rest = [] })) × (uleb (replicate 9 0x80 ++ (0x02 ∷ [])) ≡ refused 10)
+  pub wide : (leb128 (replicate 9 0x80 ++ (0x02 ∷ [])) ≡ some (record { value = 2 ^ 64; rest = [] }))
+      × (uleb (replicate 9 0x80 ++ (0x02 ∷ [])) ≡ refused 10)
   -- advance_line by 2^63, a number of 65 bits with its sign
   pub wideSigned :
       (instruction (opcodes 1) 3 (replicate 9 0x80 ++ (0x01 ∷ [])) ≡ some (record { ends = false; rest = [] }))
@@ -104,7 +106,8 @@ given path = record { failed = false; path = path }
 
 pub record PathDifferences : Type 0 where
   -- a Windows path is taken as absolute, and split at its last separator, which closes the drive: /w/C:\b.c
-  pub windows : (filePath 4 w [] 0 onDrive ≡ some (w ++ (0x2f ∷ onDrive))) × (fileEntry (unitOf (some w) []) (header 4) (file 0 onDrive) ≡ entry drive bc)
+  pub windows : (filePath 4 w [] 0 onDrive ≡ some (w ++ (0x2f ∷ onDrive)))
+      × (fileEntry (unitOf (some w) []) (header 4) (file 0 onDrive) ≡ entry drive bc)
   -- two backslashes and a name are no share, so they stand below the compilation directory, and split: /w/\\b.c and /w/\\ and b.c
   pub doubledBackslash :
       (filePath 4 w [] 0 (0x5c ∷ 0x5c ∷ bc) ≡ some (w ++ (0x2f ∷ 0x5c ∷ 0x5c ∷ bc)))
@@ -116,7 +119,8 @@ pub record PathDifferences : Type 0 where
       (filePath 4 wSlash [] 0 within ≡ some (wSlash ++ (0x2f ∷ within)))
       × (fileEntry (unitOf (some wSlash) []) (header 4) (file 0 within) ≡ entry (wSlash ++ (0x73 ∷ [])) bc)
   -- nor does the root, with a bare name: //b.c and /, which stands for /b.c
-  pub root : (filePath 4 (0x2f ∷ []) [] 0 bc ≡ some doubled) × (fileEntry (unitOf (some (0x2f ∷ [])) []) (header 4) (file 0 bc) ≡ entry (0x2f ∷ []) bc)
+  pub root : (filePath 4 (0x2f ∷ []) [] 0 bc ≡ some doubled)
+      × (fileEntry (unitOf (some (0x2f ∷ [])) []) (header 4) (file 0 bc) ≡ entry (0x2f ∷ []) bc)
   -- so for a directory of the table, s/ with t/b.c below it: /w/s//t/b.c and /w/s/t
   pub closedEntry :
       (filePath 4 w (folder ∷ []) 1 below ≡ some (w ++ (0x2f ∷ folder ++ (0x2f ∷ below))))

@@ -78,4 +78,5 @@ pub record LooksUpIn (tray w : List ℕ) (n : ℕ) (rising : Bool) (a : ℕ) (r 
   pub own : IndexOf tray w n rising → LooksUp tray a r
 
 abbrev pub Indexing : Type 0
-Indexing = (tray w : List ℕ) (n a : ℕ) (rising : Bool) (c : Choice) → IndexOf tray w n rising → Chosen w n rising a c → byChoice tray w a c ≡ lookUp tray a
+Indexing = (tray w : List ℕ) (n a : ℕ) (rising : Bool) (c : Choice) → IndexOf tray w n rising → Chosen w n rising a c
+    → byChoice tray w a c ≡ lookUp tray a

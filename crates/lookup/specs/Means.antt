@@ -30,7 +30,8 @@ StandsIn tray x = take (3 + length (x .field .payload)) (drop (x .place) tray) �
 
 pub record Reading : Type 0 where
   pub places : (tray : List ℕ) → Bytes tray → All (StandsIn tray) (fieldsAt 0 (fields tray))
-  pub functions : (tray : List ℕ) → readRecords tray ≡ cond (recordsForm 0 0 (fields tray)) (some (map (λ f. functionOf (group f)) (functionsAt tray))) none
+  pub functions : (tray : List ℕ) → readRecords tray
+      ≡ cond (recordsForm 0 0 (fields tray)) (some (map (λ f. functionOf (group f)) (functionsAt tray))) none
   pub nodes : (f : GroupAt) → functionOf (group f) .inline ≡ map node (nodesAt f)
 
 -- ---- the function that answers: "When several functions hold it, the first in the tray answers."

@@ -98,7 +98,8 @@ cases =
     ∷ runs gcc (opcodes 13) (0x00 ∷ 0x00 ∷ []) (refused 9)
     ∷ runs gcc (opcodes 13) ((0x00 ∷ replicate 9 0xff) ++ (0x01 ∷ 0x01 ∷ [])) (refused 12)
     ∷ runs gcc (opcodes 13) (0x00 ∷ 0x03 ∷ 0x01 ∷ 0x55 ∷ 0x66 ∷ 0x01 ∷ []) (done (row 0 1 1 0 1 ∷ row 0 1 1 0 0 ∷ []))
-    ∷ runs gcc (opcodes 13) (0x00 ∷ 0x02 ∷ 0x03 ∷ 0x41 ∷ 0x00 ∷ 0x02 ∷ 0x04 ∷ 0x80 ∷ 0x00 ∷ 0x01 ∷ 0x80 ∷ 0x01 ∷ []) (done (row 0 1 1 0 0 ∷ []))
+    ∷ runs gcc (opcodes 13) (0x00 ∷ 0x02 ∷ 0x03 ∷ 0x41 ∷ 0x00 ∷ 0x02 ∷ 0x04 ∷ 0x80 ∷ 0x00 ∷ 0x01 ∷ 0x80 ∷ 0x01 ∷ [])
+    (done (row 0 1 1 0 0 ∷ []))
     -- opcode base 0 and 1: byte 0 is extended, every other opcode special; base 10: 10 is special 0
     ∷ runs clang (opcodes 0) ((0x02 ∷ []) ++ end) (done (row 0 1 (2 ^ 64 - 2) 0 0 ∷ row 0 1 (2 ^ 64 - 2) 0 1 ∷ []))
     ∷ runs clang (opcodes 1) (0x02 ∷ []) (done (row 0 1 (2 ^ 64 - 3) 0 0 ∷ []))

@@ -179,7 +179,8 @@ pub fn step_standard(
     at: usize,
 ) -> Stepped
     requires { ⌜ (0 < e .«line_range») × (0 < opcode) × (at ≤ length (now program)) ⌝ }
-    ensures { λ q. ⌜ Turns e r (now (program .entry)) at q (readStandard (opcodesWith e (now (lengths .entry))) opcode (drop at (now (program .entry)))) ⌝ }
+    ensures { λ q. ⌜ Turns e r (now (program .entry)) at q
+        (readStandard (opcodesWith e (now (lengths .entry))) opcode (drop at (now (program .entry)))) ⌝ }
 {
     match opcode {
         1 => Stepped::Plain {

@@ -34,7 +34,7 @@ use Rattle.references.proofs.FollowLaws.{push-room, push-kept, push-sea
 
 -- ---- tables and targets that lie clear of what is written
 
-index-clear : {s w w′ : List ℕ} {x : Index} {rs : List (ℕ × ℕ)} → IndexIn s w x → KeptBut w w′ rs → Clear (x .units) (x .«unit_count» * 24) rs → Clear (x .entries) (x .«entry_count» * 16) rs
+pub index-clear : {s w w′ : List ℕ} {x : Index} {rs : List (ℕ × ℕ)} → IndexIn s w x → KeptBut w w′ rs → Clear (x .units) (x .«unit_count» * 24) rs → Clear (x .entries) (x .«entry_count» * 16) rs
     → length w′ ≡ length w → IndexIn s w′ x
 index-clear {x = x} I K cu ce size = record {
   number = I .number;

@@ -87,13 +87,14 @@ DeclaredAs main supplementary w′ d ws reads new o (Declared.Found st′ file l
     o ≡ done (withFound (declaringAt main supplementary w′ d st′ (ws ++ new) reads) (some (record { address = 0; file = file; line = line; column = 0 })))
 
 -- the state after, its new files and warnings written
-pub record DeclaredState (main supplementary w w′ files files′ warnings warnings′ : List ℕ) (d : Places) (st st′ : DeclaringState) (new : List Warning)
-    : Type 0 where
+pub record DeclaredState (main supplementary w w′ files files′ warnings warnings′ : List ℕ) (d : Places) (st st′ : DeclaringState)
+    (new : List Warning) : Type 0 where
   pub grown : Grown main supplementary w w′ files files′ (st .table) (st′ .table)
   pub put : Put (st .warned) (warningsBytes new) warnings warnings′ (st′ .warned)
   pub ready : DeclaringIn main supplementary w′ d st′
 
-abbrev pub DeclaredAfter : List ℕ → List ℕ → List ℕ → List ℕ → List ℕ → List ℕ → List ℕ → List ℕ → Places → DeclaringState → List Warning → Declared → Type 0
+abbrev pub DeclaredAfter : List ℕ → List ℕ → List ℕ → List ℕ → List ℕ → List ℕ → List ℕ → List ℕ → Places → DeclaringState
+    → List Warning → Declared → Type 0
 DeclaredAfter main supplementary w w′ files files′ warnings warnings′ d st new (Declared.Refused n) = Unit
 DeclaredAfter main supplementary w w′ files files′ warnings warnings′ d st new (Declared.Missing st′) =
     DeclaredState main supplementary w w′ files files′ warnings warnings′ d st st′ new
@@ -108,8 +109,8 @@ abbrev pub searched : List ℕ → List ℕ → Places → StoredFiles → List 
 searched main supplementary d t = (t .base, extent t) ∷ (d .spans, d .room) ∷ (d .tables .keys, keysExtent main supplementary (d .tables)) ∷ []
 
 -- a search f from the state st has answered r
-pub record Declares (f : Declaring → Outcome Declaring) (main supplementary w w′ files files′ warnings warnings′ : List ℕ) (d : Places) (st : DeclaringState)
-    (r : Declared) : Type 0 where
+pub record Declares (f : Declaring → Outcome Declaring) (main supplementary w w′ files files′ warnings warnings′ : List ℕ) (d : Places)
+    (st : DeclaringState) (r : Declared) : Type 0 where
   pub reads : ℕ → ℕ
   pub new : List Warning
   pub is : (k : ℕ) (ws : List Warning) → DeclaredAs main supplementary w′ d ws (reads k) new (f (declaringAt main supplementary w d st ws k)) r

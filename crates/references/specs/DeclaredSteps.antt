@@ -55,7 +55,8 @@ absoluteGiven (Number.Is n) = done n
 
 -- ---- the table's number for one of a unit's
 
-pub record Numbered (main supplementary w w′ : List ℕ) (d : Places) (st : DeclaringState) (is : FileIndices) (n : FileNumber) (r : FoundIndex) : Type 0 where
+pub record Numbered (main supplementary w w′ : List ℕ) (d : Places) (st : DeclaringState) (is : FileIndices) (n : FileNumber)
+    (r : FoundIndex) : Type 0 where
   pub is-number : numberOf r ≡ get is (n .0)
   pub same : tableOf main supplementary w′ (st .table) ≡ tableOf main supplementary w (st .table)
   pub holds : FilesIn main supplementary w′ (st .table)
@@ -81,8 +82,8 @@ pub record Warns (s : List ℕ) (q p kind number : ℕ) (warnings warnings′ : 
 
 -- ---- an entry's own declaration: it adds no files
 
-pub record Owns (f : Declaring → Outcome Declaring) (main supplementary w w′ warnings warnings′ : List ℕ) (d : Places) (st : DeclaringState) (r : Declared)
-    : Type 0 where
+pub record Owns (f : Declaring → Outcome Declaring) (main supplementary w w′ warnings warnings′ : List ℕ) (d : Places) (st : DeclaringState)
+    (r : Declared) : Type 0 where
   pub declares : (files : List ℕ) → length files < top → (a : ℕ) → a ≤ st .count + 1
       → DeclaresCounted (λ s. after (s .trail) (f s)) main supplementary w w′ files files warnings warnings′ d st a a r
 
@@ -123,7 +124,10 @@ pub record AimOutside (main supplementary w : List ℕ) (x : Tables) (n : ℕ) (
 -- or leads to an entry
 pub record AimEntry (main supplementary w : List ℕ) (x : Tables) (n : ℕ) (at : OffsetAt) (next : EntryAt) : Type 0 where
   pub is : (k : ℕ) → followOffset main supplementary at (trailAt w (keysFrom x) n k)
-      ≡ done (record { trail = visitEntry (trailAt w (keysFrom x) n k) (keyIn (at .source) (at .target)); target = byOffset (placeAt main supplementary next) })
+      ≡ done (record {
+        trail = visitEntry (trailAt w (keysFrom x) n k) (keyIn (at .source) (at .target));
+        target = byOffset (placeAt main supplementary next);
+      })
   pub new : exists (sameKey (keyIn (at .source) (at .target))) (keysAt w (keysFrom x) n) ≡ false
   pub stands : Stands main supplementary next
   pub depth : next .depth ≡ at .depth

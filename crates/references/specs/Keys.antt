@@ -60,7 +60,8 @@ offsetAt w x i = keyOf (chunk w (keysFrom x + i * 13) 9) .offset
 -- each chain has all keys of its own among the n, the newest first
 pub record Chained (w : List ℕ) (x : Tables) (n : ℕ) : Type 0 where
   pub heads : (c : ℕ) → c < chainCount x → leAt 4 w (x .keys + c * 4) ≡ headOf (chainCount x) c (keysAt w (keysFrom x) n)
-  pub links : (i : ℕ) → i < n → leAt 4 w (keysFrom x + i * 13 + 9) ≡ headOf (chainCount x) (chainOf (chainCount x) (offsetAt w x i)) (keysAt w (keysFrom x) i)
+  pub links : (i : ℕ) → i < n → leAt 4 w (keysFrom x + i * 13 + 9)
+      ≡ headOf (chainCount x) (chainOf (chainCount x) (offsetAt w x i)) (keysAt w (keysFrom x) i)
 
 -- n keys stand in w, with room for m more
 pub record TrailIn (w : List ℕ) (x : Tables) (n m : ℕ) : Type 0 where
@@ -94,7 +95,8 @@ mainKeys u (a ∷ later) =
 unfoldable pub supplementaryKeys : CompilationUnit → List Attribute → List DieKey
 supplementaryKeys u [] = []
 supplementaryKeys u (a ∷ later) =
-    cond (eqb (a .kind) 4) (keyIn DebugSource.Main (u .offset + a .value) ∷ keyIn DebugSource.Supplementary (u .offset + a .value) ∷ supplementaryKeys u later)
+    cond (eqb (a .kind) 4) (keyIn DebugSource.Main (u .offset + a .value) ∷ keyIn DebugSource.Supplementary (u .offset + a .value) ∷
+    supplementaryKeys u later)
     (cond (eqb (a .kind) 5) (keyIn DebugSource.Main (a .value) ∷ supplementaryKeys u later)
     (supplementaryKeys u later))
 

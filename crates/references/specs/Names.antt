@@ -92,7 +92,8 @@ followFrom main supplementary at name t =
     follow (dwarfOf main supplementary) (placeAt main supplementary at) t (attribute (placeAt main supplementary at .entry) name)
 
 -- at an entry of the same unit, which was not followed yet, with an offset of the section
-pub record EntryNext (f : Trail → Outcome Followed) (main supplementary w : List ℕ) (x : Tables) (n depth : ℕ) (next : EntryAt) (target : ℕ) : Type 0 where
+pub record EntryNext (f : Trail → Outcome Followed) (main supplementary w : List ℕ) (x : Tables) (n depth : ℕ) (next : EntryAt)
+    (target : ℕ) : Type 0 where
   pub is : (k : ℕ) → f (trailAt w (keysFrom x) n k)
       ≡ done (record { trail = visitEntry (trailAt w (keysFrom x) n k) (keyIn (next .source) target); target = sameUnit (placeAt main supplementary next) })
   pub stands : Stands main supplementary next
@@ -136,16 +137,16 @@ abbrev pub countedGiven : ℕ → Trail → List ℕ → Counted Named
 countedGiven st t r = after t (namedGiven st t r)
 
 -- a search f from the n targets of w on, a entries read, has answered with r or the status, and left n′ targets in w′, b entries read
-pub record Gives (f : Trail → Counted Named) (main supplementary : List ℕ) (x : Tables) (w : List ℕ) (n a : ℕ) (w′ : List ℕ) (n′ b st : ℕ) (r : List ℕ)
-    : Type 0 where
+pub record Gives (f : Trail → Counted Named) (main supplementary : List ℕ) (x : Tables) (w : List ℕ) (n a : ℕ) (w′ : List ℕ) (n′ b st : ℕ)
+    (r : List ℕ) : Type 0 where
   pub is : f (trailAt w (keysFrom x) n a) ≡ countedGiven st (trailAt w′ (keysFrom x) n′ b) r
   pub few : b ≤ n′ + 1
   pub ready : SearchIn main supplementary w′ x n′
   pub rest : Kept w w′ (x .keys) (keysExtent main supplementary x)
 
 -- resolve_absolute_name: the name at an offset of the section; k is the limit less the depth
-unfoldable pub resolveAbsoluteName : ℕ → Dwarf → Rattle.references.specs.Search.DebugSource → Rattle.references.specs.Search.DebugSource → ℕ
-    → Trail → Counted Named
+unfoldable pub resolveAbsoluteName : ℕ → Dwarf → Rattle.references.specs.Search.DebugSource → Rattle.references.specs.Search.DebugSource
+    → ℕ → Trail → Counted Named
 resolveAbsoluteName k d input source target t =
     after t (followAbsolute d input source t target) >>> λ f. countedNameAt (countedName k d) (f .trail) (f .target)
 

@@ -11,7 +11,8 @@ use Rattle.tlv.specs.Lists.{Any, filter, isNone, isEmpty}
 use Rattle.tlv.specs.Model.{CompilationUnit, Entry, Attribute}
 use Rattle.tlv.specs.Output.{Warning}
 use Rattle.lines.specs.Files.{FileTable, FileIndices}
-use Rattle.references.specs.Search.{Dwarf, Place, Trail, emptyTrail, attribute, Target, nothing, sameUnit, byOffset, follow, originAttributes, chainLimit}
+use Rattle.references.specs.Search.{Dwarf, Place, Trail, emptyTrail, attribute, Target}
+use Rattle.references.specs.Search.{nothing, sameUnit, byOffset, follow, originAttributes, chainLimit}
 use Rattle.references.specs.Search.{nameAttributes, ownName, Named, nameAtTarget, resolveNameInner, placeIn}
 use Rattle.references.specs.Search.{Declaring, withTrail, withTable, ownDeclaration, unitFiles, resolveDeclaration}
 
@@ -115,7 +116,8 @@ pub record Counting (d : Dwarf) (k : ℕ) (p : Place) : Type 0 where
   pub reference : (name : ℕ) → countedReferenceName d p name .outcome ≡ resolveReferenceNamed d p name
   pub reference-reads : (name : ℕ) (r : Named) → resolveReferenceNamed d p name ≡ done r → countedReferenceName d p name .reads ≡ r .trail .reads
   pub declaration : (is : FileIndices) (s : Declaring) → countedDeclaration k d p is s .outcome ≡ resolveDeclaration k d p is s
-  pub declaration-reads : (is : FileIndices) (s r : Declaring) → resolveDeclaration k d p is s ≡ done r → countedDeclaration k d p is s .reads ≡ r .trail .reads
+  pub declaration-reads : (is : FileIndices) (s r : Declaring) → resolveDeclaration k d p is s ≡ done r
+      → countedDeclaration k d p is s .reads ≡ r .trail .reads
 
 -- a reference attribute: kinds 4 to 6, of any name
 abbrev pub isReference : Attribute → Bool

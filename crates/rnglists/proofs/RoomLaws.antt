@@ -2,32 +2,13 @@
 -- t is a third of the list section's bytes: a list gives t ranges at the most (list-few). n nodes are open, 256 at the most; the unit has N fields 1f, of which l are still to come,
 -- the entry at hand included; u ranges stand in the stack, of R fields 19, of which a are still to come.
 use mathlib.Core.Path.{_≡_, ap, _∙_}
-use mathlib.Core.Bool.{Bool, _||_}
-use borrow.Author.Tests.{lt-ltb, le-ltb}
-use lib.Dec.{ltb}
-use Rattle.tlv.specs.Buffer.{top, moved}
 use Prim.Native.Nat.{ℕ, suc, _+_, _*_, _/_, _≤_, _<_, min}
 use native.Mathlib.Nat.{mul-le-mul-left, mul-le-mul-right, mul-assoc, mul-add}
 use native.Mathlib.Omega.{arith}
 use Rattle.tlv.proofs.TestLaws.{by-less}
+use Rattle.rnglists.specs.Room.{openLists}
 
--- how many lists can stand in the stack at once: one for each open node, and the one that is read
-abbrev pub openLists : ℕ → ℕ
-openLists N = min N 257
-
--- what stands in the stack, and the fields 19 still to come, have their room
-pub list-used : (t R N u a l n : ℕ) → u + a + t * l ≤ 1 + R + t * N → u + a ≤ 1 + R + t * n → n ≤ 256 → u + a ≤ 1 + R + t * openLists N
-list-used t R N u a l n fields frames few =
-    by-less (u + a ≤ 1 + R + t * openLists N) N 257
-    (λ h. let e : openLists N ≡ N = omega arith in
-    let k : t * openLists N ≡ t * N = ap (λ (x : ℕ). t * x) e in
-    omega arith)
-    (λ h. let e : openLists N ≡ 257 = omega arith in
-    let m : t * n ≤ t * 256 = mul-le-mul-left t few in
-    let k : t * openLists N ≡ t * 257 = ap (λ (x : ℕ). t * x) e in
-    omega arith)
-
--- and another list has room beside them
+-- another list has room beside what stands in the stack, and the fields 19 still to come
 pub list-room : (t R N u a l n : ℕ) → u + a + t * l ≤ 1 + R + t * N → u + a ≤ 1 + R + t * n → 1 ≤ l → n ≤ 256 → u + a + t ≤ 1 + R + t * openLists N
 list-room t R N u a l n fields frames some few =
     by-less (u + a + t ≤ 1 + R + t * openLists N) N 257
@@ -55,25 +36,6 @@ list-bytes L N =
     let g : 8 * L * min N 256 ≡ 8 * L * 256 = ap (λ (x : ℕ). 8 * L * x) f in
     omega arith)
 
--- a frame's place fits its four bytes
-pub place-small : (L R u n : ℕ) → L ≤ 4194304 → R ≤ 65536 → n ≤ 256 → u ≤ 1 + R + L / 3 * n → u < 4294967296
-place-small L R u n a b c h =
-    let m : L / 3 * n ≤ L / 3 * 256 = mul-le-mul-left (L / 3) c in
-    omega arith
-
 -- what an entry with a list leaves for those behind it
 pub list-left : (t R N u a l k : ℕ) → u + a + t * suc l ≤ 1 + R + t * N → k ≤ t → u + k + a + t * l ≤ 1 + R + t * N
 list-left t R N u a l k h few = let m : t * suc l ≡ t * l + t * 1 = ap (λ (x : ℕ). t * x) (omega arith) ∙ mul-add t l 1 in omega arith
-
--- ---- a records length past 2^64 - 1, told beside the saturated place
-
--- laying n bytes from a place on passes the largest place
-abbrev pub isPast : ℕ → ℕ → Bool
-isPast at n = ltb top (at + n)
-
--- of two lays, one after the other: the first passes it, or the second does from where the first ends
-pub past-then : (at m n : ℕ) → at ≤ top → isPast at (m + n) ≡ (isPast at m || isPast (moved at m) n)
-past-then at m n h =
-    by-less (isPast at (m + n) ≡ (isPast at m || isPast (moved at m) n)) top (at + m)
-    (λ l. rw (lt-ltb top (at + m) l, lt-ltb top (at + (m + n)) (omega arith)))
-    (λ l. let e : moved at m ≡ at + m = omega arith in let f : at + m + n ≡ at + (m + n) = omega arith in rw (le-ltb top (at + m) l, e, f))

@@ -3,3 +3,4 @@ pub mod RangeLists
 pub mod Conforms
 pub mod Cases
 pub mod Steps
+pub mod Room

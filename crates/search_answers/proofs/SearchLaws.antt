@@ -12,13 +12,13 @@ use Rattle.tlv.specs.Checked.{Accepts}
 use Rattle.tlv.specs.Places.{unitPlaces}
 use Rattle.tlv.specs.Lists.{Any}
 use Rattle.tlv.specs.Table.{Kept, KeptBut, Clear}
-use Rattle.tlv.specs.Index.{indexedOf, Indexed}
+use Rattle.tlv.specs.Index.{Indexed}
 use Rattle.tlv.specs.Limits.{joinedLimit}
 use Rattle.tlv.specs.Units.{unitOf24, IndexedUnits}
 use Rattle.tlv.proofs.IndexLaws.{index-length}
 use Rattle.tlv.proofs.UnitsOrder.{unit-places-length}
 use Rattle.tlv.proofs.TableLaws.{kept-trans, kept-wide, but-of, but-one, here}
-use Rattle.tlv.proofs.RecordLaws.{records-kept, records-but}
+use Rattle.tlv.proofs.RecordLaws.{records-kept}
 use Rattle.files.specs.Store.{FilesIn, Empty}
 use Rattle.files.specs.declared.store.StoredFiles.{StoredFiles}
 use Rattle.files.proofs.FewLaws.{tags-few, possible-few, directories-few, files-few-in}
@@ -31,6 +31,8 @@ use Rattle.references.specs.Tables.{IndexIn, EntryKnown, Leads}
 use Rattle.references.specs.Names.{Resolved}
 use Rattle.references.specs.Declarations.{DeclaringIn, Declares, searched}
 use Rattle.references.proofs.KeyLaws.{keys-in-none}
+use Rattle.references.proofs.FollowLaws.{index-kept}
+use Rattle.references.proofs.DeclareFrames.{index-clear}
 use Rattle.references.proofs.FewKeys.{keys-few}
 use Rattle.search_answers.specs.Searches.{Room, HasRoom, IndexedSheet, mapExtent, SearchesIn}
 
@@ -69,22 +71,6 @@ sheet-indexed {s} {w} {w₁} {w₂} {base} {n} {a} {b} e h A B =
     }
 
 -- ---- the tables of both
-
--- writes that lie clear of the tables of a sheet
-index-but : {s w w′ : List ℕ} {x : Index} {rs : List (ℕ × ℕ)} → IndexIn s w x → KeptBut w w′ rs → Clear (x .units) (x .«unit_count» * 24) rs → Clear (x .entries) (x .«entry_count» * 16) rs
-    → length w′ ≡ length w → IndexIn s w′ x
-index-but {x = x} I K units-clear entries-clear size = record {
-  number = I .number;
-  accepted = I .accepted;
-  units = records-but unitOf24 24 (x .units) (x .«unit_count») K units-clear ∙ I .units;
-  entries = records-but indexedOf 16 (x .entries) (x .«entry_count») K entries-clear ∙ I .entries;
-  units-within = omega (arith, I .units-within);
-  entries-within = omega (arith, I .entries-within);
-}
-
--- a write above them
-index-kept : {s w w′ : List ℕ} {x : Index} {p m : ℕ} → IndexIn s w x → Kept w w′ p m → x .units + 24 * x .«unit_count» ≤ p → x .entries + 16 * x .«entry_count» ≤ p → length w′ ≡ length w → IndexIn s w′ x
-index-kept I K below-units below-entries size = index-but I (but-one K) (inl (omega arith), tt) (inl (omega arith), tt) size
 
 -- a unit's directories and files are no more than the fields of its sheet
 map-fits : (s : List ℕ) (n k : ℕ) → Accepts s n → n ≤ k → (q : ℕ) → Any (λ p. p ≡ q) (unitPlaces 0 (fields s)) → mapExtent s q ≤ k * 8 + 5
@@ -174,8 +160,8 @@ module _ {s t w : List ℕ} {d : Places} {files : ℕ} (S : SearchesIn s t w d f
     searched-still K size =
         let T = S .search-tables in
         ready
-        (index-but (T .main-index) K (clear _ _ (S .main-units) (omega (arith, T .main-units))) (clear _ _ (S .main-entries) (omega (arith, T .main-entries))) size)
-        (index-but (T .supplementary-index) K (clear _ _ (S .supplementary-units) (omega (arith, T .supplementary-units)))
+        (index-clear (T .main-index) K (clear _ _ (S .main-units) (omega (arith, T .main-units))) (clear _ _ (S .main-entries) (omega (arith, T .main-entries))) size)
+        (index-clear (T .supplementary-index) K (clear _ _ (S .supplementary-units) (omega (arith, T .supplementary-units)))
         (clear _ _ (S .supplementary-entries) (omega (arith, T .supplementary-entries))) size)
         size
 

@@ -11,8 +11,6 @@ use Rattle.tlv.specs.Lists.{at, Any}
 use Rattle.tlv.specs.Fields.{fields}
 use Rattle.tlv.specs.Model.{rangeOf as addressesOf}
 use Rattle.tlv.specs.Table.{Kept, Clear, KeptBut}
-use Rattle.tlv.specs.Index.{indexedOf}
-use Rattle.tlv.specs.Units.{unitOf24}
 use Rattle.tlv.specs.Places.{unitHere, unitPlaces}
 use Rattle.tlv.proofs.TableLaws.{here, there, but-of}
 use Rattle.tlv.proofs.RecordLaws.{records-but}
@@ -25,6 +23,7 @@ use Rattle.collect.specs.Collects.{UnitIn, linesIn}
 use Rattle.references.specs.declared.tables.Index.{Index}
 use Rattle.references.specs.Tables.{IndexIn}
 use Rattle.references.proofs.KeyLaws.{keys-in-none}
+use Rattle.references.proofs.DeclareFrames.{index-clear}
 use Rattle.dies.specs.Details.{dwarfWith}
 use Rattle.dies.specs.RangeTable.{rangesAt}
 use Rattle.subprograms.specs.declared.model.ImportContext.{ImportContext}
@@ -106,14 +105,7 @@ module _ {main supplementary w w′ : List ℕ} {q : ImportContext} {t : StoredF
   -- an input's units and entries
   index-same : {s : List ℕ} {x : Index} → x .units + 24 * x .«unit_count» ≤ t .base → x .entries + 16 * x .«entry_count» ≤ t .base → length w′ ≡ length w
       → IndexIn s w x → IndexIn s w′ x
-  index-same {s} {x} to-units to-entries size I = record {
-    number = I .number;
-    accepted = I .accepted;
-    units = records-but unitOf24 24 (x .units) (x .«unit_count») K (below-table (C .ordered) _ _ (omega arith)) ∙ I .units;
-    entries = records-but indexedOf 16 (x .entries) (x .«entry_count») K (below-table (C .ordered) _ _ (omega arith)) ∙ I .entries;
-    units-within = rw size (I .units-within);
-    entries-within = rw size (I .entries-within);
-  }
+  index-same to-units to-entries size I = index-clear I K (below-table (C .ordered) _ _ (omega arith)) (below-table (C .ordered) _ _ (omega arith)) size
 
   lines-same : linesOf w′ (q .lines .lines) (q .lines .«line_count») ≡ linesOf w (q .lines .lines) (q .lines .«line_count»)
   unfolding linesOf

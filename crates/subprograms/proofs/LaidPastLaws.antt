@@ -16,14 +16,10 @@ use Rattle.tlv.specs.Output.{functionPayload, rowPayload, eachOf}
 use Rattle.tlv.proofs.TestLaws.{by-less}
 use Rattle.tlv.proofs.ByteLaws.{length-bytesOf}
 use Rattle.dies.specs.Past.{isPast}
-use Rattle.dies.proofs.PastLaws.{past-append}
+use Rattle.dies.proofs.PastLaws.{past-append, encode-length}
 use Rattle.subprograms.specs.Steps.{linesBytes}
 
 -- ---- the bytes of a head and of rows
-
-encode-length : (tag : ℕ) (p : List ℕ) → length (encode tag p) ≡ 3 + length p
-unfolding encode
-encode-length tag p = omega (arith, length-append (bytesOf 2 (length p)) p, length-bytesOf 2 (length p))
 
 pub head-length : (r : AddressRange) (name : List ℕ) → length (encode 0x41 (functionPayload r name)) ≡ 19 + length name
 unfolding functionPayload

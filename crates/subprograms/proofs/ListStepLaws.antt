@@ -36,12 +36,12 @@ use Rattle.imports.specs.Tree.{dieRanges}
 use Rattle.imports.specs.Import.{State, rejected, importRanges, importByFailure}
 use Rattle.imports.specs.Import as import
 use Rattle.dies.specs.Details.{EntriesKnown, dwarfWith}
-use Rattle.dies.specs.RangeTable.{listAt, ownLists}
+use Rattle.dies.specs.RangeTable.{listAt, listOf, ownLists}
 use Rattle.dies.proofs.EntryWalkLaws.{lists-entry, lists-most}
 use Rattle.subprograms.specs.declared.model.ImportState.{ImportState}
 use Rattle.subprograms.specs.declared.model.ImportContext.{ImportContext}
 use Rattle.subprograms.specs.Contexts.{ContextIn, contextWith, touched}
-use Rattle.subprograms.specs.Steps.{Imports, RejectsList, importOne, importFailing, importListed, listOf, belowEntry}
+use Rattle.subprograms.specs.Steps.{Imports, RejectsList, importOne, importFailing, importListed, belowEntry}
 use Rattle.subprograms.proofs.ContextLaws.{context-same}
 use Rattle.subprograms.proofs.StepLaws.{imports-none, imports-then, imports-refused, imports-as, imports-rejected, imports-at, imports-context}
 use Rattle.subprograms.proofs.RangesLaws.{RangeOne, ranges-step, ranges-none, start-placed, reason-put}

@@ -2,7 +2,7 @@
 use mathlib.Core.Path.{_≡_}
 use mathlib.Core.List.{List, [], _∷_}
 use mathlib.Core.Bool.{false}
-use Prim.Native.Nat.{ℕ, _+_, _-_, _*_, _≤_, min}
+use Prim.Native.Nat.{ℕ, _+_, _-_, _*_, _≤_}
 use lib.ListN.{length}
 use Rattle.tlv.specs.Lists.{Any}
 use Rattle.tlv.specs.Fields.{fields}
@@ -16,6 +16,7 @@ use Rattle.collect.specs.Collects.{UnitIn, linesIn}
 use Rattle.references.specs.Names.{SearchIn}
 use Rattle.references.specs.Keys.{keysExtent}
 use Rattle.imports.specs.Import as import
+use Rattle.rnglists.specs.Room.{openLists}
 use Rattle.dies.specs.Details.{rangeCount, entryCount, dwarfWith}
 use Rattle.dies.specs.RangeTable.{rangesAt}
 use Rattle.subprograms.specs.declared.model.ImportContext.{ImportContext}
@@ -47,7 +48,7 @@ abbrev pub unitLists : List ℕ → ImportContext → ℕ
 unitLists main q = unitHere main (q .unit) .lists
 
 unfoldable pub unitListRoom : List ℕ → ImportContext → ℕ
-unitListRoom main q = q .third * min (unitLists main q) 257
+unitListRoom main q = q .third * openLists (unitLists main q)
 
 -- the tables stand in order: the units and entries of both inputs, the file table t, the unit's map, its rows, its sequences, the rows of a function, the
 -- executable ranges, the room for a unit that is reached, the ranges of open nodes, open and closed call sites, followed targets

@@ -28,7 +28,6 @@ use Rattle.imports.specs.Import.{importRange, importRanges, importSubprogram, i
 use Rattle.dies.specs.declared.dies.Details.{Details}
 use Rattle.dies.specs.declared.calls.Warned.{Warned}
 use Rattle.dies.specs.Details.{entriesFrom, detailBytes}
-use Rattle.dies.specs.RangeTable.{listAt}
 use Rattle.dies.specs.Past.{isPast}
 use Rattle.subprograms.specs.declared.model.ImportState.{ImportState}
 use Rattle.subprograms.specs.declared.model.ImportContext.{ImportContext as Context}
@@ -82,7 +81,8 @@ pub record FindsLines (F : FileTable → List Warning → Outcome FunctionLines)
   pub grown : r .status ≡ 0 → Grown main supplementary w w′ f f′ (st .table) (r .table)
   pub kept : r .status ≡ 0 → KeptBut w w′ (touched main supplementary q (st .table))
   pub ok : r .status ≡ 0 → (ws : List Warning)
-      → F (tableOf main supplementary w (st .table)) ws ≡ done (record { rows = rows; table = tableOf main supplementary w′ (r .table); warnings = ws ++ new })
+      → F (tableOf main supplementary w (st .table)) ws
+      ≡ done (record { rows = rows; table = tableOf main supplementary w′ (r .table); warnings = ws ++ new })
   pub no : (r .status ≡ 0 → ⊥) → (ws : List Warning) → F (tableOf main supplementary w (st .table)) ws ≡ refused (r .status)
 
 -- ---- nodes and call sites of a record
@@ -127,8 +127,8 @@ stateOf main supplementary w st rs ws = record {
 }
 
 -- what the definition does by F is done in memory: new records, files and warnings are laid, and the rest of the state stands in w′; or it is refused
-pub record Imports (F : State → Outcome State) (main supplementary : List ℕ) (q : Context) (w t f u : List ℕ) (st : ImportState) (w′ t′ f′ u′ : List ℕ)
-    (r : ImportState) : Type 0 where
+pub record Imports (F : State → Outcome State) (main supplementary : List ℕ) (q : Context) (w t f u : List ℕ) (st : ImportState)
+    (w′ t′ f′ u′ : List ℕ) (r : ImportState) : Type 0 where
   pub records : List Function
   pub new : List Warning
   pub laid : r .status ≡ 0 → Put (st .at) (recordsBytes records) t t′ (r .at)
@@ -176,10 +176,6 @@ importFailing q e below name rs (some f) s =
 -- of a list, whose fault is a failure of stage 1
 abbrev pub importListed : ImportContext → Entry → List Entry → List ℕ → ListRanges → State → Outcome State
 importListed q e below name l s = importFailing q e below name (l .given) (failureBy (l .fault)) s
-
--- the list of the field 1f whose payload is at `start`
-abbrev pub listOf : List ℕ → List ℕ → List ℕ → ℕ → ListRanges
-listOf main lists addresses start = listAt lists addresses (leAt 8 main (start + 16)) (leAt 1 main (start + 24)) (leAt 8 main start) (leAt 8 main (start + 8))
 
 -- one entry of importUnitDetails
 unfoldable pub importEntry : ImportContext → Entry → List Entry → State → Outcome State

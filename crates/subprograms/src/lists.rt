@@ -9,6 +9,7 @@ ghost use Rattle.tlv.specs.Tags.{listTag, trayWarningTag};
 ghost use Rattle.tlv.specs.Bytes.{leAt};
 ghost use Rattle.tlv.specs.Buffer.{Put, top};
 ghost use Rattle.tlv.specs.Fields.{encode};
+ghost use Rattle.tlv.specs.Grammar.{listSizeAt, listFieldSize};
 ghost use Rattle.tlv.specs.Checked.{Placed};
 ghost use Rattle.tlv.specs.Access.{NextOwn};
 ghost use Rattle.tlv.specs.Places.{entryHere};
@@ -16,9 +17,9 @@ ghost use Rattle.tlv.specs.Output.{warningPayload, malformedRanges};
 ghost use Rattle.rnglists.specs.RangeLists.{decimal};
 ghost use Rattle.references.specs.Tables.{EntryKnown};
 ghost use Rattle.dies.specs.Details.{EntriesKnown};
-ghost use Rattle.dies.specs.RangeTable.{ownLists};
+ghost use Rattle.dies.specs.RangeTable.{ownLists, listOf};
 ghost use Rattle.subprograms.specs.Contexts.{ContextIn, contextWith};
-ghost use Rattle.subprograms.specs.Steps.{RejectsList, belowEntry, listOf, importListed, Imports};
+ghost use Rattle.subprograms.specs.Steps.{RejectsList, belowEntry, importListed, Imports};
 use crate::candidates::import_candidate;
 use crate::candidates::next_entry;
 use crate::candidates::reject;
@@ -27,6 +28,9 @@ use crate::model::ImportState;
 use rnglists::lists::NextRange;
 use tlv::access::Own;
 use tlv::model::AddressRange;
+use tlv::shapes::LIST_ADDRESSES;
+use tlv::shapes::LIST_BASE;
+use tlv::shapes::LIST_SIZE;
 use tlv::tags::ENTRY_WHOLE;
 use tlv::tags::LIST_TAG;
 
@@ -42,7 +46,8 @@ fn flag_of(dead: bool) -> u8
 
 // The warning of a list's fault, whose reason is its number in decimal.
 fn put_fault(warnings: &mut [u8], at: usize, n: u8) -> usize
-    ensures { λ r. ⌜ Put at (encode trayWarningTag (warningPayload (malformedRanges true (decimal n)))) (now (warnings .entry)) (now (warnings .exit)) r ⌝ }
+    ensures { λ r. ⌜ Put at (encode trayWarningTag (warningPayload (malformedRanges true (decimal n)))) (now (warnings .entry))
+        (now (warnings .exit)) r ⌝ }
 {
     if n < 10 {
         let digit = [48 + n];
@@ -81,8 +86,8 @@ pub fn import_list<'a>(
     requires { ⌜ (Placed (now main) (p + 15)) × EntriesKnown (now main) (q .unit) (p + 15) ⌝ }
     requires { ⌜ 16 + length (now name) < 65536 ⌝ }
     requires { ⌜ length (now lists) / 3 ≡ q .third ⌝ }
-    requires { ⌜ start + 25 ≤ length (now main) ⌝ }
-    requires { ⌜ (leAt 1 (now main) (start + 24) ≡ 4) ⊎ (leAt 1 (now main) (start + 24) ≡ 8) ⌝ }
+    requires { ⌜ start + listFieldSize ≤ length (now main) ⌝ }
+    requires { ⌜ (leAt 1 (now main) (start + listSizeAt) ≡ 4) ⊎ (leAt 1 (now main) (start + listSizeAt) ≡ 8) ⌝ }
     requires { ⌜ (st .status ≡ 0) × (st .at ≤ top) × (st .warned ≤ top) ⌝ }
     ensures { λ r. ⌜ Imports (importListed (contextWith (now (main .entry)) (now (supplementary .entry)) (now (lists .entry)) (now (addresses .entry))
         (now (work .entry)) q) (entryHere (now (main .entry)) p) (belowEntry (now (main .entry)) p) (now (name .entry))
@@ -90,12 +95,12 @@ pub fn import_list<'a>(
         (now (work .entry)) (now (records .entry)) (now (files .entry)) (now (warnings .entry)) st (now (work .exit)) (now (records .exit))
         (now (files .exit)) (now (warnings .exit)) r ⌝ }
 {
-    let place = tlv::bytes::read_u64(main, start + 16);
-    let size = tlv::bytes::read_u8(main, start + 24);
+    let place = tlv::bytes::read_u64(main, start + LIST_ADDRESSES);
+    let size = tlv::bytes::read_u8(main, start + LIST_SIZE);
     let below = next_entry(main, p + ENTRY_WHOLE);
     let mut r = st;
     let mut at = tlv::bytes::read_u64(main, start) as usize;
-    let mut base = tlv::bytes::read_u64(main, start + 8);
+    let mut base = tlv::bytes::read_u64(main, start + LIST_BASE);
     loop {
         match rnglists::lists::next_range(lists, addresses, place, size, at, base) {
             NextRange::End => {

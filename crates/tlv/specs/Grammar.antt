@@ -154,8 +154,23 @@ failureShaped previous p = leb 1 (length p) && isFlag (leAt 1 p 0) && (eqb (leAt
 
 -- 1f range list (document 02, E9), "in place of 19 and 1a": list offset, unit base address, byte place of the unit's addresses in the table,
 -- address size (1 byte, 4 or 8). "In version 5 units (1f is misshapen in others)": the version of field 10
+abbrev pub listBaseAt : ℕ
+listBaseAt = 8
+
+abbrev pub listAddressesAt : ℕ
+listAddressesAt = listBaseAt + 8
+
+abbrev pub listSizeAt : ℕ
+listSizeAt = listAddressesAt + 8
+
+abbrev pub listFieldSize : ℕ
+listFieldSize = listSizeAt + 1
+
+abbrev pub listVersion : ℕ
+listVersion = 5
+
 unfoldable pub listShaped : Context → List ℕ → Bool
-listShaped c p = eqb (length p) 25 && eqb (c .version) 5 && isWord (leAt 1 p 24)
+listShaped c p = eqb (length p) listFieldSize && eqb (c .version) listVersion && isWord (leAt 1 p listSizeAt)
 
 -- the payload of a field of tag t
 unfoldable pub payloadShaped : Context → ℕ → List ℕ → Bool

@@ -11,7 +11,7 @@ use Rattle.tlv.specs.declared.model.AddressRange.{AddressRange}
 use Rattle.tlv.specs.Lists.{mapOption}
 use Rattle.tlv.specs.Bytes.{leAt}
 use Rattle.tlv.specs.Fields.{Group, grouped, payloads, payloadOf, fields, wholeFields}
-use Rattle.tlv.specs.Grammar.{encodingFlagAt, partLengthAt, rowLineAt, rowColumnAt, rowKindAt}
+use Rattle.tlv.specs.Grammar.{encodingFlagAt, partLengthAt, rowLineAt, rowColumnAt, rowKindAt, listBaseAt, listAddressesAt, listSizeAt}
 
 -- an attribute: its name, its kind, the number that its value spells, and its value's bytes
 pub record Attribute : Type 0 where
@@ -162,7 +162,7 @@ failureOf p = record { stage = leAt 1 p 0; reason = drop 1 p }
 
 -- 1f
 unfoldable pub rangeListOf : List ℕ → RangeList
-rangeListOf p = record { offset = leAt 8 p 0; base = leAt 8 p 8; addresses = leAt 8 p 16; size = leAt 1 p 24 }
+rangeListOf p = record { offset = leAt 8 p 0; base = leAt 8 p listBaseAt; addresses = leAt 8 p listAddressesAt; size = leAt 1 p listSizeAt }
 
 -- 17 and what follows it
 unfoldable pub entryOf : Group → Entry

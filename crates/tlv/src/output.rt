@@ -205,7 +205,8 @@ pub fn put_node(
 ) -> usize
     requires { ⌜ 10 + length (now name) < 65536 ⌝ }
     ensures { λ r. ⌜ Put at (encode trayNodeTag (nodePayload (record
-        { depth = depth; callFile = «call_file»; callLine = «call_line»; name = now (name .entry); ranges = [] }))) (now (buffer .entry)) (now (buffer .exit))
+        { depth = depth; callFile = «call_file»; callLine = «call_line»; name = now (name .entry); ranges = [] }))) (now (buffer .entry))
+        (now (buffer .exit))
         r ⌝ }
 {
     let headed = put_head(buffer, at, TRAY_NODE_TAG, (10 + name.len()) as u16);

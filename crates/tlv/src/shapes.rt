@@ -21,6 +21,18 @@ pub const PART_LENGTH: usize = 8;
 
 pub const PART_FIELD: usize = PART_LENGTH + 8;
 
+// The field of a range list: where the base address, the place of the unit's addresses and the address size stand in its payload, the payload's length, and
+// the only version of a unit that has it.
+pub const LIST_BASE: usize = 8;
+
+pub const LIST_ADDRESSES: usize = LIST_BASE + 8;
+
+pub const LIST_SIZE: usize = LIST_ADDRESSES + 8;
+
+const LIST_FIELD: usize = LIST_SIZE + 1;
+
+const LIST_VERSION: u8 = 5;
+
 // Where a row field's line, column and kind stand in its payload: the kind at its end.
 pub const ROW_LINE: usize = 16;
 
@@ -195,9 +207,9 @@ pub fn list_shaped(c: Context, s: &[u8], start: usize, len: usize) -> bool
     requires { ⌜ start + len ≤ length (now s) ⌝ }
     ensures { λ r. ⌜ r ≡ listShaped c (take len (drop start (now (s .entry)))) ⌝ }
 {
-    if len != 25 {
+    if len != LIST_FIELD {
         return false;
     }
-    let size = read_u8(s, start + 24);
-    (c.version == 5) & ((size == 4) | (size == 8))
+    let size = read_u8(s, start + LIST_SIZE);
+    (c.version == LIST_VERSION) & ((size == 4) | (size == 8))
 }
