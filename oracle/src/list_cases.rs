@@ -7,7 +7,7 @@ use crate::compose::*;
 use crate::generate::{self, joined, split};
 use crate::list_shown;
 use crate::lists::{Builder, edge_entry, largest};
-use crate::program_cases::half;
+use crate::program_cases::{ask, half};
 use crate::random::Random;
 use crate::whole_cases::{fit, rich};
 
@@ -47,13 +47,7 @@ fn case(seed: u64, number: u64) -> Case {
         2 | 8 | 9 | 17 | 18 => cut(random, &mut case),
         _ => {}
     }
-    case.all = kind < 6 && random.chance(60);
-    let units = split(&case.main).iter().filter(|field| field.0 == UNIT).count() as u64;
-    case.ordinal = match kind {
-        _ if case.all => random.pick(&[0, 1, LAST]),
-        0..6 => random.below(units.max(1)),
-        _ => case.ordinal,
-    };
+    ask(random, &mut case, kind < 6);
     fit(random, &mut case);
     case
 }

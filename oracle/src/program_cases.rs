@@ -32,16 +32,18 @@ fn case(seed: u64, number: u64) -> Case {
         4 | 11 | 19 => misplace(random, &mut case),
         _ => {}
     }
-    // A rich input's units have parts; of others the program is that of the unit that is asked for.
-    case.all = kind < 6 && random.chance(60);
-    let units = generate::split(&case.main).iter().filter(|field| field.0 == 0x10).count() as u64;
-    case.ordinal = match kind {
-        _ if case.all => random.pick(&[0, 1, LAST]),
-        0..6 => random.below(units.max(1)),
-        _ => case.ordinal,
-    };
+    ask(random, &mut case, kind < 6);
     fit(random, &mut case);
     case
+}
+
+/// Asks for all units of a rich input, whose units have parts, or for one of them. Another's program is that of the unit that it asks for already.
+pub fn ask(random: &mut Random, case: &mut Case, is_rich: bool) {
+    case.all = is_rich && random.chance(60);
+    if is_rich {
+        let units = generate::split(&case.main).iter().filter(|field| field.0 == 0x10).count() as u64;
+        case.ordinal = if case.all { random.pick(&[0, 1, LAST]) } else { random.below(units.max(1)) };
+    }
 }
 
 /// Half of the headers have field 1d.
