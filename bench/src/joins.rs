@@ -5,7 +5,8 @@ use std::time::Duration;
 
 use oracle::symbols::Join;
 
-use crate::{micros, ratio, timed};
+use crate::sides::timed;
+use crate::tables::{micros, ratio};
 
 const START: u64 = 0x1000;
 /// From one function's start to the next one's; a function takes half of it, so that a symbol fits behind it.

@@ -7,7 +7,7 @@ use oracle::list_forms::with_fields;
 use oracle::{Case, work_of};
 
 use crate::programs::{each, least};
-use crate::{micros, ratio};
+use crate::tables::{micros, ratio};
 
 const VERSION: u8 = 5;
 const WORD: u8 = 4;

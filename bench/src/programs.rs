@@ -8,7 +8,9 @@ use oracle::generate::split;
 use oracle::limits::longest_program;
 use oracle::{Case, work_of};
 
-use crate::{buffers, clear, micros, ours, ratio, sheets, timed};
+use crate::sheets;
+use crate::sides::{buffers, clear, ours, timed};
+use crate::tables::{micros, ratio};
 
 /// Tags of an input.
 const LINE_HEADER: u8 = 0x13;
