@@ -3,8 +3,9 @@
 
 use oracle::{Answer, Case, list_forms, work_of};
 
+use crate::import::ours;
+use crate::pass;
 use crate::units::answered;
-use crate::{ours, pass};
 
 /// What differs between the two; none where the call has no other form.
 pub fn difference(case: &Case, count: &mut u64) -> Result<Option<String>, String> {

@@ -6,8 +6,10 @@ use std::fs;
 use oracle::symbol_cases::{joins, long};
 use oracle::symbols::Join;
 
+use crate::Options;
+use crate::import::{BEHIND, FILLED, slice};
+use crate::report::put;
 use crate::wrong::Wrong;
-use crate::{BEHIND, FILLED, Options, put, slice};
 
 /// What a range takes in the work slice.
 const RANGE: usize = 16;

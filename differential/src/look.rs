@@ -6,7 +6,8 @@ use oracle::random::Random;
 use oracle::{Case, answer};
 use pezgok::look::{self, Index};
 
-use crate::{BEHIND, FILLED, pass};
+use crate::import::{BEHIND, FILLED};
+use crate::pass;
 
 /// How many queries a buffer is asked.
 const QUERIES: u64 = 40;

@@ -1,21 +1,29 @@
-//! The proved import, of a unit or of all units, against the Rust importer, call by call: refusal, lengths, statistics, bytes written, bytes past each length, bytes past each
-//! buffer, zeros after a refusal, work all zero. Before each call the pass that writes no buffer is asked, and what it says is held to the same answer.
+//! The proved import, of a unit or of all units, against the Rust importer, call by call: refusal, lengths, statistics, bytes written, bytes past
+//! each length, bytes past each buffer, zeros after a refusal, work all zero. Before each call the pass that writes no buffer is asked, and what
+//! it says is held to the same answer.
 //! An import of all units is also held to the proved imports of each unit alone.
 //! The Rust's text has the change requests' amendments; as it stands, it judges where none applies.
 
+use std::env;
 use std::path::{Path, PathBuf};
 use std::process::ExitCode;
-use std::{env, fs};
 
 use oracle::files::{Source, Target};
-use oracle::{Answer, Case, answer, generate, judged, limits, list_cases, program_cases, whole_cases, work_of};
+use oracle::{Case, answer, generate, judged, limits, list_cases, program_cases, whole_cases, work_of};
 
+mod counts;
 mod forms;
+mod import;
 mod joins;
 mod look;
 mod pass;
+mod report;
 mod units;
 mod wrong;
+
+use counts::{Counts, count, print};
+use import::{difference, ours};
+use report::{write_difference, write_inputs};
 
 const USAGE: &str = "
 differential generated SEED COUNT [OPTIONS]     generated cases, each as it is, then with other switches and with buffers at their limits
@@ -30,26 +38,6 @@ differential joins SEED COUNT [OPTIONS]         joins of symbols, each with work
 differential looks SEED COUNT                   look-ups in generated records, 40 queries each, held to the oracle's model
 differential looks-in CASES                     the same in the records of the cases of a file
 OPTIONS: --out DIR where a difference is written; --wrong NAME calls a wrong import, pass or join instead: it has to be reported";
-
-/// What stands in the buffers before a call, and behind them all the time.
-const FILLED: u8 = 0xa5;
-const BEHIND: usize = 16;
-
-/// One more than the largest refusal of an import.
-const REFUSALS: usize = 26;
-
-/// Refusals are few, kinds of warnings too.
-#[derive(Default)]
-struct Counts {
-    calls: u64,
-    believed: u64,
-    /// Imports of one unit, to hold an import of all to.
-    alone: u64,
-    /// Calls with range lists that were held to their other form.
-    forms: u64,
-    refusals: [u64; REFUSALS],
-    warnings: [u64; 12],
-}
 
 struct Options {
     out: PathBuf,
@@ -230,168 +218,4 @@ fn forms(case: &Case, place: u64) -> Vec<Case> {
         forms.push(form);
     }
     forms
-}
-
-/// A call of the proved import and all that it left behind.
-pub struct Got {
-    pub refusal: u8,
-    pub lengths: [u64; 3],
-    pub statistics: [u64; 4],
-    pub work: Vec<u8>,
-    pub buffers: [Vec<u8>; 3],
-}
-
-/// What the proved import is given of a case.
-fn inputs(case: &Case) -> pezgok::Inputs<'_> {
-    pezgok::Inputs {
-        main: &case.main,
-        supplementary: &case.supplementary,
-        program: &case.program,
-        lists: &case.lists,
-        addresses: &case.addresses,
-    }
-}
-
-fn asked(case: &Case) -> pezgok::Options {
-    pezgok::Options { ordinal: case.ordinal, inlines: case.inlines, call_sites: case.call_sites, first_file: case.first_file }
-}
-
-fn ours(case: &Case, wrong: Option<wrong::Wrong>) -> Got {
-    let lent = |length: u64| vec![FILLED; length as usize + BEHIND];
-    let mut work = lent(case.work);
-    let [mut records, mut files, mut warnings] =
-        [case.records, case.files, case.warnings].map(|length| lent(u64::from(length.min(1 << 22))));
-    let buffers =
-        pezgok::Buffers { work: slice(&mut work), records: slice(&mut records), files: slice(&mut files), warnings: slice(&mut warnings) };
-    let given = match wrong {
-        Some(wrong::Wrong::Inputs(wrong)) => wrong(inputs(case)),
-        _ => inputs(case),
-    };
-    let result = match wrong {
-        Some(wrong::Wrong::Units(import)) if case.all => import(given, asked(case), buffers),
-        _ if case.all => pezgok::import_dwarf(given, asked(case), buffers),
-        _ => pezgok::import(given, asked(case), buffers),
-    };
-    let mut got = Got { refusal: 0, lengths: [0; 3], statistics: [0; 4], work, buffers: [records, files, warnings] };
-    match result {
-        Ok(done) => {
-            got.lengths = [done.records as u64, done.files as u64, done.warnings as u64];
-            got.statistics = [done.functions, done.line_rows, done.inline_nodes, done.rejected_ranges];
-        }
-        Err(refusal) => got.refusal = refusal.number(),
-    }
-    if let Some(wrong::Wrong::Import(wrong)) = wrong {
-        wrong(&mut got);
-    }
-    got
-}
-
-fn slice(buffer: &mut [u8]) -> &mut [u8] {
-    let length = buffer.len() - BEHIND;
-    &mut buffer[..length]
-}
-
-fn difference(case: &Case, expected: &Answer, got: &Got) -> Option<String> {
-    let parts = [("records", &expected.records), ("files", &expected.files), ("warnings", &expected.warnings)];
-    if got.refusal != expected.refusal {
-        return Some(format!("refusal {} instead of {}", got.refusal, expected.refusal));
-    }
-    if got.statistics != expected.statistics {
-        return Some(format!("statistics {:?} instead of {:?}", got.statistics, expected.statistics));
-    }
-    let only = |bytes: &[u8], byte: u8| bytes.iter().all(|&b| b == byte);
-    let (work, behind) = got.work.split_at(got.work.len() - BEHIND);
-    if !only(work, 0) || work.len() as u64 != case.work {
-        return Some("work is not all zero".into());
-    }
-    if !only(behind, FILLED) {
-        return Some("bytes behind work".into());
-    }
-    for (k, (name, bytes)) in parts.into_iter().enumerate() {
-        let (buffer, behind) = got.buffers[k].split_at(got.buffers[k].len() - BEHIND);
-        if got.lengths[k] != bytes.len() as u64 {
-            return Some(format!("{} bytes of {name} instead of {}", got.lengths[k], bytes.len()));
-        }
-        if !only(behind, FILLED) {
-            return Some(format!("bytes behind the buffer of {name}"));
-        }
-        let (written, past) = buffer.split_at(bytes.len());
-        if written != &bytes[..] {
-            return Some(format!("bytes of {name}"));
-        }
-        if !only(past, if expected.refusal == 0 { FILLED } else { 0 }) {
-            return Some(format!("bytes past the length of {name}"));
-        }
-    }
-    None
-}
-
-fn count(counts: &mut Counts, expected: &Answer) {
-    counts.refusals[usize::from(expected.refusal)] += 1;
-    let mut rest = &expected.warnings[..];
-    while let [_, low, high, kind, ..] = *rest {
-        counts.warnings[usize::from(kind)] += 1;
-        rest = &rest[3 + usize::from(u16::from_le_bytes([low, high]))..];
-    }
-}
-
-fn print(counts: &Counts) {
-    println!("{} calls, 0 differences; {} of them with buffers as long as the pass says, or a byte shorter", counts.calls, counts.believed);
-    if counts.alone > 0 {
-        println!("{} imports of one unit, which imports of all units are held to", counts.alone);
-    }
-    if counts.forms > 0 {
-        println!("{} calls with range lists held to those with fields in their place", counts.forms);
-    }
-    println!("finished {}", counts.refusals[0]);
-    // 19 and 20 are none of an import's.
-    for (number, count) in counts.refusals.iter().enumerate().skip(1).filter(|refusal| !matches!(refusal.0, 19 | 20)) {
-        println!("refused {number}: {count}");
-    }
-    for (kind, count) in counts.warnings.iter().enumerate().skip(1) {
-        println!("warning {kind}: {count}");
-    }
-}
-
-fn put(folder: &Path, name: &str, bytes: &[u8]) -> Result<(), String> {
-    fs::write(folder.join(name), bytes).map_err(|error| format!("{name}: {error}"))
-}
-
-fn write_inputs(folder: &Path, case: &Case) -> Result<(), String> {
-    fs::create_dir_all(folder).map_err(|error| format!("{}: {error}", folder.display()))?;
-    put(folder, "unit.main", &case.main)?;
-    put(folder, "unit.sup", &case.supplementary)?;
-    put(folder, "unit.line", &case.program)?;
-    put(folder, "unit.lists", &case.lists)?;
-    put(folder, "unit.addresses", &case.addresses)
-}
-
-fn write_difference(folder: &Path, case: &Case, expected: &Answer, got: &Got) -> Result<(), String> {
-    write_inputs(folder, case)?;
-    for (name, bytes, buffer) in [
-        ("records", &expected.records, &got.buffers[0]),
-        ("files", &expected.files, &got.buffers[1]),
-        ("warnings", &expected.warnings, &got.buffers[2]),
-    ] {
-        put(folder, &format!("{name}.expected"), bytes)?;
-        put(folder, &format!("{name}.got"), &buffer[..buffer.len() - BEHIND])?;
-    }
-    let asked = format!(
-        "all units {}, ordinal {}, inlines {}, call sites {}, first file {}, work {}, records {}, files {}, warnings {}\nexpected: refusal {}, statistics {:?}\ngot: refusal {}, lengths {:?}, statistics {:?}\n",
-        case.all,
-        case.ordinal,
-        case.inlines,
-        case.call_sites,
-        case.first_file,
-        case.work,
-        case.records,
-        case.files,
-        case.warnings,
-        expected.refusal,
-        expected.statistics,
-        got.refusal,
-        got.lengths,
-        got.statistics
-    );
-    put(folder, "answers", asked.as_bytes())
 }

@@ -2,8 +2,8 @@
 
 use oracle::{Answer, Case, answer};
 
+use crate::import::{self, BEHIND, FILLED, inputs, slice};
 use crate::wrong::Wrong;
-use crate::{BEHIND, FILLED, inputs, slice};
 
 /// What the pass said, and the work slice after it.
 pub struct Said {
@@ -16,7 +16,7 @@ pub struct Said {
 pub fn asked(case: &Case, wrong: Option<Wrong>) -> Said {
     let mut work = vec![FILLED; case.work as usize + BEHIND];
     let measure = if case.all { pezgok::measure_dwarf } else { pezgok::measure };
-    let result = measure(inputs(case), crate::asked(case), slice(&mut work));
+    let result = measure(inputs(case), import::asked(case), slice(&mut work));
     let mut said = Said { refusal: 0, lengths: [0; 3], statistics: [0; 4], work };
     match result {
         Ok(done) => {

@@ -2,8 +2,9 @@
 
 use oracle::{Answer, Case, joined};
 
+use crate::import::{Got, ours};
+use crate::pass;
 use crate::wrong::Wrong;
-use crate::{Got, ours, pass};
 
 /// What differs in the proved import of all units, with its buffers as they are, from its units alone; these are counted.
 pub fn difference(case: &Case, wrong: Option<Wrong>, count: &mut u64) -> Result<Option<String>, String> {

@@ -3,7 +3,7 @@
 
 use pezgok::{Buffers, Finished, Inputs, Options, Refusal};
 
-use crate::Got;
+use crate::import::{Got, slice};
 use crate::joins;
 use crate::pass::Said;
 
@@ -38,7 +38,7 @@ pub fn named(name: &str) -> Result<Wrong, String> {
 fn refuses_all(got: &mut Got) {
     got.refusal = 2;
     (got.lengths, got.statistics) = ([0; 3], [0; 4]);
-    got.buffers.iter_mut().for_each(|buffer| crate::slice(buffer).fill(0));
+    got.buffers.iter_mut().for_each(|buffer| slice(buffer).fill(0));
 }
 
 /// The function dim from 1000 to 1010, whatever was asked.
@@ -52,7 +52,7 @@ fn stock_record(got: &mut Got) {
 
 fn writes_nothing(got: &mut Got) {
     if got.refusal == 0 {
-        got.buffers.iter_mut().for_each(|buffer| crate::slice(buffer).fill(0xa5));
+        got.buffers.iter_mut().for_each(|buffer| slice(buffer).fill(0xa5));
     }
 }
 
