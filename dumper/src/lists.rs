@@ -5,8 +5,9 @@ use std::ops::Range;
 
 use gimli::{DebuggingInformationEntry, RunTimeEndian, Section, UnitOffset};
 
-use crate::dump::{is_ranged, Input};
+use crate::dump::Input;
 use crate::fields::{self, Part};
+use crate::sheet::is_ranged;
 use crate::unit::{Decoded, Slice, Source};
 
 /// The version whose lists have this form.

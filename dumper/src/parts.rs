@@ -3,7 +3,8 @@
 
 use std::ops::Range;
 
-use crate::dump::{Row, INLINED, PLAIN, SUBPROGRAM};
+use crate::dump::{INLINED, SUBPROGRAM};
+use crate::lines::{Row, PLAIN};
 use crate::unit::{Decoded, Entry, Source};
 
 /// Some subprograms of a unit, with all that is below them.

@@ -12,14 +12,16 @@ use std::sync::Arc;
 
 use gimli::EndianSlice;
 
+use crate::about::printable;
 use crate::coverage::Coverage;
 use crate::dump::{Dump, Input};
 use crate::elf;
 use crate::fields;
+use crate::objects::read_supplementary;
 use crate::output::fault;
 use crate::parts::{self, Part};
 use crate::unit::Source;
-use crate::{printable, read_supplementary, separate, Stop, FAULT};
+use crate::{separate, Stop, FAULT};
 
 const MARK: &[u8] = b"pezgok-units-1\n";
 const END: u8 = 0;

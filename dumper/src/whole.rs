@@ -4,10 +4,14 @@
 use std::collections::HashMap;
 use std::path::Path;
 
-use crate::dump::{Dump, Input, Own};
+use crate::about::about;
+use crate::cases::{self, ALL_UNITS, CALL_SITES, INLINES};
+use crate::dump::{Dump, Input};
+use crate::fields;
+use crate::objects::{with_units, Summary};
 use crate::output::{fault, Pending};
-use crate::{about, fields, with_units, Asked, Stop, Summary};
-use crate::{ALL_UNITS, CALL_SITES, INLINES, NOT_WHOLE};
+use crate::sheet::Own;
+use crate::{Asked, Stop, NOT_WHOLE};
 
 /// A unit's part of the joined programs, if it has a line program.
 type Part = Option<(u64, u64)>;
@@ -126,7 +130,7 @@ pub fn case(
                     dump.program.len(),
                     dump.main.fields + dump.supplementary.fields
                 );
-                bytes = crate::case(&dump, INLINES | CALL_SITES | ALL_UNITS);
+                bytes = cases::case(&dump, INLINES | CALL_SITES | ALL_UNITS);
             }
             Err(reason) => {
                 let said = format!("not all units in one sheet, skipped: {reason}");
