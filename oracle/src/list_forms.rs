@@ -1,6 +1,6 @@
-//! The other form of a call with range lists (E9): each field 1f of an imported unit is replaced by the fields 19 of the ranges that its list yields and, where
-//! it has a fault, by a 1a of stage 1 with the fault's number as reason. "Yields the same ranges as 19 fields": the answers are the same, but for a named
-//! inlined entry's fault, which is 6 by a 1a.
+//! The other form of a call with range lists (E9): each field 1f of an imported unit is replaced by the fields 19 of the ranges that its list yields and,
+//! where it has a fault, by a 1a of stage 1 with the fault's number as reason. "Yields the same ranges as 19 fields": the answers are the same, but for a
+//! named inlined entry's fault, which is 6 by a 1a.
 
 use crate::answer::{inputs, work_of};
 use crate::case::{Answer, Case};
