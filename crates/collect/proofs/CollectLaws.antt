@@ -8,17 +8,16 @@ use lib.ListN.{length, take, drop}
 use Rattle.tlv.specs.Outcome.{Outcome, refused, done}
 use Rattle.tlv.specs.Bytes.{le}
 use Rattle.tlv.specs.Checked.{Placed}
-use Rattle.tlv.specs.Table.{KeptBut}
 use Rattle.tlv.specs.Model.{LineRow, headerOf}
-use Rattle.tlv.specs.Places.{unitHere}
-use Rattle.tlv.proofs.TableLaws.{here, there, but-of, but-one, but-trans}
-use Rattle.tlv.proofs.RecordLaws.{records-length, records-but}
-use Rattle.lines.specs.declared.lines.Scan.{Scan}
-use Rattle.lines.specs.Program.{lineSequenceOffsets}
-use Rattle.lines.specs.Scan.{CountWithin, Scanned, offsets}
+use Rattle.buffers.specs.Table.{KeptBut}
+use Rattle.buffers.proofs.TableLaws.{here, there, but-of, but-one, but-trans}
+use Rattle.buffers.proofs.RecordLaws.{records-length, records-but}
+use Rattle.access.specs.Places.{unitHere}
+use Rattle.line_program.specs.declared.lines.Scan.{Scan}
+use Rattle.line_program.specs.Program.{lineSequenceOffsets}
+use Rattle.line_program.specs.Scan.{CountWithin, Scanned, offsets}
 use Rattle.lines.specs.Files.{Indexed, internHeaderFiles}
 use Rattle.lines.specs.Lines.{Run, runRows, Collected}
-use Rattle.machine.specs.LineRows.{lineRows, collectLines}
 use Rattle.files.specs.declared.index.StoredIndices.{StoredIndices}
 use Rattle.files.specs.declared.spans.FileUnit.{FileUnit}
 use Rattle.files.specs.declared.store.StoredFiles.{StoredFiles}
@@ -28,6 +27,9 @@ use Rattle.files.specs.Indices.{indexOf, indicesOf, indicesIn}
 use Rattle.files.proofs.UnitLaws.{unit-next}
 use Rattle.files.proofs.UnnamedLaws.{unnamed}
 use Rattle.files.proofs.GrownLaws.{files-kept, table-kept, grown-trans, grown-after}
+use Rattle.files.specs.Interns.{mapExtent}
+use Rattle.rows.specs.Sizes.{entrySize, rowRoom}
+use Rattle.machine.specs.LineRows.{lineRows, collectLines}
 use Rattle.collect.specs.declared.collect.CollectedLines.{CollectedLines}
 use Rattle.collect.specs.declared.interned.InternedUnit.{InternedUnit}
 use Rattle.collect.specs.declared.convert.Conversion.{Conversion}
@@ -36,8 +38,7 @@ use Rattle.collect.specs.Passes.{offsetsAt}
 use Rattle.collect.specs.Sources.{sourceRows, mostRows, FindsFault}
 use Rattle.collect.specs.Converts.{ConversionIn}
 use Rattle.collect.specs.Collects.{linesExtent, CollectsBy, CollectsLines}
-use Rattle.collect.specs.Stages.{UnitFound, unitExtent, UnitRoom, UnitInterned, InternsUnit, ConversionOf, finishRows, FinishesBy, FinishesLines}
-use Rattle.rows.specs.Sizes.{entrySize, rowRoom}
+use Rattle.collect.specs.Stages.{UnitFound, UnitRoom, UnitInterned, InternsUnit, ConversionOf, finishRows, FinishesBy, FinishesLines}
 use Rattle.collect.proofs.FrameLaws.{but-wide}
 use Rattle.collect.proofs.HeaderPlaces.{header-is, unit-stands, unit-listed}
 use Rattle.collect.proofs.CollectSteps.{header-there, collects-first, collects-program-refused, collects-files-refused, collects-end}
@@ -126,7 +127,7 @@ module _ {main supplementary program w : List ℕ} {p start len : ℕ} {source :
           let c = B .room .table in
           record { table = omega arith; room = omega arith }
 
-      unit-fits : free + k * 8 + unitExtent main p ≤ free + linesExtent main p program
+      unit-fits : free + k * 8 + mapExtent main p ≤ free + linesExtent main p program
       unfolding linesExtent
       unit-fits = let a = offsets-few in omega arith
 
@@ -136,7 +137,7 @@ module _ {main supplementary program w : List ℕ} {p start len : ℕ} {source :
       module _ {w₂ files files₁ : List ℕ} {r₂ : InternedUnit} (I : InternsUnit main supplementary w₁ w₂ files files₁ p t (free + k * 8) r₂) where
         interned-rest : KeptBut w w₂ ((t .base, extent t) ∷ (free, linesExtent main p program) ∷ [])
         interned-rest =
-            let unit : free + k * 8 + unitExtent main p ≤ free + linesExtent main p program = unit-fits in
+            let unit : free + k * 8 + mapExtent main p ≤ free + linesExtent main p program = unit-fits in
             but-trans scanned-rest (but-wide _ (I .rest) (here (omega arith) (omega arith), (there (here (omega arith) (omega arith)), tt)))
 
         -- a file of its header has no number, or its rows are at fault

@@ -5,26 +5,26 @@ use mathlib.Core.Option.{none, some}
 use Prim.Native.Nat.{ℕ, _+_, _≤_, _<_}
 use native.Mathlib.Omega.{arith}
 use lib.ListN.{length}
-use Rattle.tlv.specs.declared.access.Own.{Own}
 use Rattle.tlv.specs.Outcome.{Outcome, refused, done, _>>=_}
-use Rattle.tlv.specs.Buffer.{top}
 use Rattle.tlv.specs.Checked.{Placed}
-use Rattle.tlv.specs.Access.{NextOwn}
 use Rattle.tlv.specs.Model.{CompilationUnit, LineHeader, LineRow}
-use Rattle.tlv.specs.Places.{unitHere}
-use Rattle.tlv.proofs.TableLaws.{but-refl}
-use Rattle.tlv.proofs.RecordLaws.{records-nil}
-use Rattle.lines.specs.Program.{lineSequenceOffsets}
+use Rattle.buffers.specs.Buffer.{top}
+use Rattle.buffers.proofs.TableLaws.{but-refl}
+use Rattle.buffers.proofs.RecordLaws.{records-nil}
+use Rattle.access.specs.declared.access.Own.{Own}
+use Rattle.access.specs.Access.{NextOwn}
+use Rattle.access.specs.Places.{unitHere}
+use Rattle.line_program.specs.Program.{lineSequenceOffsets}
 use Rattle.lines.specs.Files.{FileTable, Indexed, internHeaderFiles}
 use Rattle.lines.specs.Lines.{Run, runRows, Collected, collectHeader}
-use Rattle.machine.specs.LineRows.{lineRows, rowsMost, collectFrom, collectLines}
-use Rattle.rows.proofs.StoredLaws.{lines-nil, ranges-nil}
 use Rattle.files.specs.declared.store.StoredFiles.{StoredFiles}
 use Rattle.files.specs.Pieces.{headerHere}
 use Rattle.files.specs.Store.{tableOf, FilesIn}
 use Rattle.files.specs.Indices.{indexOf, indicesOf}
 use Rattle.files.proofs.UnitLaws.{unit-next, unit-within}
 use Rattle.files.proofs.GrownLaws.{grown-none}
+use Rattle.rows.proofs.StoredLaws.{lines-nil, ranges-nil}
+use Rattle.machine.specs.LineRows.{lineRows, rowsMost, collectFrom, collectLines}
 use Rattle.collect.specs.declared.collect.CollectedLines.{CollectedLines}
 use Rattle.collect.specs.declared.source.RowSource.{RowSource}
 use Rattle.collect.specs.Passes.{Counted, countRows, countAll}

@@ -9,22 +9,22 @@ use lib.ListN.{length}
 use Rattle.tlv.specs.declared.model.FileIndex.{FileIndex}
 use Rattle.tlv.specs.Outcome.{done, _>>=_}
 use Rattle.tlv.specs.Bytes.{le, bytesOf}
-use Rattle.tlv.specs.Buffer.{top, Put}
 use Rattle.tlv.specs.Fields.{encode}
-use Rattle.tlv.specs.Table.{KeptBut}
-use Rattle.tlv.specs.Output.{missingLineFile, Warning, about, kindNumber, warningsBytes}
-use Rattle.tlv.proofs.TableLaws.{here, there, but-of, but-one, but-refl, but-trans}
-use Rattle.tlv.proofs.RecordLaws.{records-but}
+use Rattle.buffers.specs.Buffer.{top, Put}
+use Rattle.buffers.specs.Table.{KeptBut}
+use Rattle.buffers.specs.Output.{missingLineFile, Warning, about, kindNumber, warningsBytes}
+use Rattle.buffers.proofs.TableLaws.{here, there, but-of, but-one, but-refl, but-trans}
+use Rattle.buffers.proofs.RecordLaws.{records-but}
 use Rattle.lines.specs.Files.{internFile, get}
 use Rattle.lines.specs.Lines.{convertLine, convertRow}
-use Rattle.rows.specs.Sizes.{lineSize}
-use Rattle.rows.specs.Stored.{linesOf}
-use Rattle.rows.proofs.StoredLaws.{lines-but}
 use Rattle.files.specs.declared.index.FoundIndex.{FoundIndex}
 use Rattle.files.specs.declared.store.StoredFiles.{StoredFiles}
 use Rattle.files.specs.Store.{extent, tableOf, Grown}
 use Rattle.files.specs.Indices.{indexOf, indicesOf, indicesIn, numberOf}
 use Rattle.files.proofs.GrownLaws.{unit-kept, table-kept, grown-none, grown-kept}
+use Rattle.rows.specs.Sizes.{lineSize}
+use Rattle.rows.specs.Stored.{linesOf}
+use Rattle.rows.proofs.StoredLaws.{lines-but}
 use Rattle.collect.specs.declared.convert.Conversion.{Conversion}
 use Rattle.collect.specs.declared.convert.Converting.{Converting}
 use Rattle.collect.specs.declared.convert.ConvertedRow.{ConvertedRow}

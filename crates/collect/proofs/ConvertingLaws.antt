@@ -4,24 +4,24 @@ use mathlib.Core.List.{List, _∷_}
 use Prim.Native.Nat.{ℕ, _+_, _-_, _*_, _≤_, _<_}
 use native.Mathlib.Omega.{arith}
 use lib.ListN.{length, take, drop}
-use Rattle.tlv.specs.declared.access.Own.{Own}
 use Rattle.tlv.specs.Grammar.{rowFieldSize, rowKindAt}
 use Rattle.tlv.specs.Bytes.{leAt}
-use Rattle.tlv.specs.Buffer.{top}
 use Rattle.tlv.specs.Checked.{Placed}
-use Rattle.tlv.specs.Access.{NextOwn}
-use Rattle.tlv.specs.Table.{chunk}
 use Rattle.tlv.specs.Model.{rowOf}
-use Rattle.tlv.proofs.OwnLaws.{own-within, own-placed}
+use Rattle.buffers.specs.Buffer.{top}
+use Rattle.buffers.specs.Table.{chunk}
+use Rattle.access.specs.declared.access.Own.{Own}
+use Rattle.access.specs.Access.{NextOwn}
+use Rattle.access.proofs.OwnLaws.{own-within, own-placed}
 use Rattle.lines.specs.Lines.{rawLine}
 use Rattle.files.proofs.UnitLaws.{unit-next}
+use Rattle.rows.specs.Sizes.{lineSize}
 use Rattle.collect.specs.declared.convert.Conversion.{Conversion}
 use Rattle.collect.specs.declared.convert.Converting.{Converting}
 use Rattle.collect.specs.declared.convert.ConvertedRow.{ConvertedRow}
 use Rattle.collect.specs.declared.convert.Row.{Row}
 use Rattle.collect.specs.Passes.{rowsFrom}
 use Rattle.collect.specs.Converts.{ConversionIn, rawOf, KnownConverted, RowConverts, RowsConvert}
-use Rattle.rows.specs.Sizes.{lineSize}
 use Rattle.collect.proofs.RowsFromLaws.{rows-end, rows-next, row-long, row-kind}
 use Rattle.collect.proofs.ConvertingList.{ConvertingList, list-start, list-same, list-full, list-over, list-ended, list-refused, list-more, list-known}
 

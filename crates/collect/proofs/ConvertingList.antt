@@ -9,22 +9,22 @@ use lib.Dec.{eqb}
 use lib.ListN.{length}
 use borrow.Author.Tests.{eq-eqb, ne-eqb}
 use Rattle.tlv.specs.Outcome.{refused, done, _>>=_}
-use Rattle.tlv.specs.Buffer.{top, Put}
-use Rattle.tlv.specs.Table.{KeptBut}
 use Rattle.tlv.specs.Model.{CompilationUnit, LineHeader, LineRow}
-use Rattle.tlv.specs.Output.{Warning, warningsBytes}
-use Rattle.tlv.proofs.BufferLaws.{_then_, put-as}
-use Rattle.tlv.proofs.TableLaws.{but-refl, but-trans}
+use Rattle.buffers.specs.Buffer.{top, Put}
+use Rattle.buffers.specs.Table.{KeptBut}
+use Rattle.buffers.specs.Output.{Warning, warningsBytes}
+use Rattle.buffers.proofs.BufferLaws.{_then_, put-as}
+use Rattle.buffers.proofs.TableLaws.{but-refl, but-trans}
 use Rattle.lines.specs.Lines.{rawLine, Converted, convertRow}
 use Rattle.files.specs.Store.{Grown}
 use Rattle.files.proofs.GrownLaws.{grown-none, grown-trans}
+use Rattle.rows.specs.Sizes.{lineSize}
 use Rattle.collect.specs.declared.convert.Conversion.{Conversion}
 use Rattle.collect.specs.declared.convert.Converting.{Converting}
 use Rattle.collect.specs.declared.convert.ConvertedRow.{ConvertedRow}
 use Rattle.collect.specs.declared.convert.Row.{Row}
 use Rattle.collect.specs.Passes.{convertFrom}
 use Rattle.collect.specs.Converts.{unitAt, headerIn, offsetsOf, convertedIn, ConversionIn, rawOf, KnownConverted, RowConverted, RowConverts, RowsConvert}
-use Rattle.rows.specs.Sizes.{lineSize}
 use Rattle.collect.proofs.PrefixLaws.{convert-row-prefix, convert-row-prefix-refused}
 use Rattle.collect.proofs.LineLaws.{none-put, warnings-append}
 use Rattle.collect.proofs.ConvertLaws.{written, offsets-kept, row-appended}

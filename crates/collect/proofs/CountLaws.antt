@@ -4,12 +4,12 @@ use mathlib.Core.List.{List}
 use Prim.Native.Nat.{ℕ, _+_, _≤_}
 use native.Mathlib.Omega.{arith}
 use borrow.Author.Tests.{eq-eqb, ne-eqb}
-use Rattle.tlv.specs.declared.access.Own.{Own}
 use Rattle.tlv.specs.Grammar.{rowKindAt}
 use Rattle.tlv.specs.Bytes.{leAt}
 use Rattle.tlv.specs.Checked.{Placed}
-use Rattle.tlv.specs.Access.{NextOwn}
-use Rattle.tlv.proofs.OwnLaws.{own-within, own-placed}
+use Rattle.access.specs.declared.access.Own.{Own}
+use Rattle.access.specs.Access.{NextOwn}
+use Rattle.access.proofs.OwnLaws.{own-within, own-placed}
 use Rattle.collect.specs.declared.passes.CountedRows.{CountedRows}
 use Rattle.collect.specs.Passes.{rowsFrom, countRows, countedOf}
 use Rattle.collect.proofs.RowsFromLaws.{rows-end, rows-next, row-kind}

@@ -9,23 +9,23 @@ use lib.ListN.{length}
 use borrow.Author.Tests.{eq-eqb, ne-eqb}
 use Rattle.tlv.specs.Outcome.{Outcome, refused, done, _>>=_}
 use Rattle.tlv.specs.Bytes.{le, bytesOf}
-use Rattle.tlv.specs.Buffer.{top, Put}
 use Rattle.tlv.specs.Fields.{encode}
-use Rattle.tlv.specs.Table.{Clear, KeptBut}
 use Rattle.tlv.specs.Model.{LineRow}
-use Rattle.tlv.specs.Output.{Warning, lineSequenceMismatch, kindNumber, warningsBytes}
-use Rattle.tlv.proofs.BufferLaws.{_then_, put-as}
-use Rattle.tlv.proofs.TableLaws.{here, there, but-of, but-one, but-trans}
-use Rattle.tlv.proofs.RecordLaws.{records-length, records-kept}
+use Rattle.buffers.specs.Buffer.{top, Put}
+use Rattle.buffers.specs.Table.{Clear, KeptBut}
+use Rattle.buffers.specs.Output.{Warning, lineSequenceMismatch, kindNumber, warningsBytes}
+use Rattle.buffers.proofs.BufferLaws.{_then_, put-as}
+use Rattle.buffers.proofs.TableLaws.{here, there, but-of, but-one, but-trans}
+use Rattle.buffers.proofs.RecordLaws.{records-length, records-kept}
 use Rattle.lines.specs.Lines.{Converted, convertRows, Collected, mismatch}
-use Rattle.rows.specs.declared.«unit_lines».StoredLines.{StoredLines}
-use Rattle.rows.specs.Sizes.{entrySize, lineSize, rangeSize, rowRoom}
-use Rattle.rows.specs.Stored.{rangesOf}
-use Rattle.rows.proofs.StoredLaws.{lines-nil}
 use Rattle.files.specs.declared.store.StoredFiles.{StoredFiles}
 use Rattle.files.specs.Store.{extent, tableOf}
 use Rattle.files.specs.Indices.{indexOf, indicesOf, indicesIn}
 use Rattle.files.proofs.GrownLaws.{table-kept, grown-kept}
+use Rattle.rows.specs.declared.«unit_lines».StoredLines.{StoredLines}
+use Rattle.rows.specs.Sizes.{entrySize, lineSize, rangeSize, rowRoom}
+use Rattle.rows.specs.Stored.{rangesOf}
+use Rattle.rows.proofs.StoredLaws.{lines-nil}
 use Rattle.collect.specs.declared.collect.CollectedLines.{CollectedLines}
 use Rattle.collect.specs.declared.convert.Conversion.{Conversion}
 use Rattle.collect.specs.declared.convert.Converting.{Converting}

@@ -3,8 +3,8 @@ use mathlib.Core.Logic.{inl, inr, ⊎-elim}
 use mathlib.Core.List.{List, [], _∷_}
 use Prim.Native.Nat.{ℕ}
 use native.Mathlib.Omega.{arith}
-use Rattle.tlv.specs.Table.{Apart, Clear, Kept, KeptBut}
-use Rattle.tlv.proofs.TableLaws.{Within, here, there}
+use Rattle.buffers.specs.Table.{Apart, Clear, Kept, KeptBut}
+use Rattle.buffers.proofs.TableLaws.{Within, here, there}
 
 -- each of the stretches lies within one of the others
 abbrev pub Covered : List (ℕ × ℕ) → List (ℕ × ℕ) → Type 0

@@ -9,11 +9,11 @@ use borrow.Author.Tests.{eq-eqb, ne-eqb}
 use Rattle.tlv.specs.Outcome.{Outcome, refused, done, _>>=_}
 use Rattle.tlv.specs.Bytes.{leAt}
 use Rattle.tlv.specs.Grammar.{rowLineAt, rowColumnAt, rowKindAt, rowFieldSize}
-use Rattle.tlv.specs.Table.{chunk, Kept, Wrote}
 use Rattle.tlv.specs.Model.{LineRow, rowOf}
-use Rattle.tlv.proofs.ChunkLaws.{leAt-chunk, leAt-front}
-use Rattle.tlv.proofs.TableLaws.{kept-refl, kept-trans, kept-wide, leAt-kept}
-use Rattle.tlv.proofs.RecordLaws.{records-nil, records-push}
+use Rattle.buffers.specs.Table.{chunk, Kept, Wrote}
+use Rattle.buffers.proofs.ChunkLaws.{leAt-chunk, leAt-front}
+use Rattle.buffers.proofs.TableLaws.{kept-refl, kept-trans, kept-wide, leAt-kept}
+use Rattle.buffers.proofs.RecordLaws.{records-nil, records-push}
 use Rattle.machine.specs.declared.registers.Encoding.{Encoding}
 use Rattle.machine.specs.declared.registers.Registers.{Registers}
 use Rattle.machine.specs.declared.machine.Emitted.{Emitted}

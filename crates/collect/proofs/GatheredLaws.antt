@@ -7,16 +7,16 @@ use native.Mathlib.Omega.{arith}
 use lib.ListN.{length}
 use Rattle.tlv.specs.Outcome.{Outcome, refused, done, _>>=_}
 use Rattle.tlv.specs.Bytes.{le}
-use Rattle.tlv.specs.Table.{KeptBut}
 use Rattle.tlv.specs.Model.{LineRow}
-use Rattle.tlv.proofs.TableLaws.{here, there, but-of, but-one, but-trans}
-use Rattle.tlv.proofs.RecordLaws.{records-kept}
+use Rattle.buffers.specs.Table.{KeptBut}
+use Rattle.buffers.proofs.TableLaws.{here, there, but-of, but-one, but-trans}
+use Rattle.buffers.proofs.RecordLaws.{records-kept}
 use Rattle.lines.specs.Lines.{Collected}
-use Rattle.rows.specs.Sizes.{entrySize, rowRoom}
 use Rattle.files.specs.declared.store.StoredFiles.{StoredFiles}
 use Rattle.files.specs.Store.{extent, tableOf}
 use Rattle.files.specs.Indices.{indexOf, indicesOf, indicesIn}
 use Rattle.files.proofs.GrownLaws.{unit-kept, table-kept, files-kept, grown-after}
+use Rattle.rows.specs.Sizes.{entrySize, rowRoom}
 use Rattle.collect.specs.declared.collect.CollectedLines.{CollectedLines}
 use Rattle.collect.specs.declared.convert.Conversion.{Conversion}
 use Rattle.collect.specs.declared.source.UnitRows.{UnitRows}

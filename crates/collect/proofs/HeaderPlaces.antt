@@ -6,26 +6,26 @@ use Prim.Native.Nat.{ℕ, _+_, _-_, _≤_}
 use native.Mathlib.Omega.{arith}
 use lib.ListN.{take, drop}
 use Rattle.tlv.specs.declared.fields.Step.{Step}
-use Rattle.tlv.specs.declared.access.Own.{Own}
-use Rattle.tlv.specs.declared.access.Place.{Place}
 use Rattle.tlv.specs.Bytes.{leAt}
 use Rattle.tlv.specs.Lists.{at, mapOption}
 use Rattle.tlv.specs.Fields.{payloadOf, fields}
 use Rattle.tlv.specs.Tags.{encodingTag}
-use Rattle.tlv.specs.Places.{unitHere, ownFields}
 use Rattle.tlv.specs.Model.{headerOf, encodingOf, units}
 use Rattle.tlv.specs.Cursor.{stepAt}
 use Rattle.tlv.specs.Checked.{Placed}
-use Rattle.tlv.specs.Access.{NextOwn}
 use Rattle.tlv.proofs.CursorLaws.{field-within}
 use Rattle.tlv.proofs.ShapeLaws.{number-at, number-first}
 use Rattle.tlv.proofs.WidthLaws.{drop-part}
 use Rattle.tlv.proofs.PlacePromises.{placed-unit, placed-header}
-use Rattle.tlv.proofs.OwnLaws.{own-within, own-field}
-use Rattle.tlv.proofs.UnitPlaceLaws.{units-at}
-use Rattle.tlv.proofs.UnitFacts.{unit-placed, unit-header, unit-encoding, unit-rows}
-use Rattle.lines.specs.declared.lines.Header.{Header}
-use Rattle.lines.specs.Scan.{headerWith}
+use Rattle.access.specs.declared.access.Own.{Own}
+use Rattle.access.specs.declared.access.Place.{Place}
+use Rattle.access.specs.Places.{unitHere, ownFields}
+use Rattle.access.specs.Access.{NextOwn}
+use Rattle.access.proofs.OwnLaws.{own-within, own-field}
+use Rattle.access.proofs.UnitPlaceLaws.{units-at}
+use Rattle.access.proofs.UnitFacts.{unit-placed, unit-header, unit-encoding, unit-rows}
+use Rattle.line_program.specs.declared.lines.Header.{Header}
+use Rattle.line_program.specs.Scan.{headerWith}
 use Rattle.files.specs.Pieces.{headerHere, UnitPlaced}
 use Rattle.files.specs.Interns.{Listed}
 use Rattle.files.proofs.UnitLaws.{first-none, first-found, unit-next}

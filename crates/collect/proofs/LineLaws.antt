@@ -9,15 +9,15 @@ use Rattle.tlv.specs.declared.model.FileIndex.{FileIndex}
 use Rattle.tlv.specs.Grammar.{rowFieldSize, rowLineAt, rowColumnAt}
 use Rattle.tlv.specs.Lists.{at}
 use Rattle.tlv.specs.Bytes.{bytesOf, leAt}
-use Rattle.tlv.specs.Buffer.{top, Put}
 use Rattle.tlv.specs.Fields.{encode}
 use Rattle.tlv.specs.Model.{rowOf}
-use Rattle.tlv.specs.Table.{chunk}
-use Rattle.tlv.specs.Output.{WarningKind, unrepresentableLine, Warning, about, kindNumber, warningPayload, eachOf, warningsBytes}
-use Rattle.tlv.proofs.BufferLaws.{put-none, put-as}
-use Rattle.tlv.proofs.ChunkLaws.{leAt-chunk, leAt-front}
-use Rattle.tlv.proofs.OutputLaws.{put-about}
-use Rattle.tlv.proofs.TableLaws.{kept-refl}
+use Rattle.buffers.specs.Buffer.{top, Put}
+use Rattle.buffers.specs.Table.{chunk}
+use Rattle.buffers.specs.Output.{WarningKind, unrepresentableLine, Warning, about, kindNumber, warningPayload, eachOf, warningsBytes}
+use Rattle.buffers.proofs.BufferLaws.{put-none, put-as}
+use Rattle.buffers.proofs.ChunkLaws.{leAt-chunk, leAt-front}
+use Rattle.buffers.proofs.OutputLaws.{put-about}
+use Rattle.buffers.proofs.TableLaws.{kept-refl}
 use Rattle.lines.specs.Files.{get}
 use Rattle.lines.specs.Lines.{rawLine, convertLine}
 use Rattle.files.specs.declared.index.FoundIndex.{FoundIndex}

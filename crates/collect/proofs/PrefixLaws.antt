@@ -9,7 +9,7 @@ use Rattle.tlv.specs.declared.model.FileIndex.{FileIndex}
 use Rattle.tlv.specs.Outcome.{Outcome, refused, done, _>>=_}
 use Rattle.tlv.specs.Lists.{at}
 use Rattle.tlv.specs.Model.{CompilationUnit, LineHeader, HeaderFile}
-use Rattle.tlv.specs.Output.{Warning, about, unrepresentableLine}
+use Rattle.buffers.specs.Output.{Warning, about, unrepresentableLine}
 use Rattle.lines.specs.Files.{FileTable, Interned, internFile, get, headerFile}
 use Rattle.lines.specs.Lines.{RawLine, SequencedLine, Converted, withWarning, withLine, convertLine, convertInterned, convertLookedUp, convertKnown, convertRow, convertRows}
 

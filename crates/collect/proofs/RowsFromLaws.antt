@@ -4,15 +4,15 @@ use mathlib.Core.List.{List, [], _∷_, map}
 use Prim.Native.Nat.{ℕ, _+_, _≤_, _<_}
 use native.Mathlib.Omega.{arith}
 use lib.ListN.{length, take, drop}
-use Rattle.tlv.specs.declared.access.Own.{Own}
 use Rattle.tlv.specs.Grammar.{rowFieldSize, rowKindAt}
 use Rattle.tlv.specs.Bytes.{leAt}
 use Rattle.tlv.specs.Model.{rowOf}
 use Rattle.tlv.specs.Checked.{Placed}
-use Rattle.tlv.specs.Access.{ownPayloads, NextOwn}
 use Rattle.tlv.proofs.ShapeLaws.{number-at}
-use Rattle.tlv.proofs.OwnLaws.{own-field, own-within}
 use Rattle.tlv.proofs.PlacePromises.{placed-row}
+use Rattle.access.specs.declared.access.Own.{Own}
+use Rattle.access.specs.Access.{ownPayloads, NextOwn}
+use Rattle.access.proofs.OwnLaws.{own-field, own-within}
 use Rattle.collect.specs.Passes.{rowsFrom}
 
 module _ (s : List ℕ) (p : ℕ) (r : Own) (own : NextOwn s p 0x16 r) where

@@ -7,14 +7,14 @@ use Prim.Native.Nat.{ℕ, _+_, _*_, _≤_, _<_}
 use native.Mathlib.Nat.{add-zero}
 use native.Mathlib.Omega.{arith}
 use lib.ListN.{length, take, drop}
-use Rattle.tlv.specs.declared.access.Own.{Own}
 use Rattle.tlv.specs.Grammar.{rowKindAt}
 use Rattle.tlv.specs.Lists.{at}
 use Rattle.tlv.specs.Bytes.{leAt}
 use Rattle.tlv.specs.Model.{rowOf}
 use Rattle.tlv.specs.Checked.{Placed}
-use Rattle.tlv.specs.Access.{NextOwn}
-use Rattle.tlv.proofs.OwnLaws.{own-within, own-placed}
+use Rattle.access.specs.declared.access.Own.{Own}
+use Rattle.access.specs.Access.{NextOwn}
+use Rattle.access.proofs.OwnLaws.{own-within, own-placed}
 use Rattle.rows.specs.Sizes.{rangeSize}
 use Rattle.collect.specs.Passes.{rowsFrom, sequencesFrom, SequencePut, SequencesIn}
 use Rattle.collect.proofs.RowsFromLaws.{rows-end, rows-next, row-number, row-kind}

@@ -13,16 +13,16 @@ use borrow.Author.Tests.{eq-eqb, ne-eqb, lt-ltb, le-ltb}
 use Rattle.tlv.specs.declared.model.AddressRange.{AddressRange}
 use Rattle.tlv.specs.Lists.{at}
 use Rattle.tlv.specs.Bytes.{le, leAt}
-use Rattle.tlv.specs.Table.{Kept}
 use Rattle.tlv.specs.Model.{LineRow}
-use Rattle.tlv.proofs.TableLaws.{kept-refl, kept-trans, kept-wide}
-use Rattle.tlv.proofs.RecordLaws.{records-length, records-kept, records-push, numbers-at}
+use Rattle.buffers.specs.Table.{Kept}
+use Rattle.buffers.proofs.TableLaws.{kept-refl, kept-trans, kept-wide}
+use Rattle.buffers.proofs.RecordLaws.{records-length, records-kept, records-push, numbers-at}
 use Rattle.lines.specs.Lines.{RawSequence}
+use Rattle.files.proofs.PieceLaws.{at-some, at-none}
 use Rattle.rows.specs.declared.line.StatementSequence.{StatementSequence}
 use Rattle.rows.specs.Sizes.{rangeSize}
 use Rattle.rows.specs.Stored.{sequenceOf, rangeOf, rangeAt, rangesOf, PutSequenceRange}
 use Rattle.rows.proofs.StoredLaws.{ranges-nil}
-use Rattle.files.proofs.PieceLaws.{at-some, at-none}
 use Rattle.collect.specs.Passes.{startOr, sequencesFrom, withOffset, offsetsAt, SequencePut, SequencesIn}
 
 -- ---- the offset of a sequence

@@ -9,20 +9,20 @@ use native.Mathlib.Omega.{arith}
 use lib.Dec.{leb}
 use lib.ListN.{length, drop, getD}
 use borrow.Author.Tests.{eq-eqb, ne-eqb, le-leb, lt-leb, lt-ltb, le-ltb}
-use Rattle.tlv.specs.declared.access.Own.{Own}
 use Rattle.tlv.specs.Outcome.{done}
 use Rattle.tlv.specs.Lists.{at, mapOption}
 use Rattle.tlv.specs.Fields.{fields, payloadOf}
 use Rattle.tlv.specs.Cursor.{stepAt}
-use Rattle.tlv.specs.Table.{chunk}
 use Rattle.tlv.specs.Model.{HeaderFile, fileOf}
-use Rattle.tlv.specs.Places.{ownFields}
-use Rattle.tlv.specs.Access.{NextOwn}
-use Rattle.tlv.proofs.TableLaws.{le-or-lt}
-use Rattle.tlv.proofs.OwnLaws.{own-within, own-field}
 use Rattle.tlv.proofs.PlacePromises.{placed-file-zero, placed-file-zero-string}
-use Rattle.tlv.proofs.UnitFacts.{unit-file-zero}
-use Rattle.lines.specs.Paths.{fileEntry}
+use Rattle.buffers.specs.Table.{chunk}
+use Rattle.buffers.proofs.TableLaws.{le-or-lt}
+use Rattle.access.specs.declared.access.Own.{Own}
+use Rattle.access.specs.Places.{ownFields}
+use Rattle.access.specs.Access.{NextOwn}
+use Rattle.access.proofs.OwnLaws.{own-within, own-field}
+use Rattle.access.proofs.UnitFacts.{unit-file-zero}
+use Rattle.paths.specs.Paths.{fileEntry}
 use Rattle.lines.specs.Files.{get, headerFile}
 use Rattle.files.specs.declared.spans.Span.{Span}
 use Rattle.files.specs.Pieces.{spanIn}

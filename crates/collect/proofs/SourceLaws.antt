@@ -5,24 +5,24 @@ use Prim.Native.Nat.{ℕ, _+_, _-_, _≤_}
 use native.Mathlib.Omega.{arith}
 use lib.Dec.{eqb}
 use lib.ListN.{length, take, drop}
-use Rattle.tlv.specs.declared.access.Own.{Own}
 use Rattle.tlv.specs.Grammar.{encodingFlagAt, encodingFieldSize}
 use Rattle.tlv.specs.Tags.{encodingTag}
 use Rattle.tlv.specs.Lists.{mapOption}
 use Rattle.tlv.specs.Bytes.{leAt}
 use Rattle.tlv.specs.Model.{headerOf, encodingOf}
 use Rattle.tlv.specs.Checked.{Placed}
-use Rattle.tlv.specs.Access.{NextOwn}
 use Rattle.tlv.proofs.ShapeLaws.{number-at, number-first}
 use Rattle.tlv.proofs.WidthLaws.{drop-part}
 use Rattle.tlv.proofs.PlacePromises.{placed-encoding}
-use Rattle.tlv.proofs.OwnLaws.{own-within, own-field}
-use Rattle.lines.specs.Program.{opcodesOf}
+use Rattle.access.specs.declared.access.Own.{Own}
+use Rattle.access.specs.Access.{NextOwn}
+use Rattle.access.proofs.OwnLaws.{own-within, own-field}
+use Rattle.line_program.specs.Program.{opcodesOf}
+use Rattle.files.proofs.UnitLaws.{first-none, first-found}
 use Rattle.machine.specs.declared.registers.Encoding.{Encoding}
 use Rattle.machine.specs.Machine.{programRows}
 use Rattle.machine.specs.Steps.{lineEncoding, opcodesWith}
 use Rattle.machine.specs.LineRows.{lineRows, rowsMost}
-use Rattle.files.proofs.UnitLaws.{first-none, first-found}
 use Rattle.collect.specs.declared.source.RowSource.{RowSource}
 use Rattle.collect.specs.Sources.{programIn, EncodingRead, SourceFound}
 

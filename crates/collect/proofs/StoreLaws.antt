@@ -6,10 +6,10 @@ use mathlib.Core.Option.{none}
 use Prim.Native.Nat.{ℕ, _+_, _*_, _≤_}
 use native.Mathlib.Omega.{arith}
 use lib.ListN.{length, length-map}
-use Rattle.tlv.specs.Table.{Apart}
 use Rattle.tlv.specs.Model.{LineRow}
-use Rattle.tlv.proofs.TableLaws.{here, kept-wide, kept-trans}
-use Rattle.tlv.proofs.RecordLaws.{records-but}
+use Rattle.buffers.specs.Table.{Apart}
+use Rattle.buffers.proofs.TableLaws.{here, kept-wide, kept-trans}
+use Rattle.buffers.proofs.RecordLaws.{records-but}
 use Rattle.lines.specs.Lines.{sortRows, sameRow, dropNeighbours}
 use Rattle.rows.specs.Sizes.{entrySize, lineSize, rangeSize, rowRoom}
 use Rattle.rows.specs.Stored.{linesOf, rangeOf, rangesOf}

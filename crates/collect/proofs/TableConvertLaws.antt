@@ -7,20 +7,20 @@ use native.Mathlib.Omega.{arith}
 use lib.ListN.{length, drop}
 use Rattle.tlv.specs.Grammar.{rowFieldSize, rowKindAt}
 use Rattle.tlv.specs.Bytes.{leAt}
-use Rattle.tlv.specs.Buffer.{top}
-use Rattle.tlv.specs.Table.{chunk, Clear}
 use Rattle.tlv.specs.Model.{rowOf}
-use Rattle.tlv.proofs.ChunkLaws.{leAt-chunk}
-use Rattle.tlv.proofs.TableLaws.{inside}
-use Rattle.tlv.proofs.RecordLaws.{records-rest-none, records-rest-cons}
+use Rattle.buffers.specs.Buffer.{top}
+use Rattle.buffers.specs.Table.{chunk, Clear}
+use Rattle.buffers.proofs.ChunkLaws.{leAt-chunk}
+use Rattle.buffers.proofs.TableLaws.{inside}
+use Rattle.buffers.proofs.RecordLaws.{records-rest-none, records-rest-cons}
 use Rattle.lines.specs.Lines.{rawLine}
+use Rattle.rows.specs.Sizes.{lineSize}
 use Rattle.collect.specs.declared.convert.Conversion.{Conversion}
 use Rattle.collect.specs.declared.convert.Converting.{Converting}
 use Rattle.collect.specs.declared.convert.ConvertedRow.{ConvertedRow}
 use Rattle.collect.specs.declared.convert.Row.{Row}
 use Rattle.collect.specs.Tables.{tableRows}
 use Rattle.collect.specs.Converts.{ConversionIn, rawOf, KnownConverted, RowConverts, RowsConvert}
-use Rattle.rows.specs.Sizes.{lineSize}
 use Rattle.collect.proofs.ConvertLaws.{written}
 use Rattle.collect.proofs.ConvertingList.{ConvertingList, list-start, list-full, list-over, list-ended, list-refused, list-more, list-known}
 

@@ -9,11 +9,11 @@ use native.Mathlib.Omega.{arith}
 use lib.ListN.{length, drop, length-append, length-map}
 use Rattle.tlv.specs.Grammar.{rowFieldSize, rowKindAt}
 use Rattle.tlv.specs.Bytes.{leAt}
-use Rattle.tlv.specs.Table.{chunk}
 use Rattle.tlv.specs.Model.{rowOf}
-use Rattle.tlv.proofs.ChunkLaws.{leAt-chunk, leAt-front}
-use Rattle.tlv.proofs.TableLaws.{inside}
-use Rattle.tlv.proofs.RecordLaws.{records-rest-none, records-rest-cons}
+use Rattle.buffers.specs.Table.{chunk}
+use Rattle.buffers.proofs.ChunkLaws.{leAt-chunk, leAt-front}
+use Rattle.buffers.proofs.TableLaws.{inside}
+use Rattle.buffers.proofs.RecordLaws.{records-rest-none, records-rest-cons}
 use Rattle.rows.specs.Sizes.{rangeSize}
 use Rattle.rows.specs.Stored.{rangesOf}
 use Rattle.rows.proofs.StoredLaws.{ranges-length}

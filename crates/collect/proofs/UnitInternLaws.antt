@@ -9,21 +9,21 @@ use native.Mathlib.Omega.{arith}
 use lib.Dec.{leb}
 use lib.ListN.{length}
 use Rattle.tlv.specs.Outcome.{done, _>>=_}
-use Rattle.tlv.specs.Table.{KeptBut}
 use Rattle.tlv.specs.Model.{CompilationUnit, LineHeader, HeaderFile}
-use Rattle.tlv.specs.Places.{unitHere}
 use Rattle.tlv.proofs.OutcomeLaws.{done-is, with-done}
-use Rattle.tlv.proofs.TableLaws.{here, there, but-of, but-one, but-trans}
+use Rattle.buffers.specs.Table.{KeptBut}
+use Rattle.buffers.proofs.TableLaws.{here, there, but-of, but-one, but-trans}
+use Rattle.access.specs.Places.{unitHere}
 use Rattle.lines.specs.Files.{FileTable, FileIndices, internFile, Indexed, internFiles, internHeaderFiles}
 use Rattle.files.specs.declared.spans.FileUnit.{FileUnit}
 use Rattle.files.specs.declared.store.StoredFiles.{StoredFiles}
 use Rattle.files.specs.declared.header.InternedFiles.{InternedFiles}
 use Rattle.files.specs.Pieces.{headerHere, UnitPlaced, Described}
 use Rattle.files.specs.Store.{extent, tableOf, FilesIn, Grown}
-use Rattle.files.specs.Interns.{Listed, MapRoom, InternsHeader, indexedOf}
+use Rattle.files.specs.Interns.{Listed, MapRoom, InternsHeader, indexedOf, mapExtent}
 use Rattle.files.proofs.GrownLaws.{unit-kept, files-kept, table-kept, grown-after}
 use Rattle.collect.specs.declared.interned.InternedUnit.{InternedUnit}
-use Rattle.collect.specs.Stages.{unitExtent, UnitRoom, InternsUnit}
+use Rattle.collect.specs.Stages.{UnitRoom, InternsUnit}
 use Rattle.collect.proofs.FrameLaws.{but-wide}
 
 -- ---- how many numbers the map has
@@ -77,12 +77,12 @@ module _ {main supplementary w w₁ : List ℕ} {p : ℕ} {t : StoredFiles} {bas
     interned-is : indexedOf main supplementary w₂ (base + u .«directory_count» * 8) r ≡ internHeaderFiles (unitHere main p) (headerHere main p) (tableOf main supplementary w t)
     interned-is = rw (D .place, table-kept F (but-one (D .rest)) (inl (R .table), tt)) at (I .is)
 
-    interned-rest : KeptBut w w₂ ((t .base, extent t) ∷ (base, unitExtent main p) ∷ [])
+    interned-rest : KeptBut w w₂ ((t .base, extent t) ∷ (base, mapExtent main p) ∷ [])
     interned-rest =
         let k = D .count in
         let f : 5 * (1 + length (unitHere main (u .place) .files)) ≡ 5 * (1 + length (unitHere main p .files)) = rw (D .place) in
         but-trans (but-of (D .rest) (there (here (omega arith) (omega arith))))
-        (but-wide ((t .base, extent t) ∷ (base, unitExtent main p) ∷ []) (I .rest) (here (omega arith) (omega arith), (there (here (omega arith) (omega arith)), tt)))
+        (but-wide ((t .base, extent t) ∷ (base, mapExtent main p) ∷ []) (I .rest) (here (omega arith) (omega arith), (there (here (omega arith) (omega arith)), tt)))
 
     pub interned-refused : {n : ℕ} → r ≡ InternedFiles.Refused n → InternsUnit main supplementary w w₂ files files₂ p t base (InternedUnit.Refused n)
     interned-refused e = record { is = rw e at interned-is; after = tt; rest = interned-rest }

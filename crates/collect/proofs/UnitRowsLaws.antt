@@ -7,12 +7,12 @@ use lib.ListN.{length, take, drop}
 use Rattle.tlv.specs.Outcome.{Outcome, refused, _>>=_}
 use Rattle.tlv.specs.Grammar.{rowFieldSize}
 use Rattle.tlv.specs.Checked.{Placed}
-use Rattle.tlv.specs.Table.{Kept, Clear, KeptBut}
 use Rattle.tlv.specs.Model.{LineRow, rowOf}
-use Rattle.tlv.proofs.TableLaws.{kept-refl, kept-wide}
-use Rattle.tlv.proofs.RecordLaws.{records-length, records-but}
-use Rattle.machine.specs.declared.registers.Encoding.{Encoding}
+use Rattle.buffers.specs.Table.{Kept, Clear, KeptBut}
+use Rattle.buffers.proofs.TableLaws.{kept-refl, kept-wide}
+use Rattle.buffers.proofs.RecordLaws.{records-length, records-but}
 use Rattle.rows.specs.Sizes.{lineSize, rowRoom}
+use Rattle.machine.specs.declared.registers.Encoding.{Encoding}
 use Rattle.collect.specs.declared.passes.CountedRows.{CountedRows}
 use Rattle.collect.specs.declared.program.ProgramRows.{ProgramRows}
 use Rattle.collect.specs.declared.source.RowSource.{RowSource}

@@ -8,14 +8,14 @@ use native.Mathlib.Omega.{arith}
 use lib.ListN.{length, set}
 use Rattle.tlv.specs.declared.model.FileIndex.{FileIndex}
 use Rattle.tlv.specs.Outcome.{refused, done, _>>=_}
-use Rattle.tlv.specs.Buffer.{top}
-use Rattle.tlv.specs.Table.{KeptBut}
 use Rattle.tlv.specs.Model.{CompilationUnit, LineHeader, HeaderFile, fileOf}
-use Rattle.tlv.specs.Output.{FileEntry}
 use Rattle.tlv.proofs.OutcomeLaws.{done-is, with-done}
-use Rattle.tlv.proofs.TableLaws.{here, there, but-of, but-one, but-trans}
-use Rattle.tlv.proofs.RecordLaws.{records-but}
-use Rattle.lines.specs.Paths.{fileEntry}
+use Rattle.buffers.specs.Buffer.{top}
+use Rattle.buffers.specs.Table.{KeptBut}
+use Rattle.buffers.specs.Output.{FileEntry}
+use Rattle.buffers.proofs.TableLaws.{here, there, but-of, but-one, but-trans}
+use Rattle.buffers.proofs.RecordLaws.{records-but}
+use Rattle.paths.specs.Paths.{fileEntry}
 use Rattle.lines.specs.Files.{FileTable, FileIndices, Interned, addFile, internEntry, internFile, get, insertIndex}
 use Rattle.lines.specs.Lines.{convertRow}
 use Rattle.files.specs.declared.spans.Span.{Span}
@@ -26,13 +26,13 @@ use Rattle.files.specs.Store.{extent, tableOf, FilesIn, Grown}
 use Rattle.files.specs.Indices.{indexOf, indicesOf, indicesIn, Inserted}
 use Rattle.files.specs.Interns.{FileSpanIn, OfUnit, Listed, Interns}
 use Rattle.files.proofs.GrownLaws.{table-kept, grown-kept}
+use Rattle.rows.specs.Sizes.{lineSize}
 use Rattle.collect.specs.declared.convert.Conversion.{Conversion}
 use Rattle.collect.specs.declared.convert.Converting.{Converting}
 use Rattle.collect.specs.declared.convert.ConvertedRow.{ConvertedRow}
 use Rattle.collect.specs.declared.convert.Row.{Row}
 use Rattle.collect.specs.declared.sought.SoughtFile.{SoughtFile}
 use Rattle.collect.specs.Converts.{unitAt, headerIn, Unnamed, convertedIn, ConversionIn, soughtOf, LineConverted, RowConverts}
-use Rattle.rows.specs.Sizes.{lineSize}
 use Rattle.collect.proofs.SoughtLaws.{is-zero}
 use Rattle.collect.proofs.LineLaws.{none-put}
 use Rattle.collect.proofs.ConvertLaws.{written, line-row, still}

@@ -6,21 +6,23 @@ use mathlib.Core.Option.{some}
 use lib.ListN.{length}
 use Rattle.tlv.specs.Outcome.{refused, done}
 use Rattle.tlv.specs.Lists.{at}
-use Rattle.tlv.specs.Buffer.{Put}
 use Rattle.tlv.specs.Fields.{fields}
-use Rattle.tlv.specs.Table.{KeptBut}
-use Rattle.tlv.specs.Places.{unitHere, unitPlaces}
-use Rattle.tlv.specs.Output.{Warning, warningsBytes}
+use Rattle.buffers.specs.Buffer.{Put}
+use Rattle.buffers.specs.Table.{KeptBut}
+use Rattle.buffers.specs.Output.{Warning, warningsBytes}
+use Rattle.access.specs.Places.{unitHere, unitPlaces}
+use Rattle.line_program.specs.Scan.{offsetRecord, sequenceLeast}
 use Rattle.lines.specs.Lines.{UnitLines}
-use Rattle.machine.specs.LineRows.{rowsMost, collectLines}
+use Rattle.files.specs.declared.store.StoredFiles.{StoredFiles}
+use Rattle.files.specs.declared.index.StoredIndices.{StoredIndices}
+use Rattle.files.specs.Store.{extent, tableOf, Grown}
+use Rattle.files.specs.Indices.{indicesIn, indexRecord}
+use Rattle.files.specs.Interns.{mapExtent}
 use Rattle.rows.specs.declared.«unit_lines».StoredLines.{StoredLines}
 use Rattle.rows.specs.Sizes.{entrySize, lineSize, rowRoom}
 use Rattle.rows.specs.Stored.{linesOf, rangesOf}
 use Rattle.rows.specs.Selects.{RowsIn}
-use Rattle.files.specs.declared.store.StoredFiles.{StoredFiles}
-use Rattle.files.specs.declared.index.StoredIndices.{StoredIndices}
-use Rattle.files.specs.Store.{extent, tableOf, Grown}
-use Rattle.files.specs.Indices.{indicesIn}
+use Rattle.machine.specs.LineRows.{rowsMost, collectLines}
 use Rattle.collect.specs.declared.collect.CollectedLines.{CollectedLines}
 
 -- a unit stands at a place
@@ -39,7 +41,7 @@ linesIn w l is = record {
 -- how many bytes the lines of the unit at a place may take
 unfoldable pub linesExtent : List ℕ → ℕ → List ℕ → ℕ
 linesExtent main p program =
-    length program / 3 * 8 + 8 * length (unitHere main p .directories) + 5 * (1 + length (unitHere main p .files))
+    length program / sequenceLeast * offsetRecord + mapExtent main p
     + rowRoom * rowsMost (unitHere main p) program + entrySize
 
 -- the file table stands below the first free place, and the lines have room from there on
@@ -56,7 +58,7 @@ pub record CollectedIn (main supplementary program w w′ files files′ warning
   pub put : Put warned (warningsBytes new) warnings warnings′ warned′
   pub rows : RowsIn w′ l
   pub from : free ≤ is .base
-  pub indices : is .base + is .count * 5 ≤ l .lines
+  pub indices : is .base + is .count * indexRecord ≤ l .lines
   pub sequences : l .lines + l .«line_count» * lineSize ≤ l .sequences
   pub within : l .buffer + entrySize + l .«line_count» * entrySize ≤ free + linesExtent main p program
   pub rest : KeptBut w w′ ((t .base, extent t) ∷ (free, linesExtent main p program) ∷ [])

@@ -8,24 +8,25 @@ use mathlib.Core.Option.{none, some}
 use lib.Dec.{leb, ltb, eqb}
 use lib.ListN.{length}
 use Rattle.tlv.specs.Tags.{fileZeroTag}
-use Rattle.tlv.specs.declared.access.Own.{Own}
 use Rattle.tlv.specs.declared.model.FileIndex.{FileIndex}
 use Rattle.tlv.specs.Outcome.{refused, done}
-use Rattle.tlv.specs.Buffer.{Put}
-use Rattle.tlv.specs.Table.{Kept, KeptBut}
-use Rattle.tlv.specs.Access.{NextOwn}
 use Rattle.tlv.specs.Model.{CompilationUnit, LineHeader, HeaderFile, LineRow}
-use Rattle.tlv.specs.Places.{unitHere}
-use Rattle.tlv.specs.Output.{Warning, warningsBytes}
-use Rattle.lines.specs.Paths.{fileEntry}
+use Rattle.buffers.specs.Buffer.{Put}
+use Rattle.buffers.specs.Table.{Kept, KeptBut}
+use Rattle.buffers.specs.Output.{Warning, warningsBytes}
+use Rattle.access.specs.declared.access.Own.{Own}
+use Rattle.access.specs.Access.{NextOwn}
+use Rattle.access.specs.Places.{unitHere}
+use Rattle.line_program.specs.Scan.{offsetRecord}
+use Rattle.paths.specs.Paths.{fileEntry}
 use Rattle.lines.specs.Files.{FileTable, FileIndices, get, headerFile}
 use Rattle.lines.specs.Lines.{RawLine, Converted, convertLine, convertRow}
-use Rattle.rows.specs.Sizes.{lineSize}
-use Rattle.rows.specs.Stored.{linesOf}
 use Rattle.files.specs.Pieces.{headerHere, UnitPlaced, FileUnitIn}
 use Rattle.files.specs.Store.{extent, tableOf, FilesIn, Grown}
-use Rattle.files.specs.Indices.{indicesIn}
+use Rattle.files.specs.Indices.{indicesIn, indexRecord}
 use Rattle.files.specs.Interns.{Listed}
+use Rattle.rows.specs.Sizes.{lineSize}
+use Rattle.rows.specs.Stored.{linesOf}
 use Rattle.collect.specs.declared.convert.Conversion.{Conversion}
 use Rattle.collect.specs.declared.convert.Converting.{Converting}
 use Rattle.collect.specs.declared.convert.ConvertedRow.{ConvertedRow}
@@ -67,9 +68,9 @@ pub record ConversionIn (main supplementary w : List ℕ) (c : Conversion) (st :
   pub unnamed : Unnamed (unitAt main c) (headerIn main c) (indicesIn w (c .indices))
   pub all : c .indices .count ≡ cond (leb (headerIn main c .version) 4) 1 0 + length (unitAt main c .files)
   pub table : st .table .base + extent (st .table) ≤ c .offsets
-  pub offsets : c .offsets + c .«offset_count» * 8 ≤ c .unit .directories
+  pub offsets : c .offsets + c .«offset_count» * offsetRecord ≤ c .unit .directories
   pub directories : c .unit .directories + c .unit .«directory_count» * 8 ≤ c .indices .base
-  pub indices : c .indices .base + c .indices .count * 5 ≤ c .lines
+  pub indices : c .indices .base + c .indices .count * indexRecord ≤ c .lines
   pub lines : c .lines + st .count * lineSize ≤ length w
 
 -- a row with the number of its sequence
@@ -147,7 +148,7 @@ ConvertsRow main supplementary w w′ files files′ warnings warnings′ c st r
 pub record RowConverts (main supplementary w w′ files files′ warnings warnings′ : List ℕ) (c : Conversion) (st : Converting) (row : Row)
     (r : ConvertedRow) : Type 0 where
   pub is : ConvertsRow main supplementary w w′ files files′ warnings warnings′ c st row r
-  pub rest : KeptBut w w′ ((st .table .base, extent (st .table)) ∷ (c .indices .base, c .indices .count * 5)
+  pub rest : KeptBut w w′ ((st .table .base, extent (st .table)) ∷ (c .indices .base, c .indices .count * indexRecord)
       ∷ (c .lines + st .count * lineSize, lineSize) ∷ [])
 
 -- the same of `left` of the unit's rows, from the first on
@@ -172,5 +173,5 @@ ConvertsRows rows main supplementary w w′ files files′ warnings warnings′ 
 pub record RowsConvert (rows : List LineRow) (main supplementary w w′ files files′ warnings warnings′ : List ℕ) (c : Conversion) (st : Converting)
     (left : ℕ) (r : ConvertedRow) : Type 0 where
   pub is : ConvertsRows rows main supplementary w w′ files files′ warnings warnings′ c st left r
-  pub rest : KeptBut w w′ ((st .table .base, extent (st .table)) ∷ (c .indices .base, c .indices .count * 5)
+  pub rest : KeptBut w w′ ((st .table .base, extent (st .table)) ∷ (c .indices .base, c .indices .count * indexRecord)
       ∷ (c .lines + st .count * lineSize, left * lineSize) ∷ [])

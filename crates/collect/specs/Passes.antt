@@ -11,9 +11,9 @@ use Rattle.tlv.specs.Outcome.{Outcome, refused, done, _>>=_}
 use Rattle.tlv.specs.Lists.{at}
 use Rattle.tlv.specs.Bytes.{le}
 use Rattle.tlv.specs.Fields.{fields, payloads}
-use Rattle.tlv.specs.Table.{records, Kept}
 use Rattle.tlv.specs.Model.{CompilationUnit, LineHeader, LineRow, rowOf}
-use Rattle.tlv.specs.Places.{ownFields}
+use Rattle.buffers.specs.Table.{records, Kept}
+use Rattle.access.specs.Places.{ownFields}
 use Rattle.lines.specs.Lines.{RawSequence, LineSequenceRange, rawLine, Converted, convertRow}
 use Rattle.rows.specs.Sizes.{rangeSize}
 use Rattle.rows.specs.Stored.{rangeAt, rangesOf}

@@ -10,15 +10,15 @@ use Rattle.tlv.specs.Bytes.{leAt}
 use Rattle.tlv.specs.Fields.{fields, payloadOf}
 use Rattle.tlv.specs.Grammar.{encodingFlagAt, rowFieldSize}
 use Rattle.tlv.specs.Tags.{encodingTag}
-use Rattle.tlv.specs.Table.{Kept}
 use Rattle.tlv.specs.Model.{CompilationUnit, LineRow, headerOf, encodingOf}
 use Rattle.tlv.specs.Checked.{Placed}
-use Rattle.tlv.specs.Places.{ownFields}
+use Rattle.buffers.specs.Table.{Kept}
+use Rattle.access.specs.Places.{ownFields}
+use Rattle.rows.specs.Sizes.{lineSize, rowRoom}
 use Rattle.machine.specs.declared.registers.Encoding.{Encoding}
 use Rattle.machine.specs.Machine.{programRows}
 use Rattle.machine.specs.Steps.{lineEncoding, opcodesWith}
 use Rattle.machine.specs.LineRows.{lineRows, rowsMost}
-use Rattle.rows.specs.Sizes.{lineSize, rowRoom}
 use Rattle.collect.specs.declared.source.RowSource.{RowSource}
 use Rattle.collect.specs.declared.source.UnitRows.{UnitRows}
 use Rattle.collect.specs.declared.source.GatheredRows.{GatheredRows}

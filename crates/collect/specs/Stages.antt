@@ -7,27 +7,28 @@ use lib.ListN.{length, take, drop}
 use Rattle.tlv.specs.Tags.{fileZeroTag}
 use Rattle.tlv.specs.Outcome.{Outcome, refused, done, _>>=_}
 use Rattle.tlv.specs.Bytes.{leAt}
-use Rattle.tlv.specs.Buffer.{Put}
-use Rattle.tlv.specs.Table.{Kept, KeptBut}
 use Rattle.tlv.specs.Checked.{Placed}
-use Rattle.tlv.specs.Access.{NextOwn}
 use Rattle.tlv.specs.Model.{CompilationUnit, LineHeader, LineRow, headerOf}
-use Rattle.tlv.specs.Places.{unitHere}
-use Rattle.tlv.specs.Output.{Warning, warningsBytes}
-use Rattle.lines.specs.declared.lines.Header.{Header}
+use Rattle.buffers.specs.Buffer.{Put}
+use Rattle.buffers.specs.Table.{Kept, KeptBut}
+use Rattle.buffers.specs.Output.{Warning, warningsBytes}
+use Rattle.access.specs.Access.{NextOwn}
+use Rattle.access.specs.Places.{unitHere}
+use Rattle.line_program.specs.declared.lines.Header.{Header}
 use Rattle.lines.specs.Files.{FileTable, FileIndices, Indexed, internHeaderFiles}
 use Rattle.lines.specs.Lines.{Run, runRows, convertRows, sortRows, sameRow, dropNeighbours, Collected, mismatch, unitLines}
-use Rattle.machine.specs.LineRows.{lineRows, rowsMost}
-use Rattle.rows.specs.declared.«unit_lines».StoredLines.{StoredLines}
-use Rattle.rows.specs.Sizes.{entrySize, lineSize, rangeSize, rowRoom}
-use Rattle.rows.specs.Stored.{linesOf, rangesOf}
-use Rattle.rows.specs.Selects.{RowsIn}
 use Rattle.files.specs.declared.index.StoredIndices.{StoredIndices}
 use Rattle.files.specs.declared.spans.FileUnit.{FileUnit}
 use Rattle.files.specs.declared.store.StoredFiles.{StoredFiles}
 use Rattle.files.specs.Pieces.{headerHere, FileUnitIn}
 use Rattle.files.specs.Store.{extent, tableOf, FilesIn, Grown}
-use Rattle.files.specs.Indices.{indicesIn}
+use Rattle.files.specs.Indices.{indicesIn, indexRecord}
+use Rattle.files.specs.Interns.{mapExtent}
+use Rattle.rows.specs.declared.«unit_lines».StoredLines.{StoredLines}
+use Rattle.rows.specs.Sizes.{entrySize, lineSize, rangeSize, rowRoom}
+use Rattle.rows.specs.Stored.{linesOf, rangesOf}
+use Rattle.rows.specs.Selects.{RowsIn}
+use Rattle.machine.specs.LineRows.{lineRows, rowsMost}
 use Rattle.collect.specs.declared.collect.CollectedLines.{CollectedLines}
 use Rattle.collect.specs.declared.interned.InternedUnit.{InternedUnit}
 use Rattle.collect.specs.declared.convert.Conversion.{Conversion}
@@ -66,14 +67,10 @@ pub record UnitFound (main supplementary program w : List ℕ) (t : StoredFiles)
 
 -- ---- the unit's files
 
--- how many bytes the unit's directories and its map may take
-abbrev pub unitExtent : List ℕ → ℕ → ℕ
-unitExtent main p = 8 * length (unitHere main p .directories) + 5 * (1 + length (unitHere main p .files))
-
 -- the file table stands below base, and the unit's directories and its map have room from there on
 pub record UnitRoom (main w : List ℕ) (t : StoredFiles) (p base : ℕ) : Type 0 where
   pub table : t .base + extent t ≤ base
-  pub room : base + unitExtent main p ≤ length w
+  pub room : base + mapExtent main p ≤ length w
 
 abbrev pub internedOf : List ℕ → List ℕ → List ℕ → InternedUnit → Outcome Indexed
 internedOf main supplementary w (InternedUnit.Refused n) = refused n
@@ -98,7 +95,7 @@ InternedAfter main supplementary w w′ files files′ p t base (InternedUnit.Un
 pub record InternsUnit (main supplementary w w′ files files′ : List ℕ) (p : ℕ) (t : StoredFiles) (base : ℕ) (r : InternedUnit) : Type 0 where
   pub is : internedOf main supplementary w′ r ≡ internHeaderFiles (unitHere main p) (headerHere main p) (tableOf main supplementary w t)
   pub after : InternedAfter main supplementary w w′ files files′ p t base r
-  pub rest : KeptBut w w′ ((t .base, extent t) ∷ (base, unitExtent main p) ∷ [])
+  pub rest : KeptBut w w′ ((t .base, extent t) ∷ (base, mapExtent main p) ∷ [])
 
 -- ---- the unit's rows
 
@@ -110,7 +107,7 @@ pub record ConversionOf (main : List ℕ) (unit : FileUnit) (indices : StoredInd
     indices = indices;
     offsets = offsets;
     «offset_count» = count;
-    lines = indices .base + indices .count * 5;
+    lines = indices .base + indices .count * indexRecord;
   }
   pub zero : NextOwn main (unit .place + 21) fileZeroTag (r .zero)
 
@@ -163,4 +160,4 @@ FinishesBy x most main supplementary w w′ files files′ warnings warnings′ 
 pub record FinishesLines (x : Outcome (List LineRow)) (most : ℕ) (main supplementary w w′ files files′ warnings warnings′ : List ℕ) (c : Conversion)
     (t : StoredFiles) (warned : ℕ) (r : CollectedLines) : Type 0 where
   pub is : FinishesBy x most main supplementary w w′ files files′ warnings warnings′ c t warned r
-  pub rest : KeptBut w w′ ((t .base, extent t) ∷ (c .indices .base, c .indices .count * 5) ∷ (c .lines, rowRoom * most + entrySize) ∷ [])
+  pub rest : KeptBut w w′ ((t .base, extent t) ∷ (c .indices .base, c .indices .count * indexRecord) ∷ (c .lines, rowRoom * most + entrySize) ∷ [])

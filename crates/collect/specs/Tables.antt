@@ -4,8 +4,8 @@ use mathlib.Core.Path.{_≡_}
 use mathlib.Core.List.{List}
 use Rattle.tlv.specs.Outcome.{Outcome, refused, done}
 use Rattle.tlv.specs.Grammar.{rowFieldSize}
-use Rattle.tlv.specs.Table.{chunk, records, Kept}
 use Rattle.tlv.specs.Model.{LineRow, rowOf}
+use Rattle.buffers.specs.Table.{chunk, records, Kept}
 use Rattle.collect.specs.declared.program.ProgramRows.{ProgramRows}
 use Rattle.collect.specs.Passes.{countAll, RowsCounted}
 

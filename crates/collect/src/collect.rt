@@ -3,11 +3,11 @@ ghost use Prim.Native.Nat.{_+_, _*_, _≤_};
 ghost use lib.ListN.{length};
 ghost use Rattle.tlv.specs.Checked.{Placed};
 ghost use Rattle.files.specs.Store.{FilesIn};
+ghost use Rattle.rows.specs.Sizes.{entrySize, rowRoom};
 ghost use Rattle.collect.specs.Sources.{sourceRows, mostRows, SourceWithin};
 ghost use Rattle.collect.specs.Converts.{ConversionIn};
 ghost use Rattle.collect.specs.Stages.{UnitFound, FinishesLines};
 ghost use Rattle.collect.specs.Collects.{UnitIn, LinesRoom, CollectsLines};
-ghost use Rattle.rows.specs.Sizes.{entrySize, rowRoom};
 use crate::convert::Conversion;
 use crate::finish::finish_lines;
 use crate::interned::InternedUnit;
@@ -19,11 +19,12 @@ use crate::source::RowSource;
 use crate::source::gather_unit_rows;
 use crate::source::row_fault;
 use crate::source::row_source;
+use access::access::Own;
 use files::index::StoredIndices;
 use files::store::StoredFiles;
-use lines::lines::Scan;
+use line_program::lines::OFFSET_RECORD;
+use line_program::lines::Scan;
 use rows::unit_lines::StoredLines;
-use tlv::access::Own;
 use tlv::tags::HEADER_TAG;
 use tlv::tags::UNIT_WHOLE;
 
@@ -112,7 +113,15 @@ fn collect_header(
             return CollectedLines::Refused(row_fault(main, program, p, source, work, free, f));
         }
         Scan::Count(k) => {
-            match intern_unit(main, supplementary, place, work, files, t, free + k * 8) {
+            match intern_unit(
+                main,
+                supplementary,
+                place,
+                work,
+                files,
+                t,
+                free + k * OFFSET_RECORD,
+            ) {
                 InternedUnit::Refused(r) => {
                     return CollectedLines::Refused(row_fault(
                         main,
@@ -169,7 +178,7 @@ pub fn collect_lines(
         (now (files .entry)) (now (files .exit)) (now (warnings .entry)) (now (warnings .exit)) place t warned free r ⌝ }
 {
     let p = place + UNIT_WHOLE;
-    match tlv::access::next_own(main, p, HEADER_TAG) {
+    match access::access::next_own(main, p, HEADER_TAG) {
         Own::Missing => {
             return CollectedLines::Lines {
                 lines: StoredLines {

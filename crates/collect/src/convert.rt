@@ -3,12 +3,14 @@ ghost use mathlib.Core.Path.{_≡_};
 ghost use mathlib.Core.Option.{none};
 ghost use Prim.Native.Nat.{_+_, _*_, _≤_, _<_};
 ghost use lib.ListN.{length};
+ghost use Rattle.line_program.specs.Scan.{offsetRecord};
 ghost use Rattle.lines.specs.Files.{get};
-ghost use Rattle.files.specs.Indices.{indicesIn};
-ghost use Rattle.collect.specs.Converts.{ConversionIn, soughtOf, LineAppended, LineConverted, ConvertsKnown, RowConverts};
+ghost use Rattle.files.specs.Indices.{indicesIn, indexRecord};
 ghost use Rattle.rows.specs.Sizes.{lineSize};
+ghost use Rattle.collect.specs.Converts.{ConversionIn, soughtOf, LineAppended, LineConverted, ConvertsKnown, RowConverts};
 use crate::sought::SoughtFile;
 use crate::sought::sought_file;
+use access::access::Own;
 use files::index::FileNumber;
 use files::index::FoundIndex;
 use files::index::StoredIndices;
@@ -17,7 +19,6 @@ use files::spans::FileUnit;
 use files::spans::Span;
 use files::store::StoredFiles;
 use rows::line::LINE_SIZE;
-use tlv::access::Own;
 use tlv::model::DebugSource;
 
 // The unit, its file 0 before version 5, its map of file numbers, the table of its sequences' offsets, and where its lines go.
@@ -54,7 +55,7 @@ pub enum ConvertedRow {
 
 // Appends the line of a row whose file has a number and whose line fits 32 bits.
 fn append_line(c: Conversion, row: Row, index: tlv::model::FileIndex, work: &mut [u8], count: usize)
-    requires { ⌜ c .offsets + c .«offset_count» * 8 ≤ length (now work) ⌝ }
+    requires { ⌜ c .offsets + c .«offset_count» * offsetRecord ≤ length (now work) ⌝ }
     requires { ⌜ c .lines + count * lineSize + lineSize ≤ length (now work) ⌝ }
     requires { ⌜ row .line < 4294967296 ⌝ }
     ensures { λ _. ⌜ LineAppended (now (work .entry)) (now (work .exit)) c row index count ⌝ }
@@ -78,7 +79,7 @@ fn convert_line(
     warnings: &mut [u8],
     st: Converting,
 ) -> Converting
-    requires { ⌜ c .offsets + c .«offset_count» * 8 ≤ length (now work) ⌝ }
+    requires { ⌜ c .offsets + c .«offset_count» * offsetRecord ≤ length (now work) ⌝ }
     requires { ⌜ c .lines + st .count * lineSize + lineSize ≤ length (now work) ⌝ }
     ensures { λ r. ⌜ LineConverted (now (work .entry)) (now (work .exit)) (now (warnings .entry)) (now (warnings .exit)) c st row index r ⌝ }
 {
@@ -94,7 +95,7 @@ fn convert_line(
             warned: st.warned,
         };
     }
-    let warned = tlv::output::put_warning(warnings, st.warned, 7, address, line);
+    let warned = buffers::output::put_warning(warnings, st.warned, 7, address, line);
     Converting {
         table: table,
         count: count,
@@ -177,7 +178,13 @@ fn convert_unknown(
     match sought_file(c, number) {
         SoughtFile::Missing => {
             let table = st.table;
-            let warned = tlv::output::put_warning(warnings, st.warned, 6, row.address, number.0);
+            let warned = buffers::output::put_warning(
+                warnings,
+                st.warned,
+                6,
+                row.address,
+                number.0,
+            );
             return ConvertedRow::Next(Converting {
                 table: table,
                 count: st.count,
@@ -219,8 +226,8 @@ pub fn convert_row(
 
 // Appends the line of a row whose file has a number in the unit's map and whose line fits 32 bits; whether it did.
 pub fn convert_known(c: Conversion, row: Row, work: &mut [u8], count: usize) -> bool
-    requires { ⌜ c .indices .base + c .indices .count * 5 ≤ length (now work) ⌝ }
-    requires { ⌜ c .offsets + c .«offset_count» * 8 ≤ length (now work) ⌝ }
+    requires { ⌜ c .indices .base + c .indices .count * indexRecord ≤ length (now work) ⌝ }
+    requires { ⌜ c .offsets + c .«offset_count» * offsetRecord ≤ length (now work) ⌝ }
     requires { ⌜ c .lines + count * lineSize + lineSize ≤ length (now work) ⌝ }
     ensures { λ r. ⌜ ConvertsKnown (now (work .entry)) (now (work .exit)) c row count r ⌝ }
 {

@@ -2,15 +2,16 @@
 ghost use mathlib.Core.Option.{none};
 ghost use Prim.Native.Nat.{_+_, _*_, _≤_};
 ghost use lib.ListN.{length};
-ghost use Rattle.tlv.specs.Buffer.{Put};
 ghost use Rattle.tlv.specs.Outcome.{done};
-ghost use Rattle.tlv.specs.Output.{warningsBytes};
+ghost use Rattle.buffers.specs.Buffer.{Put};
+ghost use Rattle.buffers.specs.Output.{warningsBytes};
+ghost use Rattle.line_program.specs.Scan.{offsetRecord};
 ghost use Rattle.lines.specs.Lines.{mismatch};
+ghost use Rattle.rows.specs.Sizes.{entrySize, lineSize, rangeSize, rowRoom};
 ghost use Rattle.collect.specs.Passes.{RowsCounted, sequencesFrom};
 ghost use Rattle.collect.specs.Sources.{rowsHere, RowsReady};
 ghost use Rattle.collect.specs.Converts.{ConversionIn};
 ghost use Rattle.collect.specs.Stages.{StoresLines, FinishesLines};
-ghost use Rattle.rows.specs.Sizes.{entrySize, lineSize, rangeSize, rowRoom};
 use crate::collect::CollectedLines;
 use crate::convert::Conversion;
 use crate::convert::ConvertedRow;
@@ -31,7 +32,7 @@ fn warn_mismatch(warnings: &mut [u8], warned: usize, sequences: usize, offsets: 
     if offsets == sequences {
         return warned;
     }
-    tlv::output::put_warning(warnings, warned, 5, sequences as u64, offsets as u64)
+    buffers::output::put_warning(warnings, warned, 5, sequences as u64, offsets as u64)
 }
 
 // Writes the unit's sequences behind its lines, sorts these and drops equal neighbours. A table of its rows may be overwritten by the sort.
@@ -47,7 +48,7 @@ fn store_lines(
 ) -> StoredLines
     requires { ⌜ RowsReady (now main) (now work) p (lines + count * lineSize
         + rangeSize * length (sequencesFrom (rowsHere (now main) (now work) p rows) 0 none)) rows ⌝ }
-    requires { ⌜ offsets + n * 8 ≤ lines ⌝ }
+    requires { ⌜ offsets + n * offsetRecord ≤ lines ⌝ }
     requires { ⌜ lines + count * rowRoom + rangeSize * length (sequencesFrom
         (rowsHere (now main) (now work) p rows) 0 none) + entrySize ≤ length (now work) ⌝ }
     ensures { λ r. ⌜ StoresLines (rowsHere (now (main .entry)) (now (work .entry)) p rows) (now (work .entry))

@@ -2,21 +2,24 @@
 ghost use Prim.Native.Nat.{_+_, _*_, _/_, _≤_};
 ghost use lib.ListN.{length, take, drop};
 ghost use Rattle.tlv.specs.Checked.{Placed};
-ghost use Rattle.tlv.specs.Places.{unitHere};
 ghost use Rattle.tlv.specs.Model.{headerOf};
-ghost use Rattle.lines.specs.Scan.{Scanned};
-ghost use Rattle.lines.specs.Program.{lineSequenceOffsets};
+ghost use Rattle.access.specs.Places.{unitHere};
+ghost use Rattle.line_program.specs.Scan.{Scanned, offsetRecord, sequenceLeast};
+ghost use Rattle.line_program.specs.Program.{lineSequenceOffsets};
 ghost use Rattle.files.specs.Pieces.{headerHere, UnitPlaced};
 ghost use Rattle.files.specs.Store.{FilesIn};
 ghost use Rattle.files.specs.Interns.{Listed};
+ghost use Rattle.files.specs.Indices.{indexRecord};
 ghost use Rattle.collect.specs.Stages.{HeaderRead, UnitRoom, InternsUnit, ConversionOf};
 use crate::convert::Conversion;
 use files::header::InternedFiles;
+use files::index::INDEX_RECORD;
 use files::index::StoredIndices;
 use files::spans::FileUnit;
+use files::spans::SPAN_RECORD;
 use files::store::StoredFiles;
-use lines::lines::Header;
-use lines::lines::Scan;
+use line_program::lines::Header;
+use line_program::lines::Scan;
 use tlv::tags::FILE_ZERO_TAG;
 use tlv::tags::UNIT_WHOLE;
 
@@ -55,14 +58,14 @@ pub fn scan_program(
 ) -> Scan
     requires { ⌜ 19 ≤ len ⌝ }
     requires { ⌜ start + len ≤ length (now main) ⌝ }
-    requires { ⌜ free + length (now program) / 3 * 8 ≤ length (now work) ⌝ }
+    requires { ⌜ free + length (now program) / sequenceLeast * offsetRecord ≤ length (now work) ⌝ }
     ensures { λ r. ⌜ Scanned (now (program .entry)) (now (work .entry)) (now (work .exit)) free r
         (lineSequenceOffsets (headerOf (take len (drop start (now (main .entry))))) (now (program .entry))) ⌝ }
 {
     let header = read_header(main, start);
     let from = start + 19;
     let to = start + len;
-    lines::lines::line_sequence_offsets(program, &main[from..to], header, work, free)
+    line_program::lines::line_sequence_offsets(program, &main[from..to], header, work, free)
 }
 
 // Writes the spans of the unit's directories at base, and the unit's map behind them.
@@ -83,7 +86,7 @@ pub fn intern_unit(
         (now (files .exit)) place t base r ⌝ }
 {
     let unit = files::spans::file_unit(main, place, work, base);
-    let at = base + unit.directory_count * 8;
+    let at = base + unit.directory_count * SPAN_RECORD;
     match files::header::intern_header_files(
         main,
         supplementary,
@@ -119,15 +122,15 @@ pub fn conversion(
     n: usize,
 ) -> Conversion
     requires { ⌜ Placed (now main) (unit .place + 21) ⌝ }
-    requires { ⌜ indices .base + indices .count * 5 ≤ 18446744073709551615 ⌝ }
+    requires { ⌜ indices .base + indices .count * indexRecord ≤ 18446744073709551615 ⌝ }
     ensures { λ r. ⌜ ConversionOf (now (main .entry)) unit indices offsets n r ⌝ }
 {
     Conversion {
         unit: unit,
-        zero: tlv::access::next_before_rows(main, unit.place + UNIT_WHOLE, FILE_ZERO_TAG),
+        zero: access::access::next_before_rows(main, unit.place + UNIT_WHOLE, FILE_ZERO_TAG),
         indices: indices,
         offsets: offsets,
         offset_count: n,
-        lines: indices.base + indices.count * 5,
+        lines: indices.base + indices.count * INDEX_RECORD,
     }
 }

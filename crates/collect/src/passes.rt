@@ -5,11 +5,13 @@ ghost use Prim.Native.Nat.{_+_, _*_, _≤_};
 ghost use lib.ListN.{length};
 ghost use Rattle.tlv.specs.Checked.{Placed};
 ghost use Rattle.tlv.specs.Lists.{at};
+ghost use Rattle.line_program.specs.Scan.{offsetRecord};
 ghost use Rattle.rows.specs.Sizes.{rangeSize};
 ghost use Rattle.rows.specs.Stored.{sequenceOf};
 ghost use Rattle.collect.specs.Passes.{rowsFrom, countRows, countedOf, offsetsAt, sequencesFrom, SequencePut, SequencesIn};
+use access::access::Own;
+use line_program::lines::OFFSET_RECORD;
 use rows::line::RANGE_SIZE;
-use tlv::access::Own;
 use tlv::shapes::ROW_KIND;
 
 // The refusal of a row that could not be read.
@@ -31,7 +33,7 @@ pub fn count_rows(s: &[u8], p: usize) -> CountedRows
     let mut opened: usize = 0;
     let mut n: usize = 0;
     loop {
-        match tlv::access::next_row(s, at) {
+        match access::access::next_row(s, at) {
             Own::Missing => {
                 return CountedRows::Rows {
                     lines: lines,
@@ -68,11 +70,14 @@ pub fn sequence_offset(
     n: usize,
     sequence: usize,
 ) -> rows::line::StatementSequence
-    requires { ⌜ base + n * 8 ≤ length (now work) ⌝ }
+    requires { ⌜ base + n * offsetRecord ≤ length (now work) ⌝ }
     ensures { λ r. ⌜ sequenceOf r ≡ at (offsetsAt (now (work .entry)) base n) sequence ⌝ }
 {
     if sequence < n {
-        return rows::line::StatementSequence::At(tlv::bytes::read_u64(work, base + sequence * 8));
+        return rows::line::StatementSequence::At(tlv::bytes::read_u64(
+            work,
+            base + sequence * OFFSET_RECORD,
+        ));
     }
     rows::line::StatementSequence::Unknown
 }
@@ -87,7 +92,7 @@ pub fn put_sequence_record(
     start: u64,
     end: u64,
 )
-    requires { ⌜ offsets + n * 8 ≤ p ⌝ }
+    requires { ⌜ offsets + n * offsetRecord ≤ p ⌝ }
     requires { ⌜ p + rangeSize ≤ length (now work) ⌝ }
     ensures { λ _. ⌜ SequencePut (now (work .entry)) (now (work .exit)) p offsets n
         (record { range = record { start = start; end = end }; sequence = sequence }) ⌝ }
@@ -110,7 +115,7 @@ pub fn collect_sequences(
     base: usize,
 ) -> usize
     requires { ⌜ Placed (now s) p ⌝ }
-    requires { ⌜ offsets + n * 8 ≤ base ⌝ }
+    requires { ⌜ offsets + n * offsetRecord ≤ base ⌝ }
     requires { ⌜ base + rangeSize * length (sequencesFrom (rowsFrom (now s) p) 0 none) ≤ length (now work) ⌝ }
     ensures { λ r. ⌜ SequencesIn (rowsFrom (now (s .entry)) p) (now (work .entry)) (now (work .exit)) offsets n base r ⌝ }
 {
@@ -124,7 +129,7 @@ pub fn collect_sequences(
             start: row,
             len: _,
             next,
-        } = tlv::access::next_row(s, at)
+        } = access::access::next_row(s, at)
         else {
             return count;
         };

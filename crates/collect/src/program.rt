@@ -51,11 +51,11 @@ fn put_row(work: &mut [u8], p: usize, r: Registers, kind: u8)
     ensures { λ _. ⌜ RowPut (now (work .entry)) (now (work .exit)) p (appendedRow r kind) ⌝ }
 {
     let column = shown_column(r.column);
-    tlv::table::set_u64(work, p, r.address);
-    tlv::table::set_u64(work, p + 8, r.file);
-    tlv::table::set_u64(work, p + ROW_LINE, r.line);
-    tlv::table::set_u16(work, p + ROW_COLUMN, column);
-    tlv::table::set_u8(work, p + ROW_KIND, kind);
+    buffers::table::set_u64(work, p, r.address);
+    buffers::table::set_u64(work, p + 8, r.file);
+    buffers::table::set_u64(work, p + ROW_LINE, r.line);
+    buffers::table::set_u16(work, p + ROW_COLUMN, column);
+    buffers::table::set_u8(work, p + ROW_KIND, kind);
 }
 
 // Writes the rows of a program from base on; 21 before any instruction.

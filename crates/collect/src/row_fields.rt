@@ -4,19 +4,19 @@ ghost use Prim.Native.Nat.{_+_, _*_, _≤_};
 ghost use lib.ListN.{length};
 ghost use Rattle.tlv.specs.Grammar.{rowFieldSize};
 ghost use Rattle.tlv.specs.Model.{rowOf};
-ghost use Rattle.tlv.specs.Table.{chunk};
+ghost use Rattle.buffers.specs.Table.{chunk};
 ghost use Rattle.lines.specs.Lines.{rawLine};
+ghost use Rattle.rows.specs.Sizes.{lineSize};
 ghost use Rattle.collect.specs.Passes.{rowsFrom};
 ghost use Rattle.collect.specs.Converts.{ConversionIn, rawOf, RowsConvert};
-ghost use Rattle.rows.specs.Sizes.{lineSize};
 use crate::convert::Conversion;
 use crate::convert::ConvertedRow;
 use crate::convert::Converting;
 use crate::convert::Row;
 use crate::convert::convert_known;
 use crate::convert::convert_row;
+use access::access::Own;
 use files::index::FileNumber;
-use tlv::access::Own;
 use tlv::shapes::ROW_COLUMN;
 use tlv::shapes::ROW_KIND;
 use tlv::shapes::ROW_LINE;
@@ -69,7 +69,7 @@ pub fn convert_rows(
             start,
             len: _,
             next,
-        } = tlv::access::next_row(main, at)
+        } = access::access::next_row(main, at)
         else {
             return ConvertedRow::Next(state);
         };

@@ -3,10 +3,10 @@ ghost use mathlib.Core.Path.{_≡_};
 ghost use Prim.Native.Nat.{_<_};
 ghost use Rattle.collect.specs.Converts.{zeroOf, listedOf, soughtOf};
 use crate::convert::Conversion;
+use access::access::Own;
 use files::index::FileNumber;
 use files::index::StoredIndices;
 use files::spans::Span;
-use tlv::access::Own;
 
 // What a header has at a file number that the unit's map has no number for: nothing, a file with no path, or file 0 before version 5.
 pub enum SoughtFile {

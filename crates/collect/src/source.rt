@@ -4,6 +4,7 @@ ghost use Prim.Native.Nat.{_+_, _*_, _≤_};
 ghost use lib.ListN.{length};
 ghost use Rattle.tlv.specs.Checked.{Placed};
 ghost use Rattle.tlv.specs.Grammar.{encodingFieldSize};
+ghost use Rattle.line_program.specs.Scan.{offsetRecord};
 ghost use Rattle.rows.specs.Sizes.{lineSize, rangeSize, rowRoom};
 ghost use Rattle.collect.specs.Passes.{sequencesFrom, SequencesIn};
 ghost use Rattle.collect.specs.Sources.{EncodingRead, sourceRows, mostRows, SourceWithin, SourceFound, rowsHere, RowsReady, GathersUnit, FindsFault};
@@ -19,9 +20,9 @@ use crate::program::gather_program_rows;
 use crate::row_fields::convert_rows;
 use crate::table::collect_table_sequences;
 use crate::table::convert_table_rows;
+use access::access::Own;
 use machine::registers::Encoding;
 use rows::line::LINE_SIZE;
-use tlv::access::Own;
 use tlv::bytes::read_u8;
 use tlv::tags::ENCODING_TAG;
 
@@ -73,7 +74,7 @@ pub fn row_source(main: &[u8], p: usize, start: usize, len: usize) -> RowSource
     requires { ⌜ start + len ≤ length (now main) ⌝ }
     ensures { λ r. ⌜ SourceFound (now (main .entry)) p start len r ⌝ }
 {
-    match tlv::access::next_before_rows(main, p, ENCODING_TAG) {
+    match access::access::next_before_rows(main, p, ENCODING_TAG) {
         Own::Missing => RowSource::Fields,
         Own::Field {
             start: at,
@@ -226,7 +227,7 @@ pub fn collect_unit_sequences(
     base: usize,
 ) -> usize
     requires { ⌜ RowsReady (now main) (now work) p (base + rangeSize * length (sequencesFrom (rowsHere (now main) (now work) p rows) 0 none)) rows ⌝ }
-    requires { ⌜ offsets + n * 8 ≤ base ⌝ }
+    requires { ⌜ offsets + n * offsetRecord ≤ base ⌝ }
     requires { ⌜ base + rangeSize * length (sequencesFrom (rowsHere (now main) (now work) p rows) 0 none) ≤ length (now work) ⌝ }
     ensures { λ r. ⌜ SequencesIn (rowsHere (now (main .entry)) (now (work .entry)) p rows) (now (work .entry)) (now (work .exit)) offsets n base r ⌝ }
 {

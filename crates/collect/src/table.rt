@@ -3,6 +3,7 @@ ghost use mathlib.Core.Option.{none};
 ghost use Prim.Native.Nat.{_+_, _*_, _≤_};
 ghost use lib.ListN.{length};
 ghost use Rattle.tlv.specs.Grammar.{rowFieldSize};
+ghost use Rattle.line_program.specs.Scan.{offsetRecord};
 ghost use Rattle.rows.specs.Sizes.{lineSize, rangeSize};
 ghost use Rattle.collect.specs.Passes.{sequencesFrom, SequencesIn};
 ghost use Rattle.collect.specs.Tables.{tableRows};
@@ -84,7 +85,7 @@ pub fn collect_table_sequences(
     base: usize,
 ) -> usize
     requires { ⌜ at + rows * rowFieldSize ≤ length (now work) ⌝ }
-    requires { ⌜ offsets + n * 8 ≤ base ⌝ }
+    requires { ⌜ offsets + n * offsetRecord ≤ base ⌝ }
     requires { ⌜ base + rangeSize * length (sequencesFrom (tableRows (now work) at rows) 0 none) ≤ at ⌝ }
     ensures { λ r. ⌜ SequencesIn (tableRows (now (work .entry)) at rows) (now (work .entry)) (now (work .exit)) offsets n base r ⌝ }
 {

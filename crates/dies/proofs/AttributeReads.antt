@@ -8,27 +8,27 @@ use native.Mathlib.Omega.{arith}
 use lib.Dec.{leb, eqb}
 use lib.ListN.{length, drop}
 use borrow.Author.Tests.{leb-true, eqb-true, eqb-false}
-use Rattle.tlv.specs.declared.access.Value.{Value}
 use Rattle.tlv.specs.Lists.{All, first, takeWhile}
 use Rattle.tlv.specs.Bytes.{Bytes, leAt}
 use Rattle.tlv.specs.Fields.{Field, fields, wholeFields, payloads}
 use Rattle.tlv.specs.Grammar.{valueShaped, attributeShaped, payloadShaped}
 use Rattle.tlv.specs.Model.{Attribute, attributeOf}
 use Rattle.tlv.specs.Accepted.{Given}
-use Rattle.tlv.specs.Checked.{Placed}
-use Rattle.tlv.specs.Places.{ownFields, entryHere}
-use Rattle.tlv.specs.Access.{Meaning, absent, unsigned, fileNumber, text, unitReference, sectionReference, supplementaryReference, sectionOffset, lineOffset, address, failed, isNamed, valueOf, meaningOf, meant, Says}
+use Rattle.tlv.specs.Checked.{Placed, Accepted}
 use Rattle.tlv.proofs.TestLaws.{and-left, and-right}
 use Rattle.tlv.proofs.ListLaws.{all-image, all-first}
-use Rattle.tlv.proofs.IndexModel.{either}
 use Rattle.tlv.proofs.AcceptedFields.{Promised, promised-all}
 use Rattle.tlv.proofs.PlaceFacts.{placed-start, placed-passed}
-use Rattle.tlv.proofs.EntryPlaceLaws.{entry-attributes}
+use Rattle.access.specs.declared.access.Value.{Value}
+use Rattle.access.specs.Places.{ownFields, entryHere}
+use Rattle.access.specs.Access.{Meaning, absent, unsigned, fileNumber, text, unitReference, sectionReference, supplementaryReference, sectionOffset, lineOffset, address, failed, isNamed, valueOf, meaningOf, meant, Says}
+use Rattle.access.proofs.IndexModel.{either}
+use Rattle.access.proofs.EntryPlaceLaws.{entry-attributes}
 use Rattle.references.specs.Search.{attribute}
 use Rattle.references.specs.Tables.{EntryKnown}
 use Rattle.references.proofs.ReferenceLaws.{by-kind, ofKind, entry-step, entry-next, attribute-says}
 use Rattle.dies.specs.declared.sites.Address.{Address}
-use Rattle.dies.specs.DetailState.{Accepted, addressOf, addressIn}
+use Rattle.dies.specs.Calls.{addressOf, addressIn}
 
 -- ---- the kinds of an accepted sheet
 

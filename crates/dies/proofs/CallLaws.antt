@@ -10,28 +10,29 @@ use Rattle.tlv.specs.declared.model.FileIndex.{FileIndex}
 use Rattle.tlv.specs.Outcome.{_>>=_}
 use Rattle.tlv.specs.Bytes.{leAt, bytesOf}
 use Rattle.tlv.specs.Fields.{fields, encode}
-use Rattle.tlv.specs.Buffer.{Put, top}
-use Rattle.tlv.specs.Places.{entryHere, unitHere, unitPlaces}
-use Rattle.tlv.specs.Output.{about, missingInlineCallFile, invalidInlineCallLine, kindNumber, warningPayload, eachOf, warningsBytes}
+use Rattle.tlv.specs.Checked.{Accepted}
 use Rattle.tlv.proofs.ListLaws.{any-one}
-use Rattle.tlv.proofs.BufferLaws.{put-none}
-use Rattle.tlv.proofs.OutputLaws.{put-about}
 use Rattle.tlv.proofs.CursorLaws.{field-within}
 use Rattle.tlv.proofs.PlacePromises.{placed-unit}
-use Rattle.tlv.proofs.EntryPlaceLaws.{entry-offset-is, entry-depth-is, entry-tag-is}
-use Rattle.tlv.proofs.UnitFacts.{UnitAt, all-unit-places, unit-offset}
+use Rattle.buffers.specs.Buffer.{Put, top}
+use Rattle.buffers.specs.Output.{about, missingInlineCallFile, invalidInlineCallLine, kindNumber, warningPayload, eachOf, warningsBytes}
+use Rattle.buffers.proofs.BufferLaws.{put-none}
+use Rattle.buffers.proofs.OutputLaws.{put-about}
+use Rattle.access.specs.Places.{entryHere, unitHere, unitPlaces}
+use Rattle.access.proofs.EntryPlaceLaws.{entry-offset-is, entry-depth-is, entry-tag-is}
+use Rattle.access.proofs.UnitFacts.{UnitAt, all-unit-places, unit-offset}
+use Rattle.lines.specs.Files.{FileIndices, fileIndex, get}
 use Rattle.files.specs.declared.index.FoundIndex.{FoundIndex}
 use Rattle.files.specs.Indices.{numberOf}
-use Rattle.lines.specs.Files.{FileIndices, fileIndex, get}
 use Rattle.references.specs.Search.{absoluteEntryOffset, unsignedAttribute, fileIndexAttribute}
 use Rattle.references.specs.declared.attributes.Number.{Number}
 use Rattle.references.specs.Tables.{EntryKnown, numberGiven}
 use Rattle.references.proofs.NumberLaws.{given-none, given-some}
 use Rattle.references.proofs.ReferenceLaws.{entry-placed, entry-step, entry-inside}
 use Rattle.references.proofs.TargetLaws.{known-unit}
-use Rattle.dies.specs.declared.calls.Warned.{Warned}
 use Rattle.imports.specs.Tree.{DetailContext, callFileFrom, callFileOf, callLineIf, callLineOf}
-use Rattle.dies.specs.DetailState.{Accepted, AboutWarned, FileCalled, LineCalled}
+use Rattle.dies.specs.declared.calls.Warned.{Warned}
+use Rattle.dies.specs.Calls.{AboutWarned, FileCalled, LineCalled}
 use Rattle.dies.proofs.AttributeReads.{accepted-placed}
 
 -- no warning

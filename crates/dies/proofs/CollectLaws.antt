@@ -8,17 +8,17 @@ use lib.ListN.{length}
 use borrow.Author.Tests.{eq-eqb, ne-eqb}
 use Rattle.tlv.specs.Outcome.{refused, done}
 use Rattle.tlv.specs.Bytes.{leAt}
-use Rattle.tlv.specs.Buffer.{top}
 use Rattle.tlv.specs.Model.{Entry}
-use Rattle.tlv.specs.Output.{InlineNode, Warning}
-use Rattle.tlv.specs.Places.{entryHere}
-use Rattle.tlv.specs.Table.{Kept}
-use Rattle.tlv.proofs.BufferLaws.{put-none}
-use Rattle.tlv.proofs.TableLaws.{kept-refl, kept-trans}
+use Rattle.buffers.specs.Buffer.{top}
+use Rattle.buffers.specs.Output.{InlineNode, Warning}
+use Rattle.buffers.specs.Table.{Kept}
+use Rattle.buffers.proofs.BufferLaws.{put-none}
+use Rattle.buffers.proofs.TableLaws.{kept-refl, kept-trans}
+use Rattle.access.specs.Places.{entryHere}
 use Rattle.references.specs.Tables.{EntryKnown}
+use Rattle.imports.specs.Tree.{Descendants, DetailContext, finish, makeInlineNode, collectEntry}
 use Rattle.dies.specs.declared.dies.Details.{Details}
 use Rattle.dies.specs.declared.walk.Walk.{Walk}
-use Rattle.imports.specs.Tree.{Descendants, DetailContext, finish, makeInlineNode, collectEntry}
 use Rattle.dies.specs.Details.{DetailsIn, contextIn}
 use Rattle.dies.specs.DetailState.{rangesLater, entriesLeft, walkOf, Fits, walked, Advances, Quiet, Shut, collectSite, stepEntry}
 use Rattle.dies.proofs.PastLaws.{past-same}

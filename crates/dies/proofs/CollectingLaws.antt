@@ -9,24 +9,24 @@ use Rattle.tlv.specs.declared.model.AddressRange.{AddressRange}
 use Rattle.tlv.specs.declared.fields.Step.{Step}
 use Rattle.tlv.specs.Outcome.{refused, done, _>>=_}
 use Rattle.tlv.specs.Bytes.{leAt}
-use Rattle.tlv.specs.Buffer.{Put, top}
 use Rattle.tlv.specs.Checked.{Placed}
 use Rattle.tlv.specs.Cursor.{stepAt}
 use Rattle.tlv.specs.Model.{Entry}
-use Rattle.tlv.specs.Output.{InlineNode, Warning, eachOf, nodeBytes, warningsBytes}
-use Rattle.tlv.specs.Places.{entryHere}
-use Rattle.tlv.specs.Table.{Kept}
-use Rattle.tlv.proofs.BufferLaws.{_then_, put-none, put-length}
-use Rattle.tlv.proofs.TableLaws.{kept-refl, kept-trans}
 use Rattle.tlv.proofs.CursorLaws.{field-within}
 use Rattle.tlv.proofs.PlaceFacts.{placed-next}
 use Rattle.tlv.proofs.PlacePromises.{placed-entry}
-use Rattle.tlv.proofs.EntryPlaceLaws.{entry-depth-is}
+use Rattle.buffers.specs.Buffer.{Put, top}
+use Rattle.buffers.specs.Output.{InlineNode, Warning, eachOf, nodeBytes, warningsBytes}
+use Rattle.buffers.specs.Table.{Kept}
+use Rattle.buffers.proofs.BufferLaws.{_then_, put-none, put-length}
+use Rattle.buffers.proofs.TableLaws.{kept-refl, kept-trans}
+use Rattle.access.specs.Places.{entryHere}
+use Rattle.access.proofs.EntryPlaceLaws.{entry-depth-is}
 use Rattle.references.specs.Tables.{EntryKnown}
-use Rattle.dies.specs.declared.dies.Details.{Details}
-use Rattle.dies.specs.declared.walk.Walk.{Walk}
 use Rattle.imports.specs.Import.{descendantsOf}
 use Rattle.imports.specs.Tree.{Descendants, DetailContext, collectEntries}
+use Rattle.dies.specs.declared.dies.Details.{Details}
+use Rattle.dies.specs.declared.walk.Walk.{Walk}
 use Rattle.dies.specs.Past.{isPast}
 use Rattle.dies.specs.Details.{DetailsIn, EntriesKnown, contextIn, entriesFrom}
 use Rattle.dies.specs.DetailState.{noneLater, rangesLater, entriesLeft, walkOf, Fits, leadBytes, newBytes, walked, Advances, stepEntry}

@@ -13,12 +13,12 @@ use Rattle.tlv.specs.Bytes.{leAt}
 use Rattle.tlv.specs.Fields.{Field, FieldList, more, fields, wholeFields, payloads}
 use Rattle.tlv.specs.Cursor.{stepAt}
 use Rattle.tlv.specs.Checked.{fieldIn}
-use Rattle.tlv.specs.Places.{unitHere, behind, unitPlaces, IndexedEntry, entryIndex}
 use Rattle.tlv.proofs.ListLaws.{all-map}
 use Rattle.tlv.proofs.CursorLaws.{fields-field, field-within, payload-length, row-ind}
-use Rattle.tlv.proofs.ListCountLaws.{unit-lists}
-use Rattle.tlv.proofs.IndexLaws.{index-unit, index-entry, index-other}
-use Rattle.tlv.proofs.IndexModel.{either, here-unit, places-unit, places-other}
+use Rattle.access.specs.Places.{unitHere, behind, unitPlaces, IndexedEntry, entryIndex}
+use Rattle.access.proofs.ListCountLaws.{unit-lists}
+use Rattle.access.proofs.IndexLaws.{index-unit, index-entry, index-other}
+use Rattle.access.proofs.IndexModel.{either, here-unit, places-unit, places-other}
 use Rattle.dies.specs.Details.{EntriesKnown}
 
 all-self : (xs : List IndexedEntry) → All (λ e. Any (λ x. x ≡ e) xs) xs

@@ -14,16 +14,16 @@ use Rattle.tlv.specs.Model.{Entry}
 use Rattle.tlv.specs.Cursor.{stepAt}
 use Rattle.tlv.specs.Bytes.{leAt}
 use Rattle.tlv.specs.Checked.{fieldIn, Placed}
-use Rattle.tlv.specs.Places.{ownFields, unitFields, entryHere, unitHere, behind, entryIndex, listsFrom}
 use Rattle.tlv.proofs.CursorLaws.{fields-at, fields-field, field-within, payload-length}
 use Rattle.tlv.proofs.PlacePromises.{placed-entry}
-use Rattle.tlv.proofs.EntryPlaceLaws.{entry-depth-is}
-use Rattle.tlv.proofs.ListCountLaws.{lists-one, lists-other}
-use Rattle.tlv.proofs.IndexLaws.{index-entry, index-other}
-use Rattle.tlv.proofs.IndexModel.{either}
+use Rattle.access.specs.Places.{ownFields, unitFields, entryHere, unitHere, behind, entryIndex, listsFrom}
+use Rattle.access.proofs.EntryPlaceLaws.{entry-depth-is}
+use Rattle.access.proofs.ListCountLaws.{lists-one, lists-other}
+use Rattle.access.proofs.IndexLaws.{index-entry, index-other}
+use Rattle.access.proofs.IndexModel.{either}
 use Rattle.references.specs.Tables.{EntryKnown}
 use Rattle.imports.specs.Import.{descendantsOf}
-use Rattle.dies.specs.RangeTable as table
+use Rattle.ranges.specs.RangeTable as table
 use Rattle.dies.specs.Details.{entriesFrom, EntriesKnown}
 use Rattle.dies.specs.DetailState.{rangesLater, entriesLeft}
 

@@ -9,13 +9,17 @@ use lib.ListN.{length}
 use Rattle.tlv.specs.declared.model.AddressRange.{AddressRange}
 use Rattle.tlv.specs.Outcome.{refused, done, _>>=_}
 use Rattle.tlv.specs.Lists.{takeWhile, dropWhile}
-use Rattle.tlv.specs.Buffer.{Put, top}
 use Rattle.tlv.specs.Model.{Entry}
-use Rattle.tlv.specs.Output.{InlineNode, eachOf, nodeBytes}
-use Rattle.tlv.specs.Table.{Kept}
-use Rattle.tlv.proofs.BufferLaws.{_then_, put-none}
-use Rattle.tlv.proofs.TableLaws.{kept-refl, kept-trans}
-use Rattle.tlv.proofs.IndexModel.{either}
+use Rattle.buffers.specs.Buffer.{Put, top}
+use Rattle.buffers.specs.Output.{InlineNode, eachOf, nodeBytes}
+use Rattle.buffers.specs.Table.{Kept}
+use Rattle.buffers.proofs.BufferLaws.{_then_, put-none}
+use Rattle.buffers.proofs.TableLaws.{kept-refl, kept-trans}
+use Rattle.access.proofs.IndexModel.{either}
+use Rattle.imports.specs.Import.{descendantsOf, rooted}
+use Rattle.imports.specs.Tree.{Descendants, DetailContext, finishInlines, finish, collectEntries, noDescendants, collectDescendants, extractSubprogramDetails}
+use Rattle.ranges.specs.RangeTable.{PutRange}
+use Rattle.ranges.proofs.RangeTableLaws.{range-there}
 use Rattle.dies.specs.declared.dies.Details.{Details}
 use Rattle.dies.specs.declared.walk.Walk.{Walk}
 use Rattle.dies.specs.declared.dies.Extracted.{Extracted}
@@ -23,12 +27,8 @@ use Rattle.dies.specs.declared.sites.LaidSites.{LaidSites}
 use Rattle.dies.specs.Past.{isPast}
 use Rattle.dies.specs.declared.frames.Open.{Open}
 use Rattle.dies.specs.FrameStack.{Empty}
-use Rattle.imports.specs.Import.{descendantsOf, rooted}
-use Rattle.dies.specs.RangeTable.{PutRange}
-use Rattle.imports.specs.Tree.{Descendants, DetailContext, finishInlines, finish, collectEntries, noDescendants, collectDescendants, extractSubprogramDetails}
 use Rattle.dies.specs.Details.{DetailsIn, EntriesKnown, listCount, contextIn, entriesFrom, Extracts}
 use Rattle.dies.specs.DetailState.{noneLater, originName, rangesLater, entriesLeft, walkOf, Fits, newBytes, walked, Advances, Shut, SitesPut, Descends}
-use Rattle.dies.proofs.RangeTableLaws.{range-there}
 use Rattle.dies.proofs.FrameLaws.{open-none, lean-start}
 use Rattle.dies.proofs.SiteLaws.{sites-none, site-frames-none}
 use Rattle.dies.proofs.CallLaws.{warn-none}

@@ -1,6 +1,5 @@
 -- The open inline nodes: frames by value, and their ranges in the work slice. Assumes nothing.
 use mathlib.Core.Path.{_≡_, refl, sym, ap, _∙_}
-use mathlib.Core.Logic.{inl}
 use mathlib.Core.List.{List, [], _∷_}
 use Prim.Native.Nat.{ℕ, zero, suc, _+_, _-_, _*_, _≤_, _<_}
 use native.Mathlib.Nat.{mul-comm, mul-add}
@@ -9,16 +8,16 @@ use native.Mathlib.Omega.{arith}
 use lib.ListN.{length, set, length-set}
 use lib.Seq.{getD-set-same, getD-set-other}
 use borrow.Author.Tests.{le-leb, lt-leb}
-use Rattle.tlv.specs.Table.{Apart, Kept, Clear, KeptBut}
-use Rattle.tlv.proofs.TableLaws.{but-one}
-use Rattle.files.proofs.GrownLaws.{clear-part}
 use Rattle.tlv.specs.declared.model.AddressRange.{AddressRange}
+use Rattle.buffers.specs.Table.{Apart, Kept, Clear, KeptBut}
+use Rattle.buffers.proofs.TableLaws.{but-one}
+use Rattle.files.proofs.GrownLaws.{clear-part}
+use Rattle.imports.specs.Tree.{InlineFrame, finishInlines, parentRanges}
+use Rattle.ranges.specs.RangeTable.{rangesAt}
+use Rattle.ranges.proofs.RangeTableLaws.{ranges-but}
 use Rattle.dies.specs.declared.frames.Frame.{Frame}
 use Rattle.dies.specs.declared.frames.Open.{Open}
-use Rattle.imports.specs.Tree.{InlineFrame, finishInlines, parentRanges}
-use Rattle.dies.specs.RangeTable.{rangesAt}
 use Rattle.dies.specs.FrameStack.{slot, openOf, Stacked, Lean, openIn, Ready, Empty, Popped, grown}
-use Rattle.dies.proofs.RangeTableLaws.{ranges-but}
 
 -- ---- the stack of ranges
 
@@ -70,10 +69,6 @@ module _ (st : Open) (R : Ready st) where
 
   pub open-kept : {w w′ : List ℕ} {p m : ℕ} (base : ℕ) → Kept w w′ p m → Apart base (st .used * 16) p m → openIn w′ base st ≡ openIn w base st
   open-kept base K a = open-but base (but-one K) (a, tt)
-
-  -- what is written at or above `used`
-  pub open-below : {w w′ : List ℕ} {p m : ℕ} (base : ℕ) → Kept w w′ p m → base + st .used * 16 ≤ p → openIn w′ base st ≡ openIn w base st
-  open-below base K h = open-kept base K (inl h)
 
 -- no node is open
 none-open : (fs : List Frame) (n used : ℕ) (w : List ℕ) (base : ℕ) → n ≡ 0 → openOf fs n used w base ≡ []

@@ -9,30 +9,30 @@ use lib.ListN.{length}
 use Rattle.tlv.specs.declared.model.AddressRange.{AddressRange}
 use Rattle.tlv.specs.Outcome.{refused, done, _>>=_}
 use Rattle.tlv.specs.Lists.{isEmpty, isNone}
-use Rattle.tlv.specs.Buffer.{Put, top}
 use Rattle.tlv.specs.Model.{Entry}
-use Rattle.tlv.specs.Output.{InlineNode, Warning, warningsBytes}
-use Rattle.tlv.specs.Places.{entryHere, unitHere}
-use Rattle.tlv.specs.Table.{Kept}
-use Rattle.tlv.proofs.BufferLaws.{put-none}
-use Rattle.tlv.proofs.TableLaws.{kept-trans}
+use Rattle.buffers.specs.Buffer.{Put, top}
+use Rattle.buffers.specs.Output.{InlineNode, Warning, warningsBytes}
+use Rattle.buffers.specs.Table.{Kept}
+use Rattle.buffers.proofs.BufferLaws.{put-none}
+use Rattle.buffers.proofs.TableLaws.{kept-trans}
+use Rattle.access.specs.Places.{entryHere, unitHere}
+use Rattle.rnglists.specs.RangeLists.{DieRanges}
 use Rattle.references.specs.Search.{resolveName}
 use Rattle.references.specs.Tables.{EntryKnown}
 use Rattle.references.specs.Names.{dwarfOf, Resolved}
 use Rattle.references.proofs.ReferenceLaws.{entry-step}
 use Rattle.references.proofs.SectionLaws.{name-same}
-use Rattle.rnglists.specs.RangeLists.{DieRanges}
-use Rattle.dies.specs.declared.dies.Details.{Details}
-use Rattle.dies.specs.declared.walk.Walk.{Walk}
-use Rattle.dies.specs.declared.inlined.Merged.{Merged}
 use Rattle.imports.specs.Ranges.{coalesceRanges}
 use Rattle.imports.specs.Tree.{Descendants, DetailContext, fit, dieRanges, rangesOf, parentRanges, pushInline, makeInlineNode}
-use Rattle.dies.specs.RangeTable as table
-use Rattle.dies.specs.RangeTable.{rangesAt, readAt, MergedBy, Merges}
+use Rattle.ranges.specs.declared.inlined.Merged.{Merged}
+use Rattle.ranges.specs.RangeTable as table
+use Rattle.ranges.specs.RangeTable.{rangesAt, readAt, MergedBy, Merges}
+use Rattle.ranges.proofs.RangeTableLaws.{ranges-nil}
+use Rattle.dies.specs.declared.dies.Details.{Details}
+use Rattle.dies.specs.declared.walk.Walk.{Walk}
 use Rattle.dies.specs.FrameStack.{openIn}
 use Rattle.dies.specs.Details.{DetailsIn, dwarfWith, contextIn, rangeRoom}
 use Rattle.dies.specs.DetailState.{rangesLater, entriesLeft, walkOf, Fits, OwnRanges, newBytes, walked, Advances}
-use Rattle.dies.proofs.RangeTableLaws.{ranges-nil}
 use Rattle.dies.proofs.FrameLaws.{Top}
 use Rattle.dies.proofs.NodeRangeLaws.{read-here, node-ranges}
 use Rattle.dies.proofs.AttributeReads.{accepted-placed}

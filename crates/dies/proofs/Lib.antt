@@ -1,9 +1,3 @@
-pub mod InsertLaws
-pub mod RangeTableLaws
-pub mod ReorderLaws
-pub mod GatherLaws
-pub mod ListGatherLaws
-pub mod InlinedLaws
 pub mod FrameLaws
 pub mod NodeRangeLaws
 pub mod EntryWalkLaws

@@ -1,16 +1,16 @@
 -- The ranges that the entry at hand can give, of its fields 19 or of its list, have room in the stack of ranges. Assumes nothing.
-use mathlib.Core.Logic.{_⊎_, inl, inr}
+use mathlib.Core.Logic.{inl, inr}
 use mathlib.Core.List.{List}
 use Prim.Native.Nat.{ℕ, suc, _+_, _*_, _≤_, _<_}
 use native.Mathlib.Nat.{mul-le-mul-left}
 use native.Mathlib.Omega.{arith}
 use lib.ListN.{length}
 use Rattle.tlv.specs.Bytes.{Bytes}
-use Rattle.references.specs.Tables.{EntryKnown}
 use Rattle.rnglists.proofs.RoomLaws.{list-room, list-left}
+use Rattle.references.specs.Tables.{EntryKnown}
+use Rattle.ranges.specs.RangeTable.{rangeFields}
 use Rattle.dies.specs.declared.dies.Details.{Details}
 use Rattle.dies.specs.declared.walk.Walk.{Walk}
-use Rattle.dies.specs.RangeTable.{rangeFields, ownLists}
 use Rattle.dies.specs.Details.{DetailsIn, rangeCount, listCount, listRoom, rangeRoom}
 use Rattle.dies.specs.DetailState.{Later, rangesLater, entriesLeft, Fits, OwnRanges}
 use Rattle.dies.proofs.FrameLaws.{lean-used}

@@ -11,13 +11,13 @@ use Rattle.tlv.specs.Bytes.{Bytes}
 use Rattle.tlv.specs.Fields.{fields, wholeFields}
 use Rattle.tlv.specs.Model.{Attribute, units}
 use Rattle.tlv.specs.Accepted.{EntryAccepted, UnitAccepted}
-use Rattle.tlv.specs.Places.{entryHere, unitHere, unitPlaces}
 use Rattle.tlv.proofs.ListLaws.{any-one}
 use Rattle.tlv.proofs.OutcomeLaws.{given, done-is}
 use Rattle.tlv.proofs.AcceptedCounts.{few-payloads}
 use Rattle.tlv.proofs.AcceptedUnits.{accepting}
 use Rattle.tlv.proofs.PlaceFacts.{placed-start, placed-passed}
-use Rattle.tlv.proofs.UnitPlaceLaws.{units-places}
+use Rattle.access.specs.Places.{entryHere, unitHere, unitPlaces}
+use Rattle.access.proofs.UnitPlaceLaws.{units-places}
 use Rattle.references.specs.Search.{attribute, resolveName}
 use Rattle.references.specs.Tables.{EntryKnown}
 use Rattle.references.specs.Names.{dwarfOf, referenceName}

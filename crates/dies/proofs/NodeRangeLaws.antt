@@ -4,20 +4,20 @@ use mathlib.Core.Path.{_≡_, refl, sym, ap, _∙_}
 use mathlib.Core.List.{List, [], _∷_, map}
 use mathlib.Core.Option.{Option, none, some}
 use Prim.Native.Nat.{ℕ, _+_, _-_, _*_}
+use lib.ListN.{drop}
 use Rattle.tlv.specs.declared.fields.Step.{Step}
 use Rattle.tlv.specs.declared.model.AddressRange.{AddressRange}
-use lib.ListN.{drop}
 use Rattle.tlv.specs.Lists.{mapOption}
 use Rattle.tlv.specs.Fields.{fields, payloadOf}
 use Rattle.tlv.specs.Model.{RangeList, EntryRange, rangeListOf}
 use Rattle.tlv.specs.Cursor.{stepAt}
-use Rattle.tlv.specs.Places.{ownFields, entryHere}
-use Rattle.tlv.proofs.EntryPlaceLaws.{entry-ranges, entry-failure, entry-list}
+use Rattle.access.specs.Places.{ownFields, entryHere}
+use Rattle.access.proofs.EntryPlaceLaws.{entry-ranges, entry-failure, entry-list}
 use Rattle.rnglists.specs.RangeLists.{dieRangesBy}
-use Rattle.dies.specs.declared.frames.Open.{Open}
 use Rattle.imports.specs.Ranges.{coalesceRanges}
 use Rattle.imports.specs.Tree.{fit, dieRanges, parentRanges}
-use Rattle.dies.specs.RangeTable.{rangesAt, readBy, readAt}
+use Rattle.ranges.specs.RangeTable.{rangesAt, readBy, readAt}
+use Rattle.dies.specs.declared.frames.Open.{Open}
 use Rattle.dies.specs.Details.{dwarfWith}
 use Rattle.dies.specs.FrameStack.{openIn}
 use Rattle.dies.proofs.FrameLaws.{Top}

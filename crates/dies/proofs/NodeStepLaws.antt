@@ -12,29 +12,30 @@ use Rattle.tlv.specs.declared.model.FileIndex.{FileIndex}
 use Rattle.tlv.specs.Outcome.{Outcome, refused, done, _>>=_}
 use Rattle.tlv.specs.Bytes.{leAt}
 use Rattle.tlv.specs.Fields.{encode}
-use Rattle.tlv.specs.Buffer.{Put, top}
 use Rattle.tlv.specs.Model.{Entry}
-use Rattle.tlv.specs.Output.{InlineNode, Warning, nodePayload, rangePayload, rangeBytes, eachOf, nodeBytes}
-use Rattle.tlv.specs.Places.{entryHere}
-use Rattle.tlv.specs.Table.{Kept}
-use Rattle.tlv.proofs.BufferLaws.{_then_, put-none}
-use Rattle.tlv.proofs.TableLaws.{kept-refl}
+use Rattle.buffers.specs.Buffer.{Put, top}
+use Rattle.buffers.specs.Output.{InlineNode, Warning, nodePayload, rangePayload, rangeBytes, eachOf, nodeBytes}
+use Rattle.buffers.specs.Table.{Kept}
+use Rattle.buffers.proofs.BufferLaws.{_then_, put-none}
+use Rattle.buffers.proofs.TableLaws.{kept-refl}
+use Rattle.access.specs.Places.{entryHere}
 use Rattle.lines.specs.Files.{fileIndex}
 use Rattle.references.specs.Tables.{EntryKnown}
-pub use Rattle.references.proofs.DeclareLaws.{warnings-append}
+pub use Rattle.declarations.proofs.DeclareLaws.{warnings-append}
 use Rattle.files.specs.Indices.{indicesIn}
+use Rattle.imports.specs.Tree.{Descendants, DetailContext, CallFile, CallLine, callFileOf, callLineOf, pushInline}
+use Rattle.ranges.specs.RangeTable.{rangesAt, rangeFields}
+use Rattle.ranges.proofs.RangeTableLaws.{ranges-length}
 use Rattle.dies.specs.declared.dies.Details.{Details}
 use Rattle.dies.specs.declared.walk.Walk.{Walk}
 use Rattle.dies.specs.declared.calls.CalledFile.{CalledFile}
 use Rattle.dies.specs.declared.calls.CalledLine.{CalledLine}
 use Rattle.dies.specs.declared.nodes.Laid.{Laid}
-use Rattle.imports.specs.Tree.{Descendants, DetailContext, CallFile, CallLine, callFileOf, callLineOf, pushInline}
-use Rattle.dies.specs.RangeTable.{rangesAt, rangeFields}
 use Rattle.dies.specs.FrameStack.{openIn, grown}
 use Rattle.dies.specs.Past.{isPast, nodeSize}
 use Rattle.dies.specs.Details.{DetailsIn, contextIn}
-use Rattle.dies.specs.DetailState.{Later, OwnRanges, originName, siteFramesAt, sitesAt, rangesLater, entriesLeft, walkOf, Fits, leadBytes, newBytes, walked, Advances, FileCalled, LineCalled, noded}
-use Rattle.dies.proofs.RangeTableLaws.{ranges-length}
+use Rattle.dies.specs.DetailState.{Later, OwnRanges, originName, siteFramesAt, sitesAt, rangesLater, entriesLeft, walkOf, Fits, leadBytes, newBytes, walked, Advances, noded}
+use Rattle.dies.specs.Calls.{FileCalled, LineCalled}
 use Rattle.dies.proofs.FrameLaws.{length-open, Pushed, pushed-is}
 use Rattle.dies.proofs.CallLaws.{entry-depth-here}
 use Rattle.dies.proofs.PastLaws.{size-is}

@@ -2,23 +2,22 @@
 use mathlib.Core.Path.{_≡_, refl, sym, ap, _∙_}
 use mathlib.Core.Bool.{Bool, true, false, cond, _||_}
 use mathlib.Core.List.{List, [], _∷_, _++_}
-use Prim.Native.Nat.{ℕ, zero, suc, _+_, _-_, _*_, _≤_, _<_}
+use Prim.Native.Nat.{ℕ, zero, suc, _+_, _-_, _*_, _≤_}
 use native.Mathlib.Omega.{arith}
 use lib.Dec.{ltb}
 use lib.ListN.{length, length-append}
 use borrow.Author.Tests.{lt-ltb, le-ltb, eq-eqb, ne-eqb}
 use Rattle.tlv.specs.declared.model.AddressRange.{AddressRange}
-use Rattle.tlv.specs.declared.model.FileIndex.{FileIndex}
 use Rattle.tlv.specs.Bytes.{bytesOf}
 use Rattle.tlv.specs.Lists.{isEmpty}
 use Rattle.tlv.specs.Fields.{encode}
-use Rattle.tlv.specs.Buffer.{Put, top, moved}
-use Rattle.tlv.specs.Output.{InlineNode, CallSite, nodePayload, rangePayload, sitePayload, rangeBytes, nodeBytes, eachOf}
 use Rattle.tlv.proofs.TestLaws.{by-less}
 use Rattle.tlv.proofs.ByteLaws.{length-bytesOf}
+use Rattle.buffers.specs.Buffer.{Put, top, moved}
+use Rattle.buffers.specs.Output.{InlineNode, CallSite, nodePayload, rangePayload, sitePayload, rangeBytes, nodeBytes, eachOf}
 use Rattle.lines.specs.Files.{fileIndex}
 use Rattle.dies.specs.Past.{isPast, nodeSize}
-use Rattle.dies.specs.DetailState.{leadBytes, newBytes}
+use Rattle.dies.specs.DetailState.{newBytes}
 
 or-false : (b : Bool) → b ≡ (b || false)
 or-false true = refl

@@ -9,11 +9,11 @@ use lib.ListN.{length}
 use borrow.Author.Tests.{le-leb, lt-leb}
 use Rattle.tlv.specs.Bytes.{leAt}
 use Rattle.tlv.specs.Lists.{takeWhile, dropWhile}
-use Rattle.tlv.specs.Output.{CallSite}
-use Rattle.tlv.specs.Table.{chunk, Kept, Apart, Wrote, CopiedBytes}
-use Rattle.tlv.proofs.ChunkLaws.{leAt-chunk, leAt-front}
-use Rattle.tlv.proofs.TableLaws.{le-or-lt, kept-refl, kept-wide, kept-trans, leAt-kept}
-use Rattle.tlv.proofs.RecordLaws.{records-kept, records-nil, records-copy-push}
+use Rattle.buffers.specs.Output.{CallSite}
+use Rattle.buffers.specs.Table.{chunk, Kept, Apart, Wrote, CopiedBytes}
+use Rattle.buffers.proofs.ChunkLaws.{leAt-chunk, leAt-front}
+use Rattle.buffers.proofs.TableLaws.{le-or-lt, kept-refl, kept-wide, kept-trans, leAt-kept}
+use Rattle.buffers.proofs.RecordLaws.{records-kept, records-nil, records-copy-push}
 use Rattle.imports.specs.Tree.{CallSiteFrame, endsHere}
 use Rattle.dies.specs.DetailState.{siteOf, siteFrameOf, siteFramesAt, sitesAt, PutSite, Closed}
 

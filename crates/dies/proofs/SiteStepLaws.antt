@@ -14,29 +14,31 @@ use Rattle.tlv.specs.Lists.{All}
 use Rattle.tlv.specs.Bytes.{Bytes, leAt}
 use Rattle.tlv.specs.Fields.{fields}
 use Rattle.tlv.specs.Model.{CompilationUnit, Entry, Attribute}
-use Rattle.tlv.specs.Output.{CallSite}
-use Rattle.tlv.specs.Places.{entryHere, unitHere, IndexedEntry, entryIndex}
-use Rattle.tlv.specs.Index.{indexedOf}
-use Rattle.tlv.specs.Table.{chunk, records, tab}
+use Rattle.tlv.specs.Checked.{Accepted}
 use Rattle.tlv.proofs.ByteLaws.{leAt-bound}
-use Rattle.tlv.proofs.ChunkLaws.{leAt-chunk}
 use Rattle.tlv.proofs.ListLaws.{any-one}
-use Rattle.tlv.proofs.TableLaws.{le-or-lt, kept-refl, kept-trans}
-use Rattle.tlv.proofs.IndexModel.{either}
+use Rattle.buffers.specs.Output.{CallSite}
+use Rattle.buffers.specs.Table.{chunk, records, tab}
+use Rattle.buffers.proofs.ChunkLaws.{leAt-chunk}
+use Rattle.buffers.proofs.TableLaws.{le-or-lt, kept-refl, kept-trans}
+use Rattle.access.specs.Places.{entryHere, unitHere, IndexedEntry, entryIndex}
+use Rattle.access.specs.Index.{indexedOf}
+use Rattle.access.proofs.IndexModel.{either}
 use Rattle.lines.specs.Rows.{contains}
 use Rattle.references.specs.Search.{attribute}
 use Rattle.references.specs.Tables.{EntryKnown, bytesGiven}
 use Rattle.references.specs.Names.{dwarfOf, referenceName, Resolved}
 use Rattle.references.proofs.ReferenceLaws.{entry-step}
 use Rattle.references.proofs.SectionLaws.{reference-name-same}
+use Rattle.imports.specs.Tree.{Descendants, DetailContext, siteWithOrigin, siteAt, makeCallSite, pushCallSite}
+use Rattle.ranges.specs.RangeTable as table
 use Rattle.dies.specs.declared.dies.Details.{Details}
 use Rattle.dies.specs.declared.walk.Walk.{Walk}
 use Rattle.dies.specs.declared.sites.Address.{Address}
 use Rattle.dies.specs.FrameStack.{openIn}
-use Rattle.imports.specs.Tree.{Descendants, DetailContext, siteWithOrigin, siteAt, makeCallSite, pushCallSite}
-use Rattle.dies.specs.RangeTable as table
 use Rattle.dies.specs.Details.{DetailsIn, dwarfWith, contextIn, entryCount}
-use Rattle.dies.specs.DetailState.{originOf, originName, siteFramesAt, sitesAt, PutSite, SiteKnown, rangesLater, entriesLeft, walkOf, Fits, walked, Quiet, collectSite, Accepted, addressOf}
+use Rattle.dies.specs.DetailState.{originOf, originName, siteFramesAt, sitesAt, PutSite, SiteKnown, rangesLater, entriesLeft, walkOf, Fits, walked, Quiet, collectSite}
+use Rattle.dies.specs.Calls.{addressOf}
 use Rattle.dies.proofs.FrameLaws.{open-kept}
 use Rattle.dies.proofs.SiteLaws.{site-frames-kept, sites-kept, site-frames-push}
 use Rattle.dies.proofs.EntryWalkLaws.{left-entry, later-entry, lists-entry}

@@ -10,16 +10,16 @@ use lib.ListN.{length, drop}
 use Rattle.tlv.specs.Outcome.{done}
 use Rattle.tlv.specs.Bytes.{leAt}
 use Rattle.tlv.specs.Fields.{encode}
-use Rattle.tlv.specs.Buffer.{Put, top}
-use Rattle.tlv.specs.Output.{CallSite, sitePayload, eachOf}
-use Rattle.tlv.specs.Places.{entryHere, unitHere}
-use Rattle.tlv.specs.Table.{chunk, Kept}
-use Rattle.tlv.proofs.BufferLaws.{Left, left-start, left-put, left-done}
-use Rattle.tlv.proofs.ChunkLaws.{leAt-chunk, leAt-front}
-use Rattle.tlv.proofs.TableLaws.{kept-refl, kept-trans, leAt-kept}
-use Rattle.tlv.proofs.RecordLaws.{records-rest-cons, records-rest-none}
 use Rattle.tlv.proofs.OutcomeLaws.{done-is, refused-not}
-use Rattle.tlv.proofs.IndexModel.{either}
+use Rattle.buffers.specs.Buffer.{Put, top}
+use Rattle.buffers.specs.Output.{CallSite, sitePayload, eachOf}
+use Rattle.buffers.specs.Table.{chunk, Kept}
+use Rattle.buffers.proofs.BufferLaws.{Left, left-start, left-put, left-done}
+use Rattle.buffers.proofs.ChunkLaws.{leAt-chunk, leAt-front}
+use Rattle.buffers.proofs.TableLaws.{kept-refl, kept-trans, leAt-kept}
+use Rattle.buffers.proofs.RecordLaws.{records-rest-cons, records-rest-none}
+use Rattle.access.specs.Places.{entryHere, unitHere}
+use Rattle.access.proofs.IndexModel.{either}
 use Rattle.references.specs.Search.{attribute}
 use Rattle.references.specs.Tables.{EntryKnown, bytesGiven}
 use Rattle.references.specs.Names.{dwarfOf, referenceName, Resolved}

@@ -7,24 +7,24 @@ use native.Mathlib.Nat.{mul-le-mul-left}
 use native.Mathlib.Omega.{arith}
 use lib.ListN.{length}
 use Rattle.tlv.specs.Bytes.{leAt}
-use Rattle.tlv.specs.Output.{InlineNode, Warning}
-use Rattle.tlv.specs.Places.{unitHere}
-use Rattle.tlv.specs.Table.{Kept, Apart}
-use Rattle.tlv.proofs.TableLaws.{kept-wide, leAt-kept}
-use Rattle.tlv.proofs.RecordLaws.{records-kept}
+use Rattle.buffers.specs.Output.{InlineNode, Warning}
+use Rattle.buffers.specs.Table.{Kept, Apart}
+use Rattle.buffers.proofs.TableLaws.{kept-wide, leAt-kept}
+use Rattle.buffers.proofs.RecordLaws.{records-kept}
+use Rattle.access.specs.Places.{unitHere}
 use Rattle.files.specs.Indices.{indexOf, indicesOf}
 use Rattle.references.specs.Keys.{keysExtent}
 use Rattle.references.proofs.KeyLaws.{keys-in-none}
 use Rattle.references.proofs.FollowLaws.{index-kept}
+use Rattle.imports.specs.Tree.{finish}
+use Rattle.ranges.proofs.RangeTableLaws.{ranges-kept}
 use Rattle.dies.specs.declared.dies.Details.{Details}
 use Rattle.dies.specs.declared.walk.Walk.{Walk}
 use Rattle.dies.specs.declared.sites.Sites.{Sites}
 use Rattle.dies.specs.declared.frames.Open.{Open}
-use Rattle.imports.specs.Tree.{finish}
 use Rattle.dies.specs.FrameStack.{Popped}
 use Rattle.dies.specs.Details.{DetailsIn, dwarfWith, contextIn, rangeRoom}
 use Rattle.dies.specs.DetailState.{Later, originName, Closed, walkOf, Fits, walked, Shut}
-use Rattle.dies.proofs.RangeTableLaws.{ranges-kept}
 use Rattle.dies.proofs.FrameLaws.{used-one, open-kept}
 use Rattle.dies.proofs.SiteLaws.{site-frames-kept, sites-kept}
 

@@ -1,48 +1,40 @@
 -- What the walk over the entries below a subprogram has done, as it stands in memory, and what each of its steps promises. Assumes nothing.
 use mathlib.Core.Path.{_≡_}
-use mathlib.Core.Bool.{Bool, cond, not, _||_}
+use mathlib.Core.Bool.{Bool, not, _||_}
 use mathlib.Core.Logic.{_⊎_}
 use mathlib.Core.List.{List, [], _∷_, _++_, map}
-use mathlib.Core.Option.{Option, none, some}
 use Prim.Native.Nat.{ℕ, zero, suc, _+_, _-_, _*_, _≤_, _<_}
 use lib.Dec.{eqb}
 use lib.ListN.{length, drop}
 use Rattle.tlv.specs.Tags.{entryTag, listTag, rangeTag, traySiteTag, unitTag}
 use Rattle.tlv.specs.Constants.{dwAtCallOrigin}
 use Rattle.tlv.specs.declared.model.AddressRange.{AddressRange}
-use Rattle.tlv.specs.declared.access.Value.{Value}
 use Rattle.tlv.specs.Outcome.{Outcome, refused, done, _>>=_}
 use Rattle.tlv.specs.Lists.{takeWhile, dropWhile}
 use Rattle.tlv.specs.Bytes.{leAt}
 use Rattle.tlv.specs.Fields.{Field, fields, wholeFields, payloads, encode}
-use Rattle.tlv.specs.Buffer.{Put, top}
-use Rattle.tlv.specs.Table.{chunk, records, Kept}
-use Rattle.tlv.specs.Model.{Entry, Attribute}
-use Rattle.tlv.specs.Checked.{Accepts}
-use Rattle.tlv.specs.Places.{unitFields, entryHere, unitHere}
-use Rattle.tlv.specs.Output.{InlineNode, CallSite, Warning, WarningKind, about, kindNumber, eachOf, nodeBytes, sitePayload, warningsBytes}
-use Rattle.lines.specs.Files.{FileIndices, fileIndex}
-use Rattle.references.specs.Search.{attribute, absoluteEntryOffset}
+use Rattle.tlv.specs.Model.{Entry}
+use Rattle.buffers.specs.Buffer.{Put, top}
+use Rattle.buffers.specs.Table.{chunk, records, Kept}
+use Rattle.buffers.specs.Output.{InlineNode, CallSite, Warning, eachOf, nodeBytes, sitePayload, warningsBytes}
+use Rattle.access.specs.Places.{unitFields, entryHere, unitHere}
+use Rattle.lines.specs.Files.{fileIndex}
+use Rattle.references.specs.Search.{attribute}
 use Rattle.references.specs.Tables.{EntryKnown}
 use Rattle.references.specs.Names.{dwarfOf, referenceName}
 use Rattle.references.specs.Keys.{keysExtent}
+use Rattle.imports.specs.Tree.{CallSiteFrame, Descendants, DetailContext, endsHere, finish, makeCallSite, pushCallSite, collectEntry, collectDescendants}
+use Rattle.imports.specs.Import.{descendantsOf}
+use Rattle.ranges.specs.RangeTable.{rangesAt, rangeFields, ownLists}
 use Rattle.dies.specs.declared.dies.Details.{Details}
 use Rattle.dies.specs.declared.dies.Extracted.{Extracted}
 use Rattle.dies.specs.declared.walk.Walk.{Walk}
 use Rattle.dies.specs.declared.sites.Sites.{Sites}
-use Rattle.dies.specs.declared.sites.Address.{Address}
-use Rattle.dies.specs.declared.calls.Warned.{Warned}
-use Rattle.dies.specs.declared.calls.CalledFile.{CalledFile}
-use Rattle.dies.specs.declared.calls.CalledLine.{CalledLine}
 use Rattle.dies.specs.declared.nodes.Laid.{Laid}
 use Rattle.dies.specs.declared.sites.LaidSites.{LaidSites}
-use Rattle.imports.specs.Tree.{CallSiteFrame, Descendants, DetailContext, callFileOf, callLineOf, endsHere, finish, makeCallSite, pushCallSite, collectEntry}
-use Rattle.imports.specs.Tree.{collectDescendants}
-use Rattle.dies.specs.RangeTable.{rangesAt, rangeFields, ownLists}
 use Rattle.dies.specs.FrameStack.{Lean, openIn, Ready, grown}
-use Rattle.imports.specs.Import.{descendantsOf}
 use Rattle.dies.specs.Past.{isPast}
-use Rattle.dies.specs.Details.{rangeCount, entryCount, listCount, rangeRoom, contextIn, entriesFrom, detailBytes}
+use Rattle.dies.specs.Details.{rangeCount, entryCount, listCount, rangeRoom, contextIn, entriesFrom, detailBytes, openSite, closedSite}
 
 -- ---- call sites in the work slice
 
@@ -72,7 +64,7 @@ module _ (f : ℕ → List ℕ) where
   -- the n open ones from base on, the innermost first
   unfoldable pub siteFramesAt : List ℕ → ℕ → ℕ → List CallSiteFrame
   siteFramesAt w base zero = []
-  siteFramesAt w base (suc n) = siteFrameOf (chunk w (base + n * 14) 14) ∷ siteFramesAt w base n
+  siteFramesAt w base (suc n) = siteFrameOf (chunk w (base + n * openSite) openSite) ∷ siteFramesAt w base n
 
   -- the n closed ones from base on
   unfoldable pub sitesAt : List ℕ → ℕ → ℕ → List CallSite
@@ -91,11 +83,11 @@ pub record Closed (w w′ : List ℕ) (stack n sites m depth : ℕ) (r : Sites) 
   pub left : (f : ℕ → List ℕ) → siteFramesAt f w′ stack (r .opened) ≡ dropWhile (endsHere depth) (siteFramesAt f w stack n)
   pub moved : (f : ℕ → List ℕ) → sitesAt f w′ sites (r .closed) ≡ sitesAt f w sites m
       ++ map (λ x. x .callSite) (takeWhile (endsHere depth) (siteFramesAt f w stack n))
-  pub each : (i : ℕ) → i < r .closed → ((j : ℕ) × (j < n) × (leAt 4 w′ (sites + i * 12) ≡ leAt 4 w (stack + j * 14 + 2)))
-      ⊎ ((i < m) × (leAt 4 w′ (sites + i * 12) ≡ leAt 4 w (sites + i * 12)))
+  pub each : (i : ℕ) → i < r .closed → ((j : ℕ) × (j < n) × (leAt 4 w′ (sites + i * closedSite) ≡ leAt 4 w (stack + j * openSite + 2)))
+      ⊎ ((i < m) × (leAt 4 w′ (sites + i * closedSite) ≡ leAt 4 w (sites + i * closedSite)))
   pub sum : r .opened + r .closed ≡ n + m
   pub few : r .opened ≤ n
-  pub rest : Kept w w′ (sites + m * 12) (n * 12)
+  pub rest : Kept w w′ (sites + m * closedSite) (n * closedSite)
 
 -- ---- the state
 
@@ -151,8 +143,8 @@ pub record Fits (main supplementary w : List ℕ) (d : Details) (a : Later) (b :
   pub bottom : rangesAt w (d .ranges) 1 ≡ d .range ∷ []
   pub place : s .at ≤ top
   pub warned : s .warned ≤ top
-  pub stacked : (i : ℕ) → i < s .opened → SiteKnown main supplementary (d .unit) (leAt 4 w (d .stack + i * 14 + 2))
-  pub closed : (i : ℕ) → i < s .closed → SiteKnown main supplementary (d .unit) (leAt 4 w (d .sites + i * 12))
+  pub stacked : (i : ℕ) → i < s .opened → SiteKnown main supplementary (d .unit) (leAt 4 w (d .stack + i * openSite + 2))
+  pub closed : (i : ℕ) → i < s .closed → SiteKnown main supplementary (d .unit) (leAt 4 w (d .sites + i * closedSite))
 
 -- ---- what is laid
 
@@ -237,58 +229,6 @@ collectSite c e x = makeCallSite c e >>= λ s. done (pushCallSite e x s)
 -- an entry: those that end before it are closed first
 unfoldable pub stepEntry : DetailContext → Entry → Descendants → Outcome Descendants
 stepEntry c e x = collectEntry c e (finish (e .depth) x)
-
--- ---- the return address of a call site
-
--- the grammar accepts the sheet
-pub record Accepted (s : List ℕ) : Type 0 where
-  pub number : ℕ
-  pub is : Accepts s number
-
--- the return address that an attribute is
-abbrev pub addressOf : Option Attribute → Address
-addressOf none = Address.Missing
-addressOf (some a) = cond (eqb (a .kind) 10) Address.Failed (cond (eqb (a .kind) 9) (Address.At (a .value)) Address.Missing)
-
--- what values are
-abbrev pub addressIn : Value → Address
-addressIn Value.Absent = Address.Missing
-addressIn (Value.Unsigned n) = Address.Missing
-addressIn (Value.FileNumber n) = Address.Missing
-addressIn (Value.Text start len) = Address.Missing
-addressIn (Value.UnitReference n) = Address.Missing
-addressIn (Value.SectionReference n) = Address.Missing
-addressIn (Value.SupplementaryReference n) = Address.Missing
-addressIn (Value.SectionOffset n) = Address.Missing
-addressIn (Value.LineOffset n) = Address.Missing
-addressIn (Value.Address n) = Address.At n
-addressIn Value.Failed = Address.Failed
-
--- ---- a call's file and line
-
--- a warning of a kind was laid; or it is refused
-pub record AboutWarned (main : List ℕ) (unit p kind number at : ℕ) (u u′ : List ℕ) (r : Warned) : Type 0 where
-  pub offset : ℕ
-  pub ok : r .status ≡ 0 → absoluteEntryOffset (unitHere main unit) (entryHere main p .offset) ≡ done offset
-  pub laid : r .status ≡ 0 → (k : WarningKind) → kind ≡ kindNumber k → Put at (warningsBytes (about k offset number ∷ [])) u u′ (r .at)
-  pub no : (r .status ≡ 0 → ⊥) → absoluteEntryOffset (unitHere main unit) (entryHere main p .offset) ≡ refused (r .status)
-
--- the file of the call of the entry at p, of a unit that has the map `is`; what else a context holds does not matter
-pub record FileCalled (is : FileIndices) (main : List ℕ) (unit p at : ℕ) (u u′ : List ℕ) (r : CalledFile) : Type 0 where
-  pub warnings : List Warning
-  pub laid : r .status ≡ 0 → Put at (warningsBytes warnings) u u′ (r .at)
-  pub ok : r .status ≡ 0 → (c : DetailContext) → c .fileIndices ≡ is → c .unit ≡ unitHere main unit → callFileOf c (entryHere main p)
-      ≡ done (record { file = r .file; warnings = warnings })
-  pub no : (r .status ≡ 0 → ⊥) → (c : DetailContext) → c .fileIndices ≡ is → c .unit ≡ unitHere main unit → callFileOf c (entryHere main p)
-      ≡ refused (r .status)
-
--- the line
-pub record LineCalled (main : List ℕ) (unit p at : ℕ) (u u′ : List ℕ) (r : CalledLine) : Type 0 where
-  pub warnings : List Warning
-  pub laid : r .status ≡ 0 → Put at (warningsBytes warnings) u u′ (r .at)
-  pub ok : r .status ≡ 0 → (c : DetailContext) → c .unit ≡ unitHere main unit → callLineOf c (entryHere main p)
-      ≡ done (record { line = r .line; warnings = warnings })
-  pub no : (r .status ≡ 0 → ⊥) → (c : DetailContext) → c .unit ≡ unitHere main unit → callLineOf c (entryHere main p) ≡ refused (r .status)
 
 -- ---- the call sites behind the nodes
 

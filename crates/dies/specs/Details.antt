@@ -7,21 +7,24 @@ use lib.ListN.{length, drop}
 use Rattle.tlv.specs.Tags.{entryTag, rangeTag, traySiteTag}
 use Rattle.tlv.specs.declared.model.AddressRange.{AddressRange}
 use Rattle.tlv.specs.Outcome.{refused, done}
-use Rattle.tlv.specs.Buffer.{Put}
 use Rattle.tlv.specs.Fields.{fields, encode, grouped, payloads, wholeFields}
-use Rattle.tlv.specs.Table.{Kept}
 use Rattle.tlv.specs.Limits.{listLimit}
 use Rattle.tlv.specs.Model.{Entry, entryOf, units}
 use Rattle.tlv.specs.Lists.{Any, All}
-use Rattle.tlv.specs.Places.{unitFields, unitHere, entryIndex, listsFrom}
-use Rattle.tlv.specs.Output.{eachOf, nodeBytes, sitePayload, warningsBytes}
-use Rattle.files.specs.Indices.{indicesIn}
+use Rattle.buffers.specs.Buffer.{Put}
+use Rattle.buffers.specs.Table.{Kept}
+use Rattle.buffers.specs.Output.{eachOf, nodeBytes, sitePayload, warningsBytes}
+use Rattle.access.specs.Places.{unitFields, unitHere, entryIndex, listsFrom}
+use Rattle.access.specs.Units.{unitRecord}
+use Rattle.access.specs.Index.{entryRecord}
+use Rattle.files.specs.Indices.{indicesIn, indexRecord}
+use Rattle.rnglists.specs.Room.{openLists}
 use Rattle.references.specs.Search.{Dwarf}
 use Rattle.references.specs.Names.{SearchIn}
 use Rattle.references.specs.Keys.{keysExtent}
 use Rattle.imports.specs.Tree.{DetailContext, Descendants, extractSubprogramDetails}
 use Rattle.imports.specs.Import.{descendantsOf, rooted}
-use Rattle.rnglists.specs.Room.{openLists}
+use Rattle.ranges.specs.RangeTable.{rangeRecord}
 use Rattle.dies.specs.declared.dies.Details.{Details}
 use Rattle.dies.specs.declared.dies.Extracted.{Extracted}
 use Rattle.dies.specs.Past.{isPast}
@@ -52,6 +55,13 @@ rangeCount s = length (payloads rangeTag (wholeFields (fields s)))
 abbrev pub entryCount : List ℕ → ℕ
 entryCount s = length (payloads entryTag (wholeFields (fields s)))
 
+-- bytes of an open and of a closed call site
+abbrev pub openSite : ℕ
+openSite = 14
+
+abbrev pub closedSite : ℕ
+closedSite = 12
+
 -- how many range lists (document 02, E9) the unit has
 abbrev pub listCount : List ℕ → Details → ℕ
 listCount main d = unitHere main (d .unit) .lists
@@ -76,14 +86,14 @@ pub record EntriesKnown (s : List ℕ) (q p : ℕ) : Type 0 where
 -- followed targets
 pub record DetailsIn (main supplementary w : List ℕ) (d : Details) : Type 0 where
   pub tables : SearchIn main supplementary w (d .tables) 0
-  pub indices : d .indices .base + d .indices .count * 5 ≤ d .ranges
-  pub main-units : d .tables .main .units + 24 * d .tables .main .«unit_count» ≤ d .ranges
-  pub main-entries : d .tables .main .entries + 16 * d .tables .main .«entry_count» ≤ d .ranges
-  pub supplementary-units : d .tables .supplementary .units + 24 * d .tables .supplementary .«unit_count» ≤ d .ranges
-  pub supplementary-entries : d .tables .supplementary .entries + 16 * d .tables .supplementary .«entry_count» ≤ d .ranges
-  pub ranges : d .ranges + 16 * rangeRoom main d ≤ d .stack
-  pub stack : d .stack + 14 * entryCount main ≤ d .sites
-  pub sites : d .sites + 12 * entryCount main ≤ d .tables .keys
+  pub indices : d .indices .base + d .indices .count * indexRecord ≤ d .ranges
+  pub main-units : d .tables .main .units + unitRecord * d .tables .main .«unit_count» ≤ d .ranges
+  pub main-entries : d .tables .main .entries + entryRecord * d .tables .main .«entry_count» ≤ d .ranges
+  pub supplementary-units : d .tables .supplementary .units + unitRecord * d .tables .supplementary .«unit_count» ≤ d .ranges
+  pub supplementary-entries : d .tables .supplementary .entries + entryRecord * d .tables .supplementary .«entry_count» ≤ d .ranges
+  pub ranges : d .ranges + rangeRecord * rangeRoom main d ≤ d .stack
+  pub stack : d .stack + openSite * entryCount main ≤ d .sites
+  pub sites : d .sites + closedSite * entryCount main ≤ d .tables .keys
   pub third : 3 * d .third ≤ listLimit
   pub listless : d .«with_lists» ≡ false → listCount main d ≡ 0
 

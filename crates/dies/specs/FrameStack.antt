@@ -3,11 +3,11 @@ use mathlib.Core.Path.{_≡_}
 use mathlib.Core.List.{List, [], _∷_}
 use Prim.Native.Nat.{ℕ, zero, suc, _+_, _-_, _*_, _≤_}
 use lib.ListN.{length, getD, set}
+use Rattle.imports.specs.Tree.{InlineFrame, finishInlines}
+use Rattle.ranges.specs.RangeTable.{rangesAt, rangeRecord}
 use Rattle.dies.specs.declared.frames.Frame.{Frame}
 use Rattle.dies.specs.declared.frames.Open.{Open}
 use Rattle.dies.specs.declared.frames.Left.{Left}
-use Rattle.imports.specs.Tree.{InlineFrame, finishInlines}
-use Rattle.dies.specs.RangeTable.{rangesAt}
 
 abbrev pub slot : List Frame → ℕ → Frame
 slot fs t = getD fs t (record { depth = 0; ranges = 0 })
@@ -16,7 +16,7 @@ slot fs t = getD fs t (record { depth = 0; ranges = 0 })
 unfoldable pub openOf : List Frame → ℕ → ℕ → List ℕ → ℕ → List InlineFrame
 openOf fs zero used w base = []
 openOf fs (suc t) used w base =
-    record { dieDepth = slot fs t .depth; ranges = rangesAt w (base + slot fs t .ranges * 16) (used - slot fs t .ranges) }
+    record { dieDepth = slot fs t .depth; ranges = rangesAt w (base + slot fs t .ranges * rangeRecord) (used - slot fs t .ranges) }
     ∷ openOf fs t (slot fs t .ranges) w base
 
 -- the frames' places ascend, and the lowest is 1: the function's range is range 0

@@ -1,5 +1,5 @@
-pub mod RangeTable
 pub mod FrameStack
 pub mod Details
 pub mod DetailState
+pub mod Calls
 pub mod Past

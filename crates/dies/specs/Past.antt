@@ -2,7 +2,7 @@
 use mathlib.Core.Bool.{Bool, cond}
 use Prim.Native.Nat.{ℕ, _+_, _*_}
 use lib.Dec.{ltb, eqb}
-use Rattle.tlv.specs.Buffer.{top}
+use Rattle.buffers.specs.Buffer.{top}
 
 -- laying n bytes from a place on passes the largest place
 abbrev pub isPast : ℕ → ℕ → Bool

@@ -1,10 +1,10 @@
 // The file and the line of a call, and the warnings about an entry.
 ghost use Prim.Native.Nat.{_+_, _*_, _≤_, _<_};
 ghost use lib.ListN.{length};
-ghost use Rattle.files.specs.Indices.{indicesIn};
+ghost use Rattle.tlv.specs.Checked.{Accepted};
+ghost use Rattle.files.specs.Indices.{indicesIn, indexRecord};
 ghost use Rattle.references.specs.Tables.{EntryKnown};
-ghost use Rattle.dies.specs.DetailState.{AboutWarned, Accepted};
-ghost use Rattle.dies.specs.DetailState.{FileCalled, LineCalled};
+ghost use Rattle.dies.specs.Calls.{AboutWarned, FileCalled, LineCalled};
 use files::index::FileNumber;
 use files::index::FoundIndex;
 use files::index::StoredIndices;
@@ -56,7 +56,7 @@ pub fn warn_about(
         return Warned { at: at, status: 12 };
     }
     Warned {
-        at: tlv::output::put_warning(warnings, at, kind, base + offset, number),
+        at: buffers::output::put_warning(warnings, at, kind, base + offset, number),
         status: 0,
     }
 }
@@ -73,7 +73,7 @@ pub fn call_file(
 ) -> CalledFile
     requires { ⌜ Accepted (now main) ⌝ }
     requires { ⌜ EntryKnown (now main) unit p ⌝ }
-    requires { ⌜ indices .base + indices .count * 5 ≤ length (now work) ⌝ }
+    requires { ⌜ indices .base + indices .count * indexRecord ≤ length (now work) ⌝ }
     ensures { λ r. ⌜ FileCalled (indicesIn (now (work .entry)) indices) (now (main .entry)) unit p at (now (warnings .entry)) (now (warnings .exit)) r ⌝ }
 {
     match file_index_attribute(main, unit, p, DW_AT_CALL_FILE) {

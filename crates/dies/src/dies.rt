@@ -5,6 +5,7 @@ ghost use mathlib.Core.Bool.{false};
 ghost use mathlib.Core.List.{[]};
 ghost use lib.ListN.{length};
 ghost use Rattle.tlv.specs.Checked.{Placed};
+ghost use Rattle.rnglists.specs.Room.{rangeLeast};
 ghost use Rattle.imports.specs.Import.{descendantsOf};
 ghost use Rattle.dies.specs.Details.{DetailsIn, EntriesKnown, Extracts, entriesFrom};
 ghost use Rattle.dies.specs.DetailState.{Descends};
@@ -67,13 +68,13 @@ fn collect_descendants<'a>(
     requires { ⌜ Placed (now main) p ⌝ }
     requires { ⌜ EntriesKnown (now main) (d .unit) p ⌝ }
     requires { ⌜ 10 + length (now name) < 65536 ⌝ }
-    requires { ⌜ length (now lists) / 3 ≡ d .third ⌝ }
+    requires { ⌜ length (now lists) / rangeLeast ≡ d .third ⌝ }
     ensures { λ r. ⌜ Descends (now (main .entry)) (now (supplementary .entry)) (now (lists .entry)) (now (addresses .entry)) (now (work .entry))
         (now (work .exit)) d (now (name .entry)) p depth at warned (now (records .entry)) (now (records .exit)) (now (warnings .entry)) (now (warnings .exit))
         r ⌝ }
 {
     let range = d.range;
-    crate::ranges::put_range_at(work, d.ranges, range);
+    ranges::ranges::put_range_at(work, d.ranges, range);
     let start = Walk {
         frames: crate::frames::none_open(),
         opened: 0,
@@ -161,7 +162,7 @@ pub fn extract_subprogram_details<'a>(
     requires { ⌜ Placed (now main) p ⌝ }
     requires { ⌜ EntriesKnown (now main) (d .unit) p ⌝ }
     requires { ⌜ 10 + length (now name) < 65536 ⌝ }
-    requires { ⌜ length (now lists) / 3 ≡ d .third ⌝ }
+    requires { ⌜ length (now lists) / rangeLeast ≡ d .third ⌝ }
     ensures { λ r. ⌜ Extracts (now (main .entry)) (now (supplementary .entry)) (now (lists .entry)) (now (addresses .entry)) (now (work .entry))
         (now (work .exit)) d (now (name .entry)) p depth at warned (now (records .entry)) (now (records .exit)) (now (warnings .entry)) (now (warnings .exit))
         r ⌝ }

@@ -2,11 +2,7 @@
 pub mod calls;
 pub mod dies;
 pub mod frames;
-pub mod gather;
-pub mod inlined;
 pub mod nodes;
-pub mod order;
 pub mod past;
-pub mod ranges;
 pub mod sites;
 pub mod walk;

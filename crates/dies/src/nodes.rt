@@ -4,21 +4,23 @@ ghost use Prim.Native.Nat.{ℕ, _+_, _*_, _/_, _≤_, _<_};
 ghost use mathlib.Core.List.{List};
 ghost use lib.Dec.{leb};
 ghost use lib.ListN.{length};
-ghost use Rattle.tlv.specs.Buffer.{Put};
 ghost use Rattle.tlv.specs.Bytes.{leAt};
-ghost use Rattle.tlv.specs.Places.{entryHere};
-ghost use Rattle.tlv.specs.Output.{nodeBytes};
+ghost use Rattle.buffers.specs.Buffer.{Put};
+ghost use Rattle.buffers.specs.Output.{nodeBytes};
+ghost use Rattle.access.specs.Places.{entryHere};
+ghost use Rattle.rnglists.specs.Room.{rangeLeast};
 ghost use Rattle.references.specs.Tables.{EntryKnown};
-ghost use Rattle.dies.specs.RangeTable.{rangesAt};
 ghost use Rattle.imports.specs.Tree.{inlineDepthLimit, pushInline, makeInlineNode};
+ghost use Rattle.ranges.specs.RangeTable.{rangesAt, rangeRecord};
 ghost use Rattle.dies.specs.Details.{DetailsIn, contextIn};
 ghost use Rattle.dies.specs.DetailState.{Fits, OwnRanges, Advances, rangesLater, entriesLeft, leadBytes, noded};
 use crate::calls::call_file;
 use crate::calls::call_line;
 use crate::dies::Details;
 use crate::frames::Frame;
-use crate::inlined::Merged;
 use crate::walk::Walk;
+use ranges::inlined::Merged;
+use ranges::ranges::RANGE_RECORD;
 use references::names::FoundName;
 use references::names::found_name;
 use tlv::model::AddressRange;
@@ -42,8 +44,8 @@ fn put_root(records: &mut [u8], at: usize, nodes: usize, range: AddressRange, na
     if nodes != 0 {
         return at;
     }
-    let headed = tlv::output::put_node(records, at, 0, FileIndex(0), 0, name);
-    tlv::output::put_range(records, headed, range)
+    let headed = buffers::output::put_node(records, at, 0, FileIndex(0), 0, name);
+    buffers::output::put_range(records, headed, range)
 }
 
 // A node with its k ranges, which stand at `from` in the work slice.
@@ -59,7 +61,7 @@ fn put_inline_node(
     k: usize,
 ) -> usize
     requires { ⌜ 10 + length (now inlined) < 65536 ⌝ }
-    requires { ⌜ from + k * 16 ≤ length (now work) ⌝ }
+    requires { ⌜ from + k * rangeRecord ≤ length (now work) ⌝ }
     ensures { λ r. ⌜ Put at (nodeBytes (record {
       depth = depth;
       callFile = file;
@@ -68,8 +70,8 @@ fn put_inline_node(
       ranges = rangesAt (now (work .entry)) from k;
     })) (now (records .entry)) (now (records .exit)) r ⌝ }
 {
-    let headed = tlv::output::put_node(records, at, depth, file, line, inlined);
-    crate::ranges::put_ranges(records, headed, work, from, k)
+    let headed = buffers::output::put_node(records, at, depth, file, line, inlined);
+    ranges::ranges::put_ranges(records, headed, work, from, k)
 }
 
 // Whether a node that is so many below the root may be kept.
@@ -100,7 +102,7 @@ fn keep_node(
     requires { ⌜ OwnRanges (now main) d p k ⌝ }
     ensures { λ r. ⌜ ((lists addresses : List ℕ) → Advances
         (pushInline (contextIn (now (main .entry)) (now (supplementary .entry)) lists addresses (now (work .entry)) d) (entryHere (now (main .entry)) p)
-        (now (inlined .entry)) (rangesAt (now (work .entry)) (d .ranges + s .frames .used * 16) k)) (now (main .entry)) (now (supplementary .entry))
+        (now (inlined .entry)) (rangesAt (now (work .entry)) (d .ranges + s .frames .used * rangeRecord) k)) (now (main .entry)) (now (supplementary .entry))
         (now (name .entry)) d (rangesLater (now (main .entry)) (p + 15)) (entriesLeft (now (main .entry)) (p + 15)) (now (work .entry)) (now (records .entry))
         (now (warnings .entry)) s (now (work .entry)) (now (records .exit)) (now (warnings .exit)) (noded s (leAt 2 (now (main .entry)) (p + 11)) k r)) ⌝ }
 {
@@ -136,7 +138,7 @@ fn keep_node(
     let called = file.file;
     let past = crate::past::node_past(s.at, s.nodes, name.len(), inlined.len(), k);
     let rooted = put_root(records, s.at, s.nodes, range, name);
-    let from = d.ranges + s.frames.used * 16;
+    let from = d.ranges + s.frames.used * RANGE_RECORD;
     let at = put_inline_node(
         work,
         records,
@@ -174,7 +176,7 @@ pub fn make_inline_node<'a>(
     requires { ⌜ EntryKnown (now main) (d .unit) p ⌝ }
     requires { ⌜ Fits (now main) (now supplementary) (now work) d (rangesLater (now main) p) (entriesLeft (now main) p) s ⌝ }
     requires { ⌜ (s .status ≡ 0) × (10 + length (now name) < 65536) ⌝ }
-    requires { ⌜ length (now lists) / 3 ≡ d .third ⌝ }
+    requires { ⌜ length (now lists) / rangeLeast ≡ d .third ⌝ }
     ensures { λ r. ⌜ Advances (makeInlineNode (contextIn (now (main .entry)) (now (supplementary .entry)) (now (lists .entry)) (now (addresses .entry))
         (now (work .entry)) d) (entryHere (now (main .entry)) p)) (now (main .entry)) (now (supplementary .entry)) (now (name .entry)) d
         (rangesLater (now (main .entry)) (p + 15)) (entriesLeft (now (main .entry)) (p + 15)) (now (work .entry)) (now (records .entry))
@@ -206,16 +208,16 @@ pub fn make_inline_node<'a>(
         let f = o.frames[n - 1];
         top = f.ranges as usize;
     }
-    match crate::inlined::inline_ranges(
+    match ranges::inlined::inline_ranges(
         main,
         lists,
         addresses,
         work,
         d.with_lists,
         p + ENTRY_WHOLE,
-        d.ranges + top * 16,
+        d.ranges + top * RANGE_RECORD,
         used - top,
-        d.ranges + used * 16,
+        d.ranges + used * RANGE_RECORD,
     ) {
         Merged::Refused(fault) => {
             s.status = fault;

@@ -5,20 +5,26 @@ ghost use mathlib.Core.Bool.{false};
 ghost use mathlib.Core.List.{List};
 ghost use lib.ListN.{length};
 ghost use Rattle.tlv.specs.Constants.{dwAtCallReturnPc};
-ghost use Rattle.tlv.specs.Places.{entryHere};
+ghost use Rattle.tlv.specs.Checked.{Accepted};
+ghost use Rattle.access.specs.Places.{entryHere};
 ghost use Rattle.references.specs.Search.{attribute};
 ghost use Rattle.references.specs.Tables.{EntryKnown};
-ghost use Rattle.dies.specs.Details.{DetailsIn, contextIn};
-ghost use Rattle.dies.specs.DetailState.{PutSite, Closed, noneLater, Fits, Quiet, collectSite, rangesLater};
-ghost use Rattle.dies.specs.DetailState.{entriesLeft, Accepted, addressOf, addressIn, SitesPut};
+ghost use Rattle.dies.specs.Details.{DetailsIn, contextIn, openSite, closedSite};
+ghost use Rattle.dies.specs.DetailState.{PutSite, Closed, noneLater, Fits, Quiet, collectSite, rangesLater, entriesLeft, SitesPut};
+ghost use Rattle.dies.specs.Calls.{addressOf, addressIn};
 use crate::dies::Details;
 use crate::walk::Walk;
+use access::access::Value;
 use files::index::FileNumber;
-use tlv::access::Value;
 use tlv::constants::DW_AT_CALL_ORIGIN;
 use tlv::constants::DW_AT_CALL_RETURN_PC;
 use tlv::tags::ENTRY_DEPTH;
 use tlv::tags::ENTRY_WHOLE;
+
+// Bytes of an open and of a closed call site.
+pub const OPEN_SITE: usize = 14;
+
+pub const CLOSED_SITE: usize = 12;
 
 // How many call sites are open, and how many are closed.
 pub struct Sites {
@@ -64,7 +70,7 @@ fn return_address(main: &[u8], unit: usize, p: usize) -> Address
     requires { ⌜ EntryKnown (now main) unit p ⌝ }
     ensures { λ r. ⌜ r ≡ addressOf (attribute (entryHere (now (main .entry)) p) dwAtCallReturnPc) ⌝ }
 {
-    address_in(tlv::access::attribute(main, p + ENTRY_WHOLE, DW_AT_CALL_RETURN_PC))
+    address_in(access::access::attribute(main, p + ENTRY_WHOLE, DW_AT_CALL_RETURN_PC))
 }
 
 // An open call site: the depth of its entry 2 bytes, the entry's place 4, the return offset 8.
@@ -72,9 +78,9 @@ fn put_open_site(work: &mut [u8], at: usize, depth: u16, place: usize, offset: u
     requires { ⌜ (at + 14 ≤ length (now work)) × (place < 4294967296) ⌝ }
     ensures { λ _. ⌜ PutSite (now (work .entry)) (now (work .exit)) at depth place offset ⌝ }
 {
-    tlv::table::set_u16(work, at, depth);
-    tlv::table::set_u32(work, at + 2, place as u32);
-    tlv::table::set_u64(work, at + 6, offset);
+    buffers::table::set_u16(work, at, depth);
+    buffers::table::set_u32(work, at + 2, place as u32);
+    buffers::table::set_u64(work, at + 6, offset);
 }
 
 // The innermost open call sites whose entries are at this depth or deeper go behind the closed ones, for which no depth is kept.
@@ -86,20 +92,20 @@ pub fn finish_call_sites(
     m: usize,
     depth: u16,
 ) -> Sites
-    requires { ⌜ (stack + n * 14 ≤ sites) × (sites + m * 12 + n * 12 ≤ length (now work)) ⌝ }
+    requires { ⌜ (stack + n * openSite ≤ sites) × (sites + m * closedSite + n * closedSite ≤ length (now work)) ⌝ }
     ensures { λ r. ⌜ Closed (now (work .entry)) (now (work .exit)) stack n sites m depth r ⌝ }
 {
     let mut opened = n;
     let mut closed = m;
     while 0 < opened {
-        let at = stack + (opened - 1) * 14;
+        let at = stack + (opened - 1) * OPEN_SITE;
         if tlv::bytes::read_u16(work, at) < depth {
             return Sites {
                 opened: opened,
                 closed: closed,
             };
         }
-        tlv::table::copy_record(work, at + 2, sites + closed * 12, 12);
+        buffers::table::copy_record(work, at + 2, sites + closed * CLOSED_SITE, 12);
         opened -= 1;
         closed += 1;
     }
@@ -159,7 +165,7 @@ pub fn make_call_site<'a>(
                 return r;
             }
             let depth = tlv::bytes::read_u16(main, p + ENTRY_DEPTH);
-            put_open_site(work, d.stack + s.opened * 14, depth, p, a - start);
+            put_open_site(work, d.stack + s.opened * OPEN_SITE, depth, p, a - start);
             r.opened = s.opened + 1;
             return r;
         }
@@ -190,7 +196,7 @@ pub fn put_sites<'a>(
     let mut past = false;
     let mut i = 0;
     while i < n {
-        let from = d.sites + i * 12;
+        let from = d.sites + i * CLOSED_SITE;
         let entry = tlv::bytes::read_u32(work, from) as usize;
         let offset = tlv::bytes::read_u64(work, from + 4);
         let mut status: u8 = 0;
@@ -205,7 +211,7 @@ pub fn put_sites<'a>(
             DW_AT_CALL_ORIGIN,
         );
         let over = crate::past::is_past(place, 12 + pattern.len());
-        place = tlv::output::put_call_site(records, place, offset, pattern);
+        place = buffers::output::put_call_site(records, place, offset, pattern);
         past = past | over;
         i += 1;
     }

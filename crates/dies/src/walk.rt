@@ -3,7 +3,8 @@ ghost use mathlib.Core.Path.{_≡_};
 ghost use Prim.Native.Nat.{_+_, _/_, _<_};
 ghost use lib.ListN.{length};
 ghost use Rattle.tlv.specs.Checked.{Placed};
-ghost use Rattle.tlv.specs.Places.{entryHere};
+ghost use Rattle.access.specs.Places.{entryHere};
+ghost use Rattle.rnglists.specs.Room.{rangeLeast};
 ghost use Rattle.references.specs.Tables.{EntryKnown};
 ghost use Rattle.imports.specs.Tree.{collectEntries};
 ghost use Rattle.imports.specs.Import.{descendantsOf};
@@ -76,7 +77,7 @@ fn collect_entry<'a>(
     requires { ⌜ EntryKnown (now main) (d .unit) p ⌝ }
     requires { ⌜ Fits (now main) (now supplementary) (now work) d (rangesLater (now main) p) (entriesLeft (now main) p) s ⌝ }
     requires { ⌜ (s .status ≡ 0) × (10 + length (now name) < 65536) ⌝ }
-    requires { ⌜ length (now lists) / 3 ≡ d .third ⌝ }
+    requires { ⌜ length (now lists) / rangeLeast ≡ d .third ⌝ }
     ensures { λ r. ⌜ Advances (stepEntry (contextIn (now (main .entry)) (now (supplementary .entry)) (now (lists .entry)) (now (addresses .entry))
         (now (work .entry)) d) (entryHere (now (main .entry)) p)) (now (main .entry)) (now (supplementary .entry)) (now (name .entry)) d
         (rangesLater (now (main .entry)) (p + 15)) (entriesLeft (now (main .entry)) (p + 15)) (now (work .entry)) (now (records .entry))
@@ -132,7 +133,7 @@ pub fn collect_entries<'a>(
     requires { ⌜ EntriesKnown (now main) (d .unit) p ⌝ }
     requires { ⌜ Fits (now main) (now supplementary) (now work) d (rangesLater (now main) p) (entriesLeft (now main) p) s ⌝ }
     requires { ⌜ (s .status ≡ 0) × (10 + length (now name) < 65536) ⌝ }
-    requires { ⌜ length (now lists) / 3 ≡ d .third ⌝ }
+    requires { ⌜ length (now lists) / rangeLeast ≡ d .third ⌝ }
     ensures { λ r. ⌜ Advances (collectEntries (contextIn (now (main .entry)) (now (supplementary .entry)) (now (lists .entry)) (now (addresses .entry))
         (now (work .entry)) d) (descendantsOf depth (entriesFrom (now (main .entry)) p))) (now (main .entry)) (now (supplementary .entry)) (now (name .entry))
         d noneLater 0 (now (work .entry)) (now (records .entry)) (now (warnings .entry)) s (now (work .exit)) (now (records .exit))

@@ -2,16 +2,16 @@
 use mathlib.Core.Path.{_≡_, refl, sym, subst, ap, _∙_}
 use mathlib.Core.Bool.{Bool, true, false, cond}
 use mathlib.Core.List.{List, _++_}
-use Prim.Native.Nat.{ℕ, suc, _≤_, _<_}
+use Prim.Native.Nat.{ℕ, _≤_, _<_}
 use native.Mathlib.Omega.{arith}
 use lib.Dec.{ltb, eqb}
 use lib.ListN.{length, drop, replicate}
 use borrow.Author.Tests.{ltb-false, lt-ltb, le-ltb, eq-eqb, ne-eqb, eqb-true, eqb-false}
 use Rattle.tlv.specs.Outcome.{Outcome, refused, done, _>>=_}
-use Rattle.tlv.specs.Buffer.{Put}
-use Rattle.tlv.specs.Output.{recordsBytes, filesBytes, warningsBytes}
 use Rattle.tlv.proofs.TestLaws.{by-less}
-use Rattle.tlv.proofs.BufferLaws.{put-length, put-fits, put-whole, put-lost}
+use Rattle.buffers.specs.Buffer.{Put}
+use Rattle.buffers.specs.Output.{recordsBytes, filesBytes, warningsBytes}
+use Rattle.buffers.proofs.BufferLaws.{put-length, put-fits, put-whole, put-lost}
 use Rattle.imports.specs.Import.{State}
 use Rattle.imports.specs.Answer as answer
 use Rattle.imports.specs.Answer.{Inputs, After, written, outcomeOf, answerOf, bufferAfter, afterwards, after, afterDwarf}
@@ -20,7 +20,7 @@ use Rattle.imports.proofs.Demand.{demand, dwarf-demand}
 use Rattle.dwarf.specs.declared.model.Imported.{Imported}
 use Rattle.dwarf.specs.declared.run.Ran.{Ran}
 use Rattle.dwarf.specs.Runs.{importAll, Written, Writes, fitStatus}
-use Rattle.dwarf.specs.Answers.{answerGiven, left, AgreeAll, ImportsBy, ImportsUnit, ImportsDwarf}
+use Rattle.dwarf.specs.Answers.{left, AgreeAll, ImportsBy, ImportsUnit, ImportsDwarf}
 
 -- ---- the refusal by the lengths
 

@@ -9,28 +9,30 @@ use lib.ListN.{length, getD, take, drop, length-map}
 use Rattle.tlv.specs.Outcome.{Outcome, refused, done, _>>=_}
 use Rattle.tlv.specs.Lists.{All, at, mapOption}
 use Rattle.tlv.specs.Bytes.{leAt}
-use Rattle.tlv.specs.Buffer.{top}
 use Rattle.tlv.specs.Fields.{fields}
 use Rattle.tlv.specs.Model.{CompilationUnit, units}
-use Rattle.tlv.specs.Places.{unitHere, unitPlaces}
-use Rattle.tlv.specs.Table.{chunk, records}
-use Rattle.tlv.specs.Units.{IndexedUnit, indexedUnit, unitOf24}
-use Rattle.tlv.proofs.ChunkLaws.{leAt-chunk}
 use Rattle.tlv.proofs.PlaceLaws.{getD-image}
-use Rattle.tlv.proofs.RecordLaws.{records-at}
-use Rattle.tlv.proofs.UnitPlaceLaws.{units-places, units-at}
+use Rattle.buffers.specs.Buffer.{top}
+use Rattle.buffers.specs.Table.{chunk, records}
+use Rattle.buffers.proofs.ChunkLaws.{leAt-chunk}
+use Rattle.buffers.proofs.RecordLaws.{records-at}
+use Rattle.access.specs.Places.{unitHere, unitPlaces}
+use Rattle.access.specs.Units.{IndexedUnit, indexedUnit, unitOf24}
+use Rattle.access.proofs.UnitPlaceLaws.{units-places, units-at}
 use Rattle.collect.specs.Collects.{UnitIn}
 use Rattle.references.specs.Search.{Dwarf}
-use Rattle.dies.specs.Details.{dwarfWith}
 use Rattle.imports.specs.Import.{State, importUnit, importUnits}
+use Rattle.dies.specs.Details.{dwarfWith}
 use Rattle.subprograms.specs.declared.model.ImportState.{ImportState}
-use Rattle.dwarf.specs.declared.layout.Layout.{Layout}
+use Rattle.subprograms.specs.Steps.{Grows}
+use Rattle.subprograms.proofs.StepLaws.{grows-none, grows-then, grows-refused, grows-as}
+use Rattle.checks.specs.declared.layout.Layout.{Layout}
+use Rattle.checks.specs.Checks.{UnitEnough}
 use Rattle.dwarf.specs.declared.tables.Indexes.{Indexes}
-use Rattle.dwarf.specs.Checks.{UnitEnough}
 use Rattle.dwarf.specs.Tables.{TablesIn}
-use Rattle.dwarf.specs.Units.{Ready, aboveTables, Grows}
+use Rattle.dwarf.specs.Units.{Ready, aboveTables}
 use Rattle.dwarf.proofs.TablesLaws.{tables-kept}
-use Rattle.dwarf.proofs.GrowsLaws.{grows-none, grows-then, grows-refused, grows-as, grows-ready}
+use Rattle.dwarf.proofs.GrowsLaws.{grows-ready}
 
 -- ---- the place of a unit
 

@@ -6,15 +6,15 @@ use Prim.Native.Nat.{ℕ, _+_, _*_, _≤_}
 use native.Mathlib.Omega.{arith}
 use lib.ListN.{length}
 use Rattle.tlv.specs.Fields.{fields}
-use Rattle.tlv.specs.Places.{unitPlaces}
-use Rattle.tlv.specs.Table.{KeptBut}
-use Rattle.tlv.specs.Units.{unitOf24, IndexedUnits}
-use Rattle.tlv.specs.Index.{Indexed}
-use Rattle.tlv.proofs.IndexLaws.{index-length}
-use Rattle.tlv.proofs.TableLaws.{but-of, but-trans, here, there}
-use Rattle.tlv.proofs.RecordLaws.{records-kept}
+use Rattle.tlv.specs.Checked.{Accepted}
+use Rattle.buffers.specs.Table.{KeptBut}
+use Rattle.buffers.proofs.TableLaws.{but-of, but-trans, here, there}
+use Rattle.buffers.proofs.RecordLaws.{records-kept}
+use Rattle.access.specs.Places.{unitPlaces}
+use Rattle.access.specs.Units.{unitOf24, IndexedUnits}
+use Rattle.access.specs.Index.{Indexed}
+use Rattle.access.proofs.IndexLaws.{index-length}
 use Rattle.dies.specs.Details.{entryCount}
-use Rattle.dies.specs.DetailState.{Accepted}
 use Rattle.dwarf.specs.Tables.{IndexesInput}
 
 module _ {s w w₁ w₂ : List ℕ} {units entries n m : ℕ} (A : Accepted s) (below : units + 24 * length (unitPlaces 0 (fields s)) ≤ entries)

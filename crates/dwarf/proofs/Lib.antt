@@ -1,8 +1,3 @@
-pub mod CountLaws
-pub mod TallyLaws
-pub mod CheckLaws
-pub mod WorkLaws
-pub mod LayoutLaws
 pub mod IndexingLaws
 pub mod TablesLaws
 pub mod UnitContextLaws

@@ -2,15 +2,15 @@
 use mathlib.Core.Path.{_≡_, refl, sym, ap, _∙_}
 use mathlib.Core.Bool.{Bool, true, false}
 use mathlib.Core.List.{List}
-use Prim.Native.Nat.{ℕ, _+_, _-_, _^_, _≤_}
+use Prim.Native.Nat.{ℕ, _+_, _-_, _^_}
 use lib.Dec.{ltb}
 use native.Mathlib.Omega.{arith}
 use lib.ListN.{length, replicate}
 use Rattle.tlv.specs.Outcome.{Outcome}
-use Rattle.tlv.specs.Buffer.{Put}
-use Rattle.tlv.specs.Output.{recordsBytes}
+use Rattle.buffers.specs.Buffer.{Put}
+use Rattle.buffers.specs.Output.{recordsBytes}
 use Rattle.imports.specs.Import.{State, saturated}
-use Rattle.imports.specs.Answer.{Inputs, Answer, noStats, written}
+use Rattle.imports.specs.Answer.{Inputs, Answer, written}
 use Rattle.imports.specs.Sizes.{measured, measuring, measure, measureDwarf, withTrays}
 use Rattle.imports.proofs.Sizing.{same-import, same-dwarf}
 use Rattle.dwarf.specs.declared.model.Imported.{Imported}

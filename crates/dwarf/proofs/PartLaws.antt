@@ -7,27 +7,26 @@ use Prim.Native.Nat.{ℕ, _+_, _-_, _≤_, min}
 use native.Mathlib.Omega.{arith}
 use lib.ListN.{length, take, drop, length-drop, drop-of-length-le}
 use lib.Seq.{take-all, take-nil, take-length}
-use Rattle.tlv.specs.declared.access.Own.{Own}
 use Rattle.tlv.specs.Lists.{mapOption}
 use Rattle.tlv.specs.Bytes.{leAt}
 use Rattle.tlv.specs.Fields.{fields, payloadOf}
 use Rattle.tlv.specs.Tags.{partTag}
 use Rattle.tlv.specs.Cursor.{stepAt}
-use Rattle.tlv.specs.Checked.{Placed}
-use Rattle.tlv.specs.Access.{NextOwn}
+use Rattle.tlv.specs.Checked.{Placed, Accepted}
 use Rattle.tlv.specs.Model.{partOf, programOf}
-use Rattle.tlv.specs.Places.{ownFields, unitHere}
-use Rattle.tlv.proofs.OwnLaws.{own-within, own-field}
 use Rattle.tlv.proofs.PlaceFacts.{placed-start}
 use Rattle.tlv.proofs.PlacePromises.{placed-part}
 use Rattle.tlv.proofs.ShapeLaws.{number-at, number-first}
-use Rattle.tlv.proofs.TableLaws.{le-or-lt}
-use Rattle.tlv.proofs.UnitFacts.{unit-part}
+use Rattle.buffers.proofs.TableLaws.{le-or-lt}
+use Rattle.access.specs.declared.access.Own.{Own}
+use Rattle.access.specs.Access.{NextOwn}
+use Rattle.access.specs.Places.{ownFields, unitHere}
+use Rattle.access.proofs.OwnLaws.{own-within, own-field}
+use Rattle.access.proofs.UnitFacts.{unit-part}
 use Rattle.files.specs.Pieces.{UnitPlaced}
 use Rattle.files.proofs.UnitLaws.{first-none, first-found, unit-next, unit-within}
 use Rattle.collect.specs.Collects.{UnitIn}
 use Rattle.collect.proofs.HeaderPlaces.{unit-stands}
-use Rattle.dies.specs.DetailState.{Accepted}
 use Rattle.dwarf.specs.declared.part.Part.{Part}
 use Rattle.dwarf.specs.Part.{PartOf}
 

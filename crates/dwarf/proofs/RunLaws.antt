@@ -4,44 +4,43 @@ use mathlib.Core.Bool.{Bool, true, false, cond, not}
 use mathlib.Core.Logic.{inr}
 use mathlib.Core.List.{List, [], _∷_, _++_}
 use mathlib.Core.Option.{Option, none, some}
-use Prim.Native.Nat.{ℕ, zero, suc, _+_, _-_, _*_, _≤_, _<_, max}
+use Prim.Native.Nat.{ℕ, zero, suc, _+_, _-_, _*_, _≤_, _<_}
 use native.Mathlib.Omega.{arith}
-use lib.Dec.{ltb}
-use lib.ListN.{length, take, drop, drop-of-length-le}
-use lib.Seq.{take-all, take-nil}
-use Rattle.tlv.specs.Outcome.{Outcome, refused, done, _>>=_}
-use Rattle.tlv.specs.Lists.{at, isNone}
-use Rattle.tlv.specs.Buffer.{top, Put}
+use lib.ListN.{length, take, drop}
+use lib.Seq.{take-all}
+use Rattle.tlv.specs.Outcome.{Outcome, refused, _>>=_}
+use Rattle.tlv.specs.Lists.{at}
 use Rattle.tlv.specs.Limits.{joinedLimit, workOfProgramByte}
 use Rattle.tlv.specs.Grammar.{checkInput}
-use Rattle.tlv.specs.Model.{CompilationUnit, LineEncoding, units}
-use Rattle.tlv.specs.Output.{FileEntry, filesBytes}
-use Rattle.tlv.proofs.BufferLaws.{put-as}
-use Rattle.tlv.proofs.TableLaws.{but-one}
+use Rattle.tlv.specs.Model.{CompilationUnit, units}
+use Rattle.tlv.specs.Checked.{Accepted}
+use Rattle.buffers.specs.Buffer.{Put}
+use Rattle.buffers.specs.Output.{FileEntry, filesBytes}
+use Rattle.buffers.proofs.BufferLaws.{put-as}
+use Rattle.buffers.proofs.TableLaws.{but-one}
 use Rattle.files.specs.declared.store.StoredFiles.{StoredFiles}
 use Rattle.files.specs.Store.{extent, entriesOf, tableOf, Empty}
-use Rattle.files.proofs.GrownLaws.{entries-kept, table-kept, files-kept}
-use Rattle.dies.specs.Details.{dwarfWith}
-use Rattle.dies.specs.DetailState.{Accepted}
+use Rattle.files.proofs.GrownLaws.{entries-kept, files-kept}
 use Rattle.imports.specs.Import.{State, importUnits}
 use Rattle.imports.specs.Answer as answer
 use Rattle.imports.specs.Answer.{Inputs, isBare, workOfUnits, workNeeded, initialState, importWorked, importChosen, checked, importOf, importDwarfOf}
+use Rattle.dies.specs.Details.{dwarfWith}
 use Rattle.subprograms.specs.declared.model.ConversionStats.{ConversionStats}
 use Rattle.subprograms.specs.declared.model.ImportState.{ImportState}
 use Rattle.subprograms.specs.Stats.{statsOf}
-use Rattle.subprograms.specs.Steps.{stateOf}
-use Rattle.dwarf.specs.declared.layout.Layout.{Layout}
-use Rattle.dwarf.specs.declared.model.Options.{Options}
-use Rattle.dwarf.specs.declared.checks.BothChecked.{BothChecked}
+use Rattle.subprograms.specs.Steps.{Grows, stateOf}
+use Rattle.checks.specs.declared.layout.Layout.{Layout}
+use Rattle.checks.specs.declared.options.Options.{Options}
+use Rattle.checks.specs.declared.checks.BothChecked.{BothChecked}
+use Rattle.checks.specs.Layout.{LaidOut}
+use Rattle.checks.specs.Checks.{oversizeOf, listed, chosenUnits, CheckedAs, ChecksBoth, missingOf, missingUnit, shortOf, WorkEnough}
+use Rattle.checks.proofs.CheckLaws.{both-accepted}
 use Rattle.dwarf.specs.declared.run.Ran.{Ran}
 use Rattle.dwarf.specs.declared.run.Chosen.{Chosen}
 use Rattle.dwarf.specs.declared.tables.Indexes.{Indexes}
-use Rattle.dwarf.specs.Layout.{LaidOut}
-use Rattle.dwarf.specs.Checks.{oversizeOf, CheckedAs, ChecksBoth, missingOf, missingUnit, shortOf, WorkEnough}
 use Rattle.dwarf.specs.Tables.{IndexesInputs}
-use Rattle.dwarf.specs.Units.{Ready, Grows}
-use Rattle.dwarf.specs.Runs.{importAll, listed, chosenUnits, Chooses, importAccepted, startState, LengthsOf, Writes}
-use Rattle.dwarf.proofs.CheckLaws.{both-accepted}
+use Rattle.dwarf.specs.Units.{Ready}
+use Rattle.dwarf.specs.Runs.{importAll, Chooses, importAccepted, startState, LengthsOf, Writes}
 
 -- ---- an outcome that is another's, or a refusal
 

@@ -1,24 +1,23 @@
 -- The tables of both inputs: they lie apart, and stay while other parts of work are written. Assumes nothing.
-use mathlib.Core.Path.{_≡_, refl, sym, _∙_}
-use mathlib.Core.Logic.{inl, inr}
-use mathlib.Core.List.{List, [], _∷_}
+use mathlib.Core.Path.{_≡_, sym, _∙_}
+use mathlib.Core.Logic.{inl}
+use mathlib.Core.List.{List, []}
 use Prim.Native.Nat.{ℕ, _+_, _-_, _*_, _≤_}
 use native.Mathlib.Omega.{arith}
 use lib.ListN.{length}
 use Rattle.tlv.specs.Fields.{fields}
-use Rattle.tlv.specs.Places.{unitPlaces}
-use Rattle.tlv.specs.Table.{Kept, Clear, KeptBut}
-use Rattle.tlv.proofs.TableLaws.{kept-trans, kept-wide, here}
+use Rattle.tlv.specs.Checked.{Accepted}
+use Rattle.buffers.specs.Table.{Kept, Clear, KeptBut}
+use Rattle.buffers.proofs.TableLaws.{kept-trans, kept-wide, here}
+use Rattle.access.specs.Places.{unitPlaces}
 use Rattle.collect.proofs.FrameLaws.{kept-one}
 use Rattle.references.specs.declared.tables.Index.{Index}
-use Rattle.references.specs.Tables.{IndexIn}
 use Rattle.references.proofs.FollowLaws.{index-kept}
-use Rattle.references.proofs.DeclareFrames.{index-clear}
+use Rattle.declarations.proofs.DeclareFrames.{index-clear}
 use Rattle.dies.specs.Details.{entryCount}
-use Rattle.dies.specs.DetailState.{Accepted}
-use Rattle.dwarf.specs.declared.layout.Layout.{Layout}
+use Rattle.checks.specs.declared.layout.Layout.{Layout}
+use Rattle.checks.specs.Layout.{LaidOut}
 use Rattle.dwarf.specs.declared.tables.Indexes.{Indexes}
-use Rattle.dwarf.specs.Layout.{LaidOut}
 use Rattle.dwarf.specs.Tables.{IndexedAt, IndexesInput, TablesIn, IndexesInputs}
 use Rattle.dwarf.specs.Units.{aboveTables}
 

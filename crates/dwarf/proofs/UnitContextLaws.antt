@@ -1,14 +1,14 @@
 -- The context of a unit, made between its lines and the tables of both inputs. Assumes nothing.
 use mathlib.Core.Path.{_≡_, refl, sym}
-use mathlib.Core.Bool.{Bool, false}
+use mathlib.Core.Bool.{Bool}
 use mathlib.Core.Logic.{inl}
 use mathlib.Core.List.{List}
-use Prim.Native.Nat.{ℕ, _+_, _-_, _*_, _/_, _≤_}
+use Prim.Native.Nat.{ℕ, _+_, _-_, _*_, _≤_}
 use native.Mathlib.Omega.{arith}
 use lib.ListN.{length}
-use Rattle.tlv.specs.Table.{Kept}
-use Rattle.tlv.specs.Places.{unitHere}
-use Rattle.tlv.proofs.TableLaws.{kept-wide, but-one, but-of, here}
+use Rattle.buffers.specs.Table.{Kept}
+use Rattle.buffers.proofs.TableLaws.{kept-wide, but-one, but-of, here}
+use Rattle.access.specs.Places.{unitHere}
 use Rattle.files.specs.declared.index.StoredIndices.{StoredIndices}
 use Rattle.files.specs.declared.store.StoredFiles.{StoredFiles}
 use Rattle.files.specs.Store.{extent}
@@ -18,19 +18,18 @@ use Rattle.rows.specs.Selects.{RowsIn}
 use Rattle.rows.proofs.StoredLaws.{lines-kept}
 use Rattle.collect.specs.Collects.{UnitIn}
 use Rattle.references.specs.Names.{SearchIn}
-use Rattle.references.specs.declared.tables.Tables.{Tables}
 use Rattle.references.proofs.KeyLaws.{keys-in-none}
 use Rattle.subprograms.specs.declared.model.ImportContext.{ImportContext}
 use Rattle.subprograms.specs.Text.{TextIndexed}
 use Rattle.subprograms.specs.Contexts.{unitListRoom, Ordered}
 use Rattle.subprograms.proofs.ContextLaws.{unit-of}
-use Rattle.dwarf.specs.declared.layout.Layout.{Layout}
-use Rattle.dwarf.specs.declared.layout.UnitLayout.{UnitLayout}
+use Rattle.checks.specs.declared.layout.Layout.{Layout}
+use Rattle.checks.specs.declared.layout.UnitLayout.{UnitLayout}
+use Rattle.checks.specs.Layout.{UnitLaid}
+use Rattle.checks.proofs.WorkLaws.{none-listed}
 use Rattle.dwarf.specs.declared.tables.Indexes.{Indexes}
-use Rattle.dwarf.specs.Layout.{UnitLaid}
 use Rattle.dwarf.specs.Tables.{TablesIn, LinesLaid, MakesContext}
 use Rattle.dwarf.proofs.TablesLaws.{units-below, entries-below, other-units-below, other-entries-below, tables-kept}
-use Rattle.dwarf.proofs.WorkLaws.{none-listed}
 
 abbrev pub contextMade : Layout → UnitLayout → Indexes → ℕ → StoredLines → StoredIndices → Bool → Bool → ℕ → ImportContext
 contextMade l p x unit lines indices inlines callSites count = record {

@@ -1,50 +1,48 @@
 -- The import of a unit from a state: its lines are collected, its context is made, its subprograms are imported. Assumes nothing.
-use mathlib.Core.Path.{_≡_, refl, sym, ap, _∙_}
+use mathlib.Core.Path.{_≡_, sym, _∙_}
 use mathlib.Core.Bool.{Bool}
 use mathlib.Core.Logic.{inl, inr}
-use mathlib.Core.List.{List, [], _∷_, _++_, append-assoc}
+use mathlib.Core.List.{List, [], _++_, append-assoc}
 use mathlib.Core.Option.{Option, none, some}
-use Prim.Native.Nat.{ℕ, _+_, _-_, _*_, _≤_}
+use Prim.Native.Nat.{ℕ, _+_, _-_, _≤_}
 use native.Mathlib.Omega.{arith}
 use lib.ListN.{length, take, drop, length-take, length-drop}
-use Rattle.tlv.specs.Outcome.{refused, done, _>>=_}
-use Rattle.tlv.specs.Buffer.{top}
-use Rattle.tlv.specs.Table.{Kept, KeptBut}
+use Rattle.tlv.specs.Outcome.{refused, _>>=_}
 use Rattle.tlv.specs.Model.{LineEncoding, programOf}
-use Rattle.tlv.specs.Places.{unitHere}
-use Rattle.tlv.specs.Output.{Function, Warning}
-use Rattle.tlv.proofs.BufferLaws.{_then_, put-as}
-use Rattle.tlv.proofs.RecordLaws.{records-kept}
-use Rattle.tlv.proofs.TableLaws.{but-one, but-of, but-trans, here, there}
-use Rattle.machine.specs.LineRows.{mostBy, rowsMost, collectLines}
-use Rattle.machine.proofs.NumberLaws.{number-of}
-use Rattle.machine.proofs.UnitLines.{LineNumbers, refuses-lines}
+use Rattle.buffers.specs.Buffer.{top}
+use Rattle.buffers.specs.Table.{KeptBut}
+use Rattle.buffers.specs.Output.{Function, Warning}
+use Rattle.buffers.proofs.BufferLaws.{_then_, put-as}
+use Rattle.buffers.proofs.RecordLaws.{records-kept}
+use Rattle.buffers.proofs.TableLaws.{but-one, but-of, but-trans, here}
+use Rattle.access.specs.Places.{unitHere}
 use Rattle.files.specs.declared.index.StoredIndices.{StoredIndices}
 use Rattle.files.specs.declared.store.StoredFiles.{StoredFiles}
 use Rattle.files.specs.Indices.{indexOf, indicesOf}
-use Rattle.files.specs.Store.{extent, tableOf, Grown}
+use Rattle.files.specs.Store.{extent, tableOf}
 use Rattle.files.proofs.GrownLaws.{table-kept, grown-kept, grown-trans}
 use Rattle.rows.specs.declared.«unit_lines».StoredLines.{StoredLines}
 use Rattle.rows.proofs.StoredLaws.{lines-kept, ranges-kept}
+use Rattle.machine.specs.LineRows.{mostBy, rowsMost, collectLines}
+use Rattle.machine.proofs.NumberLaws.{number-of}
+use Rattle.machine.proofs.UnitLines.{LineNumbers, refuses-lines}
 use Rattle.collect.specs.declared.collect.CollectedLines.{CollectedLines}
 use Rattle.collect.specs.Collects.{UnitIn, linesIn, linesExtent, LinesRoom, CollectedIn, CollectsLines}
 use Rattle.collect.proofs.FrameLaws.{but-wide}
+use Rattle.imports.specs.Import.{importUnitDetails, importUnit}
 use Rattle.dies.specs.Details.{dwarfWith}
 use Rattle.dies.proofs.NodeStepLaws.{warnings-append}
-use Rattle.imports.specs.Import.{importUnitDetails, importUnit}
 use Rattle.subprograms.specs.declared.model.ImportContext.{ImportContext}
 use Rattle.subprograms.specs.declared.model.ImportState.{ImportState}
 use Rattle.subprograms.specs.Stats.{statsOf}
 use Rattle.subprograms.specs.Contexts.{contextWith, ContextIn, touched}
-use Rattle.subprograms.specs.Steps.{Imports, stateOf}
-use Rattle.dwarf.specs.declared.layout.Layout.{Layout}
-use Rattle.dwarf.specs.declared.part.Part.{Part}
-use Rattle.dwarf.specs.declared.layout.UnitLayout.{UnitLayout}
+use Rattle.subprograms.specs.Steps.{Grows, Imports, stateOf}
+use Rattle.checks.specs.declared.layout.Layout.{Layout}
+use Rattle.checks.specs.declared.layout.UnitLayout.{UnitLayout}
+use Rattle.checks.specs.Layout.{UnitLaid}
 use Rattle.dwarf.specs.declared.tables.Indexes.{Indexes}
-use Rattle.dwarf.specs.Layout.{UnitLaid}
 use Rattle.dwarf.specs.Tables.{TablesIn, LinesLaid, MakesContext}
-use Rattle.dwarf.specs.Part.{PartOf}
-use Rattle.dwarf.specs.Units.{Ready, aboveTables, Grows}
+use Rattle.dwarf.specs.Units.{Ready, aboveTables}
 
 -- a shorter program's lines have room where the whole one's have
 part-room : (main : List ℕ) (place : ℕ) (part program : List ℕ) → length part ≤ length program → linesExtent main place part ≤ linesExtent main place program
@@ -173,6 +171,7 @@ module _ {main supplementary program lists w : List ℕ} {l : Layout} {p : UnitL
                 (record { table = t₁; at = st .at; warned = warned; stats = st .stats; status = 0; past = st .past }) w₃ t₃ f₃ u₃ r) where
               -- what the subprograms' import writes lies beside the tables
               beside : KeptBut w₂ w₃ (touched main supplementary q t₁) → KeptBut w₂ w₃ (aboveTables l (length w))
+              unfolding touched
               beside k =
                   let O = context-stands .ordered in
                   let a = grown-above in

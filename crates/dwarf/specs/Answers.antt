@@ -5,7 +5,7 @@ use mathlib.Core.List.{List}
 use Prim.Native.Nat.{ℕ}
 use Rattle.tlv.specs.Lists.{at}
 use Rattle.tlv.specs.Model.{units}
-use Rattle.tlv.specs.Output.{Function}
+use Rattle.buffers.specs.Output.{Function}
 use Rattle.imports.specs.Answer.{Inputs, Answer, After, noStats, dwarfOf, afterwards, after, afterDwarf}
 use Rattle.imports.specs.Demand.{ChosenAgrees, UnitsAgree, Finished, UnitFinished, DwarfFinished}
 use Rattle.imports.specs.Sizes.{measuring, measure, measureDwarf}

@@ -1,5 +1,3 @@
-pub mod Layout
-pub mod Checks
 pub mod Tables
 pub mod Part
 pub mod Units

@@ -4,7 +4,7 @@ use mathlib.Core.List.{List}
 use Prim.Native.Nat.{ℕ, _-_, _≤_}
 use lib.ListN.{length, take, drop}
 use Rattle.tlv.specs.Model.{programOf}
-use Rattle.tlv.specs.Places.{unitHere}
+use Rattle.access.specs.Places.{unitHere}
 use Rattle.dwarf.specs.declared.part.Part.{Part}
 
 -- from `start` to below `end` stands the part of the unit at place p of s, in every program of so many bytes. A part past the program is cut off at its end,

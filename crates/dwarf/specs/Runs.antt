@@ -1,25 +1,24 @@
 -- What an import promises up to refusal 15. Assumes nothing.
 use mathlib.Core.Path.{_≡_}
 use mathlib.Core.Bool.{Bool, cond}
-use mathlib.Core.List.{List, [], _∷_}
-use mathlib.Core.Option.{Option, none, some}
+use mathlib.Core.List.{List, []}
 use Prim.Native.Nat.{ℕ, _-_, _≤_}
 use lib.Dec.{ltb, eqb}
 use lib.ListN.{length, take, drop}
 use Rattle.tlv.specs.Outcome.{Outcome, refused, done}
 use Rattle.tlv.specs.Lists.{at}
-use Rattle.tlv.specs.Buffer.{Put}
 use Rattle.tlv.specs.Model.{CompilationUnit, units}
-use Rattle.tlv.specs.Output.{recordsBytes, filesBytes, warningsBytes}
-use Rattle.dies.specs.Past.{isPast}
+use Rattle.buffers.specs.Buffer.{Put}
+use Rattle.buffers.specs.Output.{recordsBytes, filesBytes, warningsBytes}
 use Rattle.imports.specs.Import.{State}
 use Rattle.imports.specs.Answer.{Inputs, noStats, importWorked, importOf, importDwarfOf}
+use Rattle.dies.specs.Past.{isPast}
 use Rattle.subprograms.specs.declared.model.ImportState.{ImportState}
 use Rattle.subprograms.specs.Stats.{statsOf}
-use Rattle.dwarf.specs.declared.model.Options.{Options}
+use Rattle.checks.specs.declared.options.Options.{Options}
+use Rattle.checks.specs.Checks.{missingOf, chosenUnits}
 use Rattle.dwarf.specs.declared.run.Ran.{Ran}
 use Rattle.dwarf.specs.declared.run.Chosen.{Chosen}
-use Rattle.dwarf.specs.Checks.{missingOf}
 
 -- ---- what is asked
 
@@ -52,14 +51,6 @@ abbrev pub importAll : Bool → Inputs → Outcome State
 importAll all i = cond all (importDwarfOf i) (importOf i)
 
 -- ---- which units
-
-abbrev pub listed : Option CompilationUnit → List CompilationUnit
-listed none = []
-listed (some u) = u ∷ []
-
--- the units that are imported: a package without debug data has none
-unfoldable pub chosenUnits : Options → List CompilationUnit → List CompilationUnit
-chosenUnits o us = cond (o .all) us (listed (at us (o .ordinal)))
 
 -- of so many units those from number `from` to below `to` are chosen
 pub record Chooses (o : Options) (count : ℕ) (r : Chosen) : Type 0 where

@@ -5,23 +5,27 @@ use mathlib.Core.List.{List, [], _∷_}
 use Prim.Native.Nat.{ℕ, _+_, _-_, _*_, _/_, _≤_}
 use lib.ListN.{length}
 use Rattle.tlv.specs.Fields.{fields}
-use Rattle.tlv.specs.Table.{Kept, KeptBut}
-use Rattle.tlv.specs.Places.{unitPlaces}
+use Rattle.buffers.specs.Table.{Kept, KeptBut}
+use Rattle.access.specs.Places.{unitPlaces}
+use Rattle.access.specs.Units.{unitRecord}
+use Rattle.access.specs.Index.{entryRecord}
 use Rattle.files.specs.declared.index.StoredIndices.{StoredIndices}
 use Rattle.files.specs.declared.store.StoredFiles.{StoredFiles}
 use Rattle.files.specs.Store.{extent, FilesIn}
+use Rattle.files.specs.Indices.{indexRecord}
 use Rattle.rows.specs.declared.«unit_lines».StoredLines.{StoredLines}
 use Rattle.rows.specs.Sizes.{entrySize, lineSize}
 use Rattle.rows.specs.Selects.{RowsIn}
+use Rattle.rnglists.specs.Room.{rangeLeast}
 use Rattle.references.specs.declared.tables.Index.{Index}
 use Rattle.references.specs.Tables.{IndexIn}
 use Rattle.dies.specs.Details.{entryCount}
 use Rattle.subprograms.specs.declared.model.ImportContext.{ImportContext}
 use Rattle.subprograms.specs.Contexts.{ContextIn}
-use Rattle.dwarf.specs.declared.layout.Layout.{Layout}
-use Rattle.dwarf.specs.declared.layout.UnitLayout.{UnitLayout}
+use Rattle.checks.specs.declared.layout.Layout.{Layout}
+use Rattle.checks.specs.declared.layout.UnitLayout.{UnitLayout}
+use Rattle.checks.specs.Layout.{LaidOut}
 use Rattle.dwarf.specs.declared.tables.Indexes.{Indexes}
-use Rattle.dwarf.specs.Layout.{LaidOut}
 
 -- ---- units and entries
 
@@ -36,7 +40,7 @@ pub record IndexedAt (s w : List ℕ) (units entries : ℕ) (x : Index) : Type 0
 -- they were written there
 pub record IndexesInput (s w w′ : List ℕ) (units entries : ℕ) (r : Index) : Type 0 where
   pub here : IndexedAt s w′ units entries r
-  pub rest : KeptBut w w′ ((units, 24 * length (unitPlaces 0 (fields s))) ∷ (entries, 16 * entryCount s) ∷ [])
+  pub rest : KeptBut w w′ ((units, unitRecord * length (unitPlaces 0 (fields s))) ∷ (entries, entryRecord * entryCount s) ∷ [])
 
 -- the tables of both inputs stand where the layout has them
 pub record TablesIn (main supplementary program lists w : List ℕ) (l : Layout) (x : Indexes) : Type 0 where
@@ -55,7 +59,7 @@ pub record IndexesInputs (main supplementary program lists w w′ : List ℕ) (l
 pub record LinesLaid (w : List ℕ) (l : Layout) (p : UnitLayout) (lines : StoredLines) (indices : StoredIndices) : Type 0 where
   pub rows : RowsIn w lines
   pub from : l .lines ≤ indices .base
-  pub map : indices .base + indices .count * 5 ≤ lines .lines
+  pub map : indices .base + indices .count * indexRecord ≤ lines .lines
   pub sequences : lines .lines + lines .«line_count» * lineSize ≤ lines .sequences
   pub within : lines .buffer + entrySize + lines .«line_count» * entrySize ≤ p .text
 
@@ -69,7 +73,7 @@ pub record MakesContext (main supplementary lists w w′ : List ℕ) (l : Layout
   pub indices-is : q .places .indices ≡ indices
   pub inlines-is : q .«include_inlines» ≡ inlines
   pub call-sites-is : q .«include_call_sites» ≡ callSites
-  pub third-is : length lists / 3 ≡ q .third
+  pub third-is : length lists / rangeLeast ≡ q .third
   -- where what is written for the unit stands
   pub spans-is : q .places .spans ≡ p .spans
   pub room-is : q .places .room ≡ l .«span_room»

@@ -6,9 +6,9 @@ ghost use Prim.Native.Nat.{_<_, _^_};
 ghost use Rattle.dwarf.specs.Runs.{inputsOf, inputsBy};
 ghost use Rattle.dwarf.specs.Answers.{ImportsBy, ImportsUnit, ImportsDwarf, MeasuresBy, MeasuresUnit, MeasuresDwarf};
 use crate::model::Imported;
-use crate::model::Options;
 use crate::run::fitting;
 use crate::run::run_cleared;
+use checks::options::Options;
 
 // The import of what is asked for.
 fn import_by<'a>(
@@ -43,9 +43,9 @@ fn import_by<'a>(
     );
     let status = fitting(r, records.len(), files.len(), warnings.len());
     if status != 0 {
-        tlv::table::clear(records);
-        tlv::table::clear(files);
-        tlv::table::clear(warnings);
+        buffers::table::clear(records);
+        buffers::table::clear(files);
+        buffers::table::clear(warnings);
         return Imported::Refused(status);
     }
     let stats = r.stats;

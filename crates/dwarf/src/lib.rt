@@ -1,7 +1,5 @@
 // The import of a unit and of all units (the Rust's convert/dwarf.rs).
-pub mod checks;
 pub mod import;
-pub mod layout;
 pub mod model;
 pub mod part;
 pub mod run;

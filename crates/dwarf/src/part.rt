@@ -1,10 +1,10 @@
 // A unit's part of the lent line program (document 02, E11).
 ghost use mathlib.Core.Path.{_≡_};
 ghost use Prim.Native.Nat.{_+_, min};
+ghost use Rattle.tlv.specs.Checked.{Accepted};
 ghost use Rattle.collect.specs.Collects.{UnitIn};
-ghost use Rattle.dies.specs.DetailState.{Accepted};
 ghost use Rattle.dwarf.specs.Part.{PartOf};
-use tlv::access::Own;
+use access::access::Own;
 use tlv::shapes::PART_LENGTH;
 use tlv::tags::PART_TAG;
 use tlv::tags::UNIT_WHOLE;
@@ -44,7 +44,7 @@ pub fn program_part(main: &[u8], place: usize, size: usize) -> Part
     requires { ⌜ UnitIn (now main) place ⌝ }
     ensures { λ r. ⌜ PartOf (now (main .entry)) place size r ⌝ }
 {
-    match tlv::access::next_before_rows(main, place + UNIT_WHOLE, PART_TAG) {
+    match access::access::next_before_rows(main, place + UNIT_WHOLE, PART_TAG) {
         Own::Missing => Part {
             start: 0,
             end: size,

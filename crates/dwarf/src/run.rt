@@ -1,27 +1,26 @@
 // An import up to the refusals of the output buffers' lengths: what is written to the output buffers is cut off at their ends.
 ghost use mathlib.Core.Path.{_≡_};
-ghost use Prim.Native.Nat.{ℕ};
 ghost use lib.ListN.{length, replicate};
 ghost use Rattle.tlv.specs.Model.{units};
-ghost use Rattle.dies.specs.Details.{dwarfWith};
-ghost use Rattle.dies.specs.DetailState.{Accepted};
+ghost use Rattle.tlv.specs.Checked.{Accepted};
 ghost use Rattle.imports.specs.Answer.{workOfUnits};
 ghost use Rattle.imports.specs.Import.{importUnits};
-ghost use Rattle.dwarf.specs.Checks.{BothAccepted, NotOversize, WorkEnough};
-ghost use Rattle.dwarf.specs.Layout.{Sized};
-ghost use Rattle.dwarf.specs.Runs.{inputsBy, importAll, chosenUnits, Chooses, importAccepted, startState, LengthsOf, Writes, fitStatus};
-use crate::checks::BothChecked;
-use crate::checks::check_both;
-use crate::checks::is_missing;
-use crate::checks::is_oversize;
-use crate::checks::is_short;
-use crate::checks::work_of_units;
-use crate::layout::Counts;
-use crate::layout::counts_of;
-use crate::layout::lay_out;
-use crate::model::Options;
+ghost use Rattle.dies.specs.Details.{dwarfWith};
+ghost use Rattle.checks.specs.Checks.{BothAccepted, NotOversize, WorkEnough, chosenUnits};
+ghost use Rattle.checks.specs.Layout.{Sized};
+ghost use Rattle.dwarf.specs.Runs.{inputsBy, importAll, Chooses, importAccepted, startState, LengthsOf, Writes, fitStatus};
 use crate::tables::index_inputs;
 use crate::unit::import_each;
+use checks::checks::BothChecked;
+use checks::checks::check_both;
+use checks::checks::is_missing;
+use checks::checks::is_oversize;
+use checks::checks::is_short;
+use checks::checks::work_of_units;
+use checks::layout::Counts;
+use checks::layout::counts_of;
+use checks::layout::lay_out;
+use checks::options::Options;
 use files::store::new_files;
 use subprograms::model::ConversionStats;
 use subprograms::model::ImportState;
@@ -272,7 +271,7 @@ pub fn run_cleared<'a>(
         files,
         warnings,
     );
-    tlv::table::clear(work);
+    buffers::table::clear(work);
     r
 }
 

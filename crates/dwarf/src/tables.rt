@@ -4,11 +4,13 @@ ghost use lib.ListN.{length};
 ghost use Rattle.tlv.specs.Tags.{entryTag};
 ghost use Rattle.tlv.specs.Limits.{inputLimit};
 ghost use Rattle.tlv.specs.Fields.{fields, payloads, wholeFields};
-ghost use Rattle.tlv.specs.Places.{unitPlaces};
-ghost use Rattle.dies.specs.DetailState.{Accepted};
-ghost use Rattle.dwarf.specs.Layout.{LaidOut};
+ghost use Rattle.tlv.specs.Checked.{Accepted};
+ghost use Rattle.access.specs.Places.{unitPlaces};
+ghost use Rattle.access.specs.Units.{unitRecord};
+ghost use Rattle.access.specs.Index.{entryRecord};
+ghost use Rattle.checks.specs.Layout.{LaidOut};
 ghost use Rattle.dwarf.specs.Tables.{IndexesInput, IndexesInputs};
-use crate::layout::Layout;
+use checks::layout::Layout;
 use references::tables::Index;
 
 // The tables of both inputs.
@@ -21,15 +23,15 @@ pub struct Indexes {
 fn index_input(s: &[u8], work: &mut [u8], units: usize, entries: usize) -> Index
     requires { ⌜ Accepted (now s) ⌝ }
     requires { ⌜ length (now s) ≤ inputLimit ⌝ }
-    requires { ⌜ units + 24 * length (unitPlaces 0 (fields (now s))) ≤ entries ⌝ }
-    requires { ⌜ entries + 16 * length (payloads entryTag (wholeFields (fields (now s)))) ≤ length (now work) ⌝ }
+    requires { ⌜ units + unitRecord * length (unitPlaces 0 (fields (now s))) ≤ entries ⌝ }
+    requires { ⌜ entries + entryRecord * length (payloads entryTag (wholeFields (fields (now s)))) ≤ length (now work) ⌝ }
     ensures { λ r. ⌜ IndexesInput (now (s .entry)) (now (work .entry)) (now (work .exit)) units entries r ⌝ }
 {
     Index {
         units: units,
-        unit_count: tlv::units::index_units(s, work, units),
+        unit_count: access::units::index_units(s, work, units),
         entries: entries,
-        entry_count: tlv::index::index_entries(s, work, entries),
+        entry_count: access::index::index_entries(s, work, entries),
     }
 }
 

@@ -11,12 +11,12 @@ use native.Mathlib.Omega.{arith}
 use lib.Dec.{eqb}
 use lib.ListN.{length, getD}
 use borrow.Author.Tests.{eqb-true, eqb-false}
-use Rattle.tlv.specs.Buffer.{top}
 use Rattle.tlv.specs.Bytes.{leAt}
-use Rattle.tlv.proofs.TableLaws.{le-or-lt, apart-of, inside, leAt-but}
-use Rattle.tlv.proofs.RecordLaws.{records-at, records-length, records-suc, records-but}
-use Rattle.lines.specs.Files.{placeOf}
 use Rattle.tlv.specs.declared.model.DebugSource.{DebugSource}
+use Rattle.buffers.specs.Buffer.{top}
+use Rattle.buffers.proofs.TableLaws.{le-or-lt, apart-of, inside, leAt-but}
+use Rattle.buffers.proofs.RecordLaws.{records-at, records-length, records-suc, records-but}
+use Rattle.lines.specs.Files.{placeOf}
 use Rattle.files.specs.declared.pieces.FilePieces.{FilePieces}
 use Rattle.files.specs.declared.store.StoredFiles.{StoredFiles}
 use Rattle.files.specs.Pieces.{sourceIn, fileIn, PiecesIn}

@@ -9,18 +9,18 @@ use lib.ListN.{length, take, drop}
 use borrow.Author.Tests.{lt-ltb, le-ltb}
 use Rattle.tlv.specs.Outcome.{done}
 use Rattle.tlv.specs.Fields.{encode}
-use Rattle.tlv.specs.Buffer.{top, Put}
 use Rattle.tlv.specs.Limits.{joinedLimit}
-use Rattle.tlv.specs.Table.{chunk}
-use Rattle.tlv.specs.Output.{FileEntry, filePayload, filesBytes, eachOf}
-use Rattle.tlv.proofs.BufferLaws.{put-none, put-as}
-use Rattle.tlv.proofs.ChunkLaws.{chunk-length}
-use Rattle.tlv.proofs.TableLaws.{kept-refl, kept-trans, kept-wide}
-use Rattle.lines.specs.Paths.{appendPath}
-use Rattle.lines.specs.Join.{Laid}
-use Rattle.lines.specs.Files.{fileIndex, placeOf, appendFile, addFileAt, addFile}
-use Rattle.lines.proofs.PathBounds.{append-path-length}
 use Rattle.tlv.specs.declared.model.DebugSource.{DebugSource}
+use Rattle.buffers.specs.Buffer.{top, Put}
+use Rattle.buffers.specs.Table.{chunk}
+use Rattle.buffers.specs.Output.{FileEntry, filePayload, filesBytes, eachOf}
+use Rattle.buffers.proofs.BufferLaws.{put-none, put-as}
+use Rattle.buffers.proofs.ChunkLaws.{chunk-length}
+use Rattle.buffers.proofs.TableLaws.{kept-refl, kept-trans, kept-wide}
+use Rattle.paths.specs.Paths.{appendPath}
+use Rattle.paths.specs.Join.{Laid}
+use Rattle.paths.proofs.PathBounds.{append-path-length}
+use Rattle.lines.specs.Files.{fileIndex, placeOf, appendFile, addFileAt, addFile}
 use Rattle.files.specs.declared.pieces.FilePieces.{FilePieces}
 use Rattle.files.specs.declared.store.StoredFiles.{StoredFiles}
 use Rattle.files.specs.declared.store.FoundFile.{FoundFile}

@@ -10,10 +10,10 @@ use lib.Dec.{eqb}
 use lib.ListN.{getD}
 use borrow.Author.Tests.{eqb-true, eqb-false}
 use Rattle.tlv.specs.Bytes.{leAt}
-use Rattle.tlv.specs.Table.{records}
-use Rattle.tlv.specs.Output.{FileEntry}
-use Rattle.tlv.proofs.TableLaws.{le-or-lt}
-use Rattle.tlv.proofs.RecordLaws.{records-at, records-length}
+use Rattle.buffers.specs.Table.{records}
+use Rattle.buffers.specs.Output.{FileEntry}
+use Rattle.buffers.proofs.TableLaws.{le-or-lt}
+use Rattle.buffers.proofs.RecordLaws.{records-at, records-length}
 use Rattle.lines.specs.Files.{sameFile, placeOf}
 use Rattle.files.specs.declared.store.StoredFiles.{StoredFiles}
 use Rattle.files.specs.declared.store.FoundFile.{FoundFile}

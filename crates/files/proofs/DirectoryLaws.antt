@@ -6,18 +6,18 @@ use Prim.Native.Nat.{ℕ, _+_, _-_, _*_, _≤_, _<_}
 use native.Mathlib.Omega.{arith}
 use lib.ListN.{length, take, drop, length-append}
 use borrow.Author.Count.{below-none, below-more}
-use Rattle.tlv.specs.declared.access.Own.{Own}
 use Rattle.tlv.specs.Bytes.{leAt}
 use Rattle.tlv.specs.Fields.{fields, payloads}
 use Rattle.tlv.specs.Checked.{Placed}
-use Rattle.tlv.specs.Places.{ownFields}
-use Rattle.tlv.specs.Access.{ownPayloads, NextOwn}
-use Rattle.tlv.specs.Table.{chunk, Kept, Wrote}
-use Rattle.tlv.proofs.ChunkLaws.{leAt-chunk, leAt-front}
-use Rattle.tlv.proofs.TableLaws.{kept-refl, kept-trans, kept-wide, leAt-kept}
-use Rattle.tlv.proofs.RecordLaws.{records-length, records-nil, records-push}
 use Rattle.tlv.proofs.PlacePromises.{placed-directory, placed-directory-string}
-use Rattle.tlv.proofs.OwnLaws.{own-within, own-field, own-placed}
+use Rattle.buffers.specs.Table.{chunk, Kept, Wrote}
+use Rattle.buffers.proofs.ChunkLaws.{leAt-chunk, leAt-front}
+use Rattle.buffers.proofs.TableLaws.{kept-refl, kept-trans, kept-wide, leAt-kept}
+use Rattle.buffers.proofs.RecordLaws.{records-length, records-nil, records-push}
+use Rattle.access.specs.declared.access.Own.{Own}
+use Rattle.access.specs.Places.{ownFields}
+use Rattle.access.specs.Access.{ownPayloads, NextOwn}
+use Rattle.access.proofs.OwnLaws.{own-within, own-field, own-placed}
 use Rattle.files.specs.declared.spans.Span.{Span}
 use Rattle.files.specs.Pieces.{spanIn, spanOf, spannedOf, PutSpan, DirectoryIn, DirectoriesIn}
 

@@ -14,13 +14,13 @@ use Rattle.tlv.specs.Lists.{Any, All, mapOption}
 use Rattle.tlv.specs.Fields.{Field, fields, wholeFields, Group, grouped, payloads, headOf, payloadOf}
 use Rattle.tlv.specs.Checked.{Accepts}
 use Rattle.tlv.specs.Model.{CompilationUnit, LineHeader, HeaderFile, fileOf, unitOf, units}
-use Rattle.tlv.specs.Places.{unitHere, unitPlaces}
-use Rattle.tlv.specs.Output.{FileEntry}
 use Rattle.tlv.proofs.ListLaws.{all-map, all-image}
 use Rattle.tlv.proofs.PlaceFacts.{accepted-count}
-use Rattle.tlv.proofs.UnitPlaceLaws.{units-places}
-use Rattle.tlv.proofs.IndexModel.{either}
-use Rattle.lines.specs.Paths.{fileEntry}
+use Rattle.buffers.specs.Output.{FileEntry}
+use Rattle.access.specs.Places.{unitHere, unitPlaces}
+use Rattle.access.proofs.UnitPlaceLaws.{units-places}
+use Rattle.access.proofs.IndexModel.{either}
+use Rattle.paths.specs.Paths.{fileEntry}
 use Rattle.files.specs.Possible.{namedFile, namedFiles, withZero, headed, filesOfUnits, possibleFiles}
 
 -- ---- fields of a tag

@@ -4,12 +4,12 @@ use native.Mathlib.Omega.{arith}
 use mathlib.Core.Path.{_≡_, refl, sym, _∙_}
 use mathlib.Core.List.{List, [], _∷_, _++_, append-nil, append-assoc}
 use lib.ListN.{length}
-use Rattle.tlv.specs.Buffer.{top}
-use Rattle.tlv.specs.Table.{chunk, Clear, KeptBut}
 use Rattle.tlv.specs.Fields.{encode}
-use Rattle.tlv.specs.Output.{FileEntry, filePayload, eachOf, filesBytes}
-use Rattle.tlv.proofs.BufferLaws.{_then_, put-none, put-as}
-use Rattle.tlv.proofs.RecordLaws.{records-but}
+use Rattle.buffers.specs.Buffer.{top}
+use Rattle.buffers.specs.Table.{chunk, Clear, KeptBut}
+use Rattle.buffers.specs.Output.{FileEntry, filePayload, eachOf, filesBytes}
+use Rattle.buffers.proofs.BufferLaws.{_then_, put-none, put-as}
+use Rattle.buffers.proofs.RecordLaws.{records-but}
 use Rattle.files.specs.declared.spans.FileUnit.{FileUnit}
 use Rattle.files.specs.declared.store.StoredFiles.{StoredFiles}
 use Rattle.files.specs.Pieces.{spanIn, spanOf, spannedOf, FileUnitIn}

@@ -4,7 +4,7 @@ use mathlib.Core.List.{List}
 use Prim.Native.Nat.{ℕ, _+_, _*_, _%_, _≤_, _<_}
 use native.Mathlib.Omega.{arith}
 use lib.ListN.{length, getD, drop, drop-of-length-le}
-use Rattle.lines.proofs.PathCodeLaws.{drop-byte}
+use Rattle.paths.proofs.PathCodeLaws.{drop-byte}
 use Rattle.files.specs.Hash.{modulus, hashFrom}
 
 pub record Hashing (s : List ℕ) (h r i : ℕ) : Type 0 where

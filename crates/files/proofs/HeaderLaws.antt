@@ -10,11 +10,11 @@ use lib.Dec.{leb}
 use lib.ListN.{length}
 use borrow.Author.Tests.{le-leb, lt-leb}
 use Rattle.tlv.specs.Outcome.{_>>=_}
-use Rattle.tlv.specs.Table.{chunk, Clear}
 use Rattle.tlv.specs.Model.{CompilationUnit, LineHeader}
-use Rattle.tlv.specs.Places.{unitHere}
-use Rattle.tlv.proofs.TableLaws.{here, there, but-of, but-one, but-trans}
-use Rattle.tlv.proofs.RecordLaws.{records-nil, records-suc}
+use Rattle.buffers.specs.Table.{chunk, Clear}
+use Rattle.buffers.proofs.TableLaws.{here, there, but-of, but-one, but-trans}
+use Rattle.buffers.proofs.RecordLaws.{records-nil, records-suc}
+use Rattle.access.specs.Places.{unitHere}
 use Rattle.lines.specs.Files.{FileTable, FileIndices, internFiles, internHeaderFiles}
 use Rattle.files.specs.declared.spans.FileUnit.{FileUnit}
 use Rattle.files.specs.declared.store.StoredFiles.{StoredFiles}

@@ -10,10 +10,10 @@ use lib.Seq.{set-out}
 use borrow.Author.Tests.{ne-eqb}
 use Rattle.tlv.specs.declared.model.FileIndex.{FileIndex}
 use Rattle.tlv.specs.Bytes.{leAt}
-use Rattle.tlv.specs.Table.{chunk, records, Wrote}
-use Rattle.tlv.proofs.ChunkLaws.{leAt-chunk, leAt-front}
-use Rattle.tlv.proofs.TableLaws.{inside, kept-refl, kept-trans, kept-wide, leAt-kept}
-use Rattle.tlv.proofs.RecordLaws.{records-length, records-at, records-set}
+use Rattle.buffers.specs.Table.{chunk, records, Wrote}
+use Rattle.buffers.proofs.ChunkLaws.{leAt-chunk, leAt-front}
+use Rattle.buffers.proofs.TableLaws.{inside, kept-refl, kept-trans, kept-wide, leAt-kept}
+use Rattle.buffers.proofs.RecordLaws.{records-length, records-at, records-set}
 use Rattle.lines.specs.Files.{FileIndices, fileIndex, get}
 use Rattle.files.specs.declared.index.StoredIndices.{StoredIndices}
 use Rattle.files.specs.declared.index.FileNumber.{FileNumber}

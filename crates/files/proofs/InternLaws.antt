@@ -6,20 +6,20 @@ use mathlib.Core.Logic.{inl}
 use mathlib.Core.List.{List, [], _∷_}
 use mathlib.Core.Option.{none, some}
 use lib.ListN.{length}
-use Rattle.tlv.specs.declared.access.Own.{Own}
 use Rattle.tlv.specs.declared.model.FileIndex.{FileIndex}
 use Rattle.tlv.specs.Outcome.{refused, done, _>>=_}
-use Rattle.tlv.specs.Buffer.{top}
-use Rattle.tlv.specs.Table.{Kept, KeptBut}
 use Rattle.tlv.specs.Model.{fileOf}
-use Rattle.tlv.specs.Access.{NextOwn}
 use Rattle.tlv.specs.Checked.{Placed}
 use Rattle.tlv.specs.Limits.{stringLimit}
-use Rattle.tlv.specs.Places.{unitHere}
-use Rattle.tlv.proofs.TableLaws.{kept-refl, here, there, but-of, but-one, but-trans}
-use Rattle.lines.specs.Paths.{fileEntry}
-use Rattle.lines.specs.Files.{addFile, internFile}
 use Rattle.tlv.specs.declared.model.DebugSource.{DebugSource}
+use Rattle.buffers.specs.Buffer.{top}
+use Rattle.buffers.specs.Table.{Kept, KeptBut}
+use Rattle.buffers.proofs.TableLaws.{kept-refl, here, there, but-of, but-one, but-trans}
+use Rattle.access.specs.declared.access.Own.{Own}
+use Rattle.access.specs.Access.{NextOwn}
+use Rattle.access.specs.Places.{unitHere}
+use Rattle.paths.specs.Paths.{fileEntry}
+use Rattle.lines.specs.Files.{addFile, internFile}
 use Rattle.files.specs.declared.spans.Span.{Span}
 use Rattle.files.specs.declared.pieces.FilePieces.{FilePieces}
 use Rattle.files.specs.declared.spans.FileUnit.{FileUnit}

@@ -6,25 +6,25 @@ use mathlib.Core.Logic.{inl, inr, ⊎-elim}
 use mathlib.Core.List.{List, [], _∷_, _++_, map, append-nil, append-assoc}
 use mathlib.Core.Option.{Option, none, some}
 use lib.ListN.{length, drop}
-use Rattle.tlv.specs.declared.access.Own.{Own}
 use Rattle.tlv.specs.declared.model.FileIndex.{FileIndex}
 use Rattle.tlv.specs.Outcome.{Outcome, refused, done, _>>=_}
 use Rattle.tlv.specs.Lists.{Any}
-use Rattle.tlv.specs.Buffer.{top}
 use Rattle.tlv.specs.Fields.{fields, payloads}
 use Rattle.tlv.specs.Cursor.{stepAt}
 use Rattle.tlv.specs.Checked.{Placed}
-use Rattle.tlv.specs.Table.{chunk, KeptBut}
 use Rattle.tlv.specs.Model.{CompilationUnit, LineHeader, HeaderFile, fileOf}
-use Rattle.tlv.specs.Places.{ownFields, unitHere}
-use Rattle.tlv.specs.Access.{NextOwn}
-use Rattle.tlv.proofs.TableLaws.{but-refl, but-trans}
-use Rattle.tlv.proofs.RecordLaws.{records-suc, records-but}
 use Rattle.tlv.proofs.PlacePromises.{placed-file, placed-file-string}
-use Rattle.tlv.proofs.OwnLaws.{own-within, own-field, own-placed}
-use Rattle.tlv.proofs.UnitFacts.{unit-files}
-use Rattle.lines.specs.Files.{FileTable, FileIndices, internFile, Indexed, internFiles}
 use Rattle.tlv.specs.declared.model.DebugSource.{DebugSource}
+use Rattle.buffers.specs.Buffer.{top}
+use Rattle.buffers.specs.Table.{chunk, KeptBut}
+use Rattle.buffers.proofs.TableLaws.{but-refl, but-trans}
+use Rattle.buffers.proofs.RecordLaws.{records-suc, records-but}
+use Rattle.access.specs.declared.access.Own.{Own}
+use Rattle.access.specs.Places.{ownFields, unitHere}
+use Rattle.access.specs.Access.{NextOwn}
+use Rattle.access.proofs.OwnLaws.{own-within, own-field, own-placed}
+use Rattle.access.proofs.UnitFacts.{unit-files}
+use Rattle.lines.specs.Files.{FileTable, FileIndices, internFile, Indexed, internFiles}
 use Rattle.files.specs.declared.spans.Span.{Span}
 use Rattle.files.specs.declared.spans.FileUnit.{FileUnit}
 use Rattle.files.specs.declared.store.StoredFiles.{StoredFiles}

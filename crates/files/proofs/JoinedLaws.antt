@@ -9,14 +9,14 @@ use borrow.Author.Tests.{eq-eqb, ne-eqb, not-true, not-false}
 use lib.Dec.{eqb}
 use lib.ListN.{length, getD, drop, replicate, length-append, length-replicate, drop-of-length-le}
 use Rattle.tlv.specs.Lists.{same}
-use Rattle.tlv.specs.Table.{chunk}
-use Rattle.tlv.proofs.ChunkLaws.{chunk-length, chunk-none, chunk-cons, chunk-add}
 use Rattle.tlv.proofs.TestLaws.{by-test, same-true}
-use Rattle.lines.specs.Standard.{slash}
-use Rattle.lines.specs.Paths.{startsWith, endsWith, appendPath}
-use Rattle.lines.proofs.PathCodeLaws.{drop-byte, starts-first}
-use Rattle.lines.proofs.Joining.{ends-append, append-none, append-first}
-use Rattle.lines.proofs.JoinLaws.{ends-at, append-both}
+use Rattle.buffers.specs.Table.{chunk}
+use Rattle.buffers.proofs.ChunkLaws.{chunk-length, chunk-none, chunk-cons, chunk-add}
+use Rattle.line_program.specs.Standard.{slash}
+use Rattle.paths.specs.Paths.{startsWith, endsWith, appendPath}
+use Rattle.paths.proofs.PathCodeLaws.{drop-byte, starts-first}
+use Rattle.paths.proofs.Joining.{ends-append, append-none, append-first}
+use Rattle.paths.proofs.JoinLaws.{ends-at, append-both}
 use Rattle.files.specs.Pieces.{Separated}
 use Rattle.files.specs.Joined.{componentAt}
 

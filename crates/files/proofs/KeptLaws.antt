@@ -5,13 +5,13 @@ use mathlib.Core.List.{List, [], _∷_}
 use Prim.Native.Nat.{ℕ, _+_, _*_, _^_, _≤_, _<_}
 use native.Mathlib.Omega.{arith}
 use lib.ListN.{length}
-use Rattle.tlv.specs.Buffer.{top}
 use Rattle.tlv.specs.Bytes.{leAt}
 use Rattle.tlv.specs.Limits.{joinedLimit}
-use Rattle.tlv.specs.Table.{Apart, Kept, Clear, KeptBut, Zeroed}
-use Rattle.tlv.proofs.TableLaws.{inside, but-one, leAt-but, kept-wide}
-use Rattle.tlv.proofs.RecordLaws.{records-but, records-nil}
-use Rattle.tlv.proofs.ZeroLaws.{zeroed-chunk, leAt-zeros}
+use Rattle.buffers.specs.Buffer.{top}
+use Rattle.buffers.specs.Table.{Apart, Kept, Clear, KeptBut, Zeroed}
+use Rattle.buffers.proofs.TableLaws.{inside, but-one, leAt-but, kept-wide}
+use Rattle.buffers.proofs.RecordLaws.{records-but, records-nil}
+use Rattle.buffers.proofs.ZeroLaws.{zeroed-chunk, leAt-zeros}
 use Rattle.files.specs.declared.store.StoredFiles.{StoredFiles}
 use Rattle.files.specs.Possible.{possibleFiles}
 use Rattle.files.specs.Store.{storedFile, storedHash, recordsFrom, recordIn, entriesOf, hashesOf, lastIn, FilesIn, Empty}

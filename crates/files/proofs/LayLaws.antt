@@ -5,13 +5,13 @@ use Prim.Native.Nat.{ℕ, _+_, _-_, _≤_}
 use native.Mathlib.Omega.{arith}
 use lib.ListN.{length, take, drop, length-take}
 use Rattle.tlv.specs.Limits.{stringLimit}
-use Rattle.tlv.specs.Table.{chunk}
-use Rattle.tlv.proofs.ChunkLaws.{chunk-none}
-use Rattle.lines.specs.Paths.{appendPath}
-use Rattle.lines.specs.Join.{Laid}
-use Rattle.lines.proofs.Joining.{append-first}
-use Rattle.lines.proofs.PathBounds.{append-path-length}
-use Rattle.lines.proofs.JoinLaws.{laid-as, append-two, join-room}
+use Rattle.buffers.specs.Table.{chunk}
+use Rattle.buffers.proofs.ChunkLaws.{chunk-none}
+use Rattle.paths.specs.Paths.{appendPath}
+use Rattle.paths.specs.Join.{Laid}
+use Rattle.paths.proofs.Joining.{append-first}
+use Rattle.paths.proofs.PathBounds.{append-path-length}
+use Rattle.paths.proofs.JoinLaws.{laid-as, append-two, join-room}
 use Rattle.files.specs.declared.spans.Span.{Span}
 use Rattle.files.specs.declared.pieces.FilePieces.{FilePieces}
 use Rattle.files.specs.Pieces.{spanIn, SpanIn, fileIn}

@@ -8,8 +8,8 @@ use mathlib.Core.Option.{Option, some}
 use Rattle.tlv.specs.Outcome.{done}
 use Rattle.tlv.specs.Lists.{Any, at}
 use Rattle.tlv.specs.Model.{CompilationUnit, LineHeader, HeaderFile, units}
-use Rattle.tlv.specs.Output.{FileEntry}
-use Rattle.lines.specs.Paths.{fileEntry}
+use Rattle.buffers.specs.Output.{FileEntry}
+use Rattle.paths.specs.Paths.{fileEntry}
 use Rattle.files.specs.Possible.{namedFile, namedFiles, withZero, headed, filesOfUnits, possibleFiles}
 use Rattle.files.specs.Interns.{Listed}
 

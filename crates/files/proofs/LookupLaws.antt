@@ -9,23 +9,23 @@ use mathlib.Core.Option.{Option, none, some}
 use lib.Dec.{leb}
 use lib.ListN.{length, drop}
 use borrow.Author.Tests.{le-leb, lt-leb}
-use Rattle.tlv.specs.declared.access.Own.{Own}
 use Rattle.tlv.specs.declared.model.FileIndex.{FileIndex}
 use Rattle.tlv.specs.Outcome.{done}
 use Rattle.tlv.specs.Lists.{at, mapOption}
 use Rattle.tlv.specs.Fields.{fields, payloads}
 use Rattle.tlv.specs.Cursor.{stepAt}
 use Rattle.tlv.specs.Checked.{Placed}
-use Rattle.tlv.specs.Table.{chunk}
 use Rattle.tlv.specs.Model.{CompilationUnit, LineHeader, HeaderFile, fileOf}
-use Rattle.tlv.specs.Output.{FileEntry}
-use Rattle.tlv.specs.Places.{ownFields, unitHere}
-use Rattle.tlv.specs.Access.{NextOwn}
 use Rattle.tlv.proofs.ListLaws.{at-image}
-use Rattle.tlv.proofs.TableLaws.{kept-refl, kept-wide}
-use Rattle.tlv.proofs.OwnLaws.{own-placed}
-use Rattle.tlv.proofs.UnitFacts.{unit-files}
-use Rattle.lines.specs.Paths.{fileEntry}
+use Rattle.buffers.specs.Table.{chunk}
+use Rattle.buffers.specs.Output.{FileEntry}
+use Rattle.buffers.proofs.TableLaws.{kept-refl, kept-wide}
+use Rattle.access.specs.declared.access.Own.{Own}
+use Rattle.access.specs.Places.{ownFields, unitHere}
+use Rattle.access.specs.Access.{NextOwn}
+use Rattle.access.proofs.OwnLaws.{own-placed}
+use Rattle.access.proofs.UnitFacts.{unit-files}
+use Rattle.paths.specs.Paths.{fileEntry}
 use Rattle.lines.specs.Files.{FileTable, FileIndices, fileIndex, placeOf, get}
 use Rattle.files.specs.declared.index.FileNumber.{FileNumber}
 use Rattle.files.specs.declared.index.FoundIndex.{FoundIndex}

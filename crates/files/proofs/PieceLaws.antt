@@ -14,20 +14,20 @@ use Rattle.tlv.specs.Outcome.{Outcome, refused, done, _>>=_}
 use Rattle.tlv.specs.Lists.{at, mapOption, isEmpty}
 use Rattle.tlv.specs.Bytes.{leAt}
 use Rattle.tlv.specs.Model.{HeaderFile, directoryOf, fileOf}
-use Rattle.tlv.specs.Places.{unitHere}
-use Rattle.tlv.specs.Table.{chunk, records}
 use Rattle.tlv.proofs.TestLaws.{by-test}
 use Rattle.tlv.proofs.ListLaws.{at-image}
 use Rattle.tlv.proofs.WidthLaws.{drop-part}
 use Rattle.tlv.proofs.ShapeLaws.{number-at, number-first}
-use Rattle.tlv.proofs.ChunkLaws.{chunk-length}
-use Rattle.tlv.proofs.RecordLaws.{records-length, records-at}
-use Rattle.lines.specs.Paths.{baseStart, basenameOf, rootLength, directoryName, isAbsolute, appendPath, readDirectory, namedDirectory, needsCompilation}
-use Rattle.lines.specs.Paths.{joinedDirectory, fileEntry}
+use Rattle.buffers.specs.Table.{chunk, records}
+use Rattle.buffers.proofs.ChunkLaws.{chunk-length}
+use Rattle.buffers.proofs.RecordLaws.{records-length, records-at}
+use Rattle.access.specs.Places.{unitHere}
+use Rattle.paths.specs.Paths.{baseStart, basenameOf, rootLength, directoryName, isAbsolute, appendPath, readDirectory, namedDirectory, needsCompilation}
+use Rattle.paths.specs.Paths.{joinedDirectory, fileEntry}
+use Rattle.paths.proofs.PathBounds.{base-start-within}
 use Rattle.files.specs.declared.spans.Span.{Span}
 use Rattle.files.specs.declared.spans.FileUnit.{FileUnit}
 use Rattle.files.specs.declared.pieces.Named.{Named}
-use Rattle.lines.proofs.PathBounds.{base-start-within}
 use Rattle.files.specs.declared.pieces.NamedDirectory.{NamedDirectory}
 use Rattle.files.specs.declared.pieces.PathParts.{PathParts}
 use Rattle.files.specs.Pieces.{spanIn, fileIn, SpanIn, spanOf, spannedOf, headerHere, DirectoryIn, FileUnitIn, PartsIn, Reads, Before, relativeEntry}

@@ -9,9 +9,9 @@ use lib.ListN.{length}
 use Rattle.tlv.specs.Outcome.{Outcome, refused, done, _>>=_}
 use Rattle.tlv.specs.Lists.{mapOption, All}
 use Rattle.tlv.specs.Model.{CompilationUnit, LineHeader, HeaderFile}
-use Rattle.tlv.specs.Output.{FileEntry}
 use Rattle.tlv.proofs.OutcomeLaws.{Gives, gives, gives-none, gives-cond, given, gives-bind}
-use Rattle.lines.specs.Paths.{fileEntry}
+use Rattle.buffers.specs.Output.{FileEntry}
+use Rattle.paths.specs.Paths.{fileEntry}
 use Rattle.lines.specs.Files.{FileTable, FileIndices, fileIndex, placeOf, Added, appendFile, addFileAt, addFile, Interned, internEntry, internFile, Indexed, internFiles, internHeaderFiles}
 use Rattle.files.specs.Reached.{numberIn, reachedIndices, InTable, Reached}
 use Rattle.files.proofs.SameLaws.{place-more, place-last}
@@ -143,6 +143,3 @@ header-in u h t = gives-bind (files-in u h t (u .files)) λ r R. gives (record {
 module _ (u : CompilationUnit) (h : LineHeader) (t : FileTable) (r : Indexed) (e : internHeaderFiles u h t ≡ done r) where
   pub interned-reached : (r .indices ≡ reachedIndices u h (r .table)) × Reached u h (r .table)
   interned-reached = let g = given (header-in u h t) e in (g .indices, g .reached)
-
-  pub interned-grows : (more : List FileEntry) × ((r .table .entries ≡ t .entries ++ more) × (r .table .first ≡ t .first))
-  interned-grows = let g = given (header-in u h t) e .longer in (g .more, (g .entries, g .first))

@@ -5,9 +5,9 @@ use mathlib.Core.Option.{Option, none, some}
 use Prim.Native.Nat.{ℕ, _+_, _<_, _^_}
 use native.Mathlib.Omega.{arith}
 use lib.ListN.{length}
-use Rattle.tlv.specs.Output.{FileEntry}
-use Rattle.lines.specs.Files.{placeOf}
 use Rattle.tlv.specs.declared.model.DebugSource.{DebugSource}
+use Rattle.buffers.specs.Output.{FileEntry}
+use Rattle.lines.specs.Files.{placeOf}
 use Rattle.files.specs.declared.store.StoredFiles.{StoredFiles}
 use Rattle.files.specs.Pieces.{sourceIn}
 use Rattle.files.specs.Possible.{possibleFiles, Possible}

@@ -10,13 +10,13 @@ use lib.ListN.{length, take, drop, getD}
 use borrow.Author.Tests.{eqb-true, eq-eqb, ne-eqb}
 use Rattle.tlv.specs.Lists.{same, mapOption}
 use Rattle.tlv.specs.Bytes.{leAt}
-use Rattle.tlv.specs.Table.{chunk}
-use Rattle.tlv.specs.Output.{FileEntry}
 use Rattle.tlv.proofs.TestLaws.{and-left, and-right, same-true}
-use Rattle.tlv.proofs.ChunkLaws.{chunk-length}
-use Rattle.lines.specs.Paths.{appendPath}
-use Rattle.lines.specs.Files.{sameFile, placeOf}
 use Rattle.tlv.specs.declared.model.DebugSource.{DebugSource}
+use Rattle.buffers.specs.Table.{chunk}
+use Rattle.buffers.specs.Output.{FileEntry}
+use Rattle.buffers.proofs.ChunkLaws.{chunk-length}
+use Rattle.paths.specs.Paths.{appendPath}
+use Rattle.lines.specs.Files.{sameFile, placeOf}
 use Rattle.files.specs.declared.pieces.FilePieces.{FilePieces}
 use Rattle.files.specs.Pieces.{sourceIn, spanIn, fileIn, PiecesIn}
 use Rattle.files.specs.Hash.{hashOf}
@@ -56,9 +56,6 @@ same-file e f q = λ i. record {
   directory = same-true (e .directory) (f .directory) (and-left _ (same (e .basename) (f .basename)) q) i;
   basename = same-true (e .basename) (f .basename) (and-right (same (e .directory) (f .directory)) _ q) i;
 }
-
-pub file-same : (e : FileEntry) → sameFile e e ≡ true
-file-same e = rw (same-refl (e .directory), same-refl (e .basename))
 
 and-false : (a : Bool) → (a && false) ≡ false
 and-false true = refl

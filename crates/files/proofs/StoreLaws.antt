@@ -7,10 +7,10 @@ use native.Mathlib.Nat.{add-zero, mod-lt, mul-le-mul-right}
 use native.Mathlib.Omega.{arith}
 use borrow.Author.Tests.{eq-eqb, ne-eqb}
 use Rattle.tlv.specs.Bytes.{leAt}
-use Rattle.tlv.specs.Table.{chunk, Wrote}
-use Rattle.tlv.proofs.ChunkLaws.{chunk-part, leAt-chunk}
-use Rattle.tlv.proofs.TableLaws.{kept-trans, kept-wide, leAt-kept, here, there, but-of, but-trans}
 use Rattle.tlv.specs.declared.model.DebugSource.{DebugSource}
+use Rattle.buffers.specs.Table.{chunk, Wrote}
+use Rattle.buffers.proofs.ChunkLaws.{chunk-part, leAt-chunk}
+use Rattle.buffers.proofs.TableLaws.{kept-trans, kept-wide, leAt-kept, here, there, but-of, but-trans}
 use Rattle.files.specs.declared.spans.Span.{Span}
 use Rattle.files.specs.declared.pieces.FilePieces.{FilePieces}
 use Rattle.files.specs.declared.store.StoredFiles.{StoredFiles}

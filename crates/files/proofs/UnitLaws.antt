@@ -5,22 +5,22 @@ use mathlib.Core.Option.{Option, none, some}
 use Prim.Native.Nat.{ℕ, _+_, _*_, _≤_, _<_}
 use native.Mathlib.Omega.{arith}
 use lib.ListN.{length, take, drop, length-map}
-use Rattle.tlv.specs.declared.access.Own.{Own}
 use Rattle.tlv.specs.Lists.{mapOption}
 use Rattle.tlv.specs.Bytes.{leAt}
 use Rattle.tlv.specs.Fields.{fields, payloads, payloadOf, headOf}
 use Rattle.tlv.specs.Model.{headerOf, directoryOf}
 use Rattle.tlv.specs.Cursor.{stepAt}
 use Rattle.tlv.specs.Checked.{Placed}
-use Rattle.tlv.specs.Places.{ownFields, unitHere}
-use Rattle.tlv.specs.Access.{ownPayloads, NextOwn}
-use Rattle.tlv.specs.Table.{chunk}
 use Rattle.tlv.proofs.CursorLaws.{next-within}
 use Rattle.tlv.proofs.ShapeLaws.{number-at}
 use Rattle.tlv.proofs.PlaceFacts.{placed-next}
 use Rattle.tlv.proofs.PlacePromises.{placed-header, placed-string}
-use Rattle.tlv.proofs.OwnLaws.{own-within, own-field}
-use Rattle.tlv.proofs.UnitFacts.{unit-directory, unit-header, unit-directories}
+use Rattle.buffers.specs.Table.{chunk}
+use Rattle.access.specs.declared.access.Own.{Own}
+use Rattle.access.specs.Places.{ownFields, unitHere}
+use Rattle.access.specs.Access.{ownPayloads, NextOwn}
+use Rattle.access.proofs.OwnLaws.{own-within, own-field}
+use Rattle.access.proofs.UnitFacts.{unit-directory, unit-header, unit-directories}
 use Rattle.files.specs.declared.spans.Span.{Span}
 use Rattle.files.specs.Pieces.{orHeader, headerHere, versionIn, CompilationIn, DirectoriesIn, UnitPlaced, Described}
 use Rattle.files.proofs.DirectoryLaws.{spanned-length}

@@ -11,9 +11,9 @@ use borrow.Author.Tests.{ne-eqb}
 use Rattle.tlv.specs.Outcome.{done, _>>=_}
 use Rattle.tlv.specs.Lists.{at}
 use Rattle.tlv.specs.Model.{CompilationUnit, LineHeader, HeaderFile}
-use Rattle.tlv.specs.Output.{FileEntry}
 use Rattle.tlv.proofs.OutcomeLaws.{done-is, with-done}
-use Rattle.lines.specs.Paths.{fileEntry}
+use Rattle.buffers.specs.Output.{FileEntry}
+use Rattle.paths.specs.Paths.{fileEntry}
 use Rattle.lines.specs.Files.{FileTable, FileIndices, Interned, addFile, internEntry, internFile, Indexed, internFiles, internHeaderFiles, get, headerFile}
 
 -- ---- a file

@@ -1,7 +1,7 @@
 -- The hash of a file by which the table looks it up. It decides no answer: files that are the same have the same hash. Assumes nothing.
 use Prim.Native.Nat.{ℕ, _+_, _*_, _%_}
 use mathlib.Core.List.{List, [], _∷_}
-use Rattle.tlv.specs.Output.{FileEntry}
+use Rattle.buffers.specs.Output.{FileEntry}
 
 -- 2^32: the remainder is the low half of a word, which costs no division
 abbrev pub modulus : ℕ

@@ -7,13 +7,16 @@ use mathlib.Core.Option.{Option, none, some}
 use lib.Dec.{eqb}
 use Rattle.tlv.specs.declared.model.FileIndex.{FileIndex}
 use Rattle.tlv.specs.Bytes.{leAt}
-use Rattle.tlv.specs.Table.{chunk, records, Kept}
+use Rattle.buffers.specs.Table.{chunk, records, Kept}
+use Rattle.lines.specs.Files.{FileIndices, fileIndex, insertIndex}
 use Rattle.files.specs.declared.index.StoredIndices.{StoredIndices}
 use Rattle.files.specs.declared.index.FileNumber.{FileNumber}
 use Rattle.files.specs.declared.index.FoundIndex.{FoundIndex}
-use Rattle.lines.specs.Files.{FileIndices, fileIndex, insertIndex}
 
--- a record: 5 bytes, whether there is a number 1, the number 4
+-- bytes of a record: whether there is a number 1, the number 4
+abbrev pub indexRecord : ℕ
+indexRecord = 5
+
 unfoldable pub indexOf : List ℕ → Option FileIndex
 indexOf b = cond (eqb (leAt 1 b 0) 1) (some (fileIndex (leAt 4 b 1))) none
 
@@ -36,4 +39,4 @@ pub record PutIndex (w w′ : List ℕ) (p : ℕ) (o : Option FileIndex) : Type 
 -- FileIndices::insert
 pub record Inserted (w w′ : List ℕ) (is : StoredIndices) (n : FileNumber) (i : FileIndex) : Type 0 where
   pub indices : indicesIn w′ is ≡ insertIndex (indicesIn w is) (n .0) i
-  pub rest : Kept w w′ (is .base) (is .count * 5)
+  pub rest : Kept w w′ (is .base) (is .count * indexRecord)

@@ -7,21 +7,25 @@ use lib.ListN.{length}
 use Rattle.tlv.specs.Outcome.{Outcome, refused, done, _>>=_}
 use Rattle.tlv.specs.Limits.{stringLimit}
 use Rattle.tlv.specs.Lists.{Any}
-use Rattle.tlv.specs.Table.{chunk, Kept, KeptBut}
 use Rattle.tlv.specs.Model.{CompilationUnit, LineHeader, HeaderFile, fileOf}
-use Rattle.tlv.specs.Places.{unitHere}
-use Rattle.tlv.specs.Output.{FileEntry}
-use Rattle.lines.specs.Paths.{fileEntry}
+use Rattle.buffers.specs.Table.{chunk, Kept, KeptBut}
+use Rattle.buffers.specs.Output.{FileEntry}
+use Rattle.access.specs.Places.{unitHere}
+use Rattle.paths.specs.Paths.{fileEntry}
 use Rattle.lines.specs.Files.{FileIndices, Interned, internFile, Indexed, internFiles, internHeaderFiles}
 use Rattle.files.specs.declared.spans.Span.{Span}
 use Rattle.files.specs.declared.spans.FileUnit.{FileUnit}
 use Rattle.files.specs.declared.store.StoredFiles.{StoredFiles}
 use Rattle.files.specs.declared.intern.InternedFile.{InternedFile}
 use Rattle.files.specs.declared.header.InternedFiles.{InternedFiles}
-use Rattle.files.specs.Pieces.{spanIn, headerHere}
+use Rattle.files.specs.Pieces.{spanIn, headerHere, spanRecord}
 use Rattle.files.specs.Possible.{withZero, Possible}
 use Rattle.files.specs.Store.{extent, tableOf, Grown}
-use Rattle.files.specs.Indices.{indexOf, indicesOf}
+use Rattle.files.specs.Indices.{indexOf, indicesOf, indexRecord}
+
+-- the room of a unit's directories and of its map from file numbers
+abbrev pub mapExtent : List ℕ → ℕ → ℕ
+mapExtent s q = spanRecord * length (unitHere s q .directories) + indexRecord * (1 + length (unitHere s q .files))
 
 -- the payload of a file: a flag, a number and a string
 pub record FileSpanIn (s : List ℕ) (a : Span) : Type 0 where
@@ -80,7 +84,7 @@ pub record InternsAt (main supplementary w w′ files files′ : List ℕ) (t : 
 pub record MapRoom (s w : List ℕ) (t : StoredFiles) (u : FileUnit) (base : ℕ) : Type 0 where
   pub table : t .base + extent t ≤ u .directories
   pub directories : u .directories + u .«directory_count» * 8 ≤ base
-  pub map : base + 5 * (1 + length (unitHere s (u .place) .files)) ≤ length w
+  pub map : base + indexRecord * (1 + length (unitHere s (u .place) .files)) ≤ length w
 
 abbrev pub indexedOf : List ℕ → List ℕ → List ℕ → ℕ → InternedFiles → Outcome Indexed
 indexedOf main supplementary w base (InternedFiles.Refused n) = refused n
@@ -101,10 +105,10 @@ pub record InternsFiles (main supplementary w w′ files files′ : List ℕ) (t
       ≡ (internFiles (unitHere s (u .place)) (headerHere s (u .place)) (tableOf main supplementary w t) (unitHere s (u .place) .files) >>= withIndices
       (indicesOf w base n))
   pub after : IndexedAfter main supplementary w w′ files files′ t (1 + length (unitHere s (u .place) .files)) r
-  pub rest : KeptBut w w′ ((t .base, extent t) ∷ (base, 5 * (1 + length (unitHere s (u .place) .files))) ∷ [])
+  pub rest : KeptBut w w′ ((t .base, extent t) ∷ (base, indexRecord * (1 + length (unitHere s (u .place) .files))) ∷ [])
 
 pub record InternsHeader (main supplementary w w′ files files′ : List ℕ) (t : StoredFiles) (s : List ℕ) (u : FileUnit) (base : ℕ) (r : InternedFiles)
     : Type 0 where
   pub is : indexedOf main supplementary w′ base r ≡ internHeaderFiles (unitHere s (u .place)) (headerHere s (u .place)) (tableOf main supplementary w t)
   pub after : IndexedAfter main supplementary w w′ files files′ t (1 + length (unitHere s (u .place) .files)) r
-  pub rest : KeptBut w w′ ((t .base, extent t) ∷ (base, 5 * (1 + length (unitHere s (u .place) .files))) ∷ [])
+  pub rest : KeptBut w w′ ((t .base, extent t) ∷ (base, indexRecord * (1 + length (unitHere s (u .place) .files))) ∷ [])

@@ -4,8 +4,8 @@ use mathlib.Core.Bool.{Bool}
 use mathlib.Core.List.{List, _++_}
 use lib.ListN.{length, replicate}
 use Rattle.tlv.specs.Lists.{same}
-use Rattle.tlv.specs.Table.{chunk}
-use Rattle.lines.specs.Standard.{slash}
+use Rattle.buffers.specs.Table.{chunk}
+use Rattle.line_program.specs.Standard.{slash}
 
 -- a number of slashes and a component stand at a place
 unfoldable pub componentAt : List ℕ → ℕ → ℕ → List ℕ → Bool

@@ -14,14 +14,14 @@ use Rattle.tlv.specs.Lists.{mapOption}
 use Rattle.tlv.specs.Fields.{fields, payloads, payloadOf}
 use Rattle.tlv.specs.Cursor.{stepAt}
 use Rattle.tlv.specs.Checked.{Placed}
-use Rattle.tlv.specs.Table.{chunk, records, Kept}
 use Rattle.tlv.specs.Model.{CompilationUnit, LineHeader, headerOf, directoryOf, fileOf}
-use Rattle.tlv.specs.Places.{ownFields, unitHere}
-use Rattle.tlv.specs.Output.{FileEntry}
-use Rattle.lines.specs.Standard.{slash}
-use Rattle.lines.specs.Paths.{orEmpty, basenameOf, directoryName, appendPath, needsCompilation, namedDirectory, joinedDirectory, fileEntry}
-use Rattle.lines.specs.Scan.{headerAt}
 use Rattle.tlv.specs.declared.model.DebugSource.{DebugSource}
+use Rattle.buffers.specs.Table.{chunk, records, Kept}
+use Rattle.buffers.specs.Output.{FileEntry}
+use Rattle.access.specs.Places.{ownFields, unitHere}
+use Rattle.line_program.specs.Standard.{slash}
+use Rattle.line_program.specs.Scan.{headerAt}
+use Rattle.paths.specs.Paths.{orEmpty, basenameOf, directoryName, appendPath, needsCompilation, namedDirectory, joinedDirectory, fileEntry}
 use Rattle.files.specs.declared.spans.Span.{Span}
 use Rattle.files.specs.declared.pieces.FilePieces.{FilePieces}
 use Rattle.files.specs.declared.spans.FileUnit.{FileUnit}
@@ -70,7 +70,10 @@ orHeader (some h) = h
 unfoldable pub headerHere : List ℕ → ℕ → LineHeader
 headerHere s p = orHeader (unitHere s p .header)
 
--- a span of a sheet in a table of spans: 8 bytes, the start 4, the length 4
+-- bytes of a span of a sheet in a table of spans: the start 4, the length 4
+abbrev pub spanRecord : ℕ
+spanRecord = 8
+
 unfoldable pub spanOf : List ℕ → Span
 spanOf b = record { start = leAt 4 b 0; len = leAt 4 b 4 }
 

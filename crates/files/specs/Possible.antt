@@ -6,8 +6,8 @@ use mathlib.Core.Option.{Option, none, some}
 use Rattle.tlv.specs.Outcome.{Outcome, refused, done}
 use Rattle.tlv.specs.Lists.{Any}
 use Rattle.tlv.specs.Model.{CompilationUnit, LineHeader, HeaderFile, units}
-use Rattle.tlv.specs.Output.{FileEntry}
-use Rattle.lines.specs.Paths.{fileEntry}
+use Rattle.buffers.specs.Output.{FileEntry}
+use Rattle.paths.specs.Paths.{fileEntry}
 
 -- the file of a header's, where it has a path
 abbrev pub namedFile : Outcome (Option FileEntry) → List FileEntry

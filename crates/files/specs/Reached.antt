@@ -8,16 +8,16 @@ use mathlib.Core.Option.{Option, none, some}
 use lib.Dec.{leb}
 use lib.ListN.{drop}
 use Rattle.tlv.specs.Tags.{fileTag}
-use Rattle.tlv.specs.declared.access.Own.{Own}
 use Rattle.tlv.specs.declared.model.FileIndex.{FileIndex}
 use Rattle.tlv.specs.Outcome.{Outcome, refused, done}
 use Rattle.tlv.specs.Lists.{at, mapOption, All}
 use Rattle.tlv.specs.Fields.{fields, payloads}
-use Rattle.tlv.specs.Table.{Kept}
 use Rattle.tlv.specs.Model.{CompilationUnit, LineHeader}
-use Rattle.tlv.specs.Places.{ownFields, unitHere}
-use Rattle.tlv.specs.Output.{FileEntry}
-use Rattle.lines.specs.Paths.{fileEntry}
+use Rattle.buffers.specs.Table.{Kept}
+use Rattle.buffers.specs.Output.{FileEntry}
+use Rattle.access.specs.declared.access.Own.{Own}
+use Rattle.access.specs.Places.{ownFields, unitHere}
+use Rattle.paths.specs.Paths.{fileEntry}
 use Rattle.lines.specs.Files.{FileTable, FileIndices, fileIndex, placeOf, get}
 use Rattle.files.specs.declared.spans.FileUnit.{FileUnit}
 use Rattle.files.specs.declared.store.StoredFiles.{StoredFiles}

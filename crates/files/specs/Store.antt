@@ -8,12 +8,12 @@ use lib.Dec.{eqb}
 use lib.ListN.{length, getD}
 use Rattle.tlv.specs.Outcome.{Outcome, refused, done}
 use Rattle.tlv.specs.Bytes.{leAt}
-use Rattle.tlv.specs.Buffer.{top, Put}
 use Rattle.tlv.specs.Limits.{joinedLimit}
-use Rattle.tlv.specs.Table.{chunk, records, Kept, KeptBut}
-use Rattle.tlv.specs.Output.{FileEntry, filesBytes}
-use Rattle.lines.specs.Files.{FileTable, placeOf, Added, addFile}
 use Rattle.tlv.specs.declared.model.DebugSource.{DebugSource}
+use Rattle.buffers.specs.Buffer.{top, Put}
+use Rattle.buffers.specs.Table.{chunk, records, Kept, KeptBut}
+use Rattle.buffers.specs.Output.{FileEntry, filesBytes}
+use Rattle.lines.specs.Files.{FileTable, placeOf, Added, addFile}
 use Rattle.files.specs.declared.pieces.FilePieces.{FilePieces}
 use Rattle.files.specs.declared.store.StoredFiles.{StoredFiles}
 use Rattle.files.specs.declared.store.FoundFile.{FoundFile}
@@ -56,20 +56,30 @@ pub record StoredAt (main supplementary w : List ℕ) (p : ℕ) : Type 0 where
   pub pieces : PiecesIn (sourceIn main supplementary (sourceOf (chunk w p 41))) (piecesOf (chunk w p 41))
   pub hashed : storedHash (chunk w p 41) ≡ hashOf (storedFile main supplementary (chunk w p 41))
 
--- ---- the table: a head of 4 bytes for each bucket, as many records, and room to join a path
+-- bytes of a bucket's head, of a file's record, and of both
+abbrev pub fileHead : ℕ
+fileHead = 4
+
+abbrev pub fileBody : ℕ
+fileBody = 41
+
+abbrev pub fileRecord : ℕ
+fileRecord = fileHead + fileBody
+
+-- ---- the table: a head for each bucket, as many records, and room to join a path
 
 abbrev pub recordsFrom : StoredFiles → ℕ
-recordsFrom t = t .base + t .room * 4
+recordsFrom t = t .base + t .room * fileHead
 
 abbrev pub scratchFrom : StoredFiles → ℕ
-scratchFrom t = t .base + t .room * 45
+scratchFrom t = t .base + t .room * fileRecord
 
 -- how many bytes the table takes from its base on
 abbrev pub extent : StoredFiles → ℕ
-extent t = t .room * 45 + joinedLimit
+extent t = t .room * fileRecord + joinedLimit
 
 abbrev pub recordIn : List ℕ → StoredFiles → ℕ → List ℕ
-recordIn w t i = chunk w (recordsFrom t + i * 41) 41
+recordIn w t i = chunk w (recordsFrom t + i * fileBody) fileBody
 
 unfoldable pub entriesOf : List ℕ → List ℕ → List ℕ → StoredFiles → List FileEntry
 entriesOf main supplementary w t = records (storedFile main supplementary) 41 w (recordsFrom t) (t .count)

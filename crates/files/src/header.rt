@@ -2,11 +2,12 @@
 ghost use mathlib.Core.Path.{_≡_};
 ghost use Prim.Native.Nat.{_+_, _≤_};
 ghost use lib.ListN.{length};
-ghost use Rattle.tlv.specs.Places.{unitHere};
+ghost use Rattle.access.specs.Places.{unitHere};
 ghost use Rattle.files.specs.Pieces.{sourceIn, headerHere, UnitPlaced, FileUnitIn};
 ghost use Rattle.files.specs.Store.{extent, FilesIn};
 ghost use Rattle.files.specs.Interns.{FileSpanIn, Listed, OfUnit, InternsAt, MapRoom, InternsFiles, InternsHeader};
 use crate::index::FoundIndex;
+use crate::index::INDEX_RECORD;
 use crate::index::put_index;
 use crate::intern::InternedFile;
 use crate::intern::intern_from;
@@ -91,19 +92,19 @@ fn intern_files(
     let mut count = n;
     let mut p = unit.place + UNIT_WHOLE;
     loop {
-        match tlv::access::next_before_rows(s, p, FILE_TAG) {
-            tlv::access::Own::Missing => {
+        match access::access::next_before_rows(s, p, FILE_TAG) {
+            access::access::Own::Missing => {
                 return InternedFiles::Indices {
                     table: table,
                     count: count,
                 };
             }
-            tlv::access::Own::Field { start, len, next } => {
+            access::access::Own::Field { start, len, next } => {
                 let file = Span {
                     start: start,
                     len: len,
                 };
-                let at = base + count * 5;
+                let at = base + count * INDEX_RECORD;
                 let more = count + 1;
                 match intern_at(
                     main,

@@ -3,7 +3,10 @@ ghost use mathlib.Core.Path.{_≡_};
 ghost use Prim.Native.Nat.{_+_, _*_, _≤_};
 ghost use lib.ListN.{length};
 ghost use Rattle.lines.specs.Files.{get};
-ghost use Rattle.files.specs.Indices.{indicesIn, numberOf, PutIndex, Inserted};
+ghost use Rattle.files.specs.Indices.{indicesIn, numberOf, PutIndex, Inserted, indexRecord};
+
+// Bytes of a record of the map.
+pub const INDEX_RECORD: usize = 5;
 
 // One of DWARF's own file numbers; not a number of the import's file table.
 pub struct FileNumber(pub u64);
@@ -27,24 +30,24 @@ pub fn put_index(work: &mut [u8], p: usize, index: FoundIndex)
 {
     match index {
         FoundIndex::Number(number) => {
-            tlv::table::set_u8(work, p, 1);
-            tlv::table::set_u32(work, p + 1, number.0);
+            buffers::table::set_u8(work, p, 1);
+            buffers::table::set_u32(work, p + 1, number.0);
         }
         FoundIndex::Missing => {
-            tlv::table::set_u8(work, p, 0);
+            buffers::table::set_u8(work, p, 0);
         }
     }
 }
 
 // The table's number for one of DWARF's.
 pub fn get_index(work: &[u8], indices: StoredIndices, number: FileNumber) -> FoundIndex
-    requires { ⌜ indices .base + indices .count * 5 ≤ length (now work) ⌝ }
+    requires { ⌜ indices .base + indices .count * indexRecord ≤ length (now work) ⌝ }
     ensures { λ r. ⌜ numberOf r ≡ get (indicesIn (now (work .entry)) indices) (number .0) ⌝ }
 {
     if (indices.count as u64) <= number.0 {
         return FoundIndex::Missing;
     }
-    let p = indices.base + number.0 as usize * 5;
+    let p = indices.base + number.0 as usize * INDEX_RECORD;
     if tlv::bytes::read_u8(work, p) == 1 {
         return FoundIndex::Number(tlv::model::FileIndex(tlv::bytes::read_u32(work, p + 1)));
     }
@@ -58,11 +61,11 @@ pub fn insert_index(
     number: FileNumber,
     index: tlv::model::FileIndex,
 )
-    requires { ⌜ indices .base + indices .count * 5 ≤ length (now work) ⌝ }
+    requires { ⌜ indices .base + indices .count * indexRecord ≤ length (now work) ⌝ }
     ensures { λ _. ⌜ Inserted (now (work .entry)) (now (work .exit)) indices number index ⌝ }
 {
     if number.0 < indices.count as u64 {
-        let p = indices.base + number.0 as usize * 5;
+        let p = indices.base + number.0 as usize * INDEX_RECORD;
         put_index(work, p, FoundIndex::Number(index));
     }
 }

@@ -1,9 +1,9 @@
 // A unit's files join the table (the Rust's intern_file and intern_header_files).
 ghost use mathlib.Core.Path.{_≡_};
 ghost use Rattle.tlv.specs.Tags.{fileTag};
-ghost use Rattle.tlv.specs.Places.{unitHere};
-ghost use Rattle.tlv.specs.Access.{NextOwn};
 ghost use Rattle.tlv.specs.Checked.{Placed};
+ghost use Rattle.access.specs.Places.{unitHere};
+ghost use Rattle.access.specs.Access.{NextOwn};
 ghost use Rattle.files.specs.Pieces.{sourceIn, headerHere, FileUnitIn, Pieced};
 ghost use Rattle.files.specs.Store.{FilesIn};
 ghost use Rattle.files.specs.Interns.{FileSpanIn, Listed, OfUnit, Interns};
@@ -56,16 +56,16 @@ pub fn next_file(
     supplementary: &[u8],
     source: DebugSource,
     p: usize,
-) -> tlv::access::Own
+) -> access::access::Own
     requires { ⌜ Placed (sourceIn (now main) (now supplementary) source) p ⌝ }
     ensures { λ r. ⌜ NextOwn (sourceIn (now (main .entry)) (now (supplementary .entry)) source) p fileTag r ⌝ }
 {
     match source {
         DebugSource::Main => {
-            return tlv::access::next_before_rows(main, p, FILE_TAG);
+            return access::access::next_before_rows(main, p, FILE_TAG);
         }
         DebugSource::Supplementary => {
-            return tlv::access::next_before_rows(supplementary, p, FILE_TAG);
+            return access::access::next_before_rows(supplementary, p, FILE_TAG);
         }
     }
 }

@@ -4,8 +4,8 @@ ghost use Prim.Native.Nat.{_+_, _*_, _≤_};
 ghost use lib.ListN.{length};
 ghost use Rattle.tlv.specs.Limits.{stringLimit};
 ghost use Rattle.tlv.specs.Lists.{same};
-ghost use Rattle.tlv.specs.Table.{chunk};
-ghost use Rattle.lines.specs.Paths.{appendPath};
+ghost use Rattle.buffers.specs.Table.{chunk};
+ghost use Rattle.paths.specs.Paths.{appendPath};
 ghost use Rattle.files.specs.Pieces.{Separated};
 ghost use Rattle.files.specs.Joined.{componentAt};
 

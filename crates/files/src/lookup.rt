@@ -2,7 +2,7 @@
 ghost use mathlib.Core.Option.{some};
 ghost use Rattle.tlv.specs.Outcome.{done};
 ghost use Rattle.tlv.specs.Checked.{Placed};
-ghost use Rattle.tlv.specs.Places.{unitHere};
+ghost use Rattle.access.specs.Places.{unitHere};
 ghost use Rattle.files.specs.Pieces.{sourceIn, fileIn, PiecesIn, headerHere, UnitPlaced, FileUnitIn};
 ghost use Rattle.files.specs.Store.{tableOf, FilesIn};
 ghost use Rattle.files.specs.Reached.{numberIn, nthNumber, NthFile, Found, LookedUp};
@@ -14,6 +14,7 @@ use crate::pieces::FilePieces;
 use crate::pieces::Named;
 use crate::spans::FileUnit;
 use crate::spans::Span;
+use crate::store::FILE_RECORD;
 use crate::store::FoundFile;
 use crate::store::StoredFiles;
 use crate::store::find_file;
@@ -28,7 +29,7 @@ fn nth_file(
     source: DebugSource,
     p: usize,
     n: u64,
-) -> tlv::access::Own
+) -> access::access::Own
     requires { ⌜ Placed (sourceIn (now main) (now supplementary) source) p ⌝ }
     ensures { λ r. ⌜ NthFile (sourceIn (now (main .entry)) (now (supplementary .entry)) source) p n r ⌝ }
 {
@@ -36,12 +37,12 @@ fn nth_file(
     let mut left = n;
     loop {
         match next_file(main, supplementary, source, at) {
-            tlv::access::Own::Missing => {
-                return tlv::access::Own::Missing;
+            access::access::Own::Missing => {
+                return access::access::Own::Missing;
             }
-            tlv::access::Own::Field { start, len, next } => {
+            access::access::Own::Field { start, len, next } => {
                 if left == 0 {
-                    return tlv::access::Own::Field {
+                    return access::access::Own::Field {
                         start: start,
                         len: len,
                         next: next,
@@ -68,7 +69,7 @@ fn look_up_from(
     ensures { λ r. ⌜ Found (now (main .entry)) (now (supplementary .entry)) (now (work .entry)) (now (work .exit)) t
         (numberIn (tableOf (now (main .entry)) (now (supplementary .entry)) (now (work .entry)) t) (done (some (fileIn (now (s .entry)) p)))) r ⌝ }
 {
-    let at = t.base + t.room * 45;
+    let at = t.base + t.room * FILE_RECORD;
     let b = p.base;
     let start = b.start;
     let past = b.start + b.len;
@@ -128,10 +129,10 @@ fn look_up_nth(
         (tableOf (now (main .entry)) (now (supplementary .entry)) (now (work .entry)) t) n) r ⌝ }
 {
     match nth_file(main, supplementary, source, unit.place + UNIT_WHOLE, n) {
-        tlv::access::Own::Missing => {
+        access::access::Own::Missing => {
             return FoundIndex::Missing;
         }
-        tlv::access::Own::Field {
+        access::access::Own::Field {
             start,
             len,
             next: _,

@@ -4,12 +4,12 @@ ghost use Prim.Native.Nat.{_+_, _*_, _≤_, _<_};
 ghost use lib.ListN.{length};
 ghost use Rattle.tlv.specs.Lists.{at};
 ghost use Rattle.tlv.specs.Limits.{stringLimit, joinedLimit};
-ghost use Rattle.tlv.specs.Places.{unitHere};
-ghost use Rattle.lines.specs.Paths.{isAbsolute, needsCompilation, readDirectory, namedDirectory};
-ghost use Rattle.lines.specs.Join.{Laid};
-ghost use Rattle.files.specs.Pieces.{spanIn, fileIn, SpanIn, PiecesIn, headerHere};
-ghost use Rattle.files.specs.Pieces.{FileUnitIn, PartsIn, Reads, Before, Relative, Pieced};
+ghost use Rattle.access.specs.Places.{unitHere};
+ghost use Rattle.paths.specs.Paths.{isAbsolute, needsCompilation, readDirectory, namedDirectory};
+ghost use Rattle.paths.specs.Join.{Laid};
+ghost use Rattle.files.specs.Pieces.{spanIn, fileIn, SpanIn, PiecesIn, headerHere, FileUnitIn, PartsIn, Reads, Before, Relative, Pieced};
 use crate::spans::FileUnit;
+use crate::spans::SPAN_RECORD;
 use crate::spans::Span;
 
 // A file's path: its name is `base`; its directory is joined from the others, which may be empty.
@@ -46,7 +46,7 @@ fn is_absolute_span(s: &[u8], a: Span) -> bool
 {
     let from = a.start;
     let to = a.start + a.len;
-    lines::path::is_absolute_path(&s[from..to])
+    paths::path::is_absolute_path(&s[from..to])
 }
 
 // Whether a file's directory is one below the compilation directory.
@@ -56,7 +56,7 @@ fn below_compilation(s: &[u8], version: u8, number: u64, directory: Span) -> boo
 {
     let from = directory.start;
     let to = directory.start + directory.len;
-    lines::path::needs_compilation(version, number, &s[from..to])
+    paths::path::needs_compilation(version, number, &s[from..to])
 }
 
 // The compilation directory where a file's directory is below it; else an empty span.
@@ -84,8 +84,8 @@ fn path_parts(s: &[u8], path: Span) -> PathParts
 {
     let from = path.start;
     let to = path.start + path.len;
-    let own = lines::path::directory_of(&s[from..to]).len();
-    let base = lines::path::basename_of(&s[from..to]).len();
+    let own = paths::path::directory_of(&s[from..to]).len();
+    let base = paths::path::basename_of(&s[from..to]).len();
     PathParts {
         own: Span {
             start: from,
@@ -106,7 +106,7 @@ fn directory_at(s: &[u8], work: &[u8], unit: FileUnit, index: u64) -> NamedDirec
     if unit.directory_count as u64 <= index {
         return NamedDirectory::Path(Span { start: 0, len: 0 });
     }
-    let p = unit.directories + index as usize * 8;
+    let p = unit.directories + index as usize * SPAN_RECORD;
     let start = tlv::bytes::read_u32(work, p) as usize;
     let len = tlv::bytes::read_u32(work, p + 4) as usize;
     if tlv::bytes::read_u8(s, start) == 1 {
@@ -199,13 +199,13 @@ pub fn lay_directory(s: &[u8], p: FilePieces, work: &mut [u8], at: usize) -> usi
     let compilation = p.compilation;
     let a = compilation.start;
     let b = a + compilation.len;
-    let n = lines::path::append_path(work, at, 0, &s[a..b]);
+    let n = paths::path::append_path(work, at, 0, &s[a..b]);
     let directory = p.directory;
     let a = directory.start;
     let b = a + directory.len;
-    let n = lines::path::append_path(work, at, n, &s[a..b]);
+    let n = paths::path::append_path(work, at, n, &s[a..b]);
     let own = p.own;
     let a = own.start;
     let b = a + own.len;
-    lines::path::append_path(work, at, n, &s[a..b])
+    paths::path::append_path(work, at, n, &s[a..b])
 }

@@ -2,7 +2,7 @@
 ghost use mathlib.Core.Path.{_≡_};
 ghost use Prim.Native.Nat.{_+_, _≤_, _<_, _^_};
 ghost use lib.ListN.{length};
-ghost use Rattle.tlv.specs.Table.{chunk};
+ghost use Rattle.buffers.specs.Table.{chunk};
 ghost use Rattle.lines.specs.Files.{sameFile};
 ghost use Rattle.files.specs.Pieces.{spanOf, fileIn, PiecesIn};
 ghost use Rattle.files.specs.Hash.{hashOf};
@@ -149,7 +149,7 @@ pub fn put_record(
     ensures { λ _. ⌜ PutFile (now (work .entry)) (now (work .exit)) at source p hash link ⌝ }
 {
     put_pieces(s, work, at, p);
-    tlv::table::set_u8(work, at + 32, source_byte(source));
-    tlv::table::set_u32(work, at + 33, hash as u32);
-    tlv::table::set_u32(work, at + 37, link);
+    buffers::table::set_u8(work, at + 32, source_byte(source));
+    buffers::table::set_u32(work, at + 33, hash as u32);
+    buffers::table::set_u32(work, at + 37, link);
 }

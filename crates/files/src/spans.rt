@@ -6,13 +6,15 @@ ghost use Rattle.tlv.specs.Tags.{directoryTag};
 ghost use Rattle.tlv.specs.Lists.{at};
 ghost use Rattle.tlv.specs.Fields.{fields, payloads};
 ghost use Rattle.tlv.specs.Checked.{Placed};
-ghost use Rattle.tlv.specs.Places.{ownFields, unitHere};
-ghost use Rattle.files.specs.Pieces.{PutSpan, UnitPlaced, versionIn, DirectoriesIn, CompilationIn};
-ghost use Rattle.files.specs.Pieces.{Described};
+ghost use Rattle.access.specs.Places.{ownFields, unitHere};
+ghost use Rattle.files.specs.Pieces.{PutSpan, UnitPlaced, versionIn, DirectoriesIn, CompilationIn, spanRecord, Described};
 use tlv::tags::COMPILATION_TAG;
 use tlv::tags::DIRECTORY_TAG;
 use tlv::tags::HEADER_TAG;
 use tlv::tags::UNIT_WHOLE;
+
+// Bytes of a span in a table of spans.
+pub const SPAN_RECORD: usize = 8;
 
 // A stretch of a sheet.
 pub struct Span {
@@ -36,28 +38,28 @@ pub fn put_span(work: &mut [u8], p: usize, a: Span)
     requires { ⌜ a .start + a .len < 4294967296 ⌝ }
     ensures { λ _. ⌜ PutSpan (now (work .entry)) (now (work .exit)) p a ⌝ }
 {
-    tlv::table::set_u32(work, p, a.start as u32);
-    tlv::table::set_u32(work, p + 4, a.len as u32);
+    buffers::table::set_u32(work, p, a.start as u32);
+    buffers::table::set_u32(work, p + 4, a.len as u32);
 }
 
 // Writes the spans of the directories of the unit whose fields follow place p, and returns their number.
 fn index_directories(s: &[u8], p: usize, work: &mut [u8], base: usize) -> usize
     requires { ⌜ Placed (now s) p ⌝ }
     requires { ⌜ length (now s) < 4294967296 ⌝ }
-    requires { ⌜ base + 8 * length (payloads directoryTag (ownFields (fields (drop p (now s))))) ≤ length (now work) ⌝ }
+    requires { ⌜ base + spanRecord * length (payloads directoryTag (ownFields (fields (drop p (now s))))) ≤ length (now work) ⌝ }
     ensures { λ r. ⌜ DirectoriesIn (now (s .entry)) (now (work .entry)) (now (work .exit)) p base r ⌝ }
 {
     let mut at = p;
     let mut n: usize = 0;
     loop {
-        match tlv::access::next_before_rows(s, at, DIRECTORY_TAG) {
-            tlv::access::Own::Missing => {
+        match access::access::next_before_rows(s, at, DIRECTORY_TAG) {
+            access::access::Own::Missing => {
                 return n;
             }
-            tlv::access::Own::Field { start, len, next } => {
+            access::access::Own::Field { start, len, next } => {
                 put_span(
                     work,
-                    base + n * 8,
+                    base + n * SPAN_RECORD,
                     Span {
                         start: start,
                         len: len,
@@ -75,9 +77,9 @@ fn compilation_span(s: &[u8], p: usize) -> Span
     requires { ⌜ Placed (now s) p ⌝ }
     ensures { λ r. ⌜ CompilationIn (now (s .entry)) p r ⌝ }
 {
-    match tlv::access::next_before_rows(s, p, COMPILATION_TAG) {
-        tlv::access::Own::Missing => Span { start: 0, len: 0 },
-        tlv::access::Own::Field {
+    match access::access::next_before_rows(s, p, COMPILATION_TAG) {
+        access::access::Own::Missing => Span { start: 0, len: 0 },
+        access::access::Own::Field {
             start,
             len,
             next: _,
@@ -93,9 +95,9 @@ fn header_version(s: &[u8], p: usize) -> u8
     requires { ⌜ Placed (now s) p ⌝ }
     ensures { λ r. ⌜ r ≡ versionIn (now (s .entry)) p ⌝ }
 {
-    match tlv::access::next_before_rows(s, p, HEADER_TAG) {
-        tlv::access::Own::Missing => 0,
-        tlv::access::Own::Field {
+    match access::access::next_before_rows(s, p, HEADER_TAG) {
+        access::access::Own::Missing => 0,
+        access::access::Own::Field {
             start,
             len: _,
             next: _,
@@ -107,7 +109,7 @@ fn header_version(s: &[u8], p: usize) -> u8
 pub fn file_unit(s: &[u8], place: usize, work: &mut [u8], base: usize) -> FileUnit
     requires { ⌜ UnitPlaced (now s) place ⌝ }
     requires { ⌜ length (now s) < 4294967296 ⌝ }
-    requires { ⌜ base + 8 * length (unitHere (now s) place .directories) ≤ length (now work) ⌝ }
+    requires { ⌜ base + spanRecord * length (unitHere (now s) place .directories) ≤ length (now work) ⌝ }
     ensures { λ r. ⌜ Described (now (s .entry)) (now (work .entry)) (now (work .exit)) place base r ⌝ }
 {
     let p = place + UNIT_WHOLE;

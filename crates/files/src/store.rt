@@ -4,13 +4,12 @@ ghost use Prim.Native.Nat.{_+_, _*_, _≤_, _<_, _^_};
 ghost use mathlib.Core.Option.{none};
 ghost use lib.ListN.{length};
 ghost use Rattle.tlv.specs.Limits.{joinedLimit};
-ghost use Rattle.tlv.specs.Table.{chunk};
+ghost use Rattle.buffers.specs.Table.{chunk};
 ghost use Rattle.lines.specs.Files.{placeOf};
 ghost use Rattle.files.specs.Pieces.{sourceIn, fileIn, PiecesIn};
 ghost use Rattle.files.specs.Hash.{hashOf};
 ghost use Rattle.files.specs.Possible.{possibleFiles, Possible};
-ghost use Rattle.files.specs.Store.{extent, Linked, LaidFile, LaidAt, FilesIn};
-ghost use Rattle.files.specs.Store.{foundOf, entriesOf, Empty, Adds};
+ghost use Rattle.files.specs.Store.{extent, Linked, LaidFile, LaidAt, FilesIn, fileRecord, foundOf, entriesOf, Empty, Adds};
 use crate::hash::hash_bytes;
 use crate::pieces::FilePieces;
 use crate::pieces::lay_directory;
@@ -18,6 +17,13 @@ use crate::records::is_file;
 use crate::records::put_record;
 use tlv::grammar::STRING_LIMIT;
 use tlv::model::DebugSource;
+
+// Bytes of a bucket's head, of a file's record, and of both.
+const FILE_HEAD: usize = 4;
+
+const FILE_BODY: usize = 41;
+
+pub const FILE_RECORD: usize = FILE_HEAD + FILE_BODY;
 
 // The longest joined path: three strings and the two slashes between them.
 pub const JOINED_LIMIT: usize = 3 * STRING_LIMIT + 2;
@@ -71,9 +77,9 @@ pub fn find_file(
         (entriesOf (now (main .entry)) (now (supplementary .entry)) (now (work .entry)) t) ⌝ }
 {
     let bucket = (hash % t.room as u64) as usize;
-    let mut k = tlv::bytes::read_u32(work, t.base + bucket * 4) as usize;
+    let mut k = tlv::bytes::read_u32(work, t.base + bucket * FILE_HEAD) as usize;
     while k != 0 {
-        let p = t.base + t.room * 4 + (k - 1) * 41;
+        let p = t.base + t.room * FILE_HEAD + (k - 1) * FILE_BODY;
         if is_file(main, supplementary, work, p, hash, at, n, base) {
             return FoundFile::At(k - 1);
         }
@@ -98,18 +104,18 @@ fn link_file(
     requires { ⌜ hash < 2 ^ 32 ⌝ }
     ensures { λ _. ⌜ Linked (now (work .entry)) (now (work .exit)) t source p hash ⌝ }
 {
-    let head = t.base + (hash % t.room as u64) as usize * 4;
+    let head = t.base + (hash % t.room as u64) as usize * FILE_HEAD;
     let link = tlv::bytes::read_u32(work, head);
     put_record(
         s,
         work,
-        t.base + t.room * 4 + t.count * 41,
+        t.base + t.room * FILE_HEAD + t.count * FILE_BODY,
         source,
         p,
         hash,
         link,
     );
-    tlv::table::set_u32(work, head, (t.count + 1) as u32);
+    buffers::table::set_u32(work, head, (t.count + 1) as u32);
 }
 
 // Adds a file that is not in the table; its directory is the n bytes at `at`.
@@ -139,12 +145,12 @@ fn append_file(
     if 4294967295 < first as u64 + count as u64 {
         return AddedFile::Full;
     }
-    let at = t.base + t.room * 45;
+    let at = t.base + t.room * FILE_RECORD;
     let end = at + n;
     let b = p.base;
     let start = b.start;
     let past = b.start + b.len;
-    let written = tlv::output::put_file(files, t.written, &work[at..end], &s[start..past]);
+    let written = buffers::output::put_file(files, t.written, &work[at..end], &s[start..past]);
     link_file(s, work, t, source, p, hash);
     AddedFile::Number {
         table: StoredFiles {
@@ -191,7 +197,7 @@ pub fn add_file(
     ensures { λ r. ⌜ Adds (now (main .entry)) (now (supplementary .entry)) (now (work .entry)) (now (work .exit)) (now (files .entry)) (now (files .exit)) t
         (fileIn (now (s .entry)) p) r ⌝ }
 {
-    let at = t.base + t.room * 45;
+    let at = t.base + t.room * FILE_RECORD;
     let b = p.base;
     let start = b.start;
     let past = b.start + b.len;
@@ -237,12 +243,12 @@ pub fn new_files(
 ) -> StoredFiles
     requires { ⌜ length (possibleFiles (now main) (now supplementary)) < room ⌝ }
     requires { ⌜ room < 2 ^ 32 ⌝ }
-    requires { ⌜ base + (room * 45 + joinedLimit) ≤ length (now work) ⌝ }
+    requires { ⌜ base + (room * fileRecord + joinedLimit) ≤ length (now work) ⌝ }
     requires { ⌜ length (now main) < 2 ^ 32 ⌝ }
     requires { ⌜ length (now supplementary) < 2 ^ 32 ⌝ }
     ensures { λ r. ⌜ Empty (now (main .entry)) (now (supplementary .entry)) (now (work .entry)) (now (work .exit)) base room first written r ⌝ }
 {
-    tlv::table::fill_zero(work, base, base + room * 4);
+    buffers::table::fill_zero(work, base, base + room * FILE_HEAD);
     StoredFiles {
         first: first,
         base: base,

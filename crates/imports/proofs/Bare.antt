@@ -14,7 +14,7 @@ use Rattle.tlv.specs.Limits.{workBesides}
 use Rattle.tlv.specs.Fields.{grouped, fieldsFrom, wholeFields}
 use Rattle.tlv.specs.Grammar.{checkFrom, checkInput}
 use Rattle.tlv.specs.Model.{units}
-use Rattle.tlv.specs.Output.{eachOf, recordsBytes, filesBytes, warningsBytes}
+use Rattle.buffers.specs.Output.{eachOf, recordsBytes, filesBytes, warningsBytes}
 use Rattle.imports.specs.Import.{State, importUnits}
 use Rattle.imports.specs.Answer.{Inputs, oversize, workOfUnits, workNeeded, initialState, importWorked, isBare, importChosen, checked, importOf}
 use Rattle.imports.specs.Answer.{importDwarfOf, Written, written, fitting, outcomeOf, answerOf, bufferAfter, afterwards, after, afterDwarf}

@@ -1,9 +1,9 @@
 -- Every ● case of document 01 holds, by computing.
 use mathlib.Core.Path.{refl}
 use Rattle.tlv.specs.Outcome.{_>>=_}
-use Rattle.lines.specs.Standard
-use Rattle.lines.specs.Program
-use Rattle.lines.specs.Paths
+use Rattle.line_program.specs.Standard
+use Rattle.line_program.specs.Program
+use Rattle.paths.specs.Paths
 use Rattle.imports.specs.Ranges
 use Rattle.imports.specs.Cases.{AllCases}
 

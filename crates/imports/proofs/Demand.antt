@@ -15,13 +15,13 @@ use Rattle.tlv.specs.Lists.{All, at, isEmpty}
 use Rattle.tlv.specs.Grammar.{checkInput}
 use Rattle.tlv.specs.Model.{CompilationUnit, units}
 use Rattle.tlv.specs.Accepted.{Given, UnitAccepted}
-use Rattle.tlv.specs.Output.{Function}
-use Rattle.tlv.specs.Reader.{readRecords, readFiles, readWarnings}
 use Rattle.tlv.proofs.TestLaws.{and-left, and-right}
 use Rattle.tlv.proofs.ListLaws.{all-at}
 use Rattle.tlv.proofs.OutcomeLaws.{done-is, refused-not, with-done}
-use Rattle.tlv.proofs.ReadBack.{records-back, files-back, warnings-back}
 use Rattle.tlv.proofs.AcceptedUnits.{accepting}
+use Rattle.buffers.specs.Output.{Function}
+use Rattle.buffers.specs.Reader.{readRecords, readFiles, readWarnings}
+use Rattle.buffers.proofs.ReadBack.{records-back, files-back, warnings-back}
 use Rattle.lines.proofs.RowLaws.{rows-agree}
 use Rattle.machine.proofs.NumberLaws.{Refuses, number-of}
 use Rattle.machine.proofs.UnitLines.{sorted-lines}

@@ -15,23 +15,23 @@ use Rattle.tlv.specs.Lists.{All, at, isEmpty}
 use Rattle.tlv.specs.Limits.{inputLimit, programLimit, listLimit}
 use Rattle.tlv.specs.Grammar.{checkInput}
 use Rattle.tlv.specs.Model.{CompilationUnit, Entry, EntryRange, Attribute, RangeFailure, ProgramPart, programPart, programOf, units}
-use Rattle.tlv.specs.Output.{Function, Warning, malformedRanges, about, rejectedRange, warningPayload}
 use Rattle.tlv.specs.Accepted.{Small, String, Given, AttributeAccepted, FailureAccepted, EntryAccepted, UnitAccepted}
-use Rattle.tlv.specs.Fits.{RangeFits, LineFits, FunctionFits, WarningFits}
 use Rattle.tlv.proofs.TestLaws.{by-test, or-neither}
 use Rattle.tlv.proofs.ListLaws.{any-one, all-append, all-take-while, all-at}
 use Rattle.tlv.proofs.OutcomeLaws.{Gives, gives, gives-none, gives-cond, gives-of, gives-bind, given}
-use Rattle.tlv.proofs.PayloadLaws.{function-length}
 use Rattle.tlv.proofs.AcceptedUnits.{accepting}
+use Rattle.buffers.specs.Output.{Function, Warning, malformedRanges, about, rejectedRange, warningPayload}
+use Rattle.buffers.specs.Fits.{RangeFits, LineFits, FunctionFits, WarningFits}
+use Rattle.buffers.proofs.PayloadLaws.{function-length}
 use Rattle.lines.specs.Files.{FileTable}
 use Rattle.lines.specs.Rows.{forRange}
 use Rattle.lines.proofs.Bounds.{TableFits, LinesFit}
-use Rattle.machine.proofs.UnitLines.{gives-lines}
 use Rattle.lines.proofs.RowLaws.{rows-fit}
+use Rattle.machine.proofs.UnitLines.{gives-lines}
+use Rattle.rnglists.proofs.DieRangeLaws.{die-small, die-failure}
 use Rattle.references.specs.Search.{Dwarf, attribute}
 use Rattle.references.proofs.NameBounds.{DwarfAccepted, attribute-accepted, absolute-small, gives-name}
 use Rattle.references.proofs.DeclarationBounds.{FoundFits, DeclaringFits, gives-declaration}
-use Rattle.rnglists.proofs.DieRangeLaws.{die-small, die-failure}
 use Rattle.imports.specs.Tree.{dieRanges, Descendants}
 use Rattle.imports.specs.Import.{State, ImportContext, sequenceIf, statementSequenceOffset, isLiveRange, isTombstone, rejected, sequenceWarning, declarationIf, linesWith, rooted, detailContext, addFunction, importRange, importRanges, importByFailure, importSubprogram, isSubprogram, descendantsOf, importUnitDetails, importUnit, importUnits}
 use Rattle.imports.specs.Answer.{Inputs, oversize, workNeeded, initialState, dwarfOf, importWorked, isBare, importChosen, checked, importOf}

@@ -34,5 +34,3 @@ pub mod Examples
 pub mod Sizing
 pub mod Joining
 pub mod Bare
-pub mod DwarfCases
-pub mod ListCases

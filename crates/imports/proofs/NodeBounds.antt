@@ -7,11 +7,11 @@ use native.Mathlib.Omega.{arith}
 use Rattle.tlv.specs.declared.model.AddressRange.{AddressRange}
 use Rattle.tlv.specs.Addresses.{Nonempty, Inside}
 use Rattle.tlv.specs.Lists.{All}
-use Rattle.tlv.specs.Output.{InlineNode}
 use Rattle.tlv.specs.Accepted.{String}
-use Rattle.tlv.specs.Fits.{RangeFits, NodeFits, NodesFit}
 use Rattle.tlv.proofs.ListLaws.{all-map, any-one}
-use Rattle.tlv.proofs.PayloadLaws.{node-length}
+use Rattle.buffers.specs.Output.{InlineNode}
+use Rattle.buffers.specs.Fits.{RangeFits, NodeFits, NodesFit}
+use Rattle.buffers.proofs.PayloadLaws.{node-length}
 use Rattle.imports.specs.Ranges.{Apart, coalesceRanges}
 use Rattle.imports.specs.Tree.{fit}
 use Rattle.imports.specs.Import.{rooted}

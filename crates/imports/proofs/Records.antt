@@ -13,16 +13,16 @@ use Rattle.tlv.specs.Addresses.{Nonempty}
 use Rattle.tlv.specs.Outcome.{done}
 use Rattle.tlv.specs.Model.{CompilationUnit, Entry, programOf}
 use Rattle.tlv.specs.Accepted.{UnitAccepted}
-use Rattle.tlv.specs.Output.{Function}
 use Rattle.tlv.proofs.TestLaws.{empty-filled}
 use Rattle.tlv.proofs.PlaceLaws.{front-among, front-is, front-next}
 use Rattle.tlv.proofs.OutcomeLaws.{with-done}
+use Rattle.buffers.specs.Output.{Function}
 use Rattle.lines.specs.Files.{FileTable}
 use Rattle.lines.specs.Lines.{UnitLines, Collected}
-use Rattle.machine.specs.LineRows.{collectLines}
 use Rattle.lines.specs.Rows.{forRange}
 use Rattle.lines.specs.RowsAgree.{RowsAgree}
 use Rattle.lines.proofs.Bounds.{Sorted}
+use Rattle.machine.specs.LineRows.{collectLines}
 use Rattle.imports.specs.Tree.{DetailContext, Descendants, extractSubprogramDetails}
 use Rattle.imports.specs.Import.{ImportContext, statementSequenceOffset, linesWith, rooted, detailContext, descendantsOf, importUnit}
 use Rattle.imports.specs.Agree.{TreeEntry, foundName, treeEntry, treeEntries, entry, treeNode, TreeAgrees}

@@ -7,23 +7,23 @@ use mathlib.Core.Logic.{_⊎_, inl, inr}
 use mathlib.Core.Bool.{Bool, true, false, cond, _&&_, _||_}
 use mathlib.Core.List.{List, [], _∷_, _++_}
 use mathlib.Core.Option.{Option, none, some}
+use lib.ListN.{length}
+use lib.Dec.{ltb, eqb}
 use Rattle.tlv.specs.declared.model.AddressRange.{AddressRange}
 use Rattle.tlv.specs.declared.model.FileIndex.{FileIndex}
 use Rattle.tlv.specs.declared.model.LineEntry.{LineEntry}
-use lib.ListN.{length}
-use lib.Dec.{ltb, eqb}
 use Rattle.tlv.specs.Outcome.{Outcome, refused}
 use Rattle.tlv.specs.Lists.{at, isEmpty, isNone}
 use Rattle.tlv.specs.Model.{CompilationUnit, Entry, EntryRange, Attribute, RangeFailure, units, programOf}
-use Rattle.tlv.specs.Output.{Warning}
 use Rattle.tlv.proofs.RefusalLaws.{RefusesIn, never, refuses-wider, refusing, refuses-input}
+use Rattle.buffers.specs.Output.{Warning}
 use Rattle.lines.specs.Files.{FileTable, get}
 use Rattle.lines.specs.Rows.{forRange}
 use Rattle.machine.proofs.NumberLaws.{Refuses, by-number, not-refused, number-cond, number-of, number-in, number-among, number-bind}
 use Rattle.machine.proofs.UnitLines.{LineNumbers, refuses-lines}
+use Rattle.rnglists.proofs.DieRangeLaws.{FaultNumber, die-refusal}
 use Rattle.references.specs.Search.{Dwarf, attribute, unsignedAttribute, fileIndexAttribute}
 use Rattle.references.proofs.Refusals.{refuses-offset, refuses-name, refuses-reference-name, refuses-declaration-line}
-use Rattle.rnglists.proofs.DieRangeLaws.{FaultNumber, die-refusal}
 use Rattle.imports.specs.Tree.{dieRanges, DetailContext, Descendants, siteWithOrigin, siteAt, makeCallSite, callFileFrom, callFileIf, callFileOf, callLineIf, callLineOf, pushInline, makeInlineNode, isCallSite, isInlined, collectEntry, collectEntries, noDescendants, collectDescendants, extractSubprogramDetails}
 use Rattle.imports.specs.Import.{State, ImportContext, statementSequenceOffset, isLiveRange, isTombstone, sequenceWarning, declarationIf, detailContext, importRange, importRanges, importByFailure, importSubprogram, isSubprogram, importUnitDetails, importUnit, importUnits}
 use Rattle.imports.specs.Answer.{Inputs, Written, written, oversize, workNeeded, initialState, dwarfOf, importWorked, isBare, importChosen, checked, importOf, importDwarfOf, fitting, outcomeOf}

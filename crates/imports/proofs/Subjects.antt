@@ -15,10 +15,10 @@ use Rattle.tlv.specs.Addresses.{Nonempty, Inside}
 use Rattle.tlv.specs.Outcome.{done, _>>=_}
 use Rattle.tlv.specs.Lists.{Any, filter, exists, isEmpty}
 use Rattle.tlv.specs.Model.{CompilationUnit, Entry, EntryRange, RangeFailure}
-use Rattle.tlv.specs.Output.{Function, malformedRanges, about, rejectedRange}
 use Rattle.tlv.proofs.TestLaws.{by-test, and-left, and-right}
 use Rattle.tlv.proofs.PlaceLaws.{front-next}
 use Rattle.tlv.proofs.OutcomeLaws.{done-is, with-done}
+use Rattle.buffers.specs.Output.{Function, malformedRanges, about, rejectedRange}
 use Rattle.lines.specs.Rows.{contains, forRange}
 use Rattle.references.specs.Search.{Dwarf, resolveName}
 use Rattle.imports.specs.Tree.{Descendants, liesIn, dieRanges, rangesOf, extractSubprogramDetails}

@@ -13,14 +13,14 @@ use Rattle.tlv.specs.declared.model.AddressRange.{AddressRange}
 use Rattle.tlv.specs.declared.model.FileIndex.{FileIndex}
 use Rattle.tlv.specs.Lists.{All, takeWhile, dropWhile, isEmpty, isNone}
 use Rattle.tlv.specs.Model.{Entry, Attribute}
-use Rattle.tlv.specs.Output.{InlineNode, CallSite}
 use Rattle.tlv.specs.Accepted.{String, Given, AttributeAccepted, EntryAccepted, UnitAccepted}
-use Rattle.tlv.specs.Fits.{RangeFits, NodesFit, SiteFits, WarningFits}
 use Rattle.tlv.proofs.ListLaws.{all-append, all-take-while, all-drop-while, all-image}
 use Rattle.tlv.proofs.PlaceLaws.{drop-while-length}
 use Rattle.tlv.proofs.OutcomeLaws.{Gives, gives, gives-none, gives-cond, gives-bind}
 use Rattle.tlv.proofs.AcceptedFields.{no-string}
-use Rattle.tlv.proofs.PayloadLaws.{node-length, site-length}
+use Rattle.buffers.specs.Output.{InlineNode, CallSite}
+use Rattle.buffers.specs.Fits.{RangeFits, NodesFit, SiteFits, WarningFits}
+use Rattle.buffers.proofs.PayloadLaws.{node-length, site-length}
 use Rattle.lines.specs.Files.{get}
 use Rattle.lines.specs.Rows.{contains}
 use Rattle.lines.proofs.Bounds.{IndexFits, IndicesFit}

@@ -10,7 +10,7 @@ use native.Mathlib.Nat.{eq-or-lt-of-le}
 use lib.ListN.{length}
 use lib.Seq.{ext-getD}
 use Rattle.tlv.specs.declared.model.AddressRange.{AddressRange}
-use Rattle.imports.specs.Agree.{TreeEntry, TreeNode, entry, entryDepth, against, Rule, rootOf, node, nodeDepth, NodeOf, root, below, Below, Nearest, Pair, TreeAgrees}
+use Rattle.imports.specs.Agree.{TreeEntry, TreeNode, entry, entryDepth, against, Rule, rootOf, node, nodeDepth, NodeOf, root, below, Below, Nearest, TreeAgrees}
 use Rattle.imports.specs.Demand.{OneTree}
 use Rattle.imports.proofs.RangeLaws.{apart-unique}
 use Rattle.imports.proofs.NearestUnique.{nearest-same}

@@ -12,8 +12,8 @@ use Rattle.tlv.specs.Outcome.{Outcome, refused, done, _>>=_}
 use Rattle.tlv.specs.Lists.{Any, All}
 use Rattle.tlv.specs.Model.{Entry}
 use Rattle.tlv.specs.Accepted.{UnitAccepted}
-use Rattle.tlv.specs.Output.{InlineNode, CallSite}
 use Rattle.tlv.proofs.OutcomeLaws.{Gives, gives, gives-cond, gives-of, gives-bind, given}
+use Rattle.buffers.specs.Output.{InlineNode, CallSite}
 use Rattle.references.specs.Search.{resolveName}
 use Rattle.imports.specs.Tree.{InlineFrame, Descendants, DetailContext, finishInlines, finish, makeCallSite, pushCallSite, isCallSite, collectEntry, collectEntries, noDescendants, collectDescendants, extractSubprogramDetails}
 use Rattle.imports.specs.Agree.{TreeNode, foundName, treeEntry, treeEntries, treeNode, TreeAgrees}

@@ -14,9 +14,9 @@ use Rattle.tlv.specs.declared.model.FileIndex.{FileIndex}
 use Rattle.tlv.specs.Outcome.{Outcome, refused, done, _>>=_}
 use Rattle.tlv.specs.Lists.{isEmpty, isNone}
 use Rattle.tlv.specs.Model.{Entry, RangeFailure}
-use Rattle.tlv.specs.Output.{CallSite}
 use Rattle.tlv.proofs.TestLaws.{by-test}
 use Rattle.tlv.proofs.OutcomeLaws.{Done, done-bind}
+use Rattle.buffers.specs.Output.{CallSite}
 use Rattle.lines.specs.Files.{get}
 use Rattle.references.specs.Search.{absoluteEntryOffset, unsignedAttribute, fileIndexAttribute, resolveName}
 use Rattle.imports.specs.Ranges.{coalesceRanges}

@@ -12,7 +12,7 @@ use Rattle.tlv.specs.Addresses.{RangeHolds, Nonempty, Inside}
 use Rattle.tlv.specs.Outcome.{Outcome, refused, done}
 use Rattle.tlv.specs.Lists.{Any, All}
 use Rattle.tlv.specs.Model.{CompilationUnit, Entry}
-use Rattle.tlv.specs.Output.{InlineNode}
+use Rattle.buffers.specs.Output.{InlineNode}
 use Rattle.references.specs.Search.{Dwarf, resolveName}
 use Rattle.imports.specs.Ranges.{Holds, Apart}
 use Rattle.imports.specs.Tree.{rangesOf}

@@ -7,9 +7,9 @@ use Rattle.tlv.specs.declared.model.AddressRange.{AddressRange}
 use Rattle.tlv.specs.Outcome.{Outcome, refused, done}
 use Rattle.tlv.specs.Lists.{All}
 use Rattle.tlv.specs.Model.{LineHeader}
-use Rattle.lines.specs.Standard.{Operand}
-use Rattle.lines.specs.Program.{uleb, lineSequenceOffsets}
-use Rattle.lines.specs.Paths.{directoryName, basenameOf}
+use Rattle.line_program.specs.Standard.{Operand}
+use Rattle.line_program.specs.Program.{uleb, lineSequenceOffsets}
+use Rattle.paths.specs.Paths.{directoryName, basenameOf}
 use Rattle.imports.specs.Ranges.{coalesceRanges}
 
 pub data Case : Type 0 where

@@ -15,9 +15,9 @@ use Rattle.tlv.specs.Lists.{Any, All, filter, at, isEmpty}
 use Rattle.tlv.specs.Bytes.{Bytes}
 use Rattle.tlv.specs.Model.{CompilationUnit, Entry, RangeFailure, units}
 use Rattle.tlv.specs.Accepted.{UnitAccepted}
-use Rattle.tlv.specs.Output.{InlineNode, CallSite, Function}
-use Rattle.tlv.specs.Reader.{readRecords, readFiles, readWarnings}
-use Rattle.tlv.specs.Fits.{FunctionFits, FileFits, WarningFits}
+use Rattle.buffers.specs.Output.{InlineNode, CallSite, Function}
+use Rattle.buffers.specs.Reader.{readRecords, readFiles, readWarnings}
+use Rattle.buffers.specs.Fits.{FunctionFits, FileFits, WarningFits}
 use Rattle.lines.specs.RowsAgree.{RowsAgree}
 use Rattle.references.specs.Search.{Dwarf, resolveName}
 use Rattle.imports.specs.Tree.{dieRanges, rangesOf, DetailContext, Descendants, makeCallSite, extractSubprogramDetails}

@@ -11,11 +11,11 @@ use Rattle.tlv.specs.declared.model.LineEntry.{LineEntry}
 use Rattle.tlv.specs.Outcome.{Outcome, done, _>>=_}
 use Rattle.tlv.specs.Lists.{takeWhile, exists, isEmpty}
 use Rattle.tlv.specs.Model.{CompilationUnit, Entry, EntryRange, Attribute, RangeFailure, programOf}
-use Rattle.tlv.specs.Output.{InlineNode, Function, Warning, malformedRanges, about, rejectedRange, invalidStatementSequence}
+use Rattle.buffers.specs.Output.{InlineNode, Function, Warning, malformedRanges, about, rejectedRange, invalidStatementSequence}
 use Rattle.lines.specs.Files.{FileTable, fileIndex}
 use Rattle.lines.specs.Lines.{UnitLines}
-use Rattle.machine.specs.LineRows.{collectLines}
 use Rattle.lines.specs.Rows.{contains, forRange}
+use Rattle.machine.specs.LineRows.{collectLines}
 use Rattle.references.specs.Search.{Dwarf, Declaring, emptyTrail, attribute, absoluteEntryOffset, resolveName, resolveDeclarationLine}
 use Rattle.imports.specs.Tree.{DetailContext, dieRanges, extractSubprogramDetails, liesIn}
 

@@ -10,5 +10,3 @@ pub mod Printed
 pub mod Sizes
 pub mod Bare
 pub mod Joined
-pub mod DwarfCases
-pub mod ListCases

@@ -11,7 +11,7 @@ use Rattle.tlv.specs.declared.model.FileIndex.{FileIndex}
 use Rattle.tlv.specs.Outcome.{Outcome, refused, done, _>>=_}
 use Rattle.tlv.specs.Lists.{takeWhile, dropWhile, isEmpty, isNone}
 use Rattle.tlv.specs.Model.{CompilationUnit, Entry, Attribute}
-use Rattle.tlv.specs.Output.{InlineNode, CallSite, Warning, about, missingInlineCallFile, invalidInlineCallLine}
+use Rattle.buffers.specs.Output.{InlineNode, CallSite, Warning, about, missingInlineCallFile, invalidInlineCallLine}
 use Rattle.lines.specs.Files.{FileIndices, fileIndex, get}
 use Rattle.lines.specs.Rows.{contains}
 use Rattle.rnglists.specs.RangeLists.{DieRanges, dieRangesBy}

@@ -4,17 +4,17 @@ use mathlib.Core.Logic.{inl, inr}
 use mathlib.Core.Bool.{Bool, true}
 use mathlib.Core.List.{List, [], _∷_}
 use mathlib.Core.Option.{Option, none, some}
-use Prim.Native.Nat.{ℕ, zero, suc, _+_, _*_, _/_, _≤_, _<_, _^_}
+use Prim.Native.Nat.{ℕ, zero, suc, _+_, _*_, _≤_, _<_, _^_}
 use native.Mathlib.Omega.{arith}
 use lib.ListN.{length}
-use Rattle.tlv.specs.declared.access.Place.{Place}
 use Rattle.tlv.specs.declared.model.AddressRange.{AddressRange}
 use Rattle.tlv.specs.Lists.{Any, at}
 use Rattle.tlv.specs.Fields.{fields, fieldsFrom, wholeFields, payloads}
-use Rattle.tlv.specs.Access.{placeOf}
 use Rattle.tlv.specs.Checked.{Accepts}
 use Rattle.tlv.specs.Limits.{joinedLimit}
-use Rattle.tlv.specs.Places.{unitHere, unitPlaces}
+use Rattle.access.specs.declared.access.Place.{Place}
+use Rattle.access.specs.Access.{placeOf}
+use Rattle.access.specs.Places.{unitHere, unitPlaces}
 use Rattle.files.specs.declared.store.StoredFiles.{StoredFiles}
 use Rattle.files.specs.declared.index.StoredIndices.{StoredIndices}
 use Rattle.files.specs.Store.{FilesIn, Empty}

@@ -1,5 +1,5 @@
 -- Rows at the front of a table that lie below a range, counted one after another; the room of a range's own rows. Assumes nothing.
-use mathlib.Core.Path.{_≡_, ap, _∙_}
+use mathlib.Core.Path.{_≡_, ap}
 use mathlib.Core.List.{List, [], _∷_}
 use Prim.Native.Nat.{ℕ, zero, suc, _+_, _*_, _≤_, _<_}
 use native.Mathlib.Omega.{arith}
@@ -7,7 +7,7 @@ use lib.ListN.{length, getD}
 use borrow.Author.Tests.{lt-ltb, le-ltb}
 use Rattle.tlv.specs.declared.model.AddressRange.{AddressRange}
 use Rattle.tlv.proofs.TestLaws.{by-less}
-use Rattle.tlv.proofs.RecordLaws.{records-length, records-at}
+use Rattle.buffers.proofs.RecordLaws.{records-length, records-at}
 use Rattle.lines.specs.Lines.{SequencedLine}
 use Rattle.rows.specs.declared.line.StatementSequence.{StatementSequence}
 use Rattle.rows.specs.declared.«unit_lines».StoredLines.{StoredLines}

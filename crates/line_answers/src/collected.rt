@@ -6,6 +6,7 @@ ghost use Rattle.collect.specs.Collects.{UnitIn};
 ghost use Rattle.line_answers.specs.Answers.{Room, HasRoom, CollectedRows};
 use crate::main;
 use collect::collect::CollectedLines;
+use files::store::FILE_RECORD;
 use files::store::JOINED_LIMIT;
 use rows::line::ROW_ROOM;
 
@@ -48,15 +49,15 @@ fn collect_accepted(
     requires { ⌜ Accepts (now main) n ⌝ }
     ensures { λ r. ⌜ CollectedRows (now (work .exit)) r ⌝ }
 {
-    match tlv::access::unit_by_ordinal(main, 0) {
-        tlv::access::Place::At(place) => {
+    match access::access::unit_by_ordinal(main, 0) {
+        access::access::Place::At(place) => {
             if has_room(main.len(), program.len(), n, work.len()) {
                 collect_placed(main, program, n, place, work, files, warnings)
             } else {
                 CollectedLines::Refused(5)
             }
         }
-        tlv::access::Place::Missing => CollectedLines::Refused(4),
+        access::access::Place::Missing => CollectedLines::Refused(4),
     }
 }
 
@@ -76,7 +77,7 @@ fn collect_placed(
     ensures { λ r. ⌜ CollectedRows (now (work .exit)) r ⌝ }
 {
     let room = n + 1;
-    let free = room * 45 + JOINED_LIMIT;
+    let free = room * FILE_RECORD + JOINED_LIMIT;
     let table = files::store::new_files(main, b"", work, 0, room, 1, 0);
     collect::collect::collect_lines(
         main,

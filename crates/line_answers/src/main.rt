@@ -36,14 +36,14 @@ fn answer_operand(call: &[u8]) -> bool {
         return false;
     }
     let place = tlv::bytes::read_u64(call, 0) as usize;
-    match lines::operand::read_line_uleb(&call[8..], place) {
-        lines::operand::Operand::Value { value, next } => {
+    match line_program::operand::read_line_uleb(&call[8..], place) {
+        line_program::operand::Operand::Value { value, next } => {
             io::write_all(1, b"operand ");
             io::print_decimal(1, value);
             io::write_all(1, b" ");
             io::print_decimal(1, next as u64);
         }
-        lines::operand::Operand::Fault(refusal) => {
+        line_program::operand::Operand::Fault(refusal) => {
             write_refused(refusal);
         }
     }
@@ -68,12 +68,19 @@ fn scan(program: &[u8], lengths: &[u8], opcode_base: u8, offset: u64, work: &mut
     if work.len() / 8 < program.len() / 3 {
         return false;
     }
-    match lines::lines::scan_line_sequence_offsets(program, lengths, opcode_base, offset, work, 0) {
-        lines::lines::Scan::Count(n) => {
+    match line_program::lines::scan_line_sequence_offsets(
+        program,
+        lengths,
+        opcode_base,
+        offset,
+        work,
+        0,
+    ) {
+        line_program::lines::Scan::Count(n) => {
             let end = n * 8;
             write_offsets(&work[..end]);
         }
-        lines::lines::Scan::Fault(refusal) => {
+        line_program::lines::Scan::Fault(refusal) => {
             write_refused(refusal);
         }
     }
@@ -83,10 +90,10 @@ fn scan(program: &[u8], lengths: &[u8], opcode_base: u8, offset: u64, work: &mut
 // The path.
 fn answer_path(path: &[u8]) {
     io::write_all(1, b"path ");
-    write_path(lines::path::directory_of(path));
+    write_path(paths::path::directory_of(path));
     io::write_all(1, b"|");
-    write_path(lines::path::basename_of(path));
-    if lines::path::is_absolute_path(path) {
+    write_path(paths::path::basename_of(path));
+    if paths::path::is_absolute_path(path) {
         io::write_all(1, b"|1");
     } else {
         io::write_all(1, b"|0");
@@ -109,14 +116,14 @@ fn join(first: &[u8], second: &[u8], work: &mut [u8]) -> bool {
     if work.len() <= first.len() {
         return false;
     }
-    let n = lines::path::append_path(work, 0, 0, first);
+    let n = paths::path::append_path(work, 0, 0, first);
     if work.len() <= n {
         return false;
     }
     if work.len() - n <= second.len() {
         return false;
     }
-    let m = lines::path::append_path(work, 0, n, second);
+    let m = paths::path::append_path(work, 0, n, second);
     if work.len() < m {
         return false;
     }

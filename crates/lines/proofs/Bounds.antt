@@ -5,8 +5,8 @@ use lib.ListN.{length}
 use Rattle.tlv.specs.declared.model.FileIndex.{FileIndex}
 use Rattle.tlv.specs.Lists.{All}
 use Rattle.tlv.specs.Accepted.{Given}
-use Rattle.tlv.specs.Fits.{LineFits, FileFits, WarningFits}
 use Rattle.tlv.proofs.SortLaws.{Ascending}
+use Rattle.buffers.specs.Fits.{LineFits, FileFits, WarningFits}
 use Rattle.lines.specs.Files.{FileTable, FileIndices, Indexed}
 use Rattle.lines.specs.Lines.{SequencedLine, UnitLines, Collected}
 

@@ -2,9 +2,9 @@
 use mathlib.Core.Path.{refl}
 use Rattle.tlv.specs.Outcome
 use Rattle.tlv.specs.Lists
-use Rattle.lines.specs.Standard
-use Rattle.lines.specs.Program
-use Rattle.lines.specs.Paths
+use Rattle.line_program.specs.Standard
+use Rattle.line_program.specs.Program
+use Rattle.paths.specs.Paths
 use Rattle.lines.specs.Differences.{AllDifferences}
 
 pub differences : AllDifferences

@@ -10,15 +10,15 @@ use lib.ListN.{length, length-append}
 use lib.Dec.{leb, ltb, eqb}
 use Rattle.tlv.specs.Lists.{All, mapOption}
 use Rattle.tlv.specs.Model.{CompilationUnit, LineHeader, HeaderFile}
-use Rattle.tlv.specs.Output.{FileEntry}
 use Rattle.tlv.specs.Accepted.{Given, String, UnitAccepted}
-use Rattle.tlv.specs.Fits.{FileFits}
 use Rattle.tlv.proofs.TestLaws.{by-test}
 use Rattle.tlv.proofs.ListLaws.{all-append, all-at}
 use Rattle.tlv.proofs.OutcomeLaws.{Gives, gives, gives-none, gives-cond, gives-bind}
+use Rattle.buffers.specs.Output.{FileEntry}
+use Rattle.buffers.specs.Fits.{FileFits}
+use Rattle.paths.proofs.PathBounds.{file-entry-fits}
 use Rattle.lines.specs.Files.{FileTable, fileIndex, sameFile, placeOf, Added, appendFile, addFileAt, addFile, Interned, internEntry, internFile, FileIndices, internFiles, internHeaderFiles, get, headerFile}
 use Rattle.lines.proofs.Bounds.{TableFits, IndexFits, IndicesFit, IndexedFits}
-use Rattle.lines.proofs.PathBounds.{file-entry-fits}
 
 -- ---- one file
 

@@ -11,14 +11,14 @@ use Rattle.tlv.specs.declared.model.FileIndex.{FileIndex}
 use Rattle.tlv.specs.Outcome.{done}
 use Rattle.tlv.specs.Lists.{All, at}
 use Rattle.tlv.specs.Model.{CompilationUnit, LineHeader, HeaderFile, LineRow}
-use Rattle.tlv.specs.Output.{Warning, about, missingLineFile, unrepresentableLine}
 use Rattle.tlv.specs.Accepted.{Given, String, RowAccepted, UnitAccepted}
-use Rattle.tlv.specs.Fits.{LineFits, WarningFits}
 use Rattle.tlv.proofs.TestLaws.{by-test}
 use Rattle.tlv.proofs.ListLaws.{all-append, all-set}
 use Rattle.tlv.proofs.SortLaws.{all-sort}
 use Rattle.tlv.proofs.OutcomeLaws.{with-done, done-is, Gives, gives, gives-bind}
-use Rattle.lines.specs.Program.{lineSequenceOffsets}
+use Rattle.buffers.specs.Output.{Warning, about, missingLineFile, unrepresentableLine}
+use Rattle.buffers.specs.Fits.{LineFits, WarningFits}
+use Rattle.line_program.specs.Program.{lineSequenceOffsets}
 use Rattle.lines.specs.Files.{FileTable, internHeaderFiles, get, insertIndex, headerFile}
 use Rattle.lines.specs.Lines.{RawLine, Run, runRows, SequencedLine, Converted, withWarning, withLine, convertLine, convertInterned, convertLookedUp, convertKnown, convertRow, convertRows, sortRows, sameRow, Collected, mismatch, unitLines, collectHeader}
 use Rattle.lines.proofs.Bounds.{TableFits, IndexFits, IndicesFit, Sorted, LinesFit, CollectedFits}

@@ -3,8 +3,8 @@ use mathlib.Core.Path.{refl}
 use Rattle.tlv.specs.Bytes
 use Rattle.tlv.specs.Lists
 use Rattle.tlv.specs.Outcome
-use Rattle.tlv.specs.Output
-use Rattle.lines.specs.Paths
+use Rattle.buffers.specs.Output
+use Rattle.paths.specs.Paths
 use Rattle.lines.specs.Longest
 use Rattle.lines.specs.Longest.{Longest}
 

@@ -7,12 +7,12 @@ use native.Mathlib.Omega.{arith}
 use lib.ListN.{length}
 use Rattle.tlv.specs.Outcome
 use Rattle.tlv.specs.Lists
-use Rattle.lines.specs.Standard.{slash, filePath}
-use Rattle.lines.specs.Paths
-use Rattle.lines.specs.Conforms.{NamesFile, Relative, FirstDirectory, pathOf}
+use Rattle.line_program.specs.Standard.{slash, filePath}
+use Rattle.paths.specs.Paths
+use Rattle.paths.specs.PathConforms.{NamesFile, Relative, FirstDirectory, pathOf}
+use Rattle.paths.proofs.Paths.{paths}
 use Rattle.lines.specs.Differences.{file, header, entry}
 use Rattle.lines.specs.PrintedPath.{src, cue, printedUnit, PrintedPath}
-use Rattle.lines.proofs.Paths.{paths}
 
 names : NamesFile (file 0 cue)
 unfolding Paths.isDrive Paths.startsWithLetter Paths.startsDoubled Paths.isWindows Paths.afterLast Paths.baseStart Paths.basenameOf

@@ -3,13 +3,13 @@ use Prim.Native.Nat.{ℕ, zero, suc}
 use mathlib.Core.List.{List, [], _∷_}
 use mathlib.Core.Option.{Option, none, some}
 use Rattle.tlv.specs.Model.{CompilationUnit, LineHeader, Directory, HeaderFile, LineRow}
-use Rattle.tlv.specs.Output.{FileEntry}
 use Rattle.tlv.specs.declared.model.FileIndex.{FileIndex}
 use Rattle.tlv.proofs.RefusalLaws.{RefusesIn, never, refuses-wider, refusing}
-use Rattle.lines.specs.Standard.{OperandKind, unsigned, signed, half, Opcodes}
-use Rattle.lines.specs.Program.{ulebWithin, uleb, slebWithin, sleb, skipOperand, skipOperands, takeLineBytes, extendedBody, extended, skip}
-use Rattle.lines.specs.Program.{sequencesWithin, scanLineSequenceOffsets, lineSequenceOffsets}
-use Rattle.lines.specs.Paths.{readDirectory, namedDirectory, fileEntry}
+use Rattle.buffers.specs.Output.{FileEntry}
+use Rattle.line_program.specs.Standard.{OperandKind, unsigned, signed, half, Opcodes}
+use Rattle.line_program.specs.Program.{ulebWithin, uleb, slebWithin, sleb, skipOperand, skipOperands, takeLineBytes, extendedBody, extended, skip}
+use Rattle.line_program.specs.Program.{sequencesWithin, scanLineSequenceOffsets, lineSequenceOffsets}
+use Rattle.paths.specs.Paths.{readDirectory, namedDirectory, fileEntry}
 use Rattle.lines.specs.Files.{FileTable, placeOf, appendFile, addFileAt, addFile, internEntry, internFile, internFiles, internHeaderFiles, headerFile}
 use Rattle.lines.specs.Files.{get}
 use Rattle.lines.specs.Lines.{RawLine, runRows, Converted, convertLookedUp, convertKnown, convertRow, convertRows, collectHeader}

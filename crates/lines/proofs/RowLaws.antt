@@ -13,10 +13,10 @@ use Rattle.tlv.specs.declared.model.LineEntry.{LineEntry}
 use Rattle.tlv.specs.Addresses.{RangeHolds, Nonempty}
 use Rattle.tlv.specs.Lists.{All, filter, first, last, orElse}
 use Rattle.tlv.specs.Accepted.{Given}
-use Rattle.tlv.specs.Fits.{LineFits}
 use Rattle.tlv.proofs.TestLaws.{by-test, and-left, and-right}
 use Rattle.tlv.proofs.ListLaws.{all-map, all-each, all-append, all-filter, all-last, all-image}
 use Rattle.tlv.proofs.SortLaws.{ascending-lower, ascending-from, ascending-filter, ascending-image}
+use Rattle.buffers.specs.Fits.{LineFits}
 use Rattle.lines.specs.Lines.{SequencedLine, LineSequenceRange, UnitLines, sameLine, dropAfter, dropNeighbours}
 use Rattle.lines.specs.Rows.{contains, belongs, compactLineRows, ownRows, movedTo, earlierIn, earlierRow, startsLate, selectedSequence, rowsFor, forRange}
 use Rattle.lines.specs.RowsAgree.{Rising, Repeats, Distinct, RowsAgree}

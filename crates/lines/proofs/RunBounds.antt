@@ -9,8 +9,8 @@ use Rattle.tlv.specs.Model.{LineHeader, LineRow}
 use Rattle.tlv.specs.Accepted.{RowAccepted}
 use Rattle.tlv.proofs.ListLaws.{all-append}
 use Rattle.tlv.proofs.OutcomeLaws.{Gives, gives, gives-none, gives-cond, gives-of, gives-map, gives-bind}
-use Rattle.lines.specs.Standard.{Opcodes}
-use Rattle.lines.specs.Program.{placeOf, skip, sequencesWithin, scanLineSequenceOffsets, opcodesOf, programOffset, lineSequenceOffsets}
+use Rattle.line_program.specs.Standard.{Opcodes}
+use Rattle.line_program.specs.Program.{placeOf, skip, sequencesWithin, scanLineSequenceOffsets, opcodesOf, programOffset, lineSequenceOffsets}
 use Rattle.lines.specs.Lines.{RawLine, Run, rawLine, runRows}
 
 -- ---- the run over the rows

@@ -2,7 +2,7 @@
 use mathlib.Core.Path.{refl}
 use Rattle.tlv.specs.Outcome
 use Rattle.tlv.specs.Lists
-use Rattle.lines.specs.Paths
+use Rattle.paths.specs.Paths
 use Rattle.lines.specs.WindowsCases.{WindowsCases}
 
 pub windows-cases : WindowsCases

@@ -3,10 +3,9 @@ use Prim.Native.Nat.{ℕ}
 use mathlib.Core.Path.{_≡_}
 use mathlib.Core.List.{List, [], _∷_, map}
 use mathlib.Core.Option.{none}
-use Rattle.tlv.specs.declared.model.AddressRange.{AddressRange}
 use Rattle.tlv.specs.declared.model.LineEntry.{LineEntry}
 use Rattle.tlv.specs.Lists.{All}
-use Rattle.lines.specs.Lines.{SequencedLine, UnitLines, sortRows, sameRow, dropNeighbours}
+use Rattle.lines.specs.Lines.{UnitLines, sortRows, sameRow, dropNeighbours}
 use Rattle.lines.specs.Rows.{forRange}
 
 pub record Row : Type 0 where

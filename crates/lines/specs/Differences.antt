@@ -8,10 +8,10 @@ use mathlib.Core.Option.{Option, none, some}
 use lib.ListN.{replicate}
 use Rattle.tlv.specs.Outcome.{Outcome, refused, done}
 use Rattle.tlv.specs.Model.{CompilationUnit, LineHeader, Directory, HeaderFile}
-use Rattle.tlv.specs.Output.{FileEntry}
-use Rattle.lines.specs.Standard.{leb128, Opcodes, instruction, sequences, filePath}
-use Rattle.lines.specs.Program.{uleb, skip, scanLineSequenceOffsets}
-use Rattle.lines.specs.Paths.{fileEntry}
+use Rattle.buffers.specs.Output.{FileEntry}
+use Rattle.line_program.specs.Standard.{leb128, Opcodes, instruction, sequences, filePath}
+use Rattle.line_program.specs.Program.{uleb, skip, scanLineSequenceOffsets}
+use Rattle.paths.specs.Paths.{fileEntry}
 
 -- ---- operands and instructions
 

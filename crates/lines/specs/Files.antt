@@ -10,8 +10,8 @@ use Rattle.tlv.specs.declared.model.FileIndex.{FileIndex}
 use Rattle.tlv.specs.Outcome.{Outcome, refused, done, _>>=_}
 use Rattle.tlv.specs.Lists.{same, at, mapOption}
 use Rattle.tlv.specs.Model.{CompilationUnit, LineHeader, HeaderFile}
-use Rattle.tlv.specs.Output.{FileEntry}
-use Rattle.lines.specs.Paths.{fileEntry}
+use Rattle.buffers.specs.Output.{FileEntry}
+use Rattle.paths.specs.Paths.{fileEntry}
 
 -- the number of the first file, and the files
 pub record FileTable : Type 0 where

@@ -1,16 +1,9 @@
-pub mod Standard
-pub mod Program
-pub mod Paths
 pub mod Files
 pub mod Lines
 pub mod Rows
 pub mod RowsAgree
-pub mod Conforms
 pub mod Differences
 pub mod PrintedPath
-pub mod SignedCases
 pub mod WindowsCases
 pub mod ColumnCases
 pub mod Longest
-pub mod Join
-pub mod Scan

@@ -11,8 +11,8 @@ use Rattle.tlv.specs.declared.model.LineEntry.{LineEntry}
 use Rattle.tlv.specs.Outcome.{Outcome, refused, done, _>>=_}
 use Rattle.tlv.specs.Lists.{at}
 use Rattle.tlv.specs.Model.{CompilationUnit, LineHeader, HeaderFile, LineRow}
-use Rattle.tlv.specs.Output.{Warning, about, lineSequenceMismatch, missingLineFile, unrepresentableLine}
-use Rattle.lines.specs.Program.{lineSequenceOffsets}
+use Rattle.buffers.specs.Output.{Warning, about, lineSequenceMismatch, missingLineFile, unrepresentableLine}
+use Rattle.line_program.specs.Program.{lineSequenceOffsets}
 use Rattle.lines.specs.Files.{FileTable, internFile, FileIndices, internHeaderFiles, get, insertIndex, headerFile}
 
 -- ---- the run over the rows: an end of sequence closes the rows since the last one

@@ -2,15 +2,15 @@
 -- field is `Producing` of imports. Assumes nothing.
 use Prim.Native.Nat.{ℕ}
 use mathlib.Core.Path.{_≡_}
-use mathlib.Core.List.{List, [], _∷_, _++_}
+use mathlib.Core.List.{[], _∷_, _++_}
 use mathlib.Core.Option.{Option, none, some}
 use lib.ListN.{length, replicate}
 use Rattle.tlv.specs.Outcome.{Outcome, refused, done}
 use Rattle.tlv.specs.Limits.{stringLimit}
 use Rattle.tlv.specs.Model.{CompilationUnit}
-use Rattle.tlv.specs.Output.{FileEntry, filePayload}
-use Rattle.lines.specs.Standard.{slash}
-use Rattle.lines.specs.Paths.{fileEntry}
+use Rattle.buffers.specs.Output.{FileEntry, filePayload}
+use Rattle.line_program.specs.Standard.{slash}
+use Rattle.paths.specs.Paths.{fileEntry}
 use Rattle.lines.specs.Differences.{file, unitOf, header, given}
 
 -- the compilation directory and directory 1, of letters a and b

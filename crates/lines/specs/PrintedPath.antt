@@ -4,9 +4,9 @@ use mathlib.Core.Path.{_≡_}
 use mathlib.Core.List.{List, [], _∷_, _++_}
 use mathlib.Core.Option.{none, some}
 use Rattle.tlv.specs.Model.{CompilationUnit}
-use Rattle.lines.specs.Standard.{slash, filePath}
-use Rattle.lines.specs.Paths.{fileEntry}
-use Rattle.lines.specs.Conforms.{NamesFile, Relative, FirstDirectory}
+use Rattle.line_program.specs.Standard.{slash, filePath}
+use Rattle.paths.specs.Paths.{fileEntry}
+use Rattle.paths.specs.PathConforms.{NamesFile, Relative, FirstDirectory}
 use Rattle.lines.specs.Differences.{file, unitOf, header, entry, given}
 
 abbrev pub src : List ℕ

@@ -6,9 +6,9 @@ use mathlib.Core.List.{List, [], _∷_, _++_, map}
 use mathlib.Core.Option.{Option, none, some}
 use Rattle.tlv.specs.Outcome.{Outcome, done}
 use Rattle.tlv.specs.Lists.{isEmpty}
-use Rattle.tlv.specs.Output.{FileEntry}
-use Rattle.lines.specs.Standard.{slash}
-use Rattle.lines.specs.Paths.{directoryName, basenameOf, fileEntry}
+use Rattle.buffers.specs.Output.{FileEntry}
+use Rattle.line_program.specs.Standard.{slash}
+use Rattle.paths.specs.Paths.{directoryName, basenameOf, fileEntry}
 use Rattle.lines.specs.Differences.{w, file, unitOf, header, entry}
 
 -- the file stands in the path's own directory, or in that below the compilation directory; or there is none

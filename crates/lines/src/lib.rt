@@ -1,4 +1,1 @@
-// Line tables: operands, instructions and sequences of a line program, and the paths of files.
-pub mod lines;
-pub mod operand;
-pub mod path;
+// What rows and files are is in specs/; what is known of them in proofs/.

@@ -16,9 +16,9 @@ const INPUT_LIMIT: usize = 16384;
 const PROGRAM_LIMIT: usize = 2048;
 
 // A row's payload in the records tray, and where its column stands there.
-const ROW_SIZE: usize = tlv::output::TRAY_ROW as usize;
+const ROW_SIZE: usize = buffers::output::TRAY_ROW as usize;
 
-const ROW_COLUMN: usize = tlv::output::TRAY_COLUMN as usize;
+const ROW_COLUMN: usize = buffers::output::TRAY_COLUMN as usize;
 
 // Reads the file of a name, as far as the buffer goes, and answers how many bytes came; a file that can't be opened is empty.
 fn read_file(name: &[u8], buffer: &mut [u8]) -> usize {

@@ -1,23 +1,21 @@
 -- The chain that one pass over the nodes takes is the chain of first children that hold the address. Assumes nothing.
 use mathlib.Core.Path.{_≡_, refl, sym, ap, subst, _∙_}
-use mathlib.Core.Bool.{Bool, true, false, cond, _&&_, true≢false, false≢true}
-use mathlib.Core.Logic.{_⊎_, inl, inr, _↔_, _≢_}
+use mathlib.Core.Bool.{Bool, true, false, cond, _&&_, true≢false}
+use mathlib.Core.Logic.{inl, inr, _≢_}
 use mathlib.Core.List.{List, [], _∷_, map, cons≢nil}
-use mathlib.Core.Option.{Option, none, some, Option·none-ne-some, Option·some-injective}
+use mathlib.Core.Option.{some, Option·some-injective}
 use Prim.Native.Nat.{ℕ, zero, suc, _+_, _-_, _≤_, _<_}
 use native.Mathlib.Omega.{arith}
 use native.Mathlib.Decide.{decLe}
-use lib.Dec.{leb, ltb, eqb}
-use lib.ListN.{length, getD, drop, length-drop}
+use lib.Dec.{ltb, eqb}
+use lib.ListN.{length, drop, length-drop}
 use borrow.Author.Tests.{ltb-true, ltb-false, eqb-true, eqb-false, le-leb, lt-ltb, le-ltb, ne-eqb}
 use Rattle.tlv.specs.declared.model.AddressRange.{AddressRange}
-use Rattle.tlv.specs.Addresses.{RangeHolds}
-use Rattle.tlv.specs.Lists.{All, at, exists}
-use Rattle.tlv.specs.Output.{InlineNode}
-use Rattle.tlv.proofs.TestLaws.{by-test, and-left, and-right}
+use Rattle.tlv.specs.Lists.{at, exists}
+use Rattle.buffers.specs.Output.{InlineNode}
 use Rattle.imports.specs.Ranges.{Holds}
 use Rattle.imports.specs.Agree.{ParentOf}
-use Rattle.lookup.specs.Tray.{GroupAt, nodesAt, node}
+use Rattle.lookup.specs.Tray.{GroupAt, node}
 use Rattle.lookup.specs.Lookup.{holds, nodeHolds, chainFrom}
 use Rattle.lookup.specs.Means.{depthOf, HoldsAt, FirstChild, ChainFrom, innermost, outer, ChainIs, unheld, from-root, PlacesIn}
 use Rattle.lookup.proofs.DemandLaws.{some-holds, at-map, at-less, at-getD}

@@ -1,23 +1,19 @@
 -- A turn of the walk that gathers the chain into an array. Assumes nothing.
-use mathlib.Core.Path.{_≡_, refl, sym, ap, subst, _∙_}
+use mathlib.Core.Path.{_≡_, refl, sym, _∙_}
 use mathlib.Core.Bool.{Bool, true, false, cond, _&&_}
-use mathlib.Core.List.{List, [], _∷_, _++_, map, append-nil, append-assoc}
+use mathlib.Core.List.{List, [], _∷_, _++_, append-nil, append-assoc}
 use Prim.Native.Nat.{ℕ, suc, _+_, _-_, _≤_, _<_}
 use native.Mathlib.Omega.{arith}
-use lib.Dec.{leb, ltb, eqb}
+use lib.Dec.{ltb, eqb}
 use lib.ListN.{length, take, drop, set, replicate, length-set}
 use lib.Seq.{take-suc-set, drop-set-lt, drop-drop}
 use borrow.Author.Tests.{lt-ltb, le-ltb, eq-eqb, ne-eqb}
 use Rattle.tlv.specs.declared.fields.Step.{Step}
-use Rattle.tlv.specs.Lists.{takeWhile, exists}
 use Rattle.tlv.specs.Bytes.{leAt}
-use Rattle.tlv.specs.Fields.{payloads}
 use Rattle.tlv.specs.Cursor.{stepAt}
-use Rattle.tlv.specs.Checked.{fieldIn}
-use Rattle.tlv.specs.Reader.{nodeOf}
-use Rattle.lookup.specs.declared.model.Chain.{Chain}
-use Rattle.lookup.specs.Tray.{FieldAt, GroupAt, groupsAt, hasTag, node}
-use Rattle.lookup.specs.Lookup.{nodeHolds, chainFrom}
+use Rattle.buffers.specs.Reader.{nodeOf}
+use Rattle.lookup.specs.Tray.{groupsAt}
+use Rattle.lookup.specs.Lookup.{chainFrom}
 use Rattle.lookup.specs.Walk.{StandsOwn, ownAt, heldFrom, ChainAt}
 use Rattle.lookup.proofs.StepLaws.{own-end, own-cut, own-function, own-next}
 use Rattle.lookup.proofs.OwnLaws.{node-deep}

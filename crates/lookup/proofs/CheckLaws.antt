@@ -1,23 +1,23 @@
 -- The test of a records tray's form, field by field. Assumes nothing.
-use mathlib.Core.Path.{_≡_, refl, sym, _∙_}
-use mathlib.Core.Bool.{Bool, true, false, cond, _&&_, _||_, not}
+use mathlib.Core.Path.{_≡_, sym, _∙_}
+use mathlib.Core.Bool.{Bool, true, false, _&&_, _||_, not}
 use mathlib.Core.List.{List}
 use Prim.Native.Nat.{ℕ, _+_, _≤_, _<_}
 use native.Mathlib.Omega.{arith}
 use lib.Dec.{leb, ltb, eqb}
 use lib.ListN.{length, take, drop}
-use borrow.Author.Tests.{le-leb, lt-leb, leb-true, eq-eqb, eqb-true, ne-eqb, not-true, not-false}
+use borrow.Author.Tests.{le-leb, lt-leb, leb-true, eq-eqb, ne-eqb, not-true, not-false}
 use Rattle.tlv.specs.declared.fields.Step.{Step}
 use Rattle.tlv.specs.Lists.{exists}
 use Rattle.tlv.specs.Bytes.{leAt}
-use Rattle.tlv.specs.Fields.{Field, FieldList, end, cut, more, fields}
+use Rattle.tlv.specs.Fields.{Field, fields}
 use Rattle.tlv.specs.Cursor.{stepAt, fieldsOf}
 use Rattle.tlv.specs.Checked.{fieldIn}
-use Rattle.tlv.specs.Reader.{recordsAfter, rangeFormed, recordsFormed, depthAfter, recordsForm}
 use Rattle.tlv.proofs.TestLaws.{and-left, and-right}
 use Rattle.tlv.proofs.CursorLaws.{fields-at}
 use Rattle.tlv.proofs.ShapeLaws.{part-length, number-at, number-first}
-use Rattle.tlv.specs.Output.{trayRowSize}
+use Rattle.buffers.specs.Reader.{recordsAfter, rangeFormed, recordsFormed, depthAfter, recordsForm}
+use Rattle.buffers.specs.Output.{trayRowSize}
 
 module _ (s : List ℕ) (start len : ℕ) (fits : start + len ≤ length s) where
   pub range-is : (a b : ℕ) → 16 ≤ len → a ≡ leAt 8 s start → b ≡ leAt 8 s (start + 8) → ltb a b ≡ rangeFormed (take len (drop start s))

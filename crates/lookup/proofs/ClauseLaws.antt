@@ -10,10 +10,10 @@ use lib.ListN.{length}
 use borrow.Author.Tests.{leb-true, ltb-true, eqb-true}
 use Rattle.tlv.specs.Lists.{All}
 use Rattle.tlv.specs.Bytes.{leAt}
-use Rattle.tlv.specs.Fields.{FieldList, fields}
-use Rattle.tlv.specs.Reader.{recordsAfter, rangeFormed, recordsFormed}
+use Rattle.tlv.specs.Fields.{FieldList}
 use Rattle.tlv.proofs.TestLaws.{and-left, and-right}
-use Rattle.tlv.specs.Output.{trayRowSize}
+use Rattle.buffers.specs.Reader.{recordsAfter, rangeFormed, recordsFormed}
+use Rattle.buffers.specs.Output.{trayRowSize}
 use Rattle.lookup.specs.Form.{NodeParts, FunctionParts, tagged, nodesFields, trayFields, ended, StartsBelow, FunctionPayload, RowPayload, RangePayload}
 use Rattle.lookup.specs.Form.{SitePayload, NodeFormed, DepthsAfter, Depths, depthIn, FunctionFormed}
 use Rattle.lookup.proofs.FormLaws.{Ordered}

@@ -10,9 +10,9 @@ use borrow.Author.Tests.{eqb-true}
 use Rattle.tlv.specs.Lists.{exists}
 use Rattle.tlv.specs.Bytes.{leAt}
 use Rattle.tlv.specs.Fields.{Field, FieldList, end, cut, more, fields}
-use Rattle.tlv.specs.Reader.{recordsAfter, rangeFormed, recordsFormed, depthAfter, recordsForm}
 use Rattle.tlv.proofs.TestLaws.{and-left, and-right}
-use Rattle.tlv.specs.Output.{trayRowSize}
+use Rattle.buffers.specs.Reader.{recordsAfter, rangeFormed, recordsFormed, depthAfter, recordsForm}
+use Rattle.buffers.specs.Output.{trayRowSize}
 use Rattle.lookup.specs.Form.{NodeParts, tagged, nodesFields, trayFields, ended, depthIn, InForm}
 use Rattle.lookup.proofs.FormLaws.{node-ordered}
 use Rattle.lookup.proofs.ClauseLaws.{Stage, at-start, in-rows, at-node, in-ranges, in-sites, stageOf, after, after-is, Allowed, allowed-end}

@@ -1,21 +1,21 @@
 -- A tray that is in the form that the clauses tell passes the test, and so the test is of that form. Assumes nothing.
 use mathlib.Core.Path.{_≡_, refl}
-use mathlib.Core.Bool.{true, _||_, not, or-true}
+use mathlib.Core.Bool.{true, _||_, or-true}
 use mathlib.Core.Logic.{_⊎_, inl, inr, _≢_}
 use mathlib.Core.List.{List, [], _∷_, _++_, map, append-assoc}
-use Prim.Native.Nat.{ℕ, _+_, _≤_, _<_}
+use Prim.Native.Nat.{ℕ, _+_, _≤_}
 use native.Mathlib.Omega.{arith}
 use lib.Dec.{leb, eqb}
 use lib.ListN.{length}
 use borrow.Author.Tests.{le-leb, lt-ltb, eq-eqb}
 use Rattle.tlv.specs.Lists.{All, exists}
 use Rattle.tlv.specs.Bytes.{leAt}
-use Rattle.tlv.specs.Fields.{Field, FieldList, end, more, fields}
-use Rattle.tlv.specs.Reader.{recordsAfter, rangeFormed, recordsFormed, depthAfter, recordsForm}
-use Rattle.tlv.proofs.RecordForm.{Ready, functionNext, siteNext, nodeNext}
-use Rattle.tlv.specs.Output.{trayRowSize}
+use Rattle.tlv.specs.Fields.{Field}
+use Rattle.buffers.specs.Reader.{recordsAfter, rangeFormed, recordsFormed, depthAfter, recordsForm}
+use Rattle.buffers.proofs.RecordForm.{Ready, functionNext, siteNext, nodeNext}
+use Rattle.buffers.specs.Output.{trayRowSize}
 use Rattle.lookup.specs.Form.{NodeParts, FunctionParts, tagged, nodesFields, trayFields, ended, FunctionPayload, RowPayload, RangePayload, SitePayload}
-use Rattle.lookup.specs.Form.{NodeFormed, DepthsAfter, Depths, depthIn, FunctionFormed, InForm, FormIs}
+use Rattle.lookup.specs.Form.{NodeFormed, DepthsAfter, Depths, depthIn, FunctionFormed, FormIs}
 use Rattle.lookup.proofs.FormLaws.{Ordered}
 use Rattle.lookup.proofs.ClauseReads.{in-form}
 

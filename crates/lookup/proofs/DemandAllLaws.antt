@@ -5,17 +5,17 @@ use mathlib.Core.List.{List, [], _∷_, _++_, map}
 use mathlib.Core.Option.{Option, none, some, Option·none-ne-some, Option·some-injective}
 use Prim.Native.Nat.{ℕ, zero, suc}
 use lib.ListN.{drop}
-use Rattle.tlv.specs.Outcome.{Outcome, refused, done, _>>=_}
+use Rattle.tlv.specs.Outcome.{done, _>>=_}
 use Rattle.tlv.specs.Lists.{All, at, first}
 use Rattle.tlv.specs.Model.{CompilationUnit, units}
 use Rattle.tlv.specs.Fields.{fields}
-use Rattle.tlv.specs.Output.{Function}
-use Rattle.tlv.specs.Reader.{recordsForm, readRecords, functionOf}
 use Rattle.tlv.proofs.ListLaws.{all-map}
 use Rattle.tlv.proofs.OutcomeLaws.{done-is, refused-not, with-done}
+use Rattle.buffers.specs.Output.{Function}
+use Rattle.buffers.specs.Reader.{recordsForm, readRecords, functionOf}
 use Rattle.references.specs.Search.{Dwarf}
 use Rattle.imports.specs.Answer.{Inputs, dwarfOf, afterDwarf}
-use Rattle.imports.specs.Demand.{Subject, subjects, RecordAgrees, Pointwise, UnitsAgree, DwarfFinished}
+use Rattle.imports.specs.Demand.{Subject, subjects, RecordAgrees, UnitsAgree, DwarfFinished}
 use Rattle.imports.proofs.Demand.{dwarf-demand}
 use Rattle.lookup.specs.Tray.{GroupAt, group, functionsAt, nodesAt, functionRange, functionsOf}
 use Rattle.lookup.specs.Lookup.{holds, chainFrom, chain, Frames, framesOf, qualifying, lookUp}

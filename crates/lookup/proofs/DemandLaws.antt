@@ -1,30 +1,30 @@
 -- Demand 3 in a look-up: each node of the chain below the root is that of a kept entry with a range that holds the address. Assumes nothing.
 use mathlib.Core.Path.{_≡_, refl, sym, ap, subst, _∙_}
-use mathlib.Core.Bool.{Bool, true, false, cond, _&&_, true≢false, false≢true}
-use mathlib.Core.Logic.{_⊎_, inl, inr, _↔_}
+use mathlib.Core.Bool.{Bool, true, false, cond, _&&_, false≢true}
+use mathlib.Core.Logic.{_⊎_, inl, inr}
 use mathlib.Core.List.{List, [], _∷_, map}
 use mathlib.Core.Option.{Option, none, some, Option·none-ne-some, Option·some-injective}
-use Prim.Native.Nat.{ℕ, zero, suc, _≤_, _<_}
+use Prim.Native.Nat.{ℕ, zero, suc, _<_}
 use native.Mathlib.Omega.{arith}
 use lib.Dec.{leb, ltb, eqb}
-use lib.ListN.{length, getD, take, drop}
+use lib.ListN.{length, getD, drop}
 use borrow.Author.Tests.{leb-true, ltb-true}
 use Rattle.tlv.specs.declared.model.AddressRange.{AddressRange}
 use Rattle.tlv.specs.Addresses.{RangeHolds}
-use Rattle.tlv.specs.Outcome.{Outcome, refused, done, _>>=_}
+use Rattle.tlv.specs.Outcome.{refused, done, _>>=_}
 use Rattle.tlv.specs.Lists.{Any, All, at, first, exists, mapOption}
 use Rattle.tlv.specs.Model.{CompilationUnit, units}
 use Rattle.tlv.specs.Fields.{fields}
-use Rattle.tlv.specs.Output.{InlineNode, Function}
-use Rattle.tlv.specs.Reader.{recordsForm, readRecords, functionOf}
-use Rattle.tlv.proofs.TestLaws.{by-test, and-left, and-right}
+use Rattle.tlv.proofs.TestLaws.{and-left, and-right}
 use Rattle.tlv.proofs.ListLaws.{all-map, any-map}
 use Rattle.tlv.proofs.OutcomeLaws.{done-is, refused-not, with-done}
+use Rattle.buffers.specs.Output.{InlineNode, Function}
+use Rattle.buffers.specs.Reader.{recordsForm, readRecords, functionOf}
 use Rattle.imports.specs.Ranges.{Holds}
 use Rattle.imports.specs.Import.{rooted}
 use Rattle.imports.specs.Answer.{Inputs, dwarfOf, after}
-use Rattle.imports.specs.Agree.{TreeNode, treeEntries, treeNode, rootOf, Fits, against, entry, TreeAgrees}
-use Rattle.imports.specs.Demand.{Subject, subjects, RecordAgrees, Pointwise, ChosenAgrees, UnitFinished}
+use Rattle.imports.specs.Agree.{treeEntries, treeNode, rootOf, Fits, against, entry, TreeAgrees}
+use Rattle.imports.specs.Demand.{subjects, RecordAgrees, Pointwise, ChosenAgrees, UnitFinished}
 use Rattle.imports.proofs.Demand.{demand}
 use Rattle.lookup.specs.Tray.{GroupAt, group, functionsAt, nodesAt, functionRange, node, functionsOf}
 use Rattle.lookup.specs.Lookup.{holds, nodeHolds, chainFrom, chain, Frames, framesOf, qualifying, lookUp}

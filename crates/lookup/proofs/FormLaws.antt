@@ -1,26 +1,24 @@
 -- What the form of a records tray says of the depths of a function's nodes, and that its chain is that of the request's words. Assumes nothing.
-use mathlib.Core.Path.{_≡_, refl, sym, ap, subst, _∙_}
-use mathlib.Core.Bool.{Bool, true, false, cond, _&&_, _||_, not, true≢false, false≢true}
+use mathlib.Core.Path.{_≡_, refl, sym, subst}
+use mathlib.Core.Bool.{Bool, true, false, cond, _&&_, _||_, not, false≢true}
 use mathlib.Core.Logic.{_⊎_, inl, inr}
 use mathlib.Core.List.{List, [], _∷_, map}
-use mathlib.Core.Option.{Option, none, some}
 use Prim.Native.Nat.{ℕ, zero, suc, _+_, _≤_, _<_}
 use native.Mathlib.Omega.{arith}
-use lib.Dec.{leb, ltb, eqb}
+use lib.Dec.{leb, eqb}
 use lib.ListN.{length, getD}
 use borrow.Author.Tests.{leb-true, eqb-true}
 use Rattle.tlv.specs.Lists.{All, exists, takeWhile}
 use Rattle.tlv.specs.Bytes.{leAt}
-use Rattle.tlv.specs.Outcome.{Outcome, refused, done}
+use Rattle.tlv.specs.Outcome.{refused, done}
 use Rattle.tlv.specs.Fields.{Field, FieldList, end, cut, more, fields}
-use Rattle.tlv.specs.Places.{behind}
-use Rattle.tlv.specs.Output.{InlineNode}
-use Rattle.tlv.specs.Reader.{recordsAfter, recordsFormed, depthAfter, recordsForm, nodeOf}
 use Rattle.tlv.proofs.TestLaws.{and-left, and-right, or-either}
 use Rattle.tlv.proofs.ListLaws.{all-map}
 use Rattle.tlv.proofs.OutcomeLaws.{done-is, refused-not}
-use Rattle.lookup.specs.Tray.{FieldAt, GroupAt, fieldsAt, hasTag, groupsAt, group, functionsAt, nodesAt, node, functionsOf}
-use Rattle.lookup.specs.Lookup.{chainFrom, chain}
+use Rattle.buffers.specs.Reader.{recordsAfter, recordsFormed, depthAfter, recordsForm, nodeOf}
+use Rattle.access.specs.Places.{behind}
+use Rattle.lookup.specs.Tray.{FieldAt, GroupAt, fieldsAt, hasTag, groupsAt, functionsAt, nodesAt, node, functionsOf}
+use Rattle.lookup.specs.Lookup.{chain}
 use Rattle.lookup.specs.Means.{depthOf, Chained, Chaining}
 use Rattle.lookup.proofs.ChainLaws.{Preorder, numbersFrom, placed, whole, few}
 
@@ -104,9 +102,6 @@ module _ (d p : ℕ) (f : Field) (rest : List FieldAt) (formed : recordsFormed d
   unfolding groupsAt takeWhile nodesAt depthAfter nodeOf
   front = go (eqb (f .tag) 0x41) refl (eqb (f .tag) 0x43) refl (ih .own) (ih .each)
     where
-      after41 : List GroupAt
-      after41 = groupsAt 0x41 rest
-
       go : (b : Bool) → eqb (f .tag) 0x41 ≡ b → (c : Bool) → eqb (f .tag) 0x43 ≡ c
           → Ordered (cond b 0 (cond c (leAt 2 (f .payload) 0 + 1) d)) (depths (groupsAt 0x43 (ownOf rest)))
           → All (λ g. Ordered 0 (depths (nodesAt g))) (groupsAt 0x41 rest)

@@ -21,8 +21,3 @@ pub mod ChainWalkLaws
 pub mod LookLaws
 pub mod ListingLaws
 pub mod NearestWalkLaws
-pub mod ExtentLaws
-pub mod IndexLaws
-pub mod HereLaws
-pub mod Indexing
-pub mod LookInLaws

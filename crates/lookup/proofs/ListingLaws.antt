@@ -1,35 +1,33 @@
 -- A window's functions, laid field by field, and the list as a whole. Assumes nothing.
 use mathlib.Core.Path.{_≡_, refl, sym, ap, subst, _∙_}
 use mathlib.Core.Bool.{Bool, true, false, cond, _&&_, not}
-use mathlib.Core.List.{List, [], _∷_, _++_, cons≢nil}
-use Prim.Native.Nat.{ℕ, zero, suc, _+_, _-_, _≤_, _<_, min, max}
+use mathlib.Core.List.{List, [], _∷_, _++_}
+use Prim.Native.Nat.{ℕ, _+_, _-_, _≤_, _<_, min, max}
 use native.Mathlib.Omega.{arith}
-use lib.Dec.{leb, ltb, eqb}
-use lib.ListN.{length, take, drop, replicate, length-append, length-drop}
+use lib.Dec.{ltb}
+use lib.ListN.{length, take, drop, length-drop}
 use lib.Seq.{length-take-le}
 use borrow.Author.Tests.{lt-ltb, le-ltb, not-true, not-false}
 use Rattle.tlv.specs.declared.fields.Step.{Step}
 use Rattle.tlv.specs.declared.model.AddressRange.{AddressRange}
-use Rattle.tlv.specs.Outcome.{Outcome, refused, done, _>>=_}
+use Rattle.tlv.specs.Outcome.{refused, done, _>>=_}
 use Rattle.tlv.specs.Lists.{All, filter, isEmpty}
 use Rattle.tlv.specs.Bytes.{Bytes, leAt}
-use Rattle.tlv.specs.Buffer.{Put, top}
-use Rattle.tlv.specs.Fields.{Field, FieldList, more, fields, encode}
+use Rattle.tlv.specs.Fields.{Field, fields, encode}
 use Rattle.tlv.specs.Cursor.{stepAt}
-use Rattle.tlv.specs.Checked.{fieldIn}
 use Rattle.tlv.specs.Model.{rangeOf}
-use Rattle.tlv.specs.Output.{eachOf}
-use Rattle.tlv.specs.Reader.{recordsForm}
-use Rattle.tlv.proofs.BufferLaws.{put-length, put-whole, put-lost, put-fits, Left, left-put}
 use Rattle.tlv.proofs.CursorLaws.{field-within}
 use Rattle.tlv.proofs.ShapeLaws.{number-at, number-first}
+use Rattle.buffers.specs.Buffer.{Put}
+use Rattle.buffers.specs.Output.{eachOf}
+use Rattle.buffers.specs.Reader.{recordsForm}
+use Rattle.buffers.proofs.BufferLaws.{put-length, put-whole, put-lost, put-fits, Left, left-put}
 use Rattle.lookup.specs.declared.model.Refusal.{Refusal}
 use Rattle.lookup.specs.declared.model.Listed.{Listed}
 use Rattle.lookup.specs.declared.window.Wanted.{Wanted}
 use Rattle.lookup.specs.Tray.{FieldAt, GroupAt, fieldsAt, functionRange, functionsAt, functionsOf}
-use Rattle.lookup.specs.Window.{inside, crosses, fitting, ListAfter, listedIn, functionFields, listing, functionsInside, functionsCrossing}
+use Rattle.lookup.specs.Window.{inside, crosses, fitting, ListAfter, listedIn, functionFields, listing}
 use Rattle.lookup.specs.Means.{StandsIn}
-use Rattle.lookup.specs.Walk.{Stands, ownAt}
 use Rattle.lookup.specs.Listing.{passing, wantedBytes, LaidPart, Cleared}
 use Rattle.lookup.specs.Answers.{refusalNumber, listGiven}
 use Rattle.lookup.proofs.StepLaws.{functionsFrom, functions-end, functions-cut, functions-this, functions-next, fields-this}

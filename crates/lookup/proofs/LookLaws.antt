@@ -1,26 +1,26 @@
 -- The look-up from its parts: the form's test, the function, its row and its chain. Assumes nothing.
-use mathlib.Core.Path.{_≡_, refl, sym, ap, subst, _∙_}
-use mathlib.Core.Bool.{Bool, true, false, cond, not}
+use mathlib.Core.Path.{_≡_, sym, ap, subst, _∙_}
+use mathlib.Core.Bool.{Bool, true, false, not}
 use mathlib.Core.List.{List, []}
-use mathlib.Core.Option.{Option, none, some}
+use mathlib.Core.Option.{none}
 use Prim.Native.Nat.{ℕ, _-_, _≤_}
 use native.Mathlib.Omega.{arith}
-use lib.ListN.{length, take, drop, replicate}
+use lib.ListN.{take, drop, replicate}
 use borrow.Author.Tests.{not-true, not-false}
-use Rattle.tlv.specs.Outcome.{Outcome, refused, done, _>>=_}
+use Rattle.tlv.specs.Outcome.{refused, done, _>>=_}
 use Rattle.tlv.specs.Lists.{first}
 use Rattle.tlv.specs.Fields.{fields}
-use Rattle.tlv.specs.Reader.{recordsForm}
 use Rattle.tlv.proofs.OutcomeLaws.{refused-not}
+use Rattle.buffers.specs.Reader.{recordsForm}
 use Rattle.lookup.specs.declared.model.Refusal.{Refusal}
 use Rattle.lookup.specs.declared.model.Row.{Row}
 use Rattle.lookup.specs.declared.model.Chain.{Chain}
 use Rattle.lookup.specs.declared.model.Running.{Running}
 use Rattle.lookup.specs.declared.model.LookedUp.{LookedUp}
 use Rattle.lookup.specs.declared.address.FunctionPlace.{FunctionPlace}
-use Rattle.lookup.specs.Tray.{GroupAt, nodesAt, functionsAt, functionsOf, functionRange}
-use Rattle.lookup.specs.Lookup.{holds, rowInForce, chain, Frames, framesOf, qualifying, lookUp}
-use Rattle.lookup.specs.Walk.{Stands, StandsOwn, ownAt, FoundHere, FunctionFound, rowFrom, ChainAt, RefusedWith}
+use Rattle.lookup.specs.Tray.{nodesAt, functionsAt, functionsOf, functionRange}
+use Rattle.lookup.specs.Lookup.{holds, rowInForce, chain, framesOf, qualifying, lookUp}
+use Rattle.lookup.specs.Walk.{Stands, StandsOwn, FunctionFound, rowFrom, ChainAt, RefusedWith}
 use Rattle.lookup.specs.Answers.{refusalNumber, rowPlace, framesGiven, LooksUp}
 use Rattle.lookup.proofs.DemandLaws.{explaining}
 use Rattle.lookup.proofs.OwnLaws.{stands-own}

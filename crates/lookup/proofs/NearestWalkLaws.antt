@@ -1,12 +1,11 @@
 -- A turn of the walk for the function that ends nearest below an address. Assumes nothing.
-use mathlib.Core.Path.{_≡_, refl, sym, ap, subst, _∙_}
-use mathlib.Core.Bool.{Bool, true, false, cond, not, _&&_}
-use mathlib.Core.List.{List, [], _∷_}
+use mathlib.Core.Path.{_≡_, refl, sym, ap, _∙_}
+use mathlib.Core.Bool.{Bool, true, false, cond, not}
+use mathlib.Core.List.{List, []}
 use mathlib.Core.Option.{Option, none, some}
 use Prim.Native.Nat.{ℕ, _+_, _≤_, _<_}
 use native.Mathlib.Omega.{arith}
-use lib.Dec.{leb, ltb, eqb}
-use lib.ListN.{length, take, drop}
+use lib.Dec.{leb, ltb}
 use borrow.Author.Tests.{ltb-true, ltb-false, lt-ltb, le-ltb, le-leb, lt-leb, not-true, not-false}
 use Rattle.tlv.specs.declared.fields.Step.{Step}
 use Rattle.tlv.specs.Bytes.{leAt}
@@ -15,11 +14,11 @@ use Rattle.tlv.specs.Cursor.{stepAt}
 use Rattle.tlv.specs.Checked.{fieldIn}
 use Rattle.tlv.specs.Fields.{fields}
 use Rattle.tlv.specs.Model.{rangeOf}
-use Rattle.tlv.specs.Reader.{recordsForm}
 use Rattle.tlv.proofs.ShapeLaws.{number-at}
+use Rattle.buffers.specs.Reader.{recordsForm}
 use Rattle.lookup.specs.declared.model.Refusal.{Refusal}
 use Rattle.lookup.specs.declared.model.Nearest.{Nearest}
-use Rattle.lookup.specs.Tray.{GroupAt, functionRange, functionsAt, functionsOf}
+use Rattle.lookup.specs.Tray.{GroupAt, functionRange, functionsOf}
 use Rattle.lookup.specs.Lookup.{qualifying, laterEnd, endingBelow, nearestBelow}
 use Rattle.lookup.specs.Walk.{Stands, ownAt, NearestFound}
 use Rattle.lookup.specs.Answers.{refusalNumber, nearestGiven}

@@ -1,8 +1,8 @@
 -- A field's bytes stand at its place. Assumes nothing.
 use mathlib.Core.Path.{_≡_, refl, sym, ap, subst, _∙_}
 use mathlib.Core.Bool.{Bool, true, false, cond}
-use mathlib.Core.List.{List, [], _∷_, _++_}
-use Prim.Native.Nat.{ℕ, zero, suc, _+_, _*_, _/_, _%_, _≤_, _<_}
+use mathlib.Core.List.{List, [], _∷_}
+use Prim.Native.Nat.{ℕ, zero, suc, _+_, _/_, _%_, _≤_, _<_}
 use native.Mathlib.Omega.{arith}
 use lib.Dec.{leb}
 use lib.ListN.{length, take, drop}
@@ -10,10 +10,9 @@ use lib.Seq.{drop-drop, length-take-le}
 use borrow.Author.Tests.{leb-true}
 use Rattle.tlv.specs.Lists.{All}
 use Rattle.tlv.specs.Bytes.{Bytes, le, bytesOf}
-use Rattle.tlv.specs.Fields.{Field, FieldList, end, cut, more, fieldsFrom, fields, encode}
-use Rattle.tlv.specs.Places.{behind}
+use Rattle.tlv.specs.Fields.{cut, more, fieldsFrom, encode}
 use Rattle.tlv.proofs.ListLaws.{all-drop}
-use Rattle.lookup.specs.Tray.{FieldAt, fieldsAt}
+use Rattle.lookup.specs.Tray.{fieldsAt}
 use Rattle.lookup.specs.Means.{StandsIn, Reading}
 use Rattle.lookup.proofs.ReadLaws.{reads-functions, reads-nodes}
 

@@ -1,26 +1,26 @@
 -- The function that answers and the row in force are those of the request's words, and functions are nonempty. Assumes nothing.
-use mathlib.Core.Path.{_≡_, refl, sym, ap, subst, _∙_}
-use mathlib.Core.Bool.{Bool, true, false, cond, _&&_, not, true≢false, false≢true}
+use mathlib.Core.Path.{_≡_, refl, sym, subst, _∙_}
+use mathlib.Core.Bool.{Bool, true, false, cond, _&&_, not, true≢false}
 use mathlib.Core.List.{List, [], _∷_}
 use mathlib.Core.Option.{Option, none, some, Option·none-ne-some, Option·some-injective}
-use Prim.Native.Nat.{ℕ, zero, suc, _≤_, _<_}
+use Prim.Native.Nat.{ℕ, zero, suc, _<_}
 use native.Mathlib.Omega.{arith}
-use lib.Dec.{leb, ltb, eqb}
+use lib.Dec.{leb, eqb}
 use lib.ListN.{length}
 use borrow.Author.Tests.{leb-true, le-leb, ltb-true, lt-ltb, eqb-true, eq-eqb}
 use Rattle.tlv.specs.Addresses.{RangeHolds, Nonempty}
 use Rattle.tlv.specs.Lists.{All, at, exists, first, last, orElse, mapOption, takeWhile}
 use Rattle.tlv.specs.Bytes.{leAt}
-use Rattle.tlv.specs.Outcome.{Outcome, refused, done}
+use Rattle.tlv.specs.Outcome.{refused, done}
 use Rattle.tlv.specs.Model.{rangeOf}
 use Rattle.tlv.specs.Fields.{Field, FieldList, end, cut, more, fields}
-use Rattle.tlv.specs.Places.{behind}
-use Rattle.tlv.specs.Reader.{recordsAfter, rangeFormed, recordsFormed, depthAfter, recordsForm, lineOf}
 use Rattle.tlv.proofs.TestLaws.{and-left, and-right}
 use Rattle.tlv.proofs.OutcomeLaws.{done-is, refused-not}
+use Rattle.buffers.specs.Reader.{recordsAfter, rangeFormed, recordsFormed, depthAfter, recordsForm, lineOf}
+use Rattle.access.specs.Places.{behind}
 use Rattle.lookup.specs.Tray.{FieldAt, GroupAt, fieldsAt, hasTag, groupsAt, functionRange, functionsAt, functionsOf}
 use Rattle.lookup.specs.Lookup.{holds, rowInForce}
-use Rattle.lookup.specs.Means.{FirstHolding, HoldingIs, RowBelow, LastRow, RowIs, Filled}
+use Rattle.lookup.specs.Means.{FirstHolding, HoldingIs, RowBelow, RowIs, Filled}
 use Rattle.lookup.proofs.DemandLaws.{holds-is}
 
 -- ---- the first function that holds the address

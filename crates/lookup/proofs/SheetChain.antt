@@ -8,16 +8,16 @@ use native.Mathlib.Omega.{arith}
 use lib.ListN.{length, getD}
 use Rattle.tlv.specs.declared.model.AddressRange.{AddressRange}
 use Rattle.tlv.specs.Lists.{at}
-use Rattle.tlv.specs.Output.{InlineNode}
+use Rattle.tlv.proofs.TestLaws.{by-less}
+use Rattle.buffers.specs.Output.{InlineNode}
 use Rattle.imports.specs.Ranges.{Holds}
 use Rattle.imports.specs.Import.{rooted}
 use Rattle.imports.specs.Agree.{ParentOf, TreeEntry, entryDepth, TreeNode, treeNode, rootOf, nodeDepth, NodeOf, root, below, TreeAgrees}
 use Rattle.imports.proofs.Unique.{parent-unique}
 use Rattle.imports.proofs.NearestUnique.{nearest-same}
 use Rattle.imports.proofs.TreeUnique.{node-merged}
-use Rattle.tlv.proofs.TestLaws.{by-less}
 use Rattle.lookup.specs.Means.{depthOf, HoldsAt, FirstChild, ChainFrom, innermost, outer}
-use Rattle.lookup.specs.Sheet.{HoldsUnder, FirstUnder, EntriesUnder, no-more, one-more}
+use Rattle.lookup.specs.Sheet.{HoldsUnder, EntriesUnder, no-more, one-more}
 use Rattle.lookup.proofs.DemandLaws.{at-map, at-less, at-getD}
 
 -- a parent by depths that are the same

@@ -4,35 +4,33 @@ use mathlib.Core.Bool.{Bool, true, false, cond}
 use mathlib.Core.Logic.{_⊎_, inl, inr}
 use mathlib.Core.List.{List, [], _∷_, map, cons≢nil}
 use mathlib.Core.Option.{Option, none, some, Option·none-ne-some, Option·some-injective}
-use Prim.Native.Nat.{ℕ, zero, suc, _<_}
+use Prim.Native.Nat.{ℕ, zero, suc}
 use native.Mathlib.Omega.{arith}
 use lib.ListN.{length}
 use Rattle.tlv.specs.declared.model.AddressRange.{AddressRange}
 use Rattle.tlv.specs.Addresses.{RangeHolds}
-use Rattle.tlv.specs.Outcome.{Outcome, refused, done, _>>=_}
+use Rattle.tlv.specs.Outcome.{done, _>>=_}
 use Rattle.tlv.specs.Lists.{All, at, first, mapOption}
 use Rattle.tlv.specs.Model.{CompilationUnit, units}
 use Rattle.tlv.specs.Fields.{fields}
-use Rattle.tlv.specs.Output.{InlineNode, Function}
-use Rattle.tlv.specs.Reader.{recordsForm, readRecords, functionOf}
 use Rattle.tlv.proofs.ListLaws.{all-at, given-some, at-image, mapped}
-use Rattle.imports.specs.Ranges.{Holds}
+use Rattle.buffers.specs.Output.{InlineNode, Function}
+use Rattle.buffers.specs.Reader.{recordsForm, readRecords, functionOf}
 use Rattle.imports.specs.Import.{rooted}
 use Rattle.imports.specs.Answer.{Inputs, dwarfOf, after}
-use Rattle.imports.specs.Agree.{TreeEntry, treeEntries, treeNode, NodeOf, root, TreeAgrees}
+use Rattle.imports.specs.Agree.{TreeEntry, treeEntries, treeNode, root, TreeAgrees}
 use Rattle.imports.specs.Demand.{Subject, subjects, RecordAgrees, Pointwise, UnitFinished}
 use Rattle.imports.proofs.Demand.{demand}
 use Rattle.lookup.specs.Tray.{GroupAt, group, functionsAt, nodesAt, functionRange, node, functionsOf}
-use Rattle.lookup.specs.Lookup.{holds, rowInForce, chainFrom, chain, Frames, framesOf, qualifying, lookUp}
-use Rattle.lookup.specs.Means.{FirstHolding, HoldingIs, RowIs, HoldsAt, ChainFrom, ChainIs, unheld, from-root, PlacesIn, Chained}
+use Rattle.lookup.specs.Lookup.{holds, chainFrom, chain, Frames, framesOf, qualifying, lookUp}
+use Rattle.lookup.specs.Means.{FirstHolding, HoldingIs, RowIs, ChainIs, unheld, from-root, PlacesIn, Chained}
 use Rattle.lookup.specs.Demand.{WrittenBy}
-use Rattle.lookup.specs.Sheet.{HoldsUnder, EntriesUnder, no-more, NodesAt, ChainPlaces, bare, rooted-at, FirstSubject, Framed, Unheld, Answered}
-use Rattle.lookup.specs.Sheet.{FromSheet}
+use Rattle.lookup.specs.Sheet.{HoldsUnder, EntriesUnder, no-more, NodesAt, ChainPlaces, bare, rooted-at, Framed, Unheld, Answered, FromSheet}
 use Rattle.lookup.proofs.ReadLaws.{reads-functions, reads-nodes}
 use Rattle.lookup.proofs.DemandLaws.{at-map, pointwise-at, records-are, Asked, asked}
 use Rattle.lookup.proofs.FormLaws.{chaining}
 use Rattle.lookup.proofs.RowMeans.{function-is, row-is}
-use Rattle.lookup.proofs.SheetChain.{length-tree, Paired, Inwards, inwards}
+use Rattle.lookup.proofs.SheetChain.{Paired, Inwards, inwards}
 
 module _ {A B : Type 0} (R : A → B → Type 0) where
   pointwise-left : (xs : List A) (ys : List B) (k : ℕ) (x : A) → Pointwise R xs ys → at xs k ≡ some x → (y : B) × (at ys k ≡ some y) × R x y

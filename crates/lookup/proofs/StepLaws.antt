@@ -1,25 +1,24 @@
 -- A field of a records tray, its place and what stands behind it. Assumes nothing.
 use mathlib.Core.Path.{_≡_, sym, ap, _∙_}
-use mathlib.Core.Bool.{true, _&&_, _||_, not}
+use mathlib.Core.Bool.{true, _&&_}
 use mathlib.Core.List.{List, [], _∷_}
 use Prim.Native.Nat.{ℕ, _+_, _≤_, _<_}
 use native.Mathlib.Omega.{arith}
 use lib.Dec.{leb, ltb, eqb}
 use lib.ListN.{length, take, drop}
-use borrow.Author.Tests.{leb-true, ltb-true, eqb-true, eq-eqb, ne-eqb}
+use borrow.Author.Tests.{leb-true, ltb-true, eq-eqb, ne-eqb}
 use Rattle.tlv.specs.declared.fields.Step.{Step}
 use Rattle.tlv.specs.Lists.{exists, takeWhile}
 use Rattle.tlv.specs.Bytes.{leAt}
 use Rattle.tlv.specs.Fields.{Field, end, cut, fields}
 use Rattle.tlv.specs.Cursor.{stepAt, fieldsOf}
 use Rattle.tlv.specs.Checked.{fieldIn}
-use Rattle.tlv.specs.Places.{behind}
 use Rattle.tlv.specs.Model.{rangeOf}
-use Rattle.tlv.specs.Reader.{recordsAfter, rangeFormed, recordsFormed, depthAfter, recordsForm}
 use Rattle.tlv.proofs.TestLaws.{and-left, and-right}
 use Rattle.tlv.proofs.CursorLaws.{fields-at, fields-field, field-within, payload-within, payload-length, next-within}
 use Rattle.tlv.proofs.ShapeLaws.{part-length, number-at, number-first}
-use Rattle.tlv.specs.Output.{trayRowSize}
+use Rattle.buffers.specs.Reader.{recordsAfter, rangeFormed, recordsFormed, depthAfter, recordsForm}
+use Rattle.access.specs.Places.{behind}
 use Rattle.lookup.specs.Tray.{FieldAt, GroupAt, fieldsAt, groupsAt}
 use Rattle.lookup.specs.Lookup.{holds}
 use Rattle.lookup.specs.Walk.{Stands, ownAt}

@@ -1,6 +1,6 @@
 -- A turn of each walk over a records tray. Assumes nothing.
 use mathlib.Core.Path.{_≡_, refl, sym, _∙_}
-use mathlib.Core.Bool.{Bool, true, false, not}
+use mathlib.Core.Bool.{Bool, true, false}
 use mathlib.Core.List.{List, []}
 use mathlib.Core.Option.{Option, none, some}
 use Prim.Native.Nat.{ℕ, _≤_, _<_}
@@ -13,8 +13,8 @@ use Rattle.tlv.specs.Fields.{Field, payloads}
 use Rattle.tlv.specs.Cursor.{stepAt}
 use Rattle.tlv.specs.Checked.{fieldIn}
 use Rattle.tlv.specs.Model.{rangeOf}
-use Rattle.tlv.specs.Reader.{lineOf}
 use Rattle.tlv.proofs.ShapeLaws.{number-first}
+use Rattle.buffers.specs.Reader.{lineOf}
 use Rattle.lookup.specs.Tray.{FieldAt, GroupAt, functionsAt, functionRange}
 use Rattle.lookup.specs.Lookup.{holds}
 use Rattle.lookup.specs.Walk.{Stands, ownAt, FoundHere, isRowBelow, rowFrom, heldFrom}

@@ -1,11 +1,11 @@
 -- The tests of a window say what the request says. Assumes nothing.
 use mathlib.Core.Path.{_≡_, refl}
-use mathlib.Core.Bool.{Bool, true, false, _&&_, not, false≢true}
+use mathlib.Core.Bool.{Bool, true, false, _&&_, not}
 use mathlib.Core.Logic.{_⊎_, inl, inr, _↔_}
-use Prim.Native.Nat.{ℕ, _+_, _-_, _≤_, _<_, min, max}
+use Prim.Native.Nat.{ℕ, _-_, _≤_, _<_, min, max}
 use native.Mathlib.Omega.{arith}
 use lib.Dec.{leb, ltb}
-use borrow.Author.Tests.{leb-true, leb-false, le-leb, lt-leb, ltb-true, lt-ltb, not-true}
+use borrow.Author.Tests.{leb-true, leb-false, le-leb, ltb-true, lt-ltb, not-true}
 use Rattle.tlv.specs.declared.model.AddressRange.{AddressRange}
 use Rattle.tlv.specs.Addresses.{RangeHolds, Nonempty}
 use Rattle.tlv.proofs.TestLaws.{and-left, and-right}
@@ -29,16 +29,6 @@ module _ (w r : AddressRange) where
       go : (b : Bool) → leb (w .start) (r .start) ≡ b → (b && leb (r .end) (w .end)) ≡ false → (r .start < w .start) ⊎ (w .end < r .end)
       go true h k = inr (leb-false _ _ k)
       go false h k = inl (leb-false _ _ h)
-
-  starts-out : r .start < w .start → inside w r ≡ false
-  starts-out h = rw (lt-leb (w .start) (r .start) h)
-
-  ends-out : w .end < r .end → inside w r ≡ false
-  ends-out h = go (leb (w .start) (r .start))
-    where
-      go : (b : Bool) → (b && leb (r .end) (w .end)) ≡ false
-      go true = lt-leb (r .end) (w .end) h
-      go false = refl
 
   module _ (n : Nonempty r) where
     pub inside-law : (inside w r ≡ true) ↔ ((a : ℕ) → RangeHolds r a → RangeHolds w a)

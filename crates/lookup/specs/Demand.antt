@@ -12,9 +12,8 @@ use Rattle.tlv.specs.Addresses.{RangeHolds}
 use Rattle.tlv.specs.Outcome.{done}
 use Rattle.tlv.specs.Lists.{Any, All, at, mapOption}
 use Rattle.tlv.specs.Model.{CompilationUnit, units}
-use Rattle.tlv.specs.Output.{InlineNode, Function}
-use Rattle.tlv.specs.Reader.{functionOf}
-use Rattle.references.specs.Search.{Dwarf}
+use Rattle.buffers.specs.Output.{InlineNode}
+use Rattle.buffers.specs.Reader.{functionOf}
 use Rattle.imports.specs.Import.{rooted}
 use Rattle.imports.specs.Answer.{Inputs, dwarfOf, after}
 use Rattle.imports.specs.Agree.{TreeEntry, Kept, treeEntries, entry, treeNode, Below, TreeAgrees}

@@ -9,8 +9,8 @@ use lib.ListN.{length, take, drop}
 use Rattle.tlv.specs.Outcome.{done}
 use Rattle.tlv.specs.Lists.{All, at}
 use Rattle.tlv.specs.Model.{CompilationUnit, units}
-use Rattle.tlv.specs.Output.{InlineNode}
-use Rattle.tlv.specs.Reader.{functionOf}
+use Rattle.buffers.specs.Output.{InlineNode}
+use Rattle.buffers.specs.Reader.{functionOf}
 use Rattle.imports.specs.Import.{rooted}
 use Rattle.imports.specs.Answer.{Inputs, dwarfOf, afterDwarf}
 use Rattle.imports.specs.Agree.{treeEntries, treeNode, TreeAgrees}

@@ -10,8 +10,8 @@ use Rattle.tlv.specs.Tags.{trayFunctionTag, trayNodeTag, trayRangeTag, trayRowT
 use Rattle.tlv.specs.Lists.{All}
 use Rattle.tlv.specs.Bytes.{leAt}
 use Rattle.tlv.specs.Fields.{Field, FieldList, end, more, fields}
-use Rattle.tlv.specs.Reader.{recordsForm}
-use Rattle.tlv.specs.Output.{trayRowSize}
+use Rattle.buffers.specs.Reader.{recordsForm}
+use Rattle.buffers.specs.Output.{trayRowSize}
 
 -- ---- "fields in its order": the payloads of a tray's fields, function by function
 

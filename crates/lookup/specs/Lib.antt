@@ -9,5 +9,3 @@ pub mod Sheet
 pub mod Answers
 pub mod Walk
 pub mod Listing
-pub mod Index
-pub mod LookIn

@@ -13,8 +13,8 @@ use Rattle.tlv.specs.Outcome.{done}
 use Rattle.tlv.specs.Lists.{All, at, first}
 use Rattle.tlv.specs.Bytes.{Bytes}
 use Rattle.tlv.specs.Fields.{fields, encode}
-use Rattle.tlv.specs.Output.{InlineNode}
-use Rattle.tlv.specs.Reader.{recordsForm, lineOf, functionOf, readRecords}
+use Rattle.buffers.specs.Output.{InlineNode}
+use Rattle.buffers.specs.Reader.{recordsForm, lineOf, functionOf, readRecords}
 use Rattle.imports.specs.Ranges.{Holds}
 use Rattle.imports.specs.Agree.{ParentOf}
 use Rattle.lookup.specs.Tray.{FieldAt, GroupAt, group, fieldsAt, functionsAt, nodesAt, functionRange, node, functionsOf}

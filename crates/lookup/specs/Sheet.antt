@@ -13,8 +13,8 @@ use Rattle.tlv.specs.Addresses.{RangeHolds}
 use Rattle.tlv.specs.Outcome.{Outcome, refused, done}
 use Rattle.tlv.specs.Lists.{All, at, mapOption}
 use Rattle.tlv.specs.Model.{CompilationUnit, units}
-use Rattle.tlv.specs.Output.{InlineNode}
-use Rattle.tlv.specs.Reader.{functionOf}
+use Rattle.buffers.specs.Output.{InlineNode}
+use Rattle.buffers.specs.Reader.{functionOf}
 use Rattle.imports.specs.Ranges.{Holds}
 use Rattle.imports.specs.Import.{rooted}
 use Rattle.imports.specs.Answer.{Inputs, dwarfOf}

@@ -8,7 +8,7 @@ ghost use Rattle.tlv.specs.Tags.{trayFunctionTag, trayNodeTag, trayRangeTag};
 ghost use Rattle.tlv.specs.Lists.{exists};
 ghost use Rattle.tlv.specs.Fields.{fields};
 ghost use Rattle.tlv.specs.Checked.{fieldIn};
-ghost use Rattle.tlv.specs.Reader.{recordsAfter, rangeFormed, recordsFormed, depthAfter, recordsForm};
+ghost use Rattle.buffers.specs.Reader.{recordsAfter, rangeFormed, recordsFormed, depthAfter, recordsForm};
 use crate::model::DEEPEST;
 use crate::model::FUNCTION_SIZE;
 use crate::model::NODE_SIZE;

@@ -2,7 +2,5 @@
 pub mod address;
 pub mod below;
 pub mod form;
-pub mod index;
-pub mod lookin;
 pub mod model;
 pub mod window;

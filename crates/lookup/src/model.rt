@@ -5,7 +5,7 @@ ghost use Rattle.lookup.specs.Answers.{refusalNumber};
 // How long the payloads of a tray's fields are: a row's and a range's just so, the others' at the least, since a name or a pattern follows.
 pub const FUNCTION_SIZE: usize = 16;
 
-pub const ROW_SIZE: usize = tlv::output::TRAY_ROW as usize;
+pub const ROW_SIZE: usize = buffers::output::TRAY_ROW as usize;
 
 pub const NODE_SIZE: usize = 10;
 

@@ -2,8 +2,8 @@
 ghost use mathlib.Core.Path.{_≡_};
 ghost use Prim.Native.Nat.{_+_, _≤_, min, max};
 ghost use lib.ListN.{length, take, drop};
-ghost use Rattle.tlv.specs.Buffer.{Put};
 ghost use Rattle.tlv.specs.Model.{rangeOf};
+ghost use Rattle.buffers.specs.Buffer.{Put};
 ghost use Rattle.lookup.specs.Tray.{functionsAt};
 ghost use Rattle.lookup.specs.Window.{inside, crosses, listing, listedIn, functionsInside, functionsCrossing};
 ghost use Rattle.lookup.specs.Walk.{Stands};
@@ -81,7 +81,7 @@ fn put_part(s: &[u8], p: usize, next: usize, list: &mut [u8], at: usize) -> usiz
     requires { ⌜ next ≤ length (now s) ⌝ }
     ensures { λ r. ⌜ LaidPart (now (s .entry)) (now (list .entry)) (now (list .exit)) p next at r ⌝ }
 {
-    tlv::output::put_bytes(list, at, &s[p..next])
+    buffers::output::put_bytes(list, at, &s[p..next])
 }
 
 // The fields of the functions that are wanted, in tray order.
@@ -125,7 +125,7 @@ fn put_functions(s: &[u8], wanted: Wanted, w: AddressRange, list: &mut [u8]) -> 
 fn refused(list: &mut [u8], r: Refusal) -> Listed
     ensures { λ x. ⌜ Cleared r (now (list .entry)) (now (list .exit)) x ⌝ }
 {
-    tlv::table::clear(list);
+    buffers::table::clear(list);
     Listed::Refused(r)
 }
 

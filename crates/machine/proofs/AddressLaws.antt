@@ -6,8 +6,8 @@ use native.Mathlib.Omega.{arith}
 use lib.ListN.{length, getD, take, drop}
 use lib.Seq.{drop-cons}
 use Rattle.tlv.specs.Bytes.{le}
-use Rattle.lines.specs.declared.lines.Offset.{Offset}
-use Rattle.lines.specs.Scan.{OffsetIs}
+use Rattle.line_program.specs.declared.lines.Offset.{Offset}
+use Rattle.line_program.specs.Scan.{OffsetIs}
 
 -- the number of the bytes from one place to below another
 abbrev pub span : List ℕ → ℕ → ℕ → ℕ

@@ -13,9 +13,9 @@ use Rattle.tlv.specs.Model.{LineEncoding, LineRow}
 use Rattle.tlv.proofs.TestLaws.{by-test, and-left, and-right}
 use Rattle.tlv.proofs.ListLaws.{all-append}
 use Rattle.tlv.proofs.OutcomeLaws.{Gives, gives, gives-none, gives-cond, gives-of, gives-map, gives-bind, given}
-use Rattle.lines.specs.Standard.{Opcodes, operandsOf}
-use Rattle.lines.specs.Program.{uleb, skipOperands, takeLineBytes, sleb}
-use Rattle.lines.proofs.Operands.{operands}
+use Rattle.line_program.specs.Standard.{Opcodes, operandsOf}
+use Rattle.line_program.specs.Program.{uleb, skipOperands, takeLineBytes, sleb}
+use Rattle.line_program.proofs.Operands.{operands}
 use Rattle.machine.specs.declared.registers.Registers.{Registers}
 use Rattle.machine.specs.Machine.{Machine, initial, appendedRow, Instruction, special, copy, advancePc, advanceLine, setFile}
 use Rattle.machine.specs.Machine.{setColumn, constAddPc, fixedAdvancePc, endSequence, setAddress, other, Read, readStandard, extendedInstruction}

@@ -1,8 +1,8 @@
 -- Every corner case holds, by computing. Assumes nothing.
 use mathlib.Core.Path.{refl}
 use Rattle.tlv.specs.Outcome
-use Rattle.lines.specs.Standard
-use Rattle.lines.specs.Program
+use Rattle.line_program.specs.Standard
+use Rattle.line_program.specs.Program
 use Rattle.machine.specs.Machine
 use Rattle.machine.specs.Cases.{AllCases, BesideScan}
 

@@ -14,13 +14,13 @@ use Rattle.tlv.specs.Bytes.{le}
 use Rattle.tlv.specs.Lists.{mapOption, filter}
 use Rattle.tlv.specs.Model.{LineHeader, LineEncoding, LineRow}
 use Rattle.tlv.proofs.OutcomeLaws.{done-is, refused-not, with-done, Gives, gives, gives-of, gives-bind, given}
-use Rattle.lines.specs.Standard.{andThen, Operand, leb128, sleb128, standardOperands, Opcodes, operandsOf, afterOperand, afterOperands, Passed}
-use Rattle.lines.specs.Standard.{extendedBody, extendedOf, instruction, sequencesWithin, sequences}
-use Rattle.lines.specs.Conforms.{Beside, DeclaresStandard}
-use Rattle.lines.specs.Program.{uleb, skipOperands, placeOf, takeLineBytes, opcodesOf, programOffset, scanLineSequenceOffsets, lineSequenceOffsets, sleb}
-use Rattle.lines.proofs.Beside.{beside-none, beside-limit}
-use Rattle.lines.proofs.Instructions.{beside-uleb, beside-sleb, beside-operands}
-use Rattle.lines.proofs.Programs.{programs}
+use Rattle.line_program.specs.Standard.{andThen, Operand, leb128, sleb128, standardOperands, Opcodes, operandsOf, afterOperand, afterOperands, Passed}
+use Rattle.line_program.specs.Standard.{extendedBody, extendedOf, instruction, sequencesWithin, sequences}
+use Rattle.line_program.specs.Conforms.{Beside, DeclaresStandard}
+use Rattle.line_program.specs.Program.{uleb, skipOperands, placeOf, takeLineBytes, opcodesOf, programOffset, scanLineSequenceOffsets, lineSequenceOffsets, sleb}
+use Rattle.line_program.proofs.Beside.{beside-none, beside-limit}
+use Rattle.line_program.proofs.Instructions.{beside-uleb, beside-sleb, beside-operands}
+use Rattle.line_program.proofs.Programs.{programs}
 use Rattle.machine.specs.declared.registers.Registers.{Registers}
 use Rattle.machine.specs.Machine.{Machine, initial, Instruction, special, copy, advancePc, advanceLine, setFile, setColumn, constAddPc}
 use Rattle.machine.specs.Machine.{fixedAdvancePc, endSequence, setAddress, other, Read, readStandard, extendedInstruction, readExtendedBody}

@@ -9,14 +9,14 @@ use lib.Dec.{leb, ltb}
 use lib.ListN.{length, getD, take, drop, length-drop, drop-of-length-le}
 use Rattle.tlv.specs.Outcome.{Outcome, refused, done, _>>=_}
 use Rattle.tlv.proofs.OutcomeLaws.{done-is, refused-not}
-use Rattle.lines.specs.declared.operand.Operand.{Operand}
-use Rattle.lines.specs.declared.operand.Skipped.{Skipped}
-use Rattle.lines.specs.declared.lines.Offset.{Offset}
-use Rattle.lines.specs.Standard.{Passed}
-use Rattle.lines.specs.Scan.{Reads, over, Passes, OffsetIs}
-use Rattle.lines.specs.Program.{placeOf, takeLineBytes}
-use Rattle.lines.proofs.UlebLaws.{drop-at}
-use Rattle.lines.proofs.SkipLaws.{one-ended}
+use Rattle.line_program.specs.declared.operand.Operand.{Operand}
+use Rattle.line_program.specs.declared.operand.Skipped.{Skipped}
+use Rattle.line_program.specs.declared.lines.Offset.{Offset}
+use Rattle.line_program.specs.Standard.{Passed}
+use Rattle.line_program.specs.Scan.{Reads, over, Passes, OffsetIs}
+use Rattle.line_program.specs.Program.{placeOf, takeLineBytes}
+use Rattle.line_program.proofs.UlebLaws.{drop-at}
+use Rattle.line_program.proofs.SkipLaws.{one-ended}
 use Rattle.machine.specs.declared.registers.Encoding.{Encoding}
 use Rattle.machine.specs.declared.registers.Registers.{Registers}
 use Rattle.machine.specs.declared.registers.Moved.{Moved}

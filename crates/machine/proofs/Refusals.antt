@@ -6,7 +6,7 @@ use native.Mathlib.Omega.{arith}
 use lib.ListN.{length}
 use Rattle.tlv.specs.Model.{LineEncoding}
 use Rattle.tlv.proofs.RefusalLaws.{RefusesIn, never, refusing}
-use Rattle.lines.specs.Standard.{Opcodes}
+use Rattle.line_program.specs.Standard.{Opcodes}
 use Rattle.lines.proofs.Refusals.{refuses-uleb, refuses-sleb, refuses-operands, refuses-take}
 use Rattle.machine.specs.declared.registers.Registers.{Registers}
 use Rattle.machine.specs.Machine.{Machine, initial, Instruction, special, copy, advancePc, advanceLine, setFile, setColumn, constAddPc}

@@ -76,10 +76,6 @@ small-room l n h k =
 
 -- ---- lines
 
--- a number added modulo 2^64, and another
-wrapped-twice : (a b c : ℕ) → (((a + b) % 2 ^ 64) + c) % 2 ^ 64 ≡ (a + b + c) % 2 ^ 64
-wrapped-twice a b c = omega arith
-
 module _ (e : Encoding) (r : Registers) (adjusted up : ℕ) (is : up ≡ e .«line_base» + adjusted % e .«line_range») where
   pub special-up : e .«line_base» < 128 → record { address = r .address; file = r .file; line = (r .line + up) % 2 ^ 64; column = r .column }
       ≡ addSpecialLine (lineEncoding e) adjusted r

@@ -9,12 +9,12 @@ use Rattle.tlv.specs.Bytes.{le}
 use Rattle.tlv.specs.Outcome.{Outcome, refused, done, _>>=_}
 use Rattle.tlv.specs.Model.{LineRow}
 use Rattle.tlv.proofs.OutcomeLaws.{Gives, gives, gives-none, gives-cond, gives-of, gives-map, gives-bind}
-use Rattle.lines.specs.Standard.{OperandKind, unsigned, signed, half, Opcodes, operandsOf}
-use Rattle.lines.specs.Program.{uleb, sleb, skipOperand, skipOperands, placeOf, takeLineBytes}
-use Rattle.lines.proofs.Leb128.{shorter}
-use Rattle.lines.proofs.Operands.{operands}
-use Rattle.lines.proofs.SignedOperands.{signed-shorter, signed-operands}
-use Rattle.lines.proofs.UlebLaws.{drop-at}
+use Rattle.line_program.specs.Standard.{OperandKind, unsigned, signed, half, Opcodes, operandsOf}
+use Rattle.line_program.specs.Program.{uleb, sleb, skipOperand, skipOperands, placeOf, takeLineBytes}
+use Rattle.line_program.proofs.Leb128.{shorter}
+use Rattle.line_program.proofs.Operands.{operands}
+use Rattle.line_program.proofs.SignedOperands.{signed-shorter, signed-operands}
+use Rattle.line_program.proofs.UlebLaws.{drop-at}
 use Rattle.machine.specs.declared.registers.Encoding.{Encoding}
 use Rattle.machine.specs.declared.registers.Registers.{Registers}
 use Rattle.machine.specs.declared.steps.Stepped.{Stepped}

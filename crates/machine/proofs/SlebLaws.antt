@@ -9,10 +9,10 @@ use borrow.Author.Tests.{lt-ltb, le-ltb, le-leb, lt-leb, ne-eqb}
 use lib.Dec.{leb}
 use lib.ListN.{length, getD, drop, drop-of-length-le}
 use Rattle.tlv.specs.Outcome.{Outcome, refused, done, _>>=_}
-use Rattle.lines.specs.declared.operand.Operand.{Operand}
-use Rattle.lines.specs.Standard.{Operand as Number, SignedOperand}
-use Rattle.lines.specs.Program.{slebWithin, sleb}
-use Rattle.lines.proofs.UlebLaws.{drop-at, roomy}
+use Rattle.line_program.specs.declared.operand.Operand.{Operand}
+use Rattle.line_program.specs.Standard.{Operand as Number, SignedOperand}
+use Rattle.line_program.specs.Program.{slebWithin, sleb}
+use Rattle.line_program.proofs.UlebLaws.{drop-at, roomy}
 use Rattle.machine.specs.Steps.{signedValue, ReadsSigned}
 
 -- what is left of an operand, put after the bits v that were read, of which there is room for m values

@@ -8,14 +8,12 @@ use borrow.Author.Tests.{ne-eqb, eqb-true, eqb-false}
 use lib.Dec.{eqb}
 use lib.ListN.{length, getD, drop}
 use Rattle.tlv.specs.Outcome.{_>>=_}
-use Rattle.lines.specs.Standard.{standardOperands, operandsOf}
+use Rattle.line_program.specs.Standard.{standardOperands, operandsOf}
 use Rattle.machine.specs.declared.registers.Encoding.{Encoding}
 use Rattle.machine.specs.declared.registers.Registers.{Registers}
 use Rattle.machine.specs.declared.steps.Stepped.{Stepped}
-use Rattle.machine.specs.Machine.{advancePc, setFile, setColumn, constAddPc, readUnsigned}
-use Rattle.machine.specs.Machine.{readSigned, readHalf, readStandard, execute}
-use Rattle.machine.specs.Steps.{opcodesWith, turn, Turns, Executes}
-use Rattle.machine.specs.Steps.{readOver}
+use Rattle.machine.specs.Machine.{advancePc, setFile, setColumn, constAddPc, readUnsigned, readSigned, readHalf, readStandard, execute}
+use Rattle.machine.specs.Steps.{opcodesWith, turn, Turns, Executes, readOver}
 
 pub above : (k o : ℕ) → k ≤ o → (o ≡ k → ⊥) → suc k ≤ o
 above k o h n = omega arith

@@ -10,11 +10,11 @@ use lib.Seq.{drop-cons, drop-drop}
 use Rattle.tlv.specs.Outcome.{Outcome, refused, done, _>>=_}
 use Rattle.tlv.specs.Bytes.{le}
 use Rattle.tlv.proofs.OutcomeLaws.{done-is, refused-not}
-use Rattle.lines.specs.declared.operand.Operand.{Operand}
-use Rattle.lines.specs.declared.operand.Skipped.{Skipped}
-use Rattle.lines.specs.Standard.{Operand as Number, SignedOperand, unsigned, Passed}
-use Rattle.lines.specs.Scan.{Reads, over, Passes}
-use Rattle.lines.specs.Program.{skipOperands, sleb}
+use Rattle.line_program.specs.declared.operand.Operand.{Operand}
+use Rattle.line_program.specs.declared.operand.Skipped.{Skipped}
+use Rattle.line_program.specs.Standard.{Operand as Number, SignedOperand, unsigned, Passed}
+use Rattle.line_program.specs.Scan.{Reads, over, Passes}
+use Rattle.line_program.specs.Program.{skipOperands, sleb}
 use Rattle.machine.specs.declared.registers.Encoding.{Encoding}
 use Rattle.machine.specs.declared.registers.Registers.{Registers}
 use Rattle.machine.specs.declared.registers.Moved.{Moved}
@@ -52,14 +52,8 @@ module _ (s : List ℕ) (next : ℕ) where
 pub quiet-of : (m : Moved) (next : ℕ) (r : Registers) → m ≡ Moved.To r → Stepped.Quiet r next ≡ quietOf m next
 quiet-of m next r e = rw e
 
-pub quiet-fault : (m : Moved) (next : ℕ) → m ≡ Moved.Past → Stepped.Fault 22 ≡ quietOf m next
-quiet-fault m next e = rw e
-
 pub plain-of : (m : Moved) (next : ℕ) (r : Registers) → m ≡ Moved.To r → Stepped.Plain r next ≡ plainOf m next
 plain-of m next r e = rw e
-
-pub plain-fault : (m : Moved) (next : ℕ) → m ≡ Moved.Past → Stepped.Fault 22 ≡ plainOf m next
-plain-fault m next e = rw e
 
 -- ---- instructions without an operand of the program
 

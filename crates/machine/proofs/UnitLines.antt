@@ -12,8 +12,8 @@ use Rattle.tlv.specs.Lists.{All}
 use Rattle.tlv.specs.Model.{CompilationUnit, LineHeader, LineEncoding, LineRow}
 use Rattle.tlv.specs.Accepted.{RowAccepted, UnitAccepted}
 use Rattle.tlv.proofs.ListLaws.{all-map}
-use Rattle.tlv.proofs.OutcomeLaws.{with-done, done-is, Gives, gives, gives-of, gives-bind, given}
-use Rattle.lines.specs.Program.{opcodesOf}
+use Rattle.tlv.proofs.OutcomeLaws.{with-done, done-is, Gives, gives, gives-of, gives-bind}
+use Rattle.line_program.specs.Program.{opcodesOf}
 use Rattle.lines.specs.Files.{FileTable}
 use Rattle.lines.specs.Lines.{Collected}
 use Rattle.lines.proofs.Bounds.{TableFits, Sorted, CollectedFits}
@@ -76,10 +76,6 @@ gives-lines u program t accepted few short fits = from (u .header)
     from (some h) =
         gives-bind (rows-fit u h program accepted few short) λ rows r.
         header-fits u h program rows t accepted (r .fit) (r .few) short fits
-
-pub collect-fits : (u : CompilationUnit) (program : List ℕ) (t : FileTable) (c : Collected)
-    → UnitAccepted u → length (u .rows) < 2 ^ 64 → length program < 2 ^ 64 → TableFits t → collectLines u program t ≡ done c → CollectedFits c
-collect-fits u program t c a k l f = given (gives-lines u program t a k l f)
 
 -- whatever the unit
 pub sorted-lines : (u : CompilationUnit) (program : List ℕ) (t : FileTable) (c : Collected) → collectLines u program t ≡ done c → Sorted 0 (c .lines .entries)

@@ -9,7 +9,7 @@ use lib.Dec.{eqb}
 use Rattle.tlv.specs.Outcome.{refused, done}
 use Rattle.tlv.specs.Lists.{All}
 use Rattle.tlv.specs.Model.{LineEncoding, LineRow}
-use Rattle.lines.specs.Standard.{Opcodes}
+use Rattle.line_program.specs.Standard.{Opcodes}
 use Rattle.machine.specs.Machine.{programRows}
 
 -- as the grammar promises it of a row field (tlv, RowAccepted), and never failed

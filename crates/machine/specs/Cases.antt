@@ -7,8 +7,8 @@ use lib.ListN.{replicate}
 use Rattle.tlv.specs.Outcome.{Outcome, refused, done}
 use Rattle.tlv.specs.Lists.{All}
 use Rattle.tlv.specs.Model.{LineHeader, LineEncoding, LineRow}
-use Rattle.lines.specs.Standard.{Opcodes}
-use Rattle.lines.specs.Program.{opcodesOf, lineSequenceOffsets}
+use Rattle.line_program.specs.Standard.{Opcodes}
+use Rattle.line_program.specs.Program.{opcodesOf, lineSequenceOffsets}
 use Rattle.machine.specs.Machine.{programRows}
 
 -- minimum instruction length, operations, line base, line range

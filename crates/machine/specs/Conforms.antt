@@ -9,9 +9,9 @@ use lib.Dec.{eqb}
 use Rattle.tlv.specs.Outcome.{done, _>>=_}
 use Rattle.tlv.specs.Lists.{filter}
 use Rattle.tlv.specs.Model.{LineHeader, LineEncoding, LineRow}
-use Rattle.lines.specs.Standard.{Opcodes, Passed, instruction, sequences}
-use Rattle.lines.specs.Conforms.{DeclaresStandard, Beside}
-use Rattle.lines.specs.Program.{opcodesOf, lineSequenceOffsets}
+use Rattle.line_program.specs.Standard.{Opcodes, Passed, instruction, sequences}
+use Rattle.line_program.specs.Conforms.{DeclaresStandard, Beside}
+use Rattle.line_program.specs.Program.{opcodesOf, lineSequenceOffsets}
 use Rattle.machine.specs.Machine.{Instruction, special, copy, advancePc, advanceLine, setFile, setColumn, constAddPc, fixedAdvancePc, endSequence}
 use Rattle.machine.specs.Machine.{setAddress, other, Machine, Read, readInstruction, programRows}
 

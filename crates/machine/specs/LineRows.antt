@@ -5,7 +5,7 @@ use mathlib.Core.Option.{Option, none, some}
 use lib.ListN.{length}
 use Rattle.tlv.specs.Outcome.{Outcome, done, _>>=_}
 use Rattle.tlv.specs.Model.{CompilationUnit, LineHeader, LineEncoding, LineRow}
-use Rattle.lines.specs.Program.{opcodesOf}
+use Rattle.line_program.specs.Program.{opcodesOf}
 use Rattle.lines.specs.Files.{FileTable}
 use Rattle.lines.specs.Lines.{Collected, noLines, collectHeader}
 use Rattle.machine.specs.Machine.{programRows}

@@ -8,8 +8,8 @@ use lib.Dec.{leb, ltb, eqb}
 use Rattle.tlv.specs.Outcome.{Outcome, refused, done, _>>=_}
 use Rattle.tlv.specs.Bytes.{le}
 use Rattle.tlv.specs.Model.{LineEncoding, LineRow}
-use Rattle.lines.specs.Standard.{Opcodes, operandsOf}
-use Rattle.lines.specs.Program.{uleb, skipOperands, takeLineBytes, sleb}
+use Rattle.line_program.specs.Standard.{Opcodes, operandsOf}
+use Rattle.line_program.specs.Program.{uleb, skipOperands, takeLineBytes, sleb}
 use Rattle.machine.specs.declared.registers.Registers.{Registers}
 
 -- what stays the same while a program of `whole` bytes runs

@@ -6,10 +6,10 @@ use lib.ListN.{length, getD, take, drop, replicate}
 use Rattle.tlv.specs.Bytes.{le}
 use Rattle.tlv.specs.Outcome.{Outcome, refused, done, _>>=_}
 use Rattle.tlv.specs.Model.{LineEncoding, LineRow}
-use Rattle.lines.specs.declared.operand.Operand.{Operand}
-use Rattle.lines.specs.Standard.{SignedOperand, unsigned, Opcodes}
-use Rattle.lines.specs.Scan.{operandOf, OperandWithin}
-use Rattle.lines.specs.Program.{skipOperands, sleb}
+use Rattle.line_program.specs.declared.operand.Operand.{Operand}
+use Rattle.line_program.specs.Standard.{SignedOperand, unsigned, Opcodes}
+use Rattle.line_program.specs.Scan.{operandOf, OperandWithin}
+use Rattle.line_program.specs.Program.{skipOperands, sleb}
 use Rattle.machine.specs.declared.registers.Encoding.{Encoding}
 use Rattle.machine.specs.declared.registers.Registers.{Registers}
 use Rattle.machine.specs.declared.registers.Moved.{Moved}

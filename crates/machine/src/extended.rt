@@ -10,11 +10,11 @@ use crate::registers::Registers;
 use crate::registers::move_to;
 use crate::steps::Stepped;
 use crate::steps::quiet;
-use lines::lines::Offset;
-use lines::operand::Operand;
-use lines::operand::Skipped;
-use lines::operand::read_line_uleb;
-use lines::operand::take_line_bytes;
+use line_program::lines::Offset;
+use line_program::operand::Operand;
+use line_program::operand::Skipped;
+use line_program::operand::read_line_uleb;
+use line_program::operand::take_line_bytes;
 
 // DW_LNE_set_address, whose operand stands from one place to below another.
 fn step_set_address(program: &[u8], e: Encoding, r: Registers, from: usize, next: usize) -> Stepped

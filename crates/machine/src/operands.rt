@@ -5,11 +5,11 @@ ghost use Prim.Native.Nat.{_+_, _*_, _-_, _%_, _^_, _≤_, _<_};
 ghost use lib.Dec.{leb};
 ghost use lib.ListN.{length, take, drop};
 ghost use Rattle.tlv.specs.Bytes.{le};
-ghost use Rattle.lines.specs.Scan.{OffsetIs};
+ghost use Rattle.line_program.specs.Scan.{OffsetIs};
 ghost use Rattle.machine.specs.Steps.{ReadsSigned};
 use crate::registers::wide;
-use lines::lines::Offset;
-use lines::operand::Operand;
+use line_program::lines::Offset;
+use line_program::operand::Operand;
 
 // 2^64 - 1.
 const LAST: u64 = 18446744073709551615;

@@ -2,8 +2,7 @@
 ghost use mathlib.Core.Path.{_≡_};
 ghost use Prim.Native.Nat.{_-_, _≤_, _<_};
 ghost use lib.ListN.{length, drop};
-ghost use Rattle.machine.specs.Machine.{special, advancePc, setFile, setColumn, constAddPc};
-ghost use Rattle.machine.specs.Machine.{readUnsigned, readSigned, readHalf, readStandard};
+ghost use Rattle.machine.specs.Machine.{special, advancePc, setFile, setColumn, constAddPc, readUnsigned, readSigned, readHalf, readStandard};
 ghost use Rattle.machine.specs.Steps.{opcodesWith, quietOf, plainOf, Executes, readOver, Turns};
 use crate::operands::read_line_sleb;
 use crate::registers::Encoding;
@@ -16,11 +15,11 @@ use crate::registers::advance;
 use crate::registers::advance_special;
 use crate::registers::move_by;
 use crate::registers::wide;
-use lines::lines::operand_count;
-use lines::operand::Operand;
-use lines::operand::Skipped;
-use lines::operand::read_line_uleb;
-use lines::operand::skip_operands;
+use line_program::lines::operand_count;
+use line_program::operand::Operand;
+use line_program::operand::Skipped;
+use line_program::operand::read_line_uleb;
+use line_program::operand::skip_operands;
 
 // The last special opcode: const_add_pc advances the address as it does.
 const LAST_OPCODE: u8 = 255;

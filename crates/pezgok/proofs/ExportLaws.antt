@@ -1,14 +1,13 @@
--- The answer of an import as numbers, and the numbers that are no refusal's. Assumes nothing.
+-- The answer of an import as numbers. Assumes nothing.
 use mathlib.Core.Path.{_≡_, sym, subst, ap, _∙_}
 use mathlib.Core.List.{List, [], _∷_}
-use Prim.Native.Nat.{ℕ, suc, _≤_, _<_}
-use native.Mathlib.Omega.{arith}
+use Prim.Native.Nat.{ℕ}
 use Rattle.imports.specs.Answer.{Inputs, Answer}
 use Rattle.imports.specs.Demand.{UnitFinished, DwarfFinished}
 use Rattle.subprograms.specs.declared.model.ConversionStats.{ConversionStats}
 use Rattle.dwarf.specs.declared.model.Imported.{Imported}
 use Rattle.dwarf.specs.Answers.{answerGiven, left, ImportsUnit, ImportsDwarf, MeasuresUnit, MeasuresDwarf}
-use Rattle.pezgok.specs.Exported.{answerIn, leftIn, Exports, ExportsDwarf, ExportsMeasure, ExportsMeasureDwarf, refusalWord}
+use Rattle.pezgok.specs.Exported.{answerIn, leftIn, Exports, ExportsDwarf, ExportsMeasure, ExportsMeasureDwarf}
 
 -- ---- the answer as numbers
 
@@ -37,24 +36,3 @@ module _ {x : Imported} where
 
     pub exports-measure-dwarf : MeasuresDwarf i w x → ExportsMeasureDwarf i w vs n
     exports-measure-dwarf M = record { is = ap (λ (a : Answer). record { answer = a; work = w }) (sym e) ∙ M .is }
-
--- ---- numbers that are no refusal's
-
--- a number from a on that is not a is above it
-pub above : (a n : ℕ) → a ≤ n → (n ≡ a → ⊥) → suc a ≤ n
-above a n h k = omega arith
-
--- a number up to a that is not a is below it
-pub below : (a n : ℕ) → n < suc a → (n ≡ a → ⊥) → n < a
-below a n h k = omega arith
-
-pub no-word-below : (n : ℕ) → n < 1 → refusalWord n ≡ []
-unfolding refusalWord
-no-word-below n h = rw (the-zero n h)
-  where
-    the-zero : (n : ℕ) → n < 1 → n ≡ 0
-    the-zero n h = omega arith
-
--- there is no number from a on that is below a
-pub no-word-between : (a n : ℕ) → a ≤ n → n < a → refusalWord n ≡ []
-no-word-between a n h k = absurd (omega arith)

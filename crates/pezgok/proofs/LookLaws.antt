@@ -1,11 +1,10 @@
 -- The answers of the look-ups as numbers. Assumes nothing.
-use mathlib.Core.Path.{_≡_, refl, sym, ap, subst, _∙_}
+use mathlib.Core.Path.{_≡_, refl, sym, ap, _∙_}
 use mathlib.Core.Bool.{Bool, false}
 use mathlib.Core.List.{List, [], _∷_}
 use Prim.Native.Nat.{ℕ}
 use native.Mathlib.Omega.{arith}
-use lib.ListN.{getD, drop, replicate}
-use Rattle.tlv.specs.Outcome.{Outcome, refused, done}
+use Rattle.tlv.specs.Outcome.{Outcome, refused}
 use Rattle.lookup.specs.declared.model.Refusal.{Refusal}
 use Rattle.lookup.specs.declared.model.Row.{Row}
 use Rattle.lookup.specs.declared.model.Chain.{Chain}
@@ -14,10 +13,9 @@ use Rattle.lookup.specs.declared.model.LookedUp.{LookedUp}
 use Rattle.lookup.specs.declared.model.Nearest.{Nearest}
 use Rattle.lookup.specs.declared.model.Listed.{Listed}
 use Rattle.lookup.specs.declared.model.Indexed.{Indexed}
-use Rattle.lookup.specs.Lookup.{Frames, lookUp, nearestBelow}
 use Rattle.lookup.specs.Window.{ListAfter}
 use Rattle.lookup.specs.Answers.{refusalNumber, framesGiven, LooksUp, nearestGiven, listGiven}
-use Rattle.lookup.specs.LookIn.{LooksUpIn}
+use Rattle.look_index.specs.LookIn.{LooksUpIn}
 use Rattle.pezgok.specs.Looked.{ToldIndex, ExportsLookUpIn, framesIn, nodesOf, ToldFrames, ExportsLookUp, nearestIn, listIn, ToldList}
 
 -- ---- frames
@@ -68,9 +66,6 @@ nearest-refused x q n e en = rw (e, en) (go q)
     go Refusal.ShortList = refl
     go Refusal.MisshapenRecords = refl
     go Refusal.NoFunction = refl
-
-pub nearest-at : (x : Nearest) (p : ℕ) → x ≡ Nearest.At p → nearestGiven x ≡ nearestIn 0 p
-nearest-at x p e = rw e
 
 pub nearest-told : (x : Nearest) (r place : ℕ) (o : Outcome ℕ) → nearestGiven x ≡ nearestIn r place → nearestGiven x ≡ o → nearestIn r place ≡ o
 nearest-told x r place o e h = sym e ∙ h

@@ -18,8 +18,8 @@ use Rattle.lookup.specs.Lookup.{Frames, lookUp}
 use Rattle.lookup.specs.Window.{ListAfter}
 use Rattle.lookup.specs.Demand.{WrittenBy, Explained}
 use Rattle.lookup.specs.Answers.{refusalNumber, framesGiven, listGiven}
-use Rattle.lookup.specs.Index.{IndexOf, MakesIndex}
-use Rattle.lookup.specs.LookIn.{LooksUpIn}
+use Rattle.look_index.specs.Index.{IndexOf, MakesIndex}
+use Rattle.look_index.specs.LookIn.{LooksUpIn}
 
 -- the row, where the first number says that there is one
 abbrev pub rowIn : ℕ → ℕ → Option ℕ

@@ -34,7 +34,7 @@ pub extern "C" fn pezgok_make_index(
 ) -> u8
     ensures { λ r. ⌜ ExportsIndex (now (records .entry)) (now (index .entry)) (now (index .exit)) (now (functions .exit)) (now (rising .exit)) r ⌝ }
 {
-    let answer = lookup::index::make_index(records, index);
+    let answer = look_index::index::make_index(records, index);
     tell_index(answer, functions, rising)
 }
 
@@ -51,6 +51,6 @@ pub extern "C" fn pezgok_look_up_in(
 ) -> u8
     ensures { λ r. ⌜ ExportsLookUpIn (now (records .entry)) (now (index .entry)) functions rising address (now (found .exit)) (now (chain .exit)) r ⌝ }
 {
-    let answer = lookup::lookin::look_up_in(records, index, functions, rising, address);
+    let answer = look_index::lookin::look_up_in(records, index, functions, rising, address);
     tell_frames(answer, found, chain)
 }

@@ -1,8 +1,4 @@
 // Symbols joined to a records tray, for callers from C and Rust.
-ghost use mathlib.Core.Path.{_≡_};
-ghost use Prim.Native.Nat.{_≤_};
-ghost use Rattle.tlv.specs.Buffer.{Put};
-ghost use Rattle.pezgok.specs.Exported.{refusalWord};
 ghost use Rattle.pezgok.specs.Joined.{ToldJoined, ExportsJoin};
 use symbols::model::Joined;
 
@@ -36,16 +32,4 @@ pub extern "C" fn pezgok_join_symbols(
 {
     let answer = symbols::join::join_symbols_with(records, list, result, work);
     tell_joined(answer, length)
-}
-
-// The words for 26 and 27.
-pub fn join_name(refusal: u8, name: &mut [u8]) -> usize
-    requires { ⌜ 26 ≤ refusal ⌝ }
-    ensures { λ r. ⌜ Put 0 (refusalWord refusal) (now (name .entry)) (now (name .exit)) r ⌝ }
-{
-    match refusal {
-        26 => tlv::output::put_bytes(name, 0, b"misshapen symbol"),
-        27 => tlv::output::put_bytes(name, 0, b"short result"),
-        _ => 0,
-    }
 }

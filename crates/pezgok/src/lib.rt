@@ -1,11 +1,11 @@
 // The import for callers from C and Rust: include/pezgok.h declares these functions.
 ghost use mathlib.Core.Path.{_≡_};
 ghost use mathlib.Core.List.{[]};
-ghost use Prim.Native.Nat.{_≤_, _<_};
-ghost use Rattle.tlv.specs.Buffer.{Put};
+ghost use Rattle.buffers.specs.Buffer.{Put};
 ghost use Rattle.dwarf.specs.Runs.{inputsOf};
 ghost use Rattle.dwarf.specs.Answers.{answerGiven};
-ghost use Rattle.pezgok.specs.Exported.{answerIn, Exports, ExportsMeasure, refusalWord};
+ghost use Rattle.words.specs.Words.{refusalWord};
+ghost use Rattle.pezgok.specs.Exported.{answerIn, Exports, ExportsMeasure};
 use dwarf::model::Imported;
 
 pub mod index;
@@ -126,81 +126,5 @@ pub extern "C" fn pezgok_measure<'a>(
 pub extern "C" fn pezgok_refusal_name(refusal: u8, name: &mut [u8]) -> usize
     ensures { λ r. ⌜ Put 0 (refusalWord refusal) (now (name .entry)) (now (name .exit)) r ⌝ }
 {
-    if refusal < 10 {
-        return early_name(refusal, name);
-    }
-    if refusal < 19 {
-        return late_name(refusal, name);
-    }
-    if refusal < 21 {
-        return look::look_name(refusal, name);
-    }
-    if refusal < 23 {
-        return line_name(refusal, name);
-    }
-    if refusal < 26 {
-        return list_name(refusal, name);
-    }
-    joins::join_name(refusal, name)
-}
-
-fn early_name(refusal: u8, name: &mut [u8]) -> usize
-    requires { ⌜ refusal < 10 ⌝ }
-    ensures { λ r. ⌜ Put 0 (refusalWord refusal) (now (name .entry)) (now (name .exit)) r ⌝ }
-{
-    match refusal {
-        1 => tlv::output::put_bytes(name, 0, b"oversize"),
-        2 => tlv::output::put_bytes(name, 0, b"misshapen"),
-        3 => tlv::output::put_bytes(name, 0, b"past limit"),
-        4 => tlv::output::put_bytes(name, 0, b"no unit"),
-        5 => tlv::output::put_bytes(name, 0, b"short work"),
-        6 => tlv::output::put_bytes(name, 0, b"decoder"),
-        7 => tlv::output::put_bytes(name, 0, b"cut"),
-        8 => tlv::output::put_bytes(name, 0, b"cut extended"),
-        9 => tlv::output::put_bytes(name, 0, b"zero extended"),
-        _ => 0,
-    }
-}
-
-fn late_name(refusal: u8, name: &mut [u8]) -> usize
-    requires { ⌜ (10 ≤ refusal) × (refusal < 19) ⌝ }
-    ensures { λ r. ⌜ Put 0 (refusalWord refusal) (now (name .entry)) (now (name .exit)) r ⌝ }
-{
-    match refusal {
-        10 => tlv::output::put_bytes(name, 0, b"overflowing"),
-        11 => tlv::output::put_bytes(name, 0, b"overlong"),
-        12 => tlv::output::put_bytes(name, 0, b"overflow"),
-        13 => tlv::output::put_bytes(name, 0, b"no entry"),
-        14 => tlv::output::put_bytes(name, 0, b"too deep"),
-        15 => tlv::output::put_bytes(name, 0, b"files full"),
-        16 => tlv::output::put_bytes(name, 0, b"short tray"),
-        17 => tlv::output::put_bytes(name, 0, b"short tray"),
-        18 => tlv::output::put_bytes(name, 0, b"short tray"),
-        _ => 0,
-    }
-}
-
-// Document 02's refusals of a line program (E8).
-fn line_name(refusal: u8, name: &mut [u8]) -> usize
-    requires { ⌜ (21 ≤ refusal) × (refusal < 23) ⌝ }
-    ensures { λ r. ⌜ Put 0 (refusalWord refusal) (now (name .entry)) (now (name .exit)) r ⌝ }
-{
-    match refusal {
-        21 => tlv::output::put_bytes(name, 0, b"line encoding"),
-        22 => tlv::output::put_bytes(name, 0, b"line address"),
-        _ => 0,
-    }
-}
-
-// Document 02's refusals of a range list (E9).
-fn list_name(refusal: u8, name: &mut [u8]) -> usize
-    requires { ⌜ (23 ≤ refusal) × (refusal < 26) ⌝ }
-    ensures { λ r. ⌜ Put 0 (refusalWord refusal) (now (name .entry)) (now (name .exit)) r ⌝ }
-{
-    match refusal {
-        23 => tlv::output::put_bytes(name, 0, b"cut list"),
-        24 => tlv::output::put_bytes(name, 0, b"no address"),
-        25 => tlv::output::put_bytes(name, 0, b"wide address"),
-        _ => 0,
-    }
+    words::put_word(refusal, name)
 }

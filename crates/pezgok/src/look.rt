@@ -1,11 +1,8 @@
 // The look-ups for callers from C and Rust.
 ghost use mathlib.Core.Path.{_≡_};
-ghost use Prim.Native.Nat.{_≤_, _<_};
-ghost use Rattle.tlv.specs.Buffer.{Put};
 ghost use Rattle.lookup.specs.Lookup.{nearestBelow};
 ghost use Rattle.lookup.specs.Window.{functionsInside, functionsCrossing};
 ghost use Rattle.lookup.specs.Answers.{nearestGiven};
-ghost use Rattle.pezgok.specs.Exported.{refusalWord};
 ghost use Rattle.pezgok.specs.Looked.{ToldFrames, ExportsLookUp, nearestIn, ToldList, listIn};
 use lookup::model::Listed;
 use lookup::model::LookedUp;
@@ -126,16 +123,4 @@ pub extern "C" fn pezgok_functions_crossing(
 {
     let answer = lookup::window::functions_crossing(records, start, end, list);
     tell_list(answer, length)
-}
-
-// The words for 19 and 20.
-pub fn look_name(refusal: u8, name: &mut [u8]) -> usize
-    requires { ⌜ (19 ≤ refusal) × (refusal < 21) ⌝ }
-    ensures { λ r. ⌜ Put 0 (refusalWord refusal) (now (name .entry)) (now (name .exit)) r ⌝ }
-{
-    match refusal {
-        19 => tlv::output::put_bytes(name, 0, b"misshapen records"),
-        20 => tlv::output::put_bytes(name, 0, b"no function"),
-        _ => 0,
-    }
 }

@@ -13,11 +13,11 @@ use borrow.Author.Tests.{eq-eqb, eqb-true, eqb-false, ltb-true}
 use Rattle.tlv.specs.declared.model.DebugSource.{DebugSource}
 use Rattle.tlv.specs.Lists.{exists}
 use Rattle.tlv.specs.Bytes.{leAt}
-use Rattle.tlv.specs.Table.{chunk, Kept, Clear, KeptBut, Wrote, Zeroed}
-use Rattle.tlv.proofs.TableLaws.{le-or-lt, kept-refl, kept-trans, kept-wide, leAt-kept, but-one, leAt-but}
-use Rattle.tlv.proofs.ChunkLaws.{leAt-chunk}
-use Rattle.tlv.proofs.ZeroLaws.{zeroed-chunk, leAt-zeros}
-use Rattle.tlv.proofs.IndexModel.{either}
+use Rattle.buffers.specs.Table.{chunk, Kept, Clear, KeptBut, Wrote, Zeroed}
+use Rattle.buffers.proofs.TableLaws.{le-or-lt, kept-refl, kept-trans, kept-wide, leAt-kept, but-one, leAt-but}
+use Rattle.buffers.proofs.ChunkLaws.{leAt-chunk}
+use Rattle.buffers.proofs.ZeroLaws.{zeroed-chunk, leAt-zeros}
+use Rattle.access.proofs.IndexModel.{either}
 use Rattle.files.proofs.GrownLaws.{clear-part}
 use Rattle.references.specs.declared.tables.Tables.{Tables}
 use Rattle.references.specs.Search.{sameKey}

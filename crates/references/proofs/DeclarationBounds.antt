@@ -8,11 +8,11 @@ use Rattle.tlv.specs.declared.model.FileIndex.{FileIndex}
 use Rattle.tlv.specs.declared.model.LineEntry.{LineEntry}
 use Rattle.tlv.specs.Lists.{All, isNone}
 use Rattle.tlv.specs.Model.{CompilationUnit, Entry, LineHeader}
-use Rattle.tlv.specs.Output.{Warning, WarningKind, about, invalidDeclarationFile, invalidDeclarationLine}
 use Rattle.tlv.specs.Accepted.{Given, EntryAccepted, UnitAccepted}
-use Rattle.tlv.specs.Fits.{WarningFits}
 use Rattle.tlv.proofs.ListLaws.{all-append}
 use Rattle.tlv.proofs.OutcomeLaws.{Gives, gives, gives-cond, gives-bind}
+use Rattle.buffers.specs.Output.{Warning, WarningKind, about, invalidDeclarationFile, invalidDeclarationLine}
+use Rattle.buffers.specs.Fits.{WarningFits}
 use Rattle.lines.specs.Files.{FileTable, FileIndices, get}
 use Rattle.lines.proofs.Bounds.{TableFits, IndexFits, IndicesFit, IndexedFits}
 use Rattle.lines.proofs.FileBounds.{intern-header-fits, get-fits}

@@ -7,7 +7,7 @@ use lib.Dec.{eqb}
 use lib.ListN.{length, length-append, length-map}
 use Rattle.tlv.specs.Fields.{fields, wholeFields, Group, grouped, payloads}
 use Rattle.tlv.specs.Model.{CompilationUnit, Attribute, attributeOf, entryOf, unitOf, units}
-use Rattle.tlv.proofs.IndexModel.{either}
+use Rattle.access.proofs.IndexModel.{either}
 use Rattle.files.proofs.FewLaws.{amount, countOf, amountIn, grouped-few}
 use Rattle.references.specs.Search.{DieKey}
 use Rattle.references.specs.Keys.{mainKeys, supplementaryKeys, entryKeys, unitKeys, possibleKeys}

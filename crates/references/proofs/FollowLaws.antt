@@ -11,18 +11,18 @@ use Rattle.tlv.specs.Lists.{Any, exists}
 use Rattle.tlv.specs.Bytes.{leAt}
 use Rattle.tlv.specs.Fields.{fields}
 use Rattle.tlv.specs.Model.{units}
-use Rattle.tlv.specs.Places.{unitHere, entryHere, unitPlaces}
 use Rattle.tlv.specs.Checked.{Placed}
-use Rattle.tlv.specs.Table.{Kept}
-use Rattle.tlv.specs.Index.{indexedOf}
-use Rattle.tlv.specs.Units.{unitOf24}
 use Rattle.tlv.proofs.ListLaws.{any-one}
-use Rattle.tlv.proofs.TableLaws.{kept-wide}
-use Rattle.tlv.proofs.RecordLaws.{records-kept}
 use Rattle.tlv.proofs.CursorLaws.{field-within}
 use Rattle.tlv.proofs.PlaceFacts.{placed-start}
 use Rattle.tlv.proofs.PlacePromises.{placed-unit}
-use Rattle.tlv.proofs.UnitFacts.{UnitAt, all-unit-places, unit-offset}
+use Rattle.buffers.specs.Table.{Kept}
+use Rattle.buffers.proofs.TableLaws.{kept-wide}
+use Rattle.buffers.proofs.RecordLaws.{records-kept}
+use Rattle.access.specs.Places.{unitHere, entryHere, unitPlaces}
+use Rattle.access.specs.Index.{indexedOf}
+use Rattle.access.specs.Units.{unitOf24}
+use Rattle.access.proofs.UnitFacts.{UnitAt, all-unit-places, unit-offset}
 use Rattle.files.specs.Pieces.{sourceIn}
 use Rattle.references.specs.declared.tables.Index.{Index}
 use Rattle.references.specs.declared.tables.Tables.{Tables}

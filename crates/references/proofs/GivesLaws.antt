@@ -12,9 +12,9 @@ use Rattle.tlv.specs.declared.model.DebugSource.{DebugSource}
 use Rattle.tlv.specs.Outcome.{Outcome, refused, done, _>>=_}
 use Rattle.tlv.specs.Lists.{exists, isEmpty}
 use Rattle.tlv.specs.Model.{CompilationUnit, units}
-use Rattle.tlv.specs.Table.{Kept}
-use Rattle.tlv.proofs.IndexModel.{either}
-use Rattle.tlv.proofs.TableLaws.{kept-refl, kept-trans}
+use Rattle.buffers.specs.Table.{Kept}
+use Rattle.buffers.proofs.TableLaws.{kept-refl, kept-trans}
+use Rattle.access.proofs.IndexModel.{either}
 use Rattle.files.specs.Pieces.{sourceIn}
 use Rattle.references.specs.declared.tables.Tables.{Tables}
 use Rattle.references.specs.declared.tables.Target.{Target}

@@ -16,13 +16,13 @@ use Rattle.tlv.specs.Bytes.{leAt}
 use Rattle.tlv.specs.Fields.{fields}
 use Rattle.tlv.specs.Checked.{Accepts}
 use Rattle.tlv.specs.Model.{CompilationUnit, Entry, Attribute, units}
-use Rattle.tlv.specs.Places.{entryHere, unitHere, unitPlaces}
-use Rattle.tlv.specs.Table.{chunk, Kept, Wrote}
 use Rattle.tlv.proofs.TestLaws.{by-test}
 use Rattle.tlv.proofs.ListLaws.{all-map}
-use Rattle.tlv.proofs.TableLaws.{kept-trans, kept-wide, leAt-kept, but-one}
-use Rattle.tlv.proofs.UnitPlaceLaws.{units-places}
-use Rattle.tlv.proofs.IndexModel.{either}
+use Rattle.buffers.specs.Table.{chunk, Kept, Wrote}
+use Rattle.buffers.proofs.TableLaws.{kept-trans, kept-wide, leAt-kept, but-one}
+use Rattle.access.specs.Places.{entryHere, unitHere, unitPlaces}
+use Rattle.access.proofs.UnitPlaceLaws.{units-places}
+use Rattle.access.proofs.IndexModel.{either}
 use Rattle.references.specs.declared.attributes.Reference.{Reference}
 use Rattle.references.specs.declared.tables.Tables.{Tables}
 use Rattle.references.specs.Search.{DebugSource as Source, DieKey, mainSource, supplementarySource, sameSource, sameKey, attribute}

@@ -16,12 +16,4 @@ pub mod FollowLaws
 pub mod WayLaws
 pub mod GivesLaws
 pub mod NameLaws
-pub mod DeclareFrames
-pub mod DeclareLaws
-pub mod OwnLineLaws
-pub mod OwnDeclarationLaws
-pub mod JoinLaws
-pub mod AimLaws
-pub mod ResolveLaws
-pub mod ReferencedLaws
 pub mod SectionLaws

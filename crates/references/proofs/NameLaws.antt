@@ -10,9 +10,9 @@ use borrow.Author.Tests.{eq-eqb, ne-eqb}
 use Rattle.tlv.specs.Outcome.{Outcome, done, _>>=_}
 use Rattle.tlv.specs.Lists.{isEmpty}
 use Rattle.tlv.specs.Model.{CompilationUnit, Entry, Attribute}
-use Rattle.tlv.specs.Places.{unitHere, entryHere}
-use Rattle.tlv.specs.Table.{Kept}
-use Rattle.tlv.proofs.TableLaws.{kept-refl, kept-trans}
+use Rattle.buffers.specs.Table.{Kept}
+use Rattle.buffers.proofs.TableLaws.{kept-refl, kept-trans}
+use Rattle.access.specs.Places.{unitHere, entryHere}
 use Rattle.files.specs.Pieces.{sourceIn}
 use Rattle.references.specs.declared.tables.Tables.{Tables}
 use Rattle.references.specs.declared.ways.EntryAt.{EntryAt}

@@ -7,13 +7,13 @@ use Prim.Native.Nat.{ℕ, _+_}
 use native.Mathlib.Omega.{arith}
 use lib.Dec.{eqb}
 use lib.ListN.{drop}
-use Rattle.tlv.specs.declared.access.Value.{Value}
 use Rattle.tlv.specs.Lists.{first}
 use Rattle.tlv.specs.Fields.{fields, payloads}
 use Rattle.tlv.specs.Model.{Attribute, attributeOf}
 use Rattle.tlv.specs.Checked.{Placed}
-use Rattle.tlv.specs.Places.{ownFields, entryHere}
-use Rattle.tlv.specs.Access.{Meaning, absent, unsigned, fileNumber, text, unitReference, sectionReference, supplementaryReference, sectionOffset, lineOffset, address, failed, isNamed, valueOf, meaningOf, meant, Says}
+use Rattle.access.specs.declared.access.Value.{Value}
+use Rattle.access.specs.Places.{ownFields, entryHere}
+use Rattle.access.specs.Access.{Meaning, absent, unsigned, fileNumber, text, unitReference, sectionReference, supplementaryReference, sectionOffset, lineOffset, address, failed, isNamed, valueOf, meaningOf, meant, Says}
 use Rattle.references.specs.declared.attributes.Number.{Number}
 use Rattle.references.specs.Search.{attribute, numberIf, unsignedAttribute, fileIndexAttribute}
 use Rattle.references.specs.Tables.{EntryKnown, numberGiven, fileNumberIn, lineNumberIn}

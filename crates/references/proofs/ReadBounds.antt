@@ -12,16 +12,15 @@ use Rattle.tlv.specs.Lists.{isNone, isEmpty}
 use Rattle.tlv.specs.Model.{CompilationUnit, Entry}
 use Rattle.tlv.specs.Fields.{fields}
 use Rattle.tlv.specs.Checked.{Accepts}
-use Rattle.tlv.specs.Places.{unitHere, entryHere, unitPlaces}
-use Rattle.tlv.specs.Output.{WarningKind, invalidDeclarationFile, invalidDeclarationLine}
 use Rattle.tlv.proofs.OutcomeLaws.{Gives, gives, gives-none, gives-cond, gives-bind}
-use Rattle.tlv.proofs.UnitPlaceLaws.{units-places}
-use Rattle.lines.specs.Files.{FileIndices, get}
 use Rattle.tlv.specs.declared.model.FileIndex.{FileIndex}
+use Rattle.buffers.specs.Output.{WarningKind, invalidDeclarationFile, invalidDeclarationLine}
+use Rattle.access.specs.Places.{unitHere, entryHere, unitPlaces}
+use Rattle.access.proofs.UnitPlaceLaws.{units-places}
+use Rattle.lines.specs.Files.{FileIndices, get}
 use Rattle.references.specs.Search.{Dwarf, unitsIn, Place, Trail, emptyTrail, absoluteEntryOffset, Target, nothing, sameUnit, byOffset, originAttributes}
-use Rattle.references.specs.Search.{chainLimit, nameAttributes, ownName, placeIn}
+use Rattle.references.specs.Search.{chainLimit, nameAttributes, ownName, placeIn, fileIndexAttribute, unitFiles}
 use Rattle.references.specs.Search.{Declaring, withTrail, withTable, warnDeclaration, declarationOf, declarationFrom, ownDeclaration, unsignedAttribute}
-use Rattle.references.specs.Search.{fileIndexAttribute, unitFiles}
 use Rattle.references.specs.Reads.{Counted, after, goOn, CountedNames, countedNameAt, countedReferencedName, countedName, countedReferenceName}
 use Rattle.references.specs.Reads.{CountedDeclarations, countedDeclarationAt, countedReferencedDeclaration, countedDeclaration, nameReads}
 use Rattle.references.specs.Reads.{referenceNameReads, declarationReads, referenceAttributes, ReadsWithin, ReadsBounded, Bounded}

@@ -7,7 +7,7 @@ use mathlib.Core.Option.{none, some}
 use Rattle.tlv.specs.Outcome.{refused, _>>=_}
 use Rattle.tlv.specs.Lists.{first, exists, filter}
 use Rattle.tlv.specs.Model.{CompilationUnit, Entry, Attribute, LineHeader}
-use Rattle.lines.specs.Paths.{fileEntry}
+use Rattle.paths.specs.Paths.{fileEntry}
 use Rattle.lines.specs.Files.{FileTable, internFile, internHeaderFiles, internFiles}
 use Rattle.references.specs.Search.{Dwarf, emptyTrail, unitsIn, isVisited, attribute, absoluteEntryOffset, entryAt, unitContaining, followAbsolute}
 use Rattle.references.specs.Search.{followUnit, follow, ownName, placeIn, ownDeclaration, unsignedAttribute, fileIndexAttribute}

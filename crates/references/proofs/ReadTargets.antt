@@ -14,7 +14,7 @@ use Rattle.tlv.specs.Lists.{Any, All, filter, first}
 use Rattle.tlv.specs.Accepted.{Given}
 use Rattle.tlv.specs.Model.{CompilationUnit, Entry, Attribute}
 use Rattle.tlv.proofs.OutcomeLaws.{Gives, gives, gives-none, gives-cond, gives-bind}
-use Rattle.tlv.proofs.IndexModel.{either}
+use Rattle.access.proofs.IndexModel.{either}
 use Rattle.references.specs.Search.{Dwarf, DebugSource, mainSource, supplementarySource, unitsIn, Place, DieKey, Trail, isVisited, visit, visitEntry}
 use Rattle.references.specs.Search.{attribute, absoluteEntryOffset, orNoEntry, entryAt, unitContaining, Target, nothing, sameUnit, byOffset, Followed}
 use Rattle.references.specs.Search.{followIn, followAbsolute, followUnit, followSupplementary, follow}

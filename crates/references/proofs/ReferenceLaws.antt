@@ -10,7 +10,6 @@ use lib.ListN.{length, take, drop}
 use borrow.Author.Tests.{eq-eqb, ne-eqb, eqb-true, eqb-false}
 use Rattle.tlv.specs.declared.fields.Step.{Step}
 use Rattle.tlv.specs.declared.grammar.Context.{Context}
-use Rattle.tlv.specs.declared.access.Value.{Value}
 use Rattle.tlv.specs.Outcome.{Outcome, refused, done}
 use Rattle.tlv.specs.Lists.{All, first}
 use Rattle.tlv.specs.Bytes.{leAt}
@@ -19,16 +18,17 @@ use Rattle.tlv.specs.Grammar.{shaped, limited, next, checkFrom}
 use Rattle.tlv.specs.Model.{Attribute, attributeOf}
 use Rattle.tlv.specs.Cursor.{stepAt, fieldsOf}
 use Rattle.tlv.specs.Checked.{fieldIn, Placed}
-use Rattle.tlv.specs.Places.{ownFields, entryHere, behind, IndexedEntry, entryIndex}
-use Rattle.tlv.specs.Access.{Meaning, absent, unsigned, fileNumber, text, unitReference, sectionReference, supplementaryReference, sectionOffset, lineOffset, address, failed, isNamed, valueOf, meaningOf, meant, Says}
 use Rattle.tlv.proofs.ListLaws.{any-one}
 use Rattle.tlv.proofs.CursorLaws.{fields-at, fields-field, field-within, row-ind}
 use Rattle.tlv.proofs.AcceptedGroups.{passed-both}
 use Rattle.tlv.proofs.PlaceFacts.{placed-next}
 use Rattle.tlv.proofs.PlacePromises.{placed-entry}
-use Rattle.tlv.proofs.EntryPlaceLaws.{entry-says}
-use Rattle.tlv.proofs.IndexLaws.{index-unit, index-entry, index-other}
-use Rattle.tlv.proofs.IndexModel.{either}
+use Rattle.access.specs.declared.access.Value.{Value}
+use Rattle.access.specs.Places.{ownFields, entryHere, behind, IndexedEntry, entryIndex}
+use Rattle.access.specs.Access.{Meaning, absent, unsigned, fileNumber, text, unitReference, sectionReference, supplementaryReference, sectionOffset, lineOffset, address, failed, isNamed, valueOf, meaningOf, meant, Says}
+use Rattle.access.proofs.EntryPlaceLaws.{entry-says}
+use Rattle.access.proofs.IndexLaws.{index-unit, index-entry, index-other}
+use Rattle.access.proofs.IndexModel.{either}
 use Rattle.references.specs.declared.attributes.Reference.{Reference}
 use Rattle.references.specs.Search.{attribute, ifEmpty, nameFrom, ownName}
 use Rattle.references.specs.Tables.{EntryKnown, referenceOf, referenceIn, nameThen, NameRead, bytesGiven}

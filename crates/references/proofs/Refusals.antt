@@ -7,8 +7,8 @@ use Rattle.tlv.specs.declared.model.FileIndex.{FileIndex}
 use Rattle.tlv.specs.Outcome.{Outcome}
 use Rattle.tlv.specs.Lists.{first}
 use Rattle.tlv.specs.Model.{CompilationUnit, Entry, Attribute, LineHeader}
-use Rattle.tlv.specs.Output.{Warning, WarningKind}
 use Rattle.tlv.proofs.RefusalLaws.{RefusesIn, never, refuses-wider, refusing}
+use Rattle.buffers.specs.Output.{Warning, WarningKind}
 use Rattle.lines.specs.Files.{FileTable, FileIndices, get}
 use Rattle.lines.proofs.Refusals.{refuses-header-files}
 use Rattle.references.specs.Search.{Dwarf, DebugSource, mainSource, supplementarySource, Place, DieKey, Trail, attribute, unsignedAttribute, fileIndexAttribute, absoluteEntryOffset, orNoEntry, entryAt, Target, nothing, sameUnit, byOffset, followIn, followAbsolute, followUnit, followSupplementary, follow}

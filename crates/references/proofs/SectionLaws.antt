@@ -1,16 +1,15 @@
 -- Searches do not look at the sections that range lists are read from. Assumes nothing.
-use mathlib.Core.Path.{_≡_, refl, ap, _∙_}
+use mathlib.Core.Path.{_≡_, refl}
 use mathlib.Core.Bool.{cond}
 use mathlib.Core.List.{List, [], _∷_}
 use mathlib.Core.Option.{Option, none, some}
 use Prim.Native.Nat.{ℕ, zero, suc, _-_}
-use lib.Dec.{eqb}
-use Rattle.tlv.specs.Outcome.{Outcome, refused, done, _>>=_}
+use Rattle.tlv.specs.Outcome.{done, _>>=_}
 use Rattle.tlv.specs.Lists.{isEmpty, isNone}
 use Rattle.tlv.specs.Model.{CompilationUnit, Entry, Attribute}
-use Rattle.tlv.specs.Output.{Warning}
+use Rattle.buffers.specs.Output.{Warning}
 use Rattle.lines.specs.Files.{FileTable, FileIndices}
-use Rattle.references.specs.Search.{Dwarf, DebugSource, mainSource, supplementarySource, unitsIn, Place, Trail, Target, Followed, followAbsolute, followSupplementary, follow, originAttributes, chainLimit, attribute, ownName, nameAttributes, Named, NameSearch, nameAtTarget, referencedName, resolveNameInner, placeIn, emptyTrail, resolveNamed, resolveName, resolveReferenceName, Declaring, DeclarationSearch, declarationAtTarget, withTrail, referencedDeclaration, ownDeclaration, resolveDeclaration, resolveDeclarationLine}
+use Rattle.references.specs.Search.{Dwarf, DebugSource, mainSource, supplementarySource, unitsIn, Place, Trail, followAbsolute, followSupplementary, follow, originAttributes, chainLimit, attribute, ownName, nameAttributes, NameSearch, nameAtTarget, referencedName, resolveNameInner, placeIn, emptyTrail, resolveNamed, resolveName, resolveReferenceName, Declaring, DeclarationSearch, declarationAtTarget, withTrail, referencedDeclaration, ownDeclaration, resolveDeclaration, resolveDeclarationLine}
 
 -- the same units with other sections
 abbrev pub withSections : List ℕ → List ℕ → Dwarf → Dwarf

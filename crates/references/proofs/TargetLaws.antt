@@ -9,24 +9,24 @@ use native.Mathlib.Omega.{arith}
 use lib.Dec.{eqb, leb, ltb}
 use lib.ListN.{length}
 use borrow.Author.Tests.{eq-eqb, ne-eqb, leb-true}
-use Rattle.tlv.specs.declared.access.Place.{Place}
-use Rattle.tlv.specs.declared.index.Found.{Found}
 use Rattle.tlv.specs.Lists.{Any, first, mapOption}
 use Rattle.tlv.specs.Fields.{fields}
 use Rattle.tlv.specs.Checked.{Accepts}
 use Rattle.tlv.specs.Model.{units}
-use Rattle.tlv.specs.Places.{unitHere, entryHere, unitPlaces, IndexedEntry, entryIndex}
-use Rattle.tlv.specs.Access.{placeOf}
-use Rattle.tlv.specs.Table.{records}
-use Rattle.tlv.specs.Index.{indexedOf, RisingFrom, Rising, lookup, foundOf, entryIn}
-use Rattle.tlv.specs.Units.{indexedUnit, unitOf24, within, containing}
 use Rattle.tlv.proofs.TestLaws.{by-test, and-left}
-use Rattle.tlv.proofs.IndexOrder.{index-rising}
-use Rattle.tlv.proofs.IndexLaws.{table-rising}
-use Rattle.tlv.proofs.IndexModel.{index-finds}
-use Rattle.tlv.proofs.IndexPlaces.{found-placed, found-entry, answer-at, answer-missing}
-use Rattle.tlv.proofs.ContainingLaws.{containing-places, units-containing}
-use Rattle.tlv.proofs.UnitsOrder.{entry-containing}
+use Rattle.buffers.specs.Table.{records}
+use Rattle.access.specs.declared.access.Place.{Place}
+use Rattle.access.specs.declared.index.Found.{Found}
+use Rattle.access.specs.Places.{unitHere, entryHere, unitPlaces, IndexedEntry, entryIndex}
+use Rattle.access.specs.Access.{placeOf}
+use Rattle.access.specs.Index.{indexedOf, RisingFrom, Rising, lookup, foundOf, entryIn}
+use Rattle.access.specs.Units.{indexedUnit, unitOf24, within, containing}
+use Rattle.access.proofs.IndexOrder.{index-rising}
+use Rattle.access.proofs.IndexLaws.{table-rising}
+use Rattle.access.proofs.IndexModel.{index-finds}
+use Rattle.access.proofs.IndexPlaces.{found-placed, found-entry, answer-at, answer-missing}
+use Rattle.access.proofs.ContainingLaws.{containing-places, units-containing}
+use Rattle.access.proofs.UnitsOrder.{entry-containing}
 use Rattle.references.specs.declared.tables.Index.{Index}
 use Rattle.references.specs.declared.tables.Target.{Target}
 use Rattle.references.specs.Search.{orNoEntry, entryAt, unitContaining}

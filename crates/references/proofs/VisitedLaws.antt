@@ -9,8 +9,8 @@ use borrow.Author.Tests.{eq-eqb, ne-eqb}
 use Rattle.tlv.specs.declared.model.DebugSource.{DebugSource}
 use Rattle.tlv.specs.Lists.{exists}
 use Rattle.tlv.specs.Bytes.{leAt}
-use Rattle.tlv.specs.Table.{chunk}
-use Rattle.tlv.proofs.ChunkLaws.{leAt-chunk, leAt-front}
+use Rattle.buffers.specs.Table.{chunk}
+use Rattle.buffers.proofs.ChunkLaws.{leAt-chunk, leAt-front}
 use Rattle.references.specs.Search.{DieKey, mainSource, supplementarySource, sameSource, sameKey}
 use Rattle.references.specs.Keys.{keyOf, keysAt, keyIn}
 

@@ -17,11 +17,11 @@ use Rattle.tlv.specs.Lists.{Any, exists}
 use Rattle.tlv.specs.Bytes.{leAt}
 use Rattle.tlv.specs.Fields.{fields}
 use Rattle.tlv.specs.Model.{CompilationUnit, Attribute, units}
-use Rattle.tlv.specs.Places.{unitHere, entryHere, unitPlaces}
-use Rattle.tlv.specs.Units.{indexedUnit, unitOf24}
-use Rattle.tlv.proofs.IndexModel.{either}
-use Rattle.tlv.proofs.RecordLaws.{records-length}
-use Rattle.tlv.proofs.UnitPlaceLaws.{units-places}
+use Rattle.buffers.proofs.RecordLaws.{records-length}
+use Rattle.access.specs.Places.{unitHere, entryHere, unitPlaces}
+use Rattle.access.specs.Units.{indexedUnit, unitOf24}
+use Rattle.access.proofs.IndexModel.{either}
+use Rattle.access.proofs.UnitPlaceLaws.{units-places}
 use Rattle.files.specs.Pieces.{sourceIn}
 use Rattle.references.specs.declared.tables.Tables.{Tables}
 use Rattle.references.specs.declared.tables.Target.{Target}

@@ -8,8 +8,8 @@ use lib.ListN.{length}
 use Rattle.tlv.specs.declared.model.DebugSource.{DebugSource}
 use Rattle.tlv.specs.Lists.{Any, All, exists}
 use Rattle.tlv.specs.Bytes.{leAt}
-use Rattle.tlv.specs.Table.{chunk, Kept}
 use Rattle.tlv.specs.Model.{CompilationUnit, Entry, Attribute, units}
+use Rattle.buffers.specs.Table.{chunk, Kept}
 use Rattle.references.specs.declared.tables.Tables.{Tables}
 use Rattle.references.specs.Search.{DieKey, sameKey, mainSource, supplementarySource}
 
@@ -17,10 +17,17 @@ use Rattle.references.specs.Search.{DieKey, sameKey, mainSource, supplem
 unfoldable pub keyOf : List ℕ → DieKey
 keyOf b = record { source = cond (eqb (leAt 1 b 0) 0) mainSource supplementarySource; offset = leAt 8 b 1 }
 
--- the n keys at base, the newest first: records of 13 bytes, the key 9, a link 4
+-- bytes of a record, the key 9, a link 4; and of the head of a chain
+abbrev pub keyRecord : ℕ
+keyRecord = 13
+
+abbrev pub chainHead : ℕ
+chainHead = 4
+
+-- the n keys at base, the newest first
 unfoldable pub keysAt : List ℕ → ℕ → ℕ → List DieKey
 keysAt w base zero = []
-keysAt w base (suc n) = keyOf (chunk w (base + n * 13) 9) ∷ keysAt w base n
+keysAt w base (suc n) = keyOf (chunk w (base + n * keyRecord) 9) ∷ keysAt w base n
 
 abbrev pub keyIn : DebugSource → ℕ → DieKey
 keyIn DebugSource.Main o = record { source = mainSource; offset = o }
@@ -38,7 +45,7 @@ chainCount x = x .main .«entry_count» + x .supplementary .«entry_count» + 1
 
 -- where the records stand
 abbrev pub keysFrom : Tables → ℕ
-keysFrom x = x .keys + chainCount x * 4
+keysFrom x = x .keys + chainCount x * chainHead
 
 -- the chain of an offset, of m
 unfoldable pub chainOf : ℕ → ℕ → ℕ
@@ -55,30 +62,30 @@ headOf m c (k ∷ ks) = cond (eqb (chainOf m (k .offset)) c) (suc (length ks)) (
 
 -- the offset of key i
 abbrev pub offsetAt : List ℕ → Tables → ℕ → ℕ
-offsetAt w x i = keyOf (chunk w (keysFrom x + i * 13) 9) .offset
+offsetAt w x i = keyOf (chunk w (keysFrom x + i * keyRecord) 9) .offset
 
 -- each chain has all keys of its own among the n, the newest first
 pub record Chained (w : List ℕ) (x : Tables) (n : ℕ) : Type 0 where
-  pub heads : (c : ℕ) → c < chainCount x → leAt 4 w (x .keys + c * 4) ≡ headOf (chainCount x) c (keysAt w (keysFrom x) n)
-  pub links : (i : ℕ) → i < n → leAt 4 w (keysFrom x + i * 13 + 9)
+  pub heads : (c : ℕ) → c < chainCount x → leAt 4 w (x .keys + c * chainHead) ≡ headOf (chainCount x) c (keysAt w (keysFrom x) n)
+  pub links : (i : ℕ) → i < n → leAt 4 w (keysFrom x + i * keyRecord + 9)
       ≡ headOf (chainCount x) (chainOf (chainCount x) (offsetAt w x i)) (keysAt w (keysFrom x) i)
 
 -- n keys stand in w, with room for m more
 pub record TrailIn (w : List ℕ) (x : Tables) (n m : ℕ) : Type 0 where
-  pub room : keysFrom x + n * 13 + m * 13 ≤ length w
+  pub room : keysFrom x + n * keyRecord + m * keyRecord ≤ length w
   pub chained : many n ≡ true → Chained w x n
 
 -- the first n keys are in chains now
 pub record Chains (w w′ : List ℕ) (x : Tables) (n : ℕ) : Type 0 where
   pub chained : Chained w′ x n
   pub keys : (i : ℕ) → keysAt w′ (keysFrom x) i ≡ keysAt w (keysFrom x) i
-  pub rest : Kept w w′ (x .keys) (chainCount x * 4 + n * 13)
+  pub rest : Kept w w′ (x .keys) (chainCount x * chainHead + n * keyRecord)
 
 -- a key was written behind n others
 pub record Pushed (w w′ : List ℕ) (x : Tables) (n : ℕ) (k : DieKey) : Type 0 where
   pub keys : keysAt w′ (keysFrom x) (n + 1) ≡ k ∷ keysAt w (keysFrom x) n
   pub chained : many (n + 1) ≡ true → Chained w′ x (n + 1)
-  pub rest : Kept w w′ (x .keys) (chainCount x * 4 + (n + 1) * 13)
+  pub rest : Kept w w′ (x .keys) (chainCount x * chainHead + (n + 1) * keyRecord)
 
 -- ---- how many can there be: each comes from a reference attribute of an entry
 
@@ -122,7 +129,7 @@ Distinct (k ∷ ks) = (exists (sameKey k) ks ≡ false) × Distinct ks
 
 -- how many bytes the heads and all keys that can come take
 abbrev pub keysExtent : List ℕ → List ℕ → Tables → ℕ
-keysExtent main supplementary x = chainCount x * 4 + 13 * length (possibleKeys main supplementary)
+keysExtent main supplementary x = chainCount x * chainHead + keyRecord * length (possibleKeys main supplementary)
 
 -- the n keys are different and possible ones, and there is room for all that can come
 pub record KeysIn (main supplementary w : List ℕ) (x : Tables) (n : ℕ) : Type 0 where

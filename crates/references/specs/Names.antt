@@ -9,9 +9,11 @@ use lib.ListN.{length}
 use Rattle.tlv.specs.declared.model.DebugSource.{DebugSource}
 use Rattle.tlv.specs.Outcome.{Outcome, refused, done}
 use Rattle.tlv.specs.Lists.{exists, isEmpty}
-use Rattle.tlv.specs.Table.{Kept}
 use Rattle.tlv.specs.Model.{CompilationUnit, Entry, Attribute, units}
-use Rattle.tlv.specs.Places.{entryHere, unitHere}
+use Rattle.buffers.specs.Table.{Kept}
+use Rattle.access.specs.Places.{entryHere, unitHere}
+use Rattle.access.specs.Units.{unitRecord}
+use Rattle.access.specs.Index.{entryRecord}
 use Rattle.files.specs.Pieces.{sourceIn}
 use Rattle.references.specs.declared.tables.Index.{Index}
 use Rattle.references.specs.declared.tables.Tables.{Tables}
@@ -75,10 +77,10 @@ pub record SearchIn (main supplementary w : List ℕ) (x : Tables) (n : ℕ) : T
   pub main-index : IndexIn main w (x .main)
   pub supplementary-index : IndexIn supplementary w (x .supplementary)
   pub keys : KeysIn main supplementary w x n
-  pub main-units : x .main .units + 24 * x .main .«unit_count» ≤ x .keys
-  pub main-entries : x .main .entries + 16 * x .main .«entry_count» ≤ x .keys
-  pub supplementary-units : x .supplementary .units + 24 * x .supplementary .«unit_count» ≤ x .keys
-  pub supplementary-entries : x .supplementary .entries + 16 * x .supplementary .«entry_count» ≤ x .keys
+  pub main-units : x .main .units + unitRecord * x .main .«unit_count» ≤ x .keys
+  pub main-entries : x .main .entries + entryRecord * x .main .«entry_count» ≤ x .keys
+  pub supplementary-units : x .supplementary .units + unitRecord * x .supplementary .«unit_count» ≤ x .keys
+  pub supplementary-entries : x .supplementary .entries + entryRecord * x .supplementary .«entry_count» ≤ x .keys
 
 -- ---- how a search goes on from a reference; f follows it
 

@@ -9,7 +9,7 @@ use lib.ListN.{length}
 use Rattle.tlv.specs.Outcome.{Outcome, refused, done, _>>=_}
 use Rattle.tlv.specs.Lists.{Any, filter, isNone, isEmpty}
 use Rattle.tlv.specs.Model.{CompilationUnit, Entry, Attribute}
-use Rattle.tlv.specs.Output.{Warning}
+use Rattle.buffers.specs.Output.{Warning}
 use Rattle.lines.specs.Files.{FileTable, FileIndices}
 use Rattle.references.specs.Search.{Dwarf, Place, Trail, emptyTrail, attribute, Target}
 use Rattle.references.specs.Search.{nothing, sameUnit, byOffset, follow, originAttributes, chainLimit}

@@ -10,7 +10,7 @@ use Rattle.tlv.specs.declared.model.LineEntry.{LineEntry}
 use Rattle.tlv.specs.Outcome.{Outcome, refused, done, _>>=_}
 use Rattle.tlv.specs.Lists.{first, exists, isNone, isEmpty}
 use Rattle.tlv.specs.Model.{CompilationUnit, Entry, Attribute, LineHeader}
-use Rattle.tlv.specs.Output.{Warning, WarningKind, about, invalidDeclarationFile, invalidDeclarationLine}
+use Rattle.buffers.specs.Output.{Warning, WarningKind, about, invalidDeclarationFile, invalidDeclarationLine}
 use Rattle.lines.specs.Files.{FileTable, FileIndices, Indexed, internHeaderFiles, get}
 
 -- ---- where a search looks

@@ -6,16 +6,16 @@ use mathlib.Core.List.{List, map}
 use mathlib.Core.Option.{Option, none, some}
 use lib.Dec.{eqb}
 use lib.ListN.{length}
-use Rattle.tlv.specs.declared.access.Value.{Value}
 use Rattle.tlv.specs.Outcome.{Outcome, refused, done}
 use Rattle.tlv.specs.Lists.{Any}
 use Rattle.tlv.specs.Fields.{fields}
 use Rattle.tlv.specs.Checked.{Accepts}
-use Rattle.tlv.specs.Table.{records}
 use Rattle.tlv.specs.Model.{Attribute, units}
-use Rattle.tlv.specs.Places.{IndexedEntry, entryIndex, entryHere, unitHere, unitPlaces}
-use Rattle.tlv.specs.Index.{indexedOf}
-use Rattle.tlv.specs.Units.{indexedUnit, unitOf24}
+use Rattle.buffers.specs.Table.{records}
+use Rattle.access.specs.declared.access.Value.{Value}
+use Rattle.access.specs.Places.{IndexedEntry, entryIndex, entryHere, unitHere, unitPlaces}
+use Rattle.access.specs.Index.{indexedOf, entryRecord}
+use Rattle.access.specs.Units.{indexedUnit, unitOf24, unitRecord}
 use Rattle.references.specs.declared.tables.Index.{Index}
 use Rattle.references.specs.declared.tables.Target.{Target}
 use Rattle.references.specs.declared.attributes.Reference.{Reference}
@@ -28,8 +28,8 @@ pub record IndexIn (s w : List ℕ) (x : Index) : Type 0 where
   pub accepted : Accepts s number
   pub units : records unitOf24 24 w (x .units) (x .«unit_count») ≡ map (indexedUnit s) (unitPlaces 0 (fields s))
   pub entries : records indexedOf 16 w (x .entries) (x .«entry_count») ≡ entryIndex 0 0 0 (fields s)
-  pub units-within : x .units + 24 * x .«unit_count» ≤ length w
-  pub entries-within : x .entries + 16 * x .«entry_count» ≤ length w
+  pub units-within : x .units + unitRecord * x .«unit_count» ≤ length w
+  pub entries-within : x .entries + entryRecord * x .«entry_count» ≤ length w
 
 -- the entry at place p of the unit at place q
 pub record EntryKnown (s : List ℕ) (q p : ℕ) : Type 0 where

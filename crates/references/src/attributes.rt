@@ -1,11 +1,11 @@
 // What is read of an entry: its references, its numbers, and its own name.
 ghost use mathlib.Core.Path.{_≡_};
 ghost use Rattle.tlv.specs.Checked.{Placed};
-ghost use Rattle.tlv.specs.Places.{entryHere};
+ghost use Rattle.access.specs.Places.{entryHere};
 ghost use Rattle.references.specs.Search.{attribute, unsignedAttribute, fileIndexAttribute};
 ghost use Rattle.references.specs.Tables.{EntryKnown, referenceOf, referenceIn, numberGiven, fileNumberIn, lineNumberIn, NameRead, OwnNamed};
-use tlv::access::Value;
-use tlv::access::attribute;
+use access::access::Value;
+use access::access::attribute;
 use tlv::constants::DW_AT_LINKAGE_NAME;
 use tlv::constants::DW_AT_MIPS_LINKAGE_NAME;
 use tlv::constants::DW_AT_NAME;

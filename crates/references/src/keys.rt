@@ -4,18 +4,24 @@ ghost use mathlib.Core.Bool.{true};
 ghost use Prim.Native.Nat.{_+_, _*_, _≤_, _<_};
 ghost use lib.ListN.{length};
 ghost use Rattle.tlv.specs.Lists.{exists};
-ghost use Rattle.tlv.specs.Table.{chunk};
+ghost use Rattle.buffers.specs.Table.{chunk};
 ghost use Rattle.references.specs.Search.{sameKey};
 ghost use Rattle.references.specs.Keys.{keyOf, keysAt, keyIn, sourceByte, chainCount, keysFrom, chainOf, many, Chained, TrailIn, Chains, Pushed};
+ghost use Rattle.references.specs.Keys.{keyRecord};
 use crate::tables::Tables;
+use buffers::table::fill_zero;
+use buffers::table::set_u8;
+use buffers::table::set_u32;
+use buffers::table::set_u64;
 use tlv::bytes::read_u8;
 use tlv::bytes::read_u32;
 use tlv::bytes::read_u64;
 use tlv::model::DebugSource;
-use tlv::table::fill_zero;
-use tlv::table::set_u8;
-use tlv::table::set_u32;
-use tlv::table::set_u64;
+
+// Bytes of a record, and of the head of a chain.
+const KEY_RECORD: usize = 13;
+
+const CHAIN_HEAD: usize = 4;
 
 // Whether the key at place p is a target.
 fn is_key(work: &[u8], p: usize, source: DebugSource, offset: u64) -> bool
@@ -75,18 +81,18 @@ fn keys_from(x: Tables) -> usize
     requires { ⌜ keysFrom x < 18446744073709551616 ⌝ }
     ensures { λ r. ⌜ r ≡ keysFrom x ⌝ }
 {
-    x.keys + chain_count(x) * 4
+    x.keys + chain_count(x) * CHAIN_HEAD
 }
 
 // Whether a target is among the n at base, by a look at each.
 fn is_scanned(work: &[u8], base: usize, n: usize, source: DebugSource, offset: u64) -> bool
-    requires { ⌜ base + n * 13 ≤ length (now work) ⌝ }
+    requires { ⌜ base + n * keyRecord ≤ length (now work) ⌝ }
     ensures { λ r. ⌜ r ≡ exists (sameKey (keyIn source offset)) (keysAt (now (work .entry)) base n) ⌝ }
 {
     let mut i = n;
     while 0 < i {
         i -= 1;
-        if is_key(work, base + i * 13, source, offset) {
+        if is_key(work, base + i * KEY_RECORD, source, offset) {
             return true;
         }
     }
@@ -102,9 +108,9 @@ pub fn is_visited(work: &[u8], x: Tables, n: usize, source: DebugSource, offset:
         return is_scanned(work, keys_from(x), n, source, offset);
     }
     let c = chain_of(chain_count(x), offset);
-    let mut k = read_u32(work, x.keys + c * 4) as usize;
+    let mut k = read_u32(work, x.keys + c * CHAIN_HEAD) as usize;
     while k != 0 {
-        let p = keys_from(x) + (k - 1) * 13;
+        let p = keys_from(x) + (k - 1) * KEY_RECORD;
         if is_key(work, p, source, offset) {
             return true;
         }
@@ -115,15 +121,15 @@ pub fn is_visited(work: &[u8], x: Tables, n: usize, source: DebugSource, offset:
 
 // Makes target i the first of its chain, where the older ones are in chains.
 fn chain_key(work: &mut [u8], x: Tables, i: usize)
-    requires { ⌜ keysFrom x + i * 13 + 13 ≤ length (now work) ⌝ }
+    requires { ⌜ keysFrom x + i * keyRecord + keyRecord ≤ length (now work) ⌝ }
     requires { ⌜ i + 1 < 4294967296 ⌝ }
     requires { ⌜ Chained (now work) x i ⌝ }
     ensures { λ _. ⌜ Chains (now (work .entry)) (now (work .exit)) x (i + 1) ⌝ }
 {
     let chains = chain_count(x);
-    let p = keys_from(x) + i * 13;
+    let p = keys_from(x) + i * KEY_RECORD;
     let c = chain_of(chains, read_u64(work, p + 1));
-    let head = x.keys + c * 4;
+    let head = x.keys + c * CHAIN_HEAD;
     let link = read_u32(work, head);
     set_u32(work, p + 9, link);
     set_u32(work, head, (i + 1) as u32);
@@ -131,7 +137,7 @@ fn chain_key(work: &mut [u8], x: Tables, i: usize)
 
 // Makes chains of the first n targets.
 fn chain_keys(work: &mut [u8], x: Tables, n: usize)
-    requires { ⌜ keysFrom x + n * 13 ≤ length (now work) ⌝ }
+    requires { ⌜ keysFrom x + n * keyRecord ≤ length (now work) ⌝ }
     requires { ⌜ n < 4294967296 ⌝ }
     ensures { λ _. ⌜ Chains (now (work .entry)) (now (work .exit)) x n ⌝ }
 {
@@ -149,7 +155,7 @@ pub fn push_key(work: &mut [u8], x: Tables, n: usize, source: DebugSource, offse
     requires { ⌜ TrailIn (now work) x n 1 ⌝ }
     ensures { λ _. ⌜ Pushed (now (work .entry)) (now (work .exit)) x n (keyIn source offset) ⌝ }
 {
-    let p = keys_from(x) + n * 13;
+    let p = keys_from(x) + n * KEY_RECORD;
     set_u8(work, p, source_byte(source));
     set_u64(work, p + 1, offset);
     if !is_many(n + 1) {

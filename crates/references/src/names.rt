@@ -1,7 +1,7 @@
 // Names by reference: the entry search calls the absolute-reference search and back, and 64 minus the depth falls.
 ghost use mathlib.Core.Path.{_≡_};
 ghost use Prim.Native.Nat.{_+_, _-_, _≤_, _<_};
-ghost use Rattle.tlv.specs.Places.{entryHere, unitHere};
+ghost use Rattle.access.specs.Places.{entryHere, unitHere};
 ghost use Rattle.references.specs.Search.{resolveName};
 ghost use Rattle.references.specs.Reads.{countedName, nameReads, ReadsWithin};
 ghost use Rattle.references.specs.Tables.{EntryKnown};

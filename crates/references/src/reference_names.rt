@@ -1,12 +1,11 @@
 // The name that an entry's attribute refers to.
 ghost use mathlib.Core.Path.{_≡_};
 ghost use Prim.Native.Nat.{_-_, _<_};
-ghost use Rattle.tlv.specs.Places.{entryHere, unitHere};
+ghost use Rattle.access.specs.Places.{entryHere, unitHere};
 ghost use Rattle.references.specs.Search.{attribute};
 ghost use Rattle.references.specs.Reads.{referenceNameReads, ReadsWithin};
 ghost use Rattle.references.specs.Tables.{EntryKnown};
-ghost use Rattle.references.specs.Names.{dwarfOf, SearchIn};
-ghost use Rattle.references.specs.Names.{referenceName, Resolved};
+ghost use Rattle.references.specs.Names.{dwarfOf, SearchIn, referenceName, Resolved};
 use crate::keys::push_key;
 use crate::names::resolve_absolute_name;
 use crate::names::resolve_name_inner;

@@ -3,12 +3,12 @@ ghost use mathlib.Core.Path.{_≡_};
 ghost use Prim.Native.Nat.{_+_};
 ghost use Rattle.tlv.specs.Lists.{Any};
 ghost use Rattle.tlv.specs.Fields.{fields};
-ghost use Rattle.tlv.specs.Places.{unitHere, unitPlaces};
+ghost use Rattle.access.specs.Places.{unitHere, unitPlaces};
 ghost use Rattle.references.specs.Tables.{IndexIn, Leads, LeadsIn};
-use tlv::access::Place;
-use tlv::index::Found;
-use tlv::index::find_entry;
-use tlv::units::unit_containing;
+use access::access::Place;
+use access::index::Found;
+use access::index::find_entry;
+use access::units::unit_containing;
 
 // Where the tables of a sheet's units and entries stand in the work slice.
 pub struct Index {

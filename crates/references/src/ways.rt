@@ -2,7 +2,7 @@
 ghost use mathlib.Core.Path.{_≡_};
 ghost use Prim.Native.Nat.{_+_, _-_, _<_};
 ghost use lib.ListN.{length};
-ghost use Rattle.tlv.specs.Places.{unitHere};
+ghost use Rattle.access.specs.Places.{unitHere};
 ghost use Rattle.files.specs.Pieces.{sourceIn};
 ghost use Rattle.references.specs.Keys.{keyIn, PossibleKey};
 ghost use Rattle.references.specs.Names.{indexIn, Stands, SearchIn, followUnitFrom, followFrom, Ways};

@@ -1,5 +1,5 @@
 -- A range list is read as the Standard says, but for its limits and its dead ranges. Assumes nothing.
-use mathlib.Core.Path.{_≡_, refl, sym, ap, subst, _∙_}
+use mathlib.Core.Path.{_≡_, refl, sym, ap, _∙_}
 use mathlib.Core.Logic.{_⊎_, inl, inr}
 use mathlib.Core.Bool.{Bool, true, false, cond, _&&_}
 use mathlib.Core.List.{List, [], _∷_}
@@ -8,15 +8,14 @@ use Prim.Native.Nat.{ℕ, zero, suc, _+_, _*_, _≤_}
 use native.Mathlib.Omega.{arith}
 use borrow.Author.Tests.{eqb-true}
 use lib.Dec.{leb, eqb}
-use lib.ListN.{length, drop}
+use lib.ListN.{length}
 use Rattle.tlv.specs.declared.model.AddressRange.{AddressRange}
 use Rattle.tlv.specs.Outcome.{Outcome, refused, done, _>>=_}
 use Rattle.tlv.specs.Lists.{mapOption}
-use Rattle.tlv.specs.Bytes.{leAt}
 use Rattle.tlv.specs.Model.{EntryRange}
-use Rattle.lines.specs.Standard.{andThen, Operand, leb128}
-use Rattle.lines.specs.Program.{uleb}
-use Rattle.lines.proofs.Operands.{operands}
+use Rattle.line_program.specs.Standard.{andThen, Operand, leb128}
+use Rattle.line_program.specs.Program.{uleb}
+use Rattle.line_program.proofs.Operands.{operands}
 use Rattle.rnglists.specs.Standard as standard
 use Rattle.rnglists.specs.Standard.{Slot, nothing, number, address, Slots, slotsOf, RawEntry, Meaning, ends, base, bounded, operandIn, operandsIn, entryIn, indexed, between, listAfter, listWithin, rangeList}
 use Rattle.rnglists.specs.RangeLists.{readOperand, readOperands, readEntry, addressAt, largest, dead, boundedBy, offsetPair, meaningOf, ListRanges, andBefore, rangesAfter, rangesFrom, rangesWithin, rangesIn}

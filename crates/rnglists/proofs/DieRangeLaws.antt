@@ -1,24 +1,19 @@
 -- What the import needs of an entry's ranges, wherever they come from: addresses of 64 bits, a reason that fits, a refusal's number. Assumes nothing.
-use mathlib.Core.Path.{_≡_, refl, sym, ap, _∙_}
+use mathlib.Core.Path.{_≡_, refl}
 use mathlib.Core.Logic.{_⊎_, inl, inr}
-use mathlib.Core.Bool.{Bool, true, false, cond, true≢false}
+use mathlib.Core.Bool.{false, true≢false}
 use mathlib.Core.List.{List, [], _∷_}
 use mathlib.Core.Option.{Option, none, some}
-use Prim.Native.Nat.{ℕ, _+_, _/_, _%_, _≤_, _<_}
+use Prim.Native.Nat.{ℕ, _≤_}
 use native.Mathlib.Omega.{arith}
-use borrow.Author.Tests.{eqb-false}
 use lib.Dec.{ltb, eqb}
-use lib.ListN.{drop, length}
+use lib.ListN.{drop}
 use Rattle.tlv.specs.declared.model.AddressRange.{AddressRange}
-use Rattle.tlv.specs.Outcome.{Outcome, refused}
 use Rattle.tlv.specs.Lists.{All, isNone}
-use Rattle.tlv.specs.Bytes.{Bytes}
-use Rattle.tlv.specs.Model.{EntryRange, RangeFailure, RangeList, Entry}
+use Rattle.tlv.specs.Model.{EntryRange, RangeList, Entry}
 use Rattle.tlv.specs.Accepted.{Small, Given, FailureAccepted, ListAccepted, EntryAccepted}
 use Rattle.tlv.proofs.TestLaws.{by-test}
-use Rattle.tlv.proofs.RefusalLaws.{RefusesIn, number}
-use Rattle.rnglists.specs.Standard.{rangeList}
-use Rattle.rnglists.specs.RangeLists.{largest, ListRanges, rangesIn, listRanges, decimal, failureBy, dieRangesBy}
+use Rattle.rnglists.specs.RangeLists.{largest, ListRanges, listRanges, decimal, failureBy, dieRangesBy}
 use Rattle.rnglists.specs.Conforms.{ListBeside, whole, cut, limit}
 use Rattle.rnglists.proofs.RangeListLaws.{Fitting, list-fitting}
 use Rattle.rnglists.proofs.Conforms.{lists}

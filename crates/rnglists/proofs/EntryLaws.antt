@@ -13,10 +13,10 @@ use Rattle.tlv.specs.Bytes.{leAt}
 use Rattle.tlv.specs.Model.{EntryRange}
 use Rattle.tlv.proofs.OutcomeLaws.{done-is, refused-not, with-done}
 use Rattle.tlv.proofs.TestLaws.{by-test}
-use Rattle.lines.specs.Standard.{Operand}
-use Rattle.lines.specs.Program.{uleb}
-use Rattle.lines.proofs.Operands.{operands}
-use Rattle.lines.proofs.Leb128.{shorter}
+use Rattle.line_program.specs.Standard.{Operand}
+use Rattle.line_program.specs.Program.{uleb}
+use Rattle.line_program.proofs.Operands.{operands}
+use Rattle.line_program.proofs.Leb128.{shorter}
 use Rattle.rnglists.specs.Standard.{Slot, nothing, number, address, Slots, slots, slotsOf, RawEntry, Meaning, ends, base, bounded}
 use Rattle.rnglists.specs.RangeLists.{readOperand, readOperands, readEntry, addressAt, meaningOf}
 

@@ -1,22 +1,19 @@
 -- What an entry says: the branches of the code, each with the definition's. Assumes nothing.
-use mathlib.Core.Path.{_≡_, refl, sym, ap, _∙_}
+use mathlib.Core.Path.{_≡_, sym, ap, _∙_}
 use mathlib.Core.Logic.{_⊎_, inl, inr}
-use mathlib.Core.Bool.{true, false, cond, _&&_, and-false}
+use mathlib.Core.Bool.{true, false}
 use mathlib.Core.List.{List, []}
 use Prim.Native.Nat.{ℕ, _+_, _-_, _*_, _/_, _≤_, _<_}
 use native.Mathlib.Omega.{arith}
 use borrow.Author.Tests.{eq-eqb, ne-eqb, le-leb, lt-leb}
-use lib.Dec.{leb, eqb}
-use lib.ListN.{length, drop, length-drop}
+use lib.ListN.{length, length-drop}
 use lib.Seq.{drop-drop}
-use Rattle.tlv.specs.Outcome.{Outcome, refused, done, _>>=_}
+use Rattle.tlv.specs.Outcome.{_>>=_}
 use Rattle.tlv.specs.Bytes.{leAt}
-use Rattle.tlv.specs.Model.{EntryRange}
 use Rattle.rnglists.specs.declared.lists.Found.{Found}
 use Rattle.rnglists.specs.declared.lists.Meant.{Meant}
-use Rattle.rnglists.specs.Standard.{Meaning, bounded}
 use Rattle.rnglists.specs.RangeLists.{addressAt, largest, boundedBy, offsetPair, meaningOf}
-use Rattle.rnglists.specs.Steps.{addressGiven, meaningGiven, SaysBounded, SaysPair, FindsAddress, rawEntry, Says}
+use Rattle.rnglists.specs.Steps.{SaysBounded, SaysPair, FindsAddress, Says}
 
 pub largest-four : {size : ℕ} → size ≡ 4 → 4294967295 ≡ largest size
 unfolding largest

@@ -3,16 +3,15 @@ use mathlib.Core.Path.{_≡_, refl, sym, ap, _∙_}
 use mathlib.Core.Logic.{_⊎_, inl, inr}
 use mathlib.Core.Bool.{Bool}
 use mathlib.Core.List.{List, []}
-use Prim.Native.Nat.{ℕ, _+_, _-_, _≤_, _<_}
+use Prim.Native.Nat.{ℕ, _-_, _≤_, _<_}
 use native.Mathlib.Omega.{arith}
 use lib.ListN.{length, drop, length-drop}
 use Rattle.tlv.specs.Outcome.{Outcome, refused, done}
-use Rattle.tlv.specs.Model.{EntryRange}
 use Rattle.tlv.proofs.RefusalLaws.{refusal-number}
 use Rattle.rnglists.specs.declared.entries.ListEntry.{ListEntry}
 use Rattle.rnglists.specs.declared.lists.Meant.{Meant}
 use Rattle.rnglists.specs.declared.lists.NextRange.{NextRange}
-use Rattle.rnglists.specs.Standard.{RawEntry, Meaning, bounded}
+use Rattle.rnglists.specs.Standard.{RawEntry}
 use Rattle.rnglists.specs.RangeLists.{readEntry, meaningOf, rangesAfter, rangesFrom, rangesIn}
 use Rattle.rnglists.specs.Steps.{ReadsEntry, rawEntry, meaningGiven, Says, NextIs}
 use Rattle.rnglists.proofs.EntryLaws.{bounded-size}

@@ -2,19 +2,19 @@
 use mathlib.Core.Path.{_≡_, refl, sym, ap, subst, _∙_}
 use mathlib.Core.Logic.{_⊎_, inl, inr}
 use mathlib.Core.Bool.{Bool, true, false, cond, _||_}
-use mathlib.Core.List.{List, [], _∷_}
-use mathlib.Core.Option.{Option, none, some}
-use Prim.Native.Nat.{ℕ, zero, suc, _+_, _-_, _≤_, _<_}
+use mathlib.Core.List.{List, []}
+use mathlib.Core.Option.{Option, none}
+use Prim.Native.Nat.{ℕ, _+_, _-_, _≤_, _<_}
 use native.Mathlib.Omega.{arith}
 use borrow.Author.Tests.{eq-eqb, ne-eqb, eqb-false, lt-ltb, le-ltb, le-leb, lt-leb}
-use lib.Dec.{leb, ltb, eqb}
+use lib.Dec.{eqb}
 use lib.ListN.{length, getD, drop, length-drop, drop-of-length-le}
 use lib.Seq.{drop-drop}
-use Rattle.tlv.specs.Outcome.{Outcome, refused, done, _>>=_}
+use Rattle.tlv.specs.Outcome.{_>>=_}
 use Rattle.tlv.specs.Bytes.{leAt}
-use Rattle.lines.specs.declared.operand.Operand.{Operand}
-use Rattle.lines.specs.Scan.{operandOf, Reads, OperandWithin as OperandRead}
-use Rattle.lines.proofs.UlebLaws.{drop-at}
+use Rattle.line_program.specs.declared.operand.Operand.{Operand}
+use Rattle.line_program.specs.Scan.{Reads, OperandWithin as OperandRead}
+use Rattle.line_program.proofs.UlebLaws.{drop-at}
 use Rattle.rnglists.specs.declared.entries.ListEntry.{ListEntry}
 use Rattle.rnglists.specs.Standard.{Slot, nothing, number, address, Slots, slots, slotsOf}
 use Rattle.rnglists.specs.RangeLists.{readOperand, readOperands, readEntry}

@@ -2,7 +2,7 @@
 -- t is a third of the list section's bytes: a list gives t ranges at the most (list-few). n nodes are open, 256 at the most; the unit has N fields 1f, of which l are still to come,
 -- the entry at hand included; u ranges stand in the stack, of R fields 19, of which a are still to come.
 use mathlib.Core.Path.{_≡_, ap, _∙_}
-use Prim.Native.Nat.{ℕ, suc, _+_, _*_, _/_, _≤_, _<_, min}
+use Prim.Native.Nat.{ℕ, suc, _+_, _*_, _/_, _≤_, min}
 use native.Mathlib.Nat.{mul-le-mul-left, mul-le-mul-right, mul-assoc, mul-add}
 use native.Mathlib.Omega.{arith}
 use Rattle.tlv.proofs.TestLaws.{by-less}

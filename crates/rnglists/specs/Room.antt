@@ -8,3 +8,7 @@ openMost = 257
 -- .. of a unit with so many
 abbrev pub openLists : ℕ → ℕ
 openLists lists = min lists openMost
+
+-- the fewest bytes of a list that give a range
+abbrev pub rangeLeast : ℕ
+rangeLeast = 3

@@ -7,8 +7,8 @@ use lib.ListN.{length, drop}
 use lib.Dec.{ltb, eqb}
 use Rattle.tlv.specs.Outcome.{Outcome, refused, done}
 use Rattle.tlv.specs.Model.{EntryRange}
-use Rattle.lines.specs.declared.operand.Operand.{Operand}
-use Rattle.lines.specs.Scan.{operandOf}
+use Rattle.line_program.specs.declared.operand.Operand.{Operand}
+use Rattle.line_program.specs.Scan.{operandOf}
 use Rattle.rnglists.specs.declared.entries.ListEntry.{ListEntry}
 use Rattle.rnglists.specs.declared.lists.Found.{Found}
 use Rattle.rnglists.specs.declared.lists.Meant.{Meant}

@@ -5,7 +5,7 @@ ghost use Prim.Native.Nat.{_≤_};
 ghost use lib.ListN.{length};
 ghost use Rattle.rnglists.specs.Standard.{address};
 ghost use Rattle.rnglists.specs.Steps.{ReadsOperand, ReadsEntry, firstSlot, secondSlot};
-use lines::operand::Operand;
+use line_program::operand::Operand;
 
 // An entry: its kind, its operands, 0 for one that it has not, and the place after it; or the fault.
 pub enum ListEntry {
@@ -53,7 +53,7 @@ fn first_operand(lists: &[u8], at: usize, size: u8, kind: u8) -> Operand
         return Operand::Value { value: 0, next: at };
     }
     if kind < 5 {
-        return lines::operand::read_line_uleb(lists, at);
+        return line_program::operand::read_line_uleb(lists, at);
     }
     read_address(lists, at, size)
 }
@@ -73,7 +73,7 @@ fn second_operand(lists: &[u8], at: usize, size: u8, kind: u8) -> Operand
     if kind == 6 {
         return read_address(lists, at, size);
     }
-    lines::operand::read_line_uleb(lists, at)
+    line_program::operand::read_line_uleb(lists, at)
 }
 
 // The entry at a place.

@@ -6,6 +6,9 @@ ghost use Rattle.rnglists.specs.RangeLists.{largest};
 ghost use Rattle.rnglists.specs.Steps.{SaysBounded, SaysPair, FindsAddress, Says, NextIs};
 use crate::entries::ListEntry;
 
+// The fewest bytes of a list that give a range.
+pub const RANGE_LEAST: usize = 3;
+
 // An address of the table, or 24.
 pub enum Found {
     At(u64),

@@ -7,9 +7,9 @@ use Prim.Native.Nat.{ℕ, _+_, _*_, _≤_, _<_}
 use native.Mathlib.Omega.{arith}
 use native.Mathlib.Nat.{mul-le-mul-right}
 use lib.ListN.{length, drop}
-use Rattle.tlv.specs.Table.{chunk, records, Kept, CopiedBytes}
-use Rattle.tlv.proofs.TableLaws.{inside, kept-refl, kept-wide, kept-trans}
-use Rattle.tlv.proofs.RecordLaws.{records-nil, records-suc, records-rest-none, records-rest-cons, records-copy-push}
+use Rattle.buffers.specs.Table.{chunk, records, Kept, CopiedBytes}
+use Rattle.buffers.proofs.TableLaws.{inside, kept-refl, kept-wide, kept-trans}
+use Rattle.buffers.proofs.RecordLaws.{records-nil, records-suc, records-rest-none, records-rest-cons, records-copy-push}
 use Rattle.lines.specs.Lines.{sameLine, sameRow, dropAfter, dropNeighbours}
 use Rattle.lines.specs.Rows.{compactLineRows}
 use Rattle.rows.specs.Sizes.{entrySize, lineSize}

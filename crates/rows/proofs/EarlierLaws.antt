@@ -11,8 +11,8 @@ use borrow.Author.Tests.{lt-ltb, le-ltb}
 use Rattle.tlv.specs.declared.model.AddressRange.{AddressRange}
 use Rattle.tlv.specs.declared.model.LineEntry.{LineEntry}
 use Rattle.tlv.specs.Lists.{first, last, orElse}
-use Rattle.tlv.specs.Table.{chunk, tab, records}
 use Rattle.tlv.proofs.ListLaws.{all-map, mapped}
+use Rattle.buffers.specs.Table.{chunk, tab, records}
 use Rattle.lines.specs.Lines.{SequencedLine}
 use Rattle.lines.specs.Rows.{belongs, movedTo, earlierRow}
 use Rattle.rows.specs.declared.line.StatementSequence.{StatementSequence}

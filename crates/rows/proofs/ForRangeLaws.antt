@@ -13,10 +13,10 @@ use Rattle.tlv.specs.declared.model.AddressRange.{AddressRange}
 use Rattle.tlv.specs.declared.model.LineEntry.{LineEntry}
 use Rattle.tlv.specs.Bytes.{leAt}
 use Rattle.tlv.specs.Lists.{isEmpty}
-use Rattle.tlv.specs.Table.{chunk, tab, records, Kept}
-use Rattle.tlv.proofs.ChunkLaws.{leAt-front}
-use Rattle.tlv.proofs.TableLaws.{kept-refl, kept-trans, kept-wide}
-use Rattle.tlv.proofs.RecordLaws.{records-nil, records-rest-cons, records-add, records-kept}
+use Rattle.buffers.specs.Table.{chunk, tab, records, Kept}
+use Rattle.buffers.proofs.ChunkLaws.{leAt-front}
+use Rattle.buffers.proofs.TableLaws.{kept-refl, kept-trans, kept-wide}
+use Rattle.buffers.proofs.RecordLaws.{records-nil, records-rest-cons, records-add, records-kept}
 use Rattle.lines.specs.Rows.{compactLineRows, ownRows, earlierRow, startsLate, sequenceExists, selectedSequence, rowsFor, forRange}
 use Rattle.rows.specs.declared.line.StatementSequence.{StatementSequence}
 use Rattle.rows.specs.declared.«unit_lines».StoredLines.{StoredLines}

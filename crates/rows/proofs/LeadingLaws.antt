@@ -3,13 +3,13 @@ use mathlib.Core.Path.{_≡_, refl, ap}
 use mathlib.Core.List.{List, [], _∷_}
 use Prim.Native.Nat.{ℕ, zero, suc, _+_, _*_, _≤_, _<_}
 use native.Mathlib.Omega.{arith}
-use lib.ListN.{length, take, drop, getD}
+use lib.ListN.{length, drop, getD}
 use lib.Seq.{drop-nil}
 use borrow.Author.Tests.{lt-ltb, le-ltb}
 use Rattle.tlv.specs.Lists.{All}
 use Rattle.tlv.proofs.TestLaws.{by-less}
 use Rattle.tlv.proofs.ListLaws.{all-drop}
-use Rattle.tlv.proofs.RecordLaws.{records-length, records-at}
+use Rattle.buffers.proofs.RecordLaws.{records-length, records-at}
 use Rattle.lines.specs.Lines.{SequencedLine}
 use Rattle.rows.specs.Sizes.{lineSize}
 use Rattle.rows.specs.Stored.{lineOf, lineAt, linesOf}
@@ -92,6 +92,3 @@ module _ (w : List ℕ) (base n a : ℕ) where
     -- what the place of a row says of its address
     pub row-below : i < leading a (linesOf w base n) → lineAt w (base + i * lineSize) .entry .address < a
     row-below l = by-less _ (lineAt w (base + i * lineSize) .entry .address) a (λ g. g) (λ g. absurd (omega (arith, go-down _ refl g)))
-
-    pub row-from : Sorted 0 (linesOf w base n) → leading a (linesOf w base n) ≤ i → a ≤ lineAt w (base + i * lineSize) .entry .address
-    row-from s l = by-less _ (lineAt w (base + i * lineSize) .entry .address) a (λ g. absurd (omega (arith, go-up _ refl s g))) (λ g. g)

@@ -10,9 +10,9 @@ use lib.ListN.{length, drop}
 use lib.Dec.{leb}
 use borrow.Author.Tests.{lt-leb, le-leb}
 use Rattle.tlv.specs.declared.model.AddressRange.{AddressRange}
-use Rattle.tlv.specs.Table.{chunk, Kept, CopiedBytes}
-use Rattle.tlv.proofs.TableLaws.{kept-refl, kept-trans, kept-wide}
-use Rattle.tlv.proofs.RecordLaws.{records-nil, records-copy-push}
+use Rattle.buffers.specs.Table.{chunk, Kept, CopiedBytes}
+use Rattle.buffers.proofs.TableLaws.{kept-refl, kept-trans, kept-wide}
+use Rattle.buffers.proofs.RecordLaws.{records-nil, records-copy-push}
 use Rattle.lines.specs.Lines.{SequencedLine}
 use Rattle.lines.specs.Rows.{belongs}
 use Rattle.rows.specs.declared.line.StatementSequence.{StatementSequence}

@@ -8,7 +8,7 @@ use Prim.Native.Nat.{ℕ, _+_}
 use lib.Dec.{eqb}
 use borrow.Author.Tests.{eq-eqb, ne-eqb}
 use Rattle.tlv.specs.Bytes.{leAt}
-use Rattle.tlv.specs.Table.{chunk}
+use Rattle.buffers.specs.Table.{chunk}
 use Rattle.lines.specs.Lines.{sameSequence, sameLine, sameRow}
 use Rattle.rows.specs.Sizes.{entrySize}
 use Rattle.rows.specs.Stored.{storedSequence, entryOf, lineAt}

@@ -12,11 +12,11 @@ use borrow.Author.Tests.{eq-eqb, ne-eqb}
 use Rattle.tlv.specs.declared.model.AddressRange.{AddressRange}
 use Rattle.tlv.specs.declared.model.LineEntry.{LineEntry}
 use Rattle.tlv.specs.Bytes.{leAt}
-use Rattle.tlv.specs.Table.{chunk, records, Apart, Kept, Clear, KeptBut, Wrote, CopiedBytes}
-use Rattle.tlv.proofs.ChunkLaws.{leAt-chunk, leAt-front}
-use Rattle.tlv.proofs.TableLaws.{leAt-kept, kept-wide, kept-trans}
-use Rattle.tlv.proofs.RecordLaws.{records-length, records-nil, records-at, records-suc, records-add, records-part, records-rest-none, records-rest-cons, records-kept, records-but, records-push, records-copy-push, tab-take}
-use Rattle.lines.specs.Lines.{SequencedLine, LineSequenceRange}
+use Rattle.buffers.specs.Table.{chunk, records, Apart, Kept, Clear, KeptBut, Wrote, CopiedBytes}
+use Rattle.buffers.proofs.ChunkLaws.{leAt-chunk, leAt-front}
+use Rattle.buffers.proofs.TableLaws.{leAt-kept, kept-wide, kept-trans}
+use Rattle.buffers.proofs.RecordLaws.{records-length, records-nil, records-at, records-suc, records-add, records-part, records-rest-none, records-rest-cons, records-kept, records-but, records-push, records-copy-push, tab-take}
+use Rattle.lines.specs.Lines.{LineSequenceRange}
 use Rattle.rows.specs.declared.line.StatementSequence.{StatementSequence}
 use Rattle.rows.specs.Sizes.{columnAt, entrySize, lineSize, rangeSequenceAt, rangeSize, sequenceSize}
 use Rattle.rows.specs.Stored.{sequenceOf, storedSequence, entryOf, entriesOf, lineOf, lineAt, linesOf, rangeOf, rangeAt, rangesOf, PutEntry, PutSequence, PutLine, PutSequenceRange}
@@ -169,10 +169,6 @@ pub lines-nil : (w : List ℕ) (b : ℕ) → linesOf w b 0 ≡ []
 unfolding linesOf
 lines-nil = records-nil lineOf lineSize
 
-pub lines-at : (w : List ℕ) (b n i : ℕ) (d : SequencedLine) → i < n → getD (linesOf w b n) i d ≡ lineAt w (b + i * lineSize)
-unfolding linesOf lineAt
-lines-at = records-at lineOf lineSize
-
 pub lines-suc : (w : List ℕ) (b n : ℕ) → linesOf w b (n + 1) ≡ linesOf w b n ++ (lineAt w (b + n * lineSize) ∷ [])
 unfolding linesOf lineAt
 lines-suc = records-suc lineOf lineSize
@@ -231,14 +227,6 @@ pub entries-at : (w : List ℕ) (b n i : ℕ) (d : LineEntry) → i < n → getD
 unfolding entriesOf
 entries-at = records-at entryOf entrySize
 
-pub entries-add : (w : List ℕ) (b i m : ℕ) → entriesOf w b (i + m) ≡ entriesOf w b i ++ entriesOf w (b + i * entrySize) m
-unfolding entriesOf
-entries-add = records-add entryOf entrySize
-
-pub entries-part : (w : List ℕ) (b n i m : ℕ) → i + m ≤ n → entriesOf w (b + i * entrySize) m ≡ take m (drop i (entriesOf w b n))
-unfolding entriesOf
-entries-part = records-part entryOf entrySize
-
 pub entries-rest-none : (w : List ℕ) (b n x : ℕ) → n ≤ x → drop x (entriesOf w b n) ≡ []
 unfolding entriesOf
 entries-rest-none = records-rest-none entryOf entrySize
@@ -252,14 +240,6 @@ pub entries-kept : {w w′ : List ℕ} {p m : ℕ} (b n : ℕ) → Kept w w′ p
 unfolding entriesOf
 entries-kept = records-kept entryOf entrySize
 
-pub entries-push : {w w′ : List ℕ} {l : LineEntry} (b n : ℕ) → PutEntry w w′ (b + n * entrySize) l → entriesOf w′ b (n + 1) ≡ entriesOf w b n ++ (l ∷ [])
-unfolding entriesOf
-entries-push {w} {w′} {l} b n P = records-push entryOf entrySize b n l (P .rest) (P .entry)
-
-pub entries-copy-push : {w w′ : List ℕ} {from : ℕ} (b n : ℕ) → CopiedBytes w w′ from (b + n * entrySize) entrySize → entriesOf w′ b (n + 1) ≡ entriesOf w b n ++ (entryOf (chunk w from entrySize) ∷ [])
-unfolding entriesOf
-entries-copy-push = records-copy-push entryOf entrySize
-
 -- ---- tables of sequences
 
 pub ranges-length : (w : List ℕ) (b n : ℕ) → length (rangesOf w b n) ≡ n
@@ -269,14 +249,6 @@ ranges-length = records-length rangeOf rangeSize
 pub ranges-nil : (w : List ℕ) (b : ℕ) → rangesOf w b 0 ≡ []
 unfolding rangesOf
 ranges-nil = records-nil rangeOf rangeSize
-
-pub ranges-at : (w : List ℕ) (b n i : ℕ) (d : LineSequenceRange) → i < n → getD (rangesOf w b n) i d ≡ rangeAt w (b + i * rangeSize)
-unfolding rangesOf rangeAt
-ranges-at = records-at rangeOf rangeSize
-
-pub ranges-part : (w : List ℕ) (b n i m : ℕ) → i + m ≤ n → rangesOf w (b + i * rangeSize) m ≡ take m (drop i (rangesOf w b n))
-unfolding rangesOf
-ranges-part = records-part rangeOf rangeSize
 
 pub ranges-rest-none : (w : List ℕ) (b n x : ℕ) → n ≤ x → drop x (rangesOf w b n) ≡ []
 unfolding rangesOf

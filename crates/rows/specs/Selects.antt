@@ -7,8 +7,8 @@ use mathlib.Core.Option.{Option, none, some}
 use lib.ListN.{length, take}
 use Rattle.tlv.specs.declared.model.AddressRange.{AddressRange}
 use Rattle.tlv.specs.declared.model.LineEntry.{LineEntry}
-use Rattle.tlv.specs.Table.{Kept}
 use Rattle.tlv.specs.Lists.{mapOption}
+use Rattle.buffers.specs.Table.{Kept}
 use Rattle.lines.specs.Lines.{LineSequenceRange, UnitLines}
 use Rattle.lines.specs.Rows.{earlierRow, startsLate, forRange}
 use Rattle.rows.specs.declared.line.StatementSequence.{StatementSequence}

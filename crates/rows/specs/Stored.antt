@@ -8,7 +8,7 @@ use lib.Dec.{eqb}
 use Rattle.tlv.specs.declared.model.AddressRange.{AddressRange}
 use Rattle.tlv.specs.declared.model.LineEntry.{LineEntry}
 use Rattle.tlv.specs.Bytes.{leAt}
-use Rattle.tlv.specs.Table.{chunk, records, Kept}
+use Rattle.buffers.specs.Table.{chunk, records, Kept}
 use Rattle.lines.specs.Lines.{SequencedLine, LineSequenceRange}
 use Rattle.rows.specs.declared.line.StatementSequence.{StatementSequence}
 use Rattle.rows.specs.Sizes.{columnAt, entrySize, lineSize, rangeSequenceAt, rangeSize, sequenceSize}

@@ -2,7 +2,7 @@
 ghost use mathlib.Core.Path.{_≡_};
 ghost use Prim.Native.Nat.{_+_, _≤_};
 ghost use lib.ListN.{length};
-ghost use Rattle.tlv.specs.Table.{chunk};
+ghost use Rattle.buffers.specs.Table.{chunk};
 ghost use Rattle.lines.specs.Lines.{sameSequence};
 ghost use Rattle.lines.specs.Rows.{belongs};
 ghost use Rattle.rows.specs.Sizes.{entrySize, lineSize, rangeSize, sequenceSize};
@@ -96,10 +96,10 @@ pub fn put_entry(work: &mut [u8], p: usize, entry: tlv::model::LineEntry)
     ensures { λ _. ⌜ PutEntry (now (work .entry)) (now (work .exit)) p entry ⌝ }
 {
     let file = entry.file;
-    tlv::table::set_u64(work, p, entry.address);
-    tlv::table::set_u32(work, p + 8, file.0);
-    tlv::table::set_u32(work, p + 12, entry.line);
-    tlv::table::set_u16(work, p + COLUMN, entry.column);
+    buffers::table::set_u64(work, p, entry.address);
+    buffers::table::set_u32(work, p + 8, file.0);
+    buffers::table::set_u32(work, p + 12, entry.line);
+    buffers::table::set_u16(work, p + COLUMN, entry.column);
 }
 
 fn put_sequence(work: &mut [u8], p: usize, sequence: StatementSequence)
@@ -108,11 +108,11 @@ fn put_sequence(work: &mut [u8], p: usize, sequence: StatementSequence)
 {
     match sequence {
         StatementSequence::At(offset) => {
-            tlv::table::set_u8(work, p, 1);
-            tlv::table::set_u64(work, p + 1, offset);
+            buffers::table::set_u8(work, p, 1);
+            buffers::table::set_u64(work, p + 1, offset);
         }
         StatementSequence::Unknown => {
-            tlv::table::set_u8(work, p, 0);
+            buffers::table::set_u8(work, p, 0);
         }
     }
 }
@@ -139,7 +139,7 @@ pub fn put_sequence_range(
     requires { ⌜ p + rangeSize ≤ length (now work) ⌝ }
     ensures { λ _. ⌜ PutSequenceRange (now (work .entry)) (now (work .exit)) p range sequence ⌝ }
 {
-    tlv::table::set_u64(work, p, range.start);
-    tlv::table::set_u64(work, p + 8, range.end);
+    buffers::table::set_u64(work, p, range.start);
+    buffers::table::set_u64(work, p + 8, range.end);
     put_sequence(work, p + RANGE_SEQUENCE, sequence);
 }

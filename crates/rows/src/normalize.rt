@@ -2,7 +2,7 @@
 ghost use mathlib.Core.Path.{_≡_};
 ghost use Prim.Native.Nat.{_+_, _*_, _≤_};
 ghost use lib.ListN.{length};
-ghost use Rattle.tlv.specs.Table.{chunk};
+ghost use Rattle.buffers.specs.Table.{chunk};
 ghost use Rattle.lines.specs.Lines.{sameRow, sameLine};
 ghost use Rattle.rows.specs.Sizes.{entrySize, lineSize};
 ghost use Rattle.rows.specs.Stored.{entryOf, lineAt};
@@ -58,7 +58,7 @@ pub fn dedup_rows(work: &mut [u8], base: usize, n: usize) -> usize
             i += 1;
         } else {
             last += 1;
-            tlv::table::copy_record(
+            buffers::table::copy_record(
                 work,
                 base + i * LINE_SIZE,
                 base + last * LINE_SIZE,
@@ -85,7 +85,7 @@ pub fn compact_line_rows(work: &mut [u8], base: usize, n: usize) -> usize
             i += 1;
         } else {
             last += 1;
-            tlv::table::copy_record(
+            buffers::table::copy_record(
                 work,
                 base + i * ENTRY_SIZE,
                 base + last * ENTRY_SIZE,

@@ -88,7 +88,7 @@ pub fn own_rows(
             };
         }
         if takes_row(work, p, address, range.start, asked) {
-            tlv::table::copy_record(work, p, to + count * ENTRY_SIZE, ENTRY_SIZE);
+            buffers::table::copy_record(work, p, to + count * ENTRY_SIZE, ENTRY_SIZE);
             count += 1;
             i += 1;
         } else {

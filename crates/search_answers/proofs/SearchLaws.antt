@@ -1,5 +1,5 @@
 -- What the searches of two sheets need has room and stands in the work slice, and a search leaves it there. Assumes nothing.
-use mathlib.Core.Path.{_≡_, refl, _∙_}
+use mathlib.Core.Path.{_≡_, _∙_}
 use mathlib.Core.Logic.{inl, inr}
 use mathlib.Core.Bool.{Bool, true}
 use mathlib.Core.List.{List}
@@ -9,32 +9,33 @@ use lib.ListN.{length}
 use Rattle.tlv.specs.Outcome.{Outcome}
 use Rattle.tlv.specs.Fields.{fields, wholeFields, payloads}
 use Rattle.tlv.specs.Checked.{Accepts}
-use Rattle.tlv.specs.Places.{unitPlaces}
 use Rattle.tlv.specs.Lists.{Any}
-use Rattle.tlv.specs.Table.{Kept, KeptBut, Clear}
-use Rattle.tlv.specs.Index.{Indexed}
 use Rattle.tlv.specs.Limits.{joinedLimit}
-use Rattle.tlv.specs.Units.{unitOf24, IndexedUnits}
-use Rattle.tlv.proofs.IndexLaws.{index-length}
-use Rattle.tlv.proofs.UnitsOrder.{unit-places-length}
-use Rattle.tlv.proofs.TableLaws.{kept-trans, kept-wide, but-of, but-one, here}
-use Rattle.tlv.proofs.RecordLaws.{records-kept}
+use Rattle.buffers.specs.Table.{KeptBut, Clear}
+use Rattle.buffers.proofs.TableLaws.{kept-trans, kept-wide, but-of, here}
+use Rattle.buffers.proofs.RecordLaws.{records-kept}
+use Rattle.access.specs.Places.{unitPlaces}
+use Rattle.access.specs.Index.{Indexed}
+use Rattle.access.specs.Units.{unitOf24, IndexedUnits}
+use Rattle.access.proofs.IndexLaws.{index-length}
+use Rattle.access.proofs.UnitsOrder.{unit-places-length}
 use Rattle.files.specs.Store.{FilesIn, Empty}
 use Rattle.files.specs.declared.store.StoredFiles.{StoredFiles}
 use Rattle.files.proofs.FewLaws.{tags-few, possible-few, directories-few, files-few-in}
+use Rattle.files.specs.Interns.{mapExtent}
 use Rattle.references.specs.declared.tables.Index.{Index}
 use Rattle.references.specs.declared.tables.Target.{Target}
-use Rattle.references.specs.declared.declaring.Places.{Places}
-use Rattle.references.specs.declared.declaring.Declared.{Declared}
 use Rattle.references.specs.Search.{Declaring}
 use Rattle.references.specs.Tables.{IndexIn, EntryKnown, Leads}
 use Rattle.references.specs.Names.{Resolved}
-use Rattle.references.specs.Declarations.{DeclaringIn, Declares, searched}
 use Rattle.references.proofs.KeyLaws.{keys-in-none}
 use Rattle.references.proofs.FollowLaws.{index-kept}
-use Rattle.references.proofs.DeclareFrames.{index-clear}
 use Rattle.references.proofs.FewKeys.{keys-few}
-use Rattle.search_answers.specs.Searches.{Room, HasRoom, IndexedSheet, mapExtent, SearchesIn}
+use Rattle.declarations.specs.declared.declaring.Places.{Places}
+use Rattle.declarations.specs.declared.declaring.Declared.{Declared}
+use Rattle.declarations.specs.Declarations.{DeclaringIn, Declares, searched}
+use Rattle.declarations.proofs.DeclareFrames.{index-clear}
+use Rattle.search_answers.specs.Searches.{Room, HasRoom, IndexedSheet, SearchesIn}
 
 pub room-yes : {main supplementary n m work : ℕ} {r : Bool} → HasRoom main supplementary n m work r → r ≡ true → Room main supplementary n m work
 room-yes {main} {supplementary} {n} {m} {work} {r} H e = let Y : HasRoom main supplementary n m work true = rw e at H in Y .is
@@ -195,9 +196,6 @@ module _ {s t w w₁ : List ℕ} {d : Places} {files : ℕ} {table : StoredFiles
   declared-still D same = searched-still emptied table (E .base-is) (E .room-is) (D .rest) same
 
 -- ---- the start of a search
-
-pub search-index : {s t w : List ℕ} {d : Places} {files : ℕ} → SearchesIn s t w d files → IndexIn s w (d .tables .main)
-search-index S = S .search-tables .main-index
 
 pub leads-known : {s : List ℕ} {o p q : ℕ} {r : Target} → Leads s o r → r ≡ Target.At p q → EntryKnown s q p
 leads-known {s} {o} {p} {q} {r} L e = let M : Leads s o (Target.At p q) = rw e at L in M .is .2

@@ -7,13 +7,18 @@ use lib.ListN.{length}
 use Rattle.tlv.specs.Lists.{Any}
 use Rattle.tlv.specs.Fields.{fields}
 use Rattle.tlv.specs.Limits.{joinedLimit}
-use Rattle.tlv.specs.Places.{unitHere, unitPlaces}
-use Rattle.tlv.specs.Table.{Kept}
+use Rattle.buffers.specs.Table.{Kept}
+use Rattle.access.specs.Places.{unitPlaces}
+use Rattle.access.specs.Units.{unitRecord}
+use Rattle.access.specs.Index.{entryRecord}
 use Rattle.files.specs.Possible.{possibleFiles}
+use Rattle.files.specs.Store.{fileRecord}
+use Rattle.files.specs.Indices.{indexRecord}
+use Rattle.files.specs.Interns.{mapExtent}
 use Rattle.references.specs.declared.tables.Index.{Index}
-use Rattle.references.specs.declared.declaring.Places.{Places}
 use Rattle.references.specs.Tables.{IndexIn}
 use Rattle.references.specs.Names.{SearchIn}
+use Rattle.declarations.specs.declared.declaring.Places.{Places}
 
 -- sheets of so many bytes, of n and m fields: their files, their tables and the followed targets have room
 pub record Room (main supplementary n m work : ℕ) : Type 0 where
@@ -35,15 +40,11 @@ pub record IndexedSheet (s w w′ : List ℕ) (base n : ℕ) (r : Index) : Type 
   pub index : IndexIn s w′ r
   pub units-above : base ≤ r .units
   pub entries-above : base ≤ r .entries
-  pub units-below : r .units + 24 * r .«unit_count» ≤ base + n * 40
-  pub entries-below : r .entries + 16 * r .«entry_count» ≤ base + n * 40
+  pub units-below : r .units + unitRecord * r .«unit_count» ≤ base + n * 40
+  pub entries-below : r .entries + entryRecord * r .«entry_count» ≤ base + n * 40
   pub few : r .«entry_count» ≤ n
   pub rest : Kept w w′ base (n * 40)
   pub size : length w′ ≡ length w
-
--- what a unit's directories and map take
-abbrev pub mapExtent : List ℕ → ℕ → ℕ
-mapExtent s q = 8 * length (unitHere s q .directories) + 5 * (1 + length (unitHere s q .files))
 
 -- both sheets' tables stand in w; below them is room for a table of so many files and for the directories and the map of any unit
 pub record SearchesIn (main supplementary w : List ℕ) (d : Places) (files : ℕ) : Type 0 where
@@ -52,8 +53,8 @@ pub record SearchesIn (main supplementary w : List ℕ) (d : Places) (files : �
   pub small : files < 2 ^ 32
   pub main-small : length main < 2 ^ 32
   pub supplementary-small : length supplementary < 2 ^ 32
-  pub table : files * 45 + joinedLimit ≤ d .indices .base
-  pub indices : d .indices .base + d .indices .count * 5 ≤ d .spans
+  pub table : files * fileRecord + joinedLimit ≤ d .indices .base
+  pub indices : d .indices .base + d .indices .count * indexRecord ≤ d .spans
   pub main-units : d .spans + d .room ≤ d .tables .main .units
   pub main-entries : d .spans + d .room ≤ d .tables .main .entries
   pub supplementary-units : d .spans + d .room ≤ d .tables .supplementary .units

@@ -10,8 +10,8 @@ use crate::output::write_found;
 use crate::output::write_refused_line;
 use crate::tables::build_tables;
 use crate::tables::has_room;
-use references::declaring::DeclaringState;
-use references::declaring::Places;
+use declarations::declaring::DeclaringState;
+use declarations::declaring::Places;
 use references::tables::Target;
 use tlv::constants::DW_AT_CALL_ORIGIN;
 
@@ -109,7 +109,7 @@ fn answer_declaration<'a>(
         table: table,
         warned: 0,
     };
-    let declared = references::declaration_lines::resolve_declaration_line_counted(
+    let declared = declarations::declaration_lines::resolve_declaration_line_counted(
         main,
         supplementary,
         work,

@@ -1,6 +1,6 @@
 // What answers are written as.
 ghost use Prim.Native.Nat.{_+_, _<_};
-use references::declaring::Declared;
+use declarations::declaring::Declared;
 
 fn wide(b: u8) -> u64 {
     b as u64

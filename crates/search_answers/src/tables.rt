@@ -4,9 +4,11 @@ ghost use lib.ListN.{length};
 ghost use Rattle.tlv.specs.Checked.{Accepts};
 ghost use Rattle.search_answers.specs.Searches.{Room, HasRoom, IndexedSheet, SearchesIn};
 use crate::main;
+use access::units::UNIT_RECORD;
+use declarations::declaring::Places;
 use files::index::StoredIndices;
+use files::store::FILE_RECORD;
 use files::store::JOINED_LIMIT;
-use references::declaring::Places;
 use references::tables::Index;
 use references::tables::Tables;
 
@@ -45,9 +47,9 @@ fn index_sheet(s: &[u8], n: usize, work: &mut [u8], base: usize) -> Index
     requires { ⌜ base + n * 40 ≤ length (now work) ⌝ }
     ensures { λ r. ⌜ IndexedSheet (now (s .entry)) (now (work .entry)) (now (work .exit)) base n r ⌝ }
 {
-    let entries = base + n * 24;
-    let unit_count = tlv::units::index_units(s, work, base);
-    let entry_count = tlv::index::index_entries(s, work, entries);
+    let entries = base + n * UNIT_RECORD;
+    let unit_count = access::units::index_units(s, work, base);
+    let entry_count = access::index::index_entries(s, work, entries);
     Index {
         units: base,
         unit_count: unit_count,
@@ -71,7 +73,7 @@ pub fn build_tables(
     requires { ⌜ Room (length (now main)) (length (now supplementary)) n m (length (now work)) ⌝ }
     ensures { λ r. ⌜ SearchesIn (now (main .entry)) (now (supplementary .entry)) (now (work .exit)) r (n + m + 1) ⌝ }
 {
-    let spans = (n + m) * 45 + TABLE_BESIDES;
+    let spans = (n + m) * FILE_RECORD + TABLE_BESIDES;
     let room = (n + m) * 8 + 5;
     let base = spans + room;
     let next = base + n * 40;

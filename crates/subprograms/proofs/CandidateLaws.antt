@@ -8,21 +8,21 @@ use Rattle.tlv.specs.declared.model.AddressRange.{AddressRange}
 use Rattle.tlv.specs.Outcome.{done}
 use Rattle.tlv.specs.Bytes.{bytesOf}
 use Rattle.tlv.specs.Fields.{encode}
-use Rattle.tlv.specs.Buffer.{top, Put}
 use Rattle.tlv.specs.Model.{Entry, EntryRange}
-use Rattle.tlv.specs.Output.{kindNumber, about, rejectedRange}
-use Rattle.tlv.specs.Places.{entryHere}
-use Rattle.collect.proofs.LineLaws.{about-put}
+use Rattle.buffers.specs.Buffer.{top, Put}
+use Rattle.buffers.specs.Output.{kindNumber, about, rejectedRange}
+use Rattle.access.specs.Places.{entryHere}
 use Rattle.files.specs.declared.store.StoredFiles.{StoredFiles}
+use Rattle.collect.proofs.LineLaws.{about-put}
 use Rattle.imports.specs.Import.{State, isTombstone, isLiveRange, rejected, importRange}
 use Rattle.imports.specs.Import as import
-use Rattle.dies.specs.RangeTable.{rangesAt}
+use Rattle.ranges.specs.RangeTable.{rangesAt}
 use Rattle.dies.proofs.CallLaws.{warn-none}
 use Rattle.subprograms.specs.declared.model.ImportState.{ImportState}
 use Rattle.subprograms.specs.declared.model.ImportContext.{ImportContext}
 use Rattle.subprograms.specs.Contexts.{ContextIn, contextWith}
 use Rattle.subprograms.specs.Steps.{Imports, Rejects, belowEntry, importOne}
-use Rattle.subprograms.proofs.StepLaws.{imports-as, imports-rejected}
+use Rattle.subprograms.proofs.StepLaws.{grows-as, imports-rejected}
 
 -- ---- what the definition does
 
@@ -59,20 +59,20 @@ module _ {main supplementary w : List ℕ} (lists addresses : List ℕ) {q : Imp
       → length t < top → length f < top → length u < top → Rejects st (st .warned) r
       → Imports (importOne (contextWith main supplementary lists addresses w q) (entryHere main p) (belowEntry main p) name x) main supplementary q w t f u st w t f u r
   candidate-tombstone h z fits warned kt kf ku R =
-      imports-as (λ s. one-tombstone (contextWith main supplementary lists addresses w q) (entryHere main p) (belowEntry main p) name x s (tombstone-is lists addresses C x tomb h))
+      grows-as (λ s. one-tombstone (contextWith main supplementary lists addresses w q) (entryHere main p) (belowEntry main p) name x s (tombstone-is lists addresses C x tomb h))
       (imports-rejected [] C z fits kt kf (warn-none warned ku) R)
 
   module _ (h : b ≡ false) {c : Bool} (live : c ≡ isLiveRange (rangesAt w (q .text) (q .«text_count»)) (x .range)) where
     pub candidate-live : {t f u w′ t′ f′ u′ : List ℕ} {r : ImportState} → c ≡ true
         → Imports (importRange (contextWith main supplementary lists addresses w q) (entryHere main p) (belowEntry main p) name (x .range)) main supplementary q w t f u st w′ t′ f′ u′ r
         → Imports (importOne (contextWith main supplementary lists addresses w q) (entryHere main p) (belowEntry main p) name x) main supplementary q w t f u st w′ t′ f′ u′ r
-    candidate-live k I = imports-as (λ s. one-live (contextWith main supplementary lists addresses w q) (entryHere main p) (belowEntry main p) name x s (tombstone-is lists addresses C x tomb h) (live-is lists addresses C (x .range) live k)) I
+    candidate-live k I = grows-as (λ s. one-live (contextWith main supplementary lists addresses w q) (entryHere main p) (belowEntry main p) name x s (tombstone-is lists addresses C x tomb h) (live-is lists addresses C (x .range) live k)) I
 
     pub candidate-dead : {t f u u′ : List ℕ} {warned : ℕ} {r : ImportState} → c ≡ false → st .status ≡ 0 → st .at ≤ top → length t < top → length f < top
         → Put (st .warned) (encode 0x46 ((3 ∷ []) ++ bytesOf 8 (x .range .start) ++ bytesOf 8 (x .range .end))) u u′ warned → Rejects st warned r
         → Imports (importOne (contextWith main supplementary lists addresses w q) (entryHere main p) (belowEntry main p) name x) main supplementary q w t f u st w t f u′ r
     unfolding kindNumber
     candidate-dead k z fits kt kf P R =
-        imports-as (λ s. one-dead (contextWith main supplementary lists addresses w q) (entryHere main p) (belowEntry main p) name x s (tombstone-is lists addresses C x tomb h) (live-is lists addresses C (x .range) live k))
+        grows-as (λ s. one-dead (contextWith main supplementary lists addresses w q) (entryHere main p) (belowEntry main p) name x s (tombstone-is lists addresses C x tomb h) (live-is lists addresses C (x .range) live k))
         (imports-rejected (about rejectedRange (x .range .start) (x .range .end) ∷ []) C z fits kt kf
         (about-put rejectedRange 3 (x .range .start) (x .range .end) refl P) R)

@@ -10,10 +10,10 @@ use lib.ListN.{length}
 use Rattle.tlv.specs.Lists.{at, Any}
 use Rattle.tlv.specs.Fields.{fields}
 use Rattle.tlv.specs.Model.{rangeOf as addressesOf}
-use Rattle.tlv.specs.Table.{Kept, Clear, KeptBut}
-use Rattle.tlv.specs.Places.{unitHere, unitPlaces}
-use Rattle.tlv.proofs.TableLaws.{here, there, but-of}
-use Rattle.tlv.proofs.RecordLaws.{records-but}
+use Rattle.buffers.specs.Table.{Kept, Clear, KeptBut}
+use Rattle.buffers.proofs.TableLaws.{here, there, but-of}
+use Rattle.buffers.proofs.RecordLaws.{records-but}
+use Rattle.access.specs.Places.{unitHere, unitPlaces}
 use Rattle.files.specs.declared.store.StoredFiles.{StoredFiles}
 use Rattle.files.specs.Store.{extent, FilesIn}
 use Rattle.files.specs.Indices.{indexOf, indicesOf, indicesIn}
@@ -23,9 +23,9 @@ use Rattle.collect.specs.Collects.{UnitIn, linesIn}
 use Rattle.references.specs.declared.tables.Index.{Index}
 use Rattle.references.specs.Tables.{IndexIn}
 use Rattle.references.proofs.KeyLaws.{keys-in-none}
-use Rattle.references.proofs.DeclareFrames.{index-clear}
+use Rattle.declarations.proofs.DeclareFrames.{index-clear}
+use Rattle.ranges.specs.RangeTable.{rangesAt}
 use Rattle.dies.specs.Details.{dwarfWith}
-use Rattle.dies.specs.RangeTable.{rangesAt}
 use Rattle.subprograms.specs.declared.model.ImportContext.{ImportContext}
 use Rattle.subprograms.specs.Contexts.{UnitOf, contextWith, Ordered, ContextIn, touched, walkExtent}
 
@@ -77,6 +77,7 @@ ordered-as b r O = record {
 module _ {main supplementary : List ℕ} {q : ImportContext} {t : StoredFiles} (O : Ordered main supplementary q t) where
   -- where the unit's map, rows and sequences stand
   below-rows : (p k : ℕ) → q .places .indices .base ≤ p → p + k ≤ q .lines .buffer → Clear p k (touched main supplementary q t)
+  unfolding touched
   below-rows p k h g =
       let up : q .lines .buffer + (entrySize + q .lines .«line_count» * entrySize) ≤ q .places .spans = omega (arith, O .buffer, O .text) in
       let far : q .places .spans ≤ q .ranges = omega (arith, O .spans) in
@@ -85,6 +86,7 @@ module _ {main supplementary : List ℕ} {q : ImportContext} {t : StoredFiles} (
   -- the executable ranges
   below-spans : (p k : ℕ) → q .lines .buffer + entrySize + q .lines .«line_count» * entrySize ≤ p → p + k ≤ q .places .spans
       → Clear p k (touched main supplementary q t)
+  unfolding touched
   below-spans p k h g =
       let down : t .base + extent t ≤ q .lines .buffer = omega (arith, O .table, O .indices, O .lines, O .sequences) in
       let far : q .places .spans ≤ q .ranges = omega (arith, O .spans) in
@@ -92,6 +94,7 @@ module _ {main supplementary : List ℕ} {q : ImportContext} {t : StoredFiles} (
 
   -- the units and entries of the inputs
   below-table : (p k : ℕ) → p + k ≤ t .base → Clear p k (touched main supplementary q t)
+  unfolding touched
   below-table p k h =
       let down : t .base + extent t ≤ q .lines .buffer = omega (arith, O .table, O .indices, O .lines, O .sequences) in
       let up : q .lines .buffer ≤ q .places .spans = omega (arith, O .buffer, O .text) in
@@ -180,13 +183,16 @@ module _ {main supplementary w w′ : List ℕ} {q : ImportContext} {t : StoredF
 -- they too depend only on where the file table is and how large
 pub touched-as : (main supplementary : List ℕ) (q : ImportContext) (t t′ : StoredFiles) {w w′ : List ℕ} → t′ .base ≡ t .base → t′ .room ≡ t .room
     → KeptBut w w′ (touched main supplementary q t′) → KeptBut w w′ (touched main supplementary q t)
+unfolding touched
 touched-as main supplementary q t t′ b r K = record { same = λ p k c. K .same p k (⊎-elim (λ l. inl (omega arith)) (λ l. inr (omega arith)) (c .0), c .1) }
 
 module _ (main supplementary : List ℕ) {w w′ : List ℕ} (q : ImportContext) (t : StoredFiles) where
   -- the rows of a function
   pub touched-rows : Kept w w′ (q .lines .buffer) (entrySize + q .lines .«line_count» * entrySize) → KeptBut w w′ (touched main supplementary q t)
+  unfolding touched
   touched-rows K = but-of K (there (here (le-refl _) (le-refl _)))
 
   -- the walk's part
   pub touched-walk : Kept w w′ (q .ranges) (walkExtent main supplementary q) → KeptBut w w′ (touched main supplementary q t)
+  unfolding touched
   touched-walk K = but-of K (there (there (there (here (le-refl _) (le-refl _)))))

@@ -8,25 +8,25 @@ use native.Mathlib.Omega.{arith}
 use lib.ListN.{length}
 use Rattle.tlv.specs.declared.model.FileIndex.{FileIndex}
 use Rattle.tlv.specs.Outcome.{Outcome, refused, done, _>>=_}
-use Rattle.tlv.specs.Buffer.{top, Put}
-use Rattle.tlv.specs.Table.{KeptBut}
 use Rattle.tlv.specs.Fields.{encode}
-use Rattle.tlv.specs.Places.{entryHere, unitHere}
-use Rattle.tlv.specs.Output.{Warning, rowPayload, eachOf}
 use Rattle.tlv.proofs.RefusalLaws.{refusal-number}
-use Rattle.tlv.proofs.BufferLaws.{put-none, put-as}
-use Rattle.tlv.proofs.TableLaws.{here, there}
+use Rattle.buffers.specs.Buffer.{top, Put}
+use Rattle.buffers.specs.Table.{KeptBut}
+use Rattle.buffers.specs.Output.{Warning, rowPayload, eachOf}
+use Rattle.buffers.proofs.BufferLaws.{put-none, put-as}
+use Rattle.buffers.proofs.TableLaws.{here, there}
+use Rattle.access.specs.Places.{entryHere, unitHere}
 use Rattle.files.specs.Store.{tableOf}
 use Rattle.files.specs.Indices.{indicesIn}
 use Rattle.collect.specs.Collects.{linesIn}
 use Rattle.collect.proofs.FrameLaws.{but-wide}
-use Rattle.references.specs.declared.declaring.DeclaringState.{DeclaringState}
-use Rattle.references.specs.declared.declaring.Declared.{Declared}
 use Rattle.references.specs.Search.{Declaring, resolveDeclaration, resolveDeclarationLine}
 use Rattle.references.specs.Names.{dwarfOf, placeAt, startAt}
-use Rattle.references.specs.Declarations.{declaringAt, DeclaringIn, Declares, searched}
 use Rattle.references.proofs.Refusals.{refuses-declaration-line}
-use Rattle.references.proofs.ResolveLaws.{declaration-line}
+use Rattle.declarations.specs.declared.declaring.DeclaringState.{DeclaringState}
+use Rattle.declarations.specs.declared.declaring.Declared.{Declared}
+use Rattle.declarations.specs.Declarations.{declaringAt, DeclaringIn, Declares, searched}
+use Rattle.declarations.proofs.ResolveLaws.{declaration-line}
 use Rattle.imports.specs.Import.{linesWith}
 use Rattle.dies.specs.Past.{isPast}
 use Rattle.dies.proofs.PastLaws.{past-same}
@@ -72,6 +72,7 @@ module _ {main supplementary w : List ℕ} {q : ImportContext} (st : ImportState
 
   -- what the search writes to is among what an import may write to
   pub searched-touched : {w′ : List ℕ} → KeptBut w w′ (searched main supplementary (q .places) (st .table)) → KeptBut w w′ (touched main supplementary q (st .table))
+  unfolding touched
   searched-touched K =
       let above : q .ranges ≤ q .places .tables .keys = omega (arith, C .ordered .ranges, C .ordered .stack, C .ordered .sites) in
       but-wide (touched main supplementary q (st .table)) K

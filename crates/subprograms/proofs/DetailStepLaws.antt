@@ -8,9 +8,10 @@ use native.Mathlib.Omega.{arith}
 use Rattle.tlv.specs.declared.model.AddressRange.{AddressRange}
 use Rattle.tlv.specs.Bytes.{leAt}
 use Rattle.tlv.specs.Outcome.{refused}
-use Rattle.tlv.specs.Places.{entryHere}
-use Rattle.machine.proofs.NumberLaws.{number-of}
+use Rattle.tlv.specs.Checked.{Accepted}
+use Rattle.access.specs.Places.{entryHere}
 use Rattle.files.specs.declared.store.StoredFiles.{StoredFiles}
+use Rattle.machine.proofs.NumberLaws.{number-of}
 use Rattle.collect.specs.Collects.{linesIn}
 use Rattle.references.specs.Tables.{EntryKnown}
 use Rattle.imports.specs.Tree.{noDescendants, extractSubprogramDetails}
@@ -19,7 +20,6 @@ use Rattle.imports.proofs.Refusals.{UnitNumber, refuses-details}
 use Rattle.dies.specs.declared.dies.Details.{Details}
 use Rattle.dies.specs.declared.dies.Extracted.{Extracted}
 use Rattle.dies.specs.Details.{DetailsIn, listRoom, contextIn, ExtractedIn, Extracts, entriesFrom}
-use Rattle.dies.specs.DetailState.{Accepted}
 use Rattle.dies.proofs.CallLaws.{entry-depth-here}
 use Rattle.subprograms.specs.declared.model.ConversionStats.{ConversionStats as Stats}
 use Rattle.subprograms.specs.declared.model.ImportContext.{ImportContext}

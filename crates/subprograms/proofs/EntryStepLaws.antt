@@ -10,15 +10,16 @@ use borrow.Author.Tests.{eq-eqb, ne-eqb}
 use Rattle.tlv.specs.Outcome.{refused, done, _>>=_}
 use Rattle.tlv.specs.Lists.{All, isEmpty, at, mapOption}
 use Rattle.tlv.specs.Bytes.{Bytes, leAt}
-use Rattle.tlv.specs.Buffer.{top}
-use Rattle.tlv.specs.Table.{Kept, KeptBut}
 use Rattle.tlv.specs.Model.{Entry, units}
 use Rattle.tlv.specs.Accepted.{EntryAccepted, UnitAccepted}
-use Rattle.tlv.specs.Places.{entryHere, unitHere}
+use Rattle.tlv.specs.Checked.{Accepted}
 use Rattle.tlv.proofs.ListLaws.{any-one, all-at, given-some}
-use Rattle.tlv.proofs.TableLaws.{kept-wide, but-one, but-refl}
 use Rattle.tlv.proofs.AcceptedUnits.{accepting}
-use Rattle.tlv.proofs.UnitPlaceLaws.{units-at}
+use Rattle.buffers.specs.Buffer.{top}
+use Rattle.buffers.specs.Table.{Kept, KeptBut}
+use Rattle.buffers.proofs.TableLaws.{kept-wide, but-one}
+use Rattle.access.specs.Places.{entryHere, unitHere}
+use Rattle.access.proofs.UnitPlaceLaws.{units-at}
 use Rattle.files.specs.declared.store.StoredFiles.{StoredFiles}
 use Rattle.files.specs.Store.{extent, tableOf, FilesIn}
 use Rattle.files.proofs.GrownLaws.{table-kept, files-kept}
@@ -29,20 +30,19 @@ use Rattle.references.specs.Names.{dwarfOf, Resolved, foundName}
 use Rattle.references.proofs.SectionLaws.{name-same}
 use Rattle.references.proofs.NameBounds.{DwarfAccepted, name-string}
 use Rattle.references.proofs.TargetLaws.{known-entry}
+use Rattle.references.specs.declared.names.FoundName.{FoundName}
 use Rattle.imports.specs.Tree.{dieRanges}
 use Rattle.imports.specs.Import.{State, importSubprogram, importByFailure}
 use Rattle.imports.specs.Import as import
 use Rattle.dies.specs.Details.{dwarfWith}
-use Rattle.dies.specs.DetailState.{Accepted}
 use Rattle.dies.proofs.CallLaws.{entry-tag-here}
 use Rattle.dies.proofs.SiteStepLaws.{given-refused, given-done}
 use Rattle.subprograms.specs.declared.model.ImportState.{ImportState}
 use Rattle.subprograms.specs.declared.model.ImportContext.{ImportContext}
-use Rattle.references.specs.declared.names.FoundName.{FoundName}
 use Rattle.subprograms.specs.Contexts.{ContextIn, contextWith, touched, walkExtent}
 use Rattle.subprograms.specs.Steps.{Imports, importEntry, belowEntry}
 use Rattle.subprograms.proofs.ContextLaws.{context-kept, context-same, touched-walk}
-use Rattle.subprograms.proofs.StepLaws.{imports-none, imports-then, imports-as}
+use Rattle.subprograms.proofs.StepLaws.{grows-beside, grows-none, imports-then, grows-as}
 
 -- ---- what the definition does
 
@@ -135,8 +135,8 @@ module _ {main supplementary w : List ℕ} (lists addresses : List ℕ) {q : Imp
   pub entry-passed : {t f u : List ℕ} → (leAt 2 main (p + 13) ≡ 0x2e → ⊥) → st .status ≡ 0 → st .at ≤ top → st .warned ≤ top → length t < top → length f < top → length u < top
       → Imports (importEntry (contextWith main supplementary lists addresses w q) (entryHere main p) (belowEntry main p)) main supplementary q w t f u st w t f u st
   entry-passed h ok at warned small tiny few =
-      imports-as (λ s. entry-other (contextWith main supplementary lists addresses w q) (entryHere main p) (belowEntry main p) s (λ e. h (sym (tag-is C K) ∙ e)))
-      (imports-none C (but-refl w _) refl (C .files) ok at warned small tiny few)
+      grows-as (λ s. entry-other (contextWith main supplementary lists addresses w q) (entryHere main p) (belowEntry main p) s (λ e. h (sym (tag-is C K) ∙ e)))
+      (grows-none (C .files) ok at warned small tiny few)
 
   module _ (is : leAt 2 main (p + 13) ≡ 0x2e) {w₁ name : List ℕ} {st′ : ℕ}
       (R : Resolved main supplementary (q .places .tables) w w₁ (resolveName (dwarfOf main supplementary) (unitHere main (q .unit)) (entryHere main p)) st′ name) where
@@ -162,20 +162,20 @@ module _ {main supplementary w : List ℕ} (lists addresses : List ℕ) {q : Imp
     module _ (size : length w₁ ≡ length w) (z : st′ ≡ 0) {found : FoundName} (ef : found ≡ foundName name) {t f u : List ℕ}
         (ok : st .status ≡ 0) (at : st .at ≤ top) (warned : st .warned ≤ top) (small : length t < top) (tiny : length f < top) (few : length u < top) where
       searched : Imports done main supplementary q w t f u st w₁ t f u st
-      searched = imports-none C (walk-written C (R .rest)) (same-table C (R .rest)) (files-after C (R .rest) size) ok at warned small tiny few
+      searched = grows-beside (walk-written C (R .rest)) (same-table C (R .rest)) (files-after C (R .rest) size) ok at warned small tiny few
 
       pub name-empty : found ≡ FoundName.Missing
           → Imports (importEntry (contextWith main supplementary lists addresses w q) (entryHere main p) (belowEntry main p)) main supplementary q w t f u st w₁ t f u st
       name-empty e =
-          imports-as (λ s. entry-nameless (contextWith main supplementary lists addresses w q) (entryHere main p) (belowEntry main p) s (tag-is C K ∙ is) (same-name ∙ given-done st′ name (R .is) z) (name-missing name found ef e))
+          grows-as (λ s. entry-nameless (contextWith main supplementary lists addresses w q) (entryHere main p) (belowEntry main p) s (tag-is C K ∙ is) (same-name ∙ given-done st′ name (R .is) z) (name-missing name found ef e))
           searched
 
       pub name-given : {k : ℕ} → found ≡ FoundName.Found k → {w₂ t₂ f₂ u₂ : List ℕ} {r : ImportState}
           → Imports (importByFailure (contextWith main supplementary lists addresses w₁ q) (entryHere main p) (belowEntry main p) name (dieRanges (dwarfWith main supplementary lists addresses) (entryHere main p) .failure)) main supplementary q w₁ t f u st w₂ t₂ f₂ u₂ r
           → Imports (importEntry (contextWith main supplementary lists addresses w q) (entryHere main p) (belowEntry main p)) main supplementary q w t f u st w₂ t₂ f₂ u₂ r
       name-given {k} e I =
-          imports-as
+          grows-as
           (λ s. entry-named (contextWith main supplementary lists addresses w q) (entryHere main p) (belowEntry main p) s (tag-is C K ∙ is) (same-name ∙ given-done st′ name (R .is) z) (name-found name found k ef e)
           ∙ ap (λ (x : import.ImportContext). done s >>= importByFailure x (entryHere main p) (belowEntry main p) name (dieRanges (dwarfWith main supplementary lists addresses) (entryHere main p) .failure))
           (sym (context-same C (walk-written C (R .rest)) lists addresses)))
-          (imports-then ok searched I)
+          (imports-then q ok searched I)

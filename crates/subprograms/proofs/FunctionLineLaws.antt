@@ -11,17 +11,20 @@ use Rattle.tlv.specs.declared.model.AddressRange.{AddressRange}
 use Rattle.tlv.specs.declared.model.LineEntry.{LineEntry}
 use Rattle.tlv.specs.Outcome.{Outcome, refused, done, _>>=_}
 use Rattle.tlv.specs.Lists.{first, isEmpty}
-use Rattle.tlv.specs.Buffer.{top, Put}
-use Rattle.tlv.specs.Table.{chunk, Clear, KeptBut}
 use Rattle.tlv.specs.Fields.{encode}
 use Rattle.tlv.specs.Model.{Entry}
-use Rattle.tlv.specs.Places.{entryHere, unitHere}
-use Rattle.tlv.specs.Output.{Warning, rowPayload, eachOf}
-use Rattle.tlv.proofs.BufferLaws.{_then_, put-as}
-use Rattle.tlv.proofs.TableLaws.{but-one, but-trans}
+use Rattle.buffers.specs.Buffer.{top, Put}
+use Rattle.buffers.specs.Table.{chunk, Clear, KeptBut}
+use Rattle.buffers.specs.Output.{Warning, rowPayload, eachOf}
+use Rattle.buffers.proofs.BufferLaws.{_then_, put-as}
+use Rattle.buffers.proofs.TableLaws.{but-one, but-trans}
+use Rattle.access.specs.Places.{entryHere, unitHere}
 use Rattle.lines.specs.Files.{FileTable, FileIndices}
 use Rattle.lines.specs.Lines.{SequencedLine, LineSequenceRange, UnitLines}
 use Rattle.lines.specs.Rows.{contains, belongs, compactLineRows, ownRows, earlierIn, earlierRow, startsLate, sequenceExists, selectedSequence, rowsFor, forRange}
+use Rattle.files.specs.declared.index.StoredIndices.{StoredIndices}
+use Rattle.files.specs.Store.{extent, tableOf}
+use Rattle.files.proofs.GrownLaws.{table-kept, files-kept, grown-none, grown-kept, grown-after}
 use Rattle.rows.specs.declared.line.StatementSequence.{StatementSequence}
 use Rattle.rows.specs.declared.«unit_lines».StoredLines.{StoredLines}
 use Rattle.rows.specs.declared.«unit_lines».FunctionRows.{FunctionRows}
@@ -29,9 +32,6 @@ use Rattle.rows.specs.Sizes.{entrySize}
 use Rattle.rows.specs.Stored.{sequenceOf, entryOf, entriesOf}
 use Rattle.rows.specs.Selects.{unitLinesOf, ForRange}
 use Rattle.rows.proofs.StoredLaws.{entries-length, entries-nil, entries-rest-none, entries-rest-cons}
-use Rattle.files.specs.declared.index.StoredIndices.{StoredIndices}
-use Rattle.files.specs.Store.{extent, tableOf}
-use Rattle.files.proofs.GrownLaws.{table-kept, files-kept, grown-none, grown-kept, grown-after}
 use Rattle.collect.specs.Collects.{linesIn}
 use Rattle.references.specs.Search.{Declaring, resolveDeclarationLine}
 use Rattle.imports.specs.Import as import

@@ -11,10 +11,10 @@ use Rattle.tlv.specs.declared.model.AddressRange.{AddressRange}
 use Rattle.tlv.specs.declared.model.LineEntry.{LineEntry}
 use Rattle.tlv.specs.Bytes.{bytesOf}
 use Rattle.tlv.specs.Fields.{encode}
-use Rattle.tlv.specs.Buffer.{Put, top}
-use Rattle.tlv.specs.Output.{functionPayload, rowPayload, eachOf}
 use Rattle.tlv.proofs.TestLaws.{by-less}
 use Rattle.tlv.proofs.ByteLaws.{length-bytesOf}
+use Rattle.buffers.specs.Buffer.{Put, top}
+use Rattle.buffers.specs.Output.{functionPayload, rowPayload, eachOf}
 use Rattle.dies.specs.Past.{isPast}
 use Rattle.dies.proofs.PastLaws.{past-append, encode-length}
 use Rattle.subprograms.specs.Steps.{linesBytes}

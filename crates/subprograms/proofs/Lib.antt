@@ -11,6 +11,7 @@ pub mod RangeStepLaws
 pub mod CandidateLaws
 pub mod RangesLaws
 pub mod ListStepLaws
+pub mod EntryRangeLaws
 pub mod EntryStepLaws
 pub mod UnitLaws
 pub mod TextLaws

@@ -6,45 +6,28 @@ use mathlib.Core.Option.{Option, none, some}
 use Prim.Native.Nat.{ℕ, _+_, _-_, _/_, _%_, _≤_, _<_}
 use native.Mathlib.Omega.{arith}
 use lib.Dec.{eqb}
-use lib.ListN.{length, take, drop}
+use lib.ListN.{length}
 use borrow.Author.Tests.{ne-eqb, lt-ltb, le-ltb}
-use Rattle.tlv.specs.declared.access.Own.{Own}
-use Rattle.tlv.specs.declared.model.AddressRange.{AddressRange}
 use Rattle.tlv.specs.Outcome.{Outcome, refused, done, _>>=_}
 use Rattle.tlv.specs.Bytes.{leAt}
-use Rattle.tlv.specs.Lists.{mapOption}
-use Rattle.tlv.specs.Fields.{encode, fields, payloads, payloadOf}
-use Rattle.tlv.specs.Buffer.{Put, top}
-use Rattle.tlv.specs.Model.{Entry, EntryRange, RangeFailure, RangeList, rangeListOf}
-use Rattle.tlv.specs.Output.{warningPayload, malformedRanges}
-use Rattle.tlv.specs.Checked.{Placed}
-use Rattle.tlv.specs.Places.{ownFields, entryHere}
-use Rattle.tlv.specs.Access.{NextOwn}
-use Rattle.tlv.proofs.ShapeLaws.{number-at, number-first}
-use Rattle.tlv.proofs.TableLaws.{but-refl}
-use Rattle.tlv.proofs.OwnLaws.{own-field}
-use Rattle.tlv.proofs.PlacePromises.{placed-list}
-use Rattle.tlv.proofs.EntryPlaceLaws.{entry-list}
-use Rattle.tlv.proofs.ListCountLaws.{lists-other}
+use Rattle.tlv.specs.Fields.{encode}
+use Rattle.tlv.specs.Model.{Entry, EntryRange, RangeFailure}
+use Rattle.buffers.specs.Buffer.{Put, top}
+use Rattle.buffers.specs.Output.{warningPayload, malformedRanges}
+use Rattle.access.specs.Places.{entryHere}
 use Rattle.rnglists.specs.declared.lists.NextRange.{NextRange}
-use Rattle.rnglists.specs.RangeLists.{ListRanges, faulty, andBefore, listRanges, decimal, DieRanges, listed, dieRangesBy}
+use Rattle.rnglists.specs.RangeLists.{ListRanges, faulty, andBefore, decimal}
 use Rattle.rnglists.specs.Steps.{NextIs}
-use Rattle.files.specs.declared.store.StoredFiles.{StoredFiles}
-use Rattle.references.specs.Tables.{EntryKnown}
-use Rattle.references.proofs.ReferenceLaws.{entry-step}
-use Rattle.imports.specs.Tree.{dieRanges}
-use Rattle.imports.specs.Import.{State, rejected, importRanges, importByFailure}
+use Rattle.imports.specs.Import.{State, rejected, importRanges}
 use Rattle.imports.specs.Import as import
-use Rattle.dies.specs.Details.{EntriesKnown, dwarfWith}
-use Rattle.dies.specs.RangeTable.{listAt, listOf, ownLists}
-use Rattle.dies.proofs.EntryWalkLaws.{lists-entry, lists-most}
+use Rattle.ranges.specs.RangeTable.{listAt, listOf}
 use Rattle.subprograms.specs.declared.model.ImportState.{ImportState}
 use Rattle.subprograms.specs.declared.model.ImportContext.{ImportContext}
-use Rattle.subprograms.specs.Contexts.{ContextIn, contextWith, touched}
+use Rattle.subprograms.specs.Contexts.{ContextIn, contextWith}
 use Rattle.subprograms.specs.Steps.{Imports, RejectsList, importOne, importFailing, importListed, belowEntry}
 use Rattle.subprograms.proofs.ContextLaws.{context-same}
-use Rattle.subprograms.proofs.StepLaws.{imports-none, imports-then, imports-refused, imports-as, imports-rejected, imports-at, imports-context}
-use Rattle.subprograms.proofs.RangesLaws.{RangeOne, ranges-step, ranges-none, start-placed, reason-put}
+use Rattle.subprograms.proofs.StepLaws.{grows-none, imports-then, grows-refused, grows-as, imports-rejected, grows-at, imports-context}
+use Rattle.subprograms.proofs.RangesLaws.{RangeOne, ranges-step, ranges-none, reason-put}
 
 -- ---- what the definition does
 
@@ -85,11 +68,6 @@ module _ (q : import.ImportContext) (e : Entry) (below : List Entry) (name : Lis
 
   listed-fault : (n : ℕ) (s : State) → 7 ≤ n → importListed q e below name (faulty n) s ≡ done (rejected (malformedRanges true (decimal n) ∷ []) s)
   listed-fault n s h = failing-none (eqb n 0) (decimal n) s (ne-eqb n 0 (λ z. omega arith))
-
-  -- by the ranges that the entry has
-  by-given : (o : Option RangeFailure) (s : State) → importByFailure q e below name o s ≡ importFailing q e below name (dieRanges (q .dwarf) e .given) o s
-  by-given none s = refl
-  by-given (some f) s = refl
 
 -- ---- the loop
 
@@ -134,7 +112,7 @@ module _ {main supplementary w₀ : List ℕ} {q : ImportContext} {p start : ℕ
     records-size = refl;
     files-size = refl;
     warnings-size = refl;
-    finish = λ w′ t′ f′ u′ r I. imports-as (λ s. ap (λ (l : ListRanges). ListFrom main supplementary lists addresses q name p w₀ l s) (sym whole)) I;
+    finish = λ w′ t′ f′ u′ r I. grows-as (λ s. ap (λ (l : ListRanges). ListFrom main supplementary lists addresses q name p w₀ l s) (sym whole)) I;
   }
     where
       whole : listAt lists addresses place size at base ≡ listOf main lists addresses start
@@ -150,9 +128,9 @@ module _ {main supplementary lists addresses : List ℕ} {q : ImportContext} {na
   list-done e kt kf ku =
       let Q : NextIs lists addresses place size at base NextRange.End = rw e at N in
       G .finish w t f u st
-      (imports-as (λ s. ap (λ (l : ListRanges). ListFrom main supplementary lists addresses q name p w₀ l s) (sym (Q .is))
+      (grows-as (λ s. ap (λ (l : ListRanges). ListFrom main supplementary lists addresses q name p w₀ l s) (sym (Q .is))
       ∙ listed-none (contextWith main supplementary lists addresses w₀ q) (entryHere main p) (belowEntry main p) name s)
-      (imports-none (G .context) (but-refl w (touched main supplementary q (st .table))) refl (G .context .files) (G .status) (G .records) (G .warned)
+      (grows-none (G .context .files) (G .status) (G .records) (G .warned)
       kt kf ku))
 
   pub list-failed : {n : ℕ} → x ≡ NextRange.Fault n → {u′ : List ℕ} {r : ImportState} → length t < top → length f < top → RejectsList st n u u′ r
@@ -161,7 +139,7 @@ module _ {main supplementary lists addresses : List ℕ} {q : ImportContext} {na
   list-failed {n} e {u′} {r} kt kf R =
       let Q : NextIs lists addresses place size at base (NextRange.Fault n) = rw e at N in
       G .finish w t f u′ r
-      (imports-as (λ s. ap (λ (l : ListRanges). ListFrom main supplementary lists addresses q name p w₀ l s) (sym (Q .is))
+      (grows-as (λ s. ap (λ (l : ListRanges). ListFrom main supplementary lists addresses q name p w₀ l s) (sym (Q .is))
       ∙ listed-fault (contextWith main supplementary lists addresses w₀ q) (entryHere main p) (belowEntry main p) name n s (Q .within))
       (imports-rejected (malformedRanges true (decimal n) ∷ []) (G .context) (G .status) (G .records) kt kf (reason-put true (decimal n) (R .put))
       (R .rejects)))
@@ -192,8 +170,8 @@ module _ {main supplementary lists addresses : List ℕ} {q : ImportContext} {na
           → Imports (λ s. ListFrom main supplementary lists addresses q name p w₀ (listOf main lists addresses start) s) main supplementary q w₀ t₀ f₀ u₀ st₀
           w′ t′ f′ u′ r
       list-refused n =
-          G .finish w′ t′ f′ u′ r (imports-as turn
-          (imports-refused (λ s. ListFrom main supplementary lists addresses q name p w₀ (listAt lists addresses place size next after) s) n I))
+          G .finish w′ t′ f′ u′ r (grows-as turn
+          (grows-refused (λ s. ListFrom main supplementary lists addresses q name p w₀ (listAt lists addresses place size next after) s) n I))
 
       pub list-turn : r .status ≡ 0 → length w′ ≡ length w → length t′ ≡ length t → length f′ ≡ length f → length u′ ≡ length u
           → GoingList main supplementary lists addresses q name p start w₀ t₀ f₀ u₀ st₀ w′ t′ f′ u′ r place size next after
@@ -201,13 +179,13 @@ module _ {main supplementary lists addresses : List ℕ} {q : ImportContext} {na
         context = imports-context sw z (G .context) I;
         same = context-same (G .context) (I .kept z) lists addresses ∙ G .same;
         status = z;
-        records = imports-at I z .0;
-        warned = imports-at I z .1;
+        records = grows-at I z .0;
+        warned = grows-at I z .1;
         work-size = sw ∙ G .work-size;
         records-size = st ∙ G .records-size;
         files-size = sf ∙ G .files-size;
         warnings-size = su ∙ G .warnings-size;
-        finish = λ w″ t″ f″ u″ r″ J. G .finish w″ t″ f″ u″ r″ (imports-as turn (imports-then z I J));
+        finish = λ w″ t″ f″ u″ r″ J. G .finish w″ t″ f″ u″ r″ (grows-as turn (imports-then q z I J));
       }
 
 -- ---- a fault's number in decimal, as the code has its digits
@@ -222,111 +200,3 @@ module _ (n : ℕ) {at r : ℕ} {u u′ : List ℕ} where
       → Put at (encode 0x46 (warningPayload (malformedRanges true (decimal n)))) u u′ r
   unfolding decimal
   fault-digits h P = rw (le-ltb n 10 h) P
-
--- ---- where an entry's ranges come from
-
-empty-none : (xs : List (List ℕ)) → length xs ≡ 0 → xs ≡ []
-empty-none [] h = refl
-empty-none (x ∷ xs) h = absurd (omega arith)
-
--- it is not looked for
-pub field-missing : {main : List ℕ} {at : ℕ} → ownLists main at ≡ 0 → NextOwn main at 0x1f Own.Missing
-field-missing h = record { is = sym (empty-none _ h); within = tt; stands = tt }
-
--- what the definition does with the ranges of the entry at p, wherever they come from, and with those of its fields 19 and 1a
-abbrev NamedFrom : List ℕ → List ℕ → List ℕ → List ℕ → ImportContext → List ℕ → ℕ → List ℕ → State → Outcome State
-NamedFrom main supplementary lists addresses q name p w =
-    importByFailure (contextWith main supplementary lists addresses w q) (entryHere main p) (belowEntry main p) name
-    (dieRanges (dwarfWith main supplementary lists addresses) (entryHere main p) .failure)
-
-abbrev FieldsFrom : List ℕ → List ℕ → List ℕ → List ℕ → ImportContext → List ℕ → ℕ → List ℕ → State → Outcome State
-FieldsFrom main supplementary lists addresses q name p w =
-    importFailing (contextWith main supplementary lists addresses w q) (entryHere main p) (belowEntry main p) name (entryHere main p .ranges)
-    (entryHere main p .failure)
-
-abbrev ownPayloads : List ℕ → ℕ → List (List ℕ)
-ownPayloads main p = payloads 0x1f (ownFields (fields (drop (p + 15) main)))
-
--- by what the entry's ranges are
-sourced : {main supplementary : List ℕ} (lists addresses : List ℕ) {q : ImportContext} (name : List ℕ) (p : ℕ) {t f u w w′ t′ f′ u′ : List ℕ}
-    {st r : ImportState} {d : DieRanges}
-    → dieRanges (dwarfWith main supplementary lists addresses) (entryHere main p) ≡ d
-    → Imports (λ s. importFailing (contextWith main supplementary lists addresses w q) (entryHere main p) (belowEntry main p) name (d .given) (d .failure) s)
-    main supplementary q w t f u st w′ t′ f′ u′ r
-    → Imports (NamedFrom main supplementary lists addresses q name p w) main supplementary q w t f u st w′ t′ f′ u′ r
-sourced {main} {supplementary} lists addresses {q} name p {w = w} e I =
-    imports-as
-    (λ s. by-given (contextWith main supplementary lists addresses w q) (entryHere main p) (belowEntry main p) name
-    (dieRanges (dwarfWith main supplementary lists addresses) (entryHere main p) .failure) s
-    ∙ ap (λ (d : DieRanges). importFailing (contextWith main supplementary lists addresses w q) (entryHere main p) (belowEntry main p) name (d .given)
-    (d .failure) s) e)
-    I
-
-module _ {main supplementary w : List ℕ} {q : ImportContext} {T : StoredFiles} {p : ℕ} (C : ContextIn main supplementary w q T)
-    (K : EntryKnown main (q .unit) p) where
-  list-is : entryHere main p .list ≡ mapOption rangeListOf (payloadOf 0x1f (ownFields (fields (drop (p + 15) main))))
-  list-is = entry-list main p _ 0x17 (p + 3) 12 (p + 15) refl (entry-step (start-placed C K) K)
-
-  list-none : ownPayloads main p ≡ [] → entryHere main p .list ≡ none
-  unfolding payloadOf mapOption
-  list-none e = rw (list-is, e)
-
-  -- from its fields 19 and 1a
-  from-fields : (lists addresses name : List ℕ) {t f u w′ t′ f′ u′ : List ℕ} {st r : ImportState} → ownPayloads main p ≡ []
-      → Imports (FieldsFrom main supplementary lists addresses q name p w) main supplementary q w t f u st w′ t′ f′ u′ r
-      → Imports (NamedFrom main supplementary lists addresses q name p w) main supplementary q w t f u st w′ t′ f′ u′ r
-  unfolding dieRanges
-  from-fields lists addresses name e I = sourced lists addresses name p (ap (dieRangesBy lists addresses (entryHere main p)) (list-none e)) I
-
-  -- no entry of a unit without lists has one
-  pub own-listless : EntriesKnown main (q .unit) (p + 15) → q .«with_lists» ≡ false → ownLists main (p + 15) ≡ 0
-  own-listless E n =
-      let step = entry-step (start-placed C K) K in
-      omega (
-        arith,
-        C .listless n,
-        E .lists,
-        lists-most main p,
-        lists-entry main p _ refl 0x17 (p + 3) 12 (p + 15) step refl,
-        lists-other main p _ refl 0x17 (p + 3) 12 (p + 15) step (λ z. omega arith) (λ z. omega arith),
-      )
-
-  module _ {o : Own} (N : NextOwn main (p + 15) 0x1f o) where
-    -- this one has none
-    pub named-unlisted : (lists addresses name : List ℕ) {t f u w′ t′ f′ u′ : List ℕ} {st r : ImportState} → o ≡ Own.Missing
-        → Imports (FieldsFrom main supplementary lists addresses q name p w) main supplementary q w t f u st w′ t′ f′ u′ r
-        → Imports (NamedFrom main supplementary lists addresses q name p w) main supplementary q w t f u st w′ t′ f′ u′ r
-    named-unlisted lists addresses name e I = from-fields lists addresses name (sym (rw e at (N .is))) I
-
-    module _ {start len next : ℕ} (e : o ≡ Own.Field start len next) (h : Placed main (p + 15)) where
-      own-is : ownPayloads main p ≡ take len (drop start main) ∷ payloads 0x1f (ownFields (fields (drop next main)))
-      own-is = sym (rw e at (N .is))
-
-      long : len ≡ 25
-      long =
-          let x = own-field main (p + 15) 0x1f o start len next N e h in placed-list main (x .place) (x .step) 0x1f start len next (x .here) (x .reads)
-          (x .is) refl
-
-      -- the field's numbers
-      read-is : rangeListOf (take len (drop start main))
-          ≡ record { offset = leAt 8 main start; base = leAt 8 main (start + 8); addresses = leAt 8 main (start + 16); size = leAt 1 main (start + 24) }
-      unfolding rangeListOf
-      read-is = λ i. record {
-        offset = number-first main start len 8 (leAt 8 main start) (omega (arith, long)) refl i;
-        base = number-at main start len 8 8 (leAt 8 main (start + 8)) (omega (arith, long)) refl i;
-        addresses = number-at main start len 8 16 (leAt 8 main (start + 16)) (omega (arith, long)) refl i;
-        size = number-at main start len 1 24 (leAt 1 main (start + 24)) (omega (arith, long)) refl i;
-      }
-
-      list-some : entryHere main p .list
-          ≡ some (record { offset = leAt 8 main start; base = leAt 8 main (start + 8); addresses = leAt 8 main (start + 16); size = leAt 1 main (start + 24) })
-      unfolding payloadOf mapOption
-      list-some = rw (list-is, own-is, read-is)
-
-      -- from its list
-      pub named-listed : (lists addresses name : List ℕ) {t f u w′ t′ f′ u′ : List ℕ} {st r : ImportState}
-          → Imports (importListed (contextWith main supplementary lists addresses w q) (entryHere main p) (belowEntry main p) name
-          (listOf main lists addresses start)) main supplementary q w t f u st w′ t′ f′ u′ r
-          → Imports (NamedFrom main supplementary lists addresses q name p w) main supplementary q w t f u st w′ t′ f′ u′ r
-      unfolding dieRanges listRanges
-      named-listed lists addresses name I = sourced lists addresses name p (ap (dieRangesBy lists addresses (entryHere main p)) list-some) I

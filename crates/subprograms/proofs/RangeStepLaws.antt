@@ -9,18 +9,18 @@ use lib.ListN.{length}
 use Rattle.tlv.specs.declared.model.AddressRange.{AddressRange}
 use Rattle.tlv.specs.declared.model.LineEntry.{LineEntry}
 use Rattle.tlv.specs.Outcome.{Outcome, refused, done, _>>=_}
-use Rattle.tlv.specs.Buffer.{top, Put}
 use Rattle.tlv.specs.Fields.{encode}
-use Rattle.tlv.specs.Table.{Clear}
 use Rattle.tlv.specs.Model.{Entry}
-use Rattle.tlv.specs.Places.{entryHere}
-use Rattle.tlv.specs.Output.{Function, Warning, functionPayload, eachOf, nodeBytes, sitePayload, functionBytes, recordsBytes}
-use Rattle.tlv.proofs.BufferLaws.{_then_, put-as}
-use Rattle.tlv.proofs.TableLaws.{but-one, but-trans}
+use Rattle.buffers.specs.Buffer.{top, Put}
+use Rattle.buffers.specs.Table.{Clear}
+use Rattle.buffers.specs.Output.{Function, Warning, functionPayload, eachOf, nodeBytes, sitePayload, functionBytes, recordsBytes}
+use Rattle.buffers.proofs.BufferLaws.{_then_, put-as}
+use Rattle.buffers.proofs.TableLaws.{but-one, but-trans}
+use Rattle.access.specs.Places.{entryHere}
 use Rattle.lines.specs.Files.{FileTable}
 use Rattle.files.specs.Store.{extent, tableOf}
 use Rattle.files.proofs.GrownLaws.{table-kept, grown-kept}
-use Rattle.references.proofs.DeclareLaws.{warnings-append}
+use Rattle.declarations.proofs.DeclareLaws.{warnings-append}
 use Rattle.imports.specs.Tree.{Descendants, extractSubprogramDetails}
 use Rattle.imports.specs.Import.{State, ConversionStats, ImportContext, rooted, detailContext, addFunction, importRange}
 use Rattle.dies.specs.Details.{detailBytes}

@@ -9,40 +9,39 @@ use lib.Dec.{eqb}
 use lib.ListN.{length, take, drop, length-take}
 use borrow.Author.Tests.{eq-eqb, ne-eqb}
 use Rattle.tlv.specs.declared.model.AddressRange.{AddressRange}
-use Rattle.tlv.specs.declared.access.Own.{Own}
 use Rattle.tlv.specs.Outcome.{Outcome, done, _>>=_}
 use Rattle.tlv.specs.Bytes.{leAt}
 use Rattle.tlv.specs.Lists.{mapOption}
 use Rattle.tlv.specs.Fields.{encode, fields, payloadOf}
-use Rattle.tlv.specs.Buffer.{top, Put}
-use Rattle.tlv.specs.Table.{chunk}
 use Rattle.tlv.specs.Model.{Entry, EntryRange, RangeFailure, rangeOf, entryRangeOf, failureOf}
-use Rattle.tlv.specs.Output.{eachOf, warningPayload, warningsBytes, malformedRanges, about, rejectedRange}
 use Rattle.tlv.specs.Checked.{Placed}
-use Rattle.tlv.specs.Places.{ownFields, entryHere}
-use Rattle.tlv.specs.Access.{NextOwn}
 use Rattle.tlv.specs.Limits.{reasonLimit}
-use Rattle.tlv.proofs.BufferLaws.{put-as}
 use Rattle.tlv.proofs.WidthLaws.{drop-part}
-use Rattle.tlv.proofs.ChunkLaws.{leAt-chunk, leAt-front}
 use Rattle.tlv.proofs.ShapeLaws.{number-at, number-first}
-use Rattle.tlv.proofs.TableLaws.{but-refl}
-use Rattle.tlv.proofs.OwnLaws.{own-field, own-placed, own-within}
 use Rattle.tlv.proofs.PlacePromises.{placed-range, placed-failure, placed-reason}
 use Rattle.tlv.proofs.PlaceFacts.{placed-start}
-use Rattle.tlv.proofs.EntryPlaceLaws.{entry-ranges, entry-failure}
+use Rattle.buffers.specs.Buffer.{top, Put}
+use Rattle.buffers.specs.Table.{chunk}
+use Rattle.buffers.specs.Output.{eachOf, warningPayload, warningsBytes, malformedRanges, about, rejectedRange}
+use Rattle.buffers.proofs.BufferLaws.{put-as}
+use Rattle.buffers.proofs.ChunkLaws.{leAt-chunk, leAt-front}
+use Rattle.access.specs.declared.access.Own.{Own}
+use Rattle.access.specs.Places.{ownFields, entryHere}
+use Rattle.access.specs.Access.{NextOwn}
+use Rattle.access.proofs.OwnLaws.{own-field, own-placed, own-within}
+use Rattle.access.proofs.EntryPlaceLaws.{entry-ranges, entry-failure}
 use Rattle.files.specs.declared.store.StoredFiles.{StoredFiles}
 use Rattle.references.specs.Tables.{EntryKnown}
 use Rattle.references.proofs.ReferenceLaws.{entry-step}
 use Rattle.imports.specs.Import.{State, isTombstone, isLiveRange, rejected, importRange, importRanges}
 use Rattle.imports.specs.Import as import
-use Rattle.dies.specs.RangeTable.{rangeFields}
+use Rattle.ranges.specs.RangeTable.{rangeFields}
 use Rattle.subprograms.specs.declared.model.ImportState.{ImportState}
 use Rattle.subprograms.specs.declared.model.ImportContext.{ImportContext}
-use Rattle.subprograms.specs.Contexts.{ContextIn, contextWith, touched}
+use Rattle.subprograms.specs.Contexts.{ContextIn, contextWith}
 use Rattle.subprograms.specs.Steps.{Imports, Rejects, importOne, importFailing, belowEntry}
 use Rattle.subprograms.proofs.ContextLaws.{context-same}
-use Rattle.subprograms.proofs.StepLaws.{imports-none, imports-then, imports-refused, imports-as, imports-rejected, imports-at, imports-context}
+use Rattle.subprograms.proofs.StepLaws.{grows-none, imports-then, grows-refused, grows-as, imports-rejected, grows-at, imports-context}
 
 -- ---- what the definition does
 
@@ -143,7 +142,7 @@ module _ {main supplementary w₀ : List ℕ} {q : ImportContext} {p : ℕ} {st�
     records-size = refl;
     files-size = refl;
     warnings-size = refl;
-    finish = λ w′ t′ f′ u′ r I. imports-as (λ s. ap (λ (xs : List EntryRange). RangesFrom main supplementary lists addresses q name p w₀ xs s) (given-is C K)) I;
+    finish = λ w′ t′ f′ u′ r I. grows-as (λ s. ap (λ (xs : List EntryRange). RangesFrom main supplementary lists addresses q name p w₀ xs s) (given-is C K)) I;
   }
 
 module _ {main supplementary lists addresses : List ℕ} {q : ImportContext} {name : List ℕ} {p : ℕ} {w₀ t₀ f₀ u₀ : List ℕ} {st₀ : ImportState} {w t f u : List ℕ} {st : ImportState} {at : ℕ}
@@ -152,8 +151,8 @@ module _ {main supplementary lists addresses : List ℕ} {q : ImportContext} {na
       → Imports (RangesFrom main supplementary lists addresses q name p w₀ (entryHere main p .ranges)) main supplementary q w₀ t₀ f₀ u₀ st₀ w t f u st
   going-done e kt kf ku =
       G .finish w t f u st
-      (imports-as (λ s. ap (λ xs. RangesFrom main supplementary lists addresses q name p w₀ xs s) (given-end main at own N e) ∙ ranges-none (contextWith main supplementary lists addresses w₀ q) (entryHere main p) (belowEntry main p) name s)
-      (imports-none (G .context) (but-refl w (touched main supplementary q (st .table))) refl (G .context .files) (G .status) (G .records) (G .warned) kt kf ku))
+      (grows-as (λ s. ap (λ xs. RangesFrom main supplementary lists addresses q name p w₀ xs s) (given-end main at own N e) ∙ ranges-none (contextWith main supplementary lists addresses w₀ q) (entryHere main p) (belowEntry main p) name s)
+      (grows-none (G .context .files) (G .status) (G .records) (G .warned) kt kf ku))
 
   module _ (start len next : ℕ) (e : own ≡ Own.Field start len next) where
     pub going-within : start + 17 ≤ length main
@@ -171,7 +170,7 @@ module _ {main supplementary lists addresses : List ℕ} {q : ImportContext} {na
 
       pub going-refused : (r .status ≡ 0 → ⊥)
           → Imports (RangesFrom main supplementary lists addresses q name p w₀ (entryHere main p .ranges)) main supplementary q w₀ t₀ f₀ u₀ st₀ w′ t′ f′ u′ r
-      going-refused n = G .finish w′ t′ f′ u′ r (imports-as turn (imports-refused (RangesFrom main supplementary lists addresses q name p w₀ (map entryRangeOf (rangeFields main next))) n I))
+      going-refused n = G .finish w′ t′ f′ u′ r (grows-as turn (grows-refused (RangesFrom main supplementary lists addresses q name p w₀ (map entryRangeOf (rangeFields main next))) n I))
 
       pub going-turn : r .status ≡ 0 → length w′ ≡ length w → length t′ ≡ length t → length f′ ≡ length f → length u′ ≡ length u
           → Going main supplementary lists addresses q name p w₀ t₀ f₀ u₀ st₀ w′ t′ f′ u′ r next
@@ -180,13 +179,13 @@ module _ {main supplementary lists addresses : List ℕ} {q : ImportContext} {na
         context = imports-context sw z (G .context) I;
         same = context-same (G .context) (I .kept z) lists addresses ∙ G .same;
         status = z;
-        records = imports-at I z .0;
-        warned = imports-at I z .1;
+        records = grows-at I z .0;
+        warned = grows-at I z .1;
         size = sw ∙ G .size;
         records-size = st ∙ G .records-size;
         files-size = sf ∙ G .files-size;
         warnings-size = su ∙ G .warnings-size;
-        finish = λ w″ t″ f″ u″ r″ J. G .finish w″ t″ f″ u″ r″ (imports-as turn (imports-then z I J));
+        finish = λ w″ t″ f″ u″ r″ J. G .finish w″ t″ f″ u″ r″ (grows-as turn (imports-then q z I J));
       }
 
 -- ---- a failure
@@ -245,7 +244,7 @@ module _ {main supplementary w : List ℕ} {q : ImportContext} {st : ImportState
   pub named-whole : {t f u w′ t′ f′ u′ : List ℕ} {r : ImportState} → own ≡ Own.Missing
       → Imports (RangesFrom main supplementary lists addresses q name p w (entryHere main p .ranges)) main supplementary q w t f u st w′ t′ f′ u′ r
       → Imports (ByFailure main supplementary lists addresses q name p w (entryHere main p .failure)) main supplementary q w t f u st w′ t′ f′ u′ r
-  named-whole e I = imports-as (λ s. rw (failure-none C K N e)) I
+  named-whole e I = grows-as (λ s. rw (failure-none C K N e)) I
 
   module _ (start len next : ℕ) (e : own ≡ Own.Field start len next) {stage : ℕ} (es : stage ≡ leAt 1 main start) where
     -- before any range
@@ -253,7 +252,7 @@ module _ {main supplementary w : List ℕ} {q : ImportContext} {st : ImportState
         → Put (st .warned) (encode 0x46 (warningPayload (malformedRanges false (reasonAt main start len)))) u u′ warned → Rejects st warned r
         → Imports (ByFailure main supplementary lists addresses q name p w (entryHere main p .failure)) main supplementary q w t f u st w t f u′ r
     named-none z ok fits kt kf P R =
-        imports-as (λ s. rw (failure-some C K N h start len next stage e es, eq-eqb stage 0 z))
+        grows-as (λ s. rw (failure-some C K N h start len next stage e es, eq-eqb stage 0 z))
         (imports-rejected (malformedRanges false (reasonAt main start len) ∷ []) C ok fits kt kf (reason-put false (reasonAt main start len) P) R)
 
     module _ (n : stage ≡ 0 → ⊥) {t f u w′ t′ f′ u′ : List ℕ} {st′ : ImportState}
@@ -265,13 +264,13 @@ module _ {main supplementary w : List ℕ} {q : ImportContext} {st : ImportState
       -- the ranges were refused
       pub named-refused : (st′ .status ≡ 0 → ⊥)
           → Imports (ByFailure main supplementary lists addresses q name p w (entryHere main p .failure)) main supplementary q w t f u st w′ t′ f′ u′ st′
-      named-refused k = imports-as after (imports-refused (λ s. done (rejected (malformedRanges true (reasonAt main start len) ∷ []) s)) k I)
+      named-refused k = grows-as after (grows-refused (λ s. done (rejected (malformedRanges true (reasonAt main start len) ∷ []) s)) k I)
 
       -- after the ranges
       pub named-after : {u″ : List ℕ} {warned : ℕ} {r : ImportState} → st′ .status ≡ 0 → length w′ ≡ length w → length t′ < top → length f′ < top
           → Put (st′ .warned) (encode 0x46 (warningPayload (malformedRanges true (reasonAt main start len)))) u′ u″ warned → Rejects st′ warned r
           → Imports (ByFailure main supplementary lists addresses q name p w (entryHere main p .failure)) main supplementary q w t f u st w′ t′ f′ u″ r
       named-after z size kt kf P R =
-          imports-as after
-          (imports-then z I
-          (imports-rejected (malformedRanges true (reasonAt main start len) ∷ []) (imports-context size z C I) z (imports-at I z .0) kt kf (reason-put true (reasonAt main start len) P) R))
+          grows-as after
+          (imports-then q z I
+          (imports-rejected (malformedRanges true (reasonAt main start len) ∷ []) (imports-context size z C I) z (grows-at I z .0) kt kf (reason-put true (reasonAt main start len) P) R))

@@ -8,8 +8,8 @@ use Rattle.tlv.specs.declared.model.AddressRange.{AddressRange}
 use Rattle.tlv.specs.declared.model.LineEntry.{LineEntry}
 use Rattle.tlv.specs.Outcome.{Outcome, done, _>>=_}
 use Rattle.tlv.specs.Model.{Entry}
-use Rattle.tlv.specs.Places.{entryHere}
-use Rattle.tlv.specs.Output.{Warning}
+use Rattle.buffers.specs.Output.{Warning}
+use Rattle.access.specs.Places.{entryHere}
 use Rattle.lines.specs.Files.{FileTable}
 use Rattle.lines.specs.Rows.{forRange}
 use Rattle.files.specs.Store.{tableOf}

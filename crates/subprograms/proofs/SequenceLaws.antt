@@ -1,5 +1,4 @@
 -- The statement sequence that an entry asks for, as it is read, and the warning of one that does not exist. Assumes nothing.
-use Rattle.tlv.specs.Outcome.{_>>=_}
 use mathlib.Core.Path.{_≡_, refl, sym, ap, _∙_}
 use mathlib.Core.Logic.{_⊎_, inl, inr, ⊎-elim}
 use mathlib.Core.Bool.{Bool, true, false, cond, not, _||_}
@@ -10,27 +9,29 @@ use native.Mathlib.Omega.{arith}
 use lib.Dec.{eqb}
 use lib.ListN.{length, take, drop}
 use borrow.Author.Tests.{eqb-true}
-use Rattle.tlv.specs.declared.access.Value.{Value}
+use Rattle.tlv.specs.Outcome.{_>>=_}
 use Rattle.tlv.specs.Bytes.{leAt}
-use Rattle.tlv.specs.Buffer.{top}
 use Rattle.tlv.specs.Lists.{first}
 use Rattle.tlv.specs.Fields.{fields, payloads}
 use Rattle.tlv.specs.Cursor.{stepAt}
 use Rattle.tlv.specs.Grammar.{mayFollow, unitShaped, payloadShaped, shaped}
 use Rattle.tlv.specs.Model.{CompilationUnit, Attribute, attributeOf}
-use Rattle.tlv.specs.Places.{ownFields, entryHere, unitHere}
-use Rattle.tlv.specs.Access.{Meaning, absent, unsigned, fileNumber, text, unitReference, sectionReference, supplementaryReference, sectionOffset, lineOffset, address, failed, isNamed, valueOf, meaningOf, meant, Says}
-use Rattle.tlv.specs.Output.{kindNumber, about, invalidStatementSequence, eachOf, warningsBytes}
+use Rattle.tlv.specs.Checked.{Accepted}
 use Rattle.tlv.proofs.TestLaws.{and-left, and-right, or-either}
-use Rattle.tlv.proofs.IndexModel.{either}
 use Rattle.tlv.proofs.ShapeLaws.{number-at}
 use Rattle.tlv.proofs.PlaceFacts.{placed-start, placed-shaped}
-use Rattle.tlv.proofs.UnitFacts.{unit-word-size}
-use Rattle.tlv.proofs.BufferLaws.{put-none}
-use Rattle.rows.specs.declared.line.StatementSequence.{StatementSequence}
-use Rattle.rows.specs.Stored.{sequenceOf}
+use Rattle.buffers.specs.Buffer.{top}
+use Rattle.buffers.specs.Output.{kindNumber, about, invalidStatementSequence, eachOf, warningsBytes}
+use Rattle.buffers.proofs.BufferLaws.{put-none}
+use Rattle.access.specs.declared.access.Value.{Value}
+use Rattle.access.specs.Places.{ownFields, entryHere, unitHere}
+use Rattle.access.specs.Access.{Meaning, absent, unsigned, fileNumber, text, unitReference, sectionReference, supplementaryReference, sectionOffset, lineOffset, address, failed, isNamed, valueOf, meaningOf, meant, Says}
+use Rattle.access.proofs.IndexModel.{either}
+use Rattle.access.proofs.UnitFacts.{unit-word-size}
 use Rattle.files.specs.Pieces.{UnitPlaced}
 use Rattle.files.proofs.UnitLaws.{unit-within}
+use Rattle.rows.specs.declared.line.StatementSequence.{StatementSequence}
+use Rattle.rows.specs.Stored.{sequenceOf}
 use Rattle.collect.specs.Collects.{UnitIn}
 use Rattle.collect.proofs.HeaderPlaces.{unit-stands}
 use Rattle.references.specs.Search.{attribute}
@@ -38,7 +39,7 @@ use Rattle.references.specs.Tables.{EntryKnown}
 use Rattle.references.proofs.ReferenceLaws.{attribute-says}
 use Rattle.imports.specs.Import.{sequenceIf, statementSequenceOffset, sequenceWarning}
 use Rattle.dies.specs.declared.calls.Warned.{Warned}
-use Rattle.dies.specs.DetailState.{Accepted, AboutWarned}
+use Rattle.dies.specs.Calls.{AboutWarned}
 use Rattle.dies.proofs.AttributeReads.{accepted-placed}
 use Rattle.subprograms.specs.Steps.{SequenceWarned}
 

@@ -6,11 +6,11 @@ use Prim.Native.Nat.{ℕ, _≤_, _<_}
 use native.Mathlib.Omega.{arith}
 use lib.ListN.{length}
 use Rattle.tlv.specs.Outcome.{Outcome, done, _>>=_}
-use Rattle.tlv.specs.Buffer.{top, Put}
-use Rattle.tlv.specs.Table.{KeptBut}
-use Rattle.tlv.specs.Output.{Function, Warning, eachOf, functionBytes, recordsBytes, warningsBytes}
-use Rattle.tlv.proofs.BufferLaws.{_then_, put-none, put-as}
-use Rattle.tlv.proofs.TableLaws.{but-refl, but-trans}
+use Rattle.buffers.specs.Buffer.{top, Put}
+use Rattle.buffers.specs.Table.{KeptBut}
+use Rattle.buffers.specs.Output.{Function, Warning, eachOf, functionBytes, recordsBytes, warningsBytes}
+use Rattle.buffers.proofs.BufferLaws.{_then_, put-none, put-as}
+use Rattle.buffers.proofs.TableLaws.{but-refl, but-trans}
 use Rattle.lines.specs.Files.{FileTable}
 use Rattle.files.specs.Store.{entriesOf, tableOf, FilesIn, Grown}
 use Rattle.files.proofs.GrownLaws.{grown-none, grown-trans}
@@ -21,7 +21,7 @@ use Rattle.dies.proofs.NodeStepLaws.{each-append, warnings-append}
 use Rattle.subprograms.specs.declared.model.ImportState.{ImportState}
 use Rattle.subprograms.specs.declared.model.ImportContext.{ImportContext}
 use Rattle.subprograms.specs.Contexts.{ContextIn, touched}
-use Rattle.subprograms.specs.Steps.{Imports, Rejects, stateOf}
+use Rattle.subprograms.specs.Steps.{Grows, Imports, Rejects, stateOf}
 use Rattle.subprograms.proofs.ContextLaws.{context-kept, touched-as}
 use Rattle.subprograms.proofs.LaidPastLaws.{past-both}
 
@@ -37,14 +37,14 @@ pub no-warnings : warningsBytes [] ≡ []
 unfolding warningsBytes eachOf
 no-warnings = refl
 
-module _ {main supplementary : List ℕ} {q : ImportContext} where
+module _ {main supplementary : List ℕ} {over : List (ℕ × ℕ)} where
   -- nothing is done, but for what may be written over in the work slice
-  pub imports-none : {w w′ t f u : List ℕ} {st : ImportState} → ContextIn main supplementary w q (st .table) → KeptBut w w′ (touched main supplementary q (st .table))
+  pub grows-beside : {w w′ t f u : List ℕ} {st : ImportState} → KeptBut w w′ over
       → tableOf main supplementary w′ (st .table) ≡ tableOf main supplementary w (st .table) → FilesIn main supplementary w′ (st .table)
       → st .status ≡ 0 → st .at ≤ top → st .warned ≤ top → length t < top → length f < top → length u < top
-      → Imports done main supplementary q w t f u st w′ t f u st
+      → Grows done main supplementary over w t f u st w′ t f u st
   unfolding tableOf
-  imports-none {w} {w′} {t} {f} {u} {st} C K same F z at-fits warned-fits t-small f-small u-small = record {
+  grows-beside {w} {w′} {t} {f} {u} {st} K same F z at-fits warned-fits t-small f-small u-small = record {
     records = [];
     new = [];
     laid = λ e. put-as no-records (put-none at-fits t-small);
@@ -70,20 +70,25 @@ module _ {main supplementary : List ℕ} {q : ImportContext} where
         first = refl;
       }
 
+  -- nothing at all
+  pub grows-none : {w t f u : List ℕ} {st : ImportState} → FilesIn main supplementary w (st .table) → st .status ≡ 0 → st .at ≤ top → st .warned ≤ top
+      → length t < top → length f < top → length u < top → Grows done main supplementary over w t f u st w t f u st
+  grows-none {w} F = grows-beside (but-refl w over) refl F
+
   -- one step, which was done, and then another
-  pub imports-then : {F G : State → Outcome State} {w t f u w₁ t₁ f₁ u₁ w₂ t₂ f₂ u₂ : List ℕ} {st st₁ st₂ : ImportState} → st₁ .status ≡ 0
-      → Imports F main supplementary q w t f u st w₁ t₁ f₁ u₁ st₁ → Imports G main supplementary q w₁ t₁ f₁ u₁ st₁ w₂ t₂ f₂ u₂ st₂
-      → Imports (λ s. F s >>= G) main supplementary q w t f u st w₂ t₂ f₂ u₂ st₂
+  pub grows-then : {F G : State → Outcome State} {w t f u w₁ t₁ f₁ u₁ w₂ t₂ f₂ u₂ : List ℕ} {st st₁ st₂ : ImportState} → st₁ .status ≡ 0
+      → Grows F main supplementary over w t f u st w₁ t₁ f₁ u₁ st₁ → Grows G main supplementary over w₁ t₁ f₁ u₁ st₁ w₂ t₂ f₂ u₂ st₂
+      → Grows (λ s. F s >>= G) main supplementary over w t f u st w₂ t₂ f₂ u₂ st₂
   unfolding _>>=_
-  imports-then {F} {G} {w = w} {w₁ = w₁} {st = st} {st₁ = st₁} z A B = record {
+  grows-then {F} {G} {w = w} {w₁ = w₁} {st = st} {st₁ = st₁} z A B = record {
     records = A .records ++ B .records;
     new = A .new ++ B .new;
     laid = λ e. put-as (records-append (A .records) (B .records)) (A .laid z then B .laid e);
     past = λ e. past-both (A .laid z) (st .past) (recordsBytes (B .records)) (A .past z) (B .past e)
-        ∙ ap (λ (l : List ℕ). st .past || isPast (st .at) (length l)) (sym (records-append (A .records) (B .records)));
+        ∙ ap (λ (n : List ℕ). st .past || isPast (st .at) (length n)) (sym (records-append (A .records) (B .records)));
     warned = λ e. put-as (warnings-append (A .new) (B .new)) (A .warned z then B .warned e);
     grown = λ e. grown-trans (A .grown z) (B .grown e);
-    kept = λ e. but-trans (A .kept z) (touched-as main supplementary q (st .table) (st₁ .table) (A .grown z .base) (A .grown z .room) (B .kept e));
+    kept = λ e. but-trans (A .kept z) (B .kept e);
     ok = λ e rs ws. first rs ws ∙ B .ok e (rs ++ A .records) (ws ++ A .new) ∙ rw (append-assoc rs (A .records) (B .records), append-assoc ws (A .new) (B .new));
     no = λ n rs ws. first rs ws ∙ B .no n (rs ++ A .records) (ws ++ A .new);
   }
@@ -92,10 +97,10 @@ module _ {main supplementary : List ℕ} {q : ImportContext} where
       first rs ws = ap (λ (o : Outcome State). o >>= G) (A .ok z rs ws)
 
   -- a step that was refused, whatever was to follow
-  pub imports-refused : {F : State → Outcome State} (G : State → Outcome State) {w t f u w₁ t₁ f₁ u₁ : List ℕ} {st st₁ : ImportState} → (st₁ .status ≡ 0 → ⊥)
-      → Imports F main supplementary q w t f u st w₁ t₁ f₁ u₁ st₁ → Imports (λ s. F s >>= G) main supplementary q w t f u st w₁ t₁ f₁ u₁ st₁
+  pub grows-refused : {F : State → Outcome State} (G : State → Outcome State) {w t f u w₁ t₁ f₁ u₁ : List ℕ} {st st₁ : ImportState} → (st₁ .status ≡ 0 → ⊥)
+      → Grows F main supplementary over w t f u st w₁ t₁ f₁ u₁ st₁ → Grows (λ s. F s >>= G) main supplementary over w t f u st w₁ t₁ f₁ u₁ st₁
   unfolding _>>=_
-  imports-refused G n A = record {
+  grows-refused G n A = record {
     records = A .records;
     new = A .new;
     laid = A .laid;
@@ -108,9 +113,9 @@ module _ {main supplementary : List ℕ} {q : ImportContext} where
   }
 
   -- the same step, told otherwise
-  pub imports-as : {F G : State → Outcome State} {w t f u w₁ t₁ f₁ u₁ : List ℕ} {st st₁ : ImportState} → ((s : State) → G s ≡ F s)
-      → Imports F main supplementary q w t f u st w₁ t₁ f₁ u₁ st₁ → Imports G main supplementary q w t f u st w₁ t₁ f₁ u₁ st₁
-  imports-as {w = w} {st = st} same A = record {
+  pub grows-as : {F G : State → Outcome State} {w t f u w₁ t₁ f₁ u₁ : List ℕ} {st st₁ : ImportState} → ((s : State) → G s ≡ F s)
+      → Grows F main supplementary over w t f u st w₁ t₁ f₁ u₁ st₁ → Grows G main supplementary over w t f u st w₁ t₁ f₁ u₁ st₁
+  grows-as {w = w} {st = st} same A = record {
     records = A .records;
     new = A .new;
     laid = A .laid;
@@ -122,6 +127,37 @@ module _ {main supplementary : List ℕ} {q : ImportContext} where
     no = λ n rs ws. same (stateOf main supplementary w st rs ws) ∙ A .no n rs ws;
   }
 
+  -- the same step, whatever else it may write to
+  pub grows-over : {F : State → Outcome State} {wider : List (ℕ × ℕ)} {w t f u w₁ t₁ f₁ u₁ : List ℕ} {st st₁ : ImportState}
+      → (KeptBut w w₁ over → KeptBut w w₁ wider)
+      → Grows F main supplementary over w t f u st w₁ t₁ f₁ u₁ st₁ → Grows F main supplementary wider w t f u st w₁ t₁ f₁ u₁ st₁
+  grows-over widen A = record {
+    records = A .records;
+    new = A .new;
+    laid = A .laid;
+    past = A .past;
+    warned = A .warned;
+    grown = A .grown;
+    kept = λ e. widen (A .kept e);
+    ok = A .ok;
+    no = A .no;
+  }
+
+  -- after a step that was done the places in the output buffers are within bounds
+  pub grows-at : {F : State → Outcome State} {w t f u w₁ t₁ f₁ u₁ : List ℕ} {st st₁ : ImportState}
+      → Grows F main supplementary over w t f u st w₁ t₁ f₁ u₁ st₁ → st₁ .status ≡ 0 → (st₁ .at ≤ top) × (st₁ .warned ≤ top)
+  grows-at A z = (omega (arith, A .laid z .place), omega (arith, A .warned z .place))
+
+-- ---- those that write to nothing but what an import of ranges does
+
+module _ {main supplementary : List ℕ} where
+  pub imports-then : (q : ImportContext) {F G : State → Outcome State} {w t f u w₁ t₁ f₁ u₁ w₂ t₂ f₂ u₂ : List ℕ} {st st₁ st₂ : ImportState} → st₁ .status ≡ 0
+      → Imports F main supplementary q w t f u st w₁ t₁ f₁ u₁ st₁ → Imports G main supplementary q w₁ t₁ f₁ u₁ st₁ w₂ t₂ f₂ u₂ st₂
+      → Imports (λ s. F s >>= G) main supplementary q w t f u st w₂ t₂ f₂ u₂ st₂
+  imports-then q {st = st} {st₁ = st₁} z A B =
+      grows-then z A (grows-over (touched-as main supplementary q (st .table) (st₁ .table) (A .grown z .base) (A .grown z .room)) B)
+
+module _ {main supplementary : List ℕ} {q : ImportContext} where
   -- a range was rejected, with warnings that were laid
   pub imports-rejected : (ws : List Warning) {w t f u u′ : List ℕ} {st r : ImportState} {warned : ℕ} → ContextIn main supplementary w q (st .table)
       → st .status ≡ 0 → st .at ≤ top → length t < top → length f < top
@@ -140,12 +176,7 @@ module _ {main supplementary : List ℕ} {q : ImportContext} where
     no = λ n. absurd (n (R .status ∙ z));
   }
 
-  -- after a step that was done the places in the output buffers are within bounds
-  pub imports-at : {F : State → Outcome State} {w t f u w₁ t₁ f₁ u₁ : List ℕ} {st st₁ : ImportState}
-      → Imports F main supplementary q w t f u st w₁ t₁ f₁ u₁ st₁ → st₁ .status ≡ 0 → (st₁ .at ≤ top) × (st₁ .warned ≤ top)
-  imports-at A z = (omega (arith, A .laid z .place), omega (arith, A .warned z .place))
-
-  -- and the tables stand for the next
+  -- after it the tables stand for the next
   pub imports-context : {F : State → Outcome State} {w t f u w₁ t₁ f₁ u₁ : List ℕ} {st st₁ : ImportState} → length w₁ ≡ length w → st₁ .status ≡ 0
       → ContextIn main supplementary w q (st .table) → Imports F main supplementary q w t f u st w₁ t₁ f₁ u₁ st₁ → ContextIn main supplementary w₁ q (st₁ .table)
   imports-context size z C A = let G = A .grown z in context-kept C (A .kept z) size (G .base) (G .room) (G .holds)

@@ -8,27 +8,27 @@ use lib.Dec.{leb, ltb, eqb}
 use lib.ListN.{length, drop, length-append}
 use borrow.Author.Tests.{lt-ltb, le-ltb, le-leb, lt-leb, eq-eqb, ne-eqb}
 use Rattle.tlv.specs.declared.model.AddressRange.{AddressRange}
-use Rattle.tlv.specs.declared.access.Own.{Own}
 use Rattle.tlv.specs.Lists.{exists}
 use Rattle.tlv.specs.Fields.{fields, payloads}
 use Rattle.tlv.specs.Model.{rangeOf}
 use Rattle.tlv.specs.Cursor.{stepAt}
 use Rattle.tlv.specs.Checked.{Placed}
-use Rattle.tlv.specs.Places.{ownFields, unitHere}
-use Rattle.tlv.specs.Access.{NextOwn}
-use Rattle.tlv.specs.Table.{chunk, Kept}
-use Rattle.tlv.proofs.TableLaws.{kept-refl, kept-wide, kept-trans}
-use Rattle.tlv.proofs.OwnLaws.{own-field, own-placed, own-within}
 use Rattle.tlv.proofs.PlacePromises.{placed-text}
-use Rattle.tlv.proofs.UnitFacts.{unit-text}
+use Rattle.buffers.specs.Table.{chunk, Kept}
+use Rattle.buffers.proofs.TableLaws.{kept-refl, kept-wide, kept-trans}
+use Rattle.access.specs.declared.access.Own.{Own}
+use Rattle.access.specs.Places.{ownFields, unitHere}
+use Rattle.access.specs.Access.{NextOwn}
+use Rattle.access.proofs.OwnLaws.{own-field, own-placed, own-within}
+use Rattle.access.proofs.UnitFacts.{unit-text}
 use Rattle.lines.specs.Rows.{contains}
 use Rattle.files.proofs.UnitLaws.{unit-next, unit-within}
 use Rattle.collect.specs.Collects.{UnitIn}
 use Rattle.collect.proofs.HeaderPlaces.{unit-stands}
 use Rattle.imports.specs.Tree.{liesIn}
 use Rattle.imports.specs.Import.{isLiveRange, isTombstone}
-use Rattle.dies.specs.RangeTable.{rangesAt, PutRange}
-use Rattle.dies.proofs.RangeTableLaws.{ranges-length, ranges-nil, ranges-end, ranges-cons, ranges-push}
+use Rattle.ranges.specs.RangeTable.{rangesAt, PutRange}
+use Rattle.ranges.proofs.RangeTableLaws.{ranges-length, ranges-nil, ranges-end, ranges-cons, ranges-push}
 use Rattle.subprograms.specs.Text.{TextIndexed}
 
 -- ---- whether one of the n ranges at p holds address a: those from range i on are left

@@ -11,17 +11,16 @@ use Rattle.tlv.specs.declared.fields.Step.{Step}
 use Rattle.tlv.specs.Outcome.{Outcome, refused, done, _>>=_}
 use Rattle.tlv.specs.Lists.{at}
 use Rattle.tlv.specs.Bytes.{leAt}
-use Rattle.tlv.specs.Buffer.{top}
 use Rattle.tlv.specs.Checked.{Placed}
 use Rattle.tlv.specs.Cursor.{stepAt}
 use Rattle.tlv.specs.Model.{Entry, unitOf}
-use Rattle.tlv.specs.Places.{entryHere, unitHere}
 use Rattle.tlv.proofs.CursorLaws.{fields-field, field-within}
-use Rattle.tlv.proofs.IndexModel.{either}
 use Rattle.tlv.proofs.PlaceFacts.{placed-start, placed-next}
 use Rattle.tlv.proofs.PlacePromises.{placed-entry}
-use Rattle.tlv.proofs.TableLaws.{but-refl}
 use Rattle.tlv.proofs.TestLaws.{and-left, and-right}
+use Rattle.buffers.specs.Buffer.{top}
+use Rattle.access.specs.Places.{entryHere, unitHere}
+use Rattle.access.proofs.IndexModel.{either}
 use Rattle.files.specs.declared.store.StoredFiles.{StoredFiles}
 use Rattle.files.specs.Pieces.{UnitPlaced}
 use Rattle.files.proofs.UnitLaws.{unit-next, unit-within}
@@ -38,7 +37,7 @@ use Rattle.subprograms.specs.Contexts.{ContextIn, contextWith}
 use Rattle.subprograms.specs.Steps.{Imports, importEntry, belowEntry}
 use Rattle.subprograms.proofs.ContextLaws.{unit-of, context-same}
 use Rattle.subprograms.proofs.EntryStepLaws.{entry-passed}
-use Rattle.subprograms.proofs.StepLaws.{imports-none, imports-then, imports-refused, imports-as, imports-at, imports-context}
+use Rattle.subprograms.proofs.StepLaws.{grows-none, imports-then, grows-refused, grows-as, grows-at, imports-context}
 
 -- ---- what the definition does
 
@@ -107,7 +106,7 @@ importing-start {main} {supplementary} {w} lists addresses {q} {st} C ok at warn
   files-size = refl;
   warnings-size = refl;
   before = done;
-  does = imports-none C (but-refl w _) refl (C .files) ok at warned small tiny few;
+  does = grows-none (C .files) ok at warned small tiny few;
   left = λ s. ap (λ (es : List Entry). importUnitDetails (contextWith main supplementary lists addresses w q) es s) (entries-here (stands C)) ∙ after-done (contextWith main supplementary lists addresses w q) (entriesFrom main (q .unit + 21)) s;
 }
 
@@ -116,7 +115,7 @@ module _ {main supplementary lists addresses : List ℕ} {q : ImportContext} {w�
   -- nothing is left
   ended : entriesFrom main place ≡ [] → Imports (importUnitDetails (contextWith main supplementary lists addresses w₀ q) (unitHere main (q .unit) .entries)) main supplementary q w₀ t₀ f₀ u₀ st₀ w t f u st
   ended e =
-      imports-as
+      grows-as
       (λ s. I .left s ∙ ap (λ (es : List Entry). I .before s >>= importUnitDetails (contextWith main supplementary lists addresses w₀ q) es) e ∙ after-none (contextWith main supplementary lists addresses w₀ q) (I .before s))
       (I .does)
 
@@ -170,7 +169,7 @@ module _ {main supplementary lists addresses : List ℕ} {q : ImportContext} {w�
           through s = I .before s >>= importEntry (contextWith main supplementary lists addresses w q) (entryHere main place) (belowEntry main place)
 
           passed : Imports through main supplementary q w₀ t₀ f₀ u₀ st₀ w′ t′ f′ u′ st′
-          passed = imports-then (I .status) (I .does) A
+          passed = imports-then q (I .status) (I .does) A
 
           left-after : (s : State) → importUnitDetails (contextWith main supplementary lists addresses w₀ q) (unitHere main (q .unit) .entries) s
               ≡ (through s >>= importUnitDetails (contextWith main supplementary lists addresses w₀ q) (entriesFrom main (place + 15)))
@@ -181,7 +180,7 @@ module _ {main supplementary lists addresses : List ℕ} {q : ImportContext} {w�
 
           pub importing-refused : (st′ .status ≡ 0 → ⊥)
               → Imports (importUnitDetails (contextWith main supplementary lists addresses w₀ q) (unitHere main (q .unit) .entries)) main supplementary q w₀ t₀ f₀ u₀ st₀ w′ t′ f′ u′ st′
-          importing-refused z = imports-as left-after (imports-refused (importUnitDetails (contextWith main supplementary lists addresses w₀ q) (entriesFrom main (place + 15))) z passed)
+          importing-refused z = grows-as left-after (grows-refused (importUnitDetails (contextWith main supplementary lists addresses w₀ q) (entriesFrom main (place + 15))) z passed)
 
           pub importing-entry : st′ .status ≡ 0 → length w′ ≡ length w → length t′ ≡ length t → length f′ ≡ length f → length u′ ≡ length u
               → Importing main supplementary lists addresses q w₀ t₀ f₀ u₀ st₀ w′ t′ f′ u′ st′ next
@@ -191,7 +190,7 @@ module _ {main supplementary lists addresses : List ℕ} {q : ImportContext} {w�
             context = imports-context lw z (I .context) A;
             same = context-same (I .context) (A .kept z) lists addresses ∙ I .same;
             status = z;
-            bounds = imports-at A z;
+            bounds = grows-at A z;
             size = lw ∙ I .size;
             records-size = lt ∙ I .records-size;
             files-size = lf ∙ I .files-size;

@@ -3,31 +3,30 @@ use mathlib.Core.Path.{_≡_}
 use mathlib.Core.List.{List, [], _∷_}
 use mathlib.Core.Bool.{false}
 use Prim.Native.Nat.{ℕ, _+_, _-_, _*_, _≤_}
-use lib.ListN.{length}
 use Rattle.tlv.specs.Lists.{Any}
 use Rattle.tlv.specs.Fields.{fields}
 use Rattle.tlv.specs.Limits.{listLimit}
-use Rattle.tlv.specs.Places.{unitHere, unitPlaces}
+use Rattle.access.specs.Places.{unitHere, unitPlaces}
+use Rattle.access.specs.Units.{unitRecord}
+use Rattle.access.specs.Index.{entryRecord}
 use Rattle.files.specs.declared.store.StoredFiles.{StoredFiles}
 use Rattle.files.specs.Store.{extent, FilesIn}
+use Rattle.files.specs.Indices.{indexRecord}
+use Rattle.files.specs.Interns.{mapExtent}
 use Rattle.rows.specs.Sizes.{entrySize, lineSize, rangeSize}
 use Rattle.rows.specs.Selects.{RowsIn}
+use Rattle.rnglists.specs.Room.{openLists}
 use Rattle.collect.specs.Collects.{UnitIn, linesIn}
 use Rattle.references.specs.Names.{SearchIn}
 use Rattle.references.specs.Keys.{keysExtent}
 use Rattle.imports.specs.Import as import
-use Rattle.rnglists.specs.Room.{openLists}
-use Rattle.dies.specs.Details.{rangeCount, entryCount, dwarfWith}
-use Rattle.dies.specs.RangeTable.{rangesAt}
+use Rattle.ranges.specs.RangeTable.{rangesAt, rangeRecord}
+use Rattle.dies.specs.Details.{rangeCount, entryCount, dwarfWith, openSite, closedSite}
 use Rattle.subprograms.specs.declared.model.ImportContext.{ImportContext}
 
 -- a unit stands at q
 abbrev pub UnitOf : List ℕ → ℕ → Type 0
 UnitOf s q = Any (λ p. p ≡ q) (unitPlaces 0 (fields s))
-
--- what the directories and the map of a unit need
-abbrev pub mapExtent : List ℕ → ℕ → ℕ
-mapExtent s q = 8 * length (unitHere s q .directories) + 5 * (1 + length (unitHere s q .files))
 
 -- the context that stands in w, with the list section and the address table
 abbrev pub contextWith : List ℕ → List ℕ → List ℕ → List ℕ → List ℕ → ImportContext → import.ImportContext
@@ -53,20 +52,20 @@ unitListRoom main q = q .third * openLists (unitLists main q)
 -- the tables stand in order: the units and entries of both inputs, the file table t, the unit's map, its rows, its sequences, the rows of a function, the
 -- executable ranges, the room for a unit that is reached, the ranges of open nodes, open and closed call sites, followed targets
 pub record Ordered (main supplementary : List ℕ) (q : ImportContext) (t : StoredFiles) : Type 0 where
-  pub main-units : q .places .tables .main .units + 24 * q .places .tables .main .«unit_count» ≤ t .base
-  pub main-entries : q .places .tables .main .entries + 16 * q .places .tables .main .«entry_count» ≤ t .base
-  pub supplementary-units : q .places .tables .supplementary .units + 24 * q .places .tables .supplementary .«unit_count» ≤ t .base
-  pub supplementary-entries : q .places .tables .supplementary .entries + 16 * q .places .tables .supplementary .«entry_count» ≤ t .base
+  pub main-units : q .places .tables .main .units + unitRecord * q .places .tables .main .«unit_count» ≤ t .base
+  pub main-entries : q .places .tables .main .entries + entryRecord * q .places .tables .main .«entry_count» ≤ t .base
+  pub supplementary-units : q .places .tables .supplementary .units + unitRecord * q .places .tables .supplementary .«unit_count» ≤ t .base
+  pub supplementary-entries : q .places .tables .supplementary .entries + entryRecord * q .places .tables .supplementary .«entry_count» ≤ t .base
   pub table : t .base + extent t ≤ q .places .indices .base
-  pub indices : q .places .indices .base + q .places .indices .count * 5 ≤ q .lines .lines
+  pub indices : q .places .indices .base + q .places .indices .count * indexRecord ≤ q .lines .lines
   pub lines : q .lines .lines + q .lines .«line_count» * lineSize ≤ q .lines .sequences
   pub sequences : q .lines .sequences + q .lines .«sequence_count» * rangeSize ≤ q .lines .buffer
   pub buffer : q .lines .buffer + entrySize + q .lines .«line_count» * entrySize ≤ q .text
-  pub text : q .text + q .«text_count» * 16 ≤ q .places .spans
+  pub text : q .text + q .«text_count» * rangeRecord ≤ q .places .spans
   pub spans : q .places .spans + q .places .room ≤ q .ranges
-  pub ranges : q .ranges + 16 * (1 + rangeCount main + unitListRoom main q) ≤ q .stack
-  pub stack : q .stack + 14 * entryCount main ≤ q .sites
-  pub sites : q .sites + 12 * entryCount main ≤ q .places .tables .keys
+  pub ranges : q .ranges + rangeRecord * (1 + rangeCount main + unitListRoom main q) ≤ q .stack
+  pub stack : q .stack + openSite * entryCount main ≤ q .sites
+  pub sites : q .sites + closedSite * entryCount main ≤ q .places .tables .keys
   pub room-main : (p : ℕ) → UnitOf main p → mapExtent main p ≤ q .places .room
   pub room-supplementary : (p : ℕ) → UnitOf supplementary p → mapExtent supplementary p ≤ q .places .room
 
@@ -86,7 +85,7 @@ abbrev pub walkExtent : List ℕ → List ℕ → ImportContext → ℕ
 walkExtent main supplementary q = q .places .tables .keys + keysExtent main supplementary (q .places .tables) - q .ranges
 
 -- what an import of ranges writes to: the file table, the rows of a function, the room for a unit that is reached, the walk's part
-abbrev pub touched : List ℕ → List ℕ → ImportContext → StoredFiles → List (ℕ × ℕ)
+unfoldable pub touched : List ℕ → List ℕ → ImportContext → StoredFiles → List (ℕ × ℕ)
 touched main supplementary q t =
     (t .base, extent t) ∷ (q .lines .buffer, entrySize + q .lines .«line_count» * entrySize) ∷ (q .places .spans, q .places .room)
     ∷ (q .ranges, walkExtent main supplementary q) ∷ []

@@ -10,17 +10,16 @@ use Rattle.tlv.specs.Tags.{trayRowTag, trayWarningTag}
 use Rattle.tlv.specs.declared.model.AddressRange.{AddressRange}
 use Rattle.tlv.specs.declared.model.LineEntry.{LineEntry}
 use Rattle.tlv.specs.Outcome.{Outcome, refused, done, _>>=_}
-use Rattle.tlv.specs.Bytes.{leAt}
-use Rattle.tlv.specs.Buffer.{Put}
 use Rattle.tlv.specs.Fields.{encode}
-use Rattle.tlv.specs.Table.{Kept, KeptBut}
 use Rattle.tlv.specs.Model.{Entry, EntryRange, RangeFailure}
-use Rattle.tlv.specs.Places.{entryHere, unitHere}
-use Rattle.tlv.specs.Output.{Function, Warning, eachOf, rowPayload, warningPayload, recordsBytes, warningsBytes, about, rejectedRange, malformedRanges}
+use Rattle.buffers.specs.Buffer.{Put}
+use Rattle.buffers.specs.Table.{Kept, KeptBut}
+use Rattle.buffers.specs.Output.{Function, Warning, eachOf, rowPayload, warningPayload, recordsBytes, warningsBytes, about, rejectedRange, malformedRanges}
+use Rattle.access.specs.Places.{entryHere, unitHere}
 use Rattle.lines.specs.Files.{FileTable}
 use Rattle.lines.specs.Rows.{forRange}
-use Rattle.rnglists.specs.RangeLists.{ListRanges, failureBy, decimal}
 use Rattle.files.specs.Store.{tableOf, Grown}
+use Rattle.rnglists.specs.RangeLists.{ListRanges, failureBy, decimal}
 use Rattle.references.specs.Search.{resolveDeclarationLine}
 use Rattle.imports.specs.Tree.{Descendants}
 use Rattle.imports.specs.Import.{State, ImportContext, statementSequenceOffset, sequenceWarning, declarationIf, linesWith, isTombstone, isLiveRange, rejected}
@@ -126,8 +125,9 @@ stateOf main supplementary w st rs ws = record {
   stats = statsOf (st .stats);
 }
 
--- what the definition does by F is done in memory: new records, files and warnings are laid, and the rest of the state stands in w′; or it is refused
-pub record Imports (F : State → Outcome State) (main supplementary : List ℕ) (q : Context) (w t f u : List ℕ) (st : ImportState)
+-- what the definition does by F is done in memory: new records, files and warnings are laid behind those before them, the rest of the state stands in w′, and
+-- of work nothing is written but the stretches `over`; or it is refused
+pub record Grows (F : State → Outcome State) (main supplementary : List ℕ) (over : List (ℕ × ℕ)) (w t f u : List ℕ) (st : ImportState)
     (w′ t′ f′ u′ : List ℕ) (r : ImportState) : Type 0 where
   pub records : List Function
   pub new : List Warning
@@ -135,10 +135,16 @@ pub record Imports (F : State → Outcome State) (main supplementary : List ℕ)
   pub past : r .status ≡ 0 → r .past ≡ (st .past || isPast (st .at) (length (recordsBytes records)))
   pub warned : r .status ≡ 0 → Put (st .warned) (warningsBytes new) u u′ (r .warned)
   pub grown : r .status ≡ 0 → Grown main supplementary w w′ f f′ (st .table) (r .table)
-  pub kept : r .status ≡ 0 → KeptBut w w′ (touched main supplementary q (st .table))
+  pub kept : r .status ≡ 0 → KeptBut w w′ over
   pub ok : r .status ≡ 0 → (rs : List Function) (ws : List Warning)
       → F (stateOf main supplementary w st rs ws) ≡ done (stateOf main supplementary w′ r (rs ++ records) (ws ++ new))
   pub no : (r .status ≡ 0 → ⊥) → (rs : List Function) (ws : List Warning) → F (stateOf main supplementary w st rs ws) ≡ refused (r .status)
+
+-- .. and nothing but what an import of ranges writes to
+abbrev pub Imports : (State → Outcome State) → List ℕ → List ℕ → Context → List ℕ → List ℕ → List ℕ → List ℕ → ImportState
+    → List ℕ → List ℕ → List ℕ → List ℕ → ImportState → Type 0
+Imports F main supplementary q w t f u st w′ t′ f′ u′ r =
+    Grows F main supplementary (touched main supplementary q (st .table)) w t f u st w′ t′ f′ u′ r
 
 -- a range was rejected; the warnings go on at `warned`
 pub record Rejects (st : ImportState) (warned : ℕ) (r : ImportState) : Type 0 where

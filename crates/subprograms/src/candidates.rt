@@ -4,18 +4,19 @@ ghost use mathlib.Core.Bool.{true, false};
 ghost use Prim.Native.Nat.{ℕ, _+_, _/_, _≤_, _<_};
 ghost use lib.Dec.{eqb};
 ghost use lib.ListN.{length};
-ghost use Rattle.tlv.specs.Buffer.{top};
 ghost use Rattle.tlv.specs.Checked.{Placed};
-ghost use Rattle.tlv.specs.Places.{entryHere};
+ghost use Rattle.buffers.specs.Buffer.{top};
+ghost use Rattle.access.specs.Places.{entryHere};
+ghost use Rattle.rnglists.specs.Room.{rangeLeast};
 ghost use Rattle.references.specs.Tables.{EntryKnown};
-ghost use Rattle.dies.specs.Details.{EntriesKnown};
 ghost use Rattle.imports.specs.Import.{importRanges};
+ghost use Rattle.dies.specs.Details.{EntriesKnown};
 ghost use Rattle.subprograms.specs.Contexts.{ContextIn, contextWith};
 ghost use Rattle.subprograms.specs.Entries.{BeginsAt};
 ghost use Rattle.subprograms.specs.Steps.{Rejects, belowEntry, importOne, importFailing, Imports};
 use crate::model::ImportContext;
 use crate::model::ImportState;
-use tlv::access::Own;
+use access::access::Own;
 use tlv::fields::Step;
 use tlv::model::AddressRange;
 use tlv::tags::ENTRY_TAG;
@@ -94,7 +95,7 @@ pub fn import_candidate<'a>(
     requires { ⌜ EntryKnown (now main) (q .unit) p ⌝ }
     requires { ⌜ BeginsAt (now main) (q .unit) (p + 15) below ⌝ }
     requires { ⌜ 16 + length (now name) < 65536 ⌝ }
-    requires { ⌜ length (now lists) / 3 ≡ q .third ⌝ }
+    requires { ⌜ length (now lists) / rangeLeast ≡ q .third ⌝ }
     requires { ⌜ (st .status ≡ 0) × (st .at ≤ top) × (st .warned ≤ top) ⌝ }
     ensures { λ r. ⌜ Imports (importOne (contextWith (now (main .entry)) (now (supplementary .entry)) (now (lists .entry)) (now (addresses .entry))
         (now (work .entry)) q) (entryHere (now (main .entry)) p) (belowEntry (now (main .entry)) p) (now (name .entry))
@@ -122,7 +123,7 @@ pub fn import_candidate<'a>(
             st,
         );
     }
-    let warned = tlv::output::put_warning(warnings, st.warned, 3, range.start, range.end);
+    let warned = buffers::output::put_warning(warnings, st.warned, 3, range.start, range.end);
     reject(st, warned)
 }
 
@@ -145,7 +146,7 @@ fn import_ranges<'a>(
     requires { ⌜ EntryKnown (now main) (q .unit) p ⌝ }
     requires { ⌜ (Placed (now main) (p + 15)) × EntriesKnown (now main) (q .unit) (p + 15) ⌝ }
     requires { ⌜ 16 + length (now name) < 65536 ⌝ }
-    requires { ⌜ length (now lists) / 3 ≡ q .third ⌝ }
+    requires { ⌜ length (now lists) / rangeLeast ≡ q .third ⌝ }
     requires { ⌜ (st .status ≡ 0) × (st .at ≤ top) × (st .warned ≤ top) ⌝ }
     ensures { λ r. ⌜ Imports (importRanges (contextWith (now (main .entry)) (now (supplementary .entry)) (now (lists .entry)) (now (addresses .entry))
         (now (work .entry)) q) (entryHere (now (main .entry)) p) (belowEntry (now (main .entry)) p) (now (name .entry))
@@ -156,7 +157,7 @@ fn import_ranges<'a>(
     let mut at = p + ENTRY_WHOLE;
     let mut below = at;
     loop {
-        match tlv::access::next_own(main, at, RANGE_TAG) {
+        match access::access::next_own(main, at, RANGE_TAG) {
             Own::Missing => {
                 return r;
             }
@@ -165,7 +166,7 @@ fn import_ranges<'a>(
                 len: _,
                 next,
             } => {
-                let range = dies::ranges::range_at(main, start);
+                let range = ranges::ranges::range_at(main, start);
                 let flag = tlv::bytes::read_u8(main, start + 16);
                 below = next_entry(main, below);
                 r = import_candidate(
@@ -213,7 +214,7 @@ pub fn import_fields<'a>(
     requires { ⌜ EntryKnown (now main) (q .unit) p ⌝ }
     requires { ⌜ (Placed (now main) (p + 15)) × EntriesKnown (now main) (q .unit) (p + 15) ⌝ }
     requires { ⌜ 16 + length (now name) < 65536 ⌝ }
-    requires { ⌜ length (now lists) / 3 ≡ q .third ⌝ }
+    requires { ⌜ length (now lists) / rangeLeast ≡ q .third ⌝ }
     requires { ⌜ (st .status ≡ 0) × (st .at ≤ top) × (st .warned ≤ top) ⌝ }
     ensures { λ r. ⌜ Imports (importFailing (contextWith (now (main .entry)) (now (supplementary .entry)) (now (lists .entry)) (now (addresses .entry))
         (now (work .entry)) q) (entryHere (now (main .entry)) p) (belowEntry (now (main .entry)) p) (now (name .entry))
@@ -221,7 +222,7 @@ pub fn import_fields<'a>(
         (now (work .entry)) (now (records .entry)) (now (files .entry)) (now (warnings .entry)) st (now (work .exit)) (now (records .exit))
         (now (files .exit)) (now (warnings .exit)) r ⌝ }
 {
-    match tlv::access::next_own(main, p + ENTRY_WHOLE, FAILURE_TAG) {
+    match access::access::next_own(main, p + ENTRY_WHOLE, FAILURE_TAG) {
         Own::Missing => {
             return import_ranges(
                 main,
@@ -246,7 +247,12 @@ pub fn import_fields<'a>(
             let end = start + len;
             let reason = &main[start + 1..end];
             if tlv::bytes::read_u8(main, start) == 0 {
-                let warned = tlv::output::put_malformed_ranges(warnings, st.warned, false, reason);
+                let warned = buffers::output::put_malformed_ranges(
+                    warnings,
+                    st.warned,
+                    false,
+                    reason,
+                );
                 return reject(st, warned);
             }
             let r = import_ranges(
@@ -266,7 +272,7 @@ pub fn import_fields<'a>(
             if r.status != 0 {
                 return r;
             }
-            let warned = tlv::output::put_malformed_ranges(warnings, r.warned, true, reason);
+            let warned = buffers::output::put_malformed_ranges(warnings, r.warned, true, reason);
             return reject(r, warned);
         }
     }

@@ -5,26 +5,26 @@ ghost use mathlib.Core.Option.{none, some};
 ghost use Prim.Native.Nat.{_+_, _-_, _*_, _/_, _^_, _≤_, _<_};
 ghost use lib.Dec.{eqb};
 ghost use lib.ListN.{length};
-ghost use Rattle.tlv.specs.Buffer.{Put, top};
-ghost use Rattle.tlv.specs.Places.{entryHere, unitHere};
+ghost use Rattle.tlv.specs.Checked.{Accepted};
+ghost use Rattle.buffers.specs.Buffer.{Put, top};
+ghost use Rattle.access.specs.Places.{entryHere, unitHere};
 ghost use Rattle.rows.specs.Sizes.{entrySize};
 ghost use Rattle.rows.specs.Stored.{sequenceOf, entriesOf};
 ghost use Rattle.collect.specs.Collects.{UnitIn};
 ghost use Rattle.references.specs.Tables.{EntryKnown};
-ghost use Rattle.dies.specs.DetailState.{Accepted};
-ghost use Rattle.dies.specs.Past.{isPast};
 ghost use Rattle.imports.specs.Import.{statementSequenceOffset};
+ghost use Rattle.dies.specs.Past.{isPast};
 ghost use Rattle.subprograms.specs.Contexts.{ContextIn, contextOf};
 ghost use Rattle.subprograms.specs.Steps.{linesBytes, SequenceWarned, functionLines, declaredLine, FindsLines};
 use crate::model::ImportContext;
 use crate::model::ImportState;
+use access::access::Value;
+use declarations::declaring::Declared;
+use declarations::declaring::DeclaringState;
 use dies::calls::Warned;
 use files::store::StoredFiles;
-use references::declaring::Declared;
-use references::declaring::DeclaringState;
 use rows::line::ENTRY_SIZE;
 use rows::line::StatementSequence;
-use tlv::access::Value;
 use tlv::constants::DW_AT_LLVM_STMT_SEQUENCE;
 use tlv::model::AddressRange;
 use tlv::model::LineEntry;
@@ -71,7 +71,7 @@ pub fn statement_sequence_offset(main: &[u8], unit: usize, p: usize) -> Statemen
     ensures { λ r. ⌜ sequenceOf r ≡ statementSequenceOffset (unitHere (now (main .entry)) unit) (entryHere (now (main .entry)) p) ⌝ }
 {
     let limit = no_sequence(main, unit);
-    match tlv::access::attribute(main, p + ENTRY_WHOLE, DW_AT_LLVM_STMT_SEQUENCE) {
+    match access::access::attribute(main, p + ENTRY_WHOLE, DW_AT_LLVM_STMT_SEQUENCE) {
         Value::Absent => StatementSequence::Unknown,
         Value::Unsigned(n) => sequence_unless(limit, n),
         Value::FileNumber(_) => StatementSequence::Unknown,
@@ -122,7 +122,7 @@ fn put_lines(records: &mut [u8], at: usize, work: &[u8], from: usize, n: usize) 
     let mut i = 0;
     while i < n {
         let line = rows::line::entry_at(work, from + i * ENTRY_SIZE);
-        place = tlv::output::put_line(records, place, line);
+        place = buffers::output::put_line(records, place, line);
         i += 1;
     }
     place
@@ -162,7 +162,7 @@ fn declared_line<'a>(
         table: table,
         warned: st.warned,
     };
-    match references::declaration_lines::resolve_declaration_line(
+    match declarations::declaration_lines::resolve_declaration_line(
         main,
         supplementary,
         work,
@@ -200,7 +200,7 @@ fn declared_line<'a>(
                 column: 0,
             };
             let past = rows_past(st.at, 1);
-            let placed = tlv::output::put_line(records, st.at, row);
+            let placed = buffers::output::put_line(records, st.at, row);
             let grown = state.table;
             FoundLines {
                 table: grown,

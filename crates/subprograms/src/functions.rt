@@ -2,12 +2,13 @@
 ghost use mathlib.Core.Path.{_≡_};
 ghost use Prim.Native.Nat.{_+_, _-_, _/_, _≤_, _<_};
 ghost use lib.ListN.{length};
-ghost use Rattle.tlv.specs.Buffer.{top};
-ghost use Rattle.tlv.specs.Places.{entryHere};
+ghost use Rattle.buffers.specs.Buffer.{top};
+ghost use Rattle.access.specs.Places.{entryHere};
+ghost use Rattle.rnglists.specs.Room.{rangeLeast};
 ghost use Rattle.references.specs.Tables.{EntryKnown};
-ghost use Rattle.dies.specs.Details.{entriesFrom};
 ghost use Rattle.imports.specs.Tree.{extractSubprogramDetails};
 ghost use Rattle.imports.specs.Import.{detailContext, importRange, descendantsOf};
+ghost use Rattle.dies.specs.Details.{entriesFrom};
 ghost use Rattle.subprograms.specs.Contexts.{ContextIn, contextWith};
 ghost use Rattle.subprograms.specs.Entries.{BeginsAt};
 ghost use Rattle.subprograms.specs.Steps.{detailsOf, ImportsDetails, Imports};
@@ -62,7 +63,7 @@ fn import_details<'a>(
     requires { ⌜ EntryKnown (now main) (q .unit) p ⌝ }
     requires { ⌜ BeginsAt (now main) (q .unit) (p + 15) below ⌝ }
     requires { ⌜ 16 + length (now name) < 65536 ⌝ }
-    requires { ⌜ length (now lists) / 3 ≡ q .third ⌝ }
+    requires { ⌜ length (now lists) / rangeLeast ≡ q .third ⌝ }
     requires { ⌜ (st .at ≤ top) × (st .warned ≤ top) ⌝ }
     ensures { λ r. ⌜ ImportsDetails (extractSubprogramDetails (detailContext (contextWith (now (main .entry)) (now (supplementary .entry))
         (now (lists .entry)) (now (addresses .entry)) (now (work .entry)) q) range)
@@ -134,7 +135,7 @@ pub fn import_range<'a>(
     requires { ⌜ EntryKnown (now main) (q .unit) p ⌝ }
     requires { ⌜ BeginsAt (now main) (q .unit) (p + 15) below ⌝ }
     requires { ⌜ 16 + length (now name) < 65536 ⌝ }
-    requires { ⌜ length (now lists) / 3 ≡ q .third ⌝ }
+    requires { ⌜ length (now lists) / rangeLeast ≡ q .third ⌝ }
     requires { ⌜ (st .status ≡ 0) × (st .at ≤ top) × (st .warned ≤ top) ⌝ }
     ensures { λ r. ⌜ Imports (importRange (contextWith (now (main .entry)) (now (supplementary .entry)) (now (lists .entry)) (now (addresses .entry))
         (now (work .entry)) q) (entryHere (now (main .entry)) p)
@@ -147,7 +148,7 @@ pub fn import_range<'a>(
     let past = dies::past::is_past(st.at, 19 + name.len());
     let headed = ImportState {
         table: table,
-        at: tlv::output::put_function(records, st.at, range, name),
+        at: buffers::output::put_function(records, st.at, range, name),
         warned: st.warned,
         stats: stats,
         status: 0,

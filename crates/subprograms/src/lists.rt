@@ -7,17 +7,18 @@ ghost use lib.Dec.{eqb};
 ghost use lib.ListN.{length};
 ghost use Rattle.tlv.specs.Tags.{listTag, trayWarningTag};
 ghost use Rattle.tlv.specs.Bytes.{leAt};
-ghost use Rattle.tlv.specs.Buffer.{Put, top};
 ghost use Rattle.tlv.specs.Fields.{encode};
 ghost use Rattle.tlv.specs.Grammar.{listSizeAt, listFieldSize};
 ghost use Rattle.tlv.specs.Checked.{Placed};
-ghost use Rattle.tlv.specs.Access.{NextOwn};
-ghost use Rattle.tlv.specs.Places.{entryHere};
-ghost use Rattle.tlv.specs.Output.{warningPayload, malformedRanges};
+ghost use Rattle.buffers.specs.Buffer.{Put, top};
+ghost use Rattle.buffers.specs.Output.{warningPayload, malformedRanges};
+ghost use Rattle.access.specs.Access.{NextOwn};
+ghost use Rattle.access.specs.Places.{entryHere};
 ghost use Rattle.rnglists.specs.RangeLists.{decimal};
+ghost use Rattle.rnglists.specs.Room.{rangeLeast};
 ghost use Rattle.references.specs.Tables.{EntryKnown};
+ghost use Rattle.ranges.specs.RangeTable.{ownLists, listOf};
 ghost use Rattle.dies.specs.Details.{EntriesKnown};
-ghost use Rattle.dies.specs.RangeTable.{ownLists, listOf};
 ghost use Rattle.subprograms.specs.Contexts.{ContextIn, contextWith};
 ghost use Rattle.subprograms.specs.Steps.{RejectsList, belowEntry, importListed, Imports};
 use crate::candidates::import_candidate;
@@ -25,8 +26,8 @@ use crate::candidates::next_entry;
 use crate::candidates::reject;
 use crate::model::ImportContext;
 use crate::model::ImportState;
+use access::access::Own;
 use rnglists::lists::NextRange;
-use tlv::access::Own;
 use tlv::model::AddressRange;
 use tlv::shapes::LIST_ADDRESSES;
 use tlv::shapes::LIST_BASE;
@@ -51,10 +52,10 @@ fn put_fault(warnings: &mut [u8], at: usize, n: u8) -> usize
 {
     if n < 10 {
         let digit = [48 + n];
-        return tlv::output::put_malformed_ranges(warnings, at, true, &digit);
+        return buffers::output::put_malformed_ranges(warnings, at, true, &digit);
     }
     let digits = [48 + n / 10, 48 + n % 10];
-    tlv::output::put_malformed_ranges(warnings, at, true, &digits)
+    buffers::output::put_malformed_ranges(warnings, at, true, &digits)
 }
 
 // The state after the fault of a list, which warns and is one rejected range.
@@ -85,7 +86,7 @@ pub fn import_list<'a>(
     requires { ⌜ EntryKnown (now main) (q .unit) p ⌝ }
     requires { ⌜ (Placed (now main) (p + 15)) × EntriesKnown (now main) (q .unit) (p + 15) ⌝ }
     requires { ⌜ 16 + length (now name) < 65536 ⌝ }
-    requires { ⌜ length (now lists) / 3 ≡ q .third ⌝ }
+    requires { ⌜ length (now lists) / rangeLeast ≡ q .third ⌝ }
     requires { ⌜ start + listFieldSize ≤ length (now main) ⌝ }
     requires { ⌜ (leAt 1 (now main) (start + listSizeAt) ≡ 4) ⊎ (leAt 1 (now main) (start + listSizeAt) ≡ 8) ⌝ }
     requires { ⌜ (st .status ≡ 0) × (st .at ≤ top) × (st .warned ≤ top) ⌝ }
@@ -155,7 +156,7 @@ pub fn list_field(main: &[u8], with_lists: bool, at: usize) -> Own
     ensures { λ r. ⌜ NextOwn (now (main .entry)) at listTag r ⌝ }
 {
     if with_lists {
-        return tlv::access::next_own(main, at, LIST_TAG);
+        return access::access::next_own(main, at, LIST_TAG);
     }
     Own::Missing
 }

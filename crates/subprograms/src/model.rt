@@ -2,8 +2,8 @@
 ghost use mathlib.Core.Path.{_≡_};
 ghost use Prim.Native.Nat.{_+_, min};
 ghost use Rattle.subprograms.specs.Stats.{statsOf, withFunction, withRejected};
+use declarations::declaring::Places;
 use files::store::StoredFiles;
-use references::declaring::Places;
 use rows::unit_lines::StoredLines;
 
 // The statistics of document 01; each stays at its largest value.

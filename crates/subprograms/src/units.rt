@@ -7,13 +7,14 @@ ghost use lib.ListN.{length};
 ghost use Rattle.tlv.specs.Tags.{entryTag};
 ghost use Rattle.tlv.specs.Constants.{dwTagSubprogram};
 ghost use Rattle.tlv.specs.Bytes.{leAt};
-ghost use Rattle.tlv.specs.Buffer.{top};
 ghost use Rattle.tlv.specs.Checked.{Placed};
-ghost use Rattle.tlv.specs.Places.{entryHere, unitHere};
+ghost use Rattle.buffers.specs.Buffer.{top};
+ghost use Rattle.access.specs.Places.{entryHere, unitHere};
+ghost use Rattle.rnglists.specs.Room.{rangeLeast};
 ghost use Rattle.references.specs.Tables.{EntryKnown};
-ghost use Rattle.dies.specs.Details.{EntriesKnown, dwarfWith};
 ghost use Rattle.imports.specs.Tree.{dieRanges};
 ghost use Rattle.imports.specs.Import.{importByFailure, importUnitDetails};
+ghost use Rattle.dies.specs.Details.{EntriesKnown, dwarfWith};
 ghost use Rattle.subprograms.specs.Contexts.{ContextIn, contextWith};
 ghost use Rattle.subprograms.specs.Steps.{belowEntry, importEntry, Imports};
 use crate::candidates::import_fields;
@@ -21,9 +22,9 @@ use crate::lists::import_list;
 use crate::lists::list_field;
 use crate::model::ImportContext;
 use crate::model::ImportState;
+use access::access::Own;
 use references::names::FoundName;
 use references::names::found_name;
-use tlv::access::Own;
 use tlv::constants::DW_TAG_SUBPROGRAM;
 use tlv::fields::Step;
 use tlv::tags::ENTRY_KIND;
@@ -51,7 +52,7 @@ fn import_named<'a>(
     requires { ⌜ EntryKnown (now main) (q .unit) p ⌝ }
     requires { ⌜ (Placed (now main) (p + 15)) × EntriesKnown (now main) (q .unit) (p + 15) ⌝ }
     requires { ⌜ 16 + length (now name) < 65536 ⌝ }
-    requires { ⌜ length (now lists) / 3 ≡ q .third ⌝ }
+    requires { ⌜ length (now lists) / rangeLeast ≡ q .third ⌝ }
     requires { ⌜ (st .status ≡ 0) × (st .at ≤ top) × (st .warned ≤ top) ⌝ }
     ensures { λ r. ⌜ Imports (importByFailure (contextWith (now (main .entry)) (now (supplementary .entry)) (now (lists .entry)) (now (addresses .entry))
         (now (work .entry)) q) (entryHere (now (main .entry)) p) (belowEntry (now (main .entry)) p) (now (name .entry))
@@ -118,7 +119,7 @@ fn import_entry<'a>(
     requires { ⌜ EntryKnown (now main) (q .unit) p ⌝ }
     requires { ⌜ (Placed (now main) (p + 15)) × EntriesKnown (now main) (q .unit) (p + 15) ⌝ }
     requires { ⌜ leAt 2 (now main) (p + 13) ≡ dwTagSubprogram ⌝ }
-    requires { ⌜ length (now lists) / 3 ≡ q .third ⌝ }
+    requires { ⌜ length (now lists) / rangeLeast ≡ q .third ⌝ }
     requires { ⌜ (st .status ≡ 0) × (st .at ≤ top) × (st .warned ≤ top) ⌝ }
     ensures { λ r. ⌜ Imports (importEntry (contextWith (now (main .entry)) (now (supplementary .entry)) (now (lists .entry)) (now (addresses .entry))
         (now (work .entry)) q) (entryHere (now (main .entry)) p) (belowEntry (now (main .entry)) p)) (now (main .entry)) (now (supplementary .entry)) q
@@ -186,7 +187,7 @@ pub fn import_unit_details<'a>(
     st: ImportState,
 ) -> ImportState
     requires { ⌜ ContextIn (now main) (now supplementary) (now work) q (st .table) ⌝ }
-    requires { ⌜ length (now lists) / 3 ≡ q .third ⌝ }
+    requires { ⌜ length (now lists) / rangeLeast ≡ q .third ⌝ }
     requires { ⌜ (st .status ≡ 0) × (st .at ≤ top) × (st .warned ≤ top) ⌝ }
     ensures { λ r. ⌜ Imports (importUnitDetails (contextWith (now (main .entry)) (now (supplementary .entry)) (now (lists .entry)) (now (addresses .entry))
         (now (work .entry)) q) (unitHere (now (main .entry)) (q .unit) .entries)) (now (main .entry)) (now (supplementary .entry)) q (now (work .entry))

@@ -1,28 +1,26 @@
 -- The join from its parts: the tests of both inputs, the copy, the symbols. Assumes nothing.
 use mathlib.Core.Path.{_≡_, refl, sym, ap, subst, _∙_}
-use mathlib.Core.Bool.{Bool, true, false, cond, not}
+use mathlib.Core.Bool.{Bool, true, false, not}
 use mathlib.Core.List.{List, [], _++_}
 use Prim.Native.Nat.{ℕ, _+_, _-_, _≤_, _<_}
 use native.Mathlib.Omega.{arith}
-use lib.Dec.{ltb}
 use lib.ListN.{length, take, drop, replicate, length-append}
 use lib.Seq.{take-at, drop-drop, drop-at}
 use borrow.Author.Tests.{lt-ltb, le-ltb, not-true, not-false}
-use Rattle.tlv.specs.Outcome.{Outcome, refused, done, _>>=_}
-use Rattle.tlv.specs.Bytes.{Bytes}
-use Rattle.tlv.specs.Buffer.{Put, top}
+use Rattle.tlv.specs.Outcome.{refused, _>>=_}
 use Rattle.tlv.specs.Fields.{fields}
-use Rattle.tlv.specs.Reader.{recordsForm}
-use Rattle.tlv.proofs.BufferLaws.{put-length, put-fits, put-whole, put-lost}
-use Rattle.lookup.specs.Tray.{functionsAt, functionsOf}
-use Rattle.lookup.specs.Window.{ListAfter, fitting, listedIn}
+use Rattle.buffers.specs.Buffer.{Put}
+use Rattle.buffers.specs.Reader.{recordsForm}
+use Rattle.buffers.proofs.BufferLaws.{put-length, put-fits, put-whole, put-lost}
+use Rattle.lookup.specs.Tray.{functionsOf}
+use Rattle.lookup.specs.Window.{fitting, listedIn}
 use Rattle.symbols.specs.declared.model.Refusal.{Refusal}
 use Rattle.symbols.specs.declared.model.Joined.{Joined}
 use Rattle.symbols.specs.declared.extents.Extents.{Extents}
 use Rattle.symbols.specs.Extents.{Known}
-use Rattle.symbols.specs.Symbols.{symbolsForm, bareBytes, joining, joined, joinSymbols}
+use Rattle.symbols.specs.Symbols.{symbolsForm, joined, joinSymbols}
 use Rattle.symbols.specs.Answers.{refusalNumber, joinGiven, SymbolsChecked, JoinsWith}
-use Rattle.symbols.specs.Walk.{rangesIn, symbolsFrom, wholeFrom, Standing, AllJoined, Cleared}
+use Rattle.symbols.specs.Walk.{rangesIn, wholeFrom, Standing, AllJoined, Cleared}
 
 module _ (tray list result : List ℕ) where
   cleared-as : (n : Refusal) (result₁ result₂ : List ℕ) (x : Joined) → length result₁ ≡ length result → Cleared n result₁ result₂ x

@@ -1,24 +1,24 @@
 -- A records tray with bare functions behind it is a records tray again, and is read as both. Assumes nothing.
-use mathlib.Core.Path.{_≡_, refl, sym, ap, subst, _∙_}
+use mathlib.Core.Path.{_≡_, refl, _∙_}
 use mathlib.Core.Bool.{Bool, true, false, cond, _&&_, _||_, not, false≢true}
 use mathlib.Core.List.{List, [], _∷_, _++_, map}
-use mathlib.Core.Option.{Option, none, some, Option·none-ne-some, Option·some-injective}
-use Prim.Native.Nat.{ℕ, zero, suc, _+_, _≤_, _<_}
+use mathlib.Core.Option.{none, some, Option·none-ne-some, Option·some-injective}
+use Prim.Native.Nat.{ℕ, zero, suc, _+_, _≤_}
 use native.Mathlib.Omega.{arith}
-use lib.Dec.{leb, ltb, eqb}
-use lib.ListN.{length, take, drop, length-append}
+use lib.Dec.{leb, eqb}
+use lib.ListN.{length, take, length-append}
 use lib.Seq.{take-append-le}
 use borrow.Author.Tests.{leb-true, le-leb, lt-ltb, not-true}
 use Rattle.tlv.specs.Lists.{All, exists}
 use Rattle.tlv.specs.Bytes.{le}
 use Rattle.tlv.specs.Fields.{Field, FieldList, end, cut, more, fieldsFrom, fields, wholeFields, Group, Groups, grouped, payloads, encode}
-use Rattle.tlv.specs.Output.{Function, functionPayload, eachOf}
-use Rattle.tlv.specs.Reader.{recordsAfter, recordsFormed, depthAfter, recordsForm, rangeFormed, functionOf, readRecords}
-use Rattle.tlv.specs.Fits.{Short, RangeFits}
 use Rattle.tlv.proofs.TestLaws.{and-left, and-right}
 use Rattle.tlv.proofs.ListLaws.{all-map}
-use Rattle.tlv.proofs.FieldLaws.{prepend, prepend-append, whole-only, Spells, spells-append, fields-spelled, tagged, spells-tagged}
-use Rattle.tlv.proofs.PayloadLaws.{function-length, function-start, function-end, function-range, function-name}
+use Rattle.buffers.specs.Output.{Function, functionPayload, eachOf}
+use Rattle.buffers.specs.Reader.{recordsAfter, recordsFormed, depthAfter, recordsForm, rangeFormed, functionOf, readRecords}
+use Rattle.buffers.specs.Fits.{Short, RangeFits}
+use Rattle.buffers.proofs.FieldLaws.{prepend, prepend-append, whole-only, Spells, spells-append, fields-spelled, tagged, spells-tagged}
+use Rattle.buffers.proofs.PayloadLaws.{function-length, function-start, function-end, function-range, function-name}
 use Rattle.symbols.specs.Symbols.{Symbol, bareBytes}
 use Rattle.symbols.specs.Join.{bare}
 

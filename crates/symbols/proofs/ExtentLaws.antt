@@ -10,14 +10,14 @@ use borrow.Author.Tests.{not-true, not-false}
 use Rattle.tlv.specs.declared.model.AddressRange.{AddressRange}
 use Rattle.tlv.specs.Addresses.{Nonempty}
 use Rattle.tlv.specs.Lists.{All, exists}
-use Rattle.tlv.specs.Table.{Kept}
 use Rattle.tlv.proofs.ListLaws.{all-append}
+use Rattle.buffers.specs.Table.{Kept}
 use Rattle.imports.specs.Ranges.{Holds, Apart, coalesceRanges}
 use Rattle.imports.proofs.RangeLaws.{merge-holds}
-use Rattle.dies.specs.RangeTable.{rangesAt, PutRange, Added, Reordered, MergedAt}
-use Rattle.dies.proofs.RangeTableLaws.{ranges-nil, ranges-push, ranges-below}
-use Rattle.dies.proofs.InsertLaws.{apart-nonempty}
-use Rattle.dies.proofs.ReorderLaws.{reordered-all, reordered-merge}
+use Rattle.ranges.specs.RangeTable.{rangesAt, PutRange, Added, Reordered, MergedAt}
+use Rattle.ranges.proofs.RangeTableLaws.{ranges-nil, ranges-push, ranges-below}
+use Rattle.ranges.proofs.InsertLaws.{apart-nonempty}
+use Rattle.ranges.proofs.ReorderLaws.{reordered-all, reordered-merge}
 use Rattle.lookup.specs.Lookup.{holds}
 use Rattle.lookup.proofs.DemandLaws.{some-holds}
 use Rattle.symbols.specs.declared.extents.Extents.{Extents}

@@ -12,17 +12,16 @@ use Rattle.tlv.specs.declared.model.AddressRange.{AddressRange}
 use Rattle.tlv.specs.Addresses.{Nonempty}
 use Rattle.tlv.specs.Lists.{All}
 use Rattle.tlv.specs.Bytes.{leAt}
-use Rattle.tlv.specs.Reader.{rangeFormed, recordsFormed}
 use Rattle.tlv.specs.Cursor.{stepAt}
 use Rattle.tlv.specs.Model.{rangeOf}
 use Rattle.tlv.proofs.TestLaws.{and-right}
 use Rattle.tlv.proofs.ListLaws.{all-append}
-use Rattle.dies.specs.RangeTable.{rangesAt, PutRange}
-use Rattle.dies.proofs.RangeTableLaws.{ranges-nil, ranges-push}
+use Rattle.buffers.specs.Reader.{rangeFormed, recordsFormed}
+use Rattle.ranges.specs.RangeTable.{rangesAt, PutRange}
+use Rattle.ranges.proofs.RangeTableLaws.{ranges-nil, ranges-push}
 use Rattle.lookup.specs.Tray.{GroupAt, functionsAt, functionRange}
 use Rattle.lookup.specs.Walk.{Stands}
 use Rattle.lookup.proofs.StepLaws.{functionsFrom, functions-end, functions-cut, functions-this, functions-next, formed-here, stands-next}
-use Rattle.symbols.specs.declared.extents.Gathered.{Gathered}
 use Rattle.symbols.specs.Walk.{rangesIn}
 use Rattle.symbols.specs.Extents.{GatheredIn}
 

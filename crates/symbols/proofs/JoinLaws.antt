@@ -1,10 +1,10 @@
 -- The result of a join is a records tray again: the records that came from DWARF as they were, then the bare ones. Assumes nothing.
-use mathlib.Core.Path.{_≡_, refl, sym, ap, subst, _∙_}
+use mathlib.Core.Path.{_≡_, refl, sym, _∙_}
 use mathlib.Core.Bool.{Bool, true, false, cond, _&&_, _||_}
 use mathlib.Core.Logic.{_≢_}
 use mathlib.Core.List.{List, [], _∷_, _++_, map}
-use mathlib.Core.Option.{Option, none, some, Option·none-ne-some, Option·some-injective}
-use Prim.Native.Nat.{ℕ, zero, suc, _+_, _*_, _^_, _≤_, _<_}
+use mathlib.Core.Option.{none, some, Option·none-ne-some, Option·some-injective}
+use Prim.Native.Nat.{ℕ, zero, suc, _+_, _^_, _≤_, _<_}
 use native.Mathlib.Omega.{arith}
 use lib.Dec.{leb, ltb, eqb}
 use lib.ListN.{length, take, drop, length-drop}
@@ -13,14 +13,14 @@ use borrow.Author.Tests.{leb-true, ltb-true, eqb-false}
 use Rattle.tlv.specs.declared.model.AddressRange.{AddressRange}
 use Rattle.tlv.specs.Lists.{All, exists, isEmpty}
 use Rattle.tlv.specs.Bytes.{Bytes, le, leAt}
-use Rattle.tlv.specs.Outcome.{Outcome, refused, done, _>>=_}
-use Rattle.tlv.specs.Fields.{Field, FieldList, end, cut, more, fieldsFrom, fields, wholeFields, payloads}
-use Rattle.tlv.specs.Output.{Function}
-use Rattle.tlv.specs.Reader.{recordsForm, functionOf, readRecords}
-use Rattle.tlv.specs.Fits.{Short}
+use Rattle.tlv.specs.Outcome.{refused, done, _>>=_}
+use Rattle.tlv.specs.Fields.{FieldList, end, cut, more, fieldsFrom, fields, wholeFields, payloads}
 use Rattle.tlv.proofs.TestLaws.{and-left, and-right}
 use Rattle.tlv.proofs.OutcomeLaws.{done-is, refused-not, with-done}
-use Rattle.tlv.proofs.PayloadLaws.{function-length}
+use Rattle.buffers.specs.Output.{Function}
+use Rattle.buffers.specs.Reader.{recordsForm, functionOf, readRecords}
+use Rattle.buffers.specs.Fits.{Short}
+use Rattle.buffers.proofs.PayloadLaws.{function-length}
 use Rattle.lookup.specs.Tray.{GroupAt, group, functionsAt, functionRange, functionsOf}
 use Rattle.lookup.specs.Lookup.{holds}
 use Rattle.lookup.proofs.ReadLaws.{map-map, reads-functions}

@@ -1,38 +1,28 @@
 -- A turn of the walk that joins symbols: what stands in the result so far, and what is left. Assumes nothing.
 use mathlib.Core.Path.{_≡_, refl, sym, ap, subst, _∙_}
-use mathlib.Core.Bool.{Bool, true, false, cond, _&&_, _||_, not, true≢false, false≢true}
-use mathlib.Core.Logic.{_≢_}
-use mathlib.Core.List.{List, [], _∷_, _++_, map, append-nil, append-assoc}
-use mathlib.Core.Option.{Option, none, some, Option·none-ne-some, Option·some-injective}
-use Prim.Native.Nat.{ℕ, zero, suc, _+_, _-_, _^_, _≤_, _<_}
+use mathlib.Core.Bool.{Bool, true, false, cond, _||_}
+use mathlib.Core.List.{List, [], _∷_, map}
+use mathlib.Core.Option.{none, some, Option·none-ne-some}
+use Prim.Native.Nat.{ℕ, zero, suc, _+_, _-_, _≤_}
 use native.Mathlib.Omega.{arith}
-use lib.Dec.{leb, ltb, eqb}
-use lib.ListN.{length, take, drop, length-append, length-drop}
+use lib.Dec.{eqb}
+use lib.ListN.{length, take, drop, length-drop}
 use lib.Seq.{drop-drop, length-take-le}
 use borrow.Author.Tests.{eq-eqb, ne-eqb}
-use Rattle.tlv.specs.declared.fields.Step.{Step}
 use Rattle.tlv.specs.declared.model.AddressRange.{AddressRange}
-use Rattle.tlv.specs.Lists.{All, exists, first, isEmpty}
-use Rattle.tlv.specs.Bytes.{Bytes, leAt}
-use Rattle.tlv.specs.Outcome.{done, refused}
-use Rattle.tlv.specs.Buffer.{Put}
-use Rattle.tlv.specs.Fields.{Field, FieldList, more, fields, wholeFields, payloads, encode}
-use Rattle.tlv.specs.Cursor.{stepAt}
-use Rattle.tlv.specs.Checked.{fieldIn}
-use Rattle.tlv.specs.Output.{Function, functionPayload, eachOf}
-use Rattle.tlv.specs.Reader.{recordsForm, functionOf, readRecords}
-use Rattle.tlv.proofs.TestLaws.{and-left, and-right}
-use Rattle.tlv.proofs.BufferLaws.{put-as}
-use Rattle.tlv.proofs.CursorLaws.{fields-field}
-use Rattle.tlv.proofs.ShapeLaws.{part-length, number-at, number-first}
+use Rattle.tlv.specs.Lists.{exists, first, isEmpty}
+use Rattle.tlv.specs.Bytes.{leAt}
+use Rattle.tlv.specs.Fields.{encode}
+use Rattle.tlv.proofs.ShapeLaws.{number-at, number-first}
+use Rattle.buffers.specs.Buffer.{Put}
+use Rattle.buffers.specs.Output.{functionPayload}
+use Rattle.buffers.proofs.BufferLaws.{put-as}
 use Rattle.lookup.specs.declared.address.FunctionPlace.{FunctionPlace}
-use Rattle.lookup.specs.Tray.{GroupAt, group, functionsAt, functionRange, functionsOf}
+use Rattle.lookup.specs.Tray.{functionsAt, functionRange}
 use Rattle.lookup.specs.Lookup.{holds}
 use Rattle.lookup.specs.Walk.{FunctionFound, Stands}
-use Rattle.lookup.proofs.ReadLaws.{map-map, reads-functions}
-use Rattle.symbols.specs.Symbols.{symbolFormed, symbolsForm, Symbol, symbolOf, passedOver, joining, bareBytes}
-use Rattle.symbols.specs.Join.{bare}
-use Rattle.symbols.specs.Walk.{rangesIn, symbolsFrom, laidFor, wholeFrom, Standing, AllJoined}
+use Rattle.symbols.specs.Symbols.{Symbol, symbolOf, passedOver}
+use Rattle.symbols.specs.Walk.{rangesIn, laidFor, Standing}
 
 -- ---- is a start held
 

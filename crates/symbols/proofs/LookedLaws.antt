@@ -4,15 +4,14 @@ use mathlib.Core.Bool.{Bool, true, false, cond, not}
 use mathlib.Core.List.{List, [], _∷_, _++_, map}
 use mathlib.Core.Option.{Option, none, some, Option·none-ne-some, Option·some-injective}
 use Prim.Native.Nat.{ℕ}
-use lib.Dec.{eqb}
-use Rattle.tlv.specs.Outcome.{Outcome, refused, done, _>>=_}
+use Rattle.tlv.specs.Outcome.{refused, done, _>>=_}
 use Rattle.tlv.specs.Lists.{All, takeWhile, first, last, mapOption}
 use Rattle.tlv.specs.Bytes.{Bytes}
-use Rattle.tlv.specs.Fields.{Field, FieldList, end, cut, more, fieldsFrom, fields, wholeFields, payloads}
-use Rattle.tlv.specs.Places.{behind}
-use Rattle.tlv.specs.Reader.{recordsForm}
+use Rattle.tlv.specs.Fields.{FieldList, end, cut, more, fieldsFrom, fields, wholeFields, payloads}
 use Rattle.tlv.proofs.OutcomeLaws.{done-is, refused-not, with-done}
-use Rattle.tlv.proofs.FieldLaws.{prepend, tagged}
+use Rattle.buffers.specs.Reader.{recordsForm}
+use Rattle.buffers.proofs.FieldLaws.{prepend, tagged}
+use Rattle.access.specs.Places.{behind}
 use Rattle.lookup.specs.Tray.{FieldAt, GroupAt, fieldsAt, hasTag, groupsAt, functionsAt, nodesAt, functionRange, functionsOf}
 use Rattle.lookup.specs.Lookup.{holds, rowInForce, chainFrom, chain, Frames, framesOf, qualifying, lookUp}
 use Rattle.symbols.specs.Symbols.{symbolsForm, Symbol, symbolOf, joining, bareBytes, joined}

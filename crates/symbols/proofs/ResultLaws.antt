@@ -1,7 +1,7 @@
 -- The result as it grows: a records tray whose ranges are those of the records joined so far. Assumes nothing.
 use mathlib.Core.Path.{_≡_, refl, sym, ap, subst, _∙_}
 use mathlib.Core.Bool.{true, _&&_}
-use mathlib.Core.List.{List, [], _∷_, _++_, map, append-nil}
+use mathlib.Core.List.{List, [], _∷_, _++_, append-nil}
 use Prim.Native.Nat.{ℕ, zero, suc, _+_, _-_, _^_, _≤_, _<_}
 use native.Mathlib.Omega.{arith}
 use lib.Dec.{leb, ltb, eqb}
@@ -11,19 +11,18 @@ use borrow.Author.Tests.{leb-true, ltb-true}
 use Rattle.tlv.specs.declared.fields.Step.{Step}
 use Rattle.tlv.specs.declared.model.AddressRange.{AddressRange}
 use Rattle.tlv.specs.Addresses.{Nonempty}
-use Rattle.tlv.specs.Lists.{All}
 use Rattle.tlv.specs.Bytes.{Bytes, leAt}
-use Rattle.tlv.specs.Buffer.{top, overlay, Put}
 use Rattle.tlv.specs.Fields.{Field, fields, wholeFields, payloads}
 use Rattle.tlv.specs.Cursor.{stepAt, fieldsOf}
 use Rattle.tlv.specs.Checked.{fieldIn}
-use Rattle.tlv.specs.Output.{eachOf}
-use Rattle.tlv.specs.Fits.{Short}
 use Rattle.tlv.proofs.TestLaws.{and-left, and-right}
 use Rattle.tlv.proofs.ListLaws.{all-drop}
-use Rattle.tlv.proofs.BufferLaws.{take-overlay, part-overlay, put-length, put-fits}
 use Rattle.tlv.proofs.CursorLaws.{fields-at, fields-field, payload-within}
 use Rattle.tlv.proofs.ShapeLaws.{part-length, number-at, number-first}
+use Rattle.buffers.specs.Buffer.{overlay, Put}
+use Rattle.buffers.specs.Output.{eachOf}
+use Rattle.buffers.specs.Fits.{Short}
+use Rattle.buffers.proofs.BufferLaws.{take-overlay, part-overlay, put-length, put-fits}
 use Rattle.symbols.specs.Symbols.{symbolFormed, symbolsForm, Symbol, symbolOf, joining, bareBytes}
 use Rattle.symbols.specs.Walk.{rangesIn, symbolsFrom, laidFor, wholeFrom, Standing, AllJoined}
 use Rattle.symbols.specs.declared.extents.Extents.{Extents}

@@ -12,10 +12,10 @@ use borrow.Author.Tests.{le-leb, lt-leb, lt-ltb, le-ltb}
 use Rattle.tlv.specs.declared.model.AddressRange.{AddressRange}
 use Rattle.tlv.specs.Lists.{exists}
 use Rattle.tlv.specs.Model.{rangeOf}
-use Rattle.tlv.specs.Table.{chunk, tab, records}
+use Rattle.buffers.specs.Table.{chunk, tab, records}
 use Rattle.imports.specs.Ranges.{Holds, Above, Apart}
-use Rattle.dies.specs.RangeTable.{rangesAt}
-use Rattle.dies.proofs.RangeTableLaws.{ranges-end, ranges-cons, ranges-add}
+use Rattle.ranges.specs.RangeTable.{rangesAt}
+use Rattle.ranges.proofs.RangeTableLaws.{ranges-end, ranges-cons, ranges-add}
 use Rattle.lookup.specs.Lookup.{holds}
 use Rattle.lookup.proofs.DemandLaws.{some-holds}
 

@@ -1,16 +1,16 @@
 -- One symbol more behind a records tray: what is read of the result, and what is left of the list. Assumes nothing.
 use mathlib.Core.Path.{_≡_, refl, sym, ap, subst, _∙_}
-use mathlib.Core.Bool.{Bool, true, false, cond, _||_}
+use mathlib.Core.Bool.{Bool, true, false, cond}
 use mathlib.Core.List.{List, [], _∷_, _++_, map, append-nil, append-assoc, cons≢nil}
-use mathlib.Core.Option.{Option, none, some, Option·none-ne-some, Option·some-injective}
+use mathlib.Core.Option.{none, some, Option·none-ne-some, Option·some-injective}
 use Prim.Native.Nat.{ℕ}
 use Rattle.tlv.specs.declared.model.AddressRange.{AddressRange}
 use Rattle.tlv.specs.Addresses.{Nonempty}
 use Rattle.tlv.specs.Lists.{exists}
 use Rattle.tlv.specs.Fields.{fields, encode}
-use Rattle.tlv.specs.Output.{Function, functionPayload, eachOf}
-use Rattle.tlv.specs.Reader.{recordsForm, functionOf, readRecords}
-use Rattle.lookup.specs.Tray.{group, functionsAt, functionRange}
+use Rattle.buffers.specs.Output.{Function, functionPayload, eachOf}
+use Rattle.buffers.specs.Reader.{recordsForm, functionOf, readRecords}
+use Rattle.lookup.specs.Tray.{group, functionsAt}
 use Rattle.lookup.specs.Lookup.{holds}
 use Rattle.lookup.proofs.ReadLaws.{map-map, reads-functions}
 use Rattle.symbols.specs.Symbols.{Symbol, passedOver, joining, bareBytes}

@@ -1,18 +1,18 @@
 // The ranges of the records in a result, in a lent work slice: those of the tray merged, and those of the symbols joined since. They decide about time alone.
 ghost use mathlib.Core.Path.{_≡_};
 ghost use mathlib.Core.Bool.{true};
-ghost use mathlib.Core.List.{[], _∷_, _++_};
+ghost use mathlib.Core.List.{[]};
 ghost use Prim.Native.Nat.{_+_, _*_, _≤_};
 ghost use lib.ListN.{length, take};
 ghost use Rattle.tlv.specs.Addresses.{Nonempty};
 ghost use Rattle.tlv.specs.Lists.{All, exists};
+ghost use Rattle.imports.specs.Ranges.{Apart};
+ghost use Rattle.ranges.specs.RangeTable.{rangesAt, MergedAt, rangeRecord};
 ghost use Rattle.lookup.specs.Lookup.{holds};
 ghost use Rattle.lookup.specs.Walk.{Stands};
-ghost use Rattle.imports.specs.Ranges.{Apart};
-ghost use Rattle.dies.specs.RangeTable.{rangesAt, MergedAt};
 ghost use Rattle.symbols.specs.Walk.{rangesIn, Standing};
 ghost use Rattle.symbols.specs.Extents.{GatheredIn, Lying, Known, Remembered};
-use crate::model::RANGE_SIZE;
+use ranges::ranges::RANGE_RECORD;
 use tlv::fields::Step;
 use tlv::fields::field_at;
 use tlv::model::AddressRange;
@@ -33,7 +33,7 @@ const WAITING_MOST: usize = 1024;
 
 // Whether one of the n ranges at p, which are apart, holds an address: a binary search.
 fn in_ranges(work: &[u8], p: usize, n: usize, address: u64) -> bool
-    requires { ⌜ p + n * 16 ≤ length (now work) ⌝ }
+    requires { ⌜ p + n * rangeRecord ≤ length (now work) ⌝ }
     requires { ⌜ Apart (rangesAt (now work) p n) ⌝ }
     ensures { λ r. ⌜ r ≡ exists (holds address) (rangesAt (now (work .entry)) p n) ⌝ }
 {
@@ -41,7 +41,7 @@ fn in_ranges(work: &[u8], p: usize, n: usize, address: u64) -> bool
     let mut hi = n;
     while lo < hi {
         let mid = lo + (hi - lo) / 2;
-        let r = dies::ranges::range_at(work, p + mid * RANGE_SIZE);
+        let r = ranges::ranges::range_at(work, p + mid * RANGE_RECORD);
         if address < r.start {
             hi = mid;
         } else if address < r.end {
@@ -55,12 +55,12 @@ fn in_ranges(work: &[u8], p: usize, n: usize, address: u64) -> bool
 
 // Whether one of the n ranges at p holds an address: a look at each.
 fn among(work: &[u8], p: usize, n: usize, address: u64) -> bool
-    requires { ⌜ p + n * 16 ≤ length (now work) ⌝ }
+    requires { ⌜ p + n * rangeRecord ≤ length (now work) ⌝ }
     ensures { λ r. ⌜ r ≡ exists (holds address) (rangesAt (now (work .entry)) p n) ⌝ }
 {
     let mut i: usize = 0;
     while i < n {
-        let r = dies::ranges::range_at(work, p + i * RANGE_SIZE);
+        let r = ranges::ranges::range_at(work, p + i * RANGE_RECORD);
         i += 1;
         if r.start <= address {
             if address < r.end {
@@ -73,7 +73,7 @@ fn among(work: &[u8], p: usize, n: usize, address: u64) -> bool
 
 // The same where the first m are apart.
 fn in_table(work: &[u8], p: usize, m: usize, n: usize, address: u64) -> bool
-    requires { ⌜ p + n * 16 ≤ length (now work) ⌝ }
+    requires { ⌜ p + n * rangeRecord ≤ length (now work) ⌝ }
     requires { ⌜ m ≤ n ⌝ }
     requires { ⌜ Apart (rangesAt (now work) p m) ⌝ }
     ensures { λ r. ⌜ r ≡ exists (holds address) (rangesAt (now (work .entry)) p n) ⌝ }
@@ -81,17 +81,17 @@ fn in_table(work: &[u8], p: usize, m: usize, n: usize, address: u64) -> bool
     if in_ranges(work, p, m, address) {
         return true;
     }
-    among(work, p + m * RANGE_SIZE, n - m, address)
+    among(work, p + m * RANGE_RECORD, n - m, address)
 }
 
 // The n ranges at p merged, in whatever order they come.
 fn settle(work: &mut [u8], p: usize, n: usize) -> usize
-    requires { ⌜ p + n * 16 ≤ length (now work) ⌝ }
+    requires { ⌜ p + n * rangeRecord ≤ length (now work) ⌝ }
     requires { ⌜ All Nonempty (rangesAt (now work) p n) ⌝ }
     ensures { λ r. ⌜ MergedAt (now (work .entry)) (now (work .exit)) p n r ⌝ }
 {
-    dies::order::order_ranges(work, p, n);
-    dies::ranges::merge_ranges(work, p, n)
+    ranges::order::order_ranges(work, p, n);
+    ranges::ranges::merge_ranges(work, p, n)
 }
 
 // How many ranges were gathered; `fast` is false where they have no room.
@@ -123,10 +123,10 @@ fn gather_functions(s: &[u8], work: &mut [u8]) -> Gathered
             } => {
                 if tag == TRAY_FUNCTION_TAG {
                     let r = lookup::window::range_of(s, start, len);
-                    if work.len() - n * RANGE_SIZE < RANGE_SIZE {
+                    if work.len() - n * RANGE_RECORD < RANGE_RECORD {
                         return Gathered { fast: false, n: n };
                     }
-                    dies::ranges::put_range_at(work, n * RANGE_SIZE, r);
+                    ranges::ranges::put_range_at(work, n * RANGE_RECORD, r);
                     n += 1;
                     p = next;
                 } else {
@@ -157,7 +157,7 @@ pub fn learn(s: &[u8], work: &mut [u8]) -> Extents
     Extents {
         fast: true,
         functions: k,
-        base: n * RANGE_SIZE,
+        base: n * RANGE_RECORD,
         merged: 0,
         added: 0,
     }
@@ -181,7 +181,7 @@ pub fn is_held_with(result: &[u8], at: usize, address: u64, work: &[u8], e: Exte
 // Whether a range can be merged with the n at p at once: all of these are merged, and it starts at or behind the start of the last, as in a list in the
 // order of its addresses.
 fn goes_behind(work: &[u8], p: usize, m: usize, n: usize, range: AddressRange) -> bool
-    requires { ⌜ p + n * 16 ≤ length (now work) ⌝ }
+    requires { ⌜ p + n * rangeRecord ≤ length (now work) ⌝ }
     ensures { λ r. ⌜ (r ≡ true → m ≡ n) ⌝ }
 {
     if m != n {
@@ -190,7 +190,7 @@ fn goes_behind(work: &[u8], p: usize, m: usize, n: usize, range: AddressRange) -
     if n == 0 {
         return true;
     }
-    let last = dies::ranges::range_at(work, p + (n - 1) * RANGE_SIZE);
+    let last = ranges::ranges::range_at(work, p + (n - 1) * RANGE_RECORD);
     last.start <= range.start
 }
 
@@ -207,7 +207,7 @@ pub fn remember(work: &mut [u8], e: Extents, range: AddressRange) -> Extents
     let base = e.base;
     let merged = e.merged;
     let added = e.added;
-    if work.len() - (base + added * RANGE_SIZE) < RANGE_SIZE {
+    if work.len() - (base + added * RANGE_RECORD) < RANGE_RECORD {
         return Extents {
             fast: false,
             functions: 0,
@@ -217,7 +217,7 @@ pub fn remember(work: &mut [u8], e: Extents, range: AddressRange) -> Extents
         };
     }
     if goes_behind(work, base, merged, added, range) {
-        let n = dies::ranges::add_range(work, base, added, range);
+        let n = ranges::ranges::add_range(work, base, added, range);
         return Extents {
             fast: true,
             functions: functions,
@@ -226,7 +226,7 @@ pub fn remember(work: &mut [u8], e: Extents, range: AddressRange) -> Extents
             added: n,
         };
     }
-    dies::ranges::put_range_at(work, base + added * RANGE_SIZE, range);
+    ranges::ranges::put_range_at(work, base + added * RANGE_RECORD, range);
     if added - merged < WAITING_MOST {
         return Extents {
             fast: true,

@@ -5,8 +5,8 @@ ghost use Prim.Native.Nat.{_+_, _^_, _≤_, _<_};
 ghost use lib.ListN.{length, take, drop};
 ghost use Rattle.tlv.specs.Lists.{exists};
 ghost use Rattle.tlv.specs.Bytes.{Bytes, leAt};
-ghost use Rattle.tlv.specs.Buffer.{Put};
 ghost use Rattle.tlv.specs.Fields.{fields};
+ghost use Rattle.buffers.specs.Buffer.{Put};
 ghost use Rattle.lookup.specs.Lookup.{holds};
 ghost use Rattle.symbols.specs.Symbols.{symbolsForm, symbolOf, joinSymbols};
 ghost use Rattle.symbols.specs.Answers.{joinGiven, JoinsWith};
@@ -73,7 +73,7 @@ fn join_symbol(
     };
     let name = start + SYMBOL_SIZE;
     let end = start + len;
-    tlv::output::put_function(result, at, range, &s[name..end])
+    buffers::output::put_function(result, at, range, &s[name..end])
 }
 
 // The addresses of the symbol of a payload.
@@ -144,7 +144,7 @@ fn join_all(
 fn refused(result: &mut [u8], r: Refusal) -> Joined
     ensures { λ x. ⌜ Cleared r (now (result .entry)) (now (result .exit)) x ⌝ }
 {
-    tlv::table::clear(result);
+    buffers::table::clear(result);
     Joined::Refused(r)
 }
 
@@ -158,7 +158,7 @@ fn join_in(records: &[u8], symbols: &[u8], result: &mut [u8], work: &mut [u8]) -
     if !check_symbols(symbols) {
         return refused(result, Refusal::MisshapenSymbol);
     }
-    let copied = tlv::output::put_bytes(result, 0, records);
+    let copied = buffers::output::put_bytes(result, 0, records);
     if result.len() < copied {
         return refused(result, Refusal::ShortResult);
     }
@@ -182,7 +182,7 @@ pub fn join_symbols_with(
         (now (work .entry)) (now (work .exit)) r ⌝ }
 {
     let r = join_in(records, symbols, result, work);
-    tlv::table::clear(work);
+    buffers::table::clear(work);
     r
 }
 

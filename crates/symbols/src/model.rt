@@ -10,9 +10,6 @@ pub const SYMBOL_SIZE: usize = 16;
 // The last address.
 pub const LAST: u64 = 18446744073709551615;
 
-// How long a range in work is: start and end.
-pub const RANGE_SIZE: usize = 16;
-
 // Why a join is refused; `refusalNumber` of specs/Answers.antt gives document 02's numbers.
 pub enum Refusal {
     MisshapenRecords,

@@ -12,7 +12,6 @@ use Rattle.tlv.specs.declared.fields.Step.{Step}
 use Rattle.tlv.specs.Bytes.{le, leAt}
 use Rattle.tlv.specs.Fields.{Field, FieldList, end, cut, more, fieldsFrom, fields, wholeFields, payloads}
 use Rattle.tlv.specs.Cursor.{stepAt, fieldsOf}
-use Rattle.tlv.proofs.FieldLaws.{fieldsFrom-drop}
 
 -- ---- the four cases of a step, each from the tests that lead there
 
@@ -35,6 +34,12 @@ module _ (s : List ℕ) (p : ℕ) where
   step-field h k g = rw (lt-leb (length s) p h, le-ltb (length s - p) 3 k, le-leb (leAt 2 s (p + 1)) (length s - (p + 3)) g)
 
 -- ---- places and lists of fields
+
+pub fieldsFrom-drop : (k : ℕ) (l : List ℕ) → fieldsFrom k l ≡ fields (drop k l)
+unfolding fieldsFrom
+fieldsFrom-drop zero l = refl
+fieldsFrom-drop (suc k) [] = refl
+fieldsFrom-drop (suc k) (x ∷ l) = fieldsFrom-drop k l
 
 leAt-two : (s : List ℕ) (p t a b : ℕ) (rest : List ℕ) → drop p s ≡ t ∷ a ∷ b ∷ rest → leAt 2 s (p + 1) ≡ le (a ∷ b ∷ [])
 unfolding leAt

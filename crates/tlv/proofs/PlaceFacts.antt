@@ -1,12 +1,12 @@
 -- The places of an accepted sheet: its start is one, the next of one is one, and the field at one passes and may follow the one before it. Assumes nothing.
 use mathlib.Core.Path.{_≡_, refl, sym}
-use mathlib.Core.Bool.{Bool, true, false, false≢true}
+use mathlib.Core.Bool.{Bool, true, false≢true}
 use mathlib.Core.Logic.{_⊎_, inl, inr}
 use mathlib.Core.List.{List, [], _∷_}
-use Prim.Native.Nat.{ℕ, suc, _+_, _≤_, _<_}
+use Prim.Native.Nat.{ℕ, suc, _+_, _<_}
 use native.Mathlib.Omega.{arith}
 use lib.Dec.{eqb}
-use lib.ListN.{length, take, drop, getD}
+use lib.ListN.{length, drop, getD}
 use mir.Syntax.{w8}
 use mir.Val.{Fits}
 use borrow.Author.Tests.{eqb-true}
@@ -16,17 +16,17 @@ use Rattle.tlv.specs.declared.grammar.Checked.{Checked}
 use Rattle.tlv.specs.Outcome.{done}
 use Rattle.tlv.specs.Lists.{Any, exists}
 use Rattle.tlv.specs.Bytes.{Bytes}
-use Rattle.tlv.specs.Fields.{Field, FieldList, end, cut, more, fields, wholeFields, payloads}
+use Rattle.tlv.specs.Fields.{Field, FieldList, end, cut, more, fields, wholeFields}
 use Rattle.tlv.specs.Cursor.{stepAt}
-use Rattle.tlv.specs.Grammar.{start, after, mayFollow, payloadShaped, shaped, limited, next, checkFrom, checkInput}
+use Rattle.tlv.specs.Grammar.{start, after, mayFollow, shaped, limited, next, checkFrom, checkInput}
 use Rattle.tlv.specs.Checked.{Accepts, fieldIn, checkedOf, Placed}
-use Rattle.tlv.proofs.TestLaws.{by-test, and-left}
+use Rattle.tlv.proofs.TestLaws.{by-test}
 use Rattle.tlv.proofs.ListLaws.{all-drop}
 use Rattle.tlv.proofs.OutcomeLaws.{done-is, refused-not}
 use Rattle.tlv.proofs.CursorLaws.{fields-at, fields-field, next-within}
 use Rattle.tlv.proofs.AcceptedFields.{AllPassed}
 use Rattle.tlv.proofs.AcceptedGroups.{passed-both, fields-bytes, checked-passed}
-use Rattle.tlv.proofs.AcceptedCounts.{next-count, fewer}
+use Rattle.tlv.proofs.AcceptedCounts.{next-count}
 
 -- ---- an accepted sheet
 
@@ -49,10 +49,6 @@ pub accepted-count : (s : List ℕ) (n : ℕ) → Accepts s n → n ≡ length (
 unfolding checkInput
 accepted-count s n e = let k = counted (start (e .program)) (fields s) n (e .passes) in omega arith
 
--- and of each tag at most n
-pub accepted-payloads : (s : List ℕ) (n t : ℕ) → Accepts s n → length (payloads t (wholeFields (fields s))) ≤ n
-accepted-payloads s n t e = omega (arith, accepted-count s n e, fewer t (wholeFields (fields s)))
-
 -- what is known of a slice of bytes, as a statement on its list
 pub slice-bytes : (s : List ℕ) → ((i : ℕ) → Fits w8 (getD s i 0)) → Bytes s
 slice-bytes [] h = tt
@@ -64,9 +60,6 @@ slice-bytes (b ∷ s) h = (h 0 .fits, slice-bytes s (λ i. h (suc i)))
 pub placed-start : (s : List ℕ) (n : ℕ) → Accepts s n → Placed s 0
 unfolding checkInput
 placed-start s n e = record { context = start (e .program); count = n; passes = e .passes; within = omega arith }
-
-pub accepted-start : (s : List ℕ) (r : Checked) (program n : ℕ) → checkedOf r ≡ checkInput program s → r ≡ Checked.Accepted n → Placed s 0
-accepted-start s r program n e is = placed-start s n (accepted-done s r program n e is)
 
 -- the fields from a place on pass, one after the other
 pub placed-passed : (s : List ℕ) (p : ℕ) → Bytes s → (h : Placed s p) → AllPassed (h .context) (wholeFields (fields (drop p s)))
@@ -125,16 +118,4 @@ module _ (s : List ℕ) (p : ℕ) (r : Step) (t start len past : ℕ) (h : Place
     within = next-within s p r t start len past at e;
   }
 
-  pub placed-follows : mayFollow (h .context .previous) t ≡ true
-  unfolding shaped
-  placed-follows = and-left (mayFollow (h .context .previous) t) (payloadShaped (h .context) t (take len (drop start s))) placed-shaped
-
 -- ---- two fields, one after the other: the second may follow the first
-
-pub placed-after : (s : List ℕ) (p : ℕ) (r : Step) (t start len past : ℕ) (r′ : Step) (t′ start′ len′ past′ : ℕ)
-    → Placed s p → r ≡ stepAt s p → r ≡ Step.Field t start len past → r′ ≡ stepAt s past → r′ ≡ Step.Field t′ start′ len′ past′
-    → mayFollow t t′ ≡ true
-unfolding placed-next
-placed-after s p r t start len past r′ t′ start′ len′ past′ h at e at′ e′ =
-    rw (next-previous (h .context) (fieldIn s t start len)) at
-    (placed-follows s past r′ t′ start′ len′ past′ (placed-next s p r t start len past h at e) at′ e′)

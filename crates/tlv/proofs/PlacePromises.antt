@@ -6,17 +6,16 @@ use Prim.Native.Nat.{ℕ, _+_, _-_, _^_, _≤_, _<_}
 use native.Mathlib.Omega.{arith}
 use lib.Dec.{leb, ltb, eqb}
 use lib.ListN.{length, take, drop}
-use borrow.Author.Tests.{leb-true, eqb-true, eq-eqb, ne-eqb}
+use borrow.Author.Tests.{leb-true, eqb-true}
 use Rattle.tlv.specs.declared.fields.Step.{Step}
 use Rattle.tlv.specs.Bytes.{leAt}
-use Rattle.tlv.specs.Limits.{fieldLimit, stringLimit, reasonLimit, depthLimit}
+use Rattle.tlv.specs.Limits.{fieldLimit, stringLimit, reasonLimit}
 use Rattle.tlv.specs.Cursor.{stepAt}
-use Rattle.tlv.specs.Grammar.{mayFollow, rowShaped, valueShaped, attributeShaped, payloadShaped, payloadLimited, shaped, limited, encodingFieldSize, partFieldSize, rowFieldSize, rowKindAt}
+use Rattle.tlv.specs.Grammar.{mayFollow, payloadShaped, payloadLimited, shaped, limited, encodingFieldSize, partFieldSize, rowFieldSize}
 use Rattle.tlv.specs.Tags.{encodingTag, partTag}
 use Rattle.tlv.specs.Checked.{Placed}
-use Rattle.tlv.proofs.TestLaws.{by-test, and-left, and-right}
+use Rattle.tlv.proofs.TestLaws.{by-test, and-right}
 use Rattle.tlv.proofs.CursorLaws.{payload-within, payload-length}
-use Rattle.tlv.proofs.AcceptedFields.{entry-depth}
 use Rattle.tlv.proofs.ShapeLaws.{number-at}
 use Rattle.tlv.proofs.CheckLaws.{unit-fits}
 use Rattle.tlv.proofs.PayloadFacts.{unit-long, text-long, header-long, encoding-long, part-long, directory-long, file-long, file-zero-long, row-long, entry-long, attribute-long, range-long, failure-long, list-long}
@@ -122,18 +121,6 @@ module _ (s : List ℕ) (p : ℕ) (r : Step) (t start len past : ℕ) (h : Place
         let l : leastOf m ≤ len = rw is at least in
         omega (arith, leb-true n (leastOf m) k)
 
-    pub read-byte-first : leb 1 (leastOf m) ≡ true → start < length s
-    read-byte-first k = omega (arith, reach 1 k)
-
-    pub read-byte : (j : ℕ) → leb (j + 1) (leastOf m) ≡ true → start + j < length s
-    read-byte j k = omega (arith, reach (j + 1) k)
-
-    pub read-first : (n : ℕ) → leb n (leastOf m) ≡ true → start + n ≤ length s
-    read-first = reach
-
-    pub read-at : (j n : ℕ) → leb (j + n) (leastOf m) ≡ true → start + j + n ≤ length s
-    read-at j n k = omega (arith, reach (j + n) k)
-
     pub read-fits : (j : ℕ) → length s < 2 ^ 64 → leb j (leastOf m) ≡ true → start + j < 2 ^ 64
     read-fits j small k = omega (arith, reach j k)
 
@@ -165,45 +152,7 @@ module _ (s : List ℕ) (p : ℕ) (r : Step) (t start len past : ℕ) (h : Place
   pub placed-unit-fits : (o n : ℕ) → t ≡ 0x10 → o ≡ leAt 8 s start → n ≡ leAt 8 s (start + 8) → o + n < 2 ^ 64
   placed-unit-fits = unit-fits s start len (payload-within s p r t start len past at e) (h .context) t (placed-shaped s p r t start len past h at e)
 
-  pub placed-row-kind : (k : ℕ) → t ≡ 0x16 → k ≡ leAt 1 s (start + rowKindAt) → k ≤ 2
-  unfolding payloadShaped rowShaped
-  placed-row-kind k is ek =
-      let l = placed-row is in
-      let all = rw (is, number-at s start len 1 rowKindAt k (omega arith) ek) at shape in
-      leb-true k 2 (search and-right)
-
-  pub placed-entry-depth : (d : ℕ) → t ≡ 0x17 → d ≡ leAt 2 s (start + 8) → d ≤ depthLimit
-  placed-entry-depth d is ed =
-      let l = placed-entry is in
-      rw (number-at s start len 2 8 d (omega arith) ed) at (entry-depth (h .context) (take len (drop start s)) (rw is at limit))
-
   -- an attribute of kind k: 3 is a string, 10 has no value, any other is a number
   module _ (k : ℕ) (is : t ≡ 0x18) (ek : k ≡ leAt 1 s (start + 2)) where
     kind-is : leAt 1 (take len (drop start s)) 2 ≡ k
     kind-is = let l = placed-attribute is in number-at s start len 1 2 k (omega arith) ek
-
-    pub placed-value : valueShaped k (len - 3) ≡ true
-    unfolding payloadShaped attributeShaped
-    placed-value =
-        let all = rw (is, kind-is, payload-length s p r t start len past at e) at shape in
-        search and-right
-
-    pub placed-text-value : k ≡ 3 → len - 3 ≤ stringLimit
-    unfolding payloadLimited
-    placed-text-value three = by-length (λ n. n - 3 ≤ stringLimit) (leb-true _ _ (rw (is, kind-is, eq-eqb k 3 three) at limit))
-
-    pub placed-no-value : k ≡ 10 → len ≡ 3
-    unfolding valueShaped
-    placed-no-value ten =
-        let l = placed-attribute is in
-        let none = eqb-true (len - 3) 0 (rw ten at placed-value) in
-        omega arith
-
-    pub placed-number-value : (k ≡ 3 → ⊥) → (k ≡ 10 → ⊥) → (1 ≤ k) × (k ≤ 9) × (len ≡ 11)
-    unfolding valueShaped
-    placed-number-value three ten =
-        let all = rw (ne-eqb k 3 three, ne-eqb k 10 ten) at placed-value in
-        let low = leb-true 1 k (search (and-left, and-right)) in
-        let high = leb-true k 9 (search (and-left, and-right)) in
-        let eight = eqb-true (len - 3) 8 (search (and-left, and-right)) in
-        (low, high, omega arith)

@@ -79,7 +79,3 @@ drop-part s p n j = rw (drop-take j n (drop p s), drop-drop j p s)
 pub leAt-part : (k : ℕ) (s : List ℕ) (p n j : ℕ) → j + k ≤ n → leAt k (take n (drop p s)) j ≡ leAt k s (p + j)
 unfolding leAt
 leAt-part k s p n j h = rw (drop-part s p n j, take-take k (n - j) (drop (p + j) s) (omega arith))
-
--- the same of a part at the start
-pub leAt-take : (k m : ℕ) (s : List ℕ) (p : ℕ) → p + k ≤ m → leAt k (take m s) p ≡ leAt k s p
-leAt-take k m s p h = rw zero-add at (leAt-part k s 0 m p h)

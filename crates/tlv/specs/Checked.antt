@@ -30,6 +30,11 @@ pub record Accepts (s : List ℕ) (n : ℕ) : Type 0 where
   pub program : ℕ
   pub passes : checkInput program s ≡ done n
 
+-- .. and has some number of fields
+pub record Accepted (s : List ℕ) : Type 0 where
+  pub number : ℕ
+  pub is : Accepts s number
+
 -- p is the place of a field of an accepted sheet, or its end: the fields from p on pass after what stands before them
 pub record Placed (s : List ℕ) (p : ℕ) : Type 0 where
   pub context : Context

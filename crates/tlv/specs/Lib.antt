@@ -8,15 +8,6 @@ pub mod Limits
 pub mod Fields
 pub mod Grammar
 pub mod Model
-pub mod Output
-pub mod Reader
-pub mod Fits
-pub mod Buffer
-pub mod Table
 pub mod Cursor
 pub mod Checked
 pub mod Accepted
-pub mod Places
-pub mod Access
-pub mod Index
-pub mod Units

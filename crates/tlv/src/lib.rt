@@ -1,14 +1,9 @@
-// Type-length-value fields: what a sheet says, and what the trays are given.
-pub mod access;
+// Type-length-value fields: the grammar of a sheet, and what its fields say.
 pub mod bytes;
 pub mod constants;
 pub mod fields;
 pub mod following;
 pub mod grammar;
-pub mod index;
 pub mod model;
-pub mod output;
 pub mod shapes;
-pub mod table;
 pub mod tags;
-pub mod units;

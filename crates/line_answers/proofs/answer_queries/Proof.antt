@@ -2,8 +2,8 @@
 use mathlib.Core.Path.{_≡_}
 use Prim.Native.Nat.{_≤_, _-_}
 use lib.ListN.{length}
-use Rattle.rows.specs.Selects.{RowsIn}
 use borrow.Author.Needs.{needs}
+use Rattle.rows.specs.Selects.{RowsIn}
 use Rattle.line_answers.proofs.answer_queries.Statement.{statement}
 use Rattle.line_answers.proofs.answer_queries.Tie as tie
 

@@ -1,6 +1,6 @@
 -- `answer_query` writes above the unit's lines. Assumes nothing.
-use Rattle.line_answers.proofs.AnswerLaws.{rows-still}
 use borrow.Author.Needs.{needs}
+use Rattle.line_answers.proofs.AnswerLaws.{rows-still}
 use Rattle.line_answers.proofs.answer_query.Statement.{statement}
 use Rattle.line_answers.proofs.answer_query.Tie as tie
 

@@ -1,8 +1,8 @@
 -- `collect_rows` lends what was written to the trays, and lines that stand in the work. Assumes nothing.
 use native.Mathlib.Omega.{arith}
 use lib.ListN.{length-take}
-use Rattle.line_answers.proofs.AnswerLaws.{rows-of}
 use borrow.Author.Needs.{needs}
+use Rattle.line_answers.proofs.AnswerLaws.{rows-of}
 use Rattle.line_answers.proofs.collect_rows.Statement.{statement}
 use Rattle.line_answers.proofs.collect_rows.Tie as tie
 

@@ -4,10 +4,10 @@ use mathlib.Core.List.{List}
 use Prim.Native.Nat.{ℕ, _*_, _≤_}
 use native.Mathlib.Omega.{arith}
 use lib.ListN.{length, length-take}
-use Rattle.tlv.specs.Outcome.{Outcome}
-use Rattle.lines.specs.declared.lines.Scan.{Scan}
-use Rattle.lines.specs.Scan.{Scanned}
 use borrow.Author.Needs.{needs}
+use Rattle.tlv.specs.Outcome.{Outcome}
+use Rattle.line_program.specs.declared.lines.Scan.{Scan}
+use Rattle.line_program.specs.Scan.{Scanned}
 use Rattle.line_answers.proofs.scan.Statement.{statement}
 use Rattle.line_answers.proofs.scan.Tie as tie
 

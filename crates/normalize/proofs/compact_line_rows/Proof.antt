@@ -48,11 +48,11 @@ use denote.Triple.Spec.{Meets, tripleOf}
 use denote.Triple.Table.{entered, cited}
 use denote.Triple.Walked.{says, Stays, stay-slice, walkOf, goes-slice, Walks, ends-at, walked, walk-meets}
 use native.Mathlib.Nat.{pos-of-ne-zero}
+use borrow.Author.Tests.{lt-ltb, le-ltb, eqb-true, eqb-false}
 use Rattle.tlv.specs.declared.model.LineEntry.{LineEntry}
 use Rattle.tlv.proofs.model.LineEntry as T
 use Rattle.tlv.proofs.model.LineEntry.Laws as T′
-use Rattle.tlv.proofs.TableLaws.{le-or-lt}
-use borrow.Author.Tests.{lt-ltb, le-ltb, eqb-true, eqb-false}
+use Rattle.buffers.proofs.TableLaws.{le-or-lt}
 use Rattle.lines.specs.Lines.{sameLine}
 use Rattle.normalize.specs.Compacts.{CompactsRows}
 use Rattle.normalize.proofs.CompactLaws.{Dropping, dropping-start, dropping-same, dropping-other, compacts-none, compacts}

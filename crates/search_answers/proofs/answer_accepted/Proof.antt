@@ -1,6 +1,6 @@
 -- `answer_accepted` goes on where there is room for the tables. Assumes nothing.
-use Rattle.search_answers.proofs.SearchLaws.{room-yes}
 use borrow.Author.Needs.{needs}
+use Rattle.search_answers.proofs.SearchLaws.{room-yes}
 use Rattle.search_answers.proofs.answer_accepted.Statement.{statement}
 use Rattle.search_answers.proofs.answer_accepted.Tie as tie
 

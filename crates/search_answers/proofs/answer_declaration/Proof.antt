@@ -1,7 +1,7 @@
 -- `answer_declaration` starts from an empty table of files, and leaves the tables as they are. Assumes nothing.
 use mathlib.Core.Path.{refl}
-use Rattle.search_answers.proofs.SearchLaws.{files-room, declaring-in, declared-still}
 use borrow.Author.Needs.{needs}
+use Rattle.search_answers.proofs.SearchLaws.{declaring-in, declared-still}
 use Rattle.search_answers.proofs.answer_declaration.Statement.{statement}
 use Rattle.search_answers.proofs.answer_declaration.Tie as tie
 

@@ -1,6 +1,6 @@
 -- `answer_main` goes on with an accepted supplementary sheet. Assumes nothing.
-use Rattle.tlv.proofs.PlaceFacts.{accepted-done}
 use borrow.Author.Needs.{needs}
+use Rattle.tlv.proofs.PlaceFacts.{accepted-done}
 use Rattle.search_answers.proofs.answer_main.Statement.{statement}
 use Rattle.search_answers.proofs.answer_main.Tie as tie
 

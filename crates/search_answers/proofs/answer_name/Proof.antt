@@ -1,6 +1,6 @@
 -- `answer_name` leaves the tables as they are: the next search can start. Assumes nothing.
-use Rattle.search_answers.proofs.SearchLaws.{search-still}
 use borrow.Author.Needs.{needs}
+use Rattle.search_answers.proofs.SearchLaws.{search-still}
 use Rattle.search_answers.proofs.answer_name.Statement.{statement}
 use Rattle.search_answers.proofs.answer_name.Tie as tie
 

@@ -2,8 +2,8 @@
 use mathlib.Core.Path.{_≡_}
 use Prim.Native.Nat.{_≤_, _-_}
 use lib.ListN.{length}
-use Rattle.search_answers.specs.Searches.{SearchesIn}
 use borrow.Author.Needs.{needs}
+use Rattle.search_answers.specs.Searches.{SearchesIn}
 use Rattle.search_answers.proofs.answer_queries.Statement.{statement}
 use Rattle.search_answers.proofs.answer_queries.Tie as tie
 

@@ -1,6 +1,6 @@
 -- `answer_query` searches from an entry that is known, and leaves the tables as they are. Assumes nothing.
-use Rattle.search_answers.proofs.SearchLaws.{leads-known}
 use borrow.Author.Needs.{needs}
+use Rattle.search_answers.proofs.SearchLaws.{leads-known}
 use Rattle.search_answers.proofs.answer_query.Statement.{statement}
 use Rattle.search_answers.proofs.answer_query.Tie as tie
 

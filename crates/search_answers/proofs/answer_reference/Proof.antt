@@ -1,6 +1,6 @@
 -- `answer_reference` leaves the tables as they are: the next search can start. Assumes nothing.
-use Rattle.search_answers.proofs.SearchLaws.{search-still}
 use borrow.Author.Needs.{needs}
+use Rattle.search_answers.proofs.SearchLaws.{search-still}
 use Rattle.search_answers.proofs.answer_reference.Statement.{statement}
 use Rattle.search_answers.proofs.answer_reference.Tie as tie
 

@@ -1,6 +1,6 @@
 -- `answer_sheets` goes on with an accepted main sheet. Assumes nothing.
-use Rattle.tlv.proofs.PlaceFacts.{accepted-done}
 use borrow.Author.Needs.{needs}
+use Rattle.tlv.proofs.PlaceFacts.{accepted-done}
 use Rattle.search_answers.proofs.answer_sheets.Statement.{statement}
 use Rattle.search_answers.proofs.answer_sheets.Tie as tie
 

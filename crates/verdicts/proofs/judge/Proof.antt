@@ -1,11 +1,11 @@
 use native.Mathlib.Omega.{arith}
 use lib.ListN.{length-take}
 use borrow.Author.Needs.{needs}
+use Rattle.io.proofs.read_full.Reads as read-full-reads
 use Rattle.verdicts.proofs.judge.Statement.{statement}
 use Rattle.verdicts.proofs.judge.Tie as tie
 use Rattle.verdicts.proofs.judge.Reads as reads
 use Rattle.verdicts.proofs.judge.Lts as lts
-use Rattle.io.proofs.read_full.Reads as read-full-reads
 use Rattle.verdicts.proofs.next_u32.Reads as next-u32-reads
 use Rattle.verdicts.proofs.write_verdict.Reads as write-verdict-reads
 

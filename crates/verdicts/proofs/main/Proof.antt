@@ -2,11 +2,11 @@ use mathlib.Core.Path.{_≡_}
 use Prim.Native.Nat.{_-_}
 use lib.ListN.{length}
 use borrow.Author.Needs.{needs}
+use Rattle.io.proofs.write_all.Reads as write-all-reads
 use Rattle.verdicts.proofs.main.Statement.{statement}
 use Rattle.verdicts.proofs.main.Tie as tie
 use Rattle.verdicts.proofs.main.Reads as reads
 use Rattle.verdicts.proofs.main.Lts as lts
-use Rattle.io.proofs.write_all.Reads as write-all-reads
 use Rattle.verdicts.proofs.judge.Reads as judge-reads
 use Rattle.verdicts.proofs.next_u32.Reads as next-u32-reads
 use Rattle.verdicts.proofs.write_name.Reads as write-name-reads

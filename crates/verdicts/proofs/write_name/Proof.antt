@@ -1,12 +1,12 @@
 use native.Mathlib.Omega.{arith}
 use lib.ListN.{length-take}
 use borrow.Author.Needs.{needs}
+use Rattle.io.proofs.read_full.Reads as read-full-reads
+use Rattle.io.proofs.write_all.Reads as write-all-reads
 use Rattle.verdicts.proofs.write_name.Statement.{statement}
 use Rattle.verdicts.proofs.write_name.Tie as tie
 use Rattle.verdicts.proofs.write_name.Reads as reads
 use Rattle.verdicts.proofs.write_name.Lts as lts
-use Rattle.io.proofs.read_full.Reads as read-full-reads
-use Rattle.io.proofs.write_all.Reads as write-all-reads
 use Rattle.verdicts.proofs.next_u8.Reads as next-u8-reads
 
 -- src/main.rt:19:13

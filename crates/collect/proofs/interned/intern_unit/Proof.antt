@@ -1,7 +1,7 @@
 -- `interned::intern_unit` meets its contract: the unit's directories, and its map behind them. Assumes nothing.
 use native.Mathlib.Omega.{arith}
-use Rattle.collect.proofs.UnitInternLaws.{described-files, described-placed, described-listed, described-room, interned-refused, interned-done}
 use borrow.Author.Needs.{needs}
+use Rattle.collect.proofs.UnitInternLaws.{described-files, described-placed, described-listed, described-room, interned-refused, interned-done}
 use Rattle.collect.proofs.interned.intern_unit.Statement.{statement}
 use Rattle.collect.proofs.interned.intern_unit.Tie as tie
 

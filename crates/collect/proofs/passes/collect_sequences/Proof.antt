@@ -3,13 +3,13 @@ use Prim.Native.Nat.{_+_, _-_, _*_, _≤_, _<_}
 use native.Mathlib.Omega.{arith}
 use lib.ListN.{length}
 use borrow.Author.Needs.{needs}
-use Rattle.tlv.proofs.OwnLaws.{own-less}
+use Rattle.tlv.specs.Grammar.{rowFieldSize}
+use Rattle.access.proofs.OwnLaws.{own-less}
+use Rattle.rows.specs.Sizes.{rangeSize}
 use Rattle.collect.proofs.RowsFromLaws.{row-within, row-ahead}
 use Rattle.collect.proofs.SequencesLaws.{Collecting, collecting-start, collecting-done, collecting-room, collecting-put, collecting-empty, collecting-more, collecting-open}
 use Rattle.collect.proofs.passes.collect_sequences.Statement.{statement}
 use Rattle.collect.proofs.passes.collect_sequences.Tie as tie
-use Rattle.rows.specs.Sizes.{rangeSize}
-use Rattle.tlv.specs.Grammar.{rowFieldSize}
 
 abbrev Inv-loop : tie.InvT-loop
 Inv-loop s p work₀ offsets n base at₀ k₀ opened₀ start₀ count₀ work at k opened start count = Collecting s work₀ work p offsets n base at k opened start count

@@ -3,12 +3,12 @@ use Prim.Native.Nat.{_+_, _-_, _≤_, _<_}
 use native.Mathlib.Omega.{arith}
 use lib.ListN.{length}
 use borrow.Author.Needs.{needs}
-use Rattle.tlv.proofs.OwnLaws.{own-less}
+use Rattle.tlv.specs.Grammar.{rowFieldSize}
+use Rattle.access.proofs.OwnLaws.{own-less}
 use Rattle.collect.proofs.RowsFromLaws.{row-within, row-ahead}
 use Rattle.collect.proofs.CountLaws.{CountingRows, counting-start, counting-done, counting-failed, counting-end, counting-plain}
 use Rattle.collect.proofs.passes.count_rows.Statement.{statement}
 use Rattle.collect.proofs.passes.count_rows.Tie as tie
-use Rattle.tlv.specs.Grammar.{rowFieldSize}
 
 abbrev Inv-loop : tie.InvT-loop
 Inv-loop s p at₀ lines₀ opened₀ n₀ at lines opened n = CountingRows s p at lines opened n

@@ -3,13 +3,13 @@ use Prim.Native.Nat.{_+_, _-_, _≤_, _<_}
 use native.Mathlib.Omega.{arith}
 use lib.ListN.{length}
 use borrow.Author.Needs.{needs}
-use Rattle.tlv.proofs.OwnLaws.{own-less}
+use Rattle.tlv.specs.Grammar.{rowFieldSize}
+use Rattle.access.proofs.OwnLaws.{own-less}
 use Rattle.files.proofs.UnitLaws.{unit-within}
 use Rattle.collect.proofs.RowsFromLaws.{row-within, row-ahead}
 use Rattle.collect.proofs.ConvertingLaws.{ConvertingRows, converting-start, converting-same, converting-full, converting-over, converting-ended, converting-refused, converting-more, converting-known}
 use Rattle.collect.proofs.row_fields.convert_rows.Statement.{statement}
 use Rattle.collect.proofs.row_fields.convert_rows.Tie as tie
-use Rattle.tlv.specs.Grammar.{rowFieldSize}
 
 abbrev Inv-loop : tie.InvT-loop
 Inv-loop main supplementary c left work₀ files₀ warnings₀ at₀ sequence₀ more₀ state₀ work files warnings at sequence more state =

@@ -1,8 +1,8 @@
 -- `calls::call_file` meets its contract. Assumes nothing.
 use native.Mathlib.Omega.{arith}
+use borrow.Author.Needs.{needs}
 use Rattle.dies.proofs.AttributeReads.{accepted-placed}
 use Rattle.dies.proofs.CallLaws.{file-missing, file-found, file-warned}
-use borrow.Author.Needs.{needs}
 use Rattle.dies.proofs.calls.call_file.Statement.{statement}
 use Rattle.dies.proofs.calls.call_file.Tie as tie
 

@@ -1,8 +1,8 @@
 -- `calls::call_line` meets its contract. Assumes nothing.
 use native.Mathlib.Omega.{arith}
+use borrow.Author.Needs.{needs}
 use Rattle.dies.proofs.AttributeReads.{accepted-placed}
 use Rattle.dies.proofs.CallLaws.{line-missing, line-small, line-warned}
-use borrow.Author.Needs.{needs}
 use Rattle.dies.proofs.calls.call_line.Statement.{statement}
 use Rattle.dies.proofs.calls.call_line.Tie as tie
 

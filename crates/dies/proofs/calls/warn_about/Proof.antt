@@ -1,7 +1,7 @@
 -- `calls::warn_about` meets its contract. Assumes nothing.
 use native.Mathlib.Omega.{arith}
-use Rattle.dies.proofs.CallLaws.{unit-read, entry-read, about-refused, about-put}
 use borrow.Author.Needs.{needs}
+use Rattle.dies.proofs.CallLaws.{unit-read, entry-read, about-refused, about-put}
 use Rattle.dies.proofs.calls.warn_about.Statement.{statement}
 use Rattle.dies.proofs.calls.warn_about.Tie as tie
 

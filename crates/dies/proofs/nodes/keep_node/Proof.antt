@@ -5,11 +5,11 @@ use Prim.Native.Nat.{ℕ, _+_, _≤_, _<_}
 use native.Mathlib.Omega.{arith}
 use lib.Dec.{leb}
 use borrow.Author.Tests.{leb-true, leb-false, not-true, not-false}
+use borrow.Author.Needs.{needs}
+use Rattle.tlv.proofs.PlaceFacts.{slice-bytes}
 use Rattle.dies.proofs.SiteStepLaws.{details-accepted}
 use Rattle.dies.proofs.ListRoomLaws.{own-used, own-small}
-use Rattle.tlv.proofs.PlaceFacts.{slice-bytes}
 use Rattle.dies.proofs.NodeStepLaws.{keep-file, keep-line, keep-deep, keep-done}
-use borrow.Author.Needs.{needs}
 use Rattle.dies.proofs.nodes.keep_node.Statement.{statement}
 use Rattle.dies.proofs.nodes.keep_node.Tie as tie
 

@@ -5,6 +5,7 @@ use mathlib.Core.List.{List}
 use Prim.Native.Nat.{ℕ}
 use native.Mathlib.Omega.{arith}
 use lib.ListN.{length}
+use borrow.Author.Needs.{needs}
 use Rattle.tlv.specs.Outcome.{Outcome}
 use Rattle.tlv.proofs.PlaceFacts.{slice-bytes}
 use Rattle.references.specs.declared.tables.Tables.{Tables}
@@ -20,7 +21,6 @@ use Rattle.dies.proofs.NameLengthLaws.{name-short}
 use Rattle.dies.proofs.InlineStepLaws.{inline-refused, inline-nameless, inline-room, inline-list-room, inline-listless, inline-failed, inline-own, inline-empty, inline-fits, inline-details, inline-kept}
 use Rattle.dies.proofs.FrameLaws.{Top, top-some, top-none}
 use Rattle.dies.proofs.NodeStepLaws.{refused-as, noded-at}
-use borrow.Author.Needs.{needs}
 use Rattle.dies.proofs.nodes.make_inline_node.Statement.{statement}
 use Rattle.dies.proofs.nodes.make_inline_node.Tie as tie
 

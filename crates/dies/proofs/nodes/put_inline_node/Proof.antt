@@ -1,6 +1,6 @@
 -- `nodes::put_inline_node` meets its contract. Assumes nothing.
-use Rattle.dies.proofs.NodeStepLaws.{node-put}
 use borrow.Author.Needs.{needs}
+use Rattle.dies.proofs.NodeStepLaws.{node-put}
 use Rattle.dies.proofs.nodes.put_inline_node.Statement.{statement}
 use Rattle.dies.proofs.nodes.put_inline_node.Tie as tie
 

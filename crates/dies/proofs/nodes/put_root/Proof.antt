@@ -1,7 +1,7 @@
 -- `nodes::put_root` meets its contract. Assumes nothing.
 use native.Mathlib.Omega.{arith}
-use Rattle.dies.proofs.NodeStepLaws.{root-passed, root-put}
 use borrow.Author.Needs.{needs}
+use Rattle.dies.proofs.NodeStepLaws.{root-passed, root-put}
 use Rattle.dies.proofs.nodes.put_root.Statement.{statement}
 use Rattle.dies.proofs.nodes.put_root.Tie as tie
 

@@ -1,7 +1,7 @@
 -- `sites::address_in` meets its contract. Assumes nothing.
 use mathlib.Core.Path.{sym, ap}
-use Rattle.dies.specs.DetailState.{addressIn}
 use borrow.Author.Needs.{needs}
+use Rattle.dies.specs.Calls.{addressIn}
 use Rattle.dies.proofs.sites.address_in.Statement.{statement}
 use Rattle.dies.proofs.sites.address_in.Tie as tie
 

@@ -1,8 +1,8 @@
 -- `sites::finish_call_sites` meets its contract. Assumes nothing.
 use native.Mathlib.Omega.{arith}
 use borrow.Author.Needs.{needs}
-use Rattle.dies.proofs.SiteLaws.{Closing, closing-start, closing-next, closing-stop, closing-end}
 use mathlib.Core.Logic.{inr}
+use Rattle.dies.proofs.SiteLaws.{Closing, closing-start, closing-next, closing-stop, closing-end}
 use Rattle.dies.proofs.sites.finish_call_sites.Statement.{statement}
 use Rattle.dies.proofs.sites.finish_call_sites.Tie as tie
 

@@ -1,10 +1,10 @@
 -- `sites::make_call_site` meets its contract. Assumes nothing.
 use mathlib.Core.Path.{sym, _∙_}
 use native.Mathlib.Omega.{arith}
+use borrow.Author.Needs.{needs}
 use Rattle.tlv.proofs.PlaceFacts.{slice-bytes}
 use Rattle.dies.proofs.CallLaws.{entry-read, entry-depth-here}
 use Rattle.dies.proofs.SiteStepLaws.{details-accepted, place-small, left-here, site-missing, site-failed, site-low, site-high, site-unnamed, site-pushed}
-use borrow.Author.Needs.{needs}
 use Rattle.dies.proofs.sites.make_call_site.Statement.{statement}
 use Rattle.dies.proofs.sites.make_call_site.Tie as tie
 

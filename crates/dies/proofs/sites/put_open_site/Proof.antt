@@ -1,6 +1,6 @@
 -- `sites::put_open_site` meets its contract. Assumes nothing.
-use Rattle.dies.proofs.SiteLaws.{put-site}
 use borrow.Author.Needs.{needs}
+use Rattle.dies.proofs.SiteLaws.{put-site}
 use Rattle.dies.proofs.sites.put_open_site.Statement.{statement}
 use Rattle.dies.proofs.sites.put_open_site.Tie as tie
 

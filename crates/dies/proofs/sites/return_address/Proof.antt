@@ -1,10 +1,10 @@
 -- `sites::return_address` meets its contract. Assumes nothing.
 use native.Mathlib.Omega.{arith}
+use borrow.Author.Needs.{needs}
 use Rattle.tlv.proofs.PlaceFacts.{slice-bytes}
 use Rattle.references.proofs.ReferenceLaws.{entry-next}
 use Rattle.dies.proofs.AttributeReads.{accepted-placed, address-read}
 use Rattle.dies.proofs.CallLaws.{entry-read}
-use borrow.Author.Needs.{needs}
 use Rattle.dies.proofs.sites.return_address.Statement.{statement}
 use Rattle.dies.proofs.sites.return_address.Tie as tie
 

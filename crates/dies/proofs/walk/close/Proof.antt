@@ -1,6 +1,6 @@
 -- `walk::close` meets its contract. Assumes nothing.
-use Rattle.dies.proofs.WalkStateLaws.{shut-is}
 use borrow.Author.Needs.{needs}
+use Rattle.dies.proofs.WalkStateLaws.{shut-is}
 use Rattle.dies.proofs.walk.close.Statement.{statement}
 use Rattle.dies.proofs.walk.close.Tie as tie
 

@@ -2,9 +2,9 @@
 use borrow.Author.Needs.{needs}
 use mathlib.Core.Path.{refl, _∙_}
 use native.Mathlib.Omega.{arith}
-use Rattle.dwarf.proofs.CountLaws.{total-small}
+use Rattle.checks.proofs.CountLaws.{total-small}
+use Rattle.checks.proofs.WorkLaws.{most-least, each-enough}
 use Rattle.dwarf.proofs.EachLaws.{units-many}
-use Rattle.dwarf.proofs.WorkLaws.{most-least, each-enough}
 use Rattle.dwarf.proofs.RunLaws.{files-room, tables-room, ready-first, writes-units}
 use Rattle.dwarf.proofs.run.import_worked.Statement.{statement}
 use Rattle.dwarf.proofs.run.import_worked.Tie as tie

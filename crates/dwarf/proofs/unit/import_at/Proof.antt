@@ -5,7 +5,7 @@ use mathlib.Core.Path.{refl, _∙_}
 use Rattle.tlv.proofs.PlaceFacts.{placed-start}
 use Rattle.collect.proofs.HeaderPlaces.{unit-stands}
 use Rattle.subprograms.proofs.ContextLaws.{unit-of}
-use Rattle.dwarf.proofs.LayoutLaws.{unit-laid}
+use Rattle.checks.proofs.LayoutLaws.{unit-laid}
 use Rattle.dwarf.proofs.TablesLaws.{accepted-main, accepted-supplementary, tables-kept}
 use Rattle.dwarf.proofs.UnitStepLaws.{part-short, lines-room, collected-low, lines-laid, warned-fits, context-stands, unit-grows, unit-refused}
 use Rattle.dwarf.proofs.unit.import_at.Statement.{statement}

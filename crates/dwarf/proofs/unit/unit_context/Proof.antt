@@ -1,6 +1,5 @@
 -- `unit::unit_context` meets its contract: the executable ranges are written behind the lines. Assumes nothing.
 use borrow.Author.Needs.{needs}
-use native.Mathlib.Omega.{arith}
 use Rattle.tlv.proofs.PlaceFacts.{placed-start}
 use Rattle.dwarf.proofs.TablesLaws.{accepted-main}
 use Rattle.dwarf.proofs.UnitContextLaws.{text-room, makes-context}

@@ -3,7 +3,7 @@ use Prim.Native.Nat.{_-_}
 use native.Mathlib.Omega.{arith}
 use lib.ListN.{length}
 use borrow.Author.Needs.{needs}
-use Rattle.tlv.proofs.OwnLaws.{own-less}
+use Rattle.access.proofs.OwnLaws.{own-less}
 use Rattle.files.proofs.InterningLaws.{Interning, place-small, interning-start, interning-over, file-within, file-of-unit, file-room, interning-refused, interning-unnamed, interning-number}
 use Rattle.files.proofs.header.intern_files.Statement.{statement}
 use Rattle.files.proofs.header.intern_files.Tie as tie

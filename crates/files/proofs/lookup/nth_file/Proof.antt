@@ -3,7 +3,7 @@ use Prim.Native.Nat.{_-_}
 use native.Mathlib.Omega.{arith}
 use lib.ListN.{length}
 use borrow.Author.Needs.{needs}
-use Rattle.tlv.proofs.OwnLaws.{own-less}
+use Rattle.access.proofs.OwnLaws.{own-less}
 use Rattle.files.specs.Pieces.{sourceIn}
 use Rattle.files.proofs.LookupLaws.{Passing, passing-start, passing-over, passing-found, passing-next}
 use Rattle.files.proofs.lookup.nth_file.Statement.{statement}

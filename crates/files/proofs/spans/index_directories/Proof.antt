@@ -3,7 +3,7 @@ use Prim.Native.Nat.{_+_, _-_, _*_, _≤_}
 use native.Mathlib.Omega.{arith}
 use lib.ListN.{length}
 use borrow.Author.Needs.{needs}
-use Rattle.tlv.proofs.OwnLaws.{own-less}
+use Rattle.access.proofs.OwnLaws.{own-less}
 use Rattle.files.proofs.DirectoryLaws.{Listing, listing-start, listing-done, listing-room, listing-small, listing-step}
 use Rattle.files.proofs.spans.index_directories.Statement.{statement}
 use Rattle.files.proofs.spans.index_directories.Tie as tie

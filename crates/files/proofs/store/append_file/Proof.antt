@@ -1,8 +1,7 @@
 -- `store::append_file` meets its contract. That there is room follows from the files being different and possible ones. Assumes nothing.
 use native.Mathlib.Omega.{arith}
 use borrow.Author.Needs.{needs}
-use Rattle.files.proofs.RoomLaws.{room-left}
-use Rattle.files.proofs.RoomLaws.{source-small}
+use Rattle.files.proofs.RoomLaws.{room-left, source-small}
 use Rattle.files.proofs.AddedLaws.{full-adds, new-adds}
 use Rattle.files.proofs.store.append_file.Statement.{statement}
 use Rattle.files.proofs.store.append_file.Tie as tie

@@ -1,6 +1,6 @@
 -- `store::find_file` meets its contract. The loop follows a chain to ever lower places. Assumes nothing.
-use Rattle.tlv.specs.Table.{chunk}
 use native.Mathlib.Omega.{arith}
+use Rattle.buffers.specs.Table.{chunk}
 use Rattle.files.proofs.StoreLaws.{head-before}
 use Rattle.files.proofs.ChainLaws.{Searching, searching-start, record-at, searching-step, searching-less, searching-found, searching-none}
 use Rattle.files.proofs.store.find_file.Statement.{statement}

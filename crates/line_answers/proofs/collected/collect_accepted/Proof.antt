@@ -1,6 +1,6 @@
 -- `collect_accepted` goes on with a unit of the sheet, where there is room. Assumes nothing.
-use Rattle.line_answers.proofs.AnswerLaws.{unit-in, room-yes}
 use borrow.Author.Needs.{needs}
+use Rattle.line_answers.proofs.AnswerLaws.{unit-in, room-yes}
 use Rattle.line_answers.proofs.collected.collect_accepted.Statement.{statement}
 use Rattle.line_answers.proofs.collected.collect_accepted.Tie as tie
 

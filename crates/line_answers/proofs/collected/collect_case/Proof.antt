@@ -1,6 +1,6 @@
 -- `collect_case` goes on with an accepted sheet. Assumes nothing.
-use Rattle.tlv.proofs.PlaceFacts.{accepted-done}
 use borrow.Author.Needs.{needs}
+use Rattle.tlv.proofs.PlaceFacts.{accepted-done}
 use Rattle.line_answers.proofs.collected.collect_case.Statement.{statement}
 use Rattle.line_answers.proofs.collected.collect_case.Tie as tie
 

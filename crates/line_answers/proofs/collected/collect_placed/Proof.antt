@@ -1,8 +1,8 @@
 -- `collect_placed` has room for the file table and the lines: the fields of a sheet bound both. Assumes nothing.
-use Rattle.line_answers.proofs.AnswerLaws.{possible-room, room-few, room-table, room-main, empty-holds, lines-room, collected-rows}
 use native.Mathlib.Omega.{arith}
-use Rattle.tlv.proofs.PlaceFacts.{placed-start}
 use borrow.Author.Needs.{needs}
+use Rattle.tlv.proofs.PlaceFacts.{placed-start}
+use Rattle.line_answers.proofs.AnswerLaws.{possible-room, room-few, room-table, room-main, empty-holds, lines-room, collected-rows}
 use Rattle.line_answers.proofs.collected.collect_placed.Statement.{statement}
 use Rattle.line_answers.proofs.collected.collect_placed.Tie as tie
 

@@ -1,14 +1,13 @@
 -- `address::chain_at` meets its contract: what is gathered and what is left make the chain. Assumes nothing.
-use mathlib.Core.Path.{_≡_, refl}
 use Prim.Native.Nat.{_-_}
 use native.Mathlib.Omega.{arith}
 use lib.ListN.{length}
+use borrow.Author.Needs.{needs}
 use Rattle.tlv.proofs.CursorLaws.{next-less}
 use Rattle.lookup.specs.Walk.{StandsOwn}
 use Rattle.lookup.proofs.OwnLaws.{own-stands-next, node-first}
 use Rattle.lookup.proofs.ChainWalkLaws.{leftAt, Gathering, gather-start, chain-end, chain-cut, chain-function, chain-other, chain-leaves}
 use Rattle.lookup.proofs.ChainWalkLaws.{chain-deeper, chain-room, chain-passes, chain-takes}
-use borrow.Author.Needs.{needs}
 use Rattle.lookup.proofs.address.chain_at.Statement.{statement}
 use Rattle.lookup.proofs.address.chain_at.Tie as tie
 

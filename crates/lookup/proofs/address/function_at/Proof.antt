@@ -2,13 +2,13 @@
 use mathlib.Core.Path.{_≡_, refl}
 use Prim.Native.Nat.{_-_}
 use lib.ListN.{length}
+use borrow.Author.Needs.{needs}
 use Rattle.tlv.proofs.CursorLaws.{next-less, payload-within}
 use Rattle.tlv.specs.Lists.{first}
 use Rattle.lookup.specs.Tray.{functionsAt}
 use Rattle.lookup.specs.Walk.{Stands}
 use Rattle.lookup.proofs.StepLaws.{functionsFrom, stands-next, function-long}
 use Rattle.lookup.proofs.WalkLaws.{holding, none-end, none-cut, found-other, found-not, found-here}
-use borrow.Author.Needs.{needs}
 use Rattle.lookup.proofs.address.function_at.Statement.{statement}
 use Rattle.lookup.proofs.address.function_at.Tie as tie
 

@@ -1,6 +1,6 @@
 -- `address::holds_at` meets its contract. Assumes nothing.
-use Rattle.lookup.proofs.StepLaws.{holds-range}
 use borrow.Author.Needs.{needs}
+use Rattle.lookup.proofs.StepLaws.{holds-range}
 use Rattle.lookup.proofs.address.holds_at.Statement.{statement}
 use Rattle.lookup.proofs.address.holds_at.Tie as tie
 

@@ -1,14 +1,14 @@
 -- `address::row_in_force` meets its contract. Assumes nothing.
-use mathlib.Core.Path.{_≡_, refl, sym}
+use mathlib.Core.Path.{_≡_, sym}
 use Prim.Native.Nat.{_-_}
 use lib.ListN.{length}
-use Rattle.tlv.proofs.CursorLaws.{next-less, payload-within}
+use borrow.Author.Needs.{needs}
+use Rattle.tlv.proofs.CursorLaws.{next-less}
 use Rattle.tlv.specs.Lists.{orElse}
 use Rattle.lookup.specs.Answers.{rowPlace}
 use Rattle.lookup.specs.Walk.{StandsOwn, rowFrom}
 use Rattle.lookup.proofs.OwnLaws.{own-stands-next, row-first, row-long}
 use Rattle.lookup.proofs.WalkLaws.{or-none, row-end, row-cut, row-function, row-other, row-above, row-taken}
-use borrow.Author.Needs.{needs}
 use Rattle.lookup.proofs.address.row_in_force.Statement.{statement}
 use Rattle.lookup.proofs.address.row_in_force.Tie as tie
 

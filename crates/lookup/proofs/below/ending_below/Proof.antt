@@ -2,13 +2,13 @@
 use mathlib.Core.Path.{_≡_, refl}
 use Prim.Native.Nat.{_-_}
 use lib.ListN.{length}
+use borrow.Author.Needs.{needs}
 use Rattle.tlv.proofs.CursorLaws.{next-less, payload-within}
 use Rattle.lookup.specs.Tray.{functionsAt}
 use Rattle.lookup.specs.Lookup.{qualifying, endingBelow}
 use Rattle.lookup.specs.Walk.{Stands}
 use Rattle.lookup.proofs.StepLaws.{functionsFrom, stands-next, function-long}
 use Rattle.lookup.proofs.NearestWalkLaws.{bestOf, Started, nearest-end, nearest-cut, nearest-other, nearest-above, nearest-takes, nearest-leaves}
-use borrow.Author.Needs.{needs}
 use Rattle.lookup.proofs.below.ending_below.Statement.{statement}
 use Rattle.lookup.proofs.below.ending_below.Tie as tie
 

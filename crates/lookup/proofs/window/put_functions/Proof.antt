@@ -1,16 +1,15 @@
 -- `window::put_functions` meets its contract: who lays the fields from here on has laid all. Assumes nothing.
-use mathlib.Core.Path.{refl}
 use Prim.Native.Nat.{_-_}
 use native.Mathlib.Omega.{arith}
 use lib.ListN.{length}
+use borrow.Author.Needs.{needs}
 use Rattle.tlv.proofs.CursorLaws.{next-less, next-within, payload-within}
-use Rattle.tlv.proofs.BufferLaws.{Left, left-start, left-same, left-done}
+use Rattle.buffers.proofs.BufferLaws.{Left, left-start, left-same, left-done}
 use Rattle.lookup.specs.Tray.{functionsAt}
 use Rattle.lookup.specs.Walk.{Stands}
 use Rattle.lookup.specs.Listing.{wantedBytes}
 use Rattle.lookup.proofs.StepLaws.{stands-next, function-long}
 use Rattle.lookup.proofs.ListingLaws.{leftBytes, left-end, left-cut, left-other, left-not, left-laid, part-below}
-use borrow.Author.Needs.{needs}
 use Rattle.lookup.proofs.window.put_functions.Statement.{statement}
 use Rattle.lookup.proofs.window.put_functions.Tie as tie
 

@@ -1,7 +1,7 @@
 -- `extended::step_body` meets its contract: the bytes of an extended instruction, by its opcode. Assumes nothing.
-use Rattle.lines.proofs.SkipLaws.{passes-to}
-use Rattle.machine.proofs.ExtendedLaws.{body-none, body-end, body-address, body-other, body-ended, body-fault}
 use borrow.Author.Needs.{needs}
+use Rattle.line_program.proofs.SkipLaws.{passes-to}
+use Rattle.machine.proofs.ExtendedLaws.{body-none, body-end, body-address, body-other, body-ended, body-fault}
 use Rattle.machine.proofs.extended.step_body.Statement.{statement}
 use Rattle.machine.proofs.extended.step_body.Tie as tie
 

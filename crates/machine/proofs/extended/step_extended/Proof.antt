@@ -1,7 +1,7 @@
 -- `extended::step_extended` meets its contract: a length, then as many bytes. Assumes nothing.
 use native.Mathlib.Omega.{arith}
-use Rattle.machine.proofs.ExtendedLaws.{extended-zero, extended-body, extended-fault, extended-within}
 use borrow.Author.Needs.{needs}
+use Rattle.machine.proofs.ExtendedLaws.{extended-zero, extended-body, extended-fault, extended-within}
 use Rattle.machine.proofs.extended.step_extended.Statement.{statement}
 use Rattle.machine.proofs.extended.step_extended.Tie as tie
 

@@ -1,6 +1,6 @@
 -- `extended::step_set_address` meets its contract: an address of any number of bytes, then a move. Assumes nothing.
-use Rattle.machine.proofs.ExtendedLaws.{address-steps, address-past}
 use borrow.Author.Needs.{needs}
+use Rattle.machine.proofs.ExtendedLaws.{address-steps, address-past}
 use Rattle.machine.proofs.extended.step_set_address.Statement.{statement}
 use Rattle.machine.proofs.extended.step_set_address.Tie as tie
 

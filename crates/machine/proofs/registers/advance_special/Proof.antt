@@ -1,7 +1,7 @@
 -- `registers::advance_special` meets its contract: a length and a quotient of bytes make a small product. Assumes nothing.
 use native.Mathlib.Omega.{arith}
-use Rattle.machine.proofs.RegisterLaws.{advance-by, special-room}
 use borrow.Author.Needs.{needs}
+use Rattle.machine.proofs.RegisterLaws.{advance-by, special-room}
 use Rattle.machine.proofs.registers.advance_special.Statement.{statement}
 use Rattle.machine.proofs.registers.advance_special.Tie as tie
 

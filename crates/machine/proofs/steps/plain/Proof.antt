@@ -1,6 +1,6 @@
 -- `steps::plain` meets its contract: by cases. Assumes nothing.
-use Rattle.machine.proofs.StepLaws.{plain-of}
 use borrow.Author.Needs.{needs}
+use Rattle.machine.proofs.StepLaws.{plain-of}
 use Rattle.machine.proofs.steps.plain.Statement.{statement}
 use Rattle.machine.proofs.steps.plain.Tie as tie
 

@@ -1,6 +1,6 @@
 -- `steps::quiet` meets its contract: by cases. Assumes nothing.
-use Rattle.machine.proofs.StepLaws.{quiet-of}
 use borrow.Author.Needs.{needs}
+use Rattle.machine.proofs.StepLaws.{quiet-of}
 use Rattle.machine.proofs.steps.quiet.Statement.{statement}
 use Rattle.machine.proofs.steps.quiet.Tie as tie
 

@@ -1,6 +1,6 @@
 -- `steps::step_advance_line` meets its contract: a signed operand, added. Assumes nothing.
-use Rattle.machine.proofs.StepLaws.{line-steps, line-fault}
 use borrow.Author.Needs.{needs}
+use Rattle.machine.proofs.StepLaws.{line-steps, line-fault}
 use Rattle.machine.proofs.steps.step_advance_line.Statement.{statement}
 use Rattle.machine.proofs.steps.step_advance_line.Tie as tie
 

@@ -1,6 +1,6 @@
 -- `steps::step_advance_pc` meets its contract: an operand, then a move. Assumes nothing.
-use Rattle.machine.proofs.StepLaws.{advance-steps, unsigned-fault}
 use borrow.Author.Needs.{needs}
+use Rattle.machine.proofs.StepLaws.{advance-steps, unsigned-fault}
 use Rattle.machine.proofs.steps.step_advance_pc.Statement.{statement}
 use Rattle.machine.proofs.steps.step_advance_pc.Tie as tie
 

@@ -3,8 +3,8 @@ use lib.ListN.{getD}
 use mathlib.Core.Path.{_≡_}
 use Prim.Native.Nat.{_+_, _*_}
 use native.Mathlib.Omega.{arith}
-use Rattle.machine.proofs.StepLaws.{half-cut, half-steps}
 use borrow.Author.Needs.{needs}
+use Rattle.machine.proofs.StepLaws.{half-cut, half-steps}
 use Rattle.machine.proofs.steps.step_fixed_advance_pc.Statement.{statement}
 use Rattle.machine.proofs.steps.step_fixed_advance_pc.Tie as tie
 

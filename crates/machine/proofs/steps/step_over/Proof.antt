@@ -1,6 +1,6 @@
 -- `steps::step_over` meets its contract: operands that are passed over. Assumes nothing.
-use Rattle.machine.proofs.StepLaws.{over-steps, over-ended, over-fault}
 use borrow.Author.Needs.{needs}
+use Rattle.machine.proofs.StepLaws.{over-steps, over-ended, over-fault}
 use Rattle.machine.proofs.steps.step_over.Statement.{statement}
 use Rattle.machine.proofs.steps.step_over.Tie as tie
 

@@ -1,6 +1,6 @@
 -- `steps::step_set_file` meets its contract: an operand, kept. Assumes nothing.
-use Rattle.machine.proofs.StepLaws.{file-steps, unsigned-fault}
 use borrow.Author.Needs.{needs}
+use Rattle.machine.proofs.StepLaws.{file-steps, unsigned-fault}
 use Rattle.machine.proofs.steps.step_set_file.Statement.{statement}
 use Rattle.machine.proofs.steps.step_set_file.Tie as tie
 

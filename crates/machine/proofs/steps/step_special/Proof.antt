@@ -1,6 +1,6 @@
 -- `steps::step_special` meets its contract: the line, then the address, then a row. Assumes nothing.
-use Rattle.machine.proofs.StepLaws.{special-steps}
 use borrow.Author.Needs.{needs}
+use Rattle.machine.proofs.StepLaws.{special-steps}
 use Rattle.machine.proofs.steps.step_special.Statement.{statement}
 use Rattle.machine.proofs.steps.step_special.Tie as tie
 

@@ -1,6 +1,6 @@
 -- `index::pezgok_look_up_in` meets its contract: the numbers are those of the answer of `look_up_in`. Assumes nothing.
-use Rattle.pezgok.proofs.LookLaws.{exports-look-up-in}
 use borrow.Author.Needs.{needs}
+use Rattle.pezgok.proofs.LookLaws.{exports-look-up-in}
 use Rattle.pezgok.proofs.index.pezgok_look_up_in.Statement.{statement}
 use Rattle.pezgok.proofs.index.pezgok_look_up_in.Tie as tie
 

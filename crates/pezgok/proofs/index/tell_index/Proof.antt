@@ -1,6 +1,6 @@
 -- `index::tell_index` meets its contract: the numbers are those of the answer. Assumes nothing.
-use Rattle.pezgok.proofs.LookLaws.{index-refused, index-finished}
 use borrow.Author.Needs.{needs}
+use Rattle.pezgok.proofs.LookLaws.{index-refused, index-finished}
 use Rattle.pezgok.proofs.index.tell_index.Statement.{statement}
 use Rattle.pezgok.proofs.index.tell_index.Tie as tie
 

@@ -1,6 +1,6 @@
 -- `look::pezgok_functions_crossing` meets its contract: the numbers are those of the answer of `functions_crossing`. Assumes nothing.
-use Rattle.pezgok.proofs.LookLaws.{list-told}
 use borrow.Author.Needs.{needs}
+use Rattle.pezgok.proofs.LookLaws.{list-told}
 use Rattle.pezgok.proofs.look.pezgok_functions_crossing.Statement.{statement}
 use Rattle.pezgok.proofs.look.pezgok_functions_crossing.Tie as tie
 

@@ -1,6 +1,6 @@
 -- `look::pezgok_functions_inside` meets its contract: the numbers are those of the answer of `functions_inside`. Assumes nothing.
-use Rattle.pezgok.proofs.LookLaws.{list-told}
 use borrow.Author.Needs.{needs}
+use Rattle.pezgok.proofs.LookLaws.{list-told}
 use Rattle.pezgok.proofs.look.pezgok_functions_inside.Statement.{statement}
 use Rattle.pezgok.proofs.look.pezgok_functions_inside.Tie as tie
 

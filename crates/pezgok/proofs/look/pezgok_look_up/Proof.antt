@@ -1,6 +1,6 @@
 -- `look::pezgok_look_up` meets its contract: the numbers are those of the answer of `look_up`. Assumes nothing.
-use Rattle.pezgok.proofs.LookLaws.{exports-look-up}
 use borrow.Author.Needs.{needs}
+use Rattle.pezgok.proofs.LookLaws.{exports-look-up}
 use Rattle.pezgok.proofs.look.pezgok_look_up.Statement.{statement}
 use Rattle.pezgok.proofs.look.pezgok_look_up.Tie as tie
 

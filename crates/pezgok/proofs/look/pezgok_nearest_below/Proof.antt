@@ -1,6 +1,6 @@
 -- `look::pezgok_nearest_below` meets its contract: the numbers are those of the answer of `nearest_below`. Assumes nothing.
-use Rattle.pezgok.proofs.LookLaws.{nearest-told}
 use borrow.Author.Needs.{needs}
+use Rattle.pezgok.proofs.LookLaws.{nearest-told}
 use Rattle.pezgok.proofs.look.pezgok_nearest_below.Statement.{statement}
 use Rattle.pezgok.proofs.look.pezgok_nearest_below.Tie as tie
 

@@ -1,6 +1,6 @@
 -- `look::tell_frames` meets its contract: the numbers are those of the answer. Assumes nothing.
-use Rattle.pezgok.proofs.LookLaws.{frames-refused, frames-rowless, frames-row}
 use borrow.Author.Needs.{needs}
+use Rattle.pezgok.proofs.LookLaws.{frames-refused, frames-rowless, frames-row}
 use Rattle.pezgok.proofs.look.tell_frames.Statement.{statement}
 use Rattle.pezgok.proofs.look.tell_frames.Tie as tie
 

@@ -1,6 +1,6 @@
 -- `look::tell_list` meets its contract: the numbers are those of the answer. Assumes nothing.
-use Rattle.pezgok.proofs.LookLaws.{list-refused, list-finished}
 use borrow.Author.Needs.{needs}
+use Rattle.pezgok.proofs.LookLaws.{list-refused, list-finished}
 use Rattle.pezgok.proofs.look.tell_list.Statement.{statement}
 use Rattle.pezgok.proofs.look.tell_list.Tie as tie
 

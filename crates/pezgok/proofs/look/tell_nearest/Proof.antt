@@ -1,6 +1,6 @@
 -- `look::tell_nearest` meets its contract: the numbers are those of the answer. Assumes nothing.
-use Rattle.pezgok.proofs.LookLaws.{nearest-refused}
 use borrow.Author.Needs.{needs}
+use Rattle.pezgok.proofs.LookLaws.{nearest-refused}
 use Rattle.pezgok.proofs.look.tell_nearest.Statement.{statement}
 use Rattle.pezgok.proofs.look.tell_nearest.Tie as tie
 

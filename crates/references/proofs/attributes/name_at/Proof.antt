@@ -10,10 +10,10 @@ use borrow.Author.Needs.{needs}
 use native.Mathlib.Omega.{arith}
 use types.Run.{OneOf}
 use denote.Enum.Declared.{tagOf}
-use Rattle.tlv.specs.declared.access.Value.{Value}
 use Rattle.tlv.specs.Lists.{exists}
-use Rattle.tlv.proofs.IndexModel.{either}
-use Rattle.tlv.proofs.access.Value.{the-type}
+use Rattle.access.specs.declared.access.Value.{Value}
+use Rattle.access.proofs.IndexModel.{either}
+use Rattle.access.proofs.access.Value.{the-type}
 use Rattle.references.proofs.ReferenceLaws.{entry-next, entry-inside, NoText, name-absent, name-text, name-refused, text-inside}
 use Rattle.references.proofs.attributes.name_at.Statement.{statement}
 use Rattle.references.proofs.attributes.name_at.Tie as tie

@@ -1,7 +1,7 @@
 -- `names::resolve_name_counted` meets its contract. Assumes nothing.
-use Rattle.references.proofs.NameLaws.{start-stands, resolved-name, name-read, name-within}
 use native.Mathlib.Omega.{arith}
 use borrow.Author.Needs.{needs}
+use Rattle.references.proofs.NameLaws.{start-stands, resolved-name, name-read, name-within}
 use Rattle.references.proofs.names.resolve_name_counted.Statement.{statement}
 use Rattle.references.proofs.names.resolve_name_counted.Tie as tie
 

@@ -1,8 +1,8 @@
 -- `reference_names::resolve_reference_name_counted` meets its contract. Assumes nothing.
-use Rattle.references.proofs.NameLaws.{way-is, entry-room, entry-stands, entry-search, from-nothing, from-refused, from-entry, from-offset, start-stands, start-shallow, resolved-reference, reference-read, reference-within}
 use mathlib.Core.List.{[]}
 use native.Mathlib.Omega.{arith}
 use borrow.Author.Needs.{needs}
+use Rattle.references.proofs.NameLaws.{way-is, entry-room, entry-stands, entry-search, from-nothing, from-refused, from-entry, from-offset, start-stands, start-shallow, resolved-reference, reference-read, reference-within}
 use Rattle.references.proofs.reference_names.resolve_reference_name_counted.Statement.{statement}
 use Rattle.references.proofs.reference_names.resolve_reference_name_counted.Tie as tie
 

@@ -1,9 +1,9 @@
 -- `ways::unit_way` meets its contract. Assumes nothing.
 use native.Mathlib.Omega.{arith}
+use borrow.Author.Needs.{needs}
 use Rattle.references.proofs.KeyLaws.{keys-inside}
 use Rattle.references.proofs.FollowLaws.{index-here, unit-inside}
 use Rattle.references.proofs.WayLaws.{way-listed, way-sum, way-overflow, way-seen, way-no-entry, way-entry}
-use borrow.Author.Needs.{needs}
 use Rattle.references.proofs.ways.unit_way.Statement.{statement}
 use Rattle.references.proofs.ways.unit_way.Tie as tie
 

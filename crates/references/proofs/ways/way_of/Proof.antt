@@ -1,7 +1,7 @@
 -- `ways::way_of` meets its contract. Assumes nothing.
+use borrow.Author.Needs.{needs}
 use Rattle.references.proofs.FollowLaws.{placed-at, possible-unit}
 use Rattle.references.proofs.WayLaws.{reference-is, way-missing, way-unit, way-section, way-no-units, way-inside, way-supplementary}
-use borrow.Author.Needs.{needs}
 use Rattle.references.proofs.ways.way_of.Statement.{statement}
 use Rattle.references.proofs.ways.way_of.Tie as tie
 

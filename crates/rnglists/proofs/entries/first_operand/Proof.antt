@@ -1,7 +1,6 @@
 -- `entries::first_operand` meets its contract. Assumes nothing.
 use borrow.Author.Needs.{needs}
 use Rattle.rnglists.proofs.ReadLaws.{first-none, first-number, first-address}
-use borrow.Author.Needs.{needs}
 use Rattle.rnglists.proofs.entries.first_operand.Statement.{statement}
 use Rattle.rnglists.proofs.entries.first_operand.Tie as tie
 

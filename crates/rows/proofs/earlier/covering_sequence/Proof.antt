@@ -1,8 +1,8 @@
 -- `earlier::covering_sequence` meets its contract. No sequence before i covers the address. Assumes nothing.
 use Prim.Native.Nat.{_-_}
+use native.Mathlib.Omega.{arith}
 use Rattle.rows.specs.Stored.{sequenceOf}
 use Rattle.rows.proofs.SequenceLaws.{Covered, cover-start, cover-next, cover-found, cover-none}
-use native.Mathlib.Omega.{arith}
 use Rattle.rows.proofs.earlier.covering_sequence.Statement.{statement}
 use Rattle.rows.proofs.earlier.covering_sequence.Tie as tie
 

@@ -1,8 +1,8 @@
 -- `earlier::covers` meets its contract. Assumes nothing.
 use borrow.Author.Tests.{not-true, not-false}
+use borrow.Author.Needs.{needs}
 use Rattle.rows.specs.Stored.{sequenceOf}
 use Rattle.rows.proofs.SequenceLaws.{covers-other, covers-above, covers-within}
-use borrow.Author.Needs.{needs}
 use Rattle.rows.proofs.earlier.covers.Statement.{statement}
 use Rattle.rows.proofs.earlier.covers.Tie as tie
 

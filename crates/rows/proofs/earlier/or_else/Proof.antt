@@ -1,6 +1,6 @@
 -- `earlier::or_else` meets its contract. Assumes nothing.
-use Rattle.tlv.specs.Lists.{orElse}
 use borrow.Author.Needs.{needs}
+use Rattle.tlv.specs.Lists.{orElse}
 use Rattle.rows.proofs.earlier.or_else.Statement.{statement}
 use Rattle.rows.proofs.earlier.or_else.Tie as tie
 

@@ -1,7 +1,7 @@
 -- `earlier::put_earlier` meets its contract. Assumes nothing.
 use borrow.Author.Tests.{not-true, not-false}
-use Rattle.rows.proofs.ForRangeLaws.{front-not, front-none, front-put}
 use borrow.Author.Needs.{needs}
+use Rattle.rows.proofs.ForRangeLaws.{front-not, front-none, front-put}
 use Rattle.rows.proofs.earlier.put_earlier.Statement.{statement}
 use Rattle.rows.proofs.earlier.put_earlier.Tie as tie
 

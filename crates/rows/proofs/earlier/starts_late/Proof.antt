@@ -1,6 +1,6 @@
 -- `earlier::starts_late` meets its contract. Assumes nothing.
-use Rattle.rows.proofs.ForRangeLaws.{late-none, late-some}
 use borrow.Author.Needs.{needs}
+use Rattle.rows.proofs.ForRangeLaws.{late-none, late-some}
 use Rattle.rows.proofs.earlier.starts_late.Statement.{statement}
 use Rattle.rows.proofs.earlier.starts_late.Tie as tie
 

@@ -1,6 +1,6 @@
 -- `line::address_at` meets its contract. Assumes nothing.
-use Rattle.rows.proofs.StoredLaws.{got-address}
 use borrow.Author.Needs.{needs}
+use Rattle.rows.proofs.StoredLaws.{got-address}
 use Rattle.rows.proofs.line.address_at.Statement.{statement}
 use Rattle.rows.proofs.line.address_at.Tie as tie
 

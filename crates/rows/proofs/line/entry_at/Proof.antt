@@ -1,6 +1,6 @@
 -- `line::entry_at` meets its contract. Assumes nothing.
-use Rattle.rows.proofs.StoredLaws.{got-entry}
 use borrow.Author.Needs.{needs}
+use Rattle.rows.proofs.StoredLaws.{got-entry}
 use Rattle.rows.proofs.line.entry_at.Statement.{statement}
 use Rattle.rows.proofs.line.entry_at.Tie as tie
 

@@ -1,6 +1,6 @@
 -- `line::put_entry` meets its contract: four writes are a row. Assumes nothing.
-use Rattle.rows.proofs.StoredLaws.{put-entry}
 use borrow.Author.Needs.{needs}
+use Rattle.rows.proofs.StoredLaws.{put-entry}
 use Rattle.rows.proofs.line.put_entry.Statement.{statement}
 use Rattle.rows.proofs.line.put_entry.Tie as tie
 

@@ -1,6 +1,6 @@
 -- `line::put_line` meets its contract. Assumes nothing.
-use Rattle.rows.proofs.StoredLaws.{put-line}
 use borrow.Author.Needs.{needs}
+use Rattle.rows.proofs.StoredLaws.{put-line}
 use Rattle.rows.proofs.line.put_line.Statement.{statement}
 use Rattle.rows.proofs.line.put_line.Tie as tie
 

@@ -1,6 +1,6 @@
 -- `line::put_sequence` meets its contract: by the variants. Assumes nothing.
-use Rattle.rows.proofs.StoredLaws.{put-some, put-none}
 use borrow.Author.Needs.{needs}
+use Rattle.rows.proofs.StoredLaws.{put-some, put-none}
 use Rattle.rows.proofs.line.put_sequence.Statement.{statement}
 use Rattle.rows.proofs.line.put_sequence.Tie as tie
 

@@ -1,6 +1,6 @@
 -- `line::put_sequence_range` meets its contract. Assumes nothing.
-use Rattle.rows.proofs.StoredLaws.{put-range}
 use borrow.Author.Needs.{needs}
+use Rattle.rows.proofs.StoredLaws.{put-range}
 use Rattle.rows.proofs.line.put_sequence_range.Statement.{statement}
 use Rattle.rows.proofs.line.put_sequence_range.Tie as tie
 

@@ -1,6 +1,6 @@
 -- `line::sequence_at` meets its contract. Assumes nothing.
-use Rattle.rows.proofs.StoredLaws.{stored-some, stored-none}
 use borrow.Author.Needs.{needs}
+use Rattle.rows.proofs.StoredLaws.{stored-some, stored-none}
 use Rattle.rows.proofs.line.sequence_at.Statement.{statement}
 use Rattle.rows.proofs.line.sequence_at.Tie as tie
 

@@ -1,9 +1,9 @@
 -- `search::lower_bound` meets its contract. The number of leading rows is from lo to hi. Assumes nothing.
 use Prim.Native.Nat.{_≤_, _-_}
+use native.Mathlib.Omega.{arith}
 use Rattle.rows.specs.Stored.{linesOf}
 use Rattle.rows.specs.Sorts.{leading}
 use Rattle.rows.proofs.LeadingLaws.{leading-most, go-up, go-down}
-use native.Mathlib.Omega.{arith}
 use Rattle.rows.proofs.search.lower_bound.Statement.{statement}
 use Rattle.rows.proofs.search.lower_bound.Tie as tie
 

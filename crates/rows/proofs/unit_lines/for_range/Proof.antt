@@ -1,7 +1,7 @@
 -- `unit_lines::for_range` meets its contract. With 0 in place of `below` too: `none-below`. Assumes nothing.
+use borrow.Author.Needs.{needs}
 use Rattle.rows.proofs.FrontLaws.{none-below}
 use Rattle.rows.proofs.ForRangeLaws.{rows-in-kept, for-missing, for-found}
-use borrow.Author.Needs.{needs}
 use Rattle.rows.proofs.unit_lines.for_range.Statement.{statement}
 use Rattle.rows.proofs.unit_lines.for_range.Tie as tie
 

@@ -1,9 +1,9 @@
 -- `unit_lines::sequence_exists` meets its contract. No sequence before i is the one that is asked for. Assumes nothing.
 use Prim.Native.Nat.{_-_}
-use Rattle.rows.specs.Stored.{sequenceOf}
-use Rattle.rows.proofs.SequenceLaws.{Seeking, seek-start, seek-next, seek-found, seek-none, exists-is}
 use native.Mathlib.Omega.{arith}
 use borrow.Author.Needs.{needs}
+use Rattle.rows.specs.Stored.{sequenceOf}
+use Rattle.rows.proofs.SequenceLaws.{Seeking, seek-start, seek-next, seek-found, seek-none, exists-is}
 use Rattle.rows.proofs.unit_lines.sequence_exists.Statement.{statement}
 use Rattle.rows.proofs.unit_lines.sequence_exists.Tie as tie
 

@@ -1,6 +1,6 @@
 -- `build_tables` writes the tables of one sheet behind those of the other, above the room for files. Assumes nothing.
-use Rattle.search_answers.proofs.SearchLaws.{tables-built}
 use borrow.Author.Needs.{needs}
+use Rattle.search_answers.proofs.SearchLaws.{tables-built}
 use Rattle.search_answers.proofs.tables.build_tables.Statement.{statement}
 use Rattle.search_answers.proofs.tables.build_tables.Tie as tie
 

@@ -1,7 +1,7 @@
 -- `index_sheet` has room for both tables: the fields of the sheet bound them. Assumes nothing.
+use borrow.Author.Needs.{needs}
 use Rattle.tlv.proofs.PlaceFacts.{placed-start}
 use Rattle.search_answers.proofs.SearchLaws.{units-fit, entries-fit, sheet-indexed}
-use borrow.Author.Needs.{needs}
 use Rattle.search_answers.proofs.tables.index_sheet.Statement.{statement}
 use Rattle.search_answers.proofs.tables.index_sheet.Tie as tie
 

@@ -4,7 +4,7 @@ use mathlib.Core.Path.{_∙_}
 use Prim.Native.Nat.{_+_, _-_}
 use native.Mathlib.Omega.{arith}
 use lib.ListN.{length}
-use Rattle.tlv.proofs.OwnLaws.{own-less}
+use Rattle.access.proofs.OwnLaws.{own-less}
 use Rattle.subprograms.specs.Entries.{BeginsAt}
 use Rattle.subprograms.proofs.NextEntryLaws.{begins-here, begins-after}
 use Rattle.subprograms.proofs.RangesLaws.{Going, going-start, going-done, going-within, going-refused, going-turn}

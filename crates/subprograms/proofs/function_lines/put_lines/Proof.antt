@@ -3,7 +3,7 @@ use Prim.Native.Nat.{_-_, _≤_}
 use native.Mathlib.Omega.{arith}
 use lib.ListN.{drop}
 use borrow.Author.Needs.{needs}
-use Rattle.tlv.proofs.BufferLaws.{Left, left-start, left-put, left-done}
+use Rattle.buffers.proofs.BufferLaws.{Left, left-start, left-put, left-done}
 use Rattle.rows.specs.Stored.{entriesOf}
 use Rattle.subprograms.specs.Steps.{linesBytes}
 use Rattle.subprograms.proofs.FunctionLineLaws.{lines-laid, lines-lay}

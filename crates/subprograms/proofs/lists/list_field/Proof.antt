@@ -1,6 +1,6 @@
 -- `lists::list_field` meets its contract. Assumes nothing.
 use borrow.Author.Needs.{needs}
-use Rattle.subprograms.proofs.ListStepLaws.{field-missing}
+use Rattle.subprograms.proofs.EntryRangeLaws.{field-missing}
 use Rattle.subprograms.proofs.lists.list_field.Statement.{statement}
 use Rattle.subprograms.proofs.lists.list_field.Tie as tie
 

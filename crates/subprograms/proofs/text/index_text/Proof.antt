@@ -3,7 +3,7 @@ use Prim.Native.Nat.{_-_, _+_, _*_, _≤_}
 use native.Mathlib.Omega.{arith}
 use lib.ListN.{length}
 use borrow.Author.Needs.{needs}
-use Rattle.tlv.proofs.OwnLaws.{own-less}
+use Rattle.access.proofs.OwnLaws.{own-less}
 use Rattle.subprograms.proofs.TextLaws.{TextListing, text-within, listing-start, listing-within, listing-room, listing-turn, listing-done}
 use Rattle.subprograms.proofs.text.index_text.Statement.{statement}
 use Rattle.subprograms.proofs.text.index_text.Tie as tie

@@ -1,8 +1,8 @@
 -- `units::import_named` meets its contract. Assumes nothing.
 use borrow.Author.Needs.{needs}
 use native.Mathlib.Omega.{arith}
-use Rattle.dies.proofs.InlinedLaws.{list-within, list-word}
-use Rattle.subprograms.proofs.ListStepLaws.{own-listless, named-unlisted, named-listed}
+use Rattle.ranges.proofs.InlinedLaws.{list-within, list-word}
+use Rattle.subprograms.proofs.EntryRangeLaws.{own-listless, named-unlisted, named-listed}
 use Rattle.subprograms.proofs.units.import_named.Statement.{statement}
 use Rattle.subprograms.proofs.units.import_named.Tie as tie
 

@@ -2,10 +2,10 @@
 use Prim.Native.Nat.{_-_}
 use native.Mathlib.Omega.{arith}
 use lib.ListN.{length}
+use borrow.Author.Needs.{needs}
 use Rattle.tlv.proofs.CursorLaws.{next-less, payload-within}
 use Rattle.lookup.proofs.StepLaws.{function-long}
 use Rattle.symbols.proofs.GatherLaws.{Gathering, gathering-start, gathered-short, gathered-end, gathered-cut, gathering-other, gathering-this}
-use borrow.Author.Needs.{needs}
 use Rattle.symbols.proofs.extents.gather_functions.Statement.{statement}
 use Rattle.symbols.proofs.extents.gather_functions.Tie as tie
 

@@ -1,7 +1,7 @@
 -- `extents::in_table` meets its contract. Assumes nothing.
 use native.Mathlib.Omega.{arith}
-use Rattle.symbols.proofs.SoughtLaws.{in-first, in-rest}
 use borrow.Author.Needs.{needs}
+use Rattle.symbols.proofs.SoughtLaws.{in-first, in-rest}
 use Rattle.symbols.proofs.extents.in_table.Statement.{statement}
 use Rattle.symbols.proofs.extents.in_table.Tie as tie
 

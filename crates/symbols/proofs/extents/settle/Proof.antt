@@ -1,7 +1,7 @@
 -- `extents::settle` meets its contract. Assumes nothing.
 use native.Mathlib.Omega.{arith}
-use Rattle.symbols.proofs.ExtentLaws.{reordered-filled, settled}
 use borrow.Author.Needs.{needs}
+use Rattle.symbols.proofs.ExtentLaws.{reordered-filled, settled}
 use Rattle.symbols.proofs.extents.settle.Statement.{statement}
 use Rattle.symbols.proofs.extents.settle.Tie as tie
 

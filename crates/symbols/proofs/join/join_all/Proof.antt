@@ -3,12 +3,12 @@
 use mathlib.Core.Path.{_≡_, refl}
 use Prim.Native.Nat.{_-_}
 use lib.ListN.{length, take}
+use borrow.Author.Needs.{needs}
 use Rattle.tlv.proofs.CursorLaws.{next-less, payload-within}
 use Rattle.symbols.specs.Walk.{rangesIn}
 use Rattle.symbols.specs.Extents.{Known}
 use Rattle.symbols.proofs.ResultLaws.{Joins, joins-start, joins-next, joins-short, joins-end, joins-cut, joins-long, joins-small, joins-fits}
 use Rattle.symbols.proofs.ResultLaws.{next-filled, next-known, same-known}
-use borrow.Author.Needs.{needs}
 use Rattle.symbols.proofs.join.join_all.Statement.{statement}
 use Rattle.symbols.proofs.join.join_all.Tie as tie
 

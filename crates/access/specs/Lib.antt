@@ -1,0 +1,4 @@
+pub mod Places
+pub mod Access
+pub mod Index
+pub mod Units

@@ -1,0 +1,13 @@
+pub mod FieldLaws
+pub mod GroupLaws
+pub mod PayloadLaws
+pub mod RecordFields
+pub mod RecordGroups
+pub mod RecordForm
+pub mod ReadBack
+pub mod BufferLaws
+pub mod OutputLaws
+pub mod ChunkLaws
+pub mod TableLaws
+pub mod RecordLaws
+pub mod ZeroLaws

@@ -1,0 +1,5 @@
+pub mod Output
+pub mod Reader
+pub mod Fits
+pub mod Buffer
+pub mod Table

@@ -1,0 +1,2 @@
+pub mod DwarfCases
+pub mod ListCases

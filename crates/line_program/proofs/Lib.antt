@@ -1,0 +1,14 @@
+pub mod Leb128
+pub mod Operands
+pub mod SignedOperands
+pub mod Beside
+pub mod Agrees
+pub mod Instructions
+pub mod Limits
+pub mod Programs
+pub mod SignedCases
+pub mod UlebLaws
+pub mod SkipLaws
+pub mod InstructionLaws
+pub mod ScanLaws
+pub mod OffsetLaws

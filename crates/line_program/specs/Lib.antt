@@ -1,0 +1,5 @@
+pub mod Standard
+pub mod Program
+pub mod Conforms
+pub mod SignedCases
+pub mod Scan

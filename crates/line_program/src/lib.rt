@@ -1,0 +1,3 @@
+// Line programs: operands, instructions, and where sequences start (of the Rust's convert/dwarf/lines.rs).
+pub mod lines;
+pub mod operand;

@@ -1,0 +1,5 @@
+pub mod ExtentLaws
+pub mod IndexLaws
+pub mod HereLaws
+pub mod Indexing
+pub mod LookInLaws
