@@ -1,4 +1,4 @@
--- The unit in which an offset of the section lies: the turns of the search in a table of units, and what it finds of the sheet. Assumes nothing.
+-- The unit in which an offset of the section lies: the turns of the search in a table of units, and what it finds of the sheet.
 use mathlib.Core.Path.{_≡_, refl, sym, ap, _∙_}
 use mathlib.Core.Bool.{Bool, true, false, cond, _&&_}
 use mathlib.Core.List.{List, [], _∷_, map}

@@ -1,4 +1,4 @@
--- The entry at a place: its attributes, ranges and failure are in the fields behind its field 17, its numbers in that field. Assumes nothing.
+-- The entry at a place: its attributes, ranges and failure are in the fields behind its field 17, its numbers in that field.
 use mathlib.Core.Path.{_≡_, refl}
 use mathlib.Core.List.{List, map}
 use Prim.Native.Nat.{ℕ, _+_}

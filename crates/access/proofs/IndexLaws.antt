@@ -1,4 +1,4 @@
--- Writing the index of a sheet's entries: a record of it, and a turn of the loop over the fields. Assumes nothing.
+-- Writing the index of a sheet's entries: a record of it, and a turn of the loop over the fields.
 use mathlib.Core.Path.{_≡_, refl, sym, ap, _∙_}
 use mathlib.Core.Bool.{Bool, true, false, cond}
 use mathlib.Core.Logic.{inl}

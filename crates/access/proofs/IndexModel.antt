@@ -1,4 +1,4 @@
--- The index of an accepted sheet finds the entries of each of its units: by the unit's offset and an entry's own. Assumes nothing.
+-- The index of an accepted sheet finds the entries of each of its units: by the unit's offset and an entry's own.
 use mathlib.Core.Path.{_≡_, refl, sym}
 use mathlib.Core.Bool.{Bool, true, false, cond, _||_, not}
 use mathlib.Core.Logic.{⊎-elim}
@@ -20,7 +20,7 @@ use Rattle.tlv.specs.Checked.{Accepts, fieldIn}
 use Rattle.tlv.proofs.TestLaws.{by-test}
 use Rattle.tlv.proofs.CursorLaws.{row-ind}
 use Rattle.tlv.proofs.AcceptedGroups.{passed-both}
-use Rattle.access.specs.Places.{ownFields, unitFields, entryHere, unitHere, behind, unitPlaces, IndexedEntry, entryIndex}
+use Rattle.access.specs.Places.{ownFields, unitFields, entryHere, unitHere, behind, unitPlaces, IndexedEntry, entryIndex, UnitOf}
 use Rattle.access.specs.Index.{lookup, entryIn}
 use Rattle.access.proofs.IndexLaws.{index-unit, index-entry, index-other}
 use Rattle.access.proofs.IndexOrder.{unit-behind, entry-high, after-unit, after-entry, after-other}
@@ -202,7 +202,7 @@ before s o q p =
     p refl
 
 -- the entry of a unit by its offset is the one that the index has at the unit's offset and its own, where that is the unit's
-pub index-finds : (s : List ℕ) (n q o : ℕ) → Accepts s n → Any (λ p. p ≡ q) (unitPlaces 0 (fields s))
+pub index-finds : (s : List ℕ) (n q o : ℕ) → Accepts s n → UnitOf s q
     → first (λ e. eqb (e .offset) o) (unitHere s q .entries) ≡ entryIn s q (lookup (unitHere s q .offset + o) (entryIndex 0 0 0 (fields s)))
 unfolding checkInput
 index-finds s n q o e any = before s o q 0 (start (e .program)) n 0 0 (e .passes) refl any .1

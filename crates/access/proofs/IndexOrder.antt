@@ -1,4 +1,4 @@
--- The offsets in the index of an accepted sheet strictly ascend. Assumes nothing.
+-- The offsets in the index of an accepted sheet strictly ascend.
 use mathlib.Core.Path.{_≡_, refl}
 use mathlib.Core.Bool.{true}
 use mathlib.Core.List.{List}

@@ -1,4 +1,4 @@
--- Each entry in the index of an accepted sheet is one of its unit's: where it and its unit stand, and what its offset is. Assumes nothing.
+-- Each entry in the index of an accepted sheet is one of its unit's: where it and its unit stand, and what its offset is.
 use mathlib.Core.Path.{_≡_, refl, sym, _∙_}
 use mathlib.Core.Logic.{inl, inr}
 use mathlib.Core.List.{List, [], _∷_}

@@ -1,14 +1,11 @@
-pub mod RowLaws
 pub mod OrderLaws
 pub mod OwnLaws
-pub mod AttributeLaws
 pub mod EntryPlaceLaws
 pub mod UnitPlaceLaws
 pub mod UnitFacts
 pub mod ListCountLaws
 pub mod IndexOrder
 pub mod IndexLaws
-pub mod FindLaws
 pub mod IndexModel
 pub mod IndexPlaces
 pub mod UnitsLaws

@@ -1,4 +1,4 @@
--- How many fields 1f stand from a place on before the next unit: a step of the count, the loop that counts them, and the unit's own number. Assumes nothing.
+-- How many fields 1f stand from a place on before the next unit: a step of the count, the loop that counts them, and the unit's own number.
 use mathlib.Core.Path.{_≡_}
 use mathlib.Core.List.{List}
 use Prim.Native.Nat.{ℕ, suc, _+_, _≤_}

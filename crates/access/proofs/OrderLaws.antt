@@ -1,4 +1,4 @@
--- Where the order of fields lets no field of a tag come any more before the next entry or unit. Assumes nothing.
+-- Where the order of fields lets no field of a tag come any more before the next entry or unit.
 use mathlib.Core.Path.{_≡_, refl, subst}
 use mathlib.Core.Bool.{Bool, true, not, _||_, false≢true}
 use mathlib.Core.Logic.{inl, inr}

@@ -1,4 +1,4 @@
--- The next field of a tag before the next entry or unit: the turns of the loop that looks for it, and what an answer says. Assumes nothing.
+-- The next field of a tag before the next entry or unit: the turns of the loop that looks for it, and what an answer says.
 use mathlib.Core.Path.{_≡_, refl, sym, _∙_}
 use mathlib.Core.List.{List, []}
 use Prim.Native.Nat.{ℕ, _+_, _-_, _≤_, _<_}

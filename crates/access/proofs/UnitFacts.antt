@@ -1,4 +1,4 @@
--- The unit at a place: where its place is one of an accepted sheet, what is in its field 10, and what is in the fields behind it. Assumes nothing.
+-- The unit at a place: where its place is one of an accepted sheet, what is in its field 10, and what is in the fields behind it.
 use mathlib.Core.Path.{_≡_, refl, sym, _∙_}
 use mathlib.Core.Bool.{Bool, true, false, cond, _||_, not}
 use mathlib.Core.List.{List, [], _∷_, map}

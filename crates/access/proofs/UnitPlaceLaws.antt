@@ -1,4 +1,4 @@
--- Units by place: the units of a sheet are those at the places of its fields 10, and the turns of the loop that looks for one by its number. Assumes nothing.
+-- Units by place: the units of a sheet are those at the places of its fields 10, and the turns of the loop that looks for one by its number.
 use mathlib.Core.Path.{_≡_, refl, sym, ap, _∙_}
 use mathlib.Core.Bool.{Bool, true, false, cond, not}
 use mathlib.Core.List.{List, [], _∷_, map}

@@ -1,4 +1,4 @@
--- Writing the table of a sheet's units: a record of it, and a turn of the loop over the fields. Assumes nothing.
+-- Writing the table of a sheet's units: a record of it, and a turn of the loop over the fields.
 use mathlib.Core.Path.{_≡_, refl, sym, ap, _∙_}
 use mathlib.Core.Logic.{inl}
 use mathlib.Core.List.{List, [], _∷_, _++_, map, append-nil, append-assoc}

@@ -1,4 +1,4 @@
--- The units of an accepted sheet: how many they are, and that an offset lies in one of them at most, which is the unit of the entry there. Assumes nothing.
+-- The units of an accepted sheet: how many they are, and that an offset lies in one of them at most, which is the unit of the entry there.
 use mathlib.Core.Path.{_≡_, refl, _∙_}
 use mathlib.Core.Bool.{Bool, true, false, cond}
 use mathlib.Core.Logic.{⊎-elim}
@@ -19,7 +19,7 @@ use Rattle.tlv.specs.Checked.{Accepts, fieldIn}
 use Rattle.tlv.proofs.TestLaws.{and-right}
 use Rattle.tlv.proofs.CursorLaws.{row-ind}
 use Rattle.tlv.proofs.AcceptedGroups.{passed-both}
-use Rattle.access.specs.Places.{unitHere, behind, unitPlaces, IndexedEntry, entryIndex}
+use Rattle.access.specs.Places.{unitHere, behind, unitPlaces, IndexedEntry, entryIndex, UnitOf}
 use Rattle.access.specs.Index.{lookup}
 use Rattle.access.specs.Units.{indexedUnit, within, containing}
 use Rattle.access.proofs.IndexOrder.{unit-behind, after-unit, after-entry, after-other}
@@ -122,7 +122,7 @@ module _ (s : List ℕ) (x q : ℕ) where
 
 module _ (s : List ℕ) (n : ℕ) (accepted : Accepts s n) (x : ℕ) where
   -- a unit that has x in it is the one that is found
-  pub only-containing : (q : ℕ) → Any (λ y. y ≡ q) (unitPlaces 0 (fields s)) → unitHere s q .offset ≤ x → x < unitHere s q .offset + unitHere s q .length
+  pub only-containing : (q : ℕ) → UnitOf s q → unitHere s q .offset ≤ x → x < unitHere s q .offset + unitHere s q .length
       → containing x (map (indexedUnit s) (unitPlaces 0 (fields s))) ≡ some q
   unfolding checkInput
   only-containing q any low high =

@@ -1,4 +1,4 @@
--- What is read at the places of a sheet: the next field of a tag, the value of an attribute, the place of a unit. Assumes nothing.
+-- Contract. What is read at the places of a sheet: the next field of a tag, the value of an attribute, the place of a unit.
 use mathlib.Core.Path.{_≡_}
 use mathlib.Core.Bool.{Bool, cond}
 use mathlib.Core.List.{List, [], _∷_}

@@ -1,4 +1,4 @@
--- The index of a sheet's entries in the work slice, and a search in it: what its functions promise. Assumes nothing.
+-- Contract. The index of a sheet's entries in the work slice, and a search in it: what its functions promise.
 use mathlib.Core.Path.{_≡_}
 use mathlib.Core.Bool.{cond}
 use mathlib.Core.List.{List, [], _∷_}

@@ -1,11 +1,12 @@
--- Units and entries by place: each is known by the place of its field 10 or 17 in the sheet. Assumes nothing.
+-- Contract. Units and entries by place: each is known by the place of its field 10 or 17 in the sheet.
+use mathlib.Core.Path.{_≡_}
 use mathlib.Core.Bool.{cond, _||_, not}
 use mathlib.Core.List.{List, [], _∷_}
 use Prim.Native.Nat.{ℕ, _+_}
 use lib.Dec.{eqb}
 use lib.ListN.{length, drop}
 use Rattle.tlv.specs.Tags.{entryTag, listTag, unitTag}
-use Rattle.tlv.specs.Lists.{takeWhile}
+use Rattle.tlv.specs.Lists.{takeWhile, Any}
 use Rattle.tlv.specs.Bytes.{leAt}
 use Rattle.tlv.specs.Fields.{Field, FieldList, end, cut, more, fields, wholeFields, payloads}
 use Rattle.tlv.specs.Model.{Entry, CompilationUnit, entryOf, unitOf}
@@ -68,3 +69,7 @@ entryIndex p q o (more f fs) =
     cond (eqb (f .tag) unitTag) (entryIndex (behind p f) p (leAt 8 (f .payload) 0) fs)
     (cond (eqb (f .tag) entryTag) (record { offset = o + leAt 8 (f .payload) 0; place = p; unit = q } ∷ entryIndex (behind p f) q o fs)
     (entryIndex (behind p f) q o fs))
+
+-- q is the place of a unit's field 10
+abbrev pub UnitOf : List ℕ → ℕ → Type 0
+UnitOf s q = Any (λ p. p ≡ q) (unitPlaces 0 (fields s))

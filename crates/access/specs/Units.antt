@@ -1,4 +1,4 @@
--- The table of a sheet's units in the work slice, and a search in it: what its functions promise. Assumes nothing.
+-- Contract. The table of a sheet's units in the work slice, and a search in it: what its functions promise.
 use mathlib.Core.Path.{_≡_}
 use mathlib.Core.Bool.{Bool, _&&_}
 use mathlib.Core.List.{List, map}

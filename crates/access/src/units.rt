@@ -65,7 +65,7 @@ pub fn index_units(s: &[u8], work: &mut [u8], base: usize) -> usize
 }
 
 // The place of the first unit of a table of n records that has the offset target in it.
-pub fn unit_containing(work: &[u8], base: usize, n: usize, target: u64) -> Place
+pub fn unit_containing_offset(work: &[u8], base: usize, n: usize, target: u64) -> Place
     requires { ⌜ base + unitRecord * n ≤ length (now work) ⌝ }
     ensures { λ r. ⌜ placeOf r ≡ containing target (records unitOf24 24 (now (work .entry)) base n) ⌝ }
 {

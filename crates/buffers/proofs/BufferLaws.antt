@@ -1,4 +1,4 @@
--- Puts into a tray, one after the other: what they make together, what a loop of them has left to do, and what the tray then holds. Assumes nothing.
+-- Puts into a tray, one after the other: what they make together, what a loop of them has left to do, and what the tray then holds.
 use mathlib.Core.Path.{_≡_, refl, sym, ap, _∙_}
 use mathlib.Core.Bool.{Bool, true, false}
 use mathlib.Core.List.{List, [], _∷_, _++_, append-assoc}

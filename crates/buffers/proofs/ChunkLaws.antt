@@ -1,4 +1,4 @@
--- The bytes from a place on: parts of them, the numbers in them, and how they look after bytes were laid over the list. Assumes nothing.
+-- The bytes from a place on: parts of them, the numbers in them, and how they look after bytes were laid over the list.
 use mathlib.Core.Path.{_≡_, refl, sym, ap, _∙_}
 use mathlib.Core.List.{List, [], _∷_, _++_}
 use Prim.Native.Nat.{ℕ, suc, _+_, _-_, _≤_, _<_}

@@ -1,4 +1,4 @@
--- Bytes that spell fields: what encodings one after the other are read as. Assumes nothing.
+-- Bytes that spell fields: what encodings one after the other are read as.
 use mathlib.Core.Path.{_≡_, refl, sym, ap, _∙_}
 use mathlib.Core.List.{List, [], _∷_, _++_, append-nil, append-assoc}
 use Prim.Native.Nat.{ℕ, _/_, _%_, _≤_}

@@ -1,4 +1,4 @@
--- Rows of fields by tag: the groups and the payloads in what is appended. Assumes nothing.
+-- Rows of fields by tag: the groups and the payloads in what is appended.
 use mathlib.Core.Path.{_≡_, refl}
 use mathlib.Core.List.{List, [], _∷_, _++_, map}
 use mathlib.Core.Bool.{Bool, true, false, cond}

@@ -1,4 +1,4 @@
--- How the fields of the trays are put: the head and then the payload, and which node and which warning a payload is of. Assumes nothing.
+-- How the fields of the trays are put: the head and then the payload, and which node and which warning a payload is of.
 use mathlib.Core.Path.{_≡_, refl}
 use mathlib.Core.Bool.{cond}
 use mathlib.Core.List.{List, [], _∷_, _++_}

@@ -1,4 +1,4 @@
--- Each payload that fits is read back as what it says, and is short where its length is fixed. Assumes nothing.
+-- Each payload that fits is read back as what it says, and is short where its length is fixed.
 use mathlib.Core.Path.{_≡_, refl, sym, _∙_}
 use mathlib.Core.Bool.{true, false, cond}
 use mathlib.Core.List.{List, [], _∷_, _++_, append-assoc, append-nil}

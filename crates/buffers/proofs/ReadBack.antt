@@ -1,4 +1,4 @@
--- What the trays are given is read back from their bytes, where it fits: the record `ReadBack` of specs/Fits.antt. Assumes nothing.
+-- What the trays are given is read back from their bytes, where it fits: the record `ReadBack` of specs/Fits.antt.
 use mathlib.Core.Path.{_≡_, refl}
 use mathlib.Core.List.{List, [], _∷_}
 use mathlib.Core.Option.{Option, some}

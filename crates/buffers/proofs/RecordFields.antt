@@ -1,4 +1,4 @@
--- The fields of a records tray, which its bytes spell. Assumes nothing.
+-- The fields of a records tray, which its bytes spell.
 use mathlib.Core.Path.{refl}
 use mathlib.Core.List.{List, [], _∷_, _++_, append-assoc}
 use Prim.Native.Nat.{ℕ, suc}

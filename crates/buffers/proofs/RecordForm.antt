@@ -1,4 +1,4 @@
--- The fields of functions that fit have the form that the reader of records asks for. Assumes nothing.
+-- The fields of functions that fit have the form that the reader of records asks for.
 use mathlib.Core.Path.{_≡_, refl}
 use mathlib.Core.Logic.{_⊎_, inl, inr, _≢_}
 use mathlib.Core.List.{List, [], _∷_, _++_}

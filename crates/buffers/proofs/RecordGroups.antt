@@ -1,4 +1,4 @@
--- The fields of a records tray give back the functions, by their groups and tags. Assumes nothing.
+-- The fields of a records tray give back the functions, by their groups and tags.
 use mathlib.Core.Path.{_≡_, refl}
 use mathlib.Core.List.{List, [], _∷_, _++_, map, append-assoc, append-nil}
 use mathlib.Core.Bool.{false}

@@ -1,4 +1,4 @@
--- The laws of a table whose records of s bytes are each read by f: every kind of record has them at its own f and s. Assumes nothing.
+-- The laws of a table whose records of s bytes are each read by f: every kind of record has them at its own f and s.
 use mathlib.Core.Path.{_≡_, refl, sym, ap, _∙_}
 use mathlib.Core.Logic.{inl}
 use mathlib.Core.List.{List, [], _∷_, _++_}

@@ -1,4 +1,4 @@
--- What stays where bytes are written, and what the writes promise: a number by its halves, a record copied from its first byte on. Assumes nothing.
+-- What stays where bytes are written, and what the writes promise: a number by its halves, a record copied from its first byte on.
 use mathlib.Core.Path.{_≡_, refl, ap, _∙_}
 use mathlib.Core.Logic.{_⊎_, inl, inr, ⊎-elim}
 use mathlib.Core.List.{List, [], _∷_}

@@ -1,4 +1,4 @@
--- Bytes set to 0: one by one, what they then are, and tables that hold only 0. Assumes nothing.
+-- Bytes set to 0: one by one, what they then are, and tables that hold only 0.
 use mathlib.Core.Path.{_≡_, refl, sym, ap, _∙_}
 use mathlib.Core.List.{List, _∷_, append-assoc, append-nil}
 use Prim.Native.Nat.{ℕ, zero, suc, _+_, _-_, _≤_, _<_}

@@ -1,6 +1,5 @@
--- Writing into an output buffer, which document 01 calls a tray: bytes are laid over it from a place on. What falls past its end is lost, and the place goes
--- on,
--- up to the largest place. Assumes nothing.
+-- Contract. Writing into an output buffer, which document 01 calls a tray: bytes are laid over it from a place on. What falls past its end is lost, and the
+-- place goes on, up to the largest place.
 use mathlib.Core.Path.{_≡_}
 use mathlib.Core.List.{List, [], _∷_}
 use Prim.Native.Nat.{ℕ, _+_, _<_, min}

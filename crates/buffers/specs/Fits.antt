@@ -1,4 +1,4 @@
--- What a tray's fields can hold, and that reading a tray gives back what was written (document 01, "Trays use the same field shape"). Assumes nothing.
+-- Theorem. What a tray's fields can hold, and that reading a tray gives back what was written (document 01, "Trays use the same field shape").
 use Prim.Native.Nat.{ℕ, suc, _^_, _≤_, _<_}
 use mathlib.Core.Path.{_≡_}
 use mathlib.Core.Logic.{_⊎_, _≢_}

@@ -1,4 +1,4 @@
--- What the trays are given, and its bytes (document 01, "Trays use the same field shape"). A tray is one of the three output buffers. Assumes nothing.
+-- Definition. What the trays are given, and its bytes (document 01, "Trays use the same field shape"). A tray is one of the three output buffers.
 use Prim.Native.Nat.{ℕ, _+_}
 use mathlib.Core.Bool.{Bool, cond}
 use mathlib.Core.List.{List, [], _∷_, _++_}

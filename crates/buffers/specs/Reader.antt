@@ -1,4 +1,4 @@
--- Reading trays back (document 01, "Trays use the same field shape"): total on any bytes, none where they are not in that form. Assumes nothing.
+-- Definition. Reading trays back (document 01, "Trays use the same field shape"): total on any bytes, none where they are not in that form.
 use Prim.Native.Nat.{ℕ, _+_}
 use mathlib.Core.Bool.{Bool, false, cond, _&&_, _||_, not}
 use mathlib.Core.List.{List, [], _∷_, map}

@@ -1,4 +1,4 @@
--- Tables of records of one size in a list of bytes (document 01: the work slice), and what the functions that write there promise. Assumes nothing.
+-- Contract. Tables of records of one size in a list of bytes (document 01: the work slice), and what the functions that write there promise.
 use mathlib.Core.Path.{_≡_}
 use mathlib.Core.Logic.{_⊎_}
 use mathlib.Core.List.{List, [], _∷_, _++_}

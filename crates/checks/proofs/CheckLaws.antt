@@ -1,4 +1,4 @@
--- Refusals 1 to 5. Assumes nothing.
+-- Refusals 1 to 5.
 use mathlib.Core.Path.{_≡_, refl, sym, ap, _∙_}
 use mathlib.Core.Bool.{Bool, true, false, not, _&&_, _||_, true≢false}
 use mathlib.Core.List.{List, [], _∷_}

@@ -1,4 +1,4 @@
--- How many fields of each tag an accepted input has: each at most the limit, and all together no more than its fields. Assumes nothing.
+-- How many fields of each tag an accepted input has: each at most the limit, and all together no more than its fields.
 use mathlib.Core.Path.{_≡_}
 use mathlib.Core.Bool.{true}
 use mathlib.Core.List.{List, [], _∷_}
@@ -9,7 +9,7 @@ use lib.ListN.{length, length-map}
 use borrow.Author.Tests.{ltb-true}
 use Rattle.tlv.specs.Limits.{fieldLimit}
 use Rattle.tlv.specs.Outcome.{done}
-use Rattle.tlv.specs.Fields.{Field, FieldList, end, cut, more, fields, wholeFields}
+use Rattle.tlv.specs.Fields.{Field, FieldList, end, cut, more, fields, wholeFields, countOf}
 use Rattle.tlv.specs.declared.grammar.Context.{Context}
 use Rattle.tlv.specs.Checked.{Accepts, Accepted}
 use Rattle.tlv.specs.Grammar.{start, shaped, payloadLimited, limited, next, checkFrom, checkInput}
@@ -19,11 +19,10 @@ use Rattle.tlv.proofs.OutcomeLaws.{done-is, refused-not}
 use Rattle.tlv.proofs.AcceptedGroups.{passed-both}
 use Rattle.tlv.proofs.AcceptedCounts.{next-count}
 use Rattle.tlv.proofs.PlaceFacts.{accepted-count}
-use Rattle.access.specs.Places.{unitHere}
+use Rattle.access.specs.Places.{unitHere, UnitOf}
 use Rattle.files.proofs.FewLaws.{Rising, amounts-few, grouped-few, unit-few}
-use Rattle.subprograms.specs.Contexts.{UnitOf}
 use Rattle.checks.specs.declared.layout.Counts.{Counts}
-use Rattle.checks.specs.Layout.{countOf, Sized, totalOf}
+use Rattle.checks.specs.Layout.{Sized, totalOf}
 
 -- ---- an accepted input has few fields
 

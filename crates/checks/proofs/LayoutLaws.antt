@@ -1,4 +1,4 @@
--- The places that are computed from the counts of fields leave room for each table, and fit the work slice. Assumes nothing.
+-- The places that are computed from the counts of fields leave room for each table, and fit the work slice.
 use mathlib.Core.Path.{_≡_, refl, sym, _∙_}
 use mathlib.Core.Bool.{Bool, true, false, not}
 use mathlib.Core.List.{List}
@@ -11,10 +11,10 @@ use lib.ListN.{length}
 use borrow.Author.Tests.{eqb-true}
 use Rattle.tlv.specs.Limits.{fieldLimit, programLimit, listLimit, workOfField, workBesides, joinedLimit}
 use Rattle.tlv.specs.Lists.{isNone}
-use Rattle.tlv.specs.Fields.{fields}
+use Rattle.tlv.specs.Fields.{fields, countOf}
 use Rattle.tlv.specs.Model.{CompilationUnit, LineEncoding}
 use Rattle.tlv.specs.Checked.{Accepted}
-use Rattle.access.specs.Places.{unitHere}
+use Rattle.access.specs.Places.{unitHere, UnitOf}
 use Rattle.access.proofs.UnitsOrder.{unit-places-length}
 use Rattle.files.specs.Possible.{possibleFiles}
 use Rattle.files.proofs.FewLaws.{directories-few, files-few-in, rows-few, possible-few}
@@ -27,11 +27,10 @@ use Rattle.collect.specs.Collects.{linesExtent}
 use Rattle.references.specs.Keys.{possibleKeys}
 use Rattle.references.proofs.FewKeys.{keys-few}
 use Rattle.imports.specs.Answer.{workOfUnit}
-use Rattle.subprograms.specs.Contexts.{UnitOf}
 use Rattle.checks.specs.declared.layout.Counts.{Counts}
 use Rattle.checks.specs.declared.layout.Layout.{Layout}
 use Rattle.checks.specs.declared.layout.UnitLayout.{UnitLayout}
-use Rattle.checks.specs.Layout.{countOf, Sized, totalOf, roomsEnd, programRows, LaidOut, LaysOut, unitLayout, UnitLaid}
+use Rattle.checks.specs.Layout.{Sized, totalOf, roomsEnd, programRows, LaidOut, LaysOut, unitLayout, UnitLaid}
 use Rattle.checks.specs.Checks.{isEncoded, workOfProgram, UnitEnough}
 use Rattle.checks.proofs.CountLaws.{total-few, total-small, text-few}
 use Rattle.checks.proofs.WorkLaws.{of-program}

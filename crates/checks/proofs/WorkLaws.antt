@@ -1,4 +1,4 @@
--- The work of the unit that asks for most: of one unit, of all, of those that are asked for, of an input without encodings and lists. Assumes nothing.
+-- The work of the unit that asks for most: of one unit, of all, of those that are asked for, of an input without encodings and lists.
 use mathlib.Core.Path.{_≡_, refl, sym, ap, _∙_}
 use mathlib.Core.Bool.{Bool, true, false, cond, not}
 use mathlib.Core.Logic.{inl, inr}
@@ -12,7 +12,7 @@ use borrow.Author.Tests.{eq-eqb, ne-eqb}
 use Rattle.tlv.specs.declared.fields.Step.{Step}
 use Rattle.tlv.specs.Lists.{All, Any, at, isNone, mapOption}
 use Rattle.tlv.specs.Limits.{programLimit, listLimit, workOfField, workOfProgramByte, workOfEncodedByte, workOfListByte, countedLists, workBesides}
-use Rattle.tlv.specs.Fields.{Group, fields, payloads, headOf, payloadOf, grouped}
+use Rattle.tlv.specs.Fields.{Group, fields, payloads, headOf, payloadOf, grouped, countOf}
 use Rattle.tlv.specs.Tags.{encodingTag, listTag}
 use Rattle.tlv.specs.Cursor.{stepAt, fieldsOf}
 use Rattle.tlv.specs.Checked.{Accepts, Placed, Accepted}
@@ -24,7 +24,7 @@ use Rattle.tlv.proofs.PlacePromises.{placed-unit}
 use Rattle.access.specs.declared.access.Own.{Own}
 use Rattle.access.specs.declared.access.Place.{Place}
 use Rattle.access.specs.Access.{NextOwn, placeOf}
-use Rattle.access.specs.Places.{unitHere, unitPlaces, listsFrom}
+use Rattle.access.specs.Places.{unitHere, unitPlaces, listsFrom, UnitOf}
 use Rattle.access.proofs.UnitPlaceLaws.{units-places}
 use Rattle.access.proofs.UnitFacts.{unit-of-place}
 use Rattle.access.proofs.ListCountLaws.{unit-lists}
@@ -33,12 +33,11 @@ use Rattle.files.proofs.FewLaws.{unit-few, grouped-few}
 use Rattle.files.proofs.UnitLaws.{first-none, first-found}
 use Rattle.collect.proofs.HeaderPlaces.{encoding-here, unit-stands}
 use Rattle.imports.specs.Answer.{workOfByte, workOfLists, workOfUnit, workOfUnits}
-use Rattle.subprograms.specs.Contexts.{UnitOf}
 use Rattle.checks.specs.declared.layout.Counts.{Counts}
 use Rattle.checks.specs.declared.layout.Layout.{Layout}
 use Rattle.checks.specs.declared.options.Options.{Options}
 use Rattle.checks.specs.Checks.{listed, chosenUnits, isEncoded, workOfProgram, workLimit, WorkEnough, UnitEnough}
-use Rattle.checks.specs.Layout.{countOf, Sized, TagsKnown}
+use Rattle.checks.specs.Layout.{Sized, TagsKnown}
 
 -- ---- the work of a unit
 

@@ -1,4 +1,4 @@
--- Refusals 1 to 5: what their tests promise. Assumes nothing.
+-- Contract. Refusals 1 to 5: what their tests promise.
 use mathlib.Core.Path.{_≡_}
 use mathlib.Core.Bool.{Bool, cond, false, _&&_, _||_, not}
 use mathlib.Core.List.{List, [], _∷_}

@@ -1,4 +1,4 @@
--- Where the tables of an import stand in the work slice, and that they fit document 01's length. Assumes nothing.
+-- Contract. Where the tables of an import stand in the work slice, and that they fit document 01's length.
 use mathlib.Core.Path.{_≡_}
 use mathlib.Core.Bool.{Bool, false, cond}
 use mathlib.Core.List.{List}
@@ -6,9 +6,9 @@ use Prim.Native.Nat.{ℕ, _+_, _*_, _/_, _≤_, _<_, _^_}
 use lib.ListN.{length, getD}
 use Rattle.tlv.specs.Tags.{attributeTag, directoryTag, encodingTag, entryTag, fileTag, fileZeroTag, listTag, rangeTag, rowTag, textTag, unitTag}
 use Rattle.tlv.specs.Limits.{programLimit, listLimit, workOfField, workBesides, joinedLimit}
-use Rattle.tlv.specs.Fields.{fields, payloads, wholeFields}
+use Rattle.tlv.specs.Fields.{fields, countOf}
 use Rattle.tlv.specs.Checked.{Accepts, Accepted}
-use Rattle.access.specs.Places.{unitHere, unitPlaces}
+use Rattle.access.specs.Places.{unitHere, unitPlaces, UnitOf}
 use Rattle.access.specs.Units.{unitRecord}
 use Rattle.access.specs.Index.{entryRecord}
 use Rattle.line_program.specs.Scan.{offsetRecord, sequenceLeast}
@@ -21,17 +21,12 @@ use Rattle.collect.specs.Collects.{linesExtent}
 use Rattle.references.specs.Keys.{possibleKeys, keyRecord, chainHead}
 use Rattle.ranges.specs.RangeTable.{rangeRecord}
 use Rattle.dies.specs.Details.{rangeCount, entryCount, openSite, closedSite}
-use Rattle.subprograms.specs.Contexts.{UnitOf}
 use Rattle.checks.specs.declared.layout.Layout.{Layout}
 use Rattle.checks.specs.declared.layout.UnitLayout.{UnitLayout}
 use Rattle.checks.specs.declared.layout.Counts.{Counts}
 use Rattle.checks.specs.Checks.{isEncoded}
 
 -- ---- counts
-
--- how many fields of a tag an input has
-abbrev pub countOf : ℕ → List ℕ → ℕ
-countOf tag s = length (payloads tag (wholeFields (fields s)))
 
 -- a table by tag of how many fields an input has of each tag below 32
 pub record TagsCounted (s counts : List ℕ) : Type 0 where

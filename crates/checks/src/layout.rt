@@ -2,10 +2,9 @@
 ghost use mathlib.Core.Path.{_≡_};
 ghost use Prim.Native.Nat.{_≤_, _*_};
 ghost use Rattle.tlv.specs.Limits.{programLimit, fieldLimit, listLimit};
-ghost use Rattle.access.specs.Places.{unitHere};
+ghost use Rattle.access.specs.Places.{unitHere, UnitOf};
 ghost use Rattle.files.specs.Pieces.{UnitPlaced};
 ghost use Rattle.rnglists.specs.Room.{openLists};
-ghost use Rattle.subprograms.specs.Contexts.{UnitOf};
 ghost use Rattle.checks.specs.Checks.{isEncoded};
 ghost use Rattle.checks.specs.Layout.{TagsCounted, Sized, totalOf, programRows, LaysOut, unitLayout, RoomsSmall, TagsKnown};
 use crate::checks::has_encoding;

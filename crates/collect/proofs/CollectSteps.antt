@@ -1,4 +1,4 @@
--- collect_lines by its steps, a unit without a header, and the source of the rows of any other. Assumes nothing.
+-- collect_lines by its steps, a unit without a header, and the source of the rows of any other.
 use mathlib.Core.Path.{_≡_, refl, sym, ap, _∙_}
 use mathlib.Core.List.{List, []}
 use mathlib.Core.Option.{none, some}

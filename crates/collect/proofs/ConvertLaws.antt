@@ -1,4 +1,4 @@
--- A row is converted: what is written for it keeps the unit's description, and what it becomes by the number of its file. Assumes nothing.
+-- A row is converted: what is written for it keeps the unit's description, and what it becomes by the number of its file.
 use mathlib.Core.Path.{_≡_, refl, sym, ap, _∙_}
 use mathlib.Core.Logic.{inl, inr}
 use mathlib.Core.List.{List, [], _∷_, _++_}

@@ -1,4 +1,4 @@
--- The loop that converts rows, wherever they come from: its start, its turns and its ends, over a list of the rows that are left. Assumes nothing.
+-- The loop that converts rows, wherever they come from: its start, its turns and its ends, over a list of the rows that are left.
 use mathlib.Core.Path.{_≡_, refl, _∙_}
 use mathlib.Core.Bool.{cond}
 use mathlib.Core.Logic.{inl, inr, ⊎-elim}

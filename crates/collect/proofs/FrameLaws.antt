@@ -1,4 +1,4 @@
--- Frames: what may change within some stretches may change within stretches that cover them. Assumes nothing.
+-- Frames: what may change within some stretches may change within stretches that cover them.
 use mathlib.Core.Logic.{inl, inr, ⊎-elim}
 use mathlib.Core.List.{List, [], _∷_}
 use Prim.Native.Nat.{ℕ}

@@ -1,4 +1,4 @@
--- The unit at a place and its line header: where they stand in the sheet, and what is read there. Assumes nothing.
+-- The unit at a place and its line header: where they stand in the sheet, and what is read there.
 use mathlib.Core.Path.{_≡_, refl, sym, ap, _∙_}
 use mathlib.Core.List.{List}
 use mathlib.Core.Option.{none, some}

@@ -1,4 +1,4 @@
--- How warnings are put, and a row whose file has a number: its line, or the warning that its line is past 32 bits. Assumes nothing.
+-- How warnings are put, and a row whose file has a number: its line, or the warning that its line is past 32 bits.
 use mathlib.Core.Path.{_≡_, refl, sym, ap, _∙_}
 use mathlib.Core.List.{List, [], _∷_, _++_, append-nil, append-assoc}
 use Prim.Native.Nat.{ℕ, _+_, _*_, _≤_, _<_, _^_}

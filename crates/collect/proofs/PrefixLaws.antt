@@ -1,4 +1,4 @@
--- The conversion of rows only appends warnings, whatever stands before them. Assumes nothing.
+-- The conversion of rows only appends warnings, whatever stands before them.
 use mathlib.Core.Path.{_≡_, refl, ap, _∙_}
 use mathlib.Core.Bool.{Bool, true, false, cond}
 use mathlib.Core.List.{List, [], _∷_, _++_, append-assoc}

@@ -1,4 +1,4 @@
--- The loop that counts the rows of a program: its start, its turns and its ends. Assumes nothing.
+-- The loop that counts the rows of a program: its start, its turns and its ends.
 use mathlib.Core.Path.{_≡_, refl, sym, _∙_}
 use mathlib.Core.List.{List, _∷_}
 use Prim.Native.Nat.{ℕ, _+_, _-_, _≤_, _<_}

@@ -1,4 +1,4 @@
--- One step of a walk over the rows of a unit: the next field of a row is the first row, and the others follow it. Assumes nothing.
+-- One step of a walk over the rows of a unit: the next field of a row is the first row, and the others follow it.
 use mathlib.Core.Path.{_≡_, refl, ap, sym}
 use mathlib.Core.List.{List, [], _∷_, map}
 use Prim.Native.Nat.{ℕ, _+_, _≤_, _<_}

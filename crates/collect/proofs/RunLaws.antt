@@ -1,4 +1,4 @@
--- The run over a unit's rows beside the walks that keep only numbers: the counts, the sequences, and the conversion row by row. Assumes nothing.
+-- The run over a unit's rows beside the walks that keep only numbers: the counts, the sequences, and the conversion row by row.
 use mathlib.Core.Path.{_≡_, refl, sym, ap, subst, _∙_}
 use mathlib.Core.Bool.{Bool, true, false, cond}
 use mathlib.Core.Logic.{_⊎_, inl, inr}

@@ -1,5 +1,5 @@
 -- The sequences of rows as they are written, wherever the rows come from: the offset of a number, one record, and the loop's start, turns and end, over a list
--- of the rows that are left. Assumes nothing.
+-- of the rows that are left.
 use mathlib.Core.Path.{_≡_, refl, sym, ap, _∙_}
 use mathlib.Core.Bool.{Bool, true, false, cond}
 use mathlib.Core.Logic.{inl}
@@ -17,13 +17,14 @@ use Rattle.tlv.specs.Model.{LineRow}
 use Rattle.buffers.specs.Table.{Kept}
 use Rattle.buffers.proofs.TableLaws.{kept-refl, kept-trans, kept-wide}
 use Rattle.buffers.proofs.RecordLaws.{records-length, records-kept, records-push, numbers-at}
+use Rattle.line_program.specs.Scan.{offsetsAt}
 use Rattle.lines.specs.Lines.{RawSequence}
 use Rattle.files.proofs.PieceLaws.{at-some, at-none}
 use Rattle.rows.specs.declared.line.StatementSequence.{StatementSequence}
 use Rattle.rows.specs.Sizes.{rangeSize}
 use Rattle.rows.specs.Stored.{sequenceOf, rangeOf, rangeAt, rangesOf, PutSequenceRange}
 use Rattle.rows.proofs.StoredLaws.{ranges-nil}
-use Rattle.collect.specs.Passes.{startOr, sequencesFrom, withOffset, offsetsAt, SequencePut, SequencesIn}
+use Rattle.collect.specs.Passes.{startOr, sequencesFrom, withOffset, SequencePut, SequencesIn}
 
 -- ---- the offset of a sequence
 

@@ -1,4 +1,4 @@
--- The file that a header has at a number for which the unit's map has none: nothing, a file with no path, or file 0 before version 5. Assumes nothing.
+-- The file that a header has at a number for which the unit's map has none: nothing, a file with no path, or file 0 before version 5.
 use mathlib.Core.Path.{_≡_, refl, sym, subst, _∙_}
 use mathlib.Core.Bool.{true}
 use mathlib.Core.Logic.{inl, ⊎-elim}

@@ -1,4 +1,4 @@
--- A unit's directories and then its files: the steps of intern_unit, and how many numbers the map has. Assumes nothing.
+-- A unit's directories and then its files: the steps of intern_unit, and how many numbers the map has.
 use mathlib.Core.Path.{_≡_, refl, sym, ap, _∙_}
 use mathlib.Core.Bool.{Bool, true, false, cond}
 use mathlib.Core.Logic.{inl, inr}

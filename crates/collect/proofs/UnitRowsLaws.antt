@@ -1,4 +1,4 @@
--- The rows of a unit, gathered: from its source, by each walk over them, and while bytes below them are written. Assumes nothing.
+-- The rows of a unit, gathered: from its source, by each walk over them, and while bytes below them are written.
 use mathlib.Core.Path.{_≡_, refl, sym}
 use mathlib.Core.List.{List}
 use Prim.Native.Nat.{ℕ, _+_, _-_, _*_, _≤_}

@@ -1,4 +1,4 @@
--- What collect_lines promises: the unit's lines, map and sequences in the work slice, its files and warnings in their trays. Assumes nothing.
+-- Contract. What collect_lines promises: the unit's lines, map and sequences in the work slice, its files and warnings in their trays.
 use Prim.Native.Nat.{ℕ, _+_, _*_, _/_, _≤_}
 use mathlib.Core.Path.{_≡_}
 use mathlib.Core.List.{List, [], _∷_}

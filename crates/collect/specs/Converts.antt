@@ -1,4 +1,4 @@
--- What the conversion of a row promises: the file of a row, its line and its sequence. Assumes nothing.
+-- Contract. What the conversion of a row promises: the file of a row, its line and its sequence.
 use Prim.Native.Nat.{ℕ, _+_, _*_, _≤_}
 use mathlib.Core.Path.{_≡_}
 use mathlib.Core.Bool.{Bool, true, false, cond}
@@ -7,7 +7,7 @@ use mathlib.Core.List.{List, [], _∷_}
 use mathlib.Core.Option.{none, some}
 use lib.Dec.{leb, ltb, eqb}
 use lib.ListN.{length}
-use Rattle.tlv.specs.Tags.{fileZeroTag}
+use Rattle.tlv.specs.Tags.{fileZeroTag, unitWhole}
 use Rattle.tlv.specs.declared.model.FileIndex.{FileIndex}
 use Rattle.tlv.specs.Outcome.{refused, done}
 use Rattle.tlv.specs.Model.{CompilationUnit, LineHeader, HeaderFile, LineRow}
@@ -17,7 +17,7 @@ use Rattle.buffers.specs.Output.{Warning, warningsBytes}
 use Rattle.access.specs.declared.access.Own.{Own}
 use Rattle.access.specs.Access.{NextOwn}
 use Rattle.access.specs.Places.{unitHere}
-use Rattle.line_program.specs.Scan.{offsetRecord}
+use Rattle.line_program.specs.Scan.{offsetRecord, offsetsAt}
 use Rattle.paths.specs.Paths.{fileEntry}
 use Rattle.lines.specs.Files.{FileTable, FileIndices, get, headerFile}
 use Rattle.lines.specs.Lines.{RawLine, Converted, convertLine, convertRow}
@@ -32,7 +32,7 @@ use Rattle.collect.specs.declared.convert.Converting.{Converting}
 use Rattle.collect.specs.declared.convert.ConvertedRow.{ConvertedRow}
 use Rattle.collect.specs.declared.convert.Row.{Row}
 use Rattle.collect.specs.declared.sought.SoughtFile.{SoughtFile}
-use Rattle.collect.specs.Passes.{offsetsAt, convertFrom}
+use Rattle.collect.specs.Passes.{convertFrom}
 
 abbrev pub unitAt : List ℕ → Conversion → CompilationUnit
 unitAt main c = unitHere main (c .unit .place)
@@ -64,7 +64,7 @@ pub record ConversionIn (main supplementary w : List ℕ) (c : Conversion) (st :
   pub files : FilesIn main supplementary w (st .table)
   pub unit : FileUnitIn main w (c .unit)
   pub listed : Listed main supplementary (unitAt main c) (headerIn main c)
-  pub zero : NextOwn main (c .unit .place + 21) fileZeroTag (c .zero)
+  pub zero : NextOwn main (c .unit .place + unitWhole) fileZeroTag (c .zero)
   pub unnamed : Unnamed (unitAt main c) (headerIn main c) (indicesIn w (c .indices))
   pub all : c .indices .count ≡ cond (leb (headerIn main c .version) 4) 1 0 + length (unitAt main c .files)
   pub table : st .table .base + extent (st .table) ≤ c .offsets

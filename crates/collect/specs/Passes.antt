@@ -1,4 +1,4 @@
--- The walks over a unit's rows that the code makes: how many rows and sequences are finished, and where the sequences lie. Assumes nothing.
+-- Contract. The walks over a unit's rows that the code makes: how many rows and sequences are finished, and where the sequences lie.
 use Prim.Native.Nat.{ℕ, zero, suc, _+_, _*_}
 use mathlib.Core.Path.{_≡_}
 use mathlib.Core.Bool.{cond}
@@ -9,11 +9,11 @@ use lib.ListN.{drop}
 use Rattle.tlv.specs.Tags.{rowTag}
 use Rattle.tlv.specs.Outcome.{Outcome, refused, done, _>>=_}
 use Rattle.tlv.specs.Lists.{at}
-use Rattle.tlv.specs.Bytes.{le}
 use Rattle.tlv.specs.Fields.{fields, payloads}
 use Rattle.tlv.specs.Model.{CompilationUnit, LineHeader, LineRow, rowOf}
-use Rattle.buffers.specs.Table.{records, Kept}
+use Rattle.buffers.specs.Table.{Kept}
 use Rattle.access.specs.Places.{ownFields}
+use Rattle.line_program.specs.Scan.{offsetsAt}
 use Rattle.lines.specs.Lines.{RawSequence, LineSequenceRange, rawLine, Converted, convertRow}
 use Rattle.rows.specs.Sizes.{rangeSize}
 use Rattle.rows.specs.Stored.{rangeAt, rangesOf}
@@ -67,10 +67,6 @@ sequencesFrom (r ∷ rs) n start =
 -- a sequence with its offset
 abbrev pub withOffset : List ℕ → RawSequence → LineSequenceRange
 withOffset offsets s = record { range = s .range; statementSequence = at offsets (s .sequence) }
-
--- the offsets of sequences in a table
-abbrev pub offsetsAt : List ℕ → ℕ → ℕ → List ℕ
-offsetsAt w base n = records le 8 w base n
 
 -- a sequence was written at p with its offset
 pub record SequencePut (w w′ : List ℕ) (p offsets n : ℕ) (q : RawSequence) : Type 0 where

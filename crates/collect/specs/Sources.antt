@@ -1,4 +1,4 @@
--- Where the rows of a unit come from: its row fields, or the line program (document 02, E8). Assumes nothing.
+-- Contract. Where the rows of a unit come from: its row fields, or the line program (document 02, E8).
 use Prim.Native.Nat.{ℕ, _+_, _-_, _*_, _≤_}
 use mathlib.Core.Path.{_≡_}
 use mathlib.Core.List.{List}

@@ -1,10 +1,10 @@
--- What the steps of collect_lines promise, each of what stands in the work slice before and after it. Assumes nothing.
+-- Contract. What the steps of collect_lines promise, each of what stands in the work slice before and after it.
 use Prim.Native.Nat.{ℕ, _+_, _*_, _≤_}
 use mathlib.Core.Path.{_≡_}
 use mathlib.Core.List.{List, [], _∷_, map}
 use mathlib.Core.Option.{none, some}
 use lib.ListN.{length, take, drop}
-use Rattle.tlv.specs.Tags.{fileZeroTag}
+use Rattle.tlv.specs.Tags.{fileZeroTag, unitWhole}
 use Rattle.tlv.specs.Outcome.{Outcome, refused, done, _>>=_}
 use Rattle.tlv.specs.Bytes.{leAt}
 use Rattle.tlv.specs.Checked.{Placed}
@@ -15,6 +15,7 @@ use Rattle.buffers.specs.Output.{Warning, warningsBytes}
 use Rattle.access.specs.Access.{NextOwn}
 use Rattle.access.specs.Places.{unitHere}
 use Rattle.line_program.specs.declared.lines.Header.{Header}
+use Rattle.line_program.specs.Scan.{offsetsAt}
 use Rattle.lines.specs.Files.{FileTable, FileIndices, Indexed, internHeaderFiles}
 use Rattle.lines.specs.Lines.{Run, runRows, convertRows, sortRows, sameRow, dropNeighbours, Collected, mismatch, unitLines}
 use Rattle.files.specs.declared.index.StoredIndices.{StoredIndices}
@@ -33,7 +34,7 @@ use Rattle.collect.specs.declared.collect.CollectedLines.{CollectedLines
 use Rattle.collect.specs.declared.interned.InternedUnit.{InternedUnit}
 use Rattle.collect.specs.declared.convert.Conversion.{Conversion}
 use Rattle.collect.specs.declared.source.RowSource.{RowSource}
-use Rattle.collect.specs.Passes.{sequencesFrom, offsetsAt, withOffset}
+use Rattle.collect.specs.Passes.{sequencesFrom, withOffset}
 use Rattle.collect.specs.Sources.{sourceRows, mostRows, SourceWithin}
 use Rattle.collect.specs.Converts.{unitAt, headerIn, offsetsOf}
 use Rattle.collect.specs.Collects.{UnitIn, LinesRoom, linesIn}
@@ -60,8 +61,8 @@ pub record UnitFound (main supplementary program w : List ℕ) (t : StoredFiles)
   pub unit : UnitIn main p
   pub header : HeaderIn main p start len
   pub within : SourceWithin main source
-  pub source-is : sourceRows main program (p + 21) source ≡ lineRows (unitHere main p) (headerHere main p) program
-  pub most : mostRows main program (p + 21) source ≡ rowsMost (unitHere main p) program
+  pub source-is : sourceRows main program (p + unitWhole) source ≡ lineRows (unitHere main p) (headerHere main p) program
+  pub most : mostRows main program (p + unitWhole) source ≡ rowsMost (unitHere main p) program
   pub files : FilesIn main supplementary w t
   pub room : LinesRoom main w program t p free
 
@@ -109,7 +110,7 @@ pub record ConversionOf (main : List ℕ) (unit : FileUnit) (indices : StoredInd
     «offset_count» = count;
     lines = indices .base + indices .count * indexRecord;
   }
-  pub zero : NextOwn main (unit .place + 21) fileZeroTag (r .zero)
+  pub zero : NextOwn main (unit .place + unitWhole) fileZeroTag (r .zero)
 
 -- the sequences of a unit's rows were written behind its `count` lines, and these sorted and freed of equal neighbours
 pub record StoresLines (given : List LineRow) (w w′ : List ℕ) (offsets n lines count : ℕ) (r : StoredLines) : Type 0 where

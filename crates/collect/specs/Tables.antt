@@ -1,4 +1,4 @@
--- The rows of a line program as a table in the work slice: each stands there as the payload of a row field does. Assumes nothing.
+-- Contract. The rows of a line program as a table in the work slice: each stands there as the payload of a row field does.
 use Prim.Native.Nat.{ℕ, _*_, _≤_}
 use mathlib.Core.Path.{_≡_}
 use mathlib.Core.List.{List}

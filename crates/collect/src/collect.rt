@@ -2,6 +2,7 @@
 ghost use Prim.Native.Nat.{_+_, _*_, _≤_};
 ghost use lib.ListN.{length};
 ghost use Rattle.tlv.specs.Checked.{Placed};
+ghost use Rattle.tlv.specs.Tags.{unitWhole};
 ghost use Rattle.files.specs.Store.{FilesIn};
 ghost use Rattle.rows.specs.Sizes.{entrySize, rowRoom};
 ghost use Rattle.collect.specs.Sources.{sourceRows, mostRows, SourceWithin};
@@ -54,9 +55,9 @@ fn collect_rows(
 ) -> CollectedLines
     requires { ⌜ ConversionIn (now main) (now supplementary) (now work) c (record { table = t; count = 0; warned = warned }) ⌝ }
     requires { ⌜ SourceWithin (now main) source ⌝ }
-    requires { ⌜ c .lines + rowRoom * mostRows (now main) (now program) (c .unit .place + 21) source + entrySize ≤ length (now work) ⌝ }
-    ensures { λ r. ⌜ FinishesLines (sourceRows (now (main .entry)) (now (program .entry)) (c .unit .place + 21) source)
-        (mostRows (now (main .entry)) (now (program .entry)) (c .unit .place + 21) source) (now (main .entry))
+    requires { ⌜ c .lines + rowRoom * mostRows (now main) (now program) (c .unit .place + unitWhole) source + entrySize ≤ length (now work) ⌝ }
+    ensures { λ r. ⌜ FinishesLines (sourceRows (now (main .entry)) (now (program .entry)) (c .unit .place + unitWhole) source)
+        (mostRows (now (main .entry)) (now (program .entry)) (c .unit .place + unitWhole) source) (now (main .entry))
         (now (supplementary .entry)) (now (work .entry)) (now (work .exit)) (now (files .entry)) (now (files .exit)) (now (warnings .entry))
         (now (warnings .exit)) c t warned r ⌝ }
 {

@@ -3,6 +3,7 @@ ghost use mathlib.Core.Option.{none};
 ghost use Prim.Native.Nat.{_+_, _*_, _≤_};
 ghost use lib.ListN.{length};
 ghost use Rattle.tlv.specs.Outcome.{done};
+ghost use Rattle.tlv.specs.Tags.{unitWhole};
 ghost use Rattle.buffers.specs.Buffer.{Put};
 ghost use Rattle.buffers.specs.Output.{warningsBytes};
 ghost use Rattle.line_program.specs.Scan.{offsetRecord};
@@ -83,12 +84,12 @@ pub fn finish_lines(
     warned: usize,
 ) -> CollectedLines
     requires { ⌜ ConversionIn (now main) (now supplementary) (now work) c (record { table = t; count = 0; warned = warned }) ⌝ }
-    requires { ⌜ RowsReady (now main) (now work) (c .unit .place + 21)
-        (c .lines + lineSize * length (rowsHere (now main) (now work) (c .unit .place + 21) rows)) rows ⌝ }
-    requires { ⌜ RowsCounted (rowsHere (now main) (now work) (c .unit .place + 21) rows) n m ⌝ }
-    requires { ⌜ c .lines + rowRoom * length (rowsHere (now main) (now work) (c .unit .place + 21) rows) + entrySize ≤ length (now work) ⌝ }
-    ensures { λ r. ⌜ FinishesLines (done (rowsHere (now (main .entry)) (now (work .entry)) (c .unit .place + 21) rows))
-        (length (rowsHere (now (main .entry)) (now (work .entry)) (c .unit .place + 21) rows)) (now (main .entry))
+    requires { ⌜ RowsReady (now main) (now work) (c .unit .place + unitWhole)
+        (c .lines + lineSize * length (rowsHere (now main) (now work) (c .unit .place + unitWhole) rows)) rows ⌝ }
+    requires { ⌜ RowsCounted (rowsHere (now main) (now work) (c .unit .place + unitWhole) rows) n m ⌝ }
+    requires { ⌜ c .lines + rowRoom * length (rowsHere (now main) (now work) (c .unit .place + unitWhole) rows) + entrySize ≤ length (now work) ⌝ }
+    ensures { λ r. ⌜ FinishesLines (done (rowsHere (now (main .entry)) (now (work .entry)) (c .unit .place + unitWhole) rows))
+        (length (rowsHere (now (main .entry)) (now (work .entry)) (c .unit .place + unitWhole) rows)) (now (main .entry))
         (now (supplementary .entry)) (now (work .entry)) (now (work .exit)) (now (files .entry)) (now (files .exit)) (now (warnings .entry))
         (now (warnings .exit)) c t warned r ⌝ }
 {

@@ -3,6 +3,7 @@ ghost use Prim.Native.Nat.{_+_, _*_, _/_, _≤_};
 ghost use lib.ListN.{length, take, drop};
 ghost use Rattle.tlv.specs.Checked.{Placed};
 ghost use Rattle.tlv.specs.Model.{headerOf};
+ghost use Rattle.tlv.specs.Tags.{unitWhole};
 ghost use Rattle.access.specs.Places.{unitHere};
 ghost use Rattle.line_program.specs.Scan.{Scanned, offsetRecord, sequenceLeast};
 ghost use Rattle.line_program.specs.Program.{lineSequenceOffsets};
@@ -121,7 +122,7 @@ pub fn conversion(
     offsets: usize,
     n: usize,
 ) -> Conversion
-    requires { ⌜ Placed (now main) (unit .place + 21) ⌝ }
+    requires { ⌜ Placed (now main) (unit .place + unitWhole) ⌝ }
     requires { ⌜ indices .base + indices .count * indexRecord ≤ 18446744073709551615 ⌝ }
     ensures { λ r. ⌜ ConversionOf (now (main .entry)) unit indices offsets n r ⌝ }
 {

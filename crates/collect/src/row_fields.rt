@@ -4,6 +4,7 @@ ghost use Prim.Native.Nat.{_+_, _*_, _≤_};
 ghost use lib.ListN.{length};
 ghost use Rattle.tlv.specs.Grammar.{rowFieldSize};
 ghost use Rattle.tlv.specs.Model.{rowOf};
+ghost use Rattle.tlv.specs.Tags.{unitWhole};
 ghost use Rattle.buffers.specs.Table.{chunk};
 ghost use Rattle.lines.specs.Lines.{rawLine};
 ghost use Rattle.rows.specs.Sizes.{lineSize};
@@ -53,7 +54,7 @@ pub fn convert_rows(
 ) -> ConvertedRow
     requires { ⌜ ConversionIn (now main) (now supplementary) (now work) c st ⌝ }
     requires { ⌜ c .lines + st .count * lineSize + left * lineSize ≤ length (now work) ⌝ }
-    ensures { λ r. ⌜ RowsConvert (rowsFrom (now (main .entry)) (c .unit .place + 21)) (now (main .entry)) (now (supplementary .entry))
+    ensures { λ r. ⌜ RowsConvert (rowsFrom (now (main .entry)) (c .unit .place + unitWhole)) (now (main .entry)) (now (supplementary .entry))
         (now (work .entry)) (now (work .exit)) (now (files .entry)) (now (files .exit)) (now (warnings .entry)) (now (warnings .exit)) c st left r ⌝ }
 {
     let unit = c.unit;

@@ -4,6 +4,7 @@ ghost use Prim.Native.Nat.{_+_, _*_, _≤_};
 ghost use lib.ListN.{length};
 ghost use Rattle.tlv.specs.Checked.{Placed};
 ghost use Rattle.tlv.specs.Grammar.{encodingFieldSize};
+ghost use Rattle.tlv.specs.Tags.{unitWhole};
 ghost use Rattle.line_program.specs.Scan.{offsetRecord};
 ghost use Rattle.rows.specs.Sizes.{lineSize, rangeSize, rowRoom};
 ghost use Rattle.collect.specs.Passes.{sequencesFrom, SequencesIn};
@@ -190,10 +191,10 @@ pub fn convert_unit_rows(
     warnings: &mut [u8],
     st: Converting,
 ) -> ConvertedRow
-    requires { ⌜ RowsReady (now main) (now work) (c .unit .place + 21) (c .lines + st .count * lineSize + left * lineSize) rows ⌝ }
+    requires { ⌜ RowsReady (now main) (now work) (c .unit .place + unitWhole) (c .lines + st .count * lineSize + left * lineSize) rows ⌝ }
     requires { ⌜ ConversionIn (now main) (now supplementary) (now work) c st ⌝ }
     requires { ⌜ c .lines + st .count * lineSize + left * lineSize ≤ length (now work) ⌝ }
-    ensures { λ r. ⌜ RowsConvert (rowsHere (now (main .entry)) (now (work .entry)) (c .unit .place + 21) rows) (now (main .entry))
+    ensures { λ r. ⌜ RowsConvert (rowsHere (now (main .entry)) (now (work .entry)) (c .unit .place + unitWhole) rows) (now (main .entry))
         (now (supplementary .entry)) (now (work .entry)) (now (work .exit)) (now (files .entry)) (now (files .exit)) (now (warnings .entry))
         (now (warnings .exit)) c st left r ⌝ }
 {

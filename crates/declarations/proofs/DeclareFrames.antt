@@ -1,4 +1,4 @@
--- What stays of the declaration search's regions of the work slice: where the lower ones are written, where a target is written down, and after a search. Assumes nothing.
+-- What stays of the declaration search's regions of the work slice: where the lower ones are written, where a target is written down, and after a search.
 use mathlib.Core.Path.{_≡_, _∙_}
 use mathlib.Core.Bool.{false}
 use mathlib.Core.Logic.{inl, inr}

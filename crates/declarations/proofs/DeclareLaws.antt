@@ -1,4 +1,4 @@
--- How a search for a declaration is put together: it ends here, goes on after other work, or one search follows another. Assumes nothing.
+-- How a search for a declaration is put together: it ends here, goes on after other work, or one search follows another.
 use mathlib.Core.Path.{_≡_, refl, sym, _∙_}
 use mathlib.Core.Bool.{cond}
 use mathlib.Core.Logic.{⊎-elim}

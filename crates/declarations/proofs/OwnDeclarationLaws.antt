@@ -1,4 +1,4 @@
--- An entry's own declaration: its unit's number of the file, the warnings, and what they make of the search. Assumes nothing.
+-- An entry's own declaration: its unit's number of the file, the warnings, and what they make of the search.
 use mathlib.Core.Path.{_≡_, refl, sym, ap, _∙_}
 use mathlib.Core.Bool.{Bool, true, false, true≢false, false≢true}
 use mathlib.Core.Logic.{inl}
@@ -11,7 +11,7 @@ use borrow.Author.Tests.{le-ltb, lt-ltb}
 use Rattle.tlv.specs.declared.model.DebugSource.{DebugSource}
 use Rattle.tlv.specs.declared.model.FileIndex.{FileIndex}
 use Rattle.tlv.specs.Outcome.{Outcome, _>>=_}
-use Rattle.tlv.specs.Lists.{Any, isNone}
+use Rattle.tlv.specs.Lists.{isNone}
 use Rattle.tlv.specs.Bytes.{bytesOf}
 use Rattle.tlv.specs.Fields.{fields, encode}
 use Rattle.tlv.specs.Model.{CompilationUnit, LineHeader}
@@ -26,7 +26,7 @@ use Rattle.buffers.specs.Output.{WarningKind, about, invalidDeclarationFile, in
 use Rattle.buffers.proofs.TableLaws.{here, there, but-of, but-one, but-refl, but-trans}
 use Rattle.buffers.proofs.BufferLaws.{put-none, put-as}
 use Rattle.buffers.proofs.OutputLaws.{put-about}
-use Rattle.access.specs.Places.{unitHere, entryHere, unitPlaces}
+use Rattle.access.specs.Places.{unitHere, entryHere, unitPlaces, UnitOf}
 use Rattle.access.proofs.UnitFacts.{UnitAt, all-unit-places}
 use Rattle.lines.specs.Files.{FileTable, FileIndices, get}
 use Rattle.files.specs.declared.spans.FileUnit.{FileUnit}
@@ -56,7 +56,7 @@ use Rattle.declarations.proofs.DeclareLaws.{declares-missing, declares-
 
 -- ---- the unit of a place
 
-unit-placed : {s : List ℕ} (q : ℕ) → Placed s 0 → Any (λ y. y ≡ q) (unitPlaces 0 (fields s)) → UnitPlaced s q
+unit-placed : {s : List ℕ} (q : ℕ) → Placed s 0 → UnitOf s q → UnitPlaced s q
 unit-placed {s} q accepted listed =
     let u : UnitAt s q = any-one (unitPlaces 0 (fields s)) (λ y at same. rw same at at) (all-unit-places s 0 accepted) listed in
     let w = field-within s q _ 0x10 (u .start) (u .len) (u .next) refl (u .is) in

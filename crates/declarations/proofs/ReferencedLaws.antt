@@ -1,4 +1,4 @@
--- The ways through a reference and through an offset of a section: nothing, a refusal, an entry of the same unit, an entry of a unit that is reached. Assumes nothing.
+-- The ways through a reference and through an offset of a section: nothing, a refusal, an entry of the same unit, an entry of a unit that is reached.
 use mathlib.Core.Path.{_≡_, refl, sym, ap, _∙_}
 use mathlib.Core.Bool.{Bool, true, false}
 use mathlib.Core.List.{List, [], _∷_, _++_, append-nil}

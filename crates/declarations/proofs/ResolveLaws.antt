@@ -1,4 +1,4 @@
--- The members of the declaration search's cycle: the ways through an entry, a reference and an offset of a section. Assumes nothing.
+-- The members of the declaration search's cycle: the ways through an entry, a reference and an offset of a section.
 use mathlib.Core.Path.{_≡_, refl, sym, ap, _∙_}
 use mathlib.Core.Bool.{Bool, true, false, cond}
 use mathlib.Core.List.{List, [], _∷_}

@@ -1,4 +1,4 @@
--- What the declaration search promises: the file and line, the files that join the table, the warnings. Assumes nothing.
+-- Contract. What the declaration search promises: the file and line, the files that join the table, the warnings.
 use Prim.Native.Nat.{ℕ, _+_, _*_, _≤_}
 use mathlib.Core.Path.{_≡_}
 use mathlib.Core.Logic.{_⊎_}
@@ -7,13 +7,11 @@ use mathlib.Core.List.{List, [], _∷_, _++_}
 use mathlib.Core.Option.{Option, none, some}
 use Rattle.tlv.specs.declared.model.DebugSource.{DebugSource}
 use Rattle.tlv.specs.Outcome.{Outcome, refused, done}
-use Rattle.tlv.specs.Lists.{Any}
-use Rattle.tlv.specs.Fields.{fields}
 use Rattle.tlv.specs.Model.{CompilationUnit, LineHeader}
 use Rattle.buffers.specs.Buffer.{top, Put}
 use Rattle.buffers.specs.Table.{KeptBut}
 use Rattle.buffers.specs.Output.{Warning, warningsBytes}
-use Rattle.access.specs.Places.{unitHere, entryHere, unitPlaces}
+use Rattle.access.specs.Places.{unitHere, entryHere, UnitOf}
 use Rattle.access.specs.Units.{unitRecord}
 use Rattle.access.specs.Index.{entryRecord}
 use Rattle.lines.specs.Files.{FileTable, FileIndices}
@@ -76,9 +74,9 @@ pub record DeclaringIn (main supplementary w : List ℕ) (d : Places) (st : Decl
   pub main-entries : Beside d (st .table) (d .tables .main .entries) (entryRecord * d .tables .main .«entry_count»)
   pub supplementary-units : Beside d (st .table) (d .tables .supplementary .units) (unitRecord * d .tables .supplementary .«unit_count»)
   pub supplementary-entries : Beside d (st .table) (d .tables .supplementary .entries) (entryRecord * d .tables .supplementary .«entry_count»)
-  pub room-main : (q : ℕ) → Any (λ p. p ≡ q) (unitPlaces 0 (fields main))
+  pub room-main : (q : ℕ) → UnitOf main q
       → mapExtent main q ≤ d .room
-  pub room-supplementary : (q : ℕ) → Any (λ p. p ≡ q) (unitPlaces 0 (fields supplementary))
+  pub room-supplementary : (q : ℕ) → UnitOf supplementary q
       → mapExtent supplementary q ≤ d .room
 
 -- what an answer says of the definition's outcome, from any warnings and any number of reads

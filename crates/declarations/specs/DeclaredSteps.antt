@@ -1,5 +1,4 @@
--- What the steps of the declaration search promise: an entry's own declaration, a unit's files that join the table, an offset that is followed. Assumes
--- nothing.
+-- Contract. What the steps of the declaration search promise: an entry's own declaration, a unit's files that join the table, an offset that is followed.
 use Prim.Native.Nat.{ℕ, _+_, _≤_, _<_}
 use mathlib.Core.Path.{_≡_}
 use mathlib.Core.Bool.{false}
@@ -7,13 +6,13 @@ use mathlib.Core.List.{List, [], _∷_, _++_}
 use lib.ListN.{length}
 use Rattle.tlv.specs.Tags.{trayWarningTag}
 use Rattle.tlv.specs.Outcome.{Outcome, refused, done}
-use Rattle.tlv.specs.Lists.{Any, exists}
+use Rattle.tlv.specs.Lists.{exists}
 use Rattle.tlv.specs.Bytes.{bytesOf}
-use Rattle.tlv.specs.Fields.{fields, encode}
+use Rattle.tlv.specs.Fields.{encode}
 use Rattle.tlv.specs.Model.{CompilationUnit}
 use Rattle.buffers.specs.Buffer.{top, Put}
 use Rattle.buffers.specs.Table.{KeptBut}
-use Rattle.access.specs.Places.{unitHere, entryHere, unitPlaces}
+use Rattle.access.specs.Places.{unitHere, entryHere, UnitOf}
 use Rattle.lines.specs.Files.{FileIndices, get}
 use Rattle.files.specs.declared.store.StoredFiles.{StoredFiles}
 use Rattle.files.specs.declared.index.FileNumber.{FileNumber}
@@ -92,7 +91,7 @@ pub record Owns (f : Declaring → Outcome Declaring) (main supplementary w w′
 -- the unit at q, one of its sheet
 pub record UnitKnown (s : List ℕ) (q : ℕ) : Type 0 where
   pub placed : UnitPlaced s q
-  pub listed : Any (λ y. y ≡ q) (unitPlaces 0 (fields s))
+  pub listed : UnitOf s q
 
 -- its files joined the table t, which is t′ now
 pub record JoinedTo (main supplementary w w′ files files′ : List ℕ) (t t′ : StoredFiles) (u : CompilationUnit) : Type 0 where

@@ -120,7 +120,7 @@ fn number_of<'a>(
 }
 
 // The offset in the section of the entry at a place; none where it exceeds 64 bits.
-fn absolute_offset(s: &[u8], unit: usize, place: usize) -> Number
+fn absolute_entry_offset(s: &[u8], unit: usize, place: usize) -> Number
     requires { ⌜ UnitPlaced (now s) unit ⌝ }
     requires { ⌜ Placed (now s) 0 ⌝ }
     requires { ⌜ EntryKnown (now s) unit place ⌝ }
@@ -149,7 +149,7 @@ fn warn_declaration(
     requires { ⌜ EntryKnown (now s) unit place ⌝ }
     ensures { λ r. ⌜ Warns (now (s .entry)) unit place kind number (now (warnings .entry)) (now (warnings .exit)) st r ⌝ }
 {
-    match absolute_offset(s, unit, place) {
+    match absolute_entry_offset(s, unit, place) {
         Number::Missing => Declared::Refused(12),
         Number::Is(offset) => {
             let warned = buffers::output::put_warning(warnings, st.warned, kind, offset, number);

@@ -1,4 +1,4 @@
--- The return address of an entry, as the walk below a subprogram reads it. Assumes nothing.
+-- The return address of an entry, as the walk below a subprogram reads it.
 use mathlib.Core.Path.{_≡_, refl, ap, _∙_}
 use mathlib.Core.Bool.{Bool, true, not, _||_}
 use mathlib.Core.List.{List, [], _∷_, map}

@@ -1,4 +1,4 @@
--- A call's file and line, and the warnings about them. Assumes nothing.
+-- A call's file and line, and the warnings about them.
 use mathlib.Core.Path.{_≡_, refl, ap, _∙_}
 use mathlib.Core.List.{List, [], _∷_, _++_, append-nil}
 use mathlib.Core.Option.{some}

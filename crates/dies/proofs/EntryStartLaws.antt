@@ -1,4 +1,4 @@
--- Behind the field of a unit the index of the sheet goes on with the unit's entries. Assumes nothing.
+-- Behind the field of a unit the index of the sheet goes on with the unit's entries.
 use mathlib.Core.Path.{_≡_, refl, sym, ap, _∙_}
 use mathlib.Core.Logic.{inl, inr, ⊎-elim}
 use mathlib.Core.List.{List, [], _∷_}
@@ -15,7 +15,7 @@ use Rattle.tlv.specs.Cursor.{stepAt}
 use Rattle.tlv.specs.Checked.{fieldIn}
 use Rattle.tlv.proofs.ListLaws.{all-map}
 use Rattle.tlv.proofs.CursorLaws.{fields-field, field-within, payload-length, row-ind}
-use Rattle.access.specs.Places.{unitHere, behind, unitPlaces, IndexedEntry, entryIndex}
+use Rattle.access.specs.Places.{unitHere, behind, unitPlaces, IndexedEntry, entryIndex, UnitOf}
 use Rattle.access.proofs.ListCountLaws.{unit-lists}
 use Rattle.access.proofs.IndexLaws.{index-unit, index-entry, index-other}
 use Rattle.access.proofs.IndexModel.{either, here-unit, places-unit, places-other}
@@ -82,7 +82,7 @@ module _ (s : List ℕ) (q start len next : ℕ) (is : stepAt s q ≡ Step.Field
       p refl
 
   -- the entries from behind the unit's field on are known
-  pub known-start : Any (λ x. x ≡ q) (unitPlaces 0 (fields s)) → EntriesKnown s q next
+  pub known-start : UnitOf s q → EntriesKnown s q next
   known-start any =
       let f = follows 0 any 0 0 in
       record { listed = f .0; ranges = f .1 0x19; entries = f .1 0x17; lists = omega (arith, unit-lists s q _ refl 0x10 start len next is) }

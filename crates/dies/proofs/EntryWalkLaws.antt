@@ -1,4 +1,4 @@
--- The entries of a unit by place: what the field at a place adds to them, which of them lie below a subprogram, and how many ranges and entries are left. Assumes nothing.
+-- The entries of a unit by place: what the field at a place adds to them, which of them lie below a subprogram, and how many ranges and entries are left.
 use mathlib.Core.Path.{_≡_, refl, ap, _∙_}
 use mathlib.Core.Bool.{Bool, not, _||_}
 use mathlib.Core.List.{List, [], _∷_}

@@ -1,4 +1,4 @@
--- The open inline nodes: frames by value, and their ranges in the work slice. Assumes nothing.
+-- The open inline nodes: frames by value, and their ranges in the work slice.
 use mathlib.Core.Path.{_≡_, refl, sym, ap, _∙_}
 use mathlib.Core.List.{List, [], _∷_}
 use Prim.Native.Nat.{ℕ, zero, suc, _+_, _-_, _*_, _≤_, _<_}

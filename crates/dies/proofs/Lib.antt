@@ -10,9 +10,4 @@ pub mod SiteStepLaws
 pub mod NameLengthLaws
 pub mod ListRoomLaws
 pub mod NodeStepLaws
-pub mod InlineStepLaws
-pub mod CollectLaws
-pub mod CollectingLaws
-pub mod SitesPutLaws
-pub mod ExtractLaws
 pub mod EntryStartLaws

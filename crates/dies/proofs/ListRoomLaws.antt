@@ -1,4 +1,4 @@
--- The ranges that the entry at hand can give, of its fields 19 or of its list, have room in the stack of ranges. Assumes nothing.
+-- The ranges that the entry at hand can give, of its fields 19 or of its list, have room in the stack of ranges.
 use mathlib.Core.Logic.{inl, inr}
 use mathlib.Core.List.{List}
 use Prim.Native.Nat.{ℕ, suc, _+_, _*_, _≤_, _<_}

@@ -1,4 +1,4 @@
--- The names that are found from an entry of an accepted sheet are short enough for an output field. Assumes nothing.
+-- The names that are found from an entry of an accepted sheet are short enough for an output field.
 use mathlib.Core.Path.{_≡_}
 use mathlib.Core.List.{List, [], _∷_, map}
 use mathlib.Core.Option.{Option, none, some}

@@ -1,5 +1,5 @@
 -- An entry's ranges held against those of the innermost open node: what reading the innermost frame and merging say together, and what the entry at a place
--- gives. Assumes nothing.
+-- gives.
 use mathlib.Core.Path.{_≡_, refl, sym, ap, _∙_}
 use mathlib.Core.List.{List, [], _∷_, map}
 use mathlib.Core.Option.{Option, none, some}

@@ -1,4 +1,4 @@
--- An inlined entry of the walk below a subprogram: its node's bytes, and what becomes of the walk. Assumes nothing.
+-- An inlined entry of the walk below a subprogram: its node's bytes, and what becomes of the walk.
 use mathlib.Core.Path.{_≡_, refl, sym, ap, _∙_}
 use mathlib.Core.Bool.{Bool, _||_}
 use mathlib.Core.List.{List, [], _∷_, _++_, append-nil, append-assoc}

@@ -1,4 +1,4 @@
--- Whether what is laid passes the largest place: nothing does not, and of two lays one after the other the first or the second does. Assumes nothing.
+-- Whether what is laid passes the largest place: nothing does not, and of two lays one after the other the first or the second does.
 use mathlib.Core.Path.{_≡_, refl, sym, ap, _∙_}
 use mathlib.Core.Bool.{Bool, true, false, cond, _||_}
 use mathlib.Core.List.{List, [], _∷_, _++_}

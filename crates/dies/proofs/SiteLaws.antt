@@ -1,4 +1,4 @@
--- Call sites in the work slice: a stack of open ones, a table of closed ones, and the loop that closes them. Assumes nothing.
+-- Call sites in the work slice: a stack of open ones, a table of closed ones, and the loop that closes them.
 use mathlib.Core.Path.{_≡_, refl, sym, ap, _∙_}
 use mathlib.Core.Logic.{_⊎_, inl, inr, ⊎-elim}
 use mathlib.Core.List.{List, [], _∷_, _++_, map, append-assoc, append-nil}

@@ -1,4 +1,4 @@
--- A call site of the walk below a subprogram: refused, passed over, or pushed on the stack of open ones. Assumes nothing.
+-- A call site of the walk below a subprogram: refused, passed over, or pushed on the stack of open ones.
 use mathlib.Core.Path.{_≡_, refl, sym, ap, _∙_}
 use mathlib.Core.Bool.{true, false, cond}
 use mathlib.Core.Logic.{_⊎_, inl, inr}

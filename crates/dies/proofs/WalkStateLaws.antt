@@ -1,4 +1,4 @@
--- The state of the walk over the entries below a subprogram: what a write leaves as it was, and closing. Assumes nothing.
+-- The state of the walk over the entries below a subprogram: what a write leaves as it was, and closing.
 use mathlib.Core.Path.{_≡_, refl, _∙_}
 use mathlib.Core.Logic.{inl, inr, ⊎-elim}
 use mathlib.Core.List.{List}

@@ -1,4 +1,4 @@
--- What the code that reads a call site's address, and a call's file and line, promises. Assumes nothing.
+-- Contract. What the code that reads a call site's address, and a call's file and line, promises.
 use mathlib.Core.Path.{_≡_}
 use mathlib.Core.Bool.{cond}
 use mathlib.Core.List.{List, [], _∷_}

@@ -1,4 +1,4 @@
--- What the walk over the entries below a subprogram has done, as it stands in memory, and what each of its steps promises. Assumes nothing.
+-- Contract. What the walk over the entries below a subprogram has done, as it stands in memory, and what each of its steps promises.
 use mathlib.Core.Path.{_≡_}
 use mathlib.Core.Bool.{Bool, not, _||_}
 use mathlib.Core.Logic.{_⊎_}
@@ -6,7 +6,7 @@ use mathlib.Core.List.{List, [], _∷_, _++_, map}
 use Prim.Native.Nat.{ℕ, zero, suc, _+_, _-_, _*_, _≤_, _<_}
 use lib.Dec.{eqb}
 use lib.ListN.{length, drop}
-use Rattle.tlv.specs.Tags.{entryTag, listTag, rangeTag, traySiteTag, unitTag}
+use Rattle.tlv.specs.Tags.{entryTag, listTag, rangeTag, traySiteTag, unitTag, entryWhole}
 use Rattle.tlv.specs.Constants.{dwAtCallOrigin}
 use Rattle.tlv.specs.declared.model.AddressRange.{AddressRange}
 use Rattle.tlv.specs.Outcome.{Outcome, refused, done, _>>=_}
@@ -196,7 +196,7 @@ pub record Advances (F : Descendants → Outcome Descendants) (main supplementar
 
 -- k ranges are no more than the entry at p can give: its fields 19, or its list
 abbrev pub OwnRanges : List ℕ → Details → ℕ → ℕ → Type 0
-OwnRanges main d p k = (k ≤ length (rangeFields main (p + 15))) ⊎ ((k ≤ d .third) × (1 ≤ ownLists main (p + 15)))
+OwnRanges main d p k = (k ≤ length (rangeFields main (p + entryWhole))) ⊎ ((k ≤ d .third) × (1 ≤ ownLists main (p + entryWhole)))
 
 -- the same of what lays nothing
 pub record Quiet (F : Descendants → Outcome Descendants) (main supplementary : List ℕ) (d : Details) (a : Later) (b : ℕ) (w : List ℕ) (s : Walk)

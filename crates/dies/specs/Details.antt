@@ -1,4 +1,4 @@
--- The entries of a unit by place, and what the extraction of a function's inline nodes and call sites promises. Assumes nothing.
+-- Contract. The entries of a unit by place, and what the extraction of a function's inline nodes and call sites promises.
 use Prim.Native.Nat.{ℕ, _+_, _-_, _*_, _≤_}
 use mathlib.Core.Path.{_≡_}
 use mathlib.Core.Bool.{Bool, false}
@@ -7,7 +7,7 @@ use lib.ListN.{length, drop}
 use Rattle.tlv.specs.Tags.{entryTag, rangeTag, traySiteTag}
 use Rattle.tlv.specs.declared.model.AddressRange.{AddressRange}
 use Rattle.tlv.specs.Outcome.{refused, done}
-use Rattle.tlv.specs.Fields.{fields, encode, grouped, payloads, wholeFields}
+use Rattle.tlv.specs.Fields.{fields, encode, grouped, payloads, wholeFields, countOf}
 use Rattle.tlv.specs.Limits.{listLimit}
 use Rattle.tlv.specs.Model.{Entry, entryOf, units}
 use Rattle.tlv.specs.Lists.{Any, All}
@@ -50,10 +50,10 @@ contextIn main supplementary lists addresses w d = record {
 
 -- how many ranges, and how many entries, the main sheet has
 abbrev pub rangeCount : List ℕ → ℕ
-rangeCount s = length (payloads rangeTag (wholeFields (fields s)))
+rangeCount s = countOf rangeTag s
 
 abbrev pub entryCount : List ℕ → ℕ
-entryCount s = length (payloads entryTag (wholeFields (fields s)))
+entryCount s = countOf entryTag s
 
 -- bytes of an open and of a closed call site
 abbrev pub openSite : ℕ

@@ -1,4 +1,4 @@
--- The open inline nodes as frames by value and a stack of ranges in the work slice, and what the functions on them promise. Assumes nothing.
+-- Contract. The open inline nodes as frames by value and a stack of ranges in the work slice, and what the functions on them promise.
 use mathlib.Core.Path.{_≡_}
 use mathlib.Core.List.{List, [], _∷_}
 use Prim.Native.Nat.{ℕ, zero, suc, _+_, _-_, _*_, _≤_}

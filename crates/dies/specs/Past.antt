@@ -1,4 +1,4 @@
--- A records length past 2^64 - 1 (document 02, E9), told beside the place, which stays at the largest. Assumes nothing.
+-- Contract. A records length past 2^64 - 1 (document 02, E9), told beside the place, which stays at the largest.
 use mathlib.Core.Bool.{Bool, cond}
 use Prim.Native.Nat.{ℕ, _+_, _*_}
 use lib.Dec.{ltb, eqb}

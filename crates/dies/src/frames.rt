@@ -35,7 +35,7 @@ pub struct Left {
 }
 
 // Closes the nodes of entries at this depth or deeper; the frames that are left stay where they are.
-pub fn popped(st: Open, depth: u16) -> Left
+pub fn finish_inlines(st: Open, depth: u16) -> Left
     requires { ⌜ Ready st ⌝ }
     ensures { λ r. ⌜ Popped st (shrunk st r) depth ⌝ }
 {

@@ -5,6 +5,7 @@ ghost use mathlib.Core.List.{List};
 ghost use lib.Dec.{leb};
 ghost use lib.ListN.{length};
 ghost use Rattle.tlv.specs.Bytes.{leAt};
+ghost use Rattle.tlv.specs.Tags.{entryWhole};
 ghost use Rattle.buffers.specs.Buffer.{Put};
 ghost use Rattle.buffers.specs.Output.{nodeBytes};
 ghost use Rattle.access.specs.Places.{entryHere};
@@ -103,8 +104,9 @@ fn keep_node(
     ensures { λ r. ⌜ ((lists addresses : List ℕ) → Advances
         (pushInline (contextIn (now (main .entry)) (now (supplementary .entry)) lists addresses (now (work .entry)) d) (entryHere (now (main .entry)) p)
         (now (inlined .entry)) (rangesAt (now (work .entry)) (d .ranges + s .frames .used * rangeRecord) k)) (now (main .entry)) (now (supplementary .entry))
-        (now (name .entry)) d (rangesLater (now (main .entry)) (p + 15)) (entriesLeft (now (main .entry)) (p + 15)) (now (work .entry)) (now (records .entry))
-        (now (warnings .entry)) s (now (work .entry)) (now (records .exit)) (now (warnings .exit)) (noded s (leAt 2 (now (main .entry)) (p + 11)) k r)) ⌝ }
+        (now (name .entry)) d (rangesLater (now (main .entry)) (p + entryWhole)) (entriesLeft (now (main .entry)) (p + entryWhole))
+        (now (work .entry)) (now (records .entry)) (now (warnings .entry)) s (now (work .entry)) (now (records .exit)) (now (warnings .exit))
+        (noded s (leAt 2 (now (main .entry)) (p + 11)) k r)) ⌝ }
 {
     let indices = d.indices;
     let range = d.range;
@@ -179,7 +181,7 @@ pub fn make_inline_node<'a>(
     requires { ⌜ length (now lists) / rangeLeast ≡ d .third ⌝ }
     ensures { λ r. ⌜ Advances (makeInlineNode (contextIn (now (main .entry)) (now (supplementary .entry)) (now (lists .entry)) (now (addresses .entry))
         (now (work .entry)) d) (entryHere (now (main .entry)) p)) (now (main .entry)) (now (supplementary .entry)) (now (name .entry)) d
-        (rangesLater (now (main .entry)) (p + 15)) (entriesLeft (now (main .entry)) (p + 15)) (now (work .entry)) (now (records .entry))
+        (rangesLater (now (main .entry)) (p + entryWhole)) (entriesLeft (now (main .entry)) (p + entryWhole)) (now (work .entry)) (now (records .entry))
         (now (warnings .entry)) s (now (work .exit)) (now (records .exit)) (now (warnings .exit)) r ⌝ }
 {
     let mut status: u8 = 0;

@@ -6,6 +6,7 @@ ghost use mathlib.Core.List.{List};
 ghost use lib.ListN.{length};
 ghost use Rattle.tlv.specs.Constants.{dwAtCallReturnPc};
 ghost use Rattle.tlv.specs.Checked.{Accepted};
+ghost use Rattle.tlv.specs.Tags.{entryWhole};
 ghost use Rattle.access.specs.Places.{entryHere};
 ghost use Rattle.references.specs.Search.{attribute};
 ghost use Rattle.references.specs.Tables.{EntryKnown};
@@ -130,7 +131,7 @@ pub fn make_call_site<'a>(
     requires { ⌜ s .status ≡ 0 ⌝ }
     ensures { λ r. ⌜ ((lists addresses : List ℕ) → Quiet
         (collectSite (contextIn (now (main .entry)) (now (supplementary .entry)) lists addresses (now (work .entry)) d) (entryHere (now (main .entry)) p))
-        (now (main .entry)) (now (supplementary .entry)) d (rangesLater (now (main .entry)) (p + 15)) (entriesLeft (now (main .entry)) (p + 15))
+        (now (main .entry)) (now (supplementary .entry)) d (rangesLater (now (main .entry)) (p + entryWhole)) (entriesLeft (now (main .entry)) (p + entryWhole))
         (now (work .entry)) s (now (work .exit)) r) ⌝ }
 {
     let mut r = s;

@@ -3,6 +3,7 @@ ghost use mathlib.Core.Path.{_≡_};
 ghost use Prim.Native.Nat.{_+_, _/_, _<_};
 ghost use lib.ListN.{length};
 ghost use Rattle.tlv.specs.Checked.{Placed};
+ghost use Rattle.tlv.specs.Tags.{entryWhole};
 ghost use Rattle.access.specs.Places.{entryHere};
 ghost use Rattle.rnglists.specs.Room.{rangeLeast};
 ghost use Rattle.references.specs.Tables.{EntryKnown};
@@ -50,7 +51,7 @@ pub fn close(
     ensures { λ r. ⌜ Shut (now (main .entry)) (now (supplementary .entry)) d depth (now (work .entry)) s (now (work .exit)) r ⌝ }
 {
     let o = s.frames;
-    let left = crate::frames::popped(o, depth);
+    let left = crate::frames::finish_inlines(o, depth);
     let c = finish_call_sites(work, d.stack, s.opened, d.sites, s.closed, depth);
     s.frames.n = left.n;
     s.frames.used = left.used;
@@ -80,7 +81,7 @@ fn collect_entry<'a>(
     requires { ⌜ length (now lists) / rangeLeast ≡ d .third ⌝ }
     ensures { λ r. ⌜ Advances (stepEntry (contextIn (now (main .entry)) (now (supplementary .entry)) (now (lists .entry)) (now (addresses .entry))
         (now (work .entry)) d) (entryHere (now (main .entry)) p)) (now (main .entry)) (now (supplementary .entry)) (now (name .entry)) d
-        (rangesLater (now (main .entry)) (p + 15)) (entriesLeft (now (main .entry)) (p + 15)) (now (work .entry)) (now (records .entry))
+        (rangesLater (now (main .entry)) (p + entryWhole)) (entriesLeft (now (main .entry)) (p + entryWhole)) (now (work .entry)) (now (records .entry))
         (now (warnings .entry)) s (now (work .exit)) (now (records .exit)) (now (warnings .exit)) r ⌝ }
 {
     let depth = tlv::bytes::read_u16(main, p + ENTRY_DEPTH);

@@ -1,4 +1,4 @@
--- The answer of an import: refusals 16 to 18, the output buffers, and demand 3. Assumes nothing.
+-- The answer of an import: refusals 16 to 18, the output buffers, and demand 3.
 use mathlib.Core.Path.{_≡_, refl, sym, subst, ap, _∙_}
 use mathlib.Core.Bool.{Bool, true, false, cond}
 use mathlib.Core.List.{List, _++_}

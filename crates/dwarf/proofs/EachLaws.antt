@@ -1,4 +1,4 @@
--- The import of units one after another: what the loop keeps. Assumes nothing.
+-- The import of units one after another: what the loop keeps.
 use mathlib.Core.Path.{_≡_, refl, sym, ap, _∙_}
 use mathlib.Core.Bool.{Bool}
 use mathlib.Core.List.{List, [], _∷_, map}
@@ -24,7 +24,7 @@ use Rattle.references.specs.Search.{Dwarf}
 use Rattle.imports.specs.Import.{State, importUnit, importUnits}
 use Rattle.dies.specs.Details.{dwarfWith}
 use Rattle.subprograms.specs.declared.model.ImportState.{ImportState}
-use Rattle.subprograms.specs.Steps.{Grows}
+use Rattle.subprograms.specs.Steps.{sheets, memory, Grows}
 use Rattle.subprograms.proofs.StepLaws.{grows-none, grows-then, grows-refused, grows-as}
 use Rattle.checks.specs.declared.layout.Layout.{Layout}
 use Rattle.checks.specs.Checks.{UnitEnough}
@@ -108,7 +108,7 @@ pub record ImportingUnits (main supplementary program lists addresses : List ℕ
   pub files-size : length f ≡ length f₀
   pub warnings-size : length u ≡ length u₀
   pub before : State → Outcome State
-  pub does : Grows before main supplementary (aboveTables l (length w₀)) w₀ t₀ f₀ u₀ st₀ w t f u st
+  pub does : Grows before (sheets main supplementary) (aboveTables l (length w₀)) (memory w₀ t₀ f₀ u₀) st₀ (memory w t f u) st
   pub left : (s : State) → importUnits (dwarfWith main supplementary lists addresses) (unitsFrom main from to) program inlines callSites s
       ≡ (before s >>= importUnits (dwarfWith main supplementary lists addresses) (unitsFrom main k to) program inlines callSites)
 
@@ -140,7 +140,7 @@ module _ {main supplementary program lists addresses : List ℕ} {l : Layout} {x
   pub record-inside : k < to → x .main .units + 24 * k + 24 ≤ length w
   record-inside h = let a = I .tables .of-main .index .units-within in let b = I .within in omega arith
 
-  pub units-end : to ≤ k → Grows whole main supplementary (aboveTables l (length w₀)) w₀ t₀ f₀ u₀ st₀ w t f u st
+  pub units-end : to ≤ k → Grows whole (sheets main supplementary) (aboveTables l (length w₀)) (memory w₀ t₀ f₀ u₀) st₀ (memory w t f u) st
   units-end h =
       let none : to - k ≡ 0 = omega arith in
       grows-as (λ s. I .left s ∙ ap (λ (n : ℕ). I .before s >>= importUnits (dwarfWith main supplementary lists addresses) (take n (drop k (units main))) program inlines callSites) none
@@ -166,14 +166,14 @@ module _ {main supplementary program lists addresses : List ℕ} {l : Layout} {x
     unit-fits = all-fit .0
 
     module _ {w′ t′ f′ u′ : List ℕ} {st′ : ImportState}
-        (A : Grows (importUnit (dwarfWith main supplementary lists addresses) (unitHere main p) program inlines callSites) main supplementary (aboveTables l (length w)) w t f u st w′ t′ f′ u′ st′) where
+        (A : Grows (importUnit (dwarfWith main supplementary lists addresses) (unitHere main p) program inlines callSites) (sheets main supplementary) (aboveTables l (length w)) (memory w t f u) st (memory w′ t′ f′ u′) st′) where
       abbrev through : State → Outcome State
       through s = I .before s >>= importUnit (dwarfWith main supplementary lists addresses) (unitHere main p) program inlines callSites
 
-      framed : Grows (importUnit (dwarfWith main supplementary lists addresses) (unitHere main p) program inlines callSites) main supplementary (aboveTables l (length w₀)) w t f u st w′ t′ f′ u′ st′
+      framed : Grows (importUnit (dwarfWith main supplementary lists addresses) (unitHere main p) program inlines callSites) (sheets main supplementary) (aboveTables l (length w₀)) (memory w t f u) st (memory w′ t′ f′ u′) st′
       framed = rw (I .size) at A
 
-      passed : Grows through main supplementary (aboveTables l (length w₀)) w₀ t₀ f₀ u₀ st₀ w′ t′ f′ u′ st′
+      passed : Grows through (sheets main supplementary) (aboveTables l (length w₀)) (memory w₀ t₀ f₀ u₀) st₀ (memory w′ t′ f′ u′) st′
       passed = grows-then (I .ready .status) (I .does) framed
 
       left-after : (s : State) → whole s ≡ (through s >>= importUnits (dwarfWith main supplementary lists addresses) (unitsFrom main (k + 1) to) program inlines callSites)
@@ -181,7 +181,7 @@ module _ {main supplementary program lists addresses : List ℕ} {l : Layout} {x
           I .left s ∙ ap (λ (us : List CompilationUnit). I .before s >>= importUnits (dwarfWith main supplementary lists addresses) us program inlines callSites) first-left
           ∙ after-one (dwarfWith main supplementary lists addresses) program inlines callSites (unitHere main p) (unitsFrom main (k + 1) to) (I .before s)
 
-      pub units-refused : (st′ .status ≡ 0 → ⊥) → Grows whole main supplementary (aboveTables l (length w₀)) w₀ t₀ f₀ u₀ st₀ w′ t′ f′ u′ st′
+      pub units-refused : (st′ .status ≡ 0 → ⊥) → Grows whole (sheets main supplementary) (aboveTables l (length w₀)) (memory w₀ t₀ f₀ u₀) st₀ (memory w′ t′ f′ u′) st′
       units-refused z = grows-as left-after (grows-refused (importUnits (dwarfWith main supplementary lists addresses) (unitsFrom main (k + 1) to) program inlines callSites) z passed)
 
       pub units-turn : st′ .status ≡ 0 → length w′ ≡ length w → length t′ ≡ length t → length f′ ≡ length f → length u′ ≡ length u

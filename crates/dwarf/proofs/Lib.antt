@@ -1,10 +1,4 @@
-pub mod IndexingLaws
 pub mod TablesLaws
-pub mod UnitContextLaws
-pub mod PartLaws
 pub mod GrowsLaws
-pub mod UnitStepLaws
 pub mod EachLaws
-pub mod RunLaws
 pub mod AnswerLaws
-pub mod MeasureLaws

@@ -1,4 +1,4 @@
--- The tables of both inputs: they lie apart, and stay while other parts of work are written. Assumes nothing.
+-- The tables of both inputs: they lie apart, and stay while other parts of work are written.
 use mathlib.Core.Path.{_≡_, sym, _∙_}
 use mathlib.Core.Logic.{inl}
 use mathlib.Core.List.{List, []}

@@ -1,4 +1,4 @@
--- What the imports and the passes promise: the answer, the lent slices after every call, and demand 3 of a finished import. Assumes nothing.
+-- Contract. What the imports and the passes promise: the answer, the lent slices after every call, and demand 3 of a finished import.
 use mathlib.Core.Path.{_≡_}
 use mathlib.Core.Bool.{Bool, true, false}
 use mathlib.Core.List.{List}

@@ -1,4 +1,4 @@
--- A unit's part of the lent line program: what its functions promise (document 02, E11). Assumes nothing.
+-- Contract. A unit's part of the lent line program: what its functions promise (document 02, E11).
 use mathlib.Core.Path.{_≡_}
 use mathlib.Core.List.{List}
 use Prim.Native.Nat.{ℕ, _-_, _≤_}

@@ -1,4 +1,4 @@
--- What an import promises up to refusal 15. Assumes nothing.
+-- Contract. What an import promises up to refusal 15.
 use mathlib.Core.Path.{_≡_}
 use mathlib.Core.Bool.{Bool, cond}
 use mathlib.Core.List.{List, []}

@@ -1,4 +1,4 @@
--- The tables of both inputs in the work slice, and the context of a unit that is made beside them. Assumes nothing.
+-- Contract. The tables of both inputs in the work slice, and the context of a unit that is made beside them.
 use mathlib.Core.Path.{_≡_}
 use mathlib.Core.Bool.{Bool}
 use mathlib.Core.List.{List, [], _∷_}

@@ -1,4 +1,4 @@
--- What the import of units one after another promises (document 02, E11). Assumes nothing.
+-- Contract. What the import of units one after another promises (document 02, E11).
 use mathlib.Core.Path.{_≡_}
 use mathlib.Core.List.{List, [], _∷_}
 use Prim.Native.Nat.{ℕ, _+_, _-_, _≤_}

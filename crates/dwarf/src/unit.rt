@@ -7,7 +7,7 @@ ghost use Rattle.access.specs.Places.{unitHere};
 ghost use Rattle.collect.specs.Collects.{UnitIn};
 ghost use Rattle.imports.specs.Import.{importUnit, importUnits};
 ghost use Rattle.dies.specs.Details.{dwarfWith};
-ghost use Rattle.subprograms.specs.Steps.{Grows};
+ghost use Rattle.subprograms.specs.Steps.{sheets, memory, Grows};
 ghost use Rattle.checks.specs.Checks.{UnitEnough};
 ghost use Rattle.checks.specs.Layout.{UnitLaid};
 ghost use Rattle.dwarf.specs.Tables.{TablesIn, LinesLaid, MakesContext};
@@ -106,9 +106,10 @@ fn import_at<'a>(
     ensures { λ r. ⌜ (
         let d = dwarfWith (now (main .entry)) (now (supplementary .entry)) (now (lists .entry)) (now (addresses .entry)) in
         let F = importUnit d (unitHere (now (main .entry)) place) (now (program .entry)) (options .inlines) (options .«call_sites») in
-        Grows F (now (main .entry)) (now (supplementary .entry)) (aboveTables l (length (now (work .entry))))
-        (now (work .entry)) (now (records .entry)) (now (files .entry)) (now (warnings .entry)) st
-        (now (work .exit)) (now (records .exit)) (now (files .exit)) (now (warnings .exit)) r) ⌝ }
+        Grows F
+        (sheets (now (main .entry)) (now (supplementary .entry))) (aboveTables l (length (now (work .entry))))
+        (memory (now (work .entry)) (now (records .entry)) (now (files .entry)) (now (warnings .entry))) st
+        (memory (now (work .exit)) (now (records .exit)) (now (files .exit)) (now (warnings .exit))) r) ⌝ }
 {
     let p = place_unit(main, place, l);
     let part = program_part(main, place, program.len());
@@ -204,9 +205,10 @@ pub fn import_each<'a>(
         let us = take (to - from) (drop from (units (now (main .entry)))) in
         let d = dwarfWith (now (main .entry)) (now (supplementary .entry)) (now (lists .entry)) (now (addresses .entry)) in
         let F = importUnits d us (now (program .entry)) (options .inlines) (options .«call_sites») in
-        Grows F (now (main .entry)) (now (supplementary .entry)) (aboveTables l (length (now (work .entry))))
-        (now (work .entry)) (now (records .entry)) (now (files .entry)) (now (warnings .entry)) st
-        (now (work .exit)) (now (records .exit)) (now (files .exit)) (now (warnings .exit)) r) ⌝ }
+        Grows F
+        (sheets (now (main .entry)) (now (supplementary .entry))) (aboveTables l (length (now (work .entry))))
+        (memory (now (work .entry)) (now (records .entry)) (now (files .entry)) (now (warnings .entry))) st
+        (memory (now (work .exit)) (now (records .exit)) (now (files .exit)) (now (warnings .exit))) r) ⌝ }
 {
     let index = x.main;
     let units = index.units;

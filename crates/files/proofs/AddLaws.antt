@@ -1,4 +1,4 @@
--- The file table with one file more, and what adding a file gives. Assumes nothing.
+-- The file table with one file more, and what adding a file gives.
 use mathlib.Core.Path.{_≡_, refl, sym, ap, subst, _∙_}
 use mathlib.Core.Bool.{Bool, true, false, cond}
 use mathlib.Core.Logic.{inl, inr, ⊎-elim}

@@ -1,4 +1,4 @@
--- What adding a file to the file table gives: a file laid to be looked up, one that is found, one that is new, and one past the last number. Assumes nothing.
+-- What adding a file to the file table gives: a file laid to be looked up, one that is found, one that is new, and one past the last number.
 use mathlib.Core.Path.{_≡_, refl, sym, ap, _∙_}
 use mathlib.Core.Logic.{inl, inr, ⊎-elim}
 use mathlib.Core.List.{List, [], _∷_, _++_, append-nil}

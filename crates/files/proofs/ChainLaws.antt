@@ -1,4 +1,4 @@
--- The chains of the file table: the last place of a bucket, and a search along a chain. Assumes nothing.
+-- The chains of the file table: the last place of a bucket, and a search along a chain.
 use mathlib.Core.Path.{_≡_, refl, sym, ap, _∙_}
 use mathlib.Core.Bool.{Bool, true, false, cond}
 use mathlib.Core.Logic.{⊎-elim}

@@ -1,4 +1,4 @@
--- Writing the spans of a unit's directories: a span, and a turn of the loop over the unit's own fields. Assumes nothing.
+-- Writing the spans of a unit's directories: a span, and a turn of the loop over the unit's own fields.
 use mathlib.Core.Path.{_≡_, refl, sym, ap, _∙_}
 use mathlib.Core.Logic.{inl}
 use mathlib.Core.List.{List, _++_, append-nil, append-assoc}

@@ -1,4 +1,4 @@
--- How many there can be of what a sheet holds: no more than it has fields of a tag, and all tags together no more than it has fields. Assumes nothing.
+-- How many there can be of what a sheet holds: no more than it has fields of a tag, and all tags together no more than it has fields.
 use mathlib.Core.Path.{_≡_, refl}
 use mathlib.Core.Bool.{cond}
 use mathlib.Core.Logic.{inl, inr}
@@ -11,13 +11,13 @@ use lib.ListN.{length, length-append, length-map}
 use borrow.Author.Tests.{eqb-true, ne-eqb}
 use Rattle.tlv.specs.Outcome.{Outcome, refused, done}
 use Rattle.tlv.specs.Lists.{Any, All, mapOption}
-use Rattle.tlv.specs.Fields.{Field, fields, wholeFields, Group, grouped, payloads, headOf, payloadOf}
+use Rattle.tlv.specs.Fields.{Field, fields, wholeFields, Group, grouped, payloads, headOf, payloadOf, countOf}
 use Rattle.tlv.specs.Checked.{Accepts}
 use Rattle.tlv.specs.Model.{CompilationUnit, LineHeader, HeaderFile, fileOf, unitOf, units}
 use Rattle.tlv.proofs.ListLaws.{all-map, all-image}
 use Rattle.tlv.proofs.PlaceFacts.{accepted-count}
 use Rattle.buffers.specs.Output.{FileEntry}
-use Rattle.access.specs.Places.{unitHere, unitPlaces}
+use Rattle.access.specs.Places.{unitHere, unitPlaces, UnitOf}
 use Rattle.access.proofs.UnitPlaceLaws.{units-places}
 use Rattle.access.proofs.IndexModel.{either}
 use Rattle.paths.specs.Paths.{fileEntry}
@@ -28,10 +28,6 @@ use Rattle.files.specs.Possible.{namedFile, namedFiles, withZero, headed
 -- how many fields of tag t a list has
 abbrev pub amount : ℕ → List Field → ℕ
 amount t fs = length (payloads t fs)
-
--- how many a sheet has
-abbrev pub countOf : ℕ → List ℕ → ℕ
-countOf t s = amount t (wholeFields (fields s))
 
 -- one where the tag u is t
 abbrev hit : ℕ → ℕ → ℕ
@@ -142,7 +138,7 @@ image-one P f a (x ∷ xs) h (inr k) = image-one P f a xs (h .1) k
 
 module _ (size : CompilationUnit → ℕ) (t : ℕ) (each : (g : Group) → size (unitOf g) ≤ amount t (g .rest)) where
   -- what is no more than a tag's fields in each unit is no more than the sheet's, in the unit at a place
-  pub unit-few : (s : List ℕ) (q : ℕ) → Any (λ p. p ≡ q) (unitPlaces 0 (fields s)) → size (unitHere s q) ≤ countOf t s
+  pub unit-few : (s : List ℕ) (q : ℕ) → UnitOf s q → size (unitHere s q) ≤ countOf t s
   unfolding units
   unit-few s q any =
       let gs : List Group = grouped 0x10 (wholeFields (fields s)) .groups in
@@ -151,7 +147,7 @@ module _ (size : CompilationUnit → ℕ) (t : ℕ) (each : (g : Group) → size
       all-image (λ u. size u ≤ countOf t s) unitOf gs (all-map gs (λ g l. omega (arith, each g)) (each-few t (countOf t s) gs few)) in
       image-one (λ u. size u ≤ countOf t s) (unitHere s) q (unitPlaces 0 (fields s)) (rw (units-places s) at all) any
 
-module _ (s : List ℕ) (q : ℕ) (any : Any (λ p. p ≡ q) (unitPlaces 0 (fields s))) where
+module _ (s : List ℕ) (q : ℕ) (any : UnitOf s q) where
   pub directories-few : length (unitHere s q .directories) ≤ countOf 0x14 s
   unfolding unitOf
   directories-few = unit-few (λ u. length (u .directories)) 0x14 (λ g. simp length-map (own-few 0x14 g)) s q any

@@ -1,4 +1,4 @@
--- The file table and a unit's directories in a list of bytes: they stay where other bytes are written, and a table grows by steps. Assumes nothing.
+-- The file table and a unit's directories in a list of bytes: they stay where other bytes are written, and a table grows by steps.
 use Prim.Native.Nat.{ℕ, _+_, _*_, _<_}
 use native.Mathlib.Omega.{arith}
 use mathlib.Core.Path.{_≡_, refl, sym, _∙_}

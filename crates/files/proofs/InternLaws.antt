@@ -1,4 +1,4 @@
--- A file of a unit's header joins the table: its pieces, the table with it, and its number in the unit's map. Assumes nothing.
+-- A file of a unit's header joins the table: its pieces, the table with it, and its number in the unit's map.
 use Prim.Native.Nat.{ℕ, _+_, _≤_, _<_}
 use native.Mathlib.Omega.{arith}
 use mathlib.Core.Path.{_≡_, refl, sym}

@@ -1,4 +1,4 @@
--- The files of a unit's header join the table in order: the turns of the loop over them, and the unit's map in the end. Assumes nothing.
+-- The files of a unit's header join the table in order: the turns of the loop over them, and the unit's map in the end.
 use Prim.Native.Nat.{ℕ, _+_, _*_, _≤_, _<_, _^_}
 use native.Mathlib.Omega.{arith}
 use mathlib.Core.Path.{_≡_, refl, sym, ap, subst, _∙_}

@@ -1,4 +1,4 @@
--- Paths compared with the pieces that they may be joined from. Assumes nothing.
+-- Paths compared with the pieces that they may be joined from.
 use mathlib.Core.Path.{_≡_, refl, sym, ap, _∙_}
 use mathlib.Core.Bool.{Bool, true, false, cond, _&&_, _||_, not, or-true}
 use mathlib.Core.List.{List, [], _∷_, _++_, append-assoc, append-nil}

@@ -1,4 +1,4 @@
--- The file table stays where other bytes are written, and is empty where its heads are 0. Assumes nothing.
+-- The file table stays where other bytes are written, and is empty where its heads are 0.
 use mathlib.Core.Path.{_≡_, refl, _∙_}
 use mathlib.Core.Logic.{inl, inr, ⊎-elim}
 use mathlib.Core.List.{List, [], _∷_}

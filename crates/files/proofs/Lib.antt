@@ -1,10 +1,7 @@
-pub mod HashLaws
 pub mod JoinedLaws
 pub mod DirectoryLaws
-pub mod LayLaws
 pub mod UnitLaws
 pub mod PieceLaws
-pub mod IndexLaws
 pub mod PigeonLaws
 pub mod RoomLaws
 pub mod KeptLaws
@@ -13,12 +10,10 @@ pub mod ListedLaws
 pub mod UnnamedLaws
 pub mod InternLaws
 pub mod InterningLaws
-pub mod HeaderLaws
 pub mod StoreLaws
 pub mod SameLaws
 pub mod ReachedLaws
 pub mod ChainLaws
 pub mod AddLaws
 pub mod AddedLaws
-pub mod LookupLaws
 pub mod FewLaws

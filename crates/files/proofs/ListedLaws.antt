@@ -1,4 +1,4 @@
--- The files of a unit of a sheet are ones that an import can meet. Assumes nothing.
+-- The files of a unit of a sheet are ones that an import can meet.
 use Prim.Native.Nat.{ℕ, zero, suc}
 use native.Mathlib.Omega.{arith}
 use mathlib.Core.Path.{_≡_, refl, sym, subst}

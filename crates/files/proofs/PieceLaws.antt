@@ -1,4 +1,4 @@
--- The pieces of a file: the parts of its path, its directory by its number, and the file that they make. Assumes nothing.
+-- The pieces of a file: the parts of its path, its directory by its number, and the file that they make.
 use mathlib.Core.Path.{_≡_, refl, sym, ap, _∙_}
 use mathlib.Core.Bool.{Bool, true, false, cond}
 use mathlib.Core.List.{List, [], _∷_}

@@ -1,4 +1,4 @@
--- Things that are all different and all stand in a list are no more than the list has. Assumes nothing.
+-- Things that are all different and all stand in a list are no more than the list has.
 use mathlib.Core.Path.{_≡_, sym, _∙_}
 use mathlib.Core.Logic.{inl, inr}
 use mathlib.Core.List.{List, _∷_}

@@ -1,4 +1,4 @@
--- The numbers of a unit's files by the table alone: they are those of the unit's map once its files were interned, and stay when the table grows at its end. Assumes nothing.
+-- The numbers of a unit's files by the table alone: they are those of the unit's map once its files were interned, and stay when the table grows at its end.
 use Prim.Native.Nat.{ℕ, _+_, _^_}
 use mathlib.Core.Path.{_≡_, refl, sym, ap, _∙_}
 use mathlib.Core.Bool.{cond}

@@ -1,4 +1,4 @@
--- The file table has room for each file that an import can meet: its files are different ones of those. Assumes nothing.
+-- The file table has room for each file that an import can meet: its files are different ones of those.
 use mathlib.Core.Path.{_≡_, sym, ap, _∙_}
 use mathlib.Core.List.{List}
 use mathlib.Core.Option.{Option, none, some}

@@ -1,4 +1,4 @@
--- Files that test the same are the same: by their names and directories, by their records, by their hashes, and by their places. Assumes nothing.
+-- Files that test the same are the same: by their names and directories, by their records, by their hashes, and by their places.
 use mathlib.Core.Path.{_≡_, refl, sym, ap, _∙_}
 use mathlib.Core.Bool.{Bool, true, false, cond, _&&_}
 use mathlib.Core.List.{List, [], _∷_, _++_}

@@ -1,4 +1,4 @@
--- The records of the file table: what is read at a place is the record there, and what is written one after the other is one. Assumes nothing.
+-- The records of the file table: what is read at a place is the record there, and what is written one after the other is one.
 use mathlib.Core.Path.{_≡_, refl, sym, ap, _∙_}
 use mathlib.Core.Logic.{inl, inr}
 use mathlib.Core.List.{List}

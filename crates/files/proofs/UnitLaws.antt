@@ -1,4 +1,4 @@
--- What of a unit tells the paths of its files: its compilation directory, its header's version, its directories. Assumes nothing.
+-- What of a unit tells the paths of its files: its compilation directory, its header's version, its directories.
 use mathlib.Core.Path.{_≡_, refl, sym, ap, _∙_}
 use mathlib.Core.List.{List, map}
 use mathlib.Core.Option.{Option, none, some}

@@ -1,4 +1,4 @@
--- Where a unit's map has no number for one that the header lists, the file has no path, but for file 0 before version 5. Assumes nothing.
+-- Where a unit's map has no number for one that the header lists, the file has no path, but for file 0 before version 5.
 use Prim.Native.Nat.{ℕ, zero, suc, _-_}
 use native.Mathlib.Omega.{arith}
 use mathlib.Core.Path.{_≡_, refl, ap, _∙_}

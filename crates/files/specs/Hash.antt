@@ -1,4 +1,4 @@
--- The hash of a file by which the table looks it up. It decides no answer: files that are the same have the same hash. Assumes nothing.
+-- Contract. The hash of a file by which the table looks it up. It decides no answer: files that are the same have the same hash.
 use Prim.Native.Nat.{ℕ, _+_, _*_, _%_}
 use mathlib.Core.List.{List, [], _∷_}
 use Rattle.buffers.specs.Output.{FileEntry}

@@ -1,4 +1,4 @@
--- A unit's map from DWARF's file numbers to the table's, in a list of bytes (the Rust's FileIndices). Assumes nothing.
+-- Contract. A unit's map from DWARF's file numbers to the table's, in a list of bytes (the Rust's FileIndices).
 use Prim.Native.Nat.{ℕ, _*_}
 use mathlib.Core.Path.{_≡_}
 use mathlib.Core.Bool.{cond}

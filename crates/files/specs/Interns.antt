@@ -1,4 +1,4 @@
--- What the functions that intern a unit's files promise. Assumes nothing.
+-- Contract. What the functions that intern a unit's files promise.
 use Prim.Native.Nat.{ℕ, _+_, _*_, _≤_}
 use mathlib.Core.Path.{_≡_}
 use mathlib.Core.List.{List, [], _∷_, _++_}

@@ -1,4 +1,4 @@
--- What the test of a joined path says of one of its components. Assumes nothing.
+-- Contract. What the test of a joined path says of one of its components.
 use Prim.Native.Nat.{ℕ, _+_}
 use mathlib.Core.Bool.{Bool}
 use mathlib.Core.List.{List, _++_}

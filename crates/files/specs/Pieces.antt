@@ -1,11 +1,11 @@
--- A file by the pieces of a sheet that its path is joined from. Assumes nothing.
+-- Contract. A file by the pieces of a sheet that its path is joined from.
 use Prim.Native.Nat.{ℕ, _+_, _*_, _≤_, _<_}
 use mathlib.Core.Path.{_≡_}
 use mathlib.Core.Bool.{cond}
 use mathlib.Core.List.{List, [], _++_, map}
 use mathlib.Core.Option.{Option, none, some}
 use lib.ListN.{length, drop, replicate}
-use Rattle.tlv.specs.Tags.{compilationTag, directoryTag, headerTag, unitTag}
+use Rattle.tlv.specs.Tags.{compilationTag, directoryTag, headerTag, unitTag, unitWhole, fieldHead}
 use Rattle.tlv.specs.Outcome.{Outcome, refused, done, _>>=_}
 use Rattle.tlv.specs.Bytes.{leAt}
 use Rattle.tlv.specs.Limits.{stringLimit}
@@ -111,7 +111,7 @@ versionIn s p = orHeader (mapOption headerOf (payloadOf headerTag (ownFields (fi
 -- a unit's field stands at p in an accepted sheet
 pub record UnitPlaced (s : List ℕ) (p : ℕ) : Type 0 where
   pub placed : Placed s p
-  pub is : stepAt s p ≡ Step.Field unitTag (p + 3) 18 (p + 21)
+  pub is : stepAt s p ≡ Step.Field unitTag (p + fieldHead) 18 (p + unitWhole)
 
 -- a unit's place, its header's version, its compilation directory, and its directories' spans in a table of the work slice
 pub record FileUnitIn (s w : List ℕ) (u : FileUnit) : Type 0 where

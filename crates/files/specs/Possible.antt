@@ -1,4 +1,4 @@
--- The files that an import can meet: those of the units of both sheets. Assumes nothing.
+-- Contract. The files that an import can meet: those of the units of both sheets.
 use Prim.Native.Nat.{ℕ}
 use mathlib.Core.Path.{_≡_}
 use mathlib.Core.List.{List, [], _∷_, _++_}

@@ -1,5 +1,4 @@
--- The numbers of a unit's files by the table alone, once all of them are in it: for units that are reached by reference, whose maps are not kept. Assumes
--- nothing.
+-- Contract. The numbers of a unit's files by the table alone, once all of them are in it: for units that are reached by reference, whose maps are not kept.
 use Prim.Native.Nat.{ℕ, _+_}
 use mathlib.Core.Path.{_≡_}
 use mathlib.Core.Bool.{cond}

@@ -1,4 +1,4 @@
--- The file table in a list of bytes (document 01: the work slice): its records, and the chains of a hash table. Assumes nothing.
+-- Contract. The file table in a list of bytes (document 01: the work slice): its records, and the chains of a hash table.
 use Prim.Native.Nat.{ℕ, zero, suc, _+_, _*_, _%_, _≤_, _<_, _^_}
 use mathlib.Core.Path.{_≡_}
 use mathlib.Core.Bool.{cond}

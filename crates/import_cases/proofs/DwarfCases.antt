@@ -1,4 +1,4 @@
--- E11's cases, by computing. Assumes nothing.
+-- E11's cases, by computing.
 use mathlib.Core.Path.{refl}
 use Rattle.tlv.specs.Outcome
 use Rattle.tlv.specs.Lists

@@ -1,4 +1,4 @@
--- E11 by cases: imports of two units of document 01's shape, in the same file, with a program of two sequences of three bytes. Assumes nothing.
+-- Theorem. E11 by cases: imports of two units of document 01's shape, in the same file, with a program of two sequences of three bytes.
 use Prim.Native.Nat.{ℕ, _+_, _-_, _^_}
 use mathlib.Core.Path.{_≡_}
 use mathlib.Core.Bool.{true}

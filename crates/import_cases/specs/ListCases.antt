@@ -1,4 +1,4 @@
--- E9 by cases: imports of a unit with a range list, of the subprogram "d" or of an inlined entry below it. Assumes nothing.
+-- Theorem. E9 by cases: imports of a unit with a range list, of the subprogram "d" or of an inlined entry below it.
 use Prim.Native.Nat.{ℕ, _+_, _*_, _-_, _^_}
 use mathlib.Core.Path.{_≡_}
 use mathlib.Core.Bool.{true}

@@ -1,4 +1,4 @@
--- Lists that answer each other, and what a run of steps adds to a list, each step for the next of the things that it answers for. Assumes nothing.
+-- Lists that answer each other, and what a run of steps adds to a list, each step for the next of the things that it answers for.
 use mathlib.Core.Path.{_≡_}
 use mathlib.Core.List.{List, [], _∷_, _++_, append-nil, append-assoc}
 use Rattle.imports.specs.Demand.{Pointwise}

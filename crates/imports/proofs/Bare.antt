@@ -1,4 +1,4 @@
--- A package without debug data: what the import and the pass answer (`AllBare`). Assumes nothing.
+-- A package without debug data: what the import and the pass answer (`AllBare`).
 use mathlib.Core.Path.{_≡_, refl, sym, ap, _∙_}
 use mathlib.Core.Bool.{Bool, true, cond, _&&_}
 use mathlib.Core.List.{[]}

@@ -1,4 +1,4 @@
--- The kept ancestors of an entry, computed from the entries before it; they are the nearest kept ancestors that `specs/Agree.antt` speaks of. Assumes nothing.
+-- The kept ancestors of an entry, computed from the entries before it; they are the nearest kept ancestors that `specs/Agree.antt` speaks of.
 use mathlib.Core.Path.{_≡_, refl, sym, _∙_}
 use mathlib.Core.Logic.{_≢_}
 use mathlib.Core.Option.{Option, none, some}

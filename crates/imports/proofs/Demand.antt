@@ -1,4 +1,4 @@
--- Demand 3 whole: what an import leaves in the records tray agrees with the unit's entries. Assumes nothing.
+-- Demand 3 whole: what an import leaves in the records tray agrees with the unit's entries.
 use mathlib.Core.Path.{_≡_, refl, sym, ap, _∙_}
 use mathlib.Core.Bool.{Bool, true, false, cond, false≢true}
 use mathlib.Core.List.{List, [], _∷_, _++_, append-nil, append-assoc}

@@ -1,4 +1,4 @@
--- Worked examples of the walk below a subprogram and of records, computed: what the demand rules out shows here as another value. Assumes nothing.
+-- Worked examples of the walk below a subprogram and of records, computed: what the demand rules out shows here as another value.
 use mathlib.Core.Path.{_≡_, refl}
 use mathlib.Core.Bool.{true, false}
 use mathlib.Core.List.{List, [], _∷_, map}

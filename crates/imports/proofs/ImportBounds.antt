@@ -1,4 +1,4 @@
--- Whatever an import is done with fits the trays' fields (`Producing`). Assumes nothing.
+-- Whatever an import is done with fits the trays' fields (`Producing`).
 use mathlib.Core.Path.{_≡_, refl}
 use mathlib.Core.Bool.{Bool, true, false, _&&_, _||_, not}
 use mathlib.Core.List.{List, [], _∷_, _++_}

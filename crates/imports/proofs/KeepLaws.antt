@@ -1,4 +1,4 @@
--- What an entry keeps: `keep` obeys document 01's rule. Assumes nothing.
+-- What an entry keeps: `keep` obeys document 01's rule.
 use mathlib.Core.Path.{_≡_, refl, subst}
 use mathlib.Core.Logic.{_⊎_, inl, inr, _↔_, _≢_}
 use mathlib.Core.List.{List, [], _∷_, cons≢nil}

@@ -1,4 +1,4 @@
--- Demand 3 for a list of entries that stand below a subprogram, seen by themselves: a step to the demand over a unit. Assumes nothing.
+-- Demand 3 for a list of entries that stand below a subprogram, seen by themselves: a step to the demand over a unit.
 use mathlib.Core.Path.{_≡_}
 use mathlib.Core.Logic.{_↔_, _≢_}
 use mathlib.Core.Option.{Option, none, some}

@@ -1,4 +1,4 @@
--- Demand 3: a finished tree agrees with the entries. Assumes nothing.
+-- Demand 3: a finished tree agrees with the entries.
 use mathlib.Core.Path.{_≡_, refl, sym, ap, subst, _∙_}
 use mathlib.Core.Logic.{_⊎_, inl, inr, _≢_}
 use mathlib.Core.Option.{Option, none, some}

@@ -1,4 +1,4 @@
--- The machine step by step, as a loop goes: what is done, and what the rest gives. Assumes nothing.
+-- The machine step by step, as a loop goes: what is done, and what the rest gives.
 use mathlib.Core.Path.{_≡_}
 use mathlib.Core.List.{List, [], _∷_}
 use Prim.Native.Nat.{suc, _≤_, _<_}

@@ -1,4 +1,4 @@
--- The stack machine gives the nodes of the kept entries. Assumes nothing.
+-- The stack machine gives the nodes of the kept entries.
 use mathlib.Core.Path.{_≡_, refl, sym, ap, ap₂, subst, _∙_}
 use mathlib.Core.Logic.{_⊎_, inl, inr}
 use mathlib.Core.List.{List, [], _∷_, map, cons≢nil}

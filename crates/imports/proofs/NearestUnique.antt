@@ -1,5 +1,5 @@
 -- The nearest kept ancestor of an entry is one, also by two judgements that are the same below the subprogram.
--- Assumes nothing.
+--
 use mathlib.Core.Path.{_≡_, refl, sym, ap, subst, _∙_}
 use mathlib.Core.Option.{Option, some}
 use mathlib.Core.List.{List}

@@ -1,4 +1,4 @@
--- What the walk below a subprogram is bounded by: ranges inside the function's, and nodes in preorder, each at most one deeper than the one before. Assumes nothing.
+-- What the walk below a subprogram is bounded by: ranges inside the function's, and nodes in preorder, each at most one deeper than the one before.
 use mathlib.Core.Path.{_≡_, refl}
 use mathlib.Core.Logic.{inl}
 use mathlib.Core.List.{List, [], _∷_, _++_, cons≢nil}

@@ -1,4 +1,4 @@
--- The numbers of the kept entries, ascending. Assumes nothing.
+-- The numbers of the kept entries, ascending.
 use mathlib.Core.Path.{_≡_, refl, sym, _∙_}
 use mathlib.Core.Logic.{_⊎_, inl, inr, _≢_}
 use mathlib.Core.List.{List, [], _∷_, cons≢nil}

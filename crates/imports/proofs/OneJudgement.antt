@@ -1,4 +1,4 @@
--- Over a unit too the rule leaves no choice. Assumes nothing.
+-- Over a unit too the rule leaves no choice.
 use mathlib.Core.Path.{_≡_, refl, ap, subst, _∙_}
 use mathlib.Core.Option.{Option, none, some, Option·none-ne-some}
 use mathlib.Core.List.{List}

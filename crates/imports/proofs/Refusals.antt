@@ -1,5 +1,5 @@
 -- Every refusal of an import has one of document 01's numbers, 1 to 18, or of document 02's, 21 and 22 (E8) and 23 to 25 (E9), and by its stage: 2 and 3 the
--- grammar, 6 to 15 and 21 to 25 a unit, 16 to 18 the trays. Assumes nothing.
+-- grammar, 6 to 15 and 21 to 25 a unit, 16 to 18 the trays.
 use mathlib.Core.Path.{_≡_, refl}
 use Prim.Native.Nat.{ℕ, _+_, _≤_}
 use native.Mathlib.Omega.{arith}

@@ -1,4 +1,4 @@
--- The entries below a subprogram are those after it that are deeper, up to the first that is not; and parents there are parents in the unit. Assumes nothing.
+-- The entries below a subprogram are those after it that are deeper, up to the first that is not; and parents there are parents in the unit.
 use mathlib.Core.Path.{_≡_, refl, sym, ap, subst, _∙_}
 use mathlib.Core.Logic.{_⊎_, inl, inr, _≢_}
 use mathlib.Core.List.{List, []}

@@ -1,5 +1,5 @@
 -- The inline tree as a stack machine over tree entries: what the walk over a subprogram's entries does, without searches, warnings and call sites.
--- A device of proofs: demand 3 is shown of it, and of the walk through it. Assumes nothing.
+-- A device of proofs: demand 3 is shown of it, and of the walk through it.
 use mathlib.Core.List.{List, [], _∷_}
 use mathlib.Core.Bool.{Bool, true, false, _&&_, cond, not}
 use Prim.Native.Nat.{suc}

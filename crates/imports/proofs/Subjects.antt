@@ -1,4 +1,4 @@
--- What the import of a unit adds to the records: one for each subject of the unit, in order, and what is written into it. Assumes nothing.
+-- What the import of a unit adds to the records: one for each subject of the unit, in order, and what is written into it.
 use mathlib.Core.Path.{_≡_, refl, sym, ap, _∙_}
 use mathlib.Core.Logic.{inl, inr}
 use mathlib.Core.Bool.{Bool, true, false, cond, _&&_, _||_, not, false≢true, and-false}

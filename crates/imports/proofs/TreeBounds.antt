@@ -1,4 +1,4 @@
--- What the walk below a subprogram finds fits its fields: the nodes, the call sites and the warnings. Assumes nothing.
+-- What the walk below a subprogram finds fits its fields: the nodes, the call sites and the warnings.
 use mathlib.Core.Path.{_≡_, refl}
 use mathlib.Core.Logic.{inr, _≢_}
 use mathlib.Core.Bool.{_&&_, _||_}

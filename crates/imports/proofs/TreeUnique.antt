@@ -1,5 +1,5 @@
 -- Demand 3 leaves no choice: two lists of nodes that agree with the entries below a subprogram, for one range, are the same list.
--- Assumes nothing.
+--
 use mathlib.Core.Path.{_≡_, refl, sym, ap, subst, _∙_}
 use mathlib.Core.Logic.{_⊎_, inl, inr}
 use mathlib.Core.Option.{Option}

@@ -1,4 +1,4 @@
--- An entry has one parent, and the rule of document 01 leaves one choice of its merged ranges. Assumes nothing.
+-- An entry has one parent, and the rule of document 01 leaves one choice of its merged ranges.
 use mathlib.Core.Path.{_≡_, refl, sym}
 use mathlib.Core.Logic.{_⊎_, inl, inr}
 use mathlib.Core.List.{List, [], _∷_, cons≢nil}

@@ -1,4 +1,4 @@
--- Demand 3 over a whole unit, from demand 3 over the entries below the subprogram. Assumes nothing.
+-- Demand 3 over a whole unit, from demand 3 over the entries below the subprogram.
 use mathlib.Core.Path.{_≡_, refl, sym, ap, subst, _∙_}
 use mathlib.Core.Logic.{_⊎_, inl, inr}
 use mathlib.Core.Option.{Option, none, some}

@@ -1,4 +1,4 @@
--- The walk below a subprogram finishes exactly where nothing is wrong with the entries there and no node would stand too deep. Assumes nothing.
+-- The walk below a subprogram finishes exactly where nothing is wrong with the entries there and no node would stand too deep.
 use mathlib.Core.Path.{_≡_, refl, sym, ap, subst, _∙_}
 use mathlib.Core.Bool.{true}
 use mathlib.Core.List.{List, [], map}

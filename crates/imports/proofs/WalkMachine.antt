@@ -1,4 +1,4 @@
--- The walk over the entries below a subprogram does what the stack machine does over their tree entries, up to the first fault; so its nodes obey demand 3. Assumes nothing.
+-- The walk over the entries below a subprogram does what the stack machine does over their tree entries, up to the first fault; so its nodes obey demand 3.
 use mathlib.Core.Path.{_≡_, refl, sym, ap, subst, _∙_}
 use mathlib.Core.Logic.{_⊎_, inl, inr}
 use mathlib.Core.Bool.{Bool, true, false, cond, _&&_, _||_, false≢true}

@@ -1,4 +1,4 @@
--- The entries that a walk meets are those below the subprogram: as entries of the unit by number, and as tree entries. Assumes nothing.
+-- The entries that a walk meets are those below the subprogram: as entries of the unit by number, and as tree entries.
 use mathlib.Core.Path.{_≡_, sym, ap, subst, _∙_}
 use mathlib.Core.List.{List, [], _∷_, map}
 use mathlib.Core.Option.{none}

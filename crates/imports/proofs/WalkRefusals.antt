@@ -1,4 +1,4 @@
--- A refusal of the walk below a subprogram is for an entry there, and for one of the four reasons. Assumes nothing.
+-- A refusal of the walk below a subprogram is for an entry there, and for one of the four reasons.
 use mathlib.Core.Path.{_≡_, sym, subst}
 use mathlib.Core.Logic.{_⊎_, inl, inr}
 use mathlib.Core.Bool.{true}

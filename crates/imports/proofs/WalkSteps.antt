@@ -1,4 +1,4 @@
--- What the walk does at one entry: it does what the stack machine does, or there is a fault at the entry. Assumes nothing.
+-- What the walk does at one entry: it does what the stack machine does, or there is a fault at the entry.
 use mathlib.Core.Path.{_≡_, refl, sym, subst, _∙_}
 use mathlib.Core.Logic.{_≢_}
 use mathlib.Core.Bool.{Bool, true, false, cond, _&&_, false≢true, and-false}

@@ -1,5 +1,6 @@
--- Demand 3: records and entries agree (document 01, "Rules that bite"). Written from that document's words; nothing here speaks of how an import works.
--- Assumes nothing.
+-- Theorem. Demand 3: records and entries agree (document 01, "Rules that bite"). Written from that document's words; nothing here speaks of how an import
+-- works.
+--
 use Prim.Native.Nat.{ℕ, suc, _≤_, _<_}
 use mathlib.Core.Path.{_≡_}
 use mathlib.Core.Logic.{_↔_, _≢_}

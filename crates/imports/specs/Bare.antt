@@ -1,4 +1,4 @@
--- A package without debug data (document 02, E4), in the request's own words. Assumes nothing.
+-- Theorem. A package without debug data (document 02, E4), in the request's own words.
 use Prim.Native.Nat.{ℕ, _≤_, _<_}
 use mathlib.Core.Path.{_≡_}
 use mathlib.Core.Logic.{_≢_}

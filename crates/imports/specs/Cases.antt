@@ -1,4 +1,4 @@
--- Document 01's proved cases (●, "Operands, paths and a printed import") as one table. Assumes nothing.
+-- Theorem. Document 01's proved cases (●, "Operands, paths and a printed import") as one table.
 use mathlib.Core.Path.{_≡_}
 use mathlib.Core.List.{List, [], _∷_, _++_}
 use Prim.Native.Nat.{ℕ, _^_}

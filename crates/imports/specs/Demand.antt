@@ -1,4 +1,4 @@
--- Demand 3 whole, and that trays can be read back: what holds of every import that is done, for every input. Assumes nothing.
+-- Theorem. Demand 3 whole, and that trays can be read back: what holds of every import that is done, for every input.
 use Prim.Native.Nat.{ℕ, suc, _-_, _^_, _≤_, _<_}
 use mathlib.Core.Path.{_≡_}
 use mathlib.Core.Logic.{_↔_, _⊎_, _≢_}

@@ -1,4 +1,4 @@
--- The import of one unit, and of units one after another (the Rust's import_unit, import_unit_details, import_dwarf). Assumes nothing.
+-- Definition. The import of one unit, and of units one after another (the Rust's import_unit, import_unit_details, import_dwarf).
 use Prim.Native.Nat.{ℕ, _+_, _*_, _-_, _^_, min}
 use mathlib.Core.Bool.{Bool, true, false, cond, _&&_, _||_, not}
 use mathlib.Core.List.{List, [], _∷_, _++_}

@@ -1,4 +1,4 @@
--- All units of a main sheet in one import (document 02, E11), in the request's own words; demand 3 of it is in Demand. Assumes nothing.
+-- Theorem. All units of a main sheet in one import (document 02, E11), in the request's own words; demand 3 of it is in Demand.
 use Prim.Native.Nat.{ℕ, _+_, _-_, _^_, _≤_}
 use mathlib.Core.Path.{_≡_}
 use mathlib.Core.Bool.{Bool}

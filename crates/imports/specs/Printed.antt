@@ -1,4 +1,4 @@
--- Document 01's printed import (dim and fade), all bytes and statistics. Assumes nothing.
+-- Theorem. Document 01's printed import (dim and fade), all bytes and statistics.
 use mathlib.Core.Path.{_≡_}
 use mathlib.Core.Bool.{true}
 use mathlib.Core.List.{List, [], _∷_, _++_}

@@ -1,4 +1,4 @@
--- Inline trees and call sites of one function (the Rust's convert/dwarf/dies.rs; document 01, "Each record is judged by itself ..").  Assumes nothing.
+-- Definition. Inline trees and call sites of one function (the Rust's convert/dwarf/dies.rs; document 01, "Each record is judged by itself ..").
 use Prim.Native.Nat.{ℕ, suc, _-_, _^_}
 use mathlib.Core.Bool.{Bool, false, cond, _&&_, _||_}
 use mathlib.Core.List.{List, [], _∷_, _++_, map}

@@ -1,4 +1,4 @@
--- A sheet's fields bound what its file table and a unit's lines take, and a function's rows leave the unit's in place. Assumes nothing.
+-- A sheet's fields bound what its file table and a unit's lines take, and a function's rows leave the unit's in place.
 use mathlib.Core.Path.{_≡_, refl, sym, ap, subst, _∙_}
 use mathlib.Core.Logic.{inl, inr}
 use mathlib.Core.Bool.{Bool, true}
@@ -9,7 +9,7 @@ use native.Mathlib.Omega.{arith}
 use lib.ListN.{length}
 use Rattle.tlv.specs.declared.model.AddressRange.{AddressRange}
 use Rattle.tlv.specs.Lists.{Any, at}
-use Rattle.tlv.specs.Fields.{fields, fieldsFrom, wholeFields, payloads}
+use Rattle.tlv.specs.Fields.{fields, fieldsFrom, wholeFields, payloads, countOf}
 use Rattle.tlv.specs.Checked.{Accepts}
 use Rattle.tlv.specs.Limits.{joinedLimit}
 use Rattle.access.specs.declared.access.Place.{Place}
@@ -19,7 +19,7 @@ use Rattle.files.specs.declared.store.StoredFiles.{StoredFiles}
 use Rattle.files.specs.declared.index.StoredIndices.{StoredIndices}
 use Rattle.files.specs.Store.{FilesIn, Empty}
 use Rattle.files.specs.Possible.{possibleFiles}
-use Rattle.files.proofs.FewLaws.{countOf, tags-few, possible-few, directories-few, files-few-in, rows-few}
+use Rattle.files.proofs.FewLaws.{tags-few, possible-few, directories-few, files-few-in, rows-few}
 use Rattle.rows.specs.declared.line.StatementSequence.{StatementSequence}
 use Rattle.rows.specs.declared.«unit_lines».StoredLines.{StoredLines}
 use Rattle.rows.specs.declared.«unit_lines».FunctionRows.{FunctionRows}

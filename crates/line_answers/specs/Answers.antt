@@ -1,4 +1,4 @@
--- What the program's functions tell each other of a unit's lines: that there is room for them, and that they stand in the work slice. Assumes nothing.
+-- Contract. What the program's functions tell each other of a unit's lines: that there is room for them, and that they stand in the work slice.
 use Prim.Native.Nat.{ℕ, _+_, _*_, _≤_, _<_, _^_}
 use mathlib.Core.Bool.{Bool, true, false}
 use mathlib.Core.List.{List}

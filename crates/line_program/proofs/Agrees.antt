@@ -1,4 +1,4 @@
--- Answers that are the Standard's within limits go through `_>>=_`, a test and a map. Assumes nothing.
+-- Answers that are the Standard's within limits go through `_>>=_`, a test and a map.
 use mathlib.Core.Path.{_≡_, refl, sym, ap}
 use mathlib.Core.Bool.{Bool, true, false, cond}
 use mathlib.Core.Option.{Option, none, some, Option·none-ne-some}

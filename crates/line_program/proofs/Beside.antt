@@ -1,4 +1,4 @@
--- Answers beside the Standard's go through `_>>=_`, a test and a map. Assumes nothing.
+-- Answers beside the Standard's go through `_>>=_`, a test and a map.
 use mathlib.Core.Path.{_≡_, refl, ap}
 use mathlib.Core.Bool.{Bool, true, false, cond}
 use mathlib.Core.Logic.{inl, inr}

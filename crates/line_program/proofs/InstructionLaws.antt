@@ -1,4 +1,4 @@
--- Passing over instructions: one law for each way through a function. Assumes nothing.
+-- Passing over instructions: one law for each way through a function.
 use mathlib.Core.Path.{_≡_, refl, sym, ap, _∙_}
 use mathlib.Core.Bool.{Bool, true, false, cond}
 use mathlib.Core.Logic.{_⊎_, ⊎-elim}

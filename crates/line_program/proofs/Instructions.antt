@@ -1,4 +1,4 @@
--- Passing over operands and over one instruction, beside the Standard's. Assumes nothing.
+-- Passing over operands and over one instruction, beside the Standard's.
 use mathlib.Core.Path.{_≡_, refl, ap}
 use mathlib.Core.Bool.{Bool, true, false, cond}
 use mathlib.Core.List.{List, [], _∷_}

@@ -1,4 +1,4 @@
--- The Standard's LEB128: what the first byte tells of a number, and what bytes that go on tell of its value and of how many bytes it takes. Assumes nothing.
+-- The Standard's LEB128: what the first byte tells of a number, and what bytes that go on tell of its value and of how many bytes it takes.
 use mathlib.Core.Path.{_≡_, refl, sym, ap, _∙_}
 use mathlib.Core.Bool.{Bool, true, false}
 use mathlib.Core.List.{List, [], _∷_}

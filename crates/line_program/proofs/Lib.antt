@@ -10,5 +10,3 @@ pub mod SignedCases
 pub mod UlebLaws
 pub mod SkipLaws
 pub mod InstructionLaws
-pub mod ScanLaws
-pub mod OffsetLaws

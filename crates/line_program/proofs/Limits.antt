@@ -1,4 +1,4 @@
--- Where passing over operands, an instruction and a whole program is the Standard's: exactly within the limits. Assumes nothing.
+-- Where passing over operands, an instruction and a whole program is the Standard's: exactly within the limits.
 use mathlib.Core.Path.{_≡_, refl, ap, _∙_}
 use mathlib.Core.Bool.{Bool, true, false, cond}
 use mathlib.Core.List.{List, [], _∷_}

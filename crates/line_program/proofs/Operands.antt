@@ -1,4 +1,4 @@
--- Reading an operand is the Standard's LEB128 within ten bytes and 64 bits, and each refusal says why not. Assumes nothing.
+-- Reading an operand is the Standard's LEB128 within ten bytes and 64 bits, and each refusal says why not.
 use mathlib.Core.Path.{_≡_, refl, ap, _∙_, sym}
 use mathlib.Core.Bool.{Bool, true, false, cond}
 use mathlib.Core.Logic.{_⊎_, inl, inr}

@@ -1,4 +1,4 @@
--- Skipping an instruction, and scanning a program, beside the Standard's and within the limits. Assumes nothing.
+-- Skipping an instruction, and scanning a program, beside the Standard's and within the limits.
 use mathlib.Core.Path.{refl}
 use mathlib.Core.Bool.{Bool, true, false, cond}
 use mathlib.Core.List.{List, [], _∷_}

@@ -1,4 +1,4 @@
--- E2's cases, by computing. Assumes nothing.
+-- E2's cases, by computing.
 use mathlib.Core.Path.{refl}
 use Rattle.tlv.specs.Outcome.{_>>=_}
 use Rattle.line_program.specs.Standard

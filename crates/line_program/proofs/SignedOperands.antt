@@ -1,4 +1,4 @@
--- Reading a signed operand is the Standard's signed LEB128 within ten bytes and 64 bits, and each refusal says why not. Assumes nothing.
+-- Reading a signed operand is the Standard's signed LEB128 within ten bytes and 64 bits, and each refusal says why not.
 use mathlib.Core.Path.{_≡_, refl, sym, ap, _∙_}
 use mathlib.Core.Bool.{Bool, true, false, cond, _||_}
 use mathlib.Core.Logic.{_⊎_, inl, inr}

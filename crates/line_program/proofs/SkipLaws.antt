@@ -1,4 +1,4 @@
--- Passing over operands: what a place and its outcome promise, and one law for each way through a function. Assumes nothing.
+-- Passing over operands: what a place and its outcome promise, and one law for each way through a function.
 use mathlib.Core.Path.{_≡_, refl, sym, ap, _∙_}
 use mathlib.Core.Bool.{Bool, true, false, cond, not, and-false}
 use mathlib.Core.List.{List, [], _∷_}

@@ -1,4 +1,4 @@
--- The loop of read_line_uleb: what is read so far, and what is left. Assumes nothing.
+-- The loop of read_line_uleb: what is read so far, and what is left.
 use mathlib.Core.Path.{_≡_, refl, sym, ap, _∙_}
 use mathlib.Core.Bool.{cond}
 use mathlib.Core.List.{List, [], _∷_}

@@ -1,5 +1,4 @@
--- What holds between the definitions of this crate and the Standard's (Standard.antt). docs/DIFFERENCES.md lists what these statements leave out. Assumes
--- nothing.
+-- Theorem. What holds between the definitions of this crate and the Standard's (Standard.antt). docs/DIFFERENCES.md lists what these statements leave out.
 use Prim.Native.Nat.{ℕ, zero, suc, _+_, _-_, _%_, _^_, _≤_, _<_}
 use mathlib.Core.Path.{_≡_}
 use mathlib.Core.Logic.{_↔_, _⊎_, _≢_}

@@ -1,5 +1,5 @@
--- Operands and instructions of a line program as document 01 ("Rules that bite", skipping; 7 to 12), document 02 (E2, the operand of opcode 3) and the Rust's
--- scan_line_sequence_offsets have them. Assumes nothing.
+-- Definition. Operands and instructions of a line program as document 01 ("Rules that bite", skipping; 7 to 12), document 02 (E2, the operand of opcode 3)
+-- and the Rust's scan_line_sequence_offsets have them.
 use Prim.Native.Nat.{ℕ, zero, suc, _+_, _*_, _-_, _%_, _^_}
 use mathlib.Core.Bool.{Bool, false, cond, _&&_, _||_}
 use mathlib.Core.List.{List, [], _∷_}

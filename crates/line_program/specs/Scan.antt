@@ -1,4 +1,4 @@
--- What the functions of a line program promise: a place stands for the bytes from there on. Assumes nothing.
+-- Contract. What the functions of a line program promise: a place stands for the bytes from there on.
 use Prim.Native.Nat.{ℕ, _+_, _*_, _/_, _^_, _≤_, _<_}
 use mathlib.Core.Path.{_≡_}
 use mathlib.Core.Bool.{true, false}
@@ -66,12 +66,12 @@ pub record Passes (s : List ℕ) (at : ℕ) (r : Skipped) (o : Outcome Passed) :
 
 -- ---- sequences
 
--- the table of n offsets, of eight bytes each
-unfoldable pub offsets : List ℕ → ℕ → ℕ → List ℕ
-offsets w base n = records le 8 w base n
+-- the table of n offsets
+abbrev pub offsetsAt : List ℕ → ℕ → ℕ → List ℕ
+offsetsAt w base n = records le offsetRecord w base n
 
 abbrev pub offsetsOf : List ℕ → ℕ → Scan → Outcome (List ℕ)
-offsetsOf w base (Scan.Count n) = done (offsets w base n)
+offsetsOf w base (Scan.Count n) = done (offsetsAt w base n)
 offsetsOf w base (Scan.Fault n) = refused n
 
 abbrev pub CountWithin : List ℕ → Scan → Type 0

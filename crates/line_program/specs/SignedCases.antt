@@ -1,4 +1,4 @@
--- E2 by cases: what follows opcode 3, how many operands the header declares for it, and what is left after it or the fault. Assumes nothing.
+-- Theorem. E2 by cases: what follows opcode 3, how many operands the header declares for it, and what is left after it or the fault.
 use Prim.Native.Nat.{ℕ}
 use mathlib.Core.Path.{_≡_}
 use mathlib.Core.Bool.{false}

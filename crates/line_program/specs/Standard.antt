@@ -1,5 +1,5 @@
--- The DWARF 5 Standard by itself, from its own text: LEB128 (7.6), the instructions of a line program (6.2.5), the path of a file (6.2.4).
--- Nothing here is taken from the Rust. Assumes nothing.
+-- Definition. The DWARF 5 Standard by itself, from its own text: LEB128 (7.6), the instructions of a line program (6.2.5), the path of a file (6.2.4).
+-- Nothing here is taken from the Rust.
 use Prim.Native.Nat.{ℕ, zero, suc, _+_, _*_, _-_, _%_}
 use mathlib.Core.Bool.{Bool, false, cond}
 use mathlib.Core.List.{List, [], _∷_, _++_}

@@ -1,4 +1,4 @@
--- What is known of the sizes and the order of what a unit's lines become. The other files of this folder show it. Assumes nothing.
+-- What is known of the sizes and the order of what a unit's lines become. The other files of this folder show it.
 use Prim.Native.Nat.{ℕ, _+_, _^_, _≤_, _<_}
 use mathlib.Core.List.{List}
 use lib.ListN.{length}

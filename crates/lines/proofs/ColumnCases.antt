@@ -1,4 +1,4 @@
--- E7's cases, by computing. Assumes nothing.
+-- E7's cases, by computing.
 use mathlib.Core.Path.{refl}
 use Rattle.tlv.specs.Lists
 use Rattle.lines.specs.Lines

@@ -1,4 +1,4 @@
--- Each listed difference from the Standard is so, by computing. Assumes nothing.
+-- Each listed difference from the Standard is so, by computing.
 use mathlib.Core.Path.{refl}
 use Rattle.tlv.specs.Outcome
 use Rattle.tlv.specs.Lists

@@ -1,4 +1,4 @@
--- The file table and a unit's file numbers fit their fields, whatever files are added. Assumes nothing.
+-- The file table and a unit's file numbers fit their fields, whatever files are added.
 use mathlib.Core.Path.{_≡_, refl}
 use mathlib.Core.Bool.{Bool, true, false, cond}
 use mathlib.Core.List.{List, [], _∷_, _++_}

@@ -1,4 +1,4 @@
--- The lines of a unit, its files and its warnings fit their fields. Assumes nothing.
+-- The lines of a unit, its files and its warnings fit their fields.
 use mathlib.Core.Path.{_≡_, subst}
 use mathlib.Core.List.{List, [], _∷_}
 use mathlib.Core.Option.{Option, none, some}

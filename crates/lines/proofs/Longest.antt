@@ -1,4 +1,4 @@
--- The longest file of the files tray, by computing. Assumes nothing.
+-- The longest file of the files tray, by computing.
 use mathlib.Core.Path.{refl}
 use Rattle.tlv.specs.Bytes
 use Rattle.tlv.specs.Lists

@@ -1,4 +1,4 @@
--- Document 01's printed file comes under the theorem on paths, which gives its path. Assumes nothing.
+-- Document 01's printed file comes under the theorem on paths, which gives its path.
 use Prim.Native.Nat.{ℕ}
 use mathlib.Core.Path.{_≡_, refl, ap, _∙_}
 use mathlib.Core.List.{List, [], _∷_, _++_}

@@ -1,4 +1,4 @@
--- The numbers that reading a unit's lines can refuse with: 7 to 12 for its program, 6 for rows and paths, 15 for the file table. Assumes nothing.
+-- The numbers that reading a unit's lines can refuse with: 7 to 12 for its program, 6 for rows and paths, 15 for the file table.
 use Prim.Native.Nat.{ℕ, zero, suc}
 use mathlib.Core.List.{List, [], _∷_}
 use mathlib.Core.Option.{Option, none, some}

@@ -1,4 +1,4 @@
--- The rows that a function takes stay in its range, never fall, never repeat a neighbour, and fit their fields. Assumes nothing.
+-- The rows that a function takes stay in its range, never fall, never repeat a neighbour, and fit their fields.
 use mathlib.Core.Path.{_≡_, refl, ap, sym, _∙_}
 use mathlib.Core.Bool.{Bool, true, _&&_, true≢false}
 use mathlib.Core.List.{List, [], _∷_, _++_}

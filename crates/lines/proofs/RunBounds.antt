@@ -1,4 +1,4 @@
--- What the run over a unit's rows gives comes from those rows, and a program has no more sequences than bytes. Assumes nothing.
+-- What the run over a unit's rows gives comes from those rows, and a program has no more sequences than bytes.
 use mathlib.Core.List.{List, [], _∷_, _++_}
 use Prim.Native.Nat.{ℕ, zero, suc, _+_, _^_, _≤_, _<_}
 use native.Mathlib.Omega.{arith}

@@ -1,4 +1,4 @@
--- E7 by cases: rows of a unit as (address, line, column), all of file 1 and of no known sequence, and what a function takes of them. Assumes nothing.
+-- Theorem. E7 by cases: rows of a unit as (address, line, column), all of file 1 and of no known sequence, and what a function takes of them.
 use Prim.Native.Nat.{ℕ}
 use mathlib.Core.Path.{_≡_}
 use mathlib.Core.List.{List, [], _∷_, map}

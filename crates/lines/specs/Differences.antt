@@ -1,5 +1,6 @@
--- Where operands, instructions and paths are not the Standard's: each exception with an input and both answers. docs/DIFFERENCES.md tells them in words.
--- Assumes nothing.
+-- Theorem. Where operands, instructions and paths are not the Standard's: each exception with an input and both answers. docs/DIFFERENCES.md tells them in
+-- words.
+--
 use Prim.Native.Nat.{ℕ, _-_, _^_}
 use mathlib.Core.Path.{_≡_}
 use mathlib.Core.Bool.{false}

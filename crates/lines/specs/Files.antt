@@ -1,5 +1,5 @@
--- The file table of an import, and a unit's files in it (the Rust's builder.rs, add_file; convert/dwarf/lines.rs, FileIndices, intern_file,
--- intern_header_files). Assumes nothing.
+-- Definition. The file table of an import, and a unit's files in it (the Rust's builder.rs, add_file; convert/dwarf/lines.rs, FileIndices, intern_file,
+-- intern_header_files).
 use Prim.Native.Nat.{ℕ, zero, suc, _+_, _-_, _^_}
 use mathlib.Core.Bool.{Bool, cond, _&&_}
 use mathlib.Core.List.{List, [], _∷_, _++_}

@@ -1,4 +1,4 @@
--- A unit's line rows, its files and its sequences (the Rust's convert/dwarf/lines.rs, collect_lines). Assumes nothing.
+-- Definition. A unit's line rows, its files and its sequences (the Rust's convert/dwarf/lines.rs, collect_lines).
 use Prim.Native.Nat.{ℕ, suc, _^_}
 use mathlib.Core.Bool.{Bool, true, false, cond, _&&_}
 use mathlib.Core.List.{List, [], _∷_, _++_, map}

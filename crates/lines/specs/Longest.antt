@@ -1,5 +1,5 @@
--- E12: "longest joined path included": both ways to the longest file of the files tray, each string as long as one may be. That every file fits its
--- field is `Producing` of imports. Assumes nothing.
+-- Theorem. E12: "longest joined path included": both ways to the longest file of the files tray, each string as long as one may be. That every file fits its
+-- field is `Producing` of imports.
 use Prim.Native.Nat.{ℕ}
 use mathlib.Core.Path.{_≡_}
 use mathlib.Core.List.{[], _∷_, _++_}

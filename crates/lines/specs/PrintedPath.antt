@@ -1,4 +1,4 @@
--- The file of document 01's printed import: version 5, directory 0 "/src", file 0 "cue.c" in it, no compilation directory. Assumes nothing.
+-- Theorem. The file of document 01's printed import: version 5, directory 0 "/src", file 0 "cue.c" in it, no compilation directory.
 use Prim.Native.Nat.{ℕ}
 use mathlib.Core.Path.{_≡_}
 use mathlib.Core.List.{List, [], _∷_, _++_}

@@ -1,4 +1,4 @@
--- The rows that a function takes (the Rust's UnitLines::for_range, normalize.rs; document 01, "Rows sort stably by address ..").  Assumes nothing.
+-- Definition. The rows that a function takes (the Rust's UnitLines::for_range, normalize.rs; document 01, "Rows sort stably by address ..").
 use Prim.Native.Nat.{ℕ}
 use mathlib.Core.Bool.{Bool, true, cond, _&&_, not}
 use mathlib.Core.List.{List, [], _∷_, _++_, map}

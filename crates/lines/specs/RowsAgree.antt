@@ -1,4 +1,4 @@
--- Demand 3, as far as rows go: rows stay in the function, never fall in address, never repeat a neighbour. Assumes nothing.
+-- Theorem. Demand 3, as far as rows go: rows stay in the function, never fall in address, never repeat a neighbour.
 use Prim.Native.Nat.{ℕ, _≤_}
 use mathlib.Core.Path.{_≡_}
 use mathlib.Core.List.{List, [], _∷_}

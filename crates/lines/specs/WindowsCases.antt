@@ -1,4 +1,4 @@
--- E3 by cases: a path, its directory and its basename, and the file that it makes. Paths that do not begin as E3 says are split as before. Assumes nothing.
+-- Theorem. E3 by cases: a path, its directory and its basename, and the file that it makes. Paths that do not begin as E3 says are split as before.
 use Prim.Native.Nat.{ℕ}
 use mathlib.Core.Path.{_≡_}
 use mathlib.Core.Bool.{cond}

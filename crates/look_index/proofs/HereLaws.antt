@@ -1,4 +1,4 @@
--- One function of a tray of any content: its form, and that each function of a tray in document 01's form is found at its place. Assumes nothing.
+-- One function of a tray of any content: its form, and that each function of a tray in document 01's form is found at its place.
 use mathlib.Core.Path.{_≡_, refl, sym, ap, subst, _∙_}
 use mathlib.Core.Bool.{Bool, true, false, _&&_, not}
 use mathlib.Core.List.{List}

@@ -1,4 +1,4 @@
--- By the tray's own index the extent that is taken is that of the function that answers. Assumes nothing.
+-- By the tray's own index the extent that is taken is that of the function that answers.
 use mathlib.Core.Path.{_≡_, refl, sym, ap, subst, _∙_}
 use mathlib.Core.Bool.{Bool, true, false}
 use mathlib.Core.List.{List}

@@ -2,4 +2,3 @@ pub mod ExtentLaws
 pub mod IndexLaws
 pub mod HereLaws
 pub mod Indexing
-pub mod LookInLaws

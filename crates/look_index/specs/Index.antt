@@ -1,5 +1,6 @@
--- Beyond the request: an index of a tray's functions, made once in a lent slice for a service that asks many addresses of one tray, and look-ups by it.
--- Assumes nothing.
+-- Contract. Beyond the request: an index of a tray's functions, made once in a lent slice for a service that asks many addresses of one tray, and look-ups by
+-- it.
+--
 use Prim.Native.Nat.{ℕ, _+_, _*_, _≤_, _<_}
 use mathlib.Core.Path.{_≡_}
 use mathlib.Core.Logic.{_↔_, _≢_}

@@ -1,4 +1,4 @@
--- Look-ups by an index: of any bytes the answer is told, and by the tray's own index it is the look-up's. Assumes nothing.
+-- Contract. Look-ups by an index: of any bytes the answer is told, and by the tray's own index it is the look-up's.
 use Prim.Native.Nat.{ℕ, _*_, _-_, _≤_, _<_}
 use mathlib.Core.Path.{_≡_}
 use mathlib.Core.Bool.{Bool, true, false, cond}

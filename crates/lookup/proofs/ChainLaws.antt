@@ -1,4 +1,4 @@
--- The chain that one pass over the nodes takes is the chain of first children that hold the address. Assumes nothing.
+-- The chain that one pass over the nodes takes is the chain of first children that hold the address.
 use mathlib.Core.Path.{_≡_, refl, sym, ap, subst, _∙_}
 use mathlib.Core.Bool.{Bool, true, false, cond, _&&_, true≢false}
 use mathlib.Core.Logic.{inl, inr, _≢_}

@@ -1,4 +1,4 @@
--- The test of a records tray's form, field by field. Assumes nothing.
+-- The test of a records tray's form, field by field.
 use mathlib.Core.Path.{_≡_, sym, _∙_}
 use mathlib.Core.Bool.{Bool, true, false, _&&_, _||_, not}
 use mathlib.Core.List.{List}

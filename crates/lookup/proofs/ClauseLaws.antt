@@ -1,4 +1,4 @@
--- The clauses of a tray's form, part by part: what may follow, payloads, depths. Assumes nothing.
+-- The clauses of a tray's form, part by part: what may follow, payloads, depths.
 use mathlib.Core.Path.{_≡_, refl}
 use mathlib.Core.Bool.{Bool, true, false, cond, _&&_, _||_, not, false≢true}
 use mathlib.Core.Logic.{_⊎_, inl, inr, _≢_}

@@ -1,4 +1,4 @@
--- A tray that passes the test is in the form that the clauses tell. Assumes nothing.
+-- A tray that passes the test is in the form that the clauses tell.
 use mathlib.Core.Path.{_≡_, refl, sym, ap, subst, _∙_}
 use mathlib.Core.Bool.{Bool, true, false, cond, _&&_, _||_, false≢true}
 use mathlib.Core.Logic.{_≢_}

@@ -1,4 +1,4 @@
--- A tray that is in the form that the clauses tell passes the test, and so the test is of that form. Assumes nothing.
+-- A tray that is in the form that the clauses tell passes the test, and so the test is of that form.
 use mathlib.Core.Path.{_≡_, refl}
 use mathlib.Core.Bool.{true, _||_, or-true}
 use mathlib.Core.Logic.{_⊎_, inl, inr, _≢_}

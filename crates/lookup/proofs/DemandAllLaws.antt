@@ -1,4 +1,4 @@
--- Demand 3 in a look-up, of a tray that an import of all units wrote. Assumes nothing.
+-- Demand 3 in a look-up, of a tray that an import of all units wrote.
 use mathlib.Core.Path.{_≡_, refl, sym, ap, subst, _∙_}
 use mathlib.Core.Bool.{Bool, true, false, cond}
 use mathlib.Core.List.{List, [], _∷_, _++_, map}

@@ -1,4 +1,4 @@
--- Demand 3 in a look-up: each node of the chain below the root is that of a kept entry with a range that holds the address. Assumes nothing.
+-- Demand 3 in a look-up: each node of the chain below the root is that of a kept entry with a range that holds the address.
 use mathlib.Core.Path.{_≡_, refl, sym, ap, subst, _∙_}
 use mathlib.Core.Bool.{Bool, true, false, cond, _&&_, false≢true}
 use mathlib.Core.Logic.{_⊎_, inl, inr}

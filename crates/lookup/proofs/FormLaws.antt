@@ -1,4 +1,4 @@
--- What the form of a records tray says of the depths of a function's nodes, and that its chain is that of the request's words. Assumes nothing.
+-- What the form of a records tray says of the depths of a function's nodes, and that its chain is that of the request's words.
 use mathlib.Core.Path.{_≡_, refl, sym, subst}
 use mathlib.Core.Bool.{Bool, true, false, cond, _&&_, _||_, not, false≢true}
 use mathlib.Core.Logic.{_⊎_, inl, inr}

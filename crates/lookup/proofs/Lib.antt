@@ -16,8 +16,4 @@ pub mod SheetLaws
 pub mod CheckLaws
 pub mod StepLaws
 pub mod OwnLaws
-pub mod WalkLaws
-pub mod ChainWalkLaws
 pub mod LookLaws
-pub mod ListingLaws
-pub mod NearestWalkLaws

@@ -1,4 +1,4 @@
--- The look-up from its parts: the form's test, the function, its row and its chain. Assumes nothing.
+-- The look-up from its parts: the form's test, the function, its row and its chain.
 use mathlib.Core.Path.{_≡_, sym, ap, subst, _∙_}
 use mathlib.Core.Bool.{Bool, true, false, not}
 use mathlib.Core.List.{List, []}

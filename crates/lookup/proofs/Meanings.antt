@@ -1,4 +1,4 @@
--- The look-ups mean what the request says. Assumes nothing.
+-- The look-ups mean what the request says.
 use Rattle.lookup.specs.Means.{Meanings}
 use Rattle.lookup.proofs.ClauseTests.{form-is}
 use Rattle.lookup.proofs.PlaceLaws.{reading}

@@ -1,4 +1,4 @@
--- A field's bytes stand at its place. Assumes nothing.
+-- A field's bytes stand at its place.
 use mathlib.Core.Path.{_≡_, refl, sym, ap, subst, _∙_}
 use mathlib.Core.Bool.{Bool, true, false, cond}
 use mathlib.Core.List.{List, [], _∷_}

@@ -1,4 +1,4 @@
--- The function that answers and the row in force are those of the request's words, and functions are nonempty. Assumes nothing.
+-- The function that answers and the row in force are those of the request's words, and functions are nonempty.
 use mathlib.Core.Path.{_≡_, refl, sym, subst, _∙_}
 use mathlib.Core.Bool.{Bool, true, false, cond, _&&_, not, true≢false}
 use mathlib.Core.List.{List, [], _∷_}

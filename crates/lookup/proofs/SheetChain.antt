@@ -1,4 +1,4 @@
--- The chain of first children among a record's nodes is that of the kept entries that hold the address. Assumes nothing.
+-- The chain of first children among a record's nodes is that of the kept entries that hold the address.
 use mathlib.Core.Path.{_≡_, refl, sym, ap, subst, _∙_}
 use mathlib.Core.Logic.{_⊎_, inl, inr}
 use mathlib.Core.List.{List, [], _∷_, map}

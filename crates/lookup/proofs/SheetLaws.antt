@@ -1,4 +1,4 @@
--- What is running at an address, from the sheet's side. Assumes nothing.
+-- What is running at an address, from the sheet's side.
 use mathlib.Core.Path.{_≡_, refl, sym, ap, subst, _∙_}
 use mathlib.Core.Bool.{Bool, true, false, cond}
 use mathlib.Core.Logic.{_⊎_, inl, inr}

@@ -1,4 +1,4 @@
--- A field of a records tray, its place and what stands behind it. Assumes nothing.
+-- A field of a records tray, its place and what stands behind it.
 use mathlib.Core.Path.{_≡_, sym, ap, _∙_}
 use mathlib.Core.Bool.{true, _&&_}
 use mathlib.Core.List.{List, [], _∷_}

@@ -1,4 +1,4 @@
--- The tests of a window say what the request says. Assumes nothing.
+-- The tests of a window say what the request says.
 use mathlib.Core.Path.{_≡_, refl}
 use mathlib.Core.Bool.{Bool, true, false, _&&_, not}
 use mathlib.Core.Logic.{_⊎_, inl, inr, _↔_}

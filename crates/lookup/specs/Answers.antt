@@ -1,4 +1,4 @@
--- What the look-ups promise: document 02's number and values of each answer, and the contract of `address::look_up`. Assumes nothing.
+-- Contract. What the look-ups promise: document 02's number and values of each answer, and the contract of `address::look_up`.
 use Prim.Native.Nat.{ℕ, _-_, _≤_}
 use mathlib.Core.Path.{_≡_}
 use mathlib.Core.List.{List}

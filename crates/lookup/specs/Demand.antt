@@ -1,6 +1,5 @@
--- Demand 3 in a look-up (document 02, E6): "On trays the import wrote with inlines requested, each node of the chain below the root is by demand 3 that of a
--- kept
--- entry with a range that holds the address." Assumes nothing.
+-- Theorem. Demand 3 in a look-up (document 02, E6): "On trays the import wrote with inlines requested, each node of the chain below the root is by demand 3
+-- that of a kept entry with a range that holds the address."
 use Prim.Native.Nat.{ℕ, suc, _<_}
 use mathlib.Core.Path.{_≡_}
 use mathlib.Core.Bool.{true}

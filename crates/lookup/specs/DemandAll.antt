@@ -1,5 +1,5 @@
--- Demand 3 in a look-up, of a tray that an import of all units wrote (document 02, E6 and E11): each node of the chain below the root is that of a kept entry
--- of the function's own unit, with a range that holds the address. Assumes nothing.
+-- Theorem. Demand 3 in a look-up, of a tray that an import of all units wrote (document 02, E6 and E11): each node of the chain below the root is that of a
+-- kept entry of the function's own unit, with a range that holds the address.
 use Prim.Native.Nat.{ℕ}
 use mathlib.Core.Path.{_≡_}
 use mathlib.Core.Bool.{true}

@@ -1,5 +1,6 @@
--- The form of a records tray, clause by clause (document 02, E6: 19), by what its fields are and not by a test. `FormIs` says that the test is of this form.
--- Assumes nothing.
+-- Theorem. The form of a records tray, clause by clause (document 02, E6: 19), by what its fields are and not by a test. `FormIs` says that the test is of
+-- this form.
+--
 use Prim.Native.Nat.{ℕ, _+_, _≤_, _<_}
 use mathlib.Core.Path.{_≡_}
 use mathlib.Core.Logic.{_↔_, _≢_}

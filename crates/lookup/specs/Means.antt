@@ -1,4 +1,4 @@
--- What the look-ups' computed definitions mean, in the request's own words (document 02, E6). Each is a theorem about every tray. Assumes nothing.
+-- Theorem. What the look-ups' computed definitions mean, in the request's own words (document 02, E6). Each is a theorem about every tray.
 use Prim.Native.Nat.{ℕ, _+_, _≤_, _<_}
 use mathlib.Core.Path.{_≡_}
 use mathlib.Core.Logic.{_↔_}

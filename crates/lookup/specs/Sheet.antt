@@ -1,7 +1,6 @@
--- What is running at an address, told from the sheet's side, beyond the request: of a tray that an import with inlines wrote, the function found is the first
--- subject of the unit that holds the address, and the chain is the kept entries that hold it, first child by first child. With `Answered`, sheets and
--- address to
--- frames is one theorem. Assumes nothing.
+-- Theorem. What is running at an address, told from the sheet's side, beyond the request: of a tray that an import with inlines wrote, the function found is
+-- the first subject of the unit that holds the address, and the chain is the kept entries that hold it, first child by first child. With `Answered`, sheets
+-- and address to frames is one theorem.
 use Prim.Native.Nat.{ℕ, suc, _<_}
 use mathlib.Core.Path.{_≡_}
 use mathlib.Core.Bool.{true}

@@ -1,4 +1,4 @@
--- The loop of address_operand: the bytes from p on, highest first. Assumes nothing.
+-- The loop of address_operand: the bytes from p on, highest first.
 use mathlib.Core.Path.{_≡_, sym, ap, subst, _∙_}
 use mathlib.Core.List.{List}
 use Prim.Native.Nat.{ℕ, zero, suc, _+_, _-_, _*_, _^_, _≤_, _<_}

@@ -1,4 +1,4 @@
--- The rows of a program are few, fit their fields and rise within each sequence; and a program is refused by 7 to 12, 21 or 22. Assumes nothing.
+-- The rows of a program are few, fit their fields and rise within each sequence; and a program is refused by 7 to 12, 21 or 22.
 use mathlib.Core.Path.{_≡_, refl}
 use mathlib.Core.Bool.{_&&_}
 use mathlib.Core.List.{List, [], _∷_, _++_}

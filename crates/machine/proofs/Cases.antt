@@ -1,4 +1,4 @@
--- Every corner case holds, by computing. Assumes nothing.
+-- Every corner case holds, by computing.
 use mathlib.Core.Path.{refl}
 use Rattle.tlv.specs.Outcome
 use Rattle.line_program.specs.Standard

@@ -1,4 +1,4 @@
--- Reading an instruction beside the Standard's, and a program's rows beside its sequences. Assumes nothing.
+-- Reading an instruction beside the Standard's, and a program's rows beside its sequences.
 use mathlib.Core.Path.{_≡_, refl, sym, ap, _∙_}
 use mathlib.Core.Bool.{Bool, true, false, cond}
 use mathlib.Core.Logic.{inl, inr}

@@ -1,4 +1,4 @@
--- Extended instructions, and any instruction: one law for each way through a function. Assumes nothing.
+-- Extended instructions, and any instruction: one law for each way through a function.
 use mathlib.Core.Path.{_≡_, refl, sym, ap, _∙_}
 use mathlib.Core.Bool.{Bool, true, false, cond}
 use mathlib.Core.List.{List}

@@ -5,9 +5,6 @@ pub mod Bounds
 pub mod Conforms
 pub mod UnitLines
 pub mod RegisterLaws
-pub mod SlebLaws
 pub mod AddressLaws
 pub mod StepLaws
-pub mod StandardLaws
 pub mod ExtendedLaws
-pub mod RowLaws

@@ -1,4 +1,4 @@
--- Which numbers a refusal can have, where they are no interval: the predicate, and its laws for `>>=` and `cond`. Assumes nothing.
+-- Which numbers a refusal can have, where they are no interval: the predicate, and its laws for `>>=` and `cond`.
 use mathlib.Core.Path.{_≡_, sym, subst}
 use mathlib.Core.Bool.{Bool, true, false, cond}
 use Prim.Native.Nat.{ℕ, _≤_}

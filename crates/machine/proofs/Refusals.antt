@@ -1,4 +1,4 @@
--- The numbers that a program is refused with: 7 to 12 for operands and instructions, 21 for its encoding, 22 for its addresses. Assumes nothing.
+-- The numbers that a program is refused with: 7 to 12 for operands and instructions, 21 for its encoding, 22 for its addresses.
 use mathlib.Core.Logic.{_⊎_, inl, inr}
 use mathlib.Core.List.{List, [], _∷_}
 use Prim.Native.Nat.{ℕ, zero, suc, _-_, _≤_}

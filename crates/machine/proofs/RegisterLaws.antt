@@ -1,4 +1,4 @@
--- The registers after a move and after a line is added: one law for each way through a function. Assumes nothing.
+-- The registers after a move and after a line is added: one law for each way through a function.
 use mathlib.Core.Path.{_≡_, refl, sym, ap, _∙_}
 use mathlib.Core.Bool.{Bool, true, false, cond, _&&_}
 use Prim.Native.Nat.{ℕ, _+_, _*_, _-_, _/_, _%_, _^_, _≤_, _<_}

@@ -1,4 +1,4 @@
--- One instruction: one law for each way through a function. Assumes nothing.
+-- One instruction: one law for each way through a function.
 use mathlib.Core.Path.{_≡_, refl, sym, ap, _∙_}
 use mathlib.Core.Bool.{Bool, true, false}
 use mathlib.Core.List.{List, []}

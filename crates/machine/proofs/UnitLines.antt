@@ -1,5 +1,5 @@
 -- The rows of a unit are few and fit their fields, whether they are its fields or its program's; so do its lines, which are sorted; and the numbers that these
--- are refused with. Assumes nothing.
+-- are refused with.
 use mathlib.Core.Path.{_≡_, subst}
 use mathlib.Core.Logic.{_⊎_, inl, inr}
 use mathlib.Core.List.{List}

@@ -1,4 +1,4 @@
--- What every program's rows are like: few, of numbers that fit, rising within each sequence; and the numbers that a program is refused with. Assumes nothing.
+-- Theorem. What every program's rows are like: few, of numbers that fit, rising within each sequence; and the numbers that a program is refused with.
 use Prim.Native.Nat.{ℕ, _^_, _≤_, _<_}
 use mathlib.Core.Path.{_≡_}
 use mathlib.Core.Bool.{cond}

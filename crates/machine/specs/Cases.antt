@@ -1,4 +1,4 @@
--- E8 by cases: a program, and its rows or its refusal. Assumes nothing.
+-- Theorem. E8 by cases: a program, and its rows or its refusal.
 use Prim.Native.Nat.{ℕ, _+_, _-_, _^_}
 use mathlib.Core.Path.{_≡_}
 use mathlib.Core.Bool.{true}

@@ -1,4 +1,4 @@
--- What holds between the row machine, the Standard's instructions and sequences (lines, Standard), and the sequence scan. Assumes nothing.
+-- Theorem. What holds between the row machine, the Standard's instructions and sequences (lines, Standard), and the sequence scan.
 use Prim.Native.Nat.{ℕ}
 use mathlib.Core.Path.{_≡_}
 use mathlib.Core.Bool.{Bool, true, false}

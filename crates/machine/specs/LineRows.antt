@@ -1,4 +1,4 @@
--- The rows of a unit, and its lines from them (the Rust's convert/dwarf/lines.rs, collect_lines; document 02, E8). Assumes nothing.
+-- Definition. The rows of a unit, and its lines from them (the Rust's convert/dwarf/lines.rs, collect_lines; document 02, E8).
 use Prim.Native.Nat.{ℕ}
 use mathlib.Core.List.{List, []}
 use mathlib.Core.Option.{Option, none, some}

@@ -1,5 +1,5 @@
--- The line number state machine of the Standard (6.2.2 and 6.2.5, versions 2 to 5): the rows of a program. Operand faults are document 01's 7 to 12,
--- as the sequence scan has them; 21 and 22 are document 02's (E8). Assumes nothing.
+-- Definition. The line number state machine of the Standard (6.2.2 and 6.2.5, versions 2 to 5): the rows of a program. Operand faults are document 01's 7 to
+-- 12, as the sequence scan has them; 21 and 22 are document 02's (E8).
 use Prim.Native.Nat.{ℕ, zero, suc, _+_, _*_, _-_, _/_, _%_, _^_, min}
 use mathlib.Core.Bool.{Bool, cond, _&&_, _||_, not}
 use mathlib.Core.List.{List, [], _∷_, _++_}

@@ -1,4 +1,4 @@
--- What the functions of the row machine promise. Assumes nothing.
+-- Contract. What the functions of the row machine promise.
 use Prim.Native.Nat.{ℕ, _+_, _-_, _%_, _^_, _≤_, _<_}
 use mathlib.Core.Path.{_≡_}
 use mathlib.Core.List.{List, [], _∷_}

@@ -1,4 +1,4 @@
--- Rows compacted where they are: what the loop keeps, over a list of rows. Assumes nothing.
+-- Rows compacted where they are: what the loop keeps, over a list of rows.
 use mathlib.Core.Path.{_≡_, refl, sym, ap, _∙_}
 use mathlib.Core.Logic.{_≢_}
 use mathlib.Core.Bool.{Bool, true, false}

@@ -1,4 +1,4 @@
--- What the compaction of a caller's rows promises. Assumes nothing.
+-- Contract. What the compaction of a caller's rows promises.
 use Prim.Native.Nat.{ℕ}
 use mathlib.Core.Path.{_≡_}
 use mathlib.Core.List.{List, _++_}

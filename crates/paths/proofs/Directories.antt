@@ -1,4 +1,4 @@
--- The directory that a file's number names, joined to the compilation directory where it has to be, is the Standard's. Assumes nothing.
+-- The directory that a file's number names, joined to the compilation directory where it has to be, is the Standard's.
 use mathlib.Core.Path.{_≡_, refl, ap, _∙_}
 use mathlib.Core.Bool.{Bool, true, false, cond, not}
 use mathlib.Core.Logic.{_≢_}

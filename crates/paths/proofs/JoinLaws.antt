@@ -1,4 +1,4 @@
--- Paths joined in a work slice. Assumes nothing.
+-- Paths joined in a work slice.
 use mathlib.Core.Path.{_≡_, refl, sym, ap, _∙_}
 use mathlib.Core.Bool.{Bool, cond, _||_, or-true}
 use mathlib.Core.Logic.{inl}

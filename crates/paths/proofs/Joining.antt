@@ -1,4 +1,4 @@
--- Joining paths: which are absolute, what stands below a directory, and the path that a directory and a basename stand for. Assumes nothing.
+-- Joining paths: which are absolute, what stands below a directory, and the path that a directory and a basename stand for.
 use mathlib.Core.Logic.{_≢_}
 use mathlib.Core.Path.{_≡_, refl, sym, ap, _∙_}
 use mathlib.Core.Bool.{Bool, true, false, cond, _||_, not, true≢false, or-false, and-false}

@@ -1,5 +1,5 @@
 -- The last byte that splits a path. A path that Windows did not write is its directory, a slash and its basename; its directory is empty where it has no slash,
--- and a slash below the root. Assumes nothing.
+-- and a slash below the root.
 use mathlib.Core.Path.{_≡_, refl, sym, ap, _∙_}
 use mathlib.Core.Bool.{Bool, true, false, cond, _||_, true≢false}
 use mathlib.Core.List.{List, [], _∷_, _++_}

@@ -1,4 +1,4 @@
--- How long the paths are that a file's path is joined from, and that a file's entry fits its field. Assumes nothing.
+-- How long the paths are that a file's path is joined from, and that a file's entry fits its field.
 use mathlib.Core.Bool.{Bool, true, false, cond, _||_}
 use mathlib.Core.List.{List, [], _∷_, _++_}
 use mathlib.Core.Option.{Option, none, some}

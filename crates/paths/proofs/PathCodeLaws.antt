@@ -1,4 +1,4 @@
--- The functions that take a path apart and test it: one law for each way through a function. Assumes nothing.
+-- The functions that take a path apart and test it: one law for each way through a function.
 use mathlib.Core.Path.{_≡_, refl, sym, ap, _∙_}
 use mathlib.Core.Bool.{Bool, true, false, cond, _&&_, _||_, not, and-true, and-false}
 use mathlib.Core.List.{List, [], _∷_, _++_}

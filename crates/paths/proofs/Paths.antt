@@ -1,4 +1,4 @@
--- The path of a file is the Standard's, outside the named cases. Assumes nothing.
+-- The path of a file is the Standard's, outside the named cases.
 use mathlib.Core.Path.{_≡_, ap}
 use mathlib.Core.Bool.{true}
 use mathlib.Core.List.{List, [], _∷_}

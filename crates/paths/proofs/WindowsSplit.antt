@@ -1,4 +1,4 @@
--- A path that Windows wrote is split at its last separator, which stays with the root and is dropped behind it; no other two parts are so. Assumes nothing.
+-- A path that Windows wrote is split at its last separator, which stays with the root and is dropped behind it; no other two parts are so.
 use mathlib.Core.Path.{_≡_, refl, sym, ap, _∙_}
 use mathlib.Core.Bool.{Bool, true, false, cond, _||_, true≢false, or-true}
 use mathlib.Core.Logic.{inl, inr}

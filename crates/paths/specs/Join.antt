@@ -1,4 +1,4 @@
--- What the functions that join paths in a work slice promise. Assumes nothing.
+-- Contract. What the functions that join paths in a work slice promise.
 use Prim.Native.Nat.{ℕ}
 use mathlib.Core.Path.{_≡_}
 use mathlib.Core.List.{List}

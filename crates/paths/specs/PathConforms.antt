@@ -1,4 +1,4 @@
--- Conformance of paths: the two parts of a path that Windows wrote (document 02, E3), and joining beside the Standard's, named cases aside. Assumes nothing.
+-- Theorem. Conformance of paths: the two parts of a path that Windows wrote (document 02, E3), and joining beside the Standard's, named cases aside.
 use Prim.Native.Nat.{ℕ, _-_, _≤_}
 use mathlib.Core.Path.{_≡_}
 use mathlib.Core.Logic.{_⊎_, _≢_}

@@ -1,4 +1,4 @@
--- Paths of files: the Rust's split_path (E3 for paths that Windows wrote), is_absolute_path, append_path, and the path of intern_file. Assumes nothing.
+-- Definition. Paths of files: the Rust's split_path (E3 for paths that Windows wrote), is_absolute_path, append_path, and the path of intern_file.
 use Prim.Native.Nat.{ℕ, _+_, _-_}
 use mathlib.Core.Bool.{Bool, false, cond, _&&_, _||_, not}
 use mathlib.Core.List.{List, [], _∷_, _++_}

@@ -1,4 +1,4 @@
--- The answer of an import as numbers. Assumes nothing.
+-- The answer of an import as numbers.
 use mathlib.Core.Path.{_≡_, sym, subst, ap, _∙_}
 use mathlib.Core.List.{List, [], _∷_}
 use Prim.Native.Nat.{ℕ}

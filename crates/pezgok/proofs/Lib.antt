@@ -1,3 +1,2 @@
 pub mod ExportLaws
 pub mod LookLaws
-pub mod JoinedLaws

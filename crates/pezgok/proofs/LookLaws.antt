@@ -1,4 +1,4 @@
--- The answers of the look-ups as numbers. Assumes nothing.
+-- The answers of the look-ups as numbers.
 use mathlib.Core.Path.{_≡_, refl, sym, ap, _∙_}
 use mathlib.Core.Bool.{Bool, false}
 use mathlib.Core.List.{List, [], _∷_}

@@ -1,4 +1,4 @@
--- What the functions for callers from C promise: the same as the imports and the passes, with the answer as numbers. Assumes nothing.
+-- Contract. What the functions for callers from C promise: the same as the imports and the passes, with the answer as numbers.
 use mathlib.Core.Path.{_≡_}
 use mathlib.Core.List.{List}
 use Prim.Native.Nat.{ℕ}

@@ -1,4 +1,4 @@
--- What the join of symbols for callers from C promises: the same as that of `symbols`, with the answer as numbers. Assumes nothing.
+-- Contract. What the join of symbols for callers from C promises: the same as that of `symbols`, with the answer as numbers.
 use mathlib.Core.Path.{_≡_}
 use mathlib.Core.List.{List}
 use Prim.Native.Nat.{ℕ}

@@ -1,4 +1,4 @@
--- What the look-ups for callers from C promise: the same as those of `lookup`, with the answer as numbers. Assumes nothing.
+-- Contract. What the look-ups for callers from C promise: the same as those of `lookup`, with the answer as numbers.
 use mathlib.Core.Path.{_≡_}
 use mathlib.Core.Logic.{_≢_}
 use mathlib.Core.Bool.{Bool, false, cond}

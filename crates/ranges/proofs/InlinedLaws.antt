@@ -1,4 +1,4 @@
--- The ranges of an inlined entry, of its fields 19 or of its list: what each source gives, and which one it is. Assumes nothing.
+-- The ranges of an inlined entry, of its fields 19 or of its list: what each source gives, and which one it is.
 use mathlib.Core.Path.{_≡_, refl, sym, ap, _∙_}
 use mathlib.Core.Bool.{Bool, true, false, _&&_, _||_}
 use mathlib.Core.Logic.{_⊎_, inl, inr}

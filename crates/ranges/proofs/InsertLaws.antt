@@ -1,4 +1,4 @@
--- One range more, by a pass over ranges that are apart, is merging. Assumes nothing.
+-- One range more, by a pass over ranges that are apart, is merging.
 use mathlib.Core.Path.{_≡_, refl, ap, _∙_}
 use mathlib.Core.Logic.{_⊎_, inl, inr, _↔_}
 use mathlib.Core.List.{List, [], _∷_, _++_}

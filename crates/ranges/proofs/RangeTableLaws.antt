@@ -1,4 +1,4 @@
--- Ranges in the work slice, and the loops over them: whether one lies inside some, one more in place. Assumes nothing.
+-- Ranges in the work slice, and the loops over them: whether one lies inside some, one more in place.
 use mathlib.Core.Path.{_≡_, refl, sym, ap, _∙_}
 use mathlib.Core.Logic.{inl, inr}
 use mathlib.Core.List.{List, [], _∷_, _++_, append-assoc, append-nil}

@@ -1,4 +1,4 @@
--- Ranges in the work slice, and what the functions that merge them there promise. Assumes nothing.
+-- Contract. Ranges in the work slice, and what the functions that merge them there promise.
 use mathlib.Core.Path.{_≡_}
 use mathlib.Core.Logic.{_↔_, _⊎_}
 use mathlib.Core.Bool.{Bool, true, false}

@@ -1,4 +1,4 @@
--- The chains of the targets that a search has followed: the newest of a chain, a walk along one, and a target that joins its own. Assumes nothing.
+-- The chains of the targets that a search has followed: the newest of a chain, a walk along one, and a target that joins its own.
 use mathlib.Core.Path.{_≡_, refl, sym, ap, _∙_}
 use mathlib.Core.Bool.{Bool, true, false, cond, not, true≢false}
 use mathlib.Core.Logic.{inl, inr, ⊎-elim}

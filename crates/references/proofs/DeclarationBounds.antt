@@ -1,4 +1,4 @@
--- Where the sheets are accepted, the search for a declaration leaves a file table and warnings that fit their fields, and the row that it finds does. Assumes nothing.
+-- Where the sheets are accepted, the search for a declaration leaves a file table and warnings that fit their fields, and the row that it finds does.
 use mathlib.Core.List.{List, [], _∷_}
 use mathlib.Core.Option.{Option, none, some}
 use Prim.Native.Nat.{ℕ, zero, suc, _^_, _<_}

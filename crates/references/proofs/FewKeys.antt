@@ -1,14 +1,14 @@
--- How many targets a search can follow: one for each attribute of the main sheet, two for each of the supplementary one. Assumes nothing.
+-- How many targets a search can follow: one for each attribute of the main sheet, two for each of the supplementary one.
 use mathlib.Core.List.{List, [], _∷_, map}
 use Prim.Native.Nat.{ℕ, _+_, _*_, _≤_}
 use native.Mathlib.Nat.{mul-add, mul-le-mul-left}
 use native.Mathlib.Omega.{arith}
 use lib.Dec.{eqb}
 use lib.ListN.{length, length-append, length-map}
-use Rattle.tlv.specs.Fields.{fields, wholeFields, Group, grouped, payloads}
+use Rattle.tlv.specs.Fields.{fields, wholeFields, Group, grouped, payloads, countOf}
 use Rattle.tlv.specs.Model.{CompilationUnit, Attribute, attributeOf, entryOf, unitOf, units}
 use Rattle.access.proofs.IndexModel.{either}
-use Rattle.files.proofs.FewLaws.{amount, countOf, amountIn, grouped-few}
+use Rattle.files.proofs.FewLaws.{amount, amountIn, grouped-few}
 use Rattle.references.specs.Search.{DieKey}
 use Rattle.references.specs.Keys.{mainKeys, supplementaryKeys, entryKeys, unitKeys, possibleKeys}
 

@@ -1,4 +1,4 @@
--- How a search goes on from a reference: what stays when a target is written down, where a search stands, and the ways that a reference leads. Assumes nothing.
+-- How a search goes on from a reference: what stays when a target is written down, where a search stands, and the ways that a reference leads.
 use mathlib.Core.Path.{_≡_, refl, _∙_}
 use mathlib.Core.Bool.{false}
 use mathlib.Core.Logic.{inl}
@@ -19,7 +19,7 @@ use Rattle.tlv.proofs.PlacePromises.{placed-unit}
 use Rattle.buffers.specs.Table.{Kept}
 use Rattle.buffers.proofs.TableLaws.{kept-wide}
 use Rattle.buffers.proofs.RecordLaws.{records-kept}
-use Rattle.access.specs.Places.{unitHere, entryHere, unitPlaces}
+use Rattle.access.specs.Places.{unitHere, entryHere, unitPlaces, UnitOf}
 use Rattle.access.specs.Index.{indexedOf}
 use Rattle.access.specs.Units.{unitOf24}
 use Rattle.access.proofs.UnitFacts.{UnitAt, all-unit-places, unit-offset}
@@ -103,7 +103,7 @@ module _ {main supplementary w : List ℕ} {x : Tables} {n : ℕ} (S : SearchIn 
 
 -- ---- the offset of the unit at a place
 
-module _ {s : List ℕ} (q : ℕ) (accepted : Placed s 0) (listed : Any (λ y. y ≡ q) (unitPlaces 0 (fields s))) where
+module _ {s : List ℕ} (q : ℕ) (accepted : Placed s 0) (listed : UnitOf s q) where
   unit-at : UnitAt s q
   unit-at = any-one (unitPlaces 0 (fields s)) (λ y at same. rw same at at) (all-unit-places s 0 accepted) listed
 

@@ -1,4 +1,4 @@
--- What the name searches give: by the ways through them, and the turns of the loop over an entry's references. Assumes nothing.
+-- What the name searches give: by the ways through them, and the turns of the loop over an entry's references.
 use mathlib.Core.Path.{_≡_, refl, sym, ap, _∙_}
 use mathlib.Core.Bool.{Bool, true, false, cond, not, true≢false}
 use mathlib.Core.List.{List, [], _∷_}

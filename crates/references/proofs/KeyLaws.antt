@@ -1,4 +1,4 @@
--- The targets that a search has followed: a new one, what stays, that there is room for each that can come, and which can. Assumes nothing.
+-- The targets that a search has followed: a new one, what stays, that there is room for each that can come, and which can.
 use mathlib.Core.Path.{_≡_, refl, sym, ap, _∙_}
 use mathlib.Core.Bool.{Bool, true, false, cond, _&&_, true≢false}
 use mathlib.Core.Logic.{inl, inr}

@@ -1,4 +1,4 @@
--- Where the sheets are accepted, a search only comes to entries of accepted units, and the name that it finds is a string. Assumes nothing.
+-- Where the sheets are accepted, a search only comes to entries of accepted units, and the name that it finds is a string.
 use mathlib.Core.Path.{_≡_}
 use mathlib.Core.Bool.{Bool, _&&_}
 use mathlib.Core.List.{List, [], _∷_}

@@ -1,4 +1,4 @@
--- The name search of an entry: its own name, the turns over its references, and the two searches that start at an entry of the main sheet. Assumes nothing.
+-- The name search of an entry: its own name, the turns over its references, and the two searches that start at an entry of the main sheet.
 use mathlib.Core.Path.{_≡_, refl, sym, ap, _∙_}
 use mathlib.Core.Bool.{Bool, true, false, cond}
 use mathlib.Core.List.{List, [], _∷_}

@@ -1,4 +1,4 @@
--- The numbers that an entry's attributes are: a file number, and an unsigned number. Assumes nothing.
+-- The numbers that an entry's attributes are: a file number, and an unsigned number.
 use mathlib.Core.Path.{_≡_, refl, ap, _∙_}
 use mathlib.Core.Bool.{_||_}
 use mathlib.Core.List.{List, map}

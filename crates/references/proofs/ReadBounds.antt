@@ -1,4 +1,4 @@
--- How many entries a search can read: one more than the targets that it followed, which are different ones of reference attributes. Assumes nothing.
+-- How many entries a search can read: one more than the targets that it followed, which are different ones of reference attributes.
 use mathlib.Core.Path.{_≡_, refl}
 use mathlib.Core.Bool.{Bool, true, false, cond}
 use mathlib.Core.List.{List, [], _∷_}

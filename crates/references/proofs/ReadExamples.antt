@@ -1,4 +1,4 @@
--- The counts of searches on small webs, by computing. Assumes nothing.
+-- The counts of searches on small webs, by computing.
 use Prim.Native.Nat.{ℕ, _+_, _*_}
 use mathlib.Core.Path.{_≡_, refl}
 use mathlib.Core.Bool.{true}

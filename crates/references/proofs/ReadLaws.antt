@@ -1,4 +1,4 @@
--- The counting searches are the searches, and count as many as a done search's trail says. Assumes nothing.
+-- The counting searches are the searches, and count as many as a done search's trail says.
 use mathlib.Core.Path.{_≡_, refl, ap}
 use mathlib.Core.Bool.{Bool, true, false, cond}
 use mathlib.Core.List.{List, [], _∷_}

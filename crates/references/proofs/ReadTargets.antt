@@ -1,4 +1,4 @@
--- The targets that a search can follow, where it can stand, and what following a reference leaves of its trail. Assumes nothing.
+-- The targets that a search can follow, where it can stand, and what following a reference leaves of its trail.
 use mathlib.Core.Path.{_≡_, refl}
 use mathlib.Core.Bool.{Bool, true, false, cond, _&&_}
 use mathlib.Core.Logic.{inl, inr}

@@ -1,4 +1,4 @@
--- What is read of the entry at a place: that its field 17 stands there, the reference that an attribute is, and the entry's own name. Assumes nothing.
+-- What is read of the entry at a place: that its field 17 stands there, the reference that an attribute is, and the entry's own name.
 use mathlib.Core.Path.{_≡_, refl, sym, ap, _∙_}
 use mathlib.Core.Bool.{false}
 use mathlib.Core.List.{List, [], _∷_, map}

@@ -1,4 +1,4 @@
--- The numbers that the searches can refuse with: 12 and 13 for following a reference, 6 to 13 for names, 6 to 15 for declarations. Assumes nothing.
+-- The numbers that the searches can refuse with: 12 and 13 for following a reference, 6 to 13 for names, 6 to 15 for declarations.
 use Prim.Native.Nat.{ℕ, zero, suc}
 use mathlib.Core.List.{List, [], _∷_}
 use mathlib.Core.Option.{Option, none, some}

@@ -1,4 +1,4 @@
--- Searches do not look at the sections that range lists are read from. Assumes nothing.
+-- Searches do not look at the sections that range lists are read from.
 use mathlib.Core.Path.{_≡_, refl}
 use mathlib.Core.Bool.{cond}
 use mathlib.Core.List.{List, [], _∷_}

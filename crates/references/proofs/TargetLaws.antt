@@ -1,4 +1,4 @@
--- Where an offset leads in a sheet whose units and entries stand in tables: what the answers of the two searches say of it. Assumes nothing.
+-- Where an offset leads in a sheet whose units and entries stand in tables: what the answers of the two searches say of it.
 use mathlib.Core.Path.{_≡_, refl, sym, ap, _∙_}
 use mathlib.Core.Bool.{Bool, true}
 use mathlib.Core.Logic.{inl, inr}
@@ -17,7 +17,7 @@ use Rattle.tlv.proofs.TestLaws.{by-test, and-left}
 use Rattle.buffers.specs.Table.{records}
 use Rattle.access.specs.declared.access.Place.{Place}
 use Rattle.access.specs.declared.index.Found.{Found}
-use Rattle.access.specs.Places.{unitHere, entryHere, unitPlaces, IndexedEntry, entryIndex}
+use Rattle.access.specs.Places.{unitHere, entryHere, unitPlaces, IndexedEntry, entryIndex, UnitOf}
 use Rattle.access.specs.Access.{placeOf}
 use Rattle.access.specs.Index.{indexedOf, RisingFrom, Rising, lookup, foundOf, entryIn}
 use Rattle.access.specs.Units.{indexedUnit, unitOf24, within, containing}
@@ -59,7 +59,7 @@ module _ (s : List ℕ) (o q : ℕ) (found : containing o (map (indexedUnit s) (
   holds : first (λ q. within o (unitHere s q .offset) (unitHere s q .length)) (unitPlaces 0 (fields s)) ≡ some q
   holds = sym (containing-places s o (unitPlaces 0 (fields s))) ∙ found
 
-  unit-listed : Any (λ p. p ≡ q) (unitPlaces 0 (fields s))
+  unit-listed : UnitOf s q
   unit-listed = first-any (λ q. within o (unitHere s q .offset) (unitHere s q .length)) q (unitPlaces 0 (fields s)) holds
 
   unit-low : unitHere s q .offset ≤ o
@@ -130,7 +130,7 @@ module _ {s w : List ℕ} {x : Index} (I : IndexIn s w x) (o : ℕ) where
           }
 
     -- in the unit at q, which o is an offset of by its own offset `own`
-    module _ (q own : ℕ) (listed : Any (λ p. p ≡ q) (unitPlaces 0 (fields s))) (sum : o ≡ unitHere s q .offset + own) where
+    module _ (q own : ℕ) (listed : UnitOf s q) (sum : o ≡ unitHere s q .offset + own) where
       own-entry : entryAt (unitHere s q) own ≡ orNoEntry (entryIn s q (lookup o (entryIndex 0 0 0 (fields s))))
       unfolding entryAt
       own-entry = ap orNoEntry (index-finds s (I .number) q own (I .accepted) listed) ∙ rw sum
@@ -169,7 +169,7 @@ module _ {s : List ℕ} {q p : ℕ} (n : ℕ) (accepted : Accepts s n) (known : 
   known-found = rising-lookup 0 (entryIndex 0 0 0 (fields s)) (known .entry) (index-rising s n accepted) (known .listed)
 
   -- its unit is one of the sheet
-  pub known-unit : Any (λ y. y ≡ q) (unitPlaces 0 (fields s))
+  pub known-unit : UnitOf s q
   known-unit = rw (known .unit) at (found-placed s n accepted (known .entry .offset) (known .entry) known-found .unit)
 
   -- and has it

@@ -1,4 +1,4 @@
--- A target among those that a search has followed: whether a record is it, and the turns of the loop over them. Assumes nothing.
+-- A target among those that a search has followed: whether a record is it, and the turns of the loop over them.
 use mathlib.Core.Path.{_≡_, refl, sym, _∙_}
 use mathlib.Core.Bool.{Bool, true, false, cond, _&&_, not}
 use mathlib.Core.List.{List, _∷_}

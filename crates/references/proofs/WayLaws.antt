@@ -1,4 +1,4 @@
--- The ways that a reference leads: to an offset of the own unit, to an offset of the own section, and from the main sheet into the supplementary one. Assumes nothing.
+-- The ways that a reference leads: to an offset of the own unit, to an offset of the own section, and from the main sheet into the supplementary one.
 use mathlib.Core.Path.{_≡_, refl, sym, ap, _∙_}
 use mathlib.Core.Bool.{Bool, true, false, cond}
 use mathlib.Core.Logic.{⊎-elim}

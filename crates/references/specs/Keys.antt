@@ -1,4 +1,4 @@
--- The targets that a search has followed, in the work slice, and those that it can follow at all. Assumes nothing.
+-- Contract. The targets that a search has followed, in the work slice, and those that it can follow at all.
 use Prim.Native.Nat.{ℕ, zero, suc, _+_, _*_, _/_, _%_, _≤_, _<_}
 use mathlib.Core.Path.{_≡_}
 use mathlib.Core.Bool.{Bool, cond, true, false}

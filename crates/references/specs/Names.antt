@@ -1,4 +1,4 @@
--- What the name searches promise: the name as a part of a sheet, the followed targets in the work slice. Assumes nothing.
+-- Contract. What the name searches promise: the name as a part of a sheet, the followed targets in the work slice.
 use Prim.Native.Nat.{ℕ, _+_, _*_, _≤_}
 use mathlib.Core.Path.{_≡_}
 use mathlib.Core.Bool.{Bool, true, false, cond, not}

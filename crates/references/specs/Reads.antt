@@ -1,4 +1,4 @@
--- How many entries a search reads (document 02, E14): the searches with the number beside each outcome, refused or done. Assumes nothing.
+-- Definition. How many entries a search reads (document 02, E14): the searches with the number beside each outcome, refused or done.
 use Prim.Native.Nat.{ℕ, zero, suc, _+_, _-_, _*_, _≤_}
 use mathlib.Core.Path.{_≡_}
 use mathlib.Core.Bool.{Bool, cond, _&&_}

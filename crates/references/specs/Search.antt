@@ -1,4 +1,4 @@
--- Names and declarations by reference (the Rust's convert/dwarf/references.rs, without its caches). Assumes nothing.
+-- Definition. Names and declarations by reference (the Rust's convert/dwarf/references.rs, without its caches).
 use Prim.Native.Nat.{ℕ, zero, suc, _+_, _-_, _^_}
 use mathlib.Core.Bool.{Bool, true, false, cond, _&&_, _||_}
 use mathlib.Core.List.{List, [], _∷_, _++_}

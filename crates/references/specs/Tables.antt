@@ -1,4 +1,4 @@
--- The index of a sheet in the work slice, as the searches use it, and what is read of an entry. Assumes nothing.
+-- Contract. The index of a sheet in the work slice, as the searches use it, and what is read of an entry.
 use Prim.Native.Nat.{ℕ, _+_, _-_, _*_, _≤_}
 use mathlib.Core.Path.{_≡_}
 use mathlib.Core.Bool.{cond}

@@ -8,7 +8,7 @@ ghost use Rattle.references.specs.Tables.{IndexIn, Leads, LeadsIn};
 use access::access::Place;
 use access::index::Found;
 use access::index::find_entry;
-use access::units::unit_containing;
+use access::units::unit_containing_offset;
 
 // Where the tables of a sheet's units and entries stand in the work slice.
 pub struct Index {
@@ -41,7 +41,7 @@ pub fn target_at(s: &[u8], work: &[u8], x: Index, target: u64) -> Target
     let unit_count = x.unit_count;
     let entries = x.entries;
     let entry_count = x.entry_count;
-    let Place::At(q) = unit_containing(work, units, unit_count, target) else {
+    let Place::At(q) = unit_containing_offset(work, units, unit_count, target) else {
         return Target::Outside;
     };
     let Found::At { place, unit } = find_entry(work, entries, entry_count, target) else {

@@ -1,4 +1,4 @@
--- The table of small range lists holds, by computing. Assumes nothing.
+-- The table of small range lists holds, by computing.
 use mathlib.Core.Path.{refl}
 use Rattle.rnglists.specs.Cases.{AllCases}
 

@@ -1,4 +1,4 @@
--- A range list is read as the Standard says, but for its limits and its dead ranges. Assumes nothing.
+-- A range list is read as the Standard says, but for its limits and its dead ranges.
 use mathlib.Core.Path.{_≡_, refl, sym, ap, _∙_}
 use mathlib.Core.Logic.{_⊎_, inl, inr}
 use mathlib.Core.Bool.{Bool, true, false, cond, _&&_}

@@ -1,4 +1,4 @@
--- What the import needs of an entry's ranges, wherever they come from: addresses of 64 bits, a reason that fits, a refusal's number. Assumes nothing.
+-- What the import needs of an entry's ranges, wherever they come from: addresses of 64 bits, a reason that fits, a refusal's number.
 use mathlib.Core.Path.{_≡_, refl}
 use mathlib.Core.Logic.{_⊎_, inl, inr}
 use mathlib.Core.Bool.{false, true≢false}

@@ -1,4 +1,4 @@
--- An entry of a range list: how many bytes it takes, and which kinds give a range. Assumes nothing.
+-- An entry of a range list: how many bytes it takes, and which kinds give a range.
 use mathlib.Core.Path.{_≡_, refl, sym, ap, _∙_}
 use mathlib.Core.Bool.{Bool, true, false, cond}
 use mathlib.Core.List.{List, [], _∷_}

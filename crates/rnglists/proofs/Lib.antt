@@ -4,6 +4,3 @@ pub mod RangeListLaws
 pub mod Conforms
 pub mod DieRangeLaws
 pub mod RoomLaws
-pub mod MeaningLaws
-pub mod ReadLaws
-pub mod NextLaws

@@ -1,4 +1,4 @@
--- The ranges of a list: how many they are, how large their addresses, and one entry at a time. Assumes nothing.
+-- The ranges of a list: how many they are, how large their addresses, and one entry at a time.
 use mathlib.Core.Path.{_≡_, refl, ap, _∙_}
 use mathlib.Core.Bool.{_&&_}
 use mathlib.Core.List.{List, [], _∷_}

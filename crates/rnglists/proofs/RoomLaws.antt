@@ -1,4 +1,4 @@
--- The room of range lists in the work slice. Assumes nothing.
+-- The room of range lists in the work slice.
 -- t is a third of the list section's bytes: a list gives t ranges at the most (list-few). n nodes are open, 256 at the most; the unit has N fields 1f, of which l are still to come,
 -- the entry at hand included; u ranges stand in the stack, of R fields 19, of which a are still to come.
 use mathlib.Core.Path.{_≡_, ap, _∙_}

@@ -1,4 +1,4 @@
--- The room that range lists (document 02, E9) need where the ranges of open nodes stand. Assumes nothing.
+-- Contract. The room that range lists (document 02, E9) need where the ranges of open nodes stand.
 use Prim.Native.Nat.{ℕ, min}
 
 -- how many lists can stand there at once: one for each of the 256 nodes that can be open, and the one that is read

@@ -1,4 +1,4 @@
--- What the functions of range lists promise: a place stands for the bytes from there on. Assumes nothing.
+-- Contract. What the functions of range lists promise: a place stands for the bytes from there on.
 use Prim.Native.Nat.{ℕ, _+_, _≤_, _<_}
 use mathlib.Core.Path.{_≡_}
 use mathlib.Core.Bool.{cond, _||_}

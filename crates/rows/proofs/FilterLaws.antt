@@ -1,4 +1,4 @@
--- What is kept of a list, and the first, the last and some element that pass a test: of lists put together, and where no element passes. Assumes nothing.
+-- What is kept of a list, and the first, the last and some element that pass a test: of lists put together, and where no element passes.
 use mathlib.Core.Path.{_≡_, refl, sym, ap, _∙_}
 use mathlib.Core.Bool.{Bool, false, cond}
 use mathlib.Core.List.{List, [], _∷_, _++_}

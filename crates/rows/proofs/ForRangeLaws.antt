@@ -1,4 +1,4 @@
--- A function's rows: its own, with the row in force before them where they start late, freed of neighbours that repeat. Assumes nothing.
+-- A function's rows: its own, with the row in force before them where they start late, freed of neighbours that repeat.
 use mathlib.Core.Path.{_≡_, refl, sym, ap, _∙_}
 use mathlib.Core.Bool.{Bool, true, false, cond, _&&_, not}
 use mathlib.Core.Logic.{inl, inr}

@@ -1,4 +1,4 @@
--- The loop from the front on small tables, in order and not. Assumes nothing.
+-- The loop from the front on small tables, in order and not.
 use Prim.Native.Nat.{ℕ}
 use mathlib.Core.Path.{_≡_, refl}
 use mathlib.Core.List.{List, [], _∷_}

@@ -1,5 +1,5 @@
 -- The loop from the front of a table: its turns, that it needs nothing behind the row where it ends, that rows below the range may be passed over, and that
--- of sorted rows it takes those of the range. Assumes nothing.
+-- of sorted rows it takes those of the range.
 use mathlib.Core.Path.{_≡_, refl, sym, ap, _∙_}
 use mathlib.Core.Bool.{Bool, true, false, cond, _&&_}
 use mathlib.Core.List.{List, [], _∷_, map, cons≢nil}

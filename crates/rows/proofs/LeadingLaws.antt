@@ -1,4 +1,4 @@
--- Sorted rows: how many at the front are below an address, what holds of those and of the others, and the two steps of a search by halves. Assumes nothing.
+-- Sorted rows: how many at the front are below an address, what holds of those and of the others, and the two steps of a search by halves.
 use mathlib.Core.Path.{_≡_, refl, ap}
 use mathlib.Core.List.{List, [], _∷_}
 use Prim.Native.Nat.{ℕ, zero, suc, _+_, _*_, _≤_, _<_}

@@ -1,14 +1,8 @@
 pub mod StoredLaws
 pub mod SortLaws
-pub mod MergeLaws
-pub mod PassLaws
-pub mod DropLaws
-pub mod SameLaws
 pub mod LeadingLaws
 pub mod FilterLaws
 pub mod FrontLaws
 pub mod FrontExamples
-pub mod OwnRowLaws
 pub mod SequenceLaws
-pub mod EarlierLaws
 pub mod ForRangeLaws

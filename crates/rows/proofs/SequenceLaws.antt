@@ -1,4 +1,4 @@
--- The search of a unit's sequences from the first on: for the one that is asked for, and for the first that covers an address. Assumes nothing.
+-- The search of a unit's sequences from the first on: for the one that is asked for, and for the first that covers an address.
 use mathlib.Core.Path.{_≡_, refl, sym, ap, _∙_}
 use mathlib.Core.Bool.{Bool, true, false, _&&_}
 use mathlib.Core.List.{List}

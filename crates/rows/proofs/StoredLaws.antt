@@ -1,4 +1,4 @@
--- Rows and sequences in a list of bytes: their fields, what the writes make of them, and the laws of their tables. Assumes nothing.
+-- Rows and sequences in a list of bytes: their fields, what the writes make of them, and the laws of their tables.
 use mathlib.Core.Path.{_≡_, refl, sym, ap, _∙_}
 use mathlib.Core.Logic.{inl, inr}
 use mathlib.Core.Bool.{cond}

@@ -1,4 +1,4 @@
--- A unit's lines in the work slice, and what the functions that select a function's rows promise. Assumes nothing.
+-- Contract. A unit's lines in the work slice, and what the functions that select a function's rows promise.
 use Prim.Native.Nat.{ℕ, suc, _+_, _*_, _≤_, _<_}
 use mathlib.Core.Path.{_≡_}
 use mathlib.Core.Bool.{cond}

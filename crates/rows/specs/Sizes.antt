@@ -1,4 +1,4 @@
--- How many bytes rows and sequences have as records, each named once. The code's constants of these names are in `line`. Assumes nothing.
+-- Contract. How many bytes rows and sequences have as records, each named once. The code's constants of these names are in `line`.
 use Prim.Native.Nat.{ℕ, _+_, _*_}
 
 -- a sequence's offset: whether there is one, 1 byte, and the offset, 8

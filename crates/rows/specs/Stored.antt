@@ -1,4 +1,4 @@
--- Rows and sequences as records in a list of bytes (document 01: the work slice), and what the functions that read and write one promise. Assumes nothing.
+-- Contract. Rows and sequences as records in a list of bytes (document 01: the work slice), and what the functions that read and write one promise.
 use Prim.Native.Nat.{ℕ, _+_}
 use mathlib.Core.Path.{_≡_}
 use mathlib.Core.Bool.{cond}

@@ -1,4 +1,4 @@
--- What the searches of two sheets need has room and stands in the work slice, and a search leaves it there. Assumes nothing.
+-- What the searches of two sheets need has room and stands in the work slice, and a search leaves it there.
 use mathlib.Core.Path.{_≡_, _∙_}
 use mathlib.Core.Logic.{inl, inr}
 use mathlib.Core.Bool.{Bool, true}
@@ -9,12 +9,11 @@ use lib.ListN.{length}
 use Rattle.tlv.specs.Outcome.{Outcome}
 use Rattle.tlv.specs.Fields.{fields, wholeFields, payloads}
 use Rattle.tlv.specs.Checked.{Accepts}
-use Rattle.tlv.specs.Lists.{Any}
 use Rattle.tlv.specs.Limits.{joinedLimit}
 use Rattle.buffers.specs.Table.{KeptBut, Clear}
 use Rattle.buffers.proofs.TableLaws.{kept-trans, kept-wide, but-of, here}
 use Rattle.buffers.proofs.RecordLaws.{records-kept}
-use Rattle.access.specs.Places.{unitPlaces}
+use Rattle.access.specs.Places.{unitPlaces, UnitOf}
 use Rattle.access.specs.Index.{Indexed}
 use Rattle.access.specs.Units.{unitOf24, IndexedUnits}
 use Rattle.access.proofs.IndexLaws.{index-length}
@@ -74,7 +73,7 @@ sheet-indexed {s} {w} {w₁} {w₂} {base} {n} {a} {b} e h A B =
 -- ---- the tables of both
 
 -- a unit's directories and files are no more than the fields of its sheet
-map-fits : (s : List ℕ) (n k : ℕ) → Accepts s n → n ≤ k → (q : ℕ) → Any (λ p. p ≡ q) (unitPlaces 0 (fields s)) → mapExtent s q ≤ k * 8 + 5
+map-fits : (s : List ℕ) (n k : ℕ) → Accepts s n → n ≤ k → (q : ℕ) → UnitOf s q → mapExtent s q ≤ k * 8 + 5
 map-fits s n k e few q any = omega (arith, directories-few s q any, files-few-in s q any, tags-few s n e)
 
 -- one sheet's behind the other's, and the followed targets behind them

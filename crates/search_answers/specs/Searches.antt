@@ -1,14 +1,12 @@
--- What the program's functions tell each other of two sheets: that there is room for what their searches need, and that it stands ready. Assumes nothing.
+-- Contract. What the program's functions tell each other of two sheets: that there is room for what their searches need, and that it stands ready.
 use Prim.Native.Nat.{ℕ, _+_, _*_, _≤_, _<_, _^_}
 use mathlib.Core.Path.{_≡_}
 use mathlib.Core.Bool.{Bool, true, false}
 use mathlib.Core.List.{List}
 use lib.ListN.{length}
-use Rattle.tlv.specs.Lists.{Any}
-use Rattle.tlv.specs.Fields.{fields}
 use Rattle.tlv.specs.Limits.{joinedLimit}
 use Rattle.buffers.specs.Table.{Kept}
-use Rattle.access.specs.Places.{unitPlaces}
+use Rattle.access.specs.Places.{UnitOf}
 use Rattle.access.specs.Units.{unitRecord}
 use Rattle.access.specs.Index.{entryRecord}
 use Rattle.files.specs.Possible.{possibleFiles}
@@ -59,5 +57,5 @@ pub record SearchesIn (main supplementary w : List ℕ) (d : Places) (files : �
   pub main-entries : d .spans + d .room ≤ d .tables .main .entries
   pub supplementary-units : d .spans + d .room ≤ d .tables .supplementary .units
   pub supplementary-entries : d .spans + d .room ≤ d .tables .supplementary .entries
-  pub room-main : (q : ℕ) → Any (λ p. p ≡ q) (unitPlaces 0 (fields main)) → mapExtent main q ≤ d .room
-  pub room-supplementary : (q : ℕ) → Any (λ p. p ≡ q) (unitPlaces 0 (fields supplementary)) → mapExtent supplementary q ≤ d .room
+  pub room-main : (q : ℕ) → UnitOf main q → mapExtent main q ≤ d .room
+  pub room-supplementary : (q : ℕ) → UnitOf supplementary q → mapExtent supplementary q ≤ d .room

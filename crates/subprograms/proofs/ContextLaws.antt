@@ -1,4 +1,4 @@
--- What stands in the work slice for a unit's import stays while the rest of it is written to. Assumes nothing.
+-- What stands in the work slice for a unit's import stays while the rest of it is written to.
 use mathlib.Core.Path.{_≡_, sym, subst, ap, _∙_}
 use mathlib.Core.Logic.{inl, inr, ⊎-elim}
 use mathlib.Core.List.{List, [], _∷_}
@@ -13,7 +13,7 @@ use Rattle.tlv.specs.Model.{rangeOf as addressesOf}
 use Rattle.buffers.specs.Table.{Kept, Clear, KeptBut}
 use Rattle.buffers.proofs.TableLaws.{here, there, but-of}
 use Rattle.buffers.proofs.RecordLaws.{records-but}
-use Rattle.access.specs.Places.{unitHere, unitPlaces}
+use Rattle.access.specs.Places.{unitHere, unitPlaces, UnitOf}
 use Rattle.files.specs.declared.store.StoredFiles.{StoredFiles}
 use Rattle.files.specs.Store.{extent, FilesIn}
 use Rattle.files.specs.Indices.{indexOf, indicesOf, indicesIn}
@@ -27,7 +27,7 @@ use Rattle.declarations.proofs.DeclareFrames.{index-clear}
 use Rattle.ranges.specs.RangeTable.{rangesAt}
 use Rattle.dies.specs.Details.{dwarfWith}
 use Rattle.subprograms.specs.declared.model.ImportContext.{ImportContext}
-use Rattle.subprograms.specs.Contexts.{UnitOf, contextWith, Ordered, ContextIn, touched, walkExtent}
+use Rattle.subprograms.specs.Contexts.{contextWith, Ordered, ContextIn, touched, walkExtent}
 
 -- ---- a unit by its number stands among all
 

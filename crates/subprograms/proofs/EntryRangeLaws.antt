@@ -1,4 +1,4 @@
--- Where an entry's ranges come from: its list, or its fields. Assumes nothing.
+-- Where an entry's ranges come from: its list, or its fields.
 use mathlib.Core.Path.{_≡_, refl, sym, ap, _∙_}
 use mathlib.Core.Bool.{false}
 use mathlib.Core.List.{List, [], _∷_}
@@ -33,7 +33,7 @@ use Rattle.dies.proofs.EntryWalkLaws.{lists-entry, lists-most}
 use Rattle.subprograms.specs.declared.model.ImportState.{ImportState}
 use Rattle.subprograms.specs.declared.model.ImportContext.{ImportContext}
 use Rattle.subprograms.specs.Contexts.{ContextIn, contextWith}
-use Rattle.subprograms.specs.Steps.{Imports, importFailing, importListed, belowEntry}
+use Rattle.subprograms.specs.Steps.{sheets, memory, Imports, importFailing, importListed, belowEntry}
 use Rattle.subprograms.proofs.StepLaws.{grows-as}
 use Rattle.subprograms.proofs.RangesLaws.{start-placed}
 
@@ -71,9 +71,8 @@ ownPayloads main p = payloads 0x1f (ownFields (fields (drop (p + 15) main)))
 sourced : {main supplementary : List ℕ} (lists addresses : List ℕ) (q : ImportContext) (name : List ℕ) (p : ℕ) {t f u w w′ t′ f′ u′ : List ℕ}
     {st r : ImportState} {d : DieRanges}
     → dieRanges (dwarfWith main supplementary lists addresses) (entryHere main p) ≡ d
-    → Imports (λ s. importFailing (contextWith main supplementary lists addresses w q) (entryHere main p) (belowEntry main p) name (d .given) (d .failure) s)
-    main supplementary q w t f u st w′ t′ f′ u′ r
-    → Imports (NamedFrom main supplementary lists addresses q name p w) main supplementary q w t f u st w′ t′ f′ u′ r
+    → Imports (λ s. importFailing (contextWith main supplementary lists addresses w q) (entryHere main p) (belowEntry main p) name (d .given) (d .failure) s) (sheets main supplementary) q (memory w t f u) st (memory w′ t′ f′ u′) r
+    → Imports (NamedFrom main supplementary lists addresses q name p w) (sheets main supplementary) q (memory w t f u) st (memory w′ t′ f′ u′) r
 sourced {main} {supplementary} lists addresses q name p {w = w} e I =
     grows-as
     (λ s. by-given (contextWith main supplementary lists addresses w q) (entryHere main p) (belowEntry main p) name
@@ -93,8 +92,8 @@ module _ {main supplementary w : List ℕ} {q : ImportContext} {T : StoredFiles}
 
   -- from its fields 19 and 1a
   from-fields : (lists addresses name : List ℕ) {t f u w′ t′ f′ u′ : List ℕ} {st r : ImportState} → ownPayloads main p ≡ []
-      → Imports (FieldsFrom main supplementary lists addresses q name p w) main supplementary q w t f u st w′ t′ f′ u′ r
-      → Imports (NamedFrom main supplementary lists addresses q name p w) main supplementary q w t f u st w′ t′ f′ u′ r
+      → Imports (FieldsFrom main supplementary lists addresses q name p w) (sheets main supplementary) q (memory w t f u) st (memory w′ t′ f′ u′) r
+      → Imports (NamedFrom main supplementary lists addresses q name p w) (sheets main supplementary) q (memory w t f u) st (memory w′ t′ f′ u′) r
   unfolding dieRanges
   from-fields lists addresses name e I = sourced lists addresses q name p (ap (dieRangesBy lists addresses (entryHere main p)) (list-none e)) I
 
@@ -114,8 +113,8 @@ module _ {main supplementary w : List ℕ} {q : ImportContext} {T : StoredFiles}
   module _ {o : Own} (N : NextOwn main (p + 15) 0x1f o) where
     -- this one has none
     pub named-unlisted : (lists addresses name : List ℕ) {t f u w′ t′ f′ u′ : List ℕ} {st r : ImportState} → o ≡ Own.Missing
-        → Imports (FieldsFrom main supplementary lists addresses q name p w) main supplementary q w t f u st w′ t′ f′ u′ r
-        → Imports (NamedFrom main supplementary lists addresses q name p w) main supplementary q w t f u st w′ t′ f′ u′ r
+        → Imports (FieldsFrom main supplementary lists addresses q name p w) (sheets main supplementary) q (memory w t f u) st (memory w′ t′ f′ u′) r
+        → Imports (NamedFrom main supplementary lists addresses q name p w) (sheets main supplementary) q (memory w t f u) st (memory w′ t′ f′ u′) r
     named-unlisted lists addresses name e I = from-fields lists addresses name (sym (rw e at (N .is))) I
 
     module _ {start len next : ℕ} (e : o ≡ Own.Field start len next) (h : Placed main (p + 15)) where
@@ -146,7 +145,7 @@ module _ {main supplementary w : List ℕ} {q : ImportContext} {T : StoredFiles}
       -- from its list
       pub named-listed : (lists addresses name : List ℕ) {t f u w′ t′ f′ u′ : List ℕ} {st r : ImportState}
           → Imports (importListed (contextWith main supplementary lists addresses w q) (entryHere main p) (belowEntry main p) name
-          (listOf main lists addresses start)) main supplementary q w t f u st w′ t′ f′ u′ r
-          → Imports (NamedFrom main supplementary lists addresses q name p w) main supplementary q w t f u st w′ t′ f′ u′ r
+          (listOf main lists addresses start)) (sheets main supplementary) q (memory w t f u) st (memory w′ t′ f′ u′) r
+          → Imports (NamedFrom main supplementary lists addresses q name p w) (sheets main supplementary) q (memory w t f u) st (memory w′ t′ f′ u′) r
       unfolding dieRanges listRanges
       named-listed lists addresses name I = sourced lists addresses q name p (ap (dieRangesBy lists addresses (entryHere main p)) list-some) I

@@ -1,4 +1,4 @@
--- One entry of a unit: passed over, refused, nameless, or imported by its name. Assumes nothing.
+-- One entry of a unit: passed over, refused, nameless, or imported by its name.
 use mathlib.Core.Path.{_≡_, refl, sym, ap, _∙_}
 use mathlib.Core.Bool.{true, false}
 use mathlib.Core.Logic.{inl}
@@ -40,7 +40,7 @@ use Rattle.dies.proofs.SiteStepLaws.{given-refused, given-done}
 use Rattle.subprograms.specs.declared.model.ImportState.{ImportState}
 use Rattle.subprograms.specs.declared.model.ImportContext.{ImportContext}
 use Rattle.subprograms.specs.Contexts.{ContextIn, contextWith, touched, walkExtent}
-use Rattle.subprograms.specs.Steps.{Imports, importEntry, belowEntry}
+use Rattle.subprograms.specs.Steps.{sheets, memory, Imports, importEntry, belowEntry}
 use Rattle.subprograms.proofs.ContextLaws.{context-kept, context-same, touched-walk}
 use Rattle.subprograms.proofs.StepLaws.{grows-beside, grows-none, imports-then, grows-as}
 
@@ -133,7 +133,7 @@ module _ {main supplementary w w₁ : List ℕ} {q : ImportContext} {table : Sto
 module _ {main supplementary w : List ℕ} (lists addresses : List ℕ) {q : ImportContext} {p : ℕ} (st : ImportState) (C : ContextIn main supplementary w q (st .table)) (K : EntryKnown main (q .unit) p) where
   -- another entry than a subprogram
   pub entry-passed : {t f u : List ℕ} → (leAt 2 main (p + 13) ≡ 0x2e → ⊥) → st .status ≡ 0 → st .at ≤ top → st .warned ≤ top → length t < top → length f < top → length u < top
-      → Imports (importEntry (contextWith main supplementary lists addresses w q) (entryHere main p) (belowEntry main p)) main supplementary q w t f u st w t f u st
+      → Imports (importEntry (contextWith main supplementary lists addresses w q) (entryHere main p) (belowEntry main p)) (sheets main supplementary) q (memory w t f u) st (memory w t f u) st
   entry-passed h ok at warned small tiny few =
       grows-as (λ s. entry-other (contextWith main supplementary lists addresses w q) (entryHere main p) (belowEntry main p) s (λ e. h (sym (tag-is C K) ∙ e)))
       (grows-none (C .files) ok at warned small tiny few)
@@ -145,8 +145,7 @@ module _ {main supplementary w : List ℕ} (lists addresses : List ℕ) {q : Imp
     same-name = name-same lists addresses (dwarfOf main supplementary) (unitHere main (q .unit)) (entryHere main p)
 
     pub name-refused : {t f u : List ℕ} → (st′ ≡ 0 → ⊥)
-        → Imports (importEntry (contextWith main supplementary lists addresses w q) (entryHere main p) (belowEntry main p)) main supplementary q w t f u st w₁ t f u
-        (record { table = st .table; at = st .at; warned = st .warned; stats = st .stats; status = st′; past = st .past })
+        → Imports (importEntry (contextWith main supplementary lists addresses w q) (entryHere main p) (belowEntry main p)) (sheets main supplementary) q (memory w t f u) st (memory w₁ t f u) (record { table = st .table; at = st .at; warned = st .warned; stats = st .stats; status = st′; past = st .past })
     name-refused h = record {
       records = [];
       new = [];
@@ -161,18 +160,18 @@ module _ {main supplementary w : List ℕ} (lists addresses : List ℕ) {q : Imp
 
     module _ (size : length w₁ ≡ length w) (z : st′ ≡ 0) {found : FoundName} (ef : found ≡ foundName name) {t f u : List ℕ}
         (ok : st .status ≡ 0) (at : st .at ≤ top) (warned : st .warned ≤ top) (small : length t < top) (tiny : length f < top) (few : length u < top) where
-      searched : Imports done main supplementary q w t f u st w₁ t f u st
+      searched : Imports done (sheets main supplementary) q (memory w t f u) st (memory w₁ t f u) st
       searched = grows-beside (walk-written C (R .rest)) (same-table C (R .rest)) (files-after C (R .rest) size) ok at warned small tiny few
 
       pub name-empty : found ≡ FoundName.Missing
-          → Imports (importEntry (contextWith main supplementary lists addresses w q) (entryHere main p) (belowEntry main p)) main supplementary q w t f u st w₁ t f u st
+          → Imports (importEntry (contextWith main supplementary lists addresses w q) (entryHere main p) (belowEntry main p)) (sheets main supplementary) q (memory w t f u) st (memory w₁ t f u) st
       name-empty e =
           grows-as (λ s. entry-nameless (contextWith main supplementary lists addresses w q) (entryHere main p) (belowEntry main p) s (tag-is C K ∙ is) (same-name ∙ given-done st′ name (R .is) z) (name-missing name found ef e))
           searched
 
       pub name-given : {k : ℕ} → found ≡ FoundName.Found k → {w₂ t₂ f₂ u₂ : List ℕ} {r : ImportState}
-          → Imports (importByFailure (contextWith main supplementary lists addresses w₁ q) (entryHere main p) (belowEntry main p) name (dieRanges (dwarfWith main supplementary lists addresses) (entryHere main p) .failure)) main supplementary q w₁ t f u st w₂ t₂ f₂ u₂ r
-          → Imports (importEntry (contextWith main supplementary lists addresses w q) (entryHere main p) (belowEntry main p)) main supplementary q w t f u st w₂ t₂ f₂ u₂ r
+          → Imports (importByFailure (contextWith main supplementary lists addresses w₁ q) (entryHere main p) (belowEntry main p) name (dieRanges (dwarfWith main supplementary lists addresses) (entryHere main p) .failure)) (sheets main supplementary) q (memory w₁ t f u) st (memory w₂ t₂ f₂ u₂) r
+          → Imports (importEntry (contextWith main supplementary lists addresses w q) (entryHere main p) (belowEntry main p)) (sheets main supplementary) q (memory w t f u) st (memory w₂ t₂ f₂ u₂) r
       name-given {k} e I =
           grows-as
           (λ s. entry-named (contextWith main supplementary lists addresses w q) (entryHere main p) (belowEntry main p) s (tag-is C K ∙ is) (same-name ∙ given-done st′ name (R .is) z) (name-found name found k ef e)

@@ -1,4 +1,4 @@
--- Whether a record's bytes pass the largest place: its head and its rows have so many bytes, and of two lays the first or the second does. Assumes nothing.
+-- Whether a record's bytes pass the largest place: its head and its rows have so many bytes, and of two lays the first or the second does.
 use mathlib.Core.Path.{_≡_, refl, sym, ap, _∙_}
 use mathlib.Core.Bool.{Bool, true, false, _||_}
 use mathlib.Core.List.{List, [], _∷_, _++_}

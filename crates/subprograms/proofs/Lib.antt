@@ -1,17 +1,6 @@
 pub mod ContextLaws
 pub mod LaidPastLaws
-pub mod SectionStepLaws
 pub mod StepLaws
-pub mod SequenceLaws
-pub mod DeclaredLineLaws
-pub mod FunctionLineLaws
-pub mod NextEntryLaws
-pub mod DetailStepLaws
-pub mod RangeStepLaws
-pub mod CandidateLaws
 pub mod RangesLaws
-pub mod ListStepLaws
 pub mod EntryRangeLaws
 pub mod EntryStepLaws
-pub mod UnitLaws
-pub mod TextLaws

@@ -1,4 +1,4 @@
--- The ranges of a subprogram one after the other, and the failure to read them. Assumes nothing.
+-- The ranges of a subprogram one after the other, and the failure to read them.
 use mathlib.Core.Path.{_≡_, refl, sym, ap, _∙_}
 use mathlib.Core.Bool.{Bool, true, false, cond}
 use mathlib.Core.List.{List, [], _∷_, map, append-nil}
@@ -39,7 +39,7 @@ use Rattle.ranges.specs.RangeTable.{rangeFields}
 use Rattle.subprograms.specs.declared.model.ImportState.{ImportState}
 use Rattle.subprograms.specs.declared.model.ImportContext.{ImportContext}
 use Rattle.subprograms.specs.Contexts.{ContextIn, contextWith}
-use Rattle.subprograms.specs.Steps.{Imports, Rejects, importOne, importFailing, belowEntry}
+use Rattle.subprograms.specs.Steps.{sheets, memory, Imports, Rejects, importOne, importFailing, belowEntry}
 use Rattle.subprograms.proofs.ContextLaws.{context-same}
 use Rattle.subprograms.proofs.StepLaws.{grows-none, imports-then, grows-refused, grows-as, imports-rejected, grows-at, imports-context}
 
@@ -124,8 +124,8 @@ pub record Going (main supplementary lists addresses : List ℕ) (q : ImportCont
   pub files-size : length f ≡ length f₀
   pub warnings-size : length u ≡ length u₀
   pub finish : (w′ t′ f′ u′ : List ℕ) (r : ImportState)
-      → Imports (RangesFrom main supplementary lists addresses q name p w₀ (map entryRangeOf (rangeFields main at))) main supplementary q w t f u st w′ t′ f′ u′ r
-      → Imports (RangesFrom main supplementary lists addresses q name p w₀ (entryHere main p .ranges)) main supplementary q w₀ t₀ f₀ u₀ st₀ w′ t′ f′ u′ r
+      → Imports (RangesFrom main supplementary lists addresses q name p w₀ (map entryRangeOf (rangeFields main at))) (sheets main supplementary) q (memory w t f u) st (memory w′ t′ f′ u′) r
+      → Imports (RangesFrom main supplementary lists addresses q name p w₀ (entryHere main p .ranges)) (sheets main supplementary) q (memory w₀ t₀ f₀ u₀) st₀ (memory w′ t′ f′ u′) r
 
 module _ {main supplementary w₀ : List ℕ} {q : ImportContext} {p : ℕ} {st₀ : ImportState} (lists addresses name t₀ f₀ u₀ : List ℕ) where
   pub going-start : ContextIn main supplementary w₀ q (st₀ .table) → EntryKnown main (q .unit) p → Placed main (p + 15)
@@ -148,7 +148,7 @@ module _ {main supplementary w₀ : List ℕ} {q : ImportContext} {p : ℕ} {st�
 module _ {main supplementary lists addresses : List ℕ} {q : ImportContext} {name : List ℕ} {p : ℕ} {w₀ t₀ f₀ u₀ : List ℕ} {st₀ : ImportState} {w t f u : List ℕ} {st : ImportState} {at : ℕ}
     (G : Going main supplementary lists addresses q name p w₀ t₀ f₀ u₀ st₀ w t f u st at) {own : Own} (N : NextOwn main at 0x19 own) where
   pub going-done : own ≡ Own.Missing → length t < top → length f < top → length u < top
-      → Imports (RangesFrom main supplementary lists addresses q name p w₀ (entryHere main p .ranges)) main supplementary q w₀ t₀ f₀ u₀ st₀ w t f u st
+      → Imports (RangesFrom main supplementary lists addresses q name p w₀ (entryHere main p .ranges)) (sheets main supplementary) q (memory w₀ t₀ f₀ u₀) st₀ (memory w t f u) st
   going-done e kt kf ku =
       G .finish w t f u st
       (grows-as (λ s. ap (λ xs. RangesFrom main supplementary lists addresses q name p w₀ xs s) (given-end main at own N e) ∙ ranges-none (contextWith main supplementary lists addresses w₀ q) (entryHere main p) (belowEntry main p) name s)
@@ -159,7 +159,7 @@ module _ {main supplementary lists addresses : List ℕ} {q : ImportContext} {na
     going-within = omega (arith, long main at own N start len next e (G .placed), own-within main at 0x19 own start len next N e)
 
     module _ {x : AddressRange} {flag : ℕ} (ex : x ≡ rangeOf (chunk main start 16)) (ef : flag ≡ leAt 1 main (start + 16)) {w′ t′ f′ u′ : List ℕ} {r : ImportState}
-        (I : Imports (RangeOne main supplementary lists addresses q name p w x flag) main supplementary q w t f u st w′ t′ f′ u′ r) where
+        (I : Imports (RangeOne main supplementary lists addresses q name p w x flag) (sheets main supplementary) q (memory w t f u) st (memory w′ t′ f′ u′) r) where
       turn : (s : State) → RangesFrom main supplementary lists addresses q name p w₀ (map entryRangeOf (rangeFields main at)) s
           ≡ RangeOne main supplementary lists addresses q name p w x flag s
           >>= RangesFrom main supplementary lists addresses q name p w₀ (map entryRangeOf (rangeFields main next))
@@ -169,7 +169,7 @@ module _ {main supplementary lists addresses : List ℕ} {q : ImportContext} {na
           ∙ ap (λ (k : import.ImportContext). importOne k (entryHere main p) (belowEntry main p) name (record { range = x; tombstone = eqb flag 1 }) s >>= RangesFrom main supplementary lists addresses q name p w₀ (map entryRangeOf (rangeFields main next))) (sym (G .same))
 
       pub going-refused : (r .status ≡ 0 → ⊥)
-          → Imports (RangesFrom main supplementary lists addresses q name p w₀ (entryHere main p .ranges)) main supplementary q w₀ t₀ f₀ u₀ st₀ w′ t′ f′ u′ r
+          → Imports (RangesFrom main supplementary lists addresses q name p w₀ (entryHere main p .ranges)) (sheets main supplementary) q (memory w₀ t₀ f₀ u₀) st₀ (memory w′ t′ f′ u′) r
       going-refused n = G .finish w′ t′ f′ u′ r (grows-as turn (grows-refused (RangesFrom main supplementary lists addresses q name p w₀ (map entryRangeOf (rangeFields main next))) n I))
 
       pub going-turn : r .status ≡ 0 → length w′ ≡ length w → length t′ ≡ length t → length f′ ≡ length f → length u′ ≡ length u
@@ -242,34 +242,34 @@ module _ {main supplementary w : List ℕ} {q : ImportContext} {T : StoredFiles}
 module _ {main supplementary w : List ℕ} {q : ImportContext} {st : ImportState} {p : ℕ} (lists addresses name : List ℕ) (C : ContextIn main supplementary w q (st .table)) (K : EntryKnown main (q .unit) p)
     (h : Placed main (p + 15)) {own : Own} (N : NextOwn main (p + 15) 0x1a own) where
   pub named-whole : {t f u w′ t′ f′ u′ : List ℕ} {r : ImportState} → own ≡ Own.Missing
-      → Imports (RangesFrom main supplementary lists addresses q name p w (entryHere main p .ranges)) main supplementary q w t f u st w′ t′ f′ u′ r
-      → Imports (ByFailure main supplementary lists addresses q name p w (entryHere main p .failure)) main supplementary q w t f u st w′ t′ f′ u′ r
+      → Imports (RangesFrom main supplementary lists addresses q name p w (entryHere main p .ranges)) (sheets main supplementary) q (memory w t f u) st (memory w′ t′ f′ u′) r
+      → Imports (ByFailure main supplementary lists addresses q name p w (entryHere main p .failure)) (sheets main supplementary) q (memory w t f u) st (memory w′ t′ f′ u′) r
   named-whole e I = grows-as (λ s. rw (failure-none C K N e)) I
 
   module _ (start len next : ℕ) (e : own ≡ Own.Field start len next) {stage : ℕ} (es : stage ≡ leAt 1 main start) where
     -- before any range
     pub named-none : {t f u u′ : List ℕ} {warned : ℕ} {r : ImportState} → stage ≡ 0 → st .status ≡ 0 → st .at ≤ top → length t < top → length f < top
         → Put (st .warned) (encode 0x46 (warningPayload (malformedRanges false (reasonAt main start len)))) u u′ warned → Rejects st warned r
-        → Imports (ByFailure main supplementary lists addresses q name p w (entryHere main p .failure)) main supplementary q w t f u st w t f u′ r
+        → Imports (ByFailure main supplementary lists addresses q name p w (entryHere main p .failure)) (sheets main supplementary) q (memory w t f u) st (memory w t f u′) r
     named-none z ok fits kt kf P R =
         grows-as (λ s. rw (failure-some C K N h start len next stage e es, eq-eqb stage 0 z))
         (imports-rejected (malformedRanges false (reasonAt main start len) ∷ []) C ok fits kt kf (reason-put false (reasonAt main start len) P) R)
 
     module _ (n : stage ≡ 0 → ⊥) {t f u w′ t′ f′ u′ : List ℕ} {st′ : ImportState}
-        (I : Imports (RangesFrom main supplementary lists addresses q name p w (entryHere main p .ranges)) main supplementary q w t f u st w′ t′ f′ u′ st′) where
+        (I : Imports (RangesFrom main supplementary lists addresses q name p w (entryHere main p .ranges)) (sheets main supplementary) q (memory w t f u) st (memory w′ t′ f′ u′) st′) where
       after : (s : State) → ByFailure main supplementary lists addresses q name p w (entryHere main p .failure) s
           ≡ RangesFrom main supplementary lists addresses q name p w (entryHere main p .ranges) s >>= λ t. done (rejected (malformedRanges true (reasonAt main start len) ∷ []) t)
       after s = rw (failure-some C K N h start len next stage e es, ne-eqb stage 0 n)
 
       -- the ranges were refused
       pub named-refused : (st′ .status ≡ 0 → ⊥)
-          → Imports (ByFailure main supplementary lists addresses q name p w (entryHere main p .failure)) main supplementary q w t f u st w′ t′ f′ u′ st′
+          → Imports (ByFailure main supplementary lists addresses q name p w (entryHere main p .failure)) (sheets main supplementary) q (memory w t f u) st (memory w′ t′ f′ u′) st′
       named-refused k = grows-as after (grows-refused (λ s. done (rejected (malformedRanges true (reasonAt main start len) ∷ []) s)) k I)
 
       -- after the ranges
       pub named-after : {u″ : List ℕ} {warned : ℕ} {r : ImportState} → st′ .status ≡ 0 → length w′ ≡ length w → length t′ < top → length f′ < top
           → Put (st′ .warned) (encode 0x46 (warningPayload (malformedRanges true (reasonAt main start len)))) u′ u″ warned → Rejects st′ warned r
-          → Imports (ByFailure main supplementary lists addresses q name p w (entryHere main p .failure)) main supplementary q w t f u st w′ t′ f′ u″ r
+          → Imports (ByFailure main supplementary lists addresses q name p w (entryHere main p .failure)) (sheets main supplementary) q (memory w t f u) st (memory w′ t′ f′ u″) r
       named-after z size kt kf P R =
           grows-as after
           (imports-then q z I

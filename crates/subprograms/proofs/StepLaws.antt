@@ -1,4 +1,4 @@
--- Steps of an import one after the other. Assumes nothing.
+-- Steps of an import one after the other.
 use mathlib.Core.Path.{_≡_, refl, sym, ap, _∙_}
 use mathlib.Core.Bool.{_||_}
 use mathlib.Core.List.{List, [], _++_, append-nil, append-assoc}
@@ -21,7 +21,7 @@ use Rattle.dies.proofs.NodeStepLaws.{each-append, warnings-append}
 use Rattle.subprograms.specs.declared.model.ImportState.{ImportState}
 use Rattle.subprograms.specs.declared.model.ImportContext.{ImportContext}
 use Rattle.subprograms.specs.Contexts.{ContextIn, touched}
-use Rattle.subprograms.specs.Steps.{Grows, Imports, Rejects, stateOf}
+use Rattle.subprograms.specs.Steps.{sheets, memory, Grows, Imports, Rejects, stateOf}
 use Rattle.subprograms.proofs.ContextLaws.{context-kept, touched-as}
 use Rattle.subprograms.proofs.LaidPastLaws.{past-both}
 
@@ -42,7 +42,7 @@ module _ {main supplementary : List ℕ} {over : List (ℕ × ℕ)} where
   pub grows-beside : {w w′ t f u : List ℕ} {st : ImportState} → KeptBut w w′ over
       → tableOf main supplementary w′ (st .table) ≡ tableOf main supplementary w (st .table) → FilesIn main supplementary w′ (st .table)
       → st .status ≡ 0 → st .at ≤ top → st .warned ≤ top → length t < top → length f < top → length u < top
-      → Grows done main supplementary over w t f u st w′ t f u st
+      → Grows done (sheets main supplementary) over (memory w t f u) st (memory w′ t f u) st
   unfolding tableOf
   grows-beside {w} {w′} {t} {f} {u} {st} K same F z at-fits warned-fits t-small f-small u-small = record {
     records = [];
@@ -72,13 +72,13 @@ module _ {main supplementary : List ℕ} {over : List (ℕ × ℕ)} where
 
   -- nothing at all
   pub grows-none : {w t f u : List ℕ} {st : ImportState} → FilesIn main supplementary w (st .table) → st .status ≡ 0 → st .at ≤ top → st .warned ≤ top
-      → length t < top → length f < top → length u < top → Grows done main supplementary over w t f u st w t f u st
+      → length t < top → length f < top → length u < top → Grows done (sheets main supplementary) over (memory w t f u) st (memory w t f u) st
   grows-none {w} F = grows-beside (but-refl w over) refl F
 
   -- one step, which was done, and then another
   pub grows-then : {F G : State → Outcome State} {w t f u w₁ t₁ f₁ u₁ w₂ t₂ f₂ u₂ : List ℕ} {st st₁ st₂ : ImportState} → st₁ .status ≡ 0
-      → Grows F main supplementary over w t f u st w₁ t₁ f₁ u₁ st₁ → Grows G main supplementary over w₁ t₁ f₁ u₁ st₁ w₂ t₂ f₂ u₂ st₂
-      → Grows (λ s. F s >>= G) main supplementary over w t f u st w₂ t₂ f₂ u₂ st₂
+      → Grows F (sheets main supplementary) over (memory w t f u) st (memory w₁ t₁ f₁ u₁) st₁ → Grows G (sheets main supplementary) over (memory w₁ t₁ f₁ u₁) st₁ (memory w₂ t₂ f₂ u₂) st₂
+      → Grows (λ s. F s >>= G) (sheets main supplementary) over (memory w t f u) st (memory w₂ t₂ f₂ u₂) st₂
   unfolding _>>=_
   grows-then {F} {G} {w = w} {w₁ = w₁} {st = st} {st₁ = st₁} z A B = record {
     records = A .records ++ B .records;
@@ -98,7 +98,7 @@ module _ {main supplementary : List ℕ} {over : List (ℕ × ℕ)} where
 
   -- a step that was refused, whatever was to follow
   pub grows-refused : {F : State → Outcome State} (G : State → Outcome State) {w t f u w₁ t₁ f₁ u₁ : List ℕ} {st st₁ : ImportState} → (st₁ .status ≡ 0 → ⊥)
-      → Grows F main supplementary over w t f u st w₁ t₁ f₁ u₁ st₁ → Grows (λ s. F s >>= G) main supplementary over w t f u st w₁ t₁ f₁ u₁ st₁
+      → Grows F (sheets main supplementary) over (memory w t f u) st (memory w₁ t₁ f₁ u₁) st₁ → Grows (λ s. F s >>= G) (sheets main supplementary) over (memory w t f u) st (memory w₁ t₁ f₁ u₁) st₁
   unfolding _>>=_
   grows-refused G n A = record {
     records = A .records;
@@ -114,7 +114,7 @@ module _ {main supplementary : List ℕ} {over : List (ℕ × ℕ)} where
 
   -- the same step, told otherwise
   pub grows-as : {F G : State → Outcome State} {w t f u w₁ t₁ f₁ u₁ : List ℕ} {st st₁ : ImportState} → ((s : State) → G s ≡ F s)
-      → Grows F main supplementary over w t f u st w₁ t₁ f₁ u₁ st₁ → Grows G main supplementary over w t f u st w₁ t₁ f₁ u₁ st₁
+      → Grows F (sheets main supplementary) over (memory w t f u) st (memory w₁ t₁ f₁ u₁) st₁ → Grows G (sheets main supplementary) over (memory w t f u) st (memory w₁ t₁ f₁ u₁) st₁
   grows-as {w = w} {st = st} same A = record {
     records = A .records;
     new = A .new;
@@ -130,7 +130,7 @@ module _ {main supplementary : List ℕ} {over : List (ℕ × ℕ)} where
   -- the same step, whatever else it may write to
   pub grows-over : {F : State → Outcome State} {wider : List (ℕ × ℕ)} {w t f u w₁ t₁ f₁ u₁ : List ℕ} {st st₁ : ImportState}
       → (KeptBut w w₁ over → KeptBut w w₁ wider)
-      → Grows F main supplementary over w t f u st w₁ t₁ f₁ u₁ st₁ → Grows F main supplementary wider w t f u st w₁ t₁ f₁ u₁ st₁
+      → Grows F (sheets main supplementary) over (memory w t f u) st (memory w₁ t₁ f₁ u₁) st₁ → Grows F (sheets main supplementary) wider (memory w t f u) st (memory w₁ t₁ f₁ u₁) st₁
   grows-over widen A = record {
     records = A .records;
     new = A .new;
@@ -145,15 +145,15 @@ module _ {main supplementary : List ℕ} {over : List (ℕ × ℕ)} where
 
   -- after a step that was done the places in the output buffers are within bounds
   pub grows-at : {F : State → Outcome State} {w t f u w₁ t₁ f₁ u₁ : List ℕ} {st st₁ : ImportState}
-      → Grows F main supplementary over w t f u st w₁ t₁ f₁ u₁ st₁ → st₁ .status ≡ 0 → (st₁ .at ≤ top) × (st₁ .warned ≤ top)
+      → Grows F (sheets main supplementary) over (memory w t f u) st (memory w₁ t₁ f₁ u₁) st₁ → st₁ .status ≡ 0 → (st₁ .at ≤ top) × (st₁ .warned ≤ top)
   grows-at A z = (omega (arith, A .laid z .place), omega (arith, A .warned z .place))
 
 -- ---- those that write to nothing but what an import of ranges does
 
 module _ {main supplementary : List ℕ} where
   pub imports-then : (q : ImportContext) {F G : State → Outcome State} {w t f u w₁ t₁ f₁ u₁ w₂ t₂ f₂ u₂ : List ℕ} {st st₁ st₂ : ImportState} → st₁ .status ≡ 0
-      → Imports F main supplementary q w t f u st w₁ t₁ f₁ u₁ st₁ → Imports G main supplementary q w₁ t₁ f₁ u₁ st₁ w₂ t₂ f₂ u₂ st₂
-      → Imports (λ s. F s >>= G) main supplementary q w t f u st w₂ t₂ f₂ u₂ st₂
+      → Imports F (sheets main supplementary) q (memory w t f u) st (memory w₁ t₁ f₁ u₁) st₁ → Imports G (sheets main supplementary) q (memory w₁ t₁ f₁ u₁) st₁ (memory w₂ t₂ f₂ u₂) st₂
+      → Imports (λ s. F s >>= G) (sheets main supplementary) q (memory w t f u) st (memory w₂ t₂ f₂ u₂) st₂
   imports-then q {st = st} {st₁ = st₁} z A B =
       grows-then z A (grows-over (touched-as main supplementary q (st .table) (st₁ .table) (A .grown z .base) (A .grown z .room)) B)
 
@@ -162,7 +162,7 @@ module _ {main supplementary : List ℕ} {q : ImportContext} where
   pub imports-rejected : (ws : List Warning) {w t f u u′ : List ℕ} {st r : ImportState} {warned : ℕ} → ContextIn main supplementary w q (st .table)
       → st .status ≡ 0 → st .at ≤ top → length t < top → length f < top
       → Put (st .warned) (warningsBytes ws) u u′ warned → Rejects st warned r
-      → Imports (λ s. done (rejected ws s)) main supplementary q w t f u st w t f u′ r
+      → Imports (λ s. done (rejected ws s)) (sheets main supplementary) q (memory w t f u) st (memory w t f u′) r
   unfolding rejected
   imports-rejected ws {w} {t} {f} {u} {u′} {st} {r} C z at-fits t-small f-small W R = record {
     records = [];
@@ -178,5 +178,5 @@ module _ {main supplementary : List ℕ} {q : ImportContext} where
 
   -- after it the tables stand for the next
   pub imports-context : {F : State → Outcome State} {w t f u w₁ t₁ f₁ u₁ : List ℕ} {st st₁ : ImportState} → length w₁ ≡ length w → st₁ .status ≡ 0
-      → ContextIn main supplementary w q (st .table) → Imports F main supplementary q w t f u st w₁ t₁ f₁ u₁ st₁ → ContextIn main supplementary w₁ q (st₁ .table)
+      → ContextIn main supplementary w q (st .table) → Imports F (sheets main supplementary) q (memory w t f u) st (memory w₁ t₁ f₁ u₁) st₁ → ContextIn main supplementary w₁ q (st₁ .table)
   imports-context size z C A = let G = A .grown z in context-kept C (A .kept z) size (G .base) (G .room) (G .holds)

@@ -1,12 +1,10 @@
--- What is the same for every subprogram of a unit, as it stands in the work slice, and what an import writes to. Assumes nothing.
+-- Contract. What is the same for every subprogram of a unit, as it stands in the work slice, and what an import writes to.
 use mathlib.Core.Path.{_≡_}
 use mathlib.Core.List.{List, [], _∷_}
 use mathlib.Core.Bool.{false}
 use Prim.Native.Nat.{ℕ, _+_, _-_, _*_, _≤_}
-use Rattle.tlv.specs.Lists.{Any}
-use Rattle.tlv.specs.Fields.{fields}
 use Rattle.tlv.specs.Limits.{listLimit}
-use Rattle.access.specs.Places.{unitHere, unitPlaces}
+use Rattle.access.specs.Places.{unitHere, UnitOf}
 use Rattle.access.specs.Units.{unitRecord}
 use Rattle.access.specs.Index.{entryRecord}
 use Rattle.files.specs.declared.store.StoredFiles.{StoredFiles}
@@ -23,10 +21,6 @@ use Rattle.imports.specs.Import as import
 use Rattle.ranges.specs.RangeTable.{rangesAt, rangeRecord}
 use Rattle.dies.specs.Details.{rangeCount, entryCount, dwarfWith, openSite, closedSite}
 use Rattle.subprograms.specs.declared.model.ImportContext.{ImportContext}
-
--- a unit stands at q
-abbrev pub UnitOf : List ℕ → ℕ → Type 0
-UnitOf s q = Any (λ p. p ≡ q) (unitPlaces 0 (fields s))
 
 -- the context that stands in w, with the list section and the address table
 abbrev pub contextWith : List ℕ → List ℕ → List ℕ → List ℕ → List ℕ → ImportContext → import.ImportContext

@@ -1,4 +1,4 @@
--- Where the entries below an entry begin. Assumes nothing.
+-- Contract. Where the entries below an entry begin.
 use mathlib.Core.Path.{_≡_}
 use mathlib.Core.List.{List}
 use Prim.Native.Nat.{ℕ}

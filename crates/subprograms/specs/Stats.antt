@@ -1,4 +1,4 @@
--- The statistics as the code has them, and as the definition counts them. Assumes nothing.
+-- Contract. The statistics as the code has them, and as the definition counts them.
 use Prim.Native.Nat.{ℕ, _+_}
 use Rattle.imports.specs.Import.{ConversionStats, saturated}
 use Rattle.subprograms.specs.declared.model.ConversionStats.{ConversionStats as Stats}

@@ -1,4 +1,4 @@
--- What each step of the import of a unit promises, in terms of the definition's step. Assumes nothing.
+-- Contract. What each step of the import of a unit promises, in terms of the definition's step.
 use mathlib.Core.Path.{_≡_}
 use mathlib.Core.Bool.{Bool, true, false, cond, _||_}
 use mathlib.Core.List.{List, [], _∷_, _++_}
@@ -6,7 +6,7 @@ use mathlib.Core.Option.{Option, none, some}
 use Prim.Native.Nat.{ℕ, _+_}
 use lib.Dec.{eqb}
 use lib.ListN.{length}
-use Rattle.tlv.specs.Tags.{trayRowTag, trayWarningTag}
+use Rattle.tlv.specs.Tags.{trayRowTag, trayWarningTag, entryWhole}
 use Rattle.tlv.specs.declared.model.AddressRange.{AddressRange}
 use Rattle.tlv.specs.declared.model.LineEntry.{LineEntry}
 use Rattle.tlv.specs.Outcome.{Outcome, refused, done, _>>=_}
@@ -125,26 +125,44 @@ stateOf main supplementary w st rs ws = record {
   stats = statsOf (st .stats);
 }
 
--- what the definition does by F is done in memory: new records, files and warnings are laid behind those before them, the rest of the state stands in w′, and
--- of work nothing is written but the stretches `over`; or it is refused
-pub record Grows (F : State → Outcome State) (main supplementary : List ℕ) (over : List (ℕ × ℕ)) (w t f u : List ℕ) (st : ImportState)
-    (w′ t′ f′ u′ : List ℕ) (r : ImportState) : Type 0 where
+-- what is read: the main and the supplementary sheet
+pub record Sheets : Type 0 where
+  pub main : List ℕ
+  pub supplementary : List ℕ
+
+abbrev pub sheets : List ℕ → List ℕ → Sheets
+sheets main supplementary = record { main = main; supplementary = supplementary }
+
+-- what is written: work and the three trays
+pub record Memory : Type 0 where
+  pub work : List ℕ
+  pub records : List ℕ
+  pub files : List ℕ
+  pub warnings : List ℕ
+
+abbrev pub memory : List ℕ → List ℕ → List ℕ → List ℕ → Memory
+memory w t f u = record { work = w; records = t; files = f; warnings = u }
+
+-- what the definition does by F is done in memory: new records, files and warnings are laid behind those before them, the rest of the state stands in the
+-- work slice then, and of work nothing is written but the stretches `over`; or it is refused
+pub record Grows (F : State → Outcome State) (s : Sheets) (over : List (ℕ × ℕ)) (m : Memory) (st : ImportState) (m′ : Memory) (r : ImportState)
+    : Type 0 where
   pub records : List Function
   pub new : List Warning
-  pub laid : r .status ≡ 0 → Put (st .at) (recordsBytes records) t t′ (r .at)
+  pub laid : r .status ≡ 0 → Put (st .at) (recordsBytes records) (m .records) (m′ .records) (r .at)
   pub past : r .status ≡ 0 → r .past ≡ (st .past || isPast (st .at) (length (recordsBytes records)))
-  pub warned : r .status ≡ 0 → Put (st .warned) (warningsBytes new) u u′ (r .warned)
-  pub grown : r .status ≡ 0 → Grown main supplementary w w′ f f′ (st .table) (r .table)
-  pub kept : r .status ≡ 0 → KeptBut w w′ over
+  pub warned : r .status ≡ 0 → Put (st .warned) (warningsBytes new) (m .warnings) (m′ .warnings) (r .warned)
+  pub grown : r .status ≡ 0 → Grown (s .main) (s .supplementary) (m .work) (m′ .work) (m .files) (m′ .files) (st .table) (r .table)
+  pub kept : r .status ≡ 0 → KeptBut (m .work) (m′ .work) over
   pub ok : r .status ≡ 0 → (rs : List Function) (ws : List Warning)
-      → F (stateOf main supplementary w st rs ws) ≡ done (stateOf main supplementary w′ r (rs ++ records) (ws ++ new))
-  pub no : (r .status ≡ 0 → ⊥) → (rs : List Function) (ws : List Warning) → F (stateOf main supplementary w st rs ws) ≡ refused (r .status)
+      → F (stateOf (s .main) (s .supplementary) (m .work) st rs ws)
+      ≡ done (stateOf (s .main) (s .supplementary) (m′ .work) r (rs ++ records) (ws ++ new))
+  pub no : (r .status ≡ 0 → ⊥) → (rs : List Function) (ws : List Warning)
+      → F (stateOf (s .main) (s .supplementary) (m .work) st rs ws) ≡ refused (r .status)
 
 -- .. and nothing but what an import of ranges writes to
-abbrev pub Imports : (State → Outcome State) → List ℕ → List ℕ → Context → List ℕ → List ℕ → List ℕ → List ℕ → ImportState
-    → List ℕ → List ℕ → List ℕ → List ℕ → ImportState → Type 0
-Imports F main supplementary q w t f u st w′ t′ f′ u′ r =
-    Grows F main supplementary (touched main supplementary q (st .table)) w t f u st w′ t′ f′ u′ r
+abbrev pub Imports : (State → Outcome State) → Sheets → Context → Memory → ImportState → Memory → ImportState → Type 0
+Imports F s q m st m′ r = Grows F s (touched (s .main) (s .supplementary) q (st .table)) m st m′ r
 
 -- a range was rejected; the warnings go on at `warned`
 pub record Rejects (st : ImportState) (warned : ℕ) (r : ImportState) : Type 0 where
@@ -163,7 +181,7 @@ pub record RejectsList (st : ImportState) (n : ℕ) (u u′ : List ℕ) (r : Imp
 
 -- the entries below the one at place p
 abbrev pub belowEntry : List ℕ → ℕ → List Entry
-belowEntry main p = descendantsOf (entryHere main p .depth) (entriesFrom main (p + 15))
+belowEntry main p = descendantsOf (entryHere main p .depth) (entriesFrom main (p + entryWhole))
 
 -- one range of importRanges
 unfoldable pub importOne : ImportContext → Entry → List Entry → List ℕ → EntryRange → State → Outcome State

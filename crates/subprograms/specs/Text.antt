@@ -1,4 +1,4 @@
--- A unit's executable ranges in the work slice. Assumes nothing.
+-- Contract. A unit's executable ranges in the work slice.
 use mathlib.Core.Path.{_≡_}
 use mathlib.Core.List.{List}
 use Prim.Native.Nat.{ℕ, _*_}

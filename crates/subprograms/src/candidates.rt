@@ -5,6 +5,7 @@ ghost use Prim.Native.Nat.{ℕ, _+_, _/_, _≤_, _<_};
 ghost use lib.Dec.{eqb};
 ghost use lib.ListN.{length};
 ghost use Rattle.tlv.specs.Checked.{Placed};
+ghost use Rattle.tlv.specs.Tags.{entryWhole};
 ghost use Rattle.buffers.specs.Buffer.{top};
 ghost use Rattle.access.specs.Places.{entryHere};
 ghost use Rattle.rnglists.specs.Room.{rangeLeast};
@@ -13,7 +14,7 @@ ghost use Rattle.imports.specs.Import.{importRanges};
 ghost use Rattle.dies.specs.Details.{EntriesKnown};
 ghost use Rattle.subprograms.specs.Contexts.{ContextIn, contextWith};
 ghost use Rattle.subprograms.specs.Entries.{BeginsAt};
-ghost use Rattle.subprograms.specs.Steps.{Rejects, belowEntry, importOne, importFailing, Imports};
+ghost use Rattle.subprograms.specs.Steps.{sheets, memory, Rejects, belowEntry, importOne, importFailing, Imports};
 use crate::model::ImportContext;
 use crate::model::ImportState;
 use access::access::Own;
@@ -93,14 +94,16 @@ pub fn import_candidate<'a>(
 ) -> ImportState
     requires { ⌜ ContextIn (now main) (now supplementary) (now work) q (st .table) ⌝ }
     requires { ⌜ EntryKnown (now main) (q .unit) p ⌝ }
-    requires { ⌜ BeginsAt (now main) (q .unit) (p + 15) below ⌝ }
+    requires { ⌜ BeginsAt (now main) (q .unit) (p + entryWhole) below ⌝ }
     requires { ⌜ 16 + length (now name) < 65536 ⌝ }
     requires { ⌜ length (now lists) / rangeLeast ≡ q .third ⌝ }
     requires { ⌜ (st .status ≡ 0) × (st .at ≤ top) × (st .warned ≤ top) ⌝ }
     ensures { λ r. ⌜ Imports (importOne (contextWith (now (main .entry)) (now (supplementary .entry)) (now (lists .entry)) (now (addresses .entry))
         (now (work .entry)) q) (entryHere (now (main .entry)) p) (belowEntry (now (main .entry)) p) (now (name .entry))
-        (record { range = range; tombstone = eqb flag 1 })) (now (main .entry)) (now (supplementary .entry)) q (now (work .entry)) (now (records .entry))
-        (now (files .entry)) (now (warnings .entry)) st (now (work .exit)) (now (records .exit)) (now (files .exit)) (now (warnings .exit)) r ⌝ }
+        (record { range = range; tombstone = eqb flag 1 }))
+        (sheets (now (main .entry)) (now (supplementary .entry))) q
+        (memory (now (work .entry)) (now (records .entry)) (now (files .entry)) (now (warnings .entry))) st
+        (memory (now (work .exit)) (now (records .exit)) (now (files .exit)) (now (warnings .exit))) r ⌝ }
 {
     if crate::text::is_tombstone(work, q.text, q.text_count, range, flag) {
         return reject(st, st.warned);
@@ -144,14 +147,16 @@ fn import_ranges<'a>(
 ) -> ImportState
     requires { ⌜ ContextIn (now main) (now supplementary) (now work) q (st .table) ⌝ }
     requires { ⌜ EntryKnown (now main) (q .unit) p ⌝ }
-    requires { ⌜ (Placed (now main) (p + 15)) × EntriesKnown (now main) (q .unit) (p + 15) ⌝ }
+    requires { ⌜ (Placed (now main) (p + entryWhole)) × EntriesKnown (now main) (q .unit) (p + entryWhole) ⌝ }
     requires { ⌜ 16 + length (now name) < 65536 ⌝ }
     requires { ⌜ length (now lists) / rangeLeast ≡ q .third ⌝ }
     requires { ⌜ (st .status ≡ 0) × (st .at ≤ top) × (st .warned ≤ top) ⌝ }
     ensures { λ r. ⌜ Imports (importRanges (contextWith (now (main .entry)) (now (supplementary .entry)) (now (lists .entry)) (now (addresses .entry))
         (now (work .entry)) q) (entryHere (now (main .entry)) p) (belowEntry (now (main .entry)) p) (now (name .entry))
-        (entryHere (now (main .entry)) p .ranges)) (now (main .entry)) (now (supplementary .entry)) q (now (work .entry)) (now (records .entry))
-        (now (files .entry)) (now (warnings .entry)) st (now (work .exit)) (now (records .exit)) (now (files .exit)) (now (warnings .exit)) r ⌝ }
+        (entryHere (now (main .entry)) p .ranges))
+        (sheets (now (main .entry)) (now (supplementary .entry))) q
+        (memory (now (work .entry)) (now (records .entry)) (now (files .entry)) (now (warnings .entry))) st
+        (memory (now (work .exit)) (now (records .exit)) (now (files .exit)) (now (warnings .exit))) r ⌝ }
 {
     let mut r = st;
     let mut at = p + ENTRY_WHOLE;
@@ -212,15 +217,16 @@ pub fn import_fields<'a>(
 ) -> ImportState
     requires { ⌜ ContextIn (now main) (now supplementary) (now work) q (st .table) ⌝ }
     requires { ⌜ EntryKnown (now main) (q .unit) p ⌝ }
-    requires { ⌜ (Placed (now main) (p + 15)) × EntriesKnown (now main) (q .unit) (p + 15) ⌝ }
+    requires { ⌜ (Placed (now main) (p + entryWhole)) × EntriesKnown (now main) (q .unit) (p + entryWhole) ⌝ }
     requires { ⌜ 16 + length (now name) < 65536 ⌝ }
     requires { ⌜ length (now lists) / rangeLeast ≡ q .third ⌝ }
     requires { ⌜ (st .status ≡ 0) × (st .at ≤ top) × (st .warned ≤ top) ⌝ }
     ensures { λ r. ⌜ Imports (importFailing (contextWith (now (main .entry)) (now (supplementary .entry)) (now (lists .entry)) (now (addresses .entry))
         (now (work .entry)) q) (entryHere (now (main .entry)) p) (belowEntry (now (main .entry)) p) (now (name .entry))
-        (entryHere (now (main .entry)) p .ranges) (entryHere (now (main .entry)) p .failure)) (now (main .entry)) (now (supplementary .entry)) q
-        (now (work .entry)) (now (records .entry)) (now (files .entry)) (now (warnings .entry)) st (now (work .exit)) (now (records .exit))
-        (now (files .exit)) (now (warnings .exit)) r ⌝ }
+        (entryHere (now (main .entry)) p .ranges) (entryHere (now (main .entry)) p .failure))
+        (sheets (now (main .entry)) (now (supplementary .entry))) q
+        (memory (now (work .entry)) (now (records .entry)) (now (files .entry)) (now (warnings .entry))) st
+        (memory (now (work .exit)) (now (records .exit)) (now (files .exit)) (now (warnings .exit))) r ⌝ }
 {
     match access::access::next_own(main, p + ENTRY_WHOLE, FAILURE_TAG) {
         Own::Missing => {

@@ -2,6 +2,7 @@
 ghost use mathlib.Core.Path.{_≡_};
 ghost use Prim.Native.Nat.{_+_, _-_, _/_, _≤_, _<_};
 ghost use lib.ListN.{length};
+ghost use Rattle.tlv.specs.Tags.{entryWhole};
 ghost use Rattle.buffers.specs.Buffer.{top};
 ghost use Rattle.access.specs.Places.{entryHere};
 ghost use Rattle.rnglists.specs.Room.{rangeLeast};
@@ -11,7 +12,7 @@ ghost use Rattle.imports.specs.Import.{detailContext, importRange, descendantsO
 ghost use Rattle.dies.specs.Details.{entriesFrom};
 ghost use Rattle.subprograms.specs.Contexts.{ContextIn, contextWith};
 ghost use Rattle.subprograms.specs.Entries.{BeginsAt};
-ghost use Rattle.subprograms.specs.Steps.{detailsOf, ImportsDetails, Imports};
+ghost use Rattle.subprograms.specs.Steps.{sheets, memory, detailsOf, ImportsDetails, Imports};
 use crate::function_lines::function_lines;
 use crate::model::ImportContext;
 use crate::model::ImportState;
@@ -61,15 +62,15 @@ fn import_details<'a>(
 ) -> ImportState
     requires { ⌜ ContextIn (now main) (now supplementary) (now work) q (st .table) ⌝ }
     requires { ⌜ EntryKnown (now main) (q .unit) p ⌝ }
-    requires { ⌜ BeginsAt (now main) (q .unit) (p + 15) below ⌝ }
+    requires { ⌜ BeginsAt (now main) (q .unit) (p + entryWhole) below ⌝ }
     requires { ⌜ 16 + length (now name) < 65536 ⌝ }
     requires { ⌜ length (now lists) / rangeLeast ≡ q .third ⌝ }
     requires { ⌜ (st .at ≤ top) × (st .warned ≤ top) ⌝ }
     ensures { λ r. ⌜ ImportsDetails (extractSubprogramDetails (detailContext (contextWith (now (main .entry)) (now (supplementary .entry))
         (now (lists .entry)) (now (addresses .entry)) (now (work .entry)) q) range)
-        (descendantsOf (entryHere (now (main .entry)) p .depth) (entriesFrom (now (main .entry)) (p + 15)))) (now (main .entry)) (now (supplementary .entry))
-        q (now (name .entry)) range rows (now (work .entry)) (now (records .entry)) (now (warnings .entry)) st (now (work .exit)) (now (records .exit))
-        (now (warnings .exit)) r ⌝ }
+        (descendantsOf (entryHere (now (main .entry)) p .depth) (entriesFrom (now (main .entry)) (p + entryWhole))))
+        (now (main .entry)) (now (supplementary .entry)) q (now (name .entry)) range rows
+        (now (work .entry)) (now (records .entry)) (now (warnings .entry)) st (now (work .exit)) (now (records .exit)) (now (warnings .exit)) r ⌝ }
 {
     let d = details_of(q, range);
     let depth = tlv::bytes::read_u16(main, p + ENTRY_DEPTH);
@@ -133,15 +134,16 @@ pub fn import_range<'a>(
 ) -> ImportState
     requires { ⌜ ContextIn (now main) (now supplementary) (now work) q (st .table) ⌝ }
     requires { ⌜ EntryKnown (now main) (q .unit) p ⌝ }
-    requires { ⌜ BeginsAt (now main) (q .unit) (p + 15) below ⌝ }
+    requires { ⌜ BeginsAt (now main) (q .unit) (p + entryWhole) below ⌝ }
     requires { ⌜ 16 + length (now name) < 65536 ⌝ }
     requires { ⌜ length (now lists) / rangeLeast ≡ q .third ⌝ }
     requires { ⌜ (st .status ≡ 0) × (st .at ≤ top) × (st .warned ≤ top) ⌝ }
     ensures { λ r. ⌜ Imports (importRange (contextWith (now (main .entry)) (now (supplementary .entry)) (now (lists .entry)) (now (addresses .entry))
         (now (work .entry)) q) (entryHere (now (main .entry)) p)
-        (descendantsOf (entryHere (now (main .entry)) p .depth) (entriesFrom (now (main .entry)) (p + 15))) (now (name .entry)) range) (now (main .entry))
-        (now (supplementary .entry)) q (now (work .entry)) (now (records .entry)) (now (files .entry)) (now (warnings .entry)) st (now (work .exit))
-        (now (records .exit)) (now (files .exit)) (now (warnings .exit)) r ⌝ }
+        (descendantsOf (entryHere (now (main .entry)) p .depth) (entriesFrom (now (main .entry)) (p + entryWhole))) (now (name .entry)) range)
+        (sheets (now (main .entry)) (now (supplementary .entry))) q
+        (memory (now (work .entry)) (now (records .entry)) (now (files .entry)) (now (warnings .entry))) st
+        (memory (now (work .exit)) (now (records .exit)) (now (files .exit)) (now (warnings .exit))) r ⌝ }
 {
     let table = st.table;
     let stats = st.stats;

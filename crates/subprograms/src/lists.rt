@@ -5,7 +5,7 @@ ghost use mathlib.Core.Logic.{_⊎_};
 ghost use Prim.Native.Nat.{_+_, _/_, _≤_, _<_};
 ghost use lib.Dec.{eqb};
 ghost use lib.ListN.{length};
-ghost use Rattle.tlv.specs.Tags.{listTag, trayWarningTag};
+ghost use Rattle.tlv.specs.Tags.{listTag, trayWarningTag, entryWhole};
 ghost use Rattle.tlv.specs.Bytes.{leAt};
 ghost use Rattle.tlv.specs.Fields.{encode};
 ghost use Rattle.tlv.specs.Grammar.{listSizeAt, listFieldSize};
@@ -20,7 +20,7 @@ ghost use Rattle.references.specs.Tables.{EntryKnown};
 ghost use Rattle.ranges.specs.RangeTable.{ownLists, listOf};
 ghost use Rattle.dies.specs.Details.{EntriesKnown};
 ghost use Rattle.subprograms.specs.Contexts.{ContextIn, contextWith};
-ghost use Rattle.subprograms.specs.Steps.{RejectsList, belowEntry, importListed, Imports};
+ghost use Rattle.subprograms.specs.Steps.{sheets, memory, RejectsList, belowEntry, importListed, Imports};
 use crate::candidates::import_candidate;
 use crate::candidates::next_entry;
 use crate::candidates::reject;
@@ -84,7 +84,7 @@ pub fn import_list<'a>(
 ) -> ImportState
     requires { ⌜ ContextIn (now main) (now supplementary) (now work) q (st .table) ⌝ }
     requires { ⌜ EntryKnown (now main) (q .unit) p ⌝ }
-    requires { ⌜ (Placed (now main) (p + 15)) × EntriesKnown (now main) (q .unit) (p + 15) ⌝ }
+    requires { ⌜ (Placed (now main) (p + entryWhole)) × EntriesKnown (now main) (q .unit) (p + entryWhole) ⌝ }
     requires { ⌜ 16 + length (now name) < 65536 ⌝ }
     requires { ⌜ length (now lists) / rangeLeast ≡ q .third ⌝ }
     requires { ⌜ start + listFieldSize ≤ length (now main) ⌝ }
@@ -92,9 +92,10 @@ pub fn import_list<'a>(
     requires { ⌜ (st .status ≡ 0) × (st .at ≤ top) × (st .warned ≤ top) ⌝ }
     ensures { λ r. ⌜ Imports (importListed (contextWith (now (main .entry)) (now (supplementary .entry)) (now (lists .entry)) (now (addresses .entry))
         (now (work .entry)) q) (entryHere (now (main .entry)) p) (belowEntry (now (main .entry)) p) (now (name .entry))
-        (listOf (now (main .entry)) (now (lists .entry)) (now (addresses .entry)) start)) (now (main .entry)) (now (supplementary .entry)) q
-        (now (work .entry)) (now (records .entry)) (now (files .entry)) (now (warnings .entry)) st (now (work .exit)) (now (records .exit))
-        (now (files .exit)) (now (warnings .exit)) r ⌝ }
+        (listOf (now (main .entry)) (now (lists .entry)) (now (addresses .entry)) start))
+        (sheets (now (main .entry)) (now (supplementary .entry))) q
+        (memory (now (work .entry)) (now (records .entry)) (now (files .entry)) (now (warnings .entry))) st
+        (memory (now (work .exit)) (now (records .exit)) (now (files .exit)) (now (warnings .exit))) r ⌝ }
 {
     let place = tlv::bytes::read_u64(main, start + LIST_ADDRESSES);
     let size = tlv::bytes::read_u8(main, start + LIST_SIZE);

@@ -4,7 +4,7 @@ ghost use mathlib.Core.Bool.{false, _&&_};
 ghost use Prim.Native.Nat.{_+_, _/_, _≤_, _<_};
 ghost use lib.Dec.{eqb};
 ghost use lib.ListN.{length};
-ghost use Rattle.tlv.specs.Tags.{entryTag};
+ghost use Rattle.tlv.specs.Tags.{entryTag, entryWhole};
 ghost use Rattle.tlv.specs.Constants.{dwTagSubprogram};
 ghost use Rattle.tlv.specs.Bytes.{leAt};
 ghost use Rattle.tlv.specs.Checked.{Placed};
@@ -16,7 +16,7 @@ ghost use Rattle.imports.specs.Tree.{dieRanges};
 ghost use Rattle.imports.specs.Import.{importByFailure, importUnitDetails};
 ghost use Rattle.dies.specs.Details.{EntriesKnown, dwarfWith};
 ghost use Rattle.subprograms.specs.Contexts.{ContextIn, contextWith};
-ghost use Rattle.subprograms.specs.Steps.{belowEntry, importEntry, Imports};
+ghost use Rattle.subprograms.specs.Steps.{sheets, memory, belowEntry, importEntry, Imports};
 use crate::candidates::import_fields;
 use crate::lists::import_list;
 use crate::lists::list_field;
@@ -50,15 +50,17 @@ fn import_named<'a>(
 ) -> ImportState
     requires { ⌜ ContextIn (now main) (now supplementary) (now work) q (st .table) ⌝ }
     requires { ⌜ EntryKnown (now main) (q .unit) p ⌝ }
-    requires { ⌜ (Placed (now main) (p + 15)) × EntriesKnown (now main) (q .unit) (p + 15) ⌝ }
+    requires { ⌜ (Placed (now main) (p + entryWhole)) × EntriesKnown (now main) (q .unit) (p + entryWhole) ⌝ }
     requires { ⌜ 16 + length (now name) < 65536 ⌝ }
     requires { ⌜ length (now lists) / rangeLeast ≡ q .third ⌝ }
     requires { ⌜ (st .status ≡ 0) × (st .at ≤ top) × (st .warned ≤ top) ⌝ }
     ensures { λ r. ⌜ Imports (importByFailure (contextWith (now (main .entry)) (now (supplementary .entry)) (now (lists .entry)) (now (addresses .entry))
         (now (work .entry)) q) (entryHere (now (main .entry)) p) (belowEntry (now (main .entry)) p) (now (name .entry))
         (dieRanges (dwarfWith (now (main .entry)) (now (supplementary .entry)) (now (lists .entry)) (now (addresses .entry)))
-        (entryHere (now (main .entry)) p) .failure)) (now (main .entry)) (now (supplementary .entry)) q (now (work .entry)) (now (records .entry))
-        (now (files .entry)) (now (warnings .entry)) st (now (work .exit)) (now (records .exit)) (now (files .exit)) (now (warnings .exit)) r ⌝ }
+        (entryHere (now (main .entry)) p) .failure))
+        (sheets (now (main .entry)) (now (supplementary .entry))) q
+        (memory (now (work .entry)) (now (records .entry)) (now (files .entry)) (now (warnings .entry))) st
+        (memory (now (work .exit)) (now (records .exit)) (now (files .exit)) (now (warnings .exit))) r ⌝ }
 {
     match list_field(main, q.with_lists, p + ENTRY_WHOLE) {
         Own::Field {
@@ -117,14 +119,15 @@ fn import_entry<'a>(
 ) -> ImportState
     requires { ⌜ ContextIn (now main) (now supplementary) (now work) q (st .table) ⌝ }
     requires { ⌜ EntryKnown (now main) (q .unit) p ⌝ }
-    requires { ⌜ (Placed (now main) (p + 15)) × EntriesKnown (now main) (q .unit) (p + 15) ⌝ }
+    requires { ⌜ (Placed (now main) (p + entryWhole)) × EntriesKnown (now main) (q .unit) (p + entryWhole) ⌝ }
     requires { ⌜ leAt 2 (now main) (p + 13) ≡ dwTagSubprogram ⌝ }
     requires { ⌜ length (now lists) / rangeLeast ≡ q .third ⌝ }
     requires { ⌜ (st .status ≡ 0) × (st .at ≤ top) × (st .warned ≤ top) ⌝ }
     ensures { λ r. ⌜ Imports (importEntry (contextWith (now (main .entry)) (now (supplementary .entry)) (now (lists .entry)) (now (addresses .entry))
-        (now (work .entry)) q) (entryHere (now (main .entry)) p) (belowEntry (now (main .entry)) p)) (now (main .entry)) (now (supplementary .entry)) q
-        (now (work .entry)) (now (records .entry)) (now (files .entry)) (now (warnings .entry)) st (now (work .exit)) (now (records .exit))
-        (now (files .exit)) (now (warnings .exit)) r ⌝ }
+        (now (work .entry)) q) (entryHere (now (main .entry)) p) (belowEntry (now (main .entry)) p))
+        (sheets (now (main .entry)) (now (supplementary .entry))) q
+        (memory (now (work .entry)) (now (records .entry)) (now (files .entry)) (now (warnings .entry))) st
+        (memory (now (work .exit)) (now (records .exit)) (now (files .exit)) (now (warnings .exit))) r ⌝ }
 {
     let places = q.places;
     let tables = places.tables;
@@ -164,7 +167,7 @@ fn import_entry<'a>(
 
 // Whether the field of this tag at place p is the entry of a subprogram.
 fn is_subprogram(main: &[u8], tag: u8, p: usize) -> bool
-    requires { ⌜ (tag ≡ entryTag → p + 15 ≤ length (now main)) ⌝ }
+    requires { ⌜ (tag ≡ entryTag → p + entryWhole ≤ length (now main)) ⌝ }
     ensures { λ r. ⌜ r ≡ (eqb tag entryTag && eqb (leAt 2 (now (main .entry)) (p + 13)) dwTagSubprogram) ⌝ }
 {
     if tag == ENTRY_TAG {
@@ -190,9 +193,10 @@ pub fn import_unit_details<'a>(
     requires { ⌜ length (now lists) / rangeLeast ≡ q .third ⌝ }
     requires { ⌜ (st .status ≡ 0) × (st .at ≤ top) × (st .warned ≤ top) ⌝ }
     ensures { λ r. ⌜ Imports (importUnitDetails (contextWith (now (main .entry)) (now (supplementary .entry)) (now (lists .entry)) (now (addresses .entry))
-        (now (work .entry)) q) (unitHere (now (main .entry)) (q .unit) .entries)) (now (main .entry)) (now (supplementary .entry)) q (now (work .entry))
-        (now (records .entry)) (now (files .entry)) (now (warnings .entry)) st (now (work .exit)) (now (records .exit)) (now (files .exit))
-        (now (warnings .exit)) r ⌝ }
+        (now (work .entry)) q) (unitHere (now (main .entry)) (q .unit) .entries))
+        (sheets (now (main .entry)) (now (supplementary .entry))) q
+        (memory (now (work .entry)) (now (records .entry)) (now (files .entry)) (now (warnings .entry))) st
+        (memory (now (work .exit)) (now (records .exit)) (now (files .exit)) (now (warnings .exit))) r ⌝ }
 {
     let mut r = st;
     let mut at = q.unit + UNIT_WHOLE;

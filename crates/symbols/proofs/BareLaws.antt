@@ -1,4 +1,4 @@
--- A records tray with bare functions behind it is a records tray again, and is read as both. Assumes nothing.
+-- A records tray with bare functions behind it is a records tray again, and is read as both.
 use mathlib.Core.Path.{_≡_, refl, _∙_}
 use mathlib.Core.Bool.{Bool, true, false, cond, _&&_, _||_, not, false≢true}
 use mathlib.Core.List.{List, [], _∷_, _++_, map}

@@ -1,4 +1,4 @@
--- Which symbols become records, in the request's own words; and that none goes without an answer. Assumes nothing.
+-- Which symbols become records, in the request's own words; and that none goes without an answer.
 use mathlib.Core.Path.{_≡_, refl, sym, ap, subst, _∙_}
 use mathlib.Core.Bool.{Bool, true, false, cond, _||_, true≢false}
 use mathlib.Core.Logic.{_⊎_, inl, inr, _≢_}

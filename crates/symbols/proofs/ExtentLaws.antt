@@ -1,4 +1,4 @@
--- Tables of ranges: those of a tray merged, one range more, whether an address is held. Assumes nothing.
+-- Tables of ranges: those of a tray merged, one range more, whether an address is held.
 use mathlib.Core.Path.{_≡_, sym, ap, subst, _∙_}
 use mathlib.Core.Bool.{Bool, true, false, not, true≢false, false≢true}
 use mathlib.Core.Logic.{_⊎_, inl, inr, ⊎-elim, _↔_}

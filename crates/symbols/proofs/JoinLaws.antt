@@ -1,4 +1,4 @@
--- The result of a join is a records tray again: the records that came from DWARF as they were, then the bare ones. Assumes nothing.
+-- The result of a join is a records tray again: the records that came from DWARF as they were, then the bare ones.
 use mathlib.Core.Path.{_≡_, refl, sym, _∙_}
 use mathlib.Core.Bool.{Bool, true, false, cond, _&&_, _||_}
 use mathlib.Core.Logic.{_≢_}

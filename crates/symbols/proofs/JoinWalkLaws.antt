@@ -1,4 +1,4 @@
--- A turn of the walk that joins symbols: what stands in the result so far, and what is left. Assumes nothing.
+-- A turn of the walk that joins symbols: what stands in the result so far, and what is left.
 use mathlib.Core.Path.{_≡_, refl, sym, ap, subst, _∙_}
 use mathlib.Core.Bool.{Bool, true, false, cond, _||_}
 use mathlib.Core.List.{List, [], _∷_, map}

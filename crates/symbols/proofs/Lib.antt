@@ -1,12 +1,8 @@
 pub mod BareLaws
 pub mod JoinLaws
-pub mod CheckLaws
 pub mod JoinWalkLaws
 pub mod TurnLaws
-pub mod ResultLaws
-pub mod AnswerLaws
 pub mod SoughtLaws
-pub mod GatherLaws
 pub mod ExtentLaws
 pub mod ChoiceLaws
 pub mod LookedLaws

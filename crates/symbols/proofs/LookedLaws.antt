@@ -1,4 +1,4 @@
--- Look-ups in the result of a join: where DWARF had an answer it is found as before. Assumes nothing.
+-- Look-ups in the result of a join: where DWARF had an answer it is found as before.
 use mathlib.Core.Path.{_≡_, refl, sym, ap, subst, _∙_}
 use mathlib.Core.Bool.{Bool, true, false, cond, not}
 use mathlib.Core.List.{List, [], _∷_, _++_, map}

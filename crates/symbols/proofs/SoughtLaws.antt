@@ -1,4 +1,4 @@
--- Which range of a table holds an address: a search by halves among ranges that are apart, a look at each behind them. Assumes nothing.
+-- Which range of a table holds an address: a search by halves among ranges that are apart, a look at each behind them.
 use mathlib.Core.Path.{_≡_, refl, sym, ap, subst, _∙_}
 use mathlib.Core.Bool.{Bool, true, false, cond, _&&_, true≢false}
 use mathlib.Core.Logic.{_⊎_, inl, inr, _↔_}

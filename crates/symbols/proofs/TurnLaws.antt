@@ -1,4 +1,4 @@
--- One symbol more behind a records tray: what is read of the result, and what is left of the list. Assumes nothing.
+-- One symbol more behind a records tray: what is read of the result, and what is left of the list.
 use mathlib.Core.Path.{_≡_, refl, sym, ap, subst, _∙_}
 use mathlib.Core.Bool.{Bool, true, false, cond}
 use mathlib.Core.List.{List, [], _∷_, _++_, map, append-nil, append-assoc, cons≢nil}

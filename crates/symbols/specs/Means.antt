@@ -1,4 +1,4 @@
--- What a join means in the request's own words (document 02, E13), and what look-ups find in its result. Theorems about every tray and list. Assumes nothing.
+-- Theorem. What a join means in the request's own words (document 02, E13), and what look-ups find in its result. Theorems about every tray and list.
 use Prim.Native.Nat.{ℕ}
 use mathlib.Core.Path.{_≡_}
 use mathlib.Core.Logic.{_⊎_, _↔_}

@@ -1,4 +1,4 @@
--- Fields that pass are at most as many as the limit says. Assumes nothing.
+-- Fields that pass are at most as many as the limit says.
 use mathlib.Core.Path.{_≡_, refl}
 use mathlib.Core.List.{List, [], _∷_}
 use Prim.Native.Nat.{ℕ, suc, _+_, _≤_, _<_}

@@ -1,4 +1,4 @@
--- What the grammar promises of each field by its tag, whatever stands before it. Assumes nothing.
+-- What the grammar promises of each field by its tag, whatever stands before it.
 use mathlib.Core.Path.{_≡_}
 use mathlib.Core.Bool.{true, _&&_, _||_}
 use mathlib.Core.Logic.{inl, inr}

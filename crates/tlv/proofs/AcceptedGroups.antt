@@ -1,4 +1,4 @@
--- The fields of an accepted sheet pass one after the other, and so do those of each group of them. Assumes nothing.
+-- The fields of an accepted sheet pass one after the other, and so do those of each group of them.
 use mathlib.Core.Path.{_≡_, refl}
 use mathlib.Core.Bool.{Bool, true, false, cond}
 use mathlib.Core.List.{List, [], _∷_}

@@ -1,4 +1,4 @@
--- A sheet that the grammar accepts has only units as promised (`Accepting`). Assumes nothing.
+-- A sheet that the grammar accepts has only units as promised (`Accepting`).
 use mathlib.Core.Path.{_≡_, refl}
 use mathlib.Core.Bool.{Bool, true, false, cond}
 use mathlib.Core.List.{List, [], _∷_, map}

@@ -1,4 +1,4 @@
--- What is written as the bytes of a number is read back as that number, also behind other bytes; and how large a number of bytes is. Assumes nothing.
+-- What is written as the bytes of a number is read back as that number, also behind other bytes; and how large a number of bytes is.
 use mathlib.Core.Path.{_≡_, refl, ap}
 use mathlib.Core.List.{List, [], _∷_, _++_, append-nil}
 use Prim.Native.Nat.{ℕ, zero, suc, _+_, _*_, _/_, _%_, _^_, _<_}

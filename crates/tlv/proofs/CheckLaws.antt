@@ -1,4 +1,4 @@
--- The checker field by field: the limits, the context after a field, what becomes of a field, and a turn of the loop over a sheet. Assumes nothing.
+-- The checker field by field: the limits, the context after a field, what becomes of a field, and a turn of the loop over a sheet.
 use mathlib.Core.Path.{_≡_, refl, sym, _∙_}
 use mathlib.Core.Bool.{Bool, true, false, cond, _||_, not}
 use mathlib.Core.List.{List}

@@ -1,4 +1,4 @@
--- What stands at a place, and the fields from there on: the one law between places and lists of fields, and its consequences. Assumes nothing.
+-- What stands at a place, and the fields from there on: the one law between places and lists of fields, and its consequences.
 use mathlib.Core.Path.{_≡_, refl, sym, ap, subst, _∙_}
 use mathlib.Core.List.{List, [], _∷_}
 use Prim.Native.Nat.{ℕ, zero, suc, _+_, _-_, _<_, _≤_}

@@ -1,4 +1,4 @@
--- What holds of every element of a list, or of one of them, and of the lists and options made from it. Assumes nothing.
+-- What holds of every element of a list, or of one of them, and of the lists and options made from it.
 use mathlib.Core.Path.{_≡_, refl, subst, sym, _∙_}
 use mathlib.Core.Bool.{Bool, true, false, cond, true≢false}
 use mathlib.Core.Logic.{inl, inr, _≢_, _↔_}

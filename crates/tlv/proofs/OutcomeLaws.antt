@@ -1,4 +1,4 @@
--- How outcomes end: what a step that is done was done with, and what is so of every value that an outcome can be done with. Assumes nothing.
+-- How outcomes end: what a step that is done was done with, and what is so of every value that an outcome can be done with.
 use mathlib.Core.Path.{_≡_, refl, subst}
 use mathlib.Core.Bool.{Bool, true, false, cond}
 use Prim.Native.Nat.{ℕ}

@@ -1,4 +1,4 @@
--- How long the payload of a field is that the grammar passes, by its tag. Assumes nothing.
+-- How long the payload of a field is that the grammar passes, by its tag.
 use mathlib.Core.Path.{_≡_}
 use mathlib.Core.Bool.{true}
 use mathlib.Core.List.{List}

@@ -1,4 +1,4 @@
--- The places of an accepted sheet: its start is one, the next of one is one, and the field at one passes and may follow the one before it. Assumes nothing.
+-- The places of an accepted sheet: its start is one, the next of one is one, and the field at one passes and may follow the one before it.
 use mathlib.Core.Path.{_≡_, refl, sym}
 use mathlib.Core.Bool.{Bool, true, false≢true}
 use mathlib.Core.Logic.{_⊎_, inl, inr}

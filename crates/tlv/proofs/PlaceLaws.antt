@@ -1,4 +1,4 @@
--- The elements of a list by their numbers: after a map, at the front of what is left, and before the first that fails a test. Assumes nothing.
+-- The elements of a list by their numbers: after a map, at the front of what is left, and before the first that fails a test.
 use mathlib.Core.Path.{_≡_, refl, sym, ap, _∙_}
 use mathlib.Core.Bool.{Bool, true, false, cond}
 use mathlib.Core.Logic.{inl, inr}

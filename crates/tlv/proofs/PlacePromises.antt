@@ -1,4 +1,4 @@
--- What the grammar promises of the field at a place of an accepted sheet: its length by its tag, what of it can be read, its limits and its numbers. Assumes nothing.
+-- What the grammar promises of the field at a place of an accepted sheet: its length by its tag, what of it can be read, its limits and its numbers.
 use mathlib.Core.Path.{_≡_}
 use mathlib.Core.Bool.{true, cond}
 use mathlib.Core.List.{List}

@@ -1,4 +1,4 @@
--- Which numbers a refusal can have: the predicate, its laws for `>>=` and `cond`, and the grammar's numbers, 2 and 3. Assumes nothing.
+-- Which numbers a refusal can have: the predicate, its laws for `>>=` and `cond`, and the grammar's numbers, 2 and 3.
 use mathlib.Core.Path.{_≡_}
 use mathlib.Core.Bool.{Bool, true, false, cond}
 use mathlib.Core.List.{List}

@@ -1,4 +1,4 @@
--- The tests of each field's payload, the `len` bytes of s from `start` on, say what the grammar says of it. Assumes nothing.
+-- The tests of each field's payload, the `len` bytes of s from `start` on, say what the grammar says of it.
 use mathlib.Core.Path.{_≡_, refl, sym, _∙_}
 use mathlib.Core.Bool.{Bool, true, false, cond, _&&_, _||_, not}
 use mathlib.Core.List.{List, [], _∷_}

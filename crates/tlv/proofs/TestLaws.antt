@@ -1,4 +1,4 @@
--- The cases of a test, and what tests say: of two that both hold, of one of two, of a list that is not empty, of byte strings that are the same. Assumes nothing.
+-- The cases of a test, and what tests say: of two that both hold, of one of two, of a list that is not empty, of byte strings that are the same.
 use mathlib.Core.Path.{_≡_, refl}
 use mathlib.Core.Bool.{Bool, true, false, cond, _&&_, _||_, true≢false, false≢true}
 use mathlib.Core.Logic.{_⊎_, inl, inr, _≢_}

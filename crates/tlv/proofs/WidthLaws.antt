@@ -1,5 +1,5 @@
 -- A number of many bytes is made of numbers of few: how wide numbers are read and written by halves, and numbers within a part of a byte string.
--- Assumes nothing.
+--
 use mathlib.Core.Path.{_≡_, refl, sym, ap}
 use mathlib.Core.List.{List, [], _∷_, _++_}
 use Prim.Native.Nat.{ℕ, zero, suc, _+_, _-_, _*_, _/_, _%_, _^_, _<_, _≤_}

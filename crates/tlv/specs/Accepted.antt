@@ -1,4 +1,4 @@
--- What the grammar promises of a unit (document 01, "The sheet", refusals 2 and 3), as far as what is read of it goes. Assumes nothing.
+-- Theorem. What the grammar promises of a unit (document 01, "The sheet", refusals 2 and 3), as far as what is read of it goes.
 use Prim.Native.Nat.{ℕ, suc, _+_, _^_, _≤_, _<_}
 use mathlib.Core.Path.{_≡_}
 use mathlib.Core.Logic.{_⊎_}

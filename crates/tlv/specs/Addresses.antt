@@ -1,4 +1,4 @@
--- What is said of address ranges (document 01, "A range holds the addresses from its start to below its end"). Assumes nothing.
+-- Definition. What is said of address ranges (document 01, "A range holds the addresses from its start to below its end").
 use Prim.Native.Nat.{ℕ, _≤_, _<_}
 use Rattle.tlv.specs.declared.model.AddressRange.{AddressRange}
 

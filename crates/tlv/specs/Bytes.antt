@@ -1,4 +1,4 @@
--- Numbers in bytes, lowest byte first (document 01: "Numbers in layouts are little-endian"). Assumes nothing.
+-- Definition. Numbers in bytes, lowest byte first (document 01: "Numbers in layouts are little-endian").
 use mathlib.Core.List.{List, [], _∷_}
 use Prim.Native.Nat.{ℕ, zero, suc, _+_, _*_, _/_, _%_, _<_}
 use lib.ListN.{take, drop}

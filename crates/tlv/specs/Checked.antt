@@ -1,4 +1,4 @@
--- What the checker's answers mean, of a field and of a sheet, and what is a place of an accepted sheet. Assumes nothing.
+-- Contract. What the checker's answers mean, of a field and of a sheet, and what is a place of an accepted sheet.
 use mathlib.Core.Path.{_≡_}
 use mathlib.Core.Bool.{cond}
 use mathlib.Core.List.{List}

@@ -1,4 +1,4 @@
--- DWARF's own numbers (the Standard, 7.5). Assumes nothing.
+-- Definition. DWARF's own numbers (the Standard, 7.5).
 use Prim.Native.Nat.{ℕ}
 
 abbrev pub dwTagInlinedSubroutine : ℕ

@@ -1,4 +1,4 @@
--- What stands at a place of a byte string: the contract of the field cursor. Assumes nothing.
+-- Contract. What stands at a place of a byte string: the contract of the field cursor.
 use mathlib.Core.Bool.{cond}
 use mathlib.Core.List.{List}
 use Prim.Native.Nat.{ℕ, _+_, _-_}

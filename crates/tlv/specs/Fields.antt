@@ -1,4 +1,4 @@
--- Fields (document 01, "The sheet"): a one-byte tag, a two-byte length, the payload. Sheets and trays are rows of them. Assumes nothing.
+-- Definition. Fields (document 01, "The sheet"): a one-byte tag, a two-byte length, the payload. Sheets and trays are rows of them.
 use mathlib.Core.List.{List, [], _∷_, _++_}
 use mathlib.Core.Bool.{cond}
 use mathlib.Core.Option.{Option, none, some}
@@ -72,3 +72,7 @@ headOf (p ∷ ps) = some p
 -- the payload of the first field of a tag
 unfoldable pub payloadOf : ℕ → List Field → Option (List ℕ)
 payloadOf t fs = headOf (payloads t fs)
+
+-- how many whole fields of a tag the bytes have
+abbrev pub countOf : ℕ → List ℕ → ℕ
+countOf tag s = length (payloads tag (wholeFields (fields s)))

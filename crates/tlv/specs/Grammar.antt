@@ -1,5 +1,5 @@
--- Which sheets are accepted, and how many fields they have (document 01, "The sheet" and refusals 2 and 3).
--- The first bad field decides; in one field 2 goes before 3. Assumes nothing.
+-- Definition. Which sheets are accepted, and how many fields they have (document 01, "The sheet" and refusals 2 and 3).
+-- The first bad field decides; in one field 2 goes before 3.
 use Prim.Native.Nat.{ℕ, _+_, _-_, _^_}
 use mathlib.Core.Bool.{Bool, true, false, cond, _&&_, _||_, not}
 use mathlib.Core.List.{List, [], _∷_}

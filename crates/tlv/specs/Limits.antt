@@ -1,4 +1,4 @@
--- The limits of document 01's table, each named once. Assumes nothing.
+-- Definition. The limits of document 01's table, each named once.
 use Prim.Native.Nat.{ℕ, _+_, _*_}
 
 -- 1, oversize: bytes of a sheet, bytes of a line program

@@ -1,4 +1,4 @@
--- The functions and statements on lists that the other definitions are written with. Assumes nothing.
+-- Definition. The functions and statements on lists that the other definitions are written with.
 use Prim.Native.Nat.{ℕ, zero, suc}
 use mathlib.Core.Bool.{Bool, true, false, cond, _&&_}
 use mathlib.Core.List.{List, [], _∷_}

@@ -1,4 +1,4 @@
--- A sheet as units and entries (document 01, "The sheet"): what the import reads of a sheet that the grammar accepts. Assumes nothing.
+-- Definition. A sheet as units and entries (document 01, "The sheet"): what the import reads of a sheet that the grammar accepts.
 use Prim.Native.Nat.{ℕ}
 use mathlib.Core.Bool.{Bool}
 use mathlib.Core.List.{List, map}

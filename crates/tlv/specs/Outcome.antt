@@ -1,4 +1,4 @@
--- An answer that can be a refusal. Assumes nothing.
+-- Definition. An answer that can be a refusal.
 use Prim.Native.Nat.{ℕ}
 
 -- a value, or a refusal by its number in document 01's table

@@ -1,5 +1,5 @@
--- The tags of the fields of a sheet, in the order in which a unit has them, and of a tray (document 01; document 02, E8 and E11). Assumes nothing.
-use Prim.Native.Nat.{ℕ}
+-- Definition. The tags of the fields of a sheet, in the order in which a unit has them, and of a tray (document 01; document 02, E8 and E11).
+use Prim.Native.Nat.{ℕ, _+_}
 
 abbrev pub unitTag : ℕ
 unitTag = 0x10
@@ -75,3 +75,14 @@ traySiteTag = 0x45
 
 abbrev pub trayWarningTag : ℕ
 trayWarningTag = 0x46
+
+-- ---- bytes of the head of a field, its tag and its length, and of the whole field of a unit and of an entry
+
+abbrev pub fieldHead : ℕ
+fieldHead = 3
+
+abbrev pub unitWhole : ℕ
+unitWhole = fieldHead + 18
+
+abbrev pub entryWhole : ℕ
+entryWhole = fieldHead + 12

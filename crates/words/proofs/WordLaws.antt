@@ -1,4 +1,4 @@
--- The rows of the code's table hold the words: one equation of two tables, which antt computes. Assumes nothing.
+-- The rows of the code's table hold the words: one equation of two tables, which antt computes.
 use mathlib.Core.Path.{_≡_, refl, sym, ap, _∙_}
 use mathlib.Core.Bool.{Bool, true}
 use mathlib.Core.List.{List, [], _∷_, _++_}

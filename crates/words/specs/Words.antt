@@ -1,4 +1,4 @@
--- The words for the refusals, as bytes: document 01's, and those for document 02's 19 to 27. Assumes nothing.
+-- Definition. The words for the refusals, as bytes: document 01's, and those for document 02's 19 to 27.
 use Prim.Native.Nat.{ℕ, zero, suc}
 use mathlib.Core.List.{List, [], _∷_}
 use lib.ListN.{getD}

@@ -1,5 +1,5 @@
--- `compactions::compact` meets its contract: a walk of its MIR, by hand, since it lends structs. The array's first n rows are lent as a slice for the length of the call; they then make an array again with the
--- others, and that is written. Assumes nothing.
+-- `compactions::compact` meets its contract: a walk of its MIR, by hand, since it lends structs. The array's first n rows are lent as a slice for the length
+-- of the call; they then make an array again with the others, and that is written.
 use mathlib.Core.Path.{_≡_, refl, sym, ap, subst, _∙_}
 use mathlib.Core.List.{List, [], _∷_, _++_, map}
 use Prim.Native.Nat.{ℕ, _^_, _≤_, _<_}

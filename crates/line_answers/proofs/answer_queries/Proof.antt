@@ -1,4 +1,4 @@
--- `answer_queries` reads within the queries, and ends: what is left of them falls. Assumes nothing.
+-- `answer_queries` reads within the queries, and ends: what is left of them falls.
 use mathlib.Core.Path.{_≡_}
 use Prim.Native.Nat.{_≤_, _-_}
 use lib.ListN.{length}

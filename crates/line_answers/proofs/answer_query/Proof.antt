@@ -1,4 +1,4 @@
--- `answer_query` writes above the unit's lines. Assumes nothing.
+-- `answer_query` writes above the unit's lines.
 use borrow.Author.Needs.{needs}
 use Rattle.line_answers.proofs.AnswerLaws.{rows-still}
 use Rattle.line_answers.proofs.answer_query.Statement.{statement}

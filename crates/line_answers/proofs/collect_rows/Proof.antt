@@ -1,4 +1,4 @@
--- `collect_rows` lends what was written to the trays, and lines that stand in the work. Assumes nothing.
+-- `collect_rows` lends what was written to the trays, and lines that stand in the work.
 use native.Mathlib.Omega.{arith}
 use lib.ListN.{length-take}
 use borrow.Author.Needs.{needs}

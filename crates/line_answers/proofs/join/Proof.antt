@@ -1,4 +1,4 @@
--- `join` lends work that has room for the path. Assumes nothing.
+-- `join` lends work that has room for the path.
 use native.Mathlib.Omega.{arith}
 use lib.ListN.{length-take}
 use borrow.Author.Needs.{needs}

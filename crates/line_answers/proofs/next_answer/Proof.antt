@@ -1,4 +1,4 @@
--- `next_answer` lends what it read. Assumes nothing.
+-- `next_answer` lends what it read.
 use native.Mathlib.Omega.{arith}
 use lib.ListN.{length-take}
 use borrow.Author.Needs.{needs}

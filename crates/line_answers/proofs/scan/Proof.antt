@@ -1,4 +1,4 @@
--- `scan` lends the table that was written: three bytes of a program at least for each sequence, so it lies in the work. Assumes nothing.
+-- `scan` lends the table that was written: three bytes of a program at least for each sequence, so it lies in the work.
 use mathlib.Core.Path.{_≡_}
 use mathlib.Core.List.{List}
 use Prim.Native.Nat.{ℕ, _*_, _≤_}

@@ -1,4 +1,4 @@
--- `main` lends the parts of its buffers that were read. Assumes nothing.
+-- `main` lends the parts of its buffers that were read.
 use native.Mathlib.Omega.{arith}
 use lib.ListN.{length-take}
 use borrow.Author.Needs.{needs}

@@ -1,4 +1,4 @@
--- `write_fields` lends payloads within the buffer, and ends: what is left of it falls. Assumes nothing.
+-- `write_fields` lends payloads within the buffer, and ends: what is left of it falls.
 use Prim.Native.Nat.{_≤_, _-_}
 use native.Mathlib.Omega.{arith}
 use lib.ListN.{length}

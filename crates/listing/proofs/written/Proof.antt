@@ -1,4 +1,4 @@
--- `written` answers a part within the buffer. Assumes nothing.
+-- `written` answers a part within the buffer.
 use native.Mathlib.Omega.{arith}
 use lib.ListN.{length-take}
 use borrow.Author.Needs.{needs}

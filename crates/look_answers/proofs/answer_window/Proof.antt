@@ -1,4 +1,4 @@
--- `answer_window` lends as much of the list as is asked for, within its length. Assumes nothing.
+-- `answer_window` lends as much of the list as is asked for, within its length.
 use native.Mathlib.Omega.{arith}
 use lib.ListN.{length-take}
 use borrow.Author.Needs.{needs}

@@ -1,4 +1,4 @@
--- `write_bytes` reads within the list, and ends: what is left of it falls. Assumes nothing.
+-- `write_bytes` reads within the list, and ends: what is left of it falls.
 use Prim.Native.Nat.{_≤_, _-_}
 use lib.ListN.{length}
 use borrow.Author.Needs.{needs}

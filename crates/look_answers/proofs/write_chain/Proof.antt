@@ -1,4 +1,4 @@
--- `write_chain` reads within the chain, and ends. Assumes nothing.
+-- `write_chain` reads within the chain, and ends.
 use borrow.Author.Needs.{needs}
 use Prim.Native.Nat.{_≤_, _-_}
 use native.Mathlib.Omega.{arith}

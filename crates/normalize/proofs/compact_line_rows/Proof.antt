@@ -1,5 +1,6 @@
--- `normalize::compact_line_rows` meets its contract: a walk of its MIR, by hand, since it takes a reference to structs. The borrow is open from before the loop until after it; a turn takes single
--- rows out of the slice's memory, reads or stores them, and puts them back. What the loop keeps of the lists is in `CompactLaws`. Assumes nothing.
+-- `normalize::compact_line_rows` meets its contract: a walk of its MIR, by hand, since it takes a reference to structs. The borrow is open from before the
+-- loop until after it; a turn takes single rows out of the slice's memory, reads or stores them, and puts them back. What the loop keeps of the lists is in
+-- `CompactLaws`.
 use mathlib.Core.Path.{_≡_, refl, sym, ap, subst, _∙_}
 use mathlib.Core.Logic.{⊎-elim}
 use mathlib.Core.Bool.{Bool}

@@ -1,4 +1,4 @@
--- `normalize::same_line` meets its contract. Assumes nothing.
+-- `normalize::same_line` meets its contract.
 use Rattle.normalize.proofs.CompactLaws.{files-differ, lines-decide}
 use Rattle.normalize.proofs.same_line.Statement.{statement}
 use Rattle.normalize.proofs.same_line.Tie as tie

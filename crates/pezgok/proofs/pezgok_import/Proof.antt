@@ -1,4 +1,4 @@
--- `pezgok_import` meets its contract: the numbers are those of the answer of `import_unit`. Assumes nothing.
+-- `pezgok_import` meets its contract: the numbers are those of the answer of `import_unit`.
 use borrow.Author.Needs.{needs}
 use Rattle.pezgok.proofs.ExportLaws.{exports}
 use Rattle.pezgok.proofs.pezgok_import.Statement.{statement}

@@ -1,4 +1,4 @@
--- `pezgok_measure` meets its contract: the numbers are those of the answer of `measure_unit`. Assumes nothing.
+-- `pezgok_measure` meets its contract: the numbers are those of the answer of `measure_unit`.
 use borrow.Author.Needs.{needs}
 use Rattle.pezgok.proofs.ExportLaws.{exports-measure}
 use Rattle.pezgok.proofs.pezgok_measure.Statement.{statement}

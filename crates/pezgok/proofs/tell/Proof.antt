@@ -1,4 +1,4 @@
--- `tell` meets its contract: the numbers are those of the answer. Assumes nothing.
+-- `tell` meets its contract: the numbers are those of the answer.
 use borrow.Author.Needs.{needs}
 use Rattle.pezgok.proofs.ExportLaws.{told-refused, told-finished}
 use Rattle.pezgok.proofs.tell.Statement.{statement}

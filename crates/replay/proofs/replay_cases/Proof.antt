@@ -1,4 +1,4 @@
--- `replay_cases` keeps the buffers at their lengths, and ends: the cases that are left fall. Assumes nothing.
+-- `replay_cases` keeps the buffers at their lengths, and ends: the cases that are left fall.
 use mathlib.Core.Path.{_≡_}
 use Prim.Native.Nat.{_-_}
 use lib.ListN.{length}

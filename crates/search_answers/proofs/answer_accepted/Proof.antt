@@ -1,4 +1,4 @@
--- `answer_accepted` goes on where there is room for the tables. Assumes nothing.
+-- `answer_accepted` goes on where there is room for the tables.
 use borrow.Author.Needs.{needs}
 use Rattle.search_answers.proofs.SearchLaws.{room-yes}
 use Rattle.search_answers.proofs.answer_accepted.Statement.{statement}

@@ -1,4 +1,4 @@
--- `answer_declaration` starts from an empty table of files, and leaves the tables as they are. Assumes nothing.
+-- `answer_declaration` starts from an empty table of files, and leaves the tables as they are.
 use mathlib.Core.Path.{refl}
 use borrow.Author.Needs.{needs}
 use Rattle.search_answers.proofs.SearchLaws.{declaring-in, declared-still}

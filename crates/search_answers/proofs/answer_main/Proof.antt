@@ -1,4 +1,4 @@
--- `answer_main` goes on with an accepted supplementary sheet. Assumes nothing.
+-- `answer_main` goes on with an accepted supplementary sheet.
 use borrow.Author.Needs.{needs}
 use Rattle.tlv.proofs.PlaceFacts.{accepted-done}
 use Rattle.search_answers.proofs.answer_main.Statement.{statement}

@@ -1,4 +1,4 @@
--- `answer_name` leaves the tables as they are: the next search can start. Assumes nothing.
+-- `answer_name` leaves the tables as they are: the next search can start.
 use borrow.Author.Needs.{needs}
 use Rattle.search_answers.proofs.SearchLaws.{search-still}
 use Rattle.search_answers.proofs.answer_name.Statement.{statement}

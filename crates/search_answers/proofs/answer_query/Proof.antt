@@ -1,4 +1,4 @@
--- `answer_query` searches from an entry that is known, and leaves the tables as they are. Assumes nothing.
+-- `answer_query` searches from an entry that is known, and leaves the tables as they are.
 use borrow.Author.Needs.{needs}
 use Rattle.search_answers.proofs.SearchLaws.{leads-known}
 use Rattle.search_answers.proofs.answer_query.Statement.{statement}

@@ -1,4 +1,4 @@
--- `answer_sheets` goes on with an accepted main sheet. Assumes nothing.
+-- `answer_sheets` goes on with an accepted main sheet.
 use borrow.Author.Needs.{needs}
 use Rattle.tlv.proofs.PlaceFacts.{accepted-done}
 use Rattle.search_answers.proofs.answer_sheets.Statement.{statement}

@@ -1,4 +1,4 @@
--- `main` keeps both buffers at their lengths, and ends: the calls that are left fall. Assumes nothing.
+-- `main` keeps both buffers at their lengths, and ends: the calls that are left fall.
 use mathlib.Core.Path.{_≡_}
 use Prim.Native.Nat.{_-_}
 use lib.ListN.{length}

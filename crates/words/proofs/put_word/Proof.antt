@@ -1,4 +1,4 @@
--- `put_word` meets its contract: the row of a number holds its word, and a number past the table lays nothing. Assumes nothing.
+-- `put_word` meets its contract: the row of a number holds its word, and a number past the table lays nothing.
 use native.Mathlib.Omega.{arith}
 use borrow.Author.Needs.{needs}
 use Rattle.buffers.proofs.BufferLaws.{put-nothing}

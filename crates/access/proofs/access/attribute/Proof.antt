@@ -1,4 +1,4 @@
--- `access::attribute` meets its contract. The loop's invariant: the attribute that is looked for is the first of its name from here on. Assumes nothing.
+-- `access::attribute` meets its contract. The loop's invariant: the attribute that is looked for is the first of its name from here on.
 use mathlib.Core.Path.{_≡_, refl}
 use mathlib.Core.List.{map}
 use Prim.Native.Nat.{_-_}
@@ -12,7 +12,7 @@ use Rattle.tlv.proofs.CursorLaws.{next-less, payload-within}
 use Rattle.tlv.proofs.PlaceFacts.{placed-next}
 use Rattle.access.specs.Places.{ownFields}
 use Rattle.access.specs.Access.{isNamed, meaningOf}
-use Rattle.access.proofs.AttributeLaws.{absent-end, absent-cut, absent-other, found-shaped, name-within, attribute-found, attribute-passed}
+use Rattle.access.proofs.access.AttributeLaws.{absent-end, absent-cut, absent-other, found-shaped, name-within, attribute-found, attribute-passed}
 use Rattle.access.proofs.access.attribute.Statement.{statement}
 use Rattle.access.proofs.access.attribute.Tie as tie
 

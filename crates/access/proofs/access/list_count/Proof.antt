@@ -1,4 +1,4 @@
--- `access::list_count` meets its contract. The loop's invariant: what is counted and what is left to count make the whole. Assumes nothing.
+-- `access::list_count` meets its contract. The loop's invariant: what is counted and what is left to count make the whole.
 use Prim.Native.Nat.{_+_, _-_, _≤_}
 use native.Mathlib.Omega.{arith}
 use lib.ListN.{length}

@@ -1,4 +1,4 @@
--- `access::next_before_rows` meets its contract. The loop is `next_own`'s, and ends at a row too. Assumes nothing.
+-- `access::next_before_rows` meets its contract. The loop is `next_own`'s, and ends at a row too.
 use Prim.Native.Nat.{_-_}
 use lib.ListN.{length}
 use borrow.Author.Needs.{needs}

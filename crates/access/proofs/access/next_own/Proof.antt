@@ -1,4 +1,4 @@
--- `access::next_own` meets its contract. The loop's invariant: the payloads of the tag from here on are those from p on. Assumes nothing.
+-- `access::next_own` meets its contract. The loop's invariant: the payloads of the tag from here on are those from p on.
 use Prim.Native.Nat.{_-_}
 use lib.ListN.{length}
 use borrow.Author.Needs.{needs}

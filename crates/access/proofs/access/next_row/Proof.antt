@@ -1,6 +1,6 @@
--- `access::next_row` meets its contract. Assumes nothing.
+-- `access::next_row` meets its contract.
 use borrow.Author.Needs.{needs}
-use Rattle.access.proofs.RowLaws.{row-here}
+use Rattle.access.proofs.access.RowLaws.{row-here}
 use Rattle.access.proofs.access.next_row.Statement.{statement}
 use Rattle.access.proofs.access.next_row.Tie as tie
 

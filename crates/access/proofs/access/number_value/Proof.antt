@@ -1,4 +1,4 @@
--- `access::number_value` meets its contract: each kind is a case of `numberValue`. Assumes nothing.
+-- `access::number_value` meets its contract: each kind is a case of `numberValue`.
 use borrow.Author.Tests.{ne-eqb}
 use Rattle.access.specs.Access.{numberValue}
 use Rattle.access.proofs.access.number_value.Statement.{statement}

@@ -1,4 +1,4 @@
--- `access::unit_by_ordinal` meets its contract. The loop's invariant: the unit that is looked for has the number `left` among those from p on. Assumes nothing.
+-- `access::unit_by_ordinal` meets its contract. The loop's invariant: the unit that is looked for has the number `left` among those from p on.
 use mathlib.Core.Path.{_≡_, refl}
 use Prim.Native.Nat.{_-_}
 use native.Mathlib.Omega.{arith}

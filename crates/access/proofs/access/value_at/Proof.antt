@@ -1,6 +1,6 @@
--- `access::value_at` meets its contract. What is read is in a payload that is shaped. Assumes nothing.
+-- `access::value_at` meets its contract. What is read is in a payload that is shaped.
 use borrow.Author.Needs.{needs}
-use Rattle.access.proofs.AttributeLaws.{attribute-wide, kind-within, number-inside, says-text, says-failed, says-number}
+use Rattle.access.proofs.access.AttributeLaws.{attribute-wide, kind-within, number-inside, says-text, says-failed, says-number}
 use Rattle.access.proofs.access.value_at.Statement.{statement}
 use Rattle.access.proofs.access.value_at.Tie as tie
 

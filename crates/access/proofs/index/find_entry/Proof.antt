@@ -1,6 +1,6 @@
--- `index::find_entry` meets its contract. The entry of the offset stands at the number of lower ones, or nowhere. Assumes nothing.
+-- `index::find_entry` meets its contract. The entry of the offset stands at the number of lower ones, or nowhere.
 use borrow.Author.Needs.{needs}
-use Rattle.access.proofs.FindLaws.{found-past, found-other, found-at}
+use Rattle.access.proofs.index.FindLaws.{found-past, found-other, found-at}
 use Rattle.access.proofs.index.find_entry.Statement.{statement}
 use Rattle.access.proofs.index.find_entry.Tie as tie
 

@@ -1,4 +1,4 @@
--- `index::index_entries` meets its contract. The loop's invariant: what is written and the entries that are left make the index. Assumes nothing.
+-- `index::index_entries` meets its contract. The loop's invariant: what is written and the entries that are left make the index.
 use Prim.Native.Nat.{_+_, _-_, _*_, _^_, _≤_, _<_}
 use native.Mathlib.Omega.{arith}
 use lib.ListN.{length}

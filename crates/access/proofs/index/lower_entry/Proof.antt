@@ -1,9 +1,9 @@
--- `index::lower_entry` meets its contract. The loop's invariant: the number of lower offsets is from lo to hi. Assumes nothing.
+-- `index::lower_entry` meets its contract. The loop's invariant: the number of lower offsets is from lo to hi.
 use Prim.Native.Nat.{_≤_, _-_}
 use native.Mathlib.Omega.{arith}
 use Rattle.buffers.specs.Table.{records}
 use Rattle.access.specs.Index.{indexedOf, lowerThan}
-use Rattle.access.proofs.FindLaws.{lower-most, go-up, go-down}
+use Rattle.access.proofs.index.FindLaws.{lower-most, go-up, go-down}
 use Rattle.access.proofs.index.lower_entry.Statement.{statement}
 use Rattle.access.proofs.index.lower_entry.Tie as tie
 

@@ -1,4 +1,4 @@
--- `index::put_entry` meets its contract. The three numbers of a record are written one after the other. Assumes nothing.
+-- `index::put_entry` meets its contract. The three numbers of a record are written one after the other.
 use borrow.Author.Needs.{needs}
 use Rattle.access.proofs.IndexLaws.{put-indexed}
 use Rattle.access.proofs.index.put_entry.Statement.{statement}

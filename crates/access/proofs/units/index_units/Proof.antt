@@ -1,4 +1,4 @@
--- `units::index_units` meets its contract. The loop's invariant: what is written and the units that are left make the table. Assumes nothing.
+-- `units::index_units` meets its contract. The loop's invariant: what is written and the units that are left make the table.
 use Prim.Native.Nat.{_+_, _-_, _*_, _≤_}
 use native.Mathlib.Omega.{arith}
 use lib.ListN.{length}

@@ -1,4 +1,4 @@
--- `units::put_unit` meets its contract. The three numbers of a record are written one after the other. Assumes nothing.
+-- `units::put_unit` meets its contract. The three numbers of a record are written one after the other.
 use borrow.Author.Needs.{needs}
 use Rattle.access.proofs.UnitsLaws.{put-unit}
 use Rattle.access.proofs.units.put_unit.Statement.{statement}

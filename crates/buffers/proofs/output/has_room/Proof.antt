@@ -1,4 +1,4 @@
--- `has_room` meets its contract: the place is within the tray, or past its end. Assumes nothing.
+-- `has_room` meets its contract: the place is within the tray, or past its end.
 use borrow.Author.Needs.{needs}
 use Rattle.buffers.proofs.BufferLaws.{room-within, room-past}
 use Rattle.buffers.proofs.output.has_room.Statement.{statement}

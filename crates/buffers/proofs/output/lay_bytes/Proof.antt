@@ -1,4 +1,4 @@
--- `lay_bytes` meets its contract. The loop's invariant: the first i bytes are put. Assumes nothing.
+-- `lay_bytes` meets its contract. The loop's invariant: the first i bytes are put.
 use mathlib.Core.Path.{_≡_, refl}
 use Prim.Native.Nat.{_+_, _≤_, _-_}
 use native.Mathlib.Nat.{add-zero}

@@ -1,4 +1,4 @@
--- `pattern_count` meets its contract, by the pattern's length. Assumes nothing.
+-- `pattern_count` meets its contract, by the pattern's length.
 use Rattle.buffers.proofs.OutputLaws.{pattern-none, pattern-one}
 use Rattle.buffers.proofs.output.pattern_count.Statement.{statement}
 use Rattle.buffers.proofs.output.pattern_count.Tie as tie

@@ -1,4 +1,4 @@
--- `put_bytes` meets its contract: all at once where they fit, else byte by byte. Assumes nothing.
+-- `put_bytes` meets its contract: all at once where they fit, else byte by byte.
 use mathlib.Core.Path.{refl}
 use native.Mathlib.Omega.{arith}
 use borrow.Author.Needs.{needs}

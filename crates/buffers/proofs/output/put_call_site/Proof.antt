@@ -1,4 +1,4 @@
--- `put_call_site` meets its contract: the head, and then the parts of the payload one after the other. Assumes nothing.
+-- `put_call_site` meets its contract: the head, and then the parts of the payload one after the other.
 use borrow.Author.Needs.{needs}
 use Rattle.buffers.specs.Output.{sitePayload}
 use Rattle.buffers.proofs.PayloadLaws.{site-length}

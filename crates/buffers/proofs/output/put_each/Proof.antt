@@ -1,4 +1,4 @@
--- `put_each` meets its contract. The loop's invariant: the first i bytes are put. Assumes nothing.
+-- `put_each` meets its contract. The loop's invariant: the first i bytes are put.
 use Prim.Native.Nat.{_≤_, _-_}
 use native.Mathlib.Omega.{arith}
 use borrow.Author.Needs.{needs}

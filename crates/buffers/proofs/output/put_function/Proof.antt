@@ -1,4 +1,4 @@
--- `put_function` meets its contract: the head, and then the parts of the payload one after the other. Assumes nothing.
+-- `put_function` meets its contract: the head, and then the parts of the payload one after the other.
 use borrow.Author.Needs.{needs}
 use Rattle.buffers.specs.Output.{functionPayload}
 use Rattle.buffers.proofs.PayloadLaws.{function-length}

@@ -1,4 +1,4 @@
--- `put_head` meets its contract: a byte and then the length. Assumes nothing.
+-- `put_head` meets its contract: a byte and then the length.
 use borrow.Author.Needs.{needs}
 use Rattle.buffers.proofs.BufferLaws.{put-cons}
 use Rattle.buffers.proofs.output.put_head.Statement.{statement}

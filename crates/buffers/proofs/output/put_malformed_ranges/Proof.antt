@@ -1,4 +1,4 @@
--- `put_malformed_ranges` meets its contract: the head, and then the parts of the payload one after the other. Assumes nothing.
+-- `put_malformed_ranges` meets its contract: the head, and then the parts of the payload one after the other.
 use borrow.Author.Needs.{needs}
 use Rattle.buffers.specs.Output.{warningPayload}
 use Rattle.buffers.proofs.OutputLaws.{put-headed, put-said, reason-length}

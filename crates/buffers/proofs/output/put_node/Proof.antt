@@ -1,4 +1,4 @@
--- `put_node` meets its contract: the head, and then the parts of the payload one after the other. Assumes nothing.
+-- `put_node` meets its contract: the head, and then the parts of the payload one after the other.
 use borrow.Author.Needs.{needs}
 use Rattle.buffers.specs.Output.{nodePayload}
 use Rattle.buffers.proofs.PayloadLaws.{node-length}

@@ -1,4 +1,4 @@
--- `put_u16` meets its contract: the number at once where it fits, else the low byte and then the high byte. Assumes nothing.
+-- `put_u16` meets its contract: the number at once where it fits, else the low byte and then the high byte.
 use Prim.Native.Nat.{_+_}
 use native.Mathlib.Omega.{arith}
 use borrow.Author.Needs.{needs}

@@ -1,4 +1,4 @@
--- `put_u64` meets its contract: the number at once where it fits, else the low half and then the high half. Assumes nothing.
+-- `put_u64` meets its contract: the number at once where it fits, else the low half and then the high half.
 use Prim.Native.Nat.{_+_}
 use native.Mathlib.Omega.{arith}
 use borrow.Author.Needs.{needs}

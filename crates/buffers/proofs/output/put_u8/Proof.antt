@@ -1,4 +1,4 @@
--- `put_u8` meets its contract: past the end `set` leaves the tray as it is. Assumes nothing.
+-- `put_u8` meets its contract: past the end `set` leaves the tray as it is.
 use borrow.Author.Needs.{needs}
 use Rattle.buffers.proofs.BufferLaws.{lost}
 use Rattle.buffers.proofs.output.put_u8.Statement.{statement}

@@ -1,4 +1,4 @@
--- `put_warning` meets its contract: the head, and then the parts of the payload one after the other. Assumes nothing.
+-- `put_warning` meets its contract: the head, and then the parts of the payload one after the other.
 use borrow.Author.Needs.{needs}
 use Rattle.buffers.proofs.BufferLaws.{_then_}
 use Rattle.buffers.proofs.OutputLaws.{put-headed, numbers-length}

@@ -1,4 +1,4 @@
--- `table::clear` meets its contract. The whole slice is set to 0. Assumes nothing.
+-- `table::clear` meets its contract. The whole slice is set to 0.
 use borrow.Author.Needs.{needs}
 use Rattle.buffers.proofs.ZeroLaws.{zeroed-all}
 use Rattle.buffers.proofs.table.clear.Statement.{statement}

@@ -1,4 +1,4 @@
--- `table::copy_bytes` meets its contract. The loop copies byte by byte, the first first; the measure is what is left of the size. Assumes nothing.
+-- `table::copy_bytes` meets its contract. The loop copies byte by byte, the first first; the measure is what is left of the size.
 use Prim.Native.Nat.{_-_}
 use native.Mathlib.Omega.{arith}
 use borrow.Author.Needs.{needs}

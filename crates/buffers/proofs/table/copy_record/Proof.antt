@@ -1,4 +1,4 @@
--- `table::copy_record` meets its contract: whole words, and then the bytes that are left. Assumes nothing.
+-- `table::copy_record` meets its contract: whole words, and then the bytes that are left.
 use mathlib.Core.Logic.{inl, inr, ⊎-elim}
 use native.Mathlib.Omega.{arith}
 use borrow.Author.Needs.{needs}

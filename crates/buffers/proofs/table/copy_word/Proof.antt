@@ -1,4 +1,4 @@
--- `table::copy_word` meets its contract. Eight bytes are read as a number, and its bytes are those. Assumes nothing.
+-- `table::copy_word` meets its contract. Eight bytes are read as a number, and its bytes are those.
 use borrow.Author.Needs.{needs}
 use Rattle.tlv.proofs.PlaceFacts.{slice-bytes}
 use Rattle.buffers.proofs.TableLaws.{copied-number}

@@ -1,4 +1,4 @@
--- `table::copy_words` meets its contract. The loop copies word by word, the first first; the measure is what is left of the size. Assumes nothing.
+-- `table::copy_words` meets its contract. The loop copies word by word, the first first; the measure is what is left of the size.
 use Prim.Native.Nat.{_-_}
 use native.Mathlib.Omega.{arith}
 use borrow.Author.Needs.{needs}

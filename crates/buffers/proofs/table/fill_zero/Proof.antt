@@ -1,4 +1,4 @@
--- `table::fill_zero` meets its contract. The loop sets byte after byte to 0; the measure is what is left. Assumes nothing.
+-- `table::fill_zero` meets its contract. The loop sets byte after byte to 0; the measure is what is left.
 use Prim.Native.Nat.{_-_}
 use native.Mathlib.Omega.{arith}
 use borrow.Author.Needs.{needs}

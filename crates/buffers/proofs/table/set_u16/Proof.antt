@@ -1,4 +1,4 @@
--- `table::set_u16` meets its contract. A number of two bytes is written by its low byte and its high byte. Assumes nothing.
+-- `table::set_u16` meets its contract. A number of two bytes is written by its low byte and its high byte.
 use borrow.Author.Needs.{needs}
 use Rattle.buffers.proofs.TableLaws.{wrote-halves}
 use Rattle.buffers.proofs.table.set_u16.Statement.{statement}

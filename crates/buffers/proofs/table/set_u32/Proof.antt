@@ -1,4 +1,4 @@
--- `table::set_u32` meets its contract. A number of four bytes is written by its halves. Assumes nothing.
+-- `table::set_u32` meets its contract. A number of four bytes is written by its halves.
 use borrow.Author.Needs.{needs}
 use Rattle.buffers.proofs.TableLaws.{wrote-halves}
 use Rattle.buffers.proofs.table.set_u32.Statement.{statement}

@@ -1,4 +1,4 @@
--- `table::set_u8` meets its contract. A byte is stored: the number of one byte is there. Assumes nothing.
+-- `table::set_u8` meets its contract. A byte is stored: the number of one byte is there.
 use borrow.Author.Needs.{needs}
 use Rattle.buffers.proofs.TableLaws.{wrote-byte}
 use Rattle.buffers.proofs.table.set_u8.Statement.{statement}

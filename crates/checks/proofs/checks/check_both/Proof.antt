@@ -1,4 +1,4 @@
--- `checks::check_both` meets its contract: what the checks of both inputs say together. Assumes nothing.
+-- `checks::check_both` meets its contract: what the checks of both inputs say together.
 use borrow.Author.Needs.{needs}
 use native.Mathlib.Omega.{arith}
 use Rattle.checks.proofs.CheckLaws.{both-misshapen, both-limited, second-misshapen, second-limited, checked-few, both-done}

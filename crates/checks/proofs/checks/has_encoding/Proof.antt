@@ -1,4 +1,4 @@
--- `checks::has_encoding` meets its contract: the unit has an encoding where it has a field 1d of its own. Assumes nothing.
+-- `checks::has_encoding` meets its contract: the unit has an encoding where it has a field 1d of its own.
 use borrow.Author.Needs.{needs}
 use native.Mathlib.Omega.{arith}
 use Rattle.files.proofs.UnitLaws.{unit-next, unit-within}

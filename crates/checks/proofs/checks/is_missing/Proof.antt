@@ -1,4 +1,4 @@
--- `checks::is_missing` meets its contract, a case for each answer. Assumes nothing.
+-- `checks::is_missing` meets its contract, a case for each answer.
 use borrow.Author.Needs.{needs}
 use Rattle.checks.proofs.CheckLaws.{missing-all, missing-found, missing-filled, missing-bare}
 use Rattle.checks.proofs.checks.is_missing.Statement.{statement}

@@ -1,4 +1,4 @@
--- `checks::is_oversize` meets its contract, a test for each branch. Assumes nothing.
+-- `checks::is_oversize` meets its contract, a test for each branch.
 use Rattle.checks.proofs.CheckLaws.{oversize-main, oversize-supplementary, oversize-program, oversize-lists, oversize-addresses}
 use Rattle.checks.proofs.checks.is_oversize.Statement.{statement}
 use Rattle.checks.proofs.checks.is_oversize.Tie as tie

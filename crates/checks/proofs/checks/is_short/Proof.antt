@@ -1,4 +1,4 @@
--- `checks::is_short` meets its contract. Assumes nothing.
+-- `checks::is_short` meets its contract.
 use native.Mathlib.Omega.{arith}
 use mathlib.Core.Path.{refl}
 use Rattle.checks.proofs.checks.is_short.Statement.{statement}

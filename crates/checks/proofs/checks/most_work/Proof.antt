@@ -1,4 +1,4 @@
--- `checks::most_work` meets its contract. The loop's invariant: so much asks the neediest unit before the place. Assumes nothing.
+-- `checks::most_work` meets its contract. The loop's invariant: so much asks the neediest unit before the place.
 use borrow.Author.Needs.{needs}
 use native.Mathlib.Omega.{arith}
 use Prim.Native.Nat.{_-_}

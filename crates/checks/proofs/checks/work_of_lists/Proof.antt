@@ -1,4 +1,4 @@
--- `checks::work_of_lists` meets its contract. Assumes nothing.
+-- `checks::work_of_lists` meets its contract.
 use native.Mathlib.Omega.{arith}
 use Rattle.checks.proofs.WorkLaws.{lists-work, lists-few, lists-many}
 use Rattle.checks.proofs.checks.work_of_lists.Statement.{statement}

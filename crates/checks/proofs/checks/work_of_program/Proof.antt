@@ -1,4 +1,4 @@
--- `checks::work_of_program` meets its contract. Assumes nothing.
+-- `checks::work_of_program` meets its contract.
 use mathlib.Core.Path.{sym}
 use native.Mathlib.Omega.{arith}
 use Rattle.checks.proofs.checks.work_of_program.Statement.{statement}

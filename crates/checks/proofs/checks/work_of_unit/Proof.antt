@@ -1,4 +1,4 @@
--- `checks::work_of_unit` meets its contract. Assumes nothing.
+-- `checks::work_of_unit` meets its contract.
 use borrow.Author.Needs.{needs}
 use native.Mathlib.Omega.{arith}
 use Rattle.files.proofs.UnitLaws.{unit-within}

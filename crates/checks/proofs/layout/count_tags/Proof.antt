@@ -1,10 +1,10 @@
--- `layout::count_tags` meets its contract. The loop's invariant: of each tag what is counted and what is left to count make the whole. Assumes nothing.
+-- `layout::count_tags` meets its contract. The loop's invariant: of each tag what is counted and what is left to count make the whole.
 use Prim.Native.Nat.{_-_}
 use lib.ListN.{length}
 use borrow.Author.Needs.{needs}
 use native.Mathlib.Omega.{arith}
 use Rattle.tlv.proofs.CursorLaws.{next-less}
-use Rattle.checks.proofs.TallyLaws.{Tallying, tally-start, tally-end, tally-cut, tally-one, tally-other}
+use Rattle.checks.proofs.layout.TallyLaws.{Tallying, tally-start, tally-end, tally-cut, tally-one, tally-other}
 use Rattle.checks.proofs.layout.count_tags.Statement.{statement}
 use Rattle.checks.proofs.layout.count_tags.Tie as tie
 

@@ -1,6 +1,6 @@
--- `layout::counts_of` meets its contract. Assumes nothing.
+-- `layout::counts_of` meets its contract.
 use borrow.Author.Needs.{needs}
-use Rattle.checks.proofs.TallyLaws.{sized}
+use Rattle.checks.proofs.layout.TallyLaws.{sized}
 use Rattle.checks.proofs.layout.counts_of.Statement.{statement}
 use Rattle.checks.proofs.layout.counts_of.Tie as tie
 

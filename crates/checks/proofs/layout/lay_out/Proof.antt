@@ -1,4 +1,4 @@
--- `layout::lay_out` meets its contract: no sum passes 2^64, since the counts are few. Assumes nothing.
+-- `layout::lay_out` meets its contract: no sum passes 2^64, since the counts are few.
 use native.Mathlib.Omega.{arith}
 use Rattle.checks.proofs.LayoutLaws.{lays-out}
 use Rattle.checks.proofs.layout.lay_out.Statement.{statement}

@@ -1,4 +1,4 @@
--- `layout::place_unit` meets its contract. Assumes nothing.
+-- `layout::place_unit` meets its contract.
 use Rattle.checks.proofs.layout.place_unit.Statement.{statement}
 use Rattle.checks.proofs.layout.place_unit.Tie as tie
 

@@ -1,4 +1,4 @@
--- `layout::program_rows` meets its contract. Assumes nothing.
+-- `layout::program_rows` meets its contract.
 use mathlib.Core.Path.{sym}
 use Rattle.checks.proofs.layout.program_rows.Statement.{statement}
 use Rattle.checks.proofs.layout.program_rows.Tie as tie

@@ -1,4 +1,4 @@
--- `layout::unit_encoded` meets its contract. Assumes nothing.
+-- `layout::unit_encoded` meets its contract.
 use Rattle.checks.proofs.WorkLaws.{known-encoded}
 use Rattle.checks.proofs.layout.unit_encoded.Statement.{statement}
 use Rattle.checks.proofs.layout.unit_encoded.Tie as tie

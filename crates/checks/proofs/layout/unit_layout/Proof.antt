@@ -1,4 +1,4 @@
--- `layout::unit_layout` meets its contract. Assumes nothing.
+-- `layout::unit_layout` meets its contract.
 use borrow.Author.Needs.{needs}
 use native.Mathlib.Omega.{arith}
 use Rattle.checks.proofs.LayoutLaws.{program-few, open-few, laid-unit}

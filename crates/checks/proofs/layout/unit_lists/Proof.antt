@@ -1,4 +1,4 @@
--- `layout::unit_lists` meets its contract. Assumes nothing.
+-- `layout::unit_lists` meets its contract.
 use borrow.Author.Needs.{needs}
 use native.Mathlib.Omega.{arith}
 use Rattle.files.proofs.UnitLaws.{unit-within}

@@ -1,12 +1,12 @@
--- `collect::collect_header` meets its contract: the program's sequences, the unit's files and the rows, one after the other. Assumes nothing.
+-- `collect::collect_header` meets its contract: the program's sequences, the unit's files and the rows, one after the other.
 use borrow.Author.Needs.{needs}
 use native.Mathlib.Omega.{arith}
 use mathlib.Core.Path.{_∙_}
 use Rattle.files.proofs.UnitLaws.{unit-within}
 use Rattle.collect.proofs.HeaderPlaces.{unit-stands, unit-listed}
-use Rattle.collect.proofs.CollectLaws.{found-placed, fault-room, scan-room, collected-fault, scanned-small, scanned-files}
-use Rattle.collect.proofs.CollectLaws.{scanned-room, collected-unnumbered}
-use Rattle.collect.proofs.CollectLaws.{interned-fits, interned-placed, conversion-in, conversion-fits, collected-end}
+use Rattle.collect.proofs.collect.CollectLaws.{found-placed, fault-room, scan-room, collected-fault, scanned-small, scanned-files}
+use Rattle.collect.proofs.collect.CollectLaws.{scanned-room, collected-unnumbered}
+use Rattle.collect.proofs.collect.CollectLaws.{interned-fits, interned-placed, conversion-in, conversion-fits, collected-end}
 use Rattle.collect.proofs.collect.collect_header.Statement.{statement}
 use Rattle.collect.proofs.collect.collect_header.Tie as tie
 

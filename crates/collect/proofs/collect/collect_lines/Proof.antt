@@ -1,4 +1,4 @@
--- `collect::collect_lines` meets its contract: a unit without a header, and any other. Assumes nothing.
+-- `collect::collect_lines` meets its contract: a unit without a header, and any other.
 use borrow.Author.Needs.{needs}
 use native.Mathlib.Omega.{arith}
 use Rattle.collect.proofs.HeaderPlaces.{unit-stands, header-found}

@@ -1,9 +1,9 @@
--- `collect::collect_rows` meets its contract: the rows are gathered, and then finished. Assumes nothing.
+-- `collect::collect_rows` meets its contract: the rows are gathered, and then finished.
 use borrow.Author.Needs.{needs}
 use native.Mathlib.Omega.{arith}
 use mathlib.Core.Path.{_∙_}
 use Rattle.files.proofs.UnitLaws.{unit-next, unit-within}
-use Rattle.collect.proofs.GatheredLaws.{gathered-conversion, gathered-fault, gathered, gathered-room, gathered-finish}
+use Rattle.collect.proofs.collect.GatheredLaws.{gathered-conversion, gathered-fault, gathered, gathered-room, gathered-finish}
 use Rattle.collect.proofs.collect.collect_rows.Statement.{statement}
 use Rattle.collect.proofs.collect.collect_rows.Tie as tie
 

@@ -1,4 +1,4 @@
--- `convert::append_line` meets its contract. Assumes nothing.
+-- `convert::append_line` meets its contract.
 use borrow.Author.Needs.{needs}
 use Rattle.collect.proofs.LineLaws.{line-appended}
 use Rattle.collect.proofs.convert.append_line.Statement.{statement}

@@ -1,4 +1,4 @@
--- `convert::convert_known` meets its contract. Assumes nothing.
+-- `convert::convert_known` meets its contract.
 use borrow.Author.Needs.{needs}
 use Rattle.collect.proofs.LineLaws.{line-known}
 use Rattle.collect.proofs.convert.convert_known.Statement.{statement}

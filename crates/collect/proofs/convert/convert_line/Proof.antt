@@ -1,4 +1,4 @@
--- `convert::convert_line` meets its contract. Assumes nothing.
+-- `convert::convert_line` meets its contract.
 use native.Mathlib.Omega.{arith}
 use borrow.Author.Needs.{needs}
 use Rattle.collect.proofs.LineLaws.{line-put, line-warned}

@@ -1,4 +1,4 @@
--- `convert::convert_row` meets its contract. Assumes nothing.
+-- `convert::convert_row` meets its contract.
 use mathlib.Core.Path.{sym, ap, _∙_}
 use native.Mathlib.Omega.{arith}
 use borrow.Author.Needs.{needs}

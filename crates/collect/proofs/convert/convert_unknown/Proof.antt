@@ -1,4 +1,4 @@
--- `convert::convert_unknown` meets its contract. Assumes nothing.
+-- `convert::convert_unknown` meets its contract.
 use mathlib.Core.Path.{sym, _∙_}
 use native.Mathlib.Omega.{arith}
 use borrow.Author.Needs.{needs}

@@ -1,7 +1,7 @@
--- `convert::convert_zero` meets its contract. Assumes nothing.
+-- `convert::convert_zero` meets its contract.
 use native.Mathlib.Omega.{arith}
 use borrow.Author.Needs.{needs}
-use Rattle.collect.proofs.ZeroRowLaws.{zero-asked, zero-refused, zero-unnamed, zero-number}
+use Rattle.collect.proofs.convert.ZeroRowLaws.{zero-asked, zero-refused, zero-unnamed, zero-number}
 use Rattle.collect.proofs.convert.convert_zero.Statement.{statement}
 use Rattle.collect.proofs.convert.convert_zero.Tie as tie
 

@@ -1,11 +1,11 @@
--- `finish::finish_lines` meets its contract: the conversion of the rows, with the warning before it and the stored lines after it. Assumes nothing.
+-- `finish::finish_lines` meets its contract: the conversion of the rows, with the warning before it and the stored lines after it.
 use borrow.Author.Needs.{needs}
 use native.Mathlib.Omega.{arith}
 use mathlib.Core.Path.{refl, _∙_}
 use Rattle.files.proofs.UnitLaws.{unit-within}
 use Rattle.collect.proofs.UnitRowsLaws.{rows-still, ready-still}
-use Rattle.collect.proofs.FinishLaws.{begun-conversion, conversion-room, conversion-below, finishes-refused, rows-below}
-use Rattle.collect.proofs.FinishLaws.{store-below, store-room, finishes-done}
+use Rattle.collect.proofs.finish.FinishLaws.{begun-conversion, conversion-room, conversion-below, finishes-refused, rows-below}
+use Rattle.collect.proofs.finish.FinishLaws.{store-below, store-room, finishes-done}
 use Rattle.collect.proofs.finish.finish_lines.Statement.{statement}
 use Rattle.collect.proofs.finish.finish_lines.Tie as tie
 

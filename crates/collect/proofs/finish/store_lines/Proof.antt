@@ -1,7 +1,7 @@
--- `finish::store_lines` meets its contract: the sequences stand behind the lines, which are sorted and freed of equal neighbours. Assumes nothing.
+-- `finish::store_lines` meets its contract: the sequences stand behind the lines, which are sorted and freed of equal neighbours.
 use borrow.Author.Needs.{needs}
 use native.Mathlib.Omega.{arith}
-use Rattle.collect.proofs.StoreLaws.{sequences-counted, buffer-apart, stored-lines}
+use Rattle.collect.proofs.finish.StoreLaws.{sequences-counted, buffer-apart, stored-lines}
 use Rattle.collect.proofs.finish.store_lines.Statement.{statement}
 use Rattle.collect.proofs.finish.store_lines.Tie as tie
 

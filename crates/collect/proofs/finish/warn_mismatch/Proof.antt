@@ -1,7 +1,7 @@
--- `finish::warn_mismatch` meets its contract. Assumes nothing.
+-- `finish::warn_mismatch` meets its contract.
 use borrow.Author.Needs.{needs}
 use native.Mathlib.Omega.{arith}
-use Rattle.collect.proofs.FinishLaws.{no-mismatch, a-mismatch}
+use Rattle.collect.proofs.finish.FinishLaws.{no-mismatch, a-mismatch}
 use Rattle.collect.proofs.finish.warn_mismatch.Statement.{statement}
 use Rattle.collect.proofs.finish.warn_mismatch.Tie as tie
 

@@ -1,4 +1,4 @@
--- `interned::intern_unit` meets its contract: the unit's directories, and its map behind them. Assumes nothing.
+-- `interned::intern_unit` meets its contract: the unit's directories, and its map behind them.
 use native.Mathlib.Omega.{arith}
 use borrow.Author.Needs.{needs}
 use Rattle.collect.proofs.UnitInternLaws.{described-files, described-placed, described-listed, described-room, interned-refused, interned-done}

@@ -1,4 +1,4 @@
--- `interned::scan_program` meets its contract: what was read of the header, with its opcode lengths, is the header. Assumes nothing.
+-- `interned::scan_program` meets its contract: what was read of the header, with its opcode lengths, is the header.
 use borrow.Author.Needs.{needs}
 use Rattle.collect.proofs.HeaderPlaces.{header-with}
 use Rattle.collect.proofs.interned.scan_program.Statement.{statement}

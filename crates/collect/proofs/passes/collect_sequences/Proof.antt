@@ -1,4 +1,4 @@
--- `passes::collect_sequences` meets its contract. The loop's invariant: the records so far, and the sequences from here on, are those of all rows. Assumes nothing.
+-- `passes::collect_sequences` meets its contract. The loop's invariant: the records so far, and the sequences from here on, are those of all rows.
 use Prim.Native.Nat.{_+_, _-_, _*_, _≤_, _<_}
 use native.Mathlib.Omega.{arith}
 use lib.ListN.{length}
@@ -7,7 +7,7 @@ use Rattle.tlv.specs.Grammar.{rowFieldSize}
 use Rattle.access.proofs.OwnLaws.{own-less}
 use Rattle.rows.specs.Sizes.{rangeSize}
 use Rattle.collect.proofs.RowsFromLaws.{row-within, row-ahead}
-use Rattle.collect.proofs.SequencesLaws.{Collecting, collecting-start, collecting-done, collecting-room, collecting-put, collecting-empty, collecting-more, collecting-open}
+use Rattle.collect.proofs.passes.SequencesLaws.{Collecting, collecting-start, collecting-done, collecting-room, collecting-put, collecting-empty, collecting-more, collecting-open}
 use Rattle.collect.proofs.passes.collect_sequences.Statement.{statement}
 use Rattle.collect.proofs.passes.collect_sequences.Tie as tie
 

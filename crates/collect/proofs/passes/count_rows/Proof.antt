@@ -1,4 +1,4 @@
--- `passes::count_rows` meets its contract. The loop's invariant: the rows from here on, with the counts so far, count as all of them. Assumes nothing.
+-- `passes::count_rows` meets its contract. The loop's invariant: the rows from here on, with the counts so far, count as all of them.
 use Prim.Native.Nat.{_+_, _-_, _≤_, _<_}
 use native.Mathlib.Omega.{arith}
 use lib.ListN.{length}
@@ -6,7 +6,7 @@ use borrow.Author.Needs.{needs}
 use Rattle.tlv.specs.Grammar.{rowFieldSize}
 use Rattle.access.proofs.OwnLaws.{own-less}
 use Rattle.collect.proofs.RowsFromLaws.{row-within, row-ahead}
-use Rattle.collect.proofs.CountLaws.{CountingRows, counting-start, counting-done, counting-failed, counting-end, counting-plain}
+use Rattle.collect.proofs.passes.CountLaws.{CountingRows, counting-start, counting-done, counting-failed, counting-end, counting-plain}
 use Rattle.collect.proofs.passes.count_rows.Statement.{statement}
 use Rattle.collect.proofs.passes.count_rows.Tie as tie
 

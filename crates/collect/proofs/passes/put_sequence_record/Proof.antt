@@ -1,4 +1,4 @@
--- `passes::put_sequence_record` meets its contract. Assumes nothing.
+-- `passes::put_sequence_record` meets its contract.
 use borrow.Author.Needs.{needs}
 use Rattle.collect.proofs.SequencesList.{sequence-put}
 use Rattle.collect.proofs.passes.put_sequence_record.Statement.{statement}

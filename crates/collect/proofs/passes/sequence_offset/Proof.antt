@@ -1,4 +1,4 @@
--- `passes::sequence_offset` meets its contract. Assumes nothing.
+-- `passes::sequence_offset` meets its contract.
 use borrow.Author.Needs.{needs}
 use Rattle.collect.proofs.SequencesList.{offset-known, offset-unknown}
 use Rattle.collect.proofs.passes.sequence_offset.Statement.{statement}

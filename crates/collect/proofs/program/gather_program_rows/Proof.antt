@@ -1,11 +1,11 @@
--- `program::gather_program_rows` meets its contract: the rows that were written, and those from here on, are the program's. Assumes nothing.
+-- `program::gather_program_rows` meets its contract: the rows that were written, and those from here on, are the program's.
 use borrow.Author.Needs.{needs}
 use Prim.Native.Nat.{_-_}
 use native.Mathlib.Omega.{arith}
 use lib.ListN.{length}
 use Rattle.collect.proofs.ProgramCountLaws.{program-plain-less, program-plain-small, program-ended-less, program-ended-small}
-use Rattle.collect.proofs.GatherLaws.{GatheringProgram, gather-range, gather-operation, gather-start, gather-fault, gather-end}
-use Rattle.collect.proofs.GatherLaws.{gather-plain-room, gather-plain, gather-ended-room, gather-ended}
+use Rattle.collect.proofs.program.GatherLaws.{GatheringProgram, gather-range, gather-operation, gather-start, gather-fault, gather-end}
+use Rattle.collect.proofs.program.GatherLaws.{gather-plain-room, gather-plain, gather-ended-room, gather-ended}
 use Rattle.collect.proofs.program.gather_program_rows.Statement.{statement}
 use Rattle.collect.proofs.program.gather_program_rows.Tie as tie
 

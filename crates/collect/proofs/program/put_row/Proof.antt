@@ -1,6 +1,6 @@
--- `program::put_row` meets its contract: five writes are a row. Assumes nothing.
+-- `program::put_row` meets its contract: five writes are a row.
 use borrow.Author.Needs.{needs}
-use Rattle.collect.proofs.GatherLaws.{row-put}
+use Rattle.collect.proofs.program.GatherLaws.{row-put}
 use Rattle.collect.proofs.program.put_row.Statement.{statement}
 use Rattle.collect.proofs.program.put_row.Tie as tie
 

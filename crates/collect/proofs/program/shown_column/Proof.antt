@@ -1,6 +1,6 @@
--- `program::shown_column` meets its contract: a larger column is shown as 65,535. Assumes nothing.
+-- `program::shown_column` meets its contract: a larger column is shown as 65,535.
 use borrow.Author.Needs.{needs}
-use Rattle.collect.proofs.GatherLaws.{column-last, column-small}
+use Rattle.collect.proofs.program.GatherLaws.{column-last, column-small}
 use Rattle.collect.proofs.program.shown_column.Statement.{statement}
 use Rattle.collect.proofs.program.shown_column.Tie as tie
 

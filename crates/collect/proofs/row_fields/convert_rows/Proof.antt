@@ -1,4 +1,5 @@
--- `row_fields::convert_rows` meets its contract. The loop's invariant: the rows that are left, with what the others have become, give what was asked; the measure is what is left of the sheet. Assumes nothing.
+-- `row_fields::convert_rows` meets its contract. The loop's invariant: the rows that are left, with what the others have become, give what was asked; the
+-- measure is what is left of the sheet.
 use Prim.Native.Nat.{_+_, _-_, _≤_, _<_}
 use native.Mathlib.Omega.{arith}
 use lib.ListN.{length}
@@ -7,7 +8,7 @@ use Rattle.tlv.specs.Grammar.{rowFieldSize}
 use Rattle.access.proofs.OwnLaws.{own-less}
 use Rattle.files.proofs.UnitLaws.{unit-within}
 use Rattle.collect.proofs.RowsFromLaws.{row-within, row-ahead}
-use Rattle.collect.proofs.ConvertingLaws.{ConvertingRows, converting-start, converting-same, converting-full, converting-over, converting-ended, converting-refused, converting-more, converting-known}
+use Rattle.collect.proofs.row_fields.ConvertingLaws.{ConvertingRows, converting-start, converting-same, converting-full, converting-over, converting-ended, converting-refused, converting-more, converting-known}
 use Rattle.collect.proofs.row_fields.convert_rows.Statement.{statement}
 use Rattle.collect.proofs.row_fields.convert_rows.Tie as tie
 

@@ -1,4 +1,4 @@
--- `row_fields::read_row` meets its contract. Assumes nothing.
+-- `row_fields::read_row` meets its contract.
 use borrow.Author.Needs.{needs}
 use Rattle.collect.proofs.LineLaws.{row-read}
 use Rattle.collect.proofs.row_fields.read_row.Statement.{statement}

@@ -1,4 +1,4 @@
--- `sought::listed_file` meets its contract. Assumes nothing.
+-- `sought::listed_file` meets its contract.
 use Rattle.collect.proofs.SoughtLaws.{is-listed, not-listed}
 use Rattle.collect.proofs.sought.listed_file.Statement.{statement}
 use Rattle.collect.proofs.sought.listed_file.Tie as tie

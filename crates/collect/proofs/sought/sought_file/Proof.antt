@@ -1,4 +1,4 @@
--- `sought::sought_file` meets its contract. Assumes nothing.
+-- `sought::sought_file` meets its contract.
 use borrow.Author.Needs.{needs}
 use Rattle.collect.proofs.SoughtLaws.{sought-zero, sought-early, sought-late}
 use Rattle.collect.proofs.sought.sought_file.Statement.{statement}

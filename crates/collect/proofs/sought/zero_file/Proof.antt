@@ -1,4 +1,4 @@
--- `sought::zero_file` meets its contract. Assumes nothing.
+-- `sought::zero_file` meets its contract.
 use borrow.Author.Needs.{needs}
 use Rattle.collect.proofs.SoughtLaws.{zero-found}
 use Rattle.collect.proofs.sought.zero_file.Statement.{statement}

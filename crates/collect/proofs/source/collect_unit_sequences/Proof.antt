@@ -1,4 +1,4 @@
--- `source::collect_unit_sequences` meets its contract: by where the rows are. Assumes nothing.
+-- `source::collect_unit_sequences` meets its contract: by where the rows are.
 use borrow.Author.Needs.{needs}
 use Rattle.collect.proofs.UnitRowsLaws.{rows-fields, rows-table, table-above}
 use Rattle.collect.proofs.source.collect_unit_sequences.Statement.{statement}

@@ -1,4 +1,4 @@
--- `source::convert_unit_rows` meets its contract: by where the rows are. Assumes nothing.
+-- `source::convert_unit_rows` meets its contract: by where the rows are.
 use borrow.Author.Needs.{needs}
 use Prim.Native.Nat.{_+_}
 use Rattle.collect.proofs.UnitRowsLaws.{rows-fields, rows-table, table-above}

@@ -1,4 +1,4 @@
--- `source::gather_unit_rows` meets its contract: by the source. Assumes nothing.
+-- `source::gather_unit_rows` meets its contract: by the source.
 use borrow.Author.Needs.{needs}
 use native.Mathlib.Omega.{arith}
 use Rattle.collect.proofs.UnitRowsLaws.{fields-fault, fields-rows, part-within, most-program, program-fault, program-rows}

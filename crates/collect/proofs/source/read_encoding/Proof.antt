@@ -1,4 +1,4 @@
--- `source::read_encoding` meets its contract. Assumes nothing.
+-- `source::read_encoding` meets its contract.
 use Prim.Native.Nat.{ℕ}
 use mathlib.Core.Path.{ap}
 use lib.Dec.{eqb}

@@ -1,4 +1,4 @@
--- `source::row_fault` meets its contract. Assumes nothing.
+-- `source::row_fault` meets its contract.
 use borrow.Author.Needs.{needs}
 use Rattle.collect.proofs.UnitRowsLaws.{fault-found, fault-later}
 use Rattle.collect.proofs.source.row_fault.Statement.{statement}

@@ -1,6 +1,6 @@
--- `source::row_source` meets its contract: the first field 1d of the unit, if it has one. Assumes nothing.
+-- `source::row_source` meets its contract: the first field 1d of the unit, if it has one.
 use borrow.Author.Needs.{needs}
-use Rattle.collect.proofs.SourceLaws.{encoding-within, source-fields, source-program}
+use Rattle.collect.proofs.source.SourceLaws.{encoding-within, source-fields, source-program}
 use Rattle.collect.proofs.source.row_source.Statement.{statement}
 use Rattle.collect.proofs.source.row_source.Tie as tie
 

@@ -1,9 +1,9 @@
--- `table::collect_table_sequences` meets its contract: the records so far, and the sequences from here on, are those of all rows. Assumes nothing.
+-- `table::collect_table_sequences` meets its contract: the records so far, and the sequences from here on, are those of all rows.
 use borrow.Author.Needs.{needs}
 use Prim.Native.Nat.{_-_}
 use native.Mathlib.Omega.{arith}
-use Rattle.collect.proofs.TableSequenceLaws.{CollectingTable, sequences-start, sequences-done, sequences-within, sequences-room, sequences-put}
-use Rattle.collect.proofs.TableSequenceLaws.{sequences-empty, sequences-more, sequences-open}
+use Rattle.collect.proofs.table.TableSequenceLaws.{CollectingTable, sequences-start, sequences-done, sequences-within, sequences-room, sequences-put}
+use Rattle.collect.proofs.table.TableSequenceLaws.{sequences-empty, sequences-more, sequences-open}
 use Rattle.collect.proofs.table.collect_table_sequences.Statement.{statement}
 use Rattle.collect.proofs.table.collect_table_sequences.Tie as tie
 

@@ -1,10 +1,10 @@
--- `table::convert_table_rows` meets its contract: the rows that are left, with what the others have become, give what was asked. Assumes nothing.
+-- `table::convert_table_rows` meets its contract: the rows that are left, with what the others have become, give what was asked.
 use borrow.Author.Needs.{needs}
 use Prim.Native.Nat.{_-_}
 use native.Mathlib.Omega.{arith}
 use mathlib.Core.Path.{_∙_}
-use Rattle.collect.proofs.TableConvertLaws.{ConvertingTable, table-start, table-full, table-over, table-within, table-ended, table-known}
-use Rattle.collect.proofs.TableConvertLaws.{table-refused, table-more, table-holds}
+use Rattle.collect.proofs.table.TableConvertLaws.{ConvertingTable, table-start, table-full, table-over, table-within, table-ended, table-known}
+use Rattle.collect.proofs.table.TableConvertLaws.{table-refused, table-more, table-holds}
 use Rattle.collect.proofs.table.convert_table_rows.Statement.{statement}
 use Rattle.collect.proofs.table.convert_table_rows.Tie as tie
 

@@ -1,8 +1,8 @@
--- `aims::aim_of` meets its contract. Assumes nothing.
+-- `aims::aim_of` meets its contract.
 use borrow.Author.Needs.{needs}
 use Rattle.references.proofs.KeyLaws.{keys-inside}
 use Rattle.references.proofs.FollowLaws.{index-here}
-use Rattle.declarations.proofs.AimLaws.{aim-seen, aim-refused, aim-outside, aim-entry}
+use Rattle.declarations.proofs.aims.AimLaws.{aim-seen, aim-refused, aim-outside, aim-entry}
 use Rattle.declarations.proofs.aims.aim_of.Statement.{statement}
 use Rattle.declarations.proofs.aims.aim_of.Tie as tie
 

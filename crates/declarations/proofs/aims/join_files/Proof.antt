@@ -1,9 +1,9 @@
--- `aims::join_files` meets its contract. The unit is described, and its header's files are interned. Assumes nothing.
+-- `aims::join_files` meets its contract. The unit is described, and its header's files are interned.
 use native.Mathlib.Omega.{arith}
 use borrow.Author.Needs.{needs}
 use Rattle.declarations.proofs.DeclareFrames.{spans-inside}
 use Rattle.declarations.proofs.OwnDeclarationLaws.{unit-here, sheet-here, spans-here, described-files, described-unit, described-placed, described-room}
-use Rattle.declarations.proofs.JoinLaws.{joins-none, join-listed, join-room, joins-refused, joins-table}
+use Rattle.declarations.proofs.aims.JoinLaws.{joins-none, join-listed, join-room, joins-refused, joins-table}
 use Rattle.declarations.proofs.aims.join_files.Statement.{statement}
 use Rattle.declarations.proofs.aims.join_files.Tie as tie
 

@@ -1,4 +1,4 @@
--- `declaration_lines::resolve_declaration_line_counted` meets its contract. Assumes nothing.
+-- `declaration_lines::resolve_declaration_line_counted` meets its contract.
 use mathlib.Core.Path.{refl}
 use mathlib.Core.Bool.{false≢true}
 use native.Mathlib.Omega.{arith}

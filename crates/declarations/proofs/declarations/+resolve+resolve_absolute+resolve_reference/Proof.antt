@@ -1,4 +1,4 @@
--- `declarations::resolve`, `resolve_reference` and `resolve_absolute`, a cycle of calls, meet their contracts. Assumes nothing.
+-- `declarations::resolve`, `resolve_reference` and `resolve_absolute`, a cycle of calls, meet their contracts.
 mod Falls
 mod Resolve
 mod Absolute

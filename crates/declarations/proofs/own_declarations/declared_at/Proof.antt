@@ -1,6 +1,6 @@
--- `own_declarations::declared_at` meets its contract. Assumes nothing.
+-- `own_declarations::declared_at` meets its contract.
 use borrow.Author.Needs.{needs}
-use Rattle.declarations.proofs.OwnLineLaws.{no-file, no-line, both-there}
+use Rattle.declarations.proofs.own_declarations.OwnLineLaws.{no-file, no-line, both-there}
 use Rattle.declarations.proofs.own_declarations.declared_at.Statement.{statement}
 use Rattle.declarations.proofs.own_declarations.declared_at.Tie as tie
 

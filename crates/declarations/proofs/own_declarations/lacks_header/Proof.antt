@@ -1,6 +1,6 @@
--- `own_declarations::lacks_header` meets its contract. Assumes nothing.
+-- `own_declarations::lacks_header` meets its contract.
 use borrow.Author.Needs.{needs}
-use Rattle.declarations.proofs.OwnLineLaws.{header-none, header-some}
+use Rattle.declarations.proofs.own_declarations.OwnLineLaws.{header-none, header-some}
 use Rattle.declarations.proofs.own_declarations.lacks_header.Statement.{statement}
 use Rattle.declarations.proofs.own_declarations.lacks_header.Tie as tie
 

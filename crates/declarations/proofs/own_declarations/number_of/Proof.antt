@@ -1,4 +1,4 @@
--- `own_declarations::number_of` meets its contract. Assumes nothing.
+-- `own_declarations::number_of` meets its contract.
 use borrow.Author.Needs.{needs}
 use Rattle.declarations.proofs.DeclareFrames.{map-inside}
 use Rattle.declarations.proofs.OwnDeclarationLaws.{number-imported, number-reached}

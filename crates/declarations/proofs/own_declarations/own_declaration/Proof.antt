@@ -1,4 +1,4 @@
--- `own_declarations::own_declaration` meets its contract. The number, then a warning or the line. Assumes nothing.
+-- `own_declarations::own_declaration` meets its contract. The number, then a warning or the line.
 use native.Mathlib.Omega.{arith}
 use borrow.Author.Needs.{needs}
 use Rattle.declarations.proofs.OwnDeclarationLaws.{accepted-at, unit-known, unit-here, own-nothing, own-no-file, own-long-line, own-found}

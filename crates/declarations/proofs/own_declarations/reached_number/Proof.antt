@@ -1,4 +1,4 @@
--- `own_declarations::reached_number` meets its contract. The unit is described, and the file looked up in the table. Assumes nothing.
+-- `own_declarations::reached_number` meets its contract. The unit is described, and the file looked up in the table.
 use borrow.Author.Needs.{needs}
 use Rattle.declarations.proofs.OwnDeclarationLaws.{unit-here, sheet-here, spans-here, number-none, described-files, described-unit, described-placed, number-looked}
 use Rattle.declarations.proofs.own_declarations.reached_number.Statement.{statement}

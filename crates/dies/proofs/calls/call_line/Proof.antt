@@ -1,4 +1,4 @@
--- `calls::call_line` meets its contract. Assumes nothing.
+-- `calls::call_line` meets its contract.
 use native.Mathlib.Omega.{arith}
 use borrow.Author.Needs.{needs}
 use Rattle.dies.proofs.AttributeReads.{accepted-placed}

@@ -1,4 +1,4 @@
--- `calls::warn_about` meets its contract. Assumes nothing.
+-- `calls::warn_about` meets its contract.
 use native.Mathlib.Omega.{arith}
 use borrow.Author.Needs.{needs}
 use Rattle.dies.proofs.CallLaws.{unit-read, entry-read, about-refused, about-put}

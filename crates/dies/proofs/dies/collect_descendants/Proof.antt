@@ -1,11 +1,11 @@
--- `dies::collect_descendants` meets its contract. Assumes nothing.
+-- `dies::collect_descendants` meets its contract.
 use mathlib.Core.Path.{refl, _∙_}
 use native.Mathlib.Omega.{arith}
 use Prim.Native.Nat.{_≤_}
 use borrow.Author.Needs.{needs}
 use Rattle.dies.specs.DetailState.{noneLater}
 use Rattle.dies.proofs.WalkStateLaws.{details-kept}
-use Rattle.dies.proofs.ExtractLaws.{start-details, start-fits, end-details, descends-refused, descends-done}
+use Rattle.dies.proofs.dies.ExtractLaws.{start-details, start-fits, end-details, descends-refused, descends-done}
 use Rattle.dies.proofs.dies.collect_descendants.Statement.{statement}
 use Rattle.dies.proofs.dies.collect_descendants.Tie as tie
 

@@ -1,8 +1,8 @@
--- `dies::extract_subprogram_details` meets its contract. Assumes nothing.
+-- `dies::extract_subprogram_details` meets its contract.
 use native.Mathlib.Omega.{arith}
 use borrow.Author.Needs.{needs}
 use borrow.Author.Tests.{not-true}
-use Rattle.dies.proofs.ExtractLaws.{extracts-inlines, extracts-sites, extracts-off, extracts-none}
+use Rattle.dies.proofs.dies.ExtractLaws.{extracts-inlines, extracts-sites, extracts-off, extracts-none}
 use Rattle.dies.proofs.dies.extract_subprogram_details.Statement.{statement}
 use Rattle.dies.proofs.dies.extract_subprogram_details.Tie as tie
 

@@ -1,4 +1,4 @@
--- `dies::has_entries` meets its contract. Assumes nothing.
+-- `dies::has_entries` meets its contract.
 use mathlib.Core.Path.{_≡_}
 use mathlib.Core.Bool.{true, false}
 use Prim.Native.Nat.{ℕ}

@@ -1,4 +1,4 @@
--- `frames::none_open` meets its contract. Assumes nothing.
+-- `frames::none_open` meets its contract.
 use mathlib.Core.Path.{refl}
 use native.Mathlib.Omega.{arith}
 use Rattle.dies.specs.FrameStack.{Stacked}

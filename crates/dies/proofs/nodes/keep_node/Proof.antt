@@ -1,4 +1,4 @@
--- `nodes::keep_node` meets its contract. Assumes nothing.
+-- `nodes::keep_node` meets its contract.
 use mathlib.Core.Path.{_≡_, sym, _∙_}
 use mathlib.Core.Bool.{Bool, true, false}
 use Prim.Native.Nat.{ℕ, _+_, _≤_, _<_}

@@ -1,4 +1,4 @@
--- `nodes::make_inline_node` meets its contract. Assumes nothing.
+-- `nodes::make_inline_node` meets its contract.
 use mathlib.Core.Path.{_≡_, refl, _∙_}
 use mathlib.Core.Logic.{⊎-elim}
 use mathlib.Core.List.{List}
@@ -18,7 +18,7 @@ use Rattle.dies.proofs.CallLaws.{entry-read}
 use Rattle.dies.proofs.SiteStepLaws.{details-accepted, given-done}
 use Rattle.dies.proofs.ListRoomLaws.{used-small}
 use Rattle.dies.proofs.NameLengthLaws.{name-short}
-use Rattle.dies.proofs.InlineStepLaws.{inline-refused, inline-nameless, inline-room, inline-list-room, inline-listless, inline-failed, inline-own, inline-empty, inline-fits, inline-details, inline-kept}
+use Rattle.dies.proofs.nodes.InlineStepLaws.{inline-refused, inline-nameless, inline-room, inline-list-room, inline-listless, inline-failed, inline-own, inline-empty, inline-fits, inline-details, inline-kept}
 use Rattle.dies.proofs.FrameLaws.{Top, top-some, top-none}
 use Rattle.dies.proofs.NodeStepLaws.{refused-as, noded-at}
 use Rattle.dies.proofs.nodes.make_inline_node.Statement.{statement}

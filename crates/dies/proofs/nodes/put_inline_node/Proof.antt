@@ -1,4 +1,4 @@
--- `nodes::put_inline_node` meets its contract. Assumes nothing.
+-- `nodes::put_inline_node` meets its contract.
 use borrow.Author.Needs.{needs}
 use Rattle.dies.proofs.NodeStepLaws.{node-put}
 use Rattle.dies.proofs.nodes.put_inline_node.Statement.{statement}

@@ -1,4 +1,4 @@
--- `nodes::put_root` meets its contract. Assumes nothing.
+-- `nodes::put_root` meets its contract.
 use native.Mathlib.Omega.{arith}
 use borrow.Author.Needs.{needs}
 use Rattle.dies.proofs.NodeStepLaws.{root-passed, root-put}

@@ -1,4 +1,4 @@
--- `past::node_past` meets its contract. Assumes nothing.
+-- `past::node_past` meets its contract.
 use native.Mathlib.Omega.{arith}
 use borrow.Author.Needs.{needs}
 use Rattle.dies.proofs.PastLaws.{past-rooted, past-alone}

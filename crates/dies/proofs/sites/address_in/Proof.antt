@@ -1,4 +1,4 @@
--- `sites::address_in` meets its contract. Assumes nothing.
+-- `sites::address_in` meets its contract.
 use mathlib.Core.Path.{sym, ap}
 use borrow.Author.Needs.{needs}
 use Rattle.dies.specs.Calls.{addressIn}

@@ -1,4 +1,4 @@
--- `sites::finish_call_sites` meets its contract. Assumes nothing.
+-- `sites::finish_call_sites` meets its contract.
 use native.Mathlib.Omega.{arith}
 use borrow.Author.Needs.{needs}
 use mathlib.Core.Logic.{inr}

@@ -1,4 +1,4 @@
--- `sites::make_call_site` meets its contract. Assumes nothing.
+-- `sites::make_call_site` meets its contract.
 use mathlib.Core.Path.{sym, _∙_}
 use native.Mathlib.Omega.{arith}
 use borrow.Author.Needs.{needs}

@@ -1,4 +1,4 @@
--- `sites::put_open_site` meets its contract. Assumes nothing.
+-- `sites::put_open_site` meets its contract.
 use borrow.Author.Needs.{needs}
 use Rattle.dies.proofs.SiteLaws.{put-site}
 use Rattle.dies.proofs.sites.put_open_site.Statement.{statement}

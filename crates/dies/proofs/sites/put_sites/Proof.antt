@@ -1,11 +1,11 @@
--- `sites::put_sites` meets its contract. Assumes nothing.
+-- `sites::put_sites` meets its contract.
 use mathlib.Core.Path.{refl}
 use Prim.Native.Nat.{_-_}
 use native.Mathlib.Omega.{arith}
 use borrow.Author.Needs.{needs}
 use Rattle.tlv.proofs.PlaceFacts.{slice-bytes}
 use Rattle.dies.proofs.NameLengthLaws.{pattern-short}
-use Rattle.dies.proofs.SitesPutLaws.{Siting, siting-start, siting-done, site-room, siting-entry, siting-named, siting-next}
+use Rattle.dies.proofs.sites.SitesPutLaws.{Siting, siting-start, siting-done, site-room, siting-entry, siting-named, siting-next}
 use Rattle.dies.proofs.sites.put_sites.Statement.{statement}
 use Rattle.dies.proofs.sites.put_sites.Tie as tie
 

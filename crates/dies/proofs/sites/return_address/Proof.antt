@@ -1,4 +1,4 @@
--- `sites::return_address` meets its contract. Assumes nothing.
+-- `sites::return_address` meets its contract.
 use native.Mathlib.Omega.{arith}
 use borrow.Author.Needs.{needs}
 use Rattle.tlv.proofs.PlaceFacts.{slice-bytes}

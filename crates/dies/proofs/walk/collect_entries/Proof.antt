@@ -1,11 +1,11 @@
--- `walk::collect_entries` meets its contract. Assumes nothing.
+-- `walk::collect_entries` meets its contract.
 use mathlib.Core.Path.{_∙_}
 use Prim.Native.Nat.{_-_}
 use native.Mathlib.Omega.{arith}
 use lib.ListN.{length}
 use borrow.Author.Needs.{needs}
 use Rattle.tlv.proofs.CursorLaws.{next-less}
-use Rattle.dies.proofs.CollectingLaws.{Collecting, collecting-start, collecting-end, collecting-cut, collecting-unit, collecting-other, entry-fields, entry-known, collecting-stop, collecting-refused, collecting-entry}
+use Rattle.dies.proofs.walk.CollectingLaws.{Collecting, collecting-start, collecting-end, collecting-cut, collecting-unit, collecting-other, entry-fields, entry-known, collecting-stop, collecting-refused, collecting-entry}
 use Rattle.dies.proofs.walk.collect_entries.Statement.{statement}
 use Rattle.dies.proofs.walk.collect_entries.Tie as tie
 

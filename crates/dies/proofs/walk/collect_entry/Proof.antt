@@ -1,4 +1,4 @@
--- `walk::collect_entry` meets its contract. Assumes nothing.
+-- `walk::collect_entry` meets its contract.
 use native.Mathlib.Omega.{arith}
 use mathlib.Core.Path.{_∙_}
 use borrow.Author.Needs.{needs}
@@ -6,7 +6,7 @@ use Rattle.dies.specs.DetailState.{noneLater}
 use Rattle.dies.proofs.CallLaws.{entry-read}
 use Rattle.dies.proofs.WalkStateLaws.{fits-less}
 use Rattle.dies.proofs.SiteStepLaws.{details-accepted}
-use Rattle.dies.proofs.CollectLaws.{shut-fits, shut-details, one-inline, one-site, one-site-off, one-inline-off, one-other}
+use Rattle.dies.proofs.walk.CollectLaws.{shut-fits, shut-details, one-inline, one-site, one-site-off, one-inline-off, one-other}
 use Rattle.dies.proofs.walk.collect_entry.Statement.{statement}
 use Rattle.dies.proofs.walk.collect_entry.Tie as tie
 

@@ -1,4 +1,4 @@
--- `import::import_by` meets its contract: the answer and the buffers are the definition's, with what was written where all of it fits, else cleared. Assumes nothing.
+-- `import::import_by` meets its contract: the answer and the buffers are the definition's, with what was written where all of it fits, else cleared.
 use borrow.Author.Needs.{needs}
 use Rattle.tlv.proofs.PlaceFacts.{slice-bytes}
 use Rattle.imports.specs.Demand.{Lent}

@@ -1,4 +1,4 @@
--- `import::import_dwarf` meets its contract: what `import_by` promises of all units. Assumes nothing.
+-- `import::import_dwarf` meets its contract: what `import_by` promises of all units.
 use borrow.Author.Needs.{needs}
 use Rattle.dwarf.proofs.AnswerLaws.{of-all}
 use Rattle.dwarf.proofs.import.import_dwarf.Statement.{statement}

@@ -1,4 +1,4 @@
--- `import::import_unit` meets its contract: what `import_by` promises of one unit. Assumes nothing.
+-- `import::import_unit` meets its contract: what `import_by` promises of one unit.
 use borrow.Author.Needs.{needs}
 use Rattle.dwarf.proofs.AnswerLaws.{of-unit}
 use Rattle.dwarf.proofs.import.import_unit.Statement.{statement}

@@ -1,8 +1,8 @@
--- `import::measure_by` meets its contract: the import on buffers of one byte, whose figures do not depend on them. Assumes nothing.
+-- `import::measure_by` meets its contract: the import on buffers of one byte, whose figures do not depend on them.
 use borrow.Author.Needs.{needs}
 use mathlib.Core.List.{[]}
 use Rattle.dwarf.specs.Runs.{inputsBy}
-use Rattle.dwarf.proofs.MeasureLaws.{measures-refused, measures-past, measures-done}
+use Rattle.dwarf.proofs.import.MeasureLaws.{measures-refused, measures-past, measures-done}
 use Rattle.dwarf.proofs.import.measure_by.Statement.{statement}
 use Rattle.dwarf.proofs.import.measure_by.Tie as tie
 

@@ -1,6 +1,6 @@
--- `import::measure_dwarf` meets its contract: what `measure_by` promises of all units. Assumes nothing.
+-- `import::measure_dwarf` meets its contract: what `measure_by` promises of all units.
 use borrow.Author.Needs.{needs}
-use Rattle.dwarf.proofs.MeasureLaws.{of-all}
+use Rattle.dwarf.proofs.import.MeasureLaws.{of-all}
 use Rattle.dwarf.proofs.import.measure_dwarf.Statement.{statement}
 use Rattle.dwarf.proofs.import.measure_dwarf.Tie as tie
 

@@ -1,6 +1,6 @@
--- `import::measure_unit` meets its contract: what `measure_by` promises of one unit. Assumes nothing.
+-- `import::measure_unit` meets its contract: what `measure_by` promises of one unit.
 use borrow.Author.Needs.{needs}
-use Rattle.dwarf.proofs.MeasureLaws.{of-unit}
+use Rattle.dwarf.proofs.import.MeasureLaws.{of-unit}
 use Rattle.dwarf.proofs.import.measure_unit.Statement.{statement}
 use Rattle.dwarf.proofs.import.measure_unit.Tie as tie
 

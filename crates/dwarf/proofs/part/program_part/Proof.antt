@@ -1,7 +1,7 @@
--- `part::program_part` meets its contract: the field 1e of the unit, or none. Assumes nothing.
+-- `part::program_part` meets its contract: the field 1e of the unit, or none.
 use borrow.Author.Needs.{needs}
 use native.Mathlib.Omega.{arith}
-use Rattle.dwarf.proofs.PartLaws.{part-place, part-from, part-inside, whole-part, named-part}
+use Rattle.dwarf.proofs.part.PartLaws.{part-place, part-from, part-inside, whole-part, named-part}
 use Rattle.dwarf.proofs.part.program_part.Statement.{statement}
 use Rattle.dwarf.proofs.part.program_part.Tie as tie
 

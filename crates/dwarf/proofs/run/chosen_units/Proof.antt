@@ -1,7 +1,7 @@
--- `run::chosen_units` meets its contract: all, none past the last, or one. Assumes nothing.
+-- `run::chosen_units` meets its contract: all, none past the last, or one.
 use borrow.Author.Needs.{needs}
 use mathlib.Core.Path.{refl}
-use Rattle.dwarf.proofs.RunLaws.{chooses-all, chooses-none, chooses-one}
+use Rattle.dwarf.proofs.run.RunLaws.{chooses-all, chooses-none, chooses-one}
 use Rattle.dwarf.proofs.run.chosen_units.Statement.{statement}
 use Rattle.dwarf.proofs.run.chosen_units.Tie as tie
 

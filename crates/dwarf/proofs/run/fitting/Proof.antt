@@ -1,4 +1,4 @@
--- `run::fitting` meets its contract, a test for each branch. Assumes nothing.
+-- `run::fitting` meets its contract, a test for each branch.
 use Rattle.dwarf.proofs.AnswerLaws.{fit-refused, fit-records, fit-files, fit-warnings, fit-all}
 use Rattle.dwarf.proofs.run.fitting.Statement.{statement}
 use Rattle.dwarf.proofs.run.fitting.Tie as tie

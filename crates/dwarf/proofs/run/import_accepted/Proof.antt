@@ -1,9 +1,9 @@
--- `run::import_accepted` meets its contract: refusals 4 and 5, or the units. Assumes nothing.
+-- `run::import_accepted` meets its contract: refusals 4 and 5, or the units.
 use borrow.Author.Needs.{needs}
 use Rattle.checks.proofs.CheckLaws.{both-few, accepted-both, work-enough}
 use Rattle.checks.proofs.WorkLaws.{most-small}
 use Rattle.dwarf.specs.Runs.{inputsBy}
-use Rattle.dwarf.proofs.RunLaws.{accepted-missing, accepted-short, accepted-long}
+use Rattle.dwarf.proofs.run.RunLaws.{accepted-missing, accepted-short, accepted-long}
 use Rattle.dwarf.proofs.run.import_accepted.Statement.{statement}
 use Rattle.dwarf.proofs.run.import_accepted.Tie as tie
 

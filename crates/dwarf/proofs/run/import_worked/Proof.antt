@@ -1,11 +1,11 @@
--- `run::import_worked` meets its contract: the file table and the tables of both inputs stand before the first unit. Assumes nothing.
+-- `run::import_worked` meets its contract: the file table and the tables of both inputs stand before the first unit.
 use borrow.Author.Needs.{needs}
 use mathlib.Core.Path.{refl, _∙_}
 use native.Mathlib.Omega.{arith}
 use Rattle.checks.proofs.CountLaws.{total-small}
 use Rattle.checks.proofs.WorkLaws.{most-least, each-enough}
 use Rattle.dwarf.proofs.EachLaws.{units-many}
-use Rattle.dwarf.proofs.RunLaws.{files-room, tables-room, ready-first, writes-units}
+use Rattle.dwarf.proofs.run.RunLaws.{files-room, tables-room, ready-first, writes-units}
 use Rattle.dwarf.proofs.run.import_worked.Statement.{statement}
 use Rattle.dwarf.proofs.run.import_worked.Tie as tie
 

@@ -1,4 +1,4 @@
--- `run::run_cleared` meets its contract: what `run_import` promises, and work all 0. Assumes nothing.
+-- `run::run_cleared` meets its contract: what `run_import` promises, and work all 0.
 use borrow.Author.Needs.{needs}
 use Rattle.dwarf.proofs.AnswerLaws.{cleared}
 use Rattle.dwarf.proofs.run.run_cleared.Statement.{statement}

@@ -1,9 +1,9 @@
--- `run::run_import` meets its contract: refusals 1 to 3, or what follows. Assumes nothing.
+-- `run::run_import` meets its contract: refusals 1 to 3, or what follows.
 use borrow.Author.Needs.{needs}
 use mathlib.Core.Path.{refl}
 use Rattle.checks.proofs.CheckLaws.{not-oversize, both-accepted}
 use Rattle.dwarf.specs.Runs.{inputsBy}
-use Rattle.dwarf.proofs.RunLaws.{run-oversize, run-refused, run-accepted}
+use Rattle.dwarf.proofs.run.RunLaws.{run-oversize, run-refused, run-accepted}
 use Rattle.dwarf.proofs.run.run_import.Statement.{statement}
 use Rattle.dwarf.proofs.run.run_import.Tie as tie
 

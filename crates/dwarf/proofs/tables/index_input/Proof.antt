@@ -1,8 +1,8 @@
--- `tables::index_input` meets its contract: the units' table ends where the entries' begins. Assumes nothing.
+-- `tables::index_input` meets its contract: the units' table ends where the entries' begins.
 use native.Mathlib.Omega.{arith}
 use borrow.Author.Needs.{needs}
 use Rattle.tlv.proofs.PlaceFacts.{placed-start}
-use Rattle.dwarf.proofs.IndexingLaws.{indexes-input}
+use Rattle.dwarf.proofs.tables.IndexingLaws.{indexes-input}
 use Rattle.dwarf.proofs.tables.index_input.Statement.{statement}
 use Rattle.dwarf.proofs.tables.index_input.Tie as tie
 

@@ -1,4 +1,4 @@
--- `tables::index_inputs` meets its contract: the second input's tables stand behind the first one's. Assumes nothing.
+-- `tables::index_inputs` meets its contract: the second input's tables stand behind the first one's.
 use borrow.Author.Needs.{needs}
 use native.Mathlib.Omega.{arith}
 use mathlib.Core.Path.{_∙_}

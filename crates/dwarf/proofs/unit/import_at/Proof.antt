@@ -1,4 +1,4 @@
--- `unit::import_at` meets its contract: its lines are collected, its context is made, its subprograms are imported. Assumes nothing.
+-- `unit::import_at` meets its contract: its lines are collected, its context is made, its subprograms are imported.
 use borrow.Author.Needs.{needs}
 use native.Mathlib.Omega.{arith}
 use mathlib.Core.Path.{refl, _∙_}
@@ -7,7 +7,7 @@ use Rattle.collect.proofs.HeaderPlaces.{unit-stands}
 use Rattle.subprograms.proofs.ContextLaws.{unit-of}
 use Rattle.checks.proofs.LayoutLaws.{unit-laid}
 use Rattle.dwarf.proofs.TablesLaws.{accepted-main, accepted-supplementary, tables-kept}
-use Rattle.dwarf.proofs.UnitStepLaws.{part-short, lines-room, collected-low, lines-laid, warned-fits, context-stands, unit-grows, unit-refused}
+use Rattle.dwarf.proofs.unit.UnitStepLaws.{part-short, lines-room, collected-low, lines-laid, warned-fits, context-stands, unit-grows, unit-refused}
 use Rattle.dwarf.proofs.unit.import_at.Statement.{statement}
 use Rattle.dwarf.proofs.unit.import_at.Tie as tie
 

@@ -1,4 +1,4 @@
--- `unit::import_each` meets its contract. The loop's invariant: what was done so far, and the units that are left. Assumes nothing.
+-- `unit::import_each` meets its contract. The loop's invariant: what was done so far, and the units that are left.
 use borrow.Author.Needs.{needs}
 use Prim.Native.Nat.{_-_}
 use mathlib.Core.Path.{_≡_, refl, _∙_}

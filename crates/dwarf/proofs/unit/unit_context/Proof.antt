@@ -1,8 +1,8 @@
--- `unit::unit_context` meets its contract: the executable ranges are written behind the lines. Assumes nothing.
+-- `unit::unit_context` meets its contract: the executable ranges are written behind the lines.
 use borrow.Author.Needs.{needs}
 use Rattle.tlv.proofs.PlaceFacts.{placed-start}
 use Rattle.dwarf.proofs.TablesLaws.{accepted-main}
-use Rattle.dwarf.proofs.UnitContextLaws.{text-room, makes-context}
+use Rattle.dwarf.proofs.unit.UnitContextLaws.{text-room, makes-context}
 use Rattle.dwarf.proofs.unit.unit_context.Statement.{statement}
 use Rattle.dwarf.proofs.unit.unit_context.Tie as tie
 

@@ -1,8 +1,8 @@
--- `hash::hash_bytes` meets its contract. The loop's invariant: the bytes that are left, from the hash so far, give the hash. Assumes nothing.
+-- `hash::hash_bytes` meets its contract. The loop's invariant: the bytes that are left, from the hash so far, give the hash.
 use Prim.Native.Nat.{_-_}
 use native.Mathlib.Omega.{arith}
 use lib.ListN.{length}
-use Rattle.files.proofs.HashLaws.{Hashing, hash-start, hash-step, hash-done}
+use Rattle.files.proofs.hash.HashLaws.{Hashing, hash-start, hash-step, hash-done}
 use Rattle.files.proofs.hash.hash_bytes.Statement.{statement}
 use Rattle.files.proofs.hash.hash_bytes.Tie as tie
 

@@ -1,4 +1,4 @@
--- `header::intern_at` meets its contract. Assumes nothing.
+-- `header::intern_at` meets its contract.
 use borrow.Author.Needs.{needs}
 use native.Mathlib.Omega.{arith}
 use Rattle.files.proofs.InternLaws.{at-refused, at-unnamed, at-number}

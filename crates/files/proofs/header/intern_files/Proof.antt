@@ -1,4 +1,5 @@
--- `header::intern_files` meets its contract. The loop's invariant: what is left to intern, after the map so far, gives what was asked; the measure is what is left of the sheet. Assumes nothing.
+-- `header::intern_files` meets its contract. The loop's invariant: what is left to intern, after the map so far, gives what was asked; the measure is what is
+-- left of the sheet.
 use Prim.Native.Nat.{_-_}
 use native.Mathlib.Omega.{arith}
 use lib.ListN.{length}

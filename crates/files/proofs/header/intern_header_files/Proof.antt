@@ -1,4 +1,4 @@
--- `header::intern_header_files` meets its contract, for a unit of either sheet. Assumes nothing.
+-- `header::intern_header_files` meets its contract, for a unit of either sheet.
 use borrow.Author.Needs.{needs}
 use Rattle.files.proofs.header.intern_header_files.Statement.{statement}
 use Rattle.files.proofs.header.intern_header_files.Tie as tie

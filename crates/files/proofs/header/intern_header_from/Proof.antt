@@ -1,7 +1,7 @@
--- `header::intern_header_from` meets its contract. Assumes nothing.
+-- `header::intern_header_from` meets its contract.
 use borrow.Author.Needs.{needs}
 use native.Mathlib.Omega.{arith}
-use Rattle.files.proofs.HeaderLaws.{files-after, unit-after, room-after, header-before, header-from}
+use Rattle.files.proofs.header.HeaderLaws.{files-after, unit-after, room-after, header-before, header-from}
 use Rattle.files.proofs.header.intern_header_from.Statement.{statement}
 use Rattle.files.proofs.header.intern_header_from.Tie as tie
 

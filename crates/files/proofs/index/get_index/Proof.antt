@@ -1,6 +1,6 @@
--- `index::get_index` meets its contract. Assumes nothing.
+-- `index::get_index` meets its contract.
 use borrow.Author.Needs.{needs}
-use Rattle.files.proofs.IndexLaws.{get-out, get-number, get-none}
+use Rattle.files.proofs.index.IndexLaws.{get-out, get-number, get-none}
 use Rattle.files.proofs.index.get_index.Statement.{statement}
 use Rattle.files.proofs.index.get_index.Tie as tie
 

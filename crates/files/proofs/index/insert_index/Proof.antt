@@ -1,6 +1,6 @@
--- `index::insert_index` meets its contract. Assumes nothing.
+-- `index::insert_index` meets its contract.
 use borrow.Author.Needs.{needs}
-use Rattle.files.proofs.IndexLaws.{inserted, not-inserted}
+use Rattle.files.proofs.index.IndexLaws.{inserted, not-inserted}
 use Rattle.files.proofs.index.insert_index.Statement.{statement}
 use Rattle.files.proofs.index.insert_index.Tie as tie
 

@@ -1,6 +1,6 @@
--- `index::put_index` meets its contract. Assumes nothing.
+-- `index::put_index` meets its contract.
 use borrow.Author.Needs.{needs}
-use Rattle.files.proofs.IndexLaws.{put-number, put-missing}
+use Rattle.files.proofs.index.IndexLaws.{put-number, put-missing}
 use Rattle.files.proofs.index.put_index.Statement.{statement}
 use Rattle.files.proofs.index.put_index.Tie as tie
 

@@ -1,4 +1,4 @@
--- `intern::intern_file` meets its contract, for a file of either sheet. Assumes nothing.
+-- `intern::intern_file` meets its contract, for a file of either sheet.
 use borrow.Author.Needs.{needs}
 use Rattle.files.proofs.intern.intern_file.Statement.{statement}
 use Rattle.files.proofs.intern.intern_file.Tie as tie

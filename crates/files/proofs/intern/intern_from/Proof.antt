@@ -1,4 +1,4 @@
--- `intern::intern_from` meets its contract. Assumes nothing.
+-- `intern::intern_from` meets its contract.
 use borrow.Author.Needs.{needs}
 use native.Mathlib.Omega.{arith}
 use Rattle.files.proofs.InternLaws.{pieces-within, pieces-possible, interns-failed, interns-unnamed, interns-full, interns-number}

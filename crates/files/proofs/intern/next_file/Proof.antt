@@ -1,4 +1,4 @@
--- `intern::next_file` meets its contract. Assumes nothing.
+-- `intern::next_file` meets its contract.
 use borrow.Author.Needs.{needs}
 use Rattle.files.proofs.InternLaws.{placed-main, placed-supplementary, next-main, next-supplementary}
 use Rattle.files.proofs.intern.next_file.Statement.{statement}

@@ -1,4 +1,4 @@
--- `intern::pieces_in` meets its contract. Assumes nothing.
+-- `intern::pieces_in` meets its contract.
 use borrow.Author.Needs.{needs}
 use Rattle.files.proofs.InternLaws.{asked-main, asked-supplementary, pieced-main, pieced-supplementary}
 use Rattle.files.proofs.intern.pieces_in.Statement.{statement}

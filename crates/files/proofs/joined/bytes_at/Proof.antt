@@ -1,4 +1,4 @@
--- `joined::bytes_at` meets its contract. The loop compares byte after byte: what is left to compare gives the answer. Assumes nothing.
+-- `joined::bytes_at` meets its contract. The loop compares byte after byte: what is left to compare gives the answer.
 use Prim.Native.Nat.{_-_}
 use native.Mathlib.Omega.{arith}
 use lib.ListN.{length}

@@ -1,4 +1,4 @@
--- `joined::component_at` meets its contract. Without a slash; another byte in its place; and after it. Assumes nothing.
+-- `joined::component_at` meets its contract. Without a slash; another byte in its place; and after it.
 use borrow.Author.Needs.{needs}
 use Rattle.files.proofs.JoinedLaws.{component-plain, component-differs, component-after}
 use Rattle.files.proofs.joined.component_at.Statement.{statement}

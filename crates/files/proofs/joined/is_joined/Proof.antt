@@ -1,4 +1,4 @@
--- `joined::is_joined` meets its contract. Another length; then the three stretches, each of which may differ. Assumes nothing.
+-- `joined::is_joined` meets its contract. Another length; then the three stretches, each of which may differ.
 use borrow.Author.Needs.{needs}
 use Rattle.files.proofs.JoinedLaws.{joined-length, joined-first, joined-second, joined-third}
 use Rattle.files.proofs.joined.is_joined.Statement.{statement}

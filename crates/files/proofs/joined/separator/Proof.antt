@@ -1,4 +1,4 @@
--- `joined::separator` meets its contract. Five ways: no path, no component, a slash at the end of the path, one at the start of the component, and neither. Assumes nothing.
+-- `joined::separator` meets its contract. Five ways: no path, no component, a slash at the end of the path, one at the start of the component, and neither.
 use borrow.Author.Needs.{needs}
 use Rattle.files.proofs.JoinedLaws.{separated-first, separated-none, separated-ends, separated-starts, separated-slash}
 use Rattle.files.proofs.joined.separator.Statement.{statement}

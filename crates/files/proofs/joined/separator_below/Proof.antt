@@ -1,4 +1,4 @@
--- `joined::separator_below` meets its contract. Below an empty directory, and below another, which the path before it ends with. Assumes nothing.
+-- `joined::separator_below` meets its contract. Below an empty directory, and below another, which the path before it ends with.
 use borrow.Author.Needs.{needs}
 use Rattle.files.proofs.JoinedLaws.{below-empty, below-filled}
 use Rattle.files.proofs.joined.separator_below.Statement.{statement}

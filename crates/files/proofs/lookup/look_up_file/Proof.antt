@@ -1,6 +1,6 @@
--- `lookup::look_up_file` meets its contract: before version 5 number 0 has no file, and the others number from 1. Assumes nothing.
+-- `lookup::look_up_file` meets its contract: before version 5 number 0 has no file, and the others number from 1.
 use borrow.Author.Needs.{needs}
-use Rattle.files.proofs.LookupLaws.{looked-zero, looked-before, looked-from}
+use Rattle.files.proofs.lookup.LookupLaws.{looked-zero, looked-before, looked-from}
 use Rattle.files.proofs.lookup.look_up_file.Statement.{statement}
 use Rattle.files.proofs.lookup.look_up_file.Tie as tie
 

@@ -1,10 +1,10 @@
--- `lookup::look_up_from` meets its contract. The file is laid to be looked up, and is found or not. Assumes nothing.
+-- `lookup::look_up_from` meets its contract. The file is laid to be looked up, and is found or not.
 use native.Mathlib.Omega.{arith}
 use borrow.Author.Needs.{needs}
 use mathlib.Core.Path.{sym, ap, _∙_}
 use Rattle.files.specs.Hash.{hashOf}
 use Rattle.files.proofs.AddedLaws.{laid-files, laid-is, found-number}
-use Rattle.files.proofs.LookupLaws.{found-at, found-missing}
+use Rattle.files.proofs.lookup.LookupLaws.{found-at, found-missing}
 use Rattle.files.proofs.lookup.look_up_from.Statement.{statement}
 use Rattle.files.proofs.lookup.look_up_from.Tie as tie
 

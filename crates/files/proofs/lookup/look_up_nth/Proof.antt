@@ -1,11 +1,11 @@
--- `lookup::look_up_nth` meets its contract. Assumes nothing.
+-- `lookup::look_up_nth` meets its contract.
 use native.Mathlib.Omega.{arith}
 use mathlib.Core.Path.{refl}
 use borrow.Author.Needs.{needs}
 use Rattle.files.proofs.UnitLaws.{unit-next}
 use Rattle.files.proofs.InternLaws.{pieces-within}
 use Rattle.files.proofs.InterningLaws.{place-small}
-use Rattle.files.proofs.LookupLaws.{nth-span, nth-missing, nth-failed, nth-unnamed, nth-pieces}
+use Rattle.files.proofs.lookup.LookupLaws.{nth-span, nth-missing, nth-failed, nth-unnamed, nth-pieces}
 use Rattle.files.proofs.lookup.look_up_nth.Statement.{statement}
 use Rattle.files.proofs.lookup.look_up_nth.Tie as tie
 

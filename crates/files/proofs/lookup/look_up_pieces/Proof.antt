@@ -1,4 +1,4 @@
--- `lookup::look_up_pieces` meets its contract, for a file of either sheet. Assumes nothing.
+-- `lookup::look_up_pieces` meets its contract, for a file of either sheet.
 use borrow.Author.Needs.{needs}
 use Rattle.files.proofs.lookup.look_up_pieces.Statement.{statement}
 use Rattle.files.proofs.lookup.look_up_pieces.Tie as tie

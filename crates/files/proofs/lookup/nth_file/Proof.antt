@@ -1,11 +1,12 @@
--- `lookup::nth_file` meets its contract. The loop's invariant: the file that is looked for has the number `left` among those from `at` on; the measure is what is left of the sheet. Assumes nothing.
+-- `lookup::nth_file` meets its contract. The loop's invariant: the file that is looked for has the number `left` among those from `at` on; the measure is
+-- what is left of the sheet.
 use Prim.Native.Nat.{_-_}
 use native.Mathlib.Omega.{arith}
 use lib.ListN.{length}
 use borrow.Author.Needs.{needs}
 use Rattle.access.proofs.OwnLaws.{own-less}
 use Rattle.files.specs.Pieces.{sourceIn}
-use Rattle.files.proofs.LookupLaws.{Passing, passing-start, passing-over, passing-found, passing-next}
+use Rattle.files.proofs.lookup.LookupLaws.{Passing, passing-start, passing-over, passing-found, passing-next}
 use Rattle.files.proofs.lookup.nth_file.Statement.{statement}
 use Rattle.files.proofs.lookup.nth_file.Tie as tie
 

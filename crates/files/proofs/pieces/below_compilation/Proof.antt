@@ -1,4 +1,4 @@
--- `pieces::below_compilation` meets its contract. The span is a part of the slice. Assumes nothing.
+-- `pieces::below_compilation` meets its contract. The span is a part of the slice.
 use borrow.Author.Needs.{needs}
 use Rattle.files.proofs.PieceLaws.{below-span}
 use Rattle.files.proofs.pieces.below_compilation.Statement.{statement}

@@ -1,4 +1,4 @@
--- `pieces::compilation_before` meets its contract. The compilation directory, or the empty span. Assumes nothing.
+-- `pieces::compilation_before` meets its contract. The compilation directory, or the empty span.
 use borrow.Author.Needs.{needs}
 use Rattle.files.proofs.PieceLaws.{before-needed, before-none}
 use Rattle.files.proofs.pieces.compilation_before.Statement.{statement}

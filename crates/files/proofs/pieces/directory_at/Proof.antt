@@ -1,4 +1,4 @@
--- `pieces::directory_at` meets its contract. A directory that is not there, one that failed, and its path. Assumes nothing.
+-- `pieces::directory_at` meets its contract. A directory that is not there, one that failed, and its path.
 use borrow.Author.Needs.{needs}
 use Rattle.files.proofs.PieceLaws.{directory-past, flag-read, flag-before, directory-failed, directory-path}
 use Rattle.files.proofs.pieces.directory_at.Statement.{statement}

@@ -1,4 +1,4 @@
--- `pieces::file_pieces` meets its contract. A file that failed, one without a name, one with an absolute path, and one with a relative path. Assumes nothing.
+-- `pieces::file_pieces` meets its contract. A file that failed, one without a name, one with an absolute path, and one with a relative path.
 use borrow.Author.Needs.{needs}
 use Rattle.files.proofs.PieceLaws.{pieced-failed, pieced-unnamed, pieced-absolute, pieced-relative}
 use Rattle.files.proofs.pieces.file_pieces.Statement.{statement}

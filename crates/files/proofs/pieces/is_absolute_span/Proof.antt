@@ -1,4 +1,4 @@
--- `pieces::is_absolute_span` meets its contract. The span is a part of the slice. Assumes nothing.
+-- `pieces::is_absolute_span` meets its contract. The span is a part of the slice.
 use borrow.Author.Needs.{needs}
 use Rattle.files.proofs.PieceLaws.{absolute-span}
 use Rattle.files.proofs.pieces.is_absolute_span.Statement.{statement}

@@ -1,7 +1,7 @@
--- `pieces::lay_directory` meets its contract. Each piece is put below what those before it gave. Assumes nothing.
+-- `pieces::lay_directory` meets its contract. Each piece is put below what those before it gave.
 use native.Mathlib.Omega.{arith}
 use borrow.Author.Needs.{needs}
-use Rattle.files.proofs.LayLaws.{lent-short, first-length, second-length, laid-directory}
+use Rattle.files.proofs.pieces.LayLaws.{lent-short, first-length, second-length, laid-directory}
 use Rattle.files.proofs.pieces.lay_directory.Statement.{statement}
 use Rattle.files.proofs.pieces.lay_directory.Tie as tie
 

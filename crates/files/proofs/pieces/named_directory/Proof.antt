@@ -1,4 +1,4 @@
--- `pieces::named_directory` meets its contract. Directory 0 before version 5, another of those, and one from version 5 on. Assumes nothing.
+-- `pieces::named_directory` meets its contract. Directory 0 before version 5, another of those, and one from version 5 on.
 use borrow.Author.Needs.{needs}
 use Rattle.files.proofs.PieceLaws.{named-zero, named-old, named-new}
 use Rattle.files.proofs.pieces.named_directory.Statement.{statement}

@@ -1,4 +1,4 @@
--- `pieces::path_parts` meets its contract. The directory is the first bytes of the path, and the basename the last. Assumes nothing.
+-- `pieces::path_parts` meets its contract. The directory is the first bytes of the path, and the basename the last.
 use borrow.Author.Needs.{needs}
 use Rattle.files.proofs.PieceLaws.{basename-fits, parts-in}
 use Rattle.files.proofs.pieces.path_parts.Statement.{statement}

@@ -1,4 +1,4 @@
--- `pieces::relative_pieces` meets its contract. A directory that failed, and the pieces with the compilation directory before it or without. Assumes nothing.
+-- `pieces::relative_pieces` meets its contract. A directory that failed, and the pieces with the compilation directory before it or without.
 use borrow.Author.Needs.{needs}
 use Rattle.files.proofs.PieceLaws.{reads-span, relative-failed, relative-found}
 use Rattle.files.proofs.pieces.relative_pieces.Statement.{statement}

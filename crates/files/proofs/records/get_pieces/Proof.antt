@@ -1,4 +1,4 @@
--- `records::get_pieces` meets its contract. Assumes nothing.
+-- `records::get_pieces` meets its contract.
 use borrow.Author.Needs.{needs}
 use Rattle.files.proofs.StoreLaws.{got-pieces}
 use Rattle.files.proofs.records.get_pieces.Statement.{statement}

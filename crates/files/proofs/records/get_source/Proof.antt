@@ -1,4 +1,4 @@
--- `records::get_source` meets its contract. Assumes nothing.
+-- `records::get_source` meets its contract.
 use borrow.Author.Needs.{needs}
 use Rattle.files.proofs.StoreLaws.{got-main, got-supplementary}
 use Rattle.files.proofs.records.get_source.Statement.{statement}

@@ -1,4 +1,4 @@
--- `records::get_span` meets its contract. Assumes nothing.
+-- `records::get_span` meets its contract.
 use borrow.Author.Needs.{needs}
 use Rattle.files.proofs.StoreLaws.{got-span}
 use Rattle.files.proofs.records.get_span.Statement.{statement}

@@ -1,4 +1,4 @@
--- `records::is_file` meets its contract. Files of two hashes are two files. Assumes nothing.
+-- `records::is_file` meets its contract. Files of two hashes are two files.
 use native.Mathlib.Omega.{arith}
 use borrow.Author.Needs.{needs}
 use Rattle.files.proofs.SameLaws.{other-hash, source-pieces, source-file}

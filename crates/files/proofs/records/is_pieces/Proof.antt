@@ -1,4 +1,4 @@
--- `records::is_pieces` meets its contract. By the length of the names, then by the names, then by the directories. Assumes nothing.
+-- `records::is_pieces` meets its contract. By the length of the names, then by the names, then by the directories.
 use borrow.Author.Needs.{needs}
 use borrow.Author.Tests.{not-true, not-false}
 use Rattle.files.proofs.SameLaws.{other-length, other-name, by-directory}

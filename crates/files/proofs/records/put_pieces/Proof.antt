@@ -1,4 +1,4 @@
--- `records::put_pieces` meets its contract. Assumes nothing.
+-- `records::put_pieces` meets its contract.
 use borrow.Author.Needs.{needs}
 use Rattle.files.proofs.StoreLaws.{put-pieces}
 use Rattle.files.proofs.records.put_pieces.Statement.{statement}

@@ -1,4 +1,4 @@
--- `records::put_record` meets its contract. Assumes nothing.
+-- `records::put_record` meets its contract.
 use borrow.Author.Needs.{needs}
 use Rattle.files.proofs.StoreLaws.{put-record}
 use Rattle.files.proofs.records.put_record.Statement.{statement}

@@ -1,4 +1,4 @@
--- `spans::compilation_span` meets its contract. The first field 11 of the unit, or none. Assumes nothing.
+-- `spans::compilation_span` meets its contract. The first field 11 of the unit, or none.
 use borrow.Author.Needs.{needs}
 use Rattle.files.proofs.UnitLaws.{compilation-none, compilation-found}
 use Rattle.files.proofs.spans.compilation_span.Statement.{statement}

@@ -1,4 +1,4 @@
--- `spans::file_unit` meets its contract. Its three parts are those of the fields that follow its place. Assumes nothing.
+-- `spans::file_unit` meets its contract. Its three parts are those of the fields that follow its place.
 use borrow.Author.Needs.{needs}
 use Rattle.files.proofs.UnitLaws.{unit-next, directories-room, described}
 use Rattle.files.proofs.spans.file_unit.Statement.{statement}

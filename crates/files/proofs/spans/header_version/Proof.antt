@@ -1,4 +1,4 @@
--- `spans::header_version` meets its contract. A byte of the first field 13 of the unit, or 0. Assumes nothing.
+-- `spans::header_version` meets its contract. A byte of the first field 13 of the unit, or 0.
 use Prim.Native.Nat.{_+_, _<_}
 use native.Mathlib.Omega.{arith}
 use lib.ListN.{length}

@@ -1,4 +1,4 @@
--- `spans::index_directories` meets its contract. The loop's invariant: the spans that are written and the directories that are left make the unit's. Assumes nothing.
+-- `spans::index_directories` meets its contract. The loop's invariant: the spans that are written and the directories that are left make the unit's.
 use Prim.Native.Nat.{_+_, _-_, _*_, _≤_}
 use native.Mathlib.Omega.{arith}
 use lib.ListN.{length}

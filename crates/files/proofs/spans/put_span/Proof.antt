@@ -1,4 +1,4 @@
--- `spans::put_span` meets its contract. A span is its two numbers, one after the other. Assumes nothing.
+-- `spans::put_span` meets its contract. A span is its two numbers, one after the other.
 use borrow.Author.Needs.{needs}
 use Rattle.files.proofs.DirectoryLaws.{put-span}
 use Rattle.files.proofs.spans.put_span.Statement.{statement}

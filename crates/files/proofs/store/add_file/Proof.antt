@@ -1,4 +1,4 @@
--- `store::add_file` meets its contract. The file is laid to be looked up, and is found or new. Assumes nothing.
+-- `store::add_file` meets its contract. The file is laid to be looked up, and is found or new.
 use native.Mathlib.Omega.{arith}
 use borrow.Author.Needs.{needs}
 use mathlib.Core.Path.{sym, ap, _∙_}

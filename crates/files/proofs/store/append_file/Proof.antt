@@ -1,4 +1,4 @@
--- `store::append_file` meets its contract. That there is room follows from the files being different and possible ones. Assumes nothing.
+-- `store::append_file` meets its contract. That there is room follows from the files being different and possible ones.
 use native.Mathlib.Omega.{arith}
 use borrow.Author.Needs.{needs}
 use Rattle.files.proofs.RoomLaws.{room-left, source-small}

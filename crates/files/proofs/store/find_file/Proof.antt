@@ -1,4 +1,4 @@
--- `store::find_file` meets its contract. The loop follows a chain to ever lower places. Assumes nothing.
+-- `store::find_file` meets its contract. The loop follows a chain to ever lower places.
 use native.Mathlib.Omega.{arith}
 use Rattle.buffers.specs.Table.{chunk}
 use Rattle.files.proofs.StoreLaws.{head-before}

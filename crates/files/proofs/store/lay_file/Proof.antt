@@ -1,4 +1,4 @@
--- `store::lay_file` meets its contract. Assumes nothing.
+-- `store::lay_file` meets its contract.
 use native.Mathlib.Omega.{arith}
 use borrow.Author.Needs.{needs}
 use Rattle.files.proofs.AddedLaws.{laid-room, laid-at}

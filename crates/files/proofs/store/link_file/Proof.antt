@@ -1,4 +1,4 @@
--- `store::link_file` meets its contract. The new record links to what its head led to. Assumes nothing.
+-- `store::link_file` meets its contract. The new record links to what its head led to.
 use Prim.Native.Nat.{_<_}
 use native.Mathlib.Omega.{arith}
 use borrow.Author.Needs.{needs}

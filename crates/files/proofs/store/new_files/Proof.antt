@@ -1,4 +1,4 @@
--- `store::new_files` meets its contract. Every head is 0. Assumes nothing.
+-- `store::new_files` meets its contract. Every head is 0.
 use Prim.Native.Nat.{_≤_}
 use native.Mathlib.Omega.{arith}
 use borrow.Author.Needs.{needs}

@@ -1,4 +1,4 @@
--- `collect_accepted` goes on with a unit of the sheet, where there is room. Assumes nothing.
+-- `collect_accepted` goes on with a unit of the sheet, where there is room.
 use borrow.Author.Needs.{needs}
 use Rattle.line_answers.proofs.AnswerLaws.{unit-in, room-yes}
 use Rattle.line_answers.proofs.collected.collect_accepted.Statement.{statement}

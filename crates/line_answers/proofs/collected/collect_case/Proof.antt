@@ -1,4 +1,4 @@
--- `collect_case` goes on with an accepted sheet. Assumes nothing.
+-- `collect_case` goes on with an accepted sheet.
 use borrow.Author.Needs.{needs}
 use Rattle.tlv.proofs.PlaceFacts.{accepted-done}
 use Rattle.line_answers.proofs.collected.collect_case.Statement.{statement}

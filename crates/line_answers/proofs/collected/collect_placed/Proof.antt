@@ -1,4 +1,4 @@
--- `collect_placed` has room for the file table and the lines: the fields of a sheet bound both. Assumes nothing.
+-- `collect_placed` has room for the file table and the lines: the fields of a sheet bound both.
 use native.Mathlib.Omega.{arith}
 use borrow.Author.Needs.{needs}
 use Rattle.tlv.proofs.PlaceFacts.{placed-start}

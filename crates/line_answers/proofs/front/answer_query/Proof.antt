@@ -1,6 +1,6 @@
--- `front::answer_query` hands over rows that lie below the range alone, and writes the rows that were copied. Assumes nothing.
+-- `front::answer_query` hands over rows that lie below the range alone, and writes the rows that were copied.
 use borrow.Author.Needs.{needs}
-use Rattle.line_answers.proofs.FrontLaws.{own-room}
+use Rattle.line_answers.proofs.front.FrontLaws.{own-room}
 use Rattle.line_answers.proofs.front.answer_query.Statement.{statement}
 use Rattle.line_answers.proofs.front.answer_query.Tie as tie
 

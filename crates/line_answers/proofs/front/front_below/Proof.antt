@@ -1,10 +1,10 @@
--- `front::front_below` counts rows that lie below the range, and ends: what is left of them falls. Assumes nothing.
+-- `front::front_below` counts rows that lie below the range, and ends: what is left of them falls.
 use Prim.Native.Nat.{_≤_, _-_}
 use native.Mathlib.Omega.{arith}
 use borrow.Author.Needs.{needs}
 use Rattle.rows.specs.Selects.{RowsBelow}
 use Rattle.rows.proofs.FrontLaws.{none-below}
-use Rattle.line_answers.proofs.FrontLaws.{one-more}
+use Rattle.line_answers.proofs.front.FrontLaws.{one-more}
 use Rattle.line_answers.proofs.front.front_below.Statement.{statement}
 use Rattle.line_answers.proofs.front.front_below.Tie as tie
 

@@ -1,4 +1,4 @@
--- `front::store_rows` writes within the table, and ends: what is left of the rows falls. Assumes nothing.
+-- `front::store_rows` writes within the table, and ends: what is left of the rows falls.
 use mathlib.Core.Path.{_≡_}
 use Prim.Native.Nat.{_≤_, _-_}
 use native.Mathlib.Omega.{arith}

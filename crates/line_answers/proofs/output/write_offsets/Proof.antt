@@ -1,4 +1,4 @@
--- `write_offsets` reads within the table, and ends: what is left of it falls. Assumes nothing.
+-- `write_offsets` reads within the table, and ends: what is left of it falls.
 use Prim.Native.Nat.{_≤_, _-_}
 use lib.ListN.{length}
 use borrow.Author.Needs.{needs}

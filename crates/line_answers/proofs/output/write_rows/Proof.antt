@@ -1,4 +1,4 @@
--- `write_rows` reads within the rows, and ends: what is left of them falls. Assumes nothing.
+-- `write_rows` reads within the rows, and ends: what is left of them falls.
 use Prim.Native.Nat.{_≤_, _-_}
 use borrow.Author.Needs.{needs}
 use Rattle.line_answers.proofs.output.write_rows.Statement.{statement}

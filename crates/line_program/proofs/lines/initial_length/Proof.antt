@@ -1,4 +1,4 @@
--- `lines::initial_length` meets its contract. By the test of the word size. Assumes nothing.
+-- `lines::initial_length` meets its contract. By the test of the word size.
 use native.Mathlib.Omega.{arith}
 use borrow.Author.Tests.{eq-eqb, ne-eqb}
 use Rattle.line_program.specs.Program.{initialLength}

@@ -1,6 +1,6 @@
--- `lines::line_sequence_offsets` meets its contract. The place of the program, then its sequences. Assumes nothing.
+-- `lines::line_sequence_offsets` meets its contract. The place of the program, then its sequences.
 use borrow.Author.Needs.{needs}
-use Rattle.line_program.proofs.OffsetLaws.{header-past, header-at}
+use Rattle.line_program.proofs.lines.OffsetLaws.{header-past, header-at}
 use Rattle.line_program.proofs.lines.line_sequence_offsets.Statement.{statement}
 use Rattle.line_program.proofs.lines.line_sequence_offsets.Tie as tie
 

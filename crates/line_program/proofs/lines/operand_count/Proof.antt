@@ -1,4 +1,4 @@
--- `lines::operand_count` meets its contract. An opcode past the table has no operands. Assumes nothing.
+-- `lines::operand_count` meets its contract. An opcode past the table has no operands.
 use Prim.Native.Nat.{_-_}
 use mathlib.Core.Path.{sym}
 use native.Mathlib.Omega.{arith}

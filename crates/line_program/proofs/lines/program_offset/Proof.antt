@@ -1,7 +1,7 @@
--- `lines::program_offset` meets its contract. The sum, or that it is past 64 bits. Assumes nothing.
+-- `lines::program_offset` meets its contract. The sum, or that it is past 64 bits.
 use native.Mathlib.Omega.{arith}
 use borrow.Author.Needs.{needs}
-use Rattle.line_program.proofs.OffsetLaws.{offset-is}
+use Rattle.line_program.proofs.lines.OffsetLaws.{offset-is}
 use Rattle.line_program.proofs.lines.program_offset.Statement.{statement}
 use Rattle.line_program.proofs.lines.program_offset.Tie as tie
 

@@ -1,10 +1,10 @@
--- `lines::scan_line_sequence_offsets` meets its contract. The table so far, and what is left of the program. Assumes nothing.
+-- `lines::scan_line_sequence_offsets` meets its contract. The table so far, and what is left of the program.
 use borrow.Author.Needs.{needs}
 use native.Mathlib.Omega.{arith}
 use Prim.Native.Nat.{_-_}
 use lib.ListN.{length}
 use Rattle.line_program.proofs.SkipLaws.{passes-to, passes-ended}
-use Rattle.line_program.proofs.ScanLaws.{Scanning, scan-start, scan-done, scan-fault, scan-to, scan-room, scan-past, scan-ended}
+use Rattle.line_program.proofs.lines.ScanLaws.{Scanning, scan-start, scan-done, scan-fault, scan-to, scan-room, scan-past, scan-ended}
 use Rattle.line_program.proofs.lines.scan_line_sequence_offsets.Statement.{statement}
 use Rattle.line_program.proofs.lines.scan_line_sequence_offsets.Tie as tie
 

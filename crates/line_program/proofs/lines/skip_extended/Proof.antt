@@ -1,4 +1,4 @@
--- `lines::skip_extended` meets its contract. The length is read, then its bytes are passed over. Assumes nothing.
+-- `lines::skip_extended` meets its contract. The length is read, then its bytes are passed over.
 use native.Mathlib.Omega.{arith}
 use borrow.Author.Needs.{needs}
 use Rattle.line_program.proofs.InstructionLaws.{reads-within, extended-fault, extended-zero, extended-payload}

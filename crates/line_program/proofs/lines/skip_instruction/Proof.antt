@@ -1,4 +1,4 @@
--- `lines::skip_instruction` meets its contract. An extended, a standard or a special instruction. Assumes nothing.
+-- `lines::skip_instruction` meets its contract. An extended, a standard or a special instruction.
 use native.Mathlib.Omega.{arith}
 use borrow.Author.Needs.{needs}
 use Rattle.line_program.proofs.InstructionLaws.{skip-extended, skip-standard, skip-special}

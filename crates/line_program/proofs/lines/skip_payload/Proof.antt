@@ -1,4 +1,4 @@
--- `lines::skip_payload` meets its contract. The opcode is read, and the bytes after it are passed over. Assumes nothing.
+-- `lines::skip_payload` meets its contract. The opcode is read, and the bytes after it are passed over.
 use borrow.Author.Needs.{needs}
 use Rattle.line_program.proofs.InstructionLaws.{payload-none, payload-fault, payload-ended, payload-end, payload-to}
 use Rattle.line_program.proofs.lines.skip_payload.Statement.{statement}

@@ -1,4 +1,4 @@
--- `lines::skip_standard` meets its contract. Two bytes, nothing, or the operands that the header counts. Assumes nothing.
+-- `lines::skip_standard` meets its contract. Two bytes, nothing, or the operands that the header counts.
 use mathlib.Core.Path.{refl}
 use mathlib.Core.Logic.{inl, inr, ⊎-elim}
 use native.Mathlib.Omega.{arith}

@@ -1,4 +1,4 @@
--- `lines::version_bytes` meets its contract. By the test of the version. Assumes nothing.
+-- `lines::version_bytes` meets its contract. By the test of the version.
 use native.Mathlib.Omega.{arith}
 use borrow.Author.Tests.{le-leb, lt-leb}
 use Rattle.line_program.specs.Program.{versionBytes}

@@ -1,4 +1,4 @@
--- `operand::is_sign` meets its contract. Assumes nothing.
+-- `operand::is_sign` meets its contract.
 use Rattle.line_program.proofs.SkipLaws.{sign-zero, sign-other}
 use Rattle.line_program.proofs.operand.is_sign.Statement.{statement}
 use Rattle.line_program.proofs.operand.is_sign.Tie as tie

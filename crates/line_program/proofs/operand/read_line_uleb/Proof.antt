@@ -1,4 +1,4 @@
--- `operand::read_line_uleb` meets its contract. The value so far, what a bit more is worth, and what is left. Assumes nothing.
+-- `operand::read_line_uleb` meets its contract. The value so far, what a bit more is worth, and what is left.
 use Prim.Native.Nat.{_-_, _%_}
 use borrow.Author.Needs.{needs}
 use native.Mathlib.Omega.{arith}

@@ -1,4 +1,4 @@
--- `operand::skip_counted` meets its contract. Another opcode, another count, or the signed operand. Assumes nothing.
+-- `operand::skip_counted` meets its contract. Another opcode, another count, or the signed operand.
 use borrow.Author.Needs.{needs}
 use Rattle.line_program.proofs.SkipLaws.{counted-other, counted-more, counted-signed}
 use Rattle.line_program.proofs.operand.skip_counted.Statement.{statement}

@@ -1,4 +1,4 @@
--- `operand::skip_operand` meets its contract. What is left of the operand is passed over as the whole is. Assumes nothing.
+-- `operand::skip_operand` meets its contract. What is left of the operand is passed over as the whole is.
 use native.Mathlib.Omega.{arith}
 use Prim.Native.Nat.{_-_}
 use lib.ListN.{length, drop}

@@ -1,4 +1,4 @@
--- `operand::skip_operands` meets its contract. What is left of the operands is passed over as all are. Assumes nothing.
+-- `operand::skip_operands` meets its contract. What is left of the operands is passed over as all are.
 use borrow.Author.Needs.{needs}
 use native.Mathlib.Omega.{arith}
 use lib.ListN.{drop, replicate}

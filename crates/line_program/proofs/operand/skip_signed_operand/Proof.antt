@@ -1,4 +1,4 @@
--- `operand::skip_signed_operand` meets its contract. What is left of the operand is passed over as the whole is. Assumes nothing.
+-- `operand::skip_signed_operand` meets its contract. What is left of the operand is passed over as the whole is.
 use borrow.Author.Needs.{needs}
 use native.Mathlib.Omega.{arith}
 use Prim.Native.Nat.{_-_}

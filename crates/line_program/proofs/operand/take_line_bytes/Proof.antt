@@ -1,4 +1,4 @@
--- `operand::take_line_bytes` meets its contract. The bytes end past the last number, past the program, or in it. Assumes nothing.
+-- `operand::take_line_bytes` meets its contract. The bytes end past the last number, past the program, or in it.
 use native.Mathlib.Omega.{arith}
 use borrow.Author.Needs.{needs}
 use Rattle.line_program.proofs.InstructionLaws.{take-past, take-cut, take-to}

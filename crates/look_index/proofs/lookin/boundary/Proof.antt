@@ -1,7 +1,7 @@
--- `lookin::boundary` meets its contract. Assumes nothing.
+-- `lookin::boundary` meets its contract.
 use Prim.Native.Nat.{_-_}
 use native.Mathlib.Omega.{arith}
-use Rattle.look_index.proofs.LookInLaws.{Halving, halving-start, halving-up, halving-down, halving-done}
+use Rattle.look_index.proofs.lookin.LookInLaws.{Halving, halving-start, halving-up, halving-down, halving-done}
 use Rattle.look_index.proofs.lookin.boundary.Statement.{statement}
 use Rattle.look_index.proofs.lookin.boundary.Tie as tie
 

@@ -1,7 +1,7 @@
--- `lookin::by_pass` meets its contract. Assumes nothing.
+-- `lookin::by_pass` meets its contract.
 use Prim.Native.Nat.{_-_, _≤_}
 use native.Mathlib.Omega.{arith}
-use Rattle.look_index.proofs.LookInLaws.{NoneSo, none-start, scanned-at, none-past, none-above, scanned-none}
+use Rattle.look_index.proofs.lookin.LookInLaws.{NoneSo, none-start, scanned-at, none-past, none-above, scanned-none}
 use Rattle.look_index.proofs.lookin.by_pass.Statement.{statement}
 use Rattle.look_index.proofs.lookin.by_pass.Tie as tie
 

@@ -1,6 +1,6 @@
--- `lookin::by_search` meets its contract. Assumes nothing.
+-- `lookin::by_search` meets its contract.
 use borrow.Author.Needs.{needs}
-use Rattle.look_index.proofs.LookInLaws.{searched-none, searched-at, searched-past}
+use Rattle.look_index.proofs.lookin.LookInLaws.{searched-none, searched-at, searched-past}
 use Rattle.look_index.proofs.lookin.by_search.Statement.{statement}
 use Rattle.look_index.proofs.lookin.by_search.Tie as tie
 

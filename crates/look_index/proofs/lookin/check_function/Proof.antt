@@ -1,4 +1,4 @@
--- `lookin::check_function` meets its contract. Assumes nothing.
+-- `lookin::check_function` meets its contract.
 use borrow.Author.Needs.{needs}
 use Rattle.tlv.proofs.CursorLaws.{payload-within}
 use Rattle.look_index.proofs.HereLaws.{here-end, here-cut, here-other, here-misformed, here-own, here-formed}

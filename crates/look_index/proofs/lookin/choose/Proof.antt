@@ -1,6 +1,6 @@
--- `lookin::choose` meets its contract. Assumes nothing.
+-- `lookin::choose` meets its contract.
 use borrow.Author.Needs.{needs}
-use Rattle.look_index.proofs.LookInLaws.{chosen-search, chosen-pass}
+use Rattle.look_index.proofs.lookin.LookInLaws.{chosen-search, chosen-pass}
 use Rattle.look_index.proofs.lookin.choose.Statement.{statement}
 use Rattle.look_index.proofs.lookin.choose.Tie as tie
 

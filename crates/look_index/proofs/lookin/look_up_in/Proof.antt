@@ -1,6 +1,6 @@
--- `lookin::look_up_in` meets its contract. Assumes nothing.
+-- `lookin::look_up_in` meets its contract.
 use borrow.Author.Needs.{needs}
-use Rattle.look_index.proofs.LookInLaws.{in-short, in-none, in-misshapen, in-found, here-stands, chosen-room}
+use Rattle.look_index.proofs.lookin.LookInLaws.{in-short, in-none, in-misshapen, in-found, here-stands, chosen-room}
 use Rattle.look_index.proofs.lookin.look_up_in.Statement.{statement}
 use Rattle.look_index.proofs.lookin.look_up_in.Tie as tie
 

@@ -1,4 +1,4 @@
--- `lookin::own_formed` meets its contract. The loop's invariant: the form of all is the form of what is left, after the fields so far. Assumes nothing.
+-- `lookin::own_formed` meets its contract. The loop's invariant: the form of all is the form of what is left, after the fields so far.
 use borrow.Author.Needs.{needs}
 use mathlib.Core.Path.{_≡_, refl}
 use Prim.Native.Nat.{_-_}

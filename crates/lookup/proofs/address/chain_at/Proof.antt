@@ -1,4 +1,4 @@
--- `address::chain_at` meets its contract: what is gathered and what is left make the chain. Assumes nothing.
+-- `address::chain_at` meets its contract: what is gathered and what is left make the chain.
 use Prim.Native.Nat.{_-_}
 use native.Mathlib.Omega.{arith}
 use lib.ListN.{length}
@@ -6,8 +6,8 @@ use borrow.Author.Needs.{needs}
 use Rattle.tlv.proofs.CursorLaws.{next-less}
 use Rattle.lookup.specs.Walk.{StandsOwn}
 use Rattle.lookup.proofs.OwnLaws.{own-stands-next, node-first}
-use Rattle.lookup.proofs.ChainWalkLaws.{leftAt, Gathering, gather-start, chain-end, chain-cut, chain-function, chain-other, chain-leaves}
-use Rattle.lookup.proofs.ChainWalkLaws.{chain-deeper, chain-room, chain-passes, chain-takes}
+use Rattle.lookup.proofs.address.ChainWalkLaws.{leftAt, Gathering, gather-start, chain-end, chain-cut, chain-function, chain-other, chain-leaves}
+use Rattle.lookup.proofs.address.ChainWalkLaws.{chain-deeper, chain-room, chain-passes, chain-takes}
 use Rattle.lookup.proofs.address.chain_at.Statement.{statement}
 use Rattle.lookup.proofs.address.chain_at.Tie as tie
 

@@ -1,4 +1,4 @@
--- `address::function_at` meets its contract. Assumes nothing.
+-- `address::function_at` meets its contract.
 use mathlib.Core.Path.{_≡_, refl}
 use Prim.Native.Nat.{_-_}
 use lib.ListN.{length}
@@ -8,7 +8,7 @@ use Rattle.tlv.specs.Lists.{first}
 use Rattle.lookup.specs.Tray.{functionsAt}
 use Rattle.lookup.specs.Walk.{Stands}
 use Rattle.lookup.proofs.StepLaws.{functionsFrom, stands-next, function-long}
-use Rattle.lookup.proofs.WalkLaws.{holding, none-end, none-cut, found-other, found-not, found-here}
+use Rattle.lookup.proofs.address.WalkLaws.{holding, none-end, none-cut, found-other, found-not, found-here}
 use Rattle.lookup.proofs.address.function_at.Statement.{statement}
 use Rattle.lookup.proofs.address.function_at.Tie as tie
 

@@ -1,4 +1,4 @@
--- `address::holds_at` meets its contract. Assumes nothing.
+-- `address::holds_at` meets its contract.
 use borrow.Author.Needs.{needs}
 use Rattle.lookup.proofs.StepLaws.{holds-range}
 use Rattle.lookup.proofs.address.holds_at.Statement.{statement}

@@ -1,4 +1,4 @@
--- `address::node_holds` meets its contract. Assumes nothing.
+-- `address::node_holds` meets its contract.
 use mathlib.Core.Path.{_≡_, refl}
 use Prim.Native.Nat.{_-_}
 use lib.ListN.{length}
@@ -6,7 +6,7 @@ use borrow.Author.Needs.{needs}
 use Rattle.tlv.proofs.CursorLaws.{next-less, payload-within}
 use Rattle.lookup.specs.Walk.{StandsOwn, heldFrom}
 use Rattle.lookup.proofs.OwnLaws.{own-stands-next, range-long}
-use Rattle.lookup.proofs.WalkLaws.{held-end, held-cut, held-function, held-node, held-other, held-not, held-this}
+use Rattle.lookup.proofs.address.WalkLaws.{held-end, held-cut, held-function, held-node, held-other, held-not, held-this}
 use Rattle.lookup.proofs.address.node_holds.Statement.{statement}
 use Rattle.lookup.proofs.address.node_holds.Tie as tie
 

@@ -1,4 +1,4 @@
--- `address::row_in_force` meets its contract. Assumes nothing.
+-- `address::row_in_force` meets its contract.
 use mathlib.Core.Path.{_≡_, sym}
 use Prim.Native.Nat.{_-_}
 use lib.ListN.{length}
@@ -8,7 +8,7 @@ use Rattle.tlv.specs.Lists.{orElse}
 use Rattle.lookup.specs.Answers.{rowPlace}
 use Rattle.lookup.specs.Walk.{StandsOwn, rowFrom}
 use Rattle.lookup.proofs.OwnLaws.{own-stands-next, row-first, row-long}
-use Rattle.lookup.proofs.WalkLaws.{or-none, row-end, row-cut, row-function, row-other, row-above, row-taken}
+use Rattle.lookup.proofs.address.WalkLaws.{or-none, row-end, row-cut, row-function, row-other, row-above, row-taken}
 use Rattle.lookup.proofs.address.row_in_force.Statement.{statement}
 use Rattle.lookup.proofs.address.row_in_force.Tie as tie
 

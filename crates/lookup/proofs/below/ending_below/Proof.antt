@@ -1,4 +1,4 @@
--- `below::ending_below` meets its contract: the answer is the better of what is found and of what is left. Assumes nothing.
+-- `below::ending_below` meets its contract: the answer is the better of what is found and of what is left.
 use mathlib.Core.Path.{_≡_, refl}
 use Prim.Native.Nat.{_-_}
 use lib.ListN.{length}
@@ -8,7 +8,7 @@ use Rattle.lookup.specs.Tray.{functionsAt}
 use Rattle.lookup.specs.Lookup.{qualifying, endingBelow}
 use Rattle.lookup.specs.Walk.{Stands}
 use Rattle.lookup.proofs.StepLaws.{functionsFrom, stands-next, function-long}
-use Rattle.lookup.proofs.NearestWalkLaws.{bestOf, Started, nearest-end, nearest-cut, nearest-other, nearest-above, nearest-takes, nearest-leaves}
+use Rattle.lookup.proofs.below.NearestWalkLaws.{bestOf, Started, nearest-end, nearest-cut, nearest-other, nearest-above, nearest-takes, nearest-leaves}
 use Rattle.lookup.proofs.below.ending_below.Statement.{statement}
 use Rattle.lookup.proofs.below.ending_below.Tie as tie
 

@@ -1,7 +1,7 @@
--- `below::nearest_below` meets its contract. Assumes nothing.
+-- `below::nearest_below` meets its contract.
 use borrow.Author.Needs.{needs}
 use Rattle.lookup.proofs.LookLaws.{stands-start}
-use Rattle.lookup.proofs.NearestWalkLaws.{nearest-misshapen, nearest-well}
+use Rattle.lookup.proofs.below.NearestWalkLaws.{nearest-misshapen, nearest-well}
 use Rattle.lookup.proofs.below.nearest_below.Statement.{statement}
 use Rattle.lookup.proofs.below.nearest_below.Tie as tie
 

@@ -1,4 +1,4 @@
--- `window::put_functions` meets its contract: who lays the fields from here on has laid all. Assumes nothing.
+-- `window::put_functions` meets its contract: who lays the fields from here on has laid all.
 use Prim.Native.Nat.{_-_}
 use native.Mathlib.Omega.{arith}
 use lib.ListN.{length}
@@ -9,7 +9,7 @@ use Rattle.lookup.specs.Tray.{functionsAt}
 use Rattle.lookup.specs.Walk.{Stands}
 use Rattle.lookup.specs.Listing.{wantedBytes}
 use Rattle.lookup.proofs.StepLaws.{stands-next, function-long}
-use Rattle.lookup.proofs.ListingLaws.{leftBytes, left-end, left-cut, left-other, left-not, left-laid, part-below}
+use Rattle.lookup.proofs.window.ListingLaws.{leftBytes, left-end, left-cut, left-other, left-not, left-laid, part-below}
 use Rattle.lookup.proofs.window.put_functions.Statement.{statement}
 use Rattle.lookup.proofs.window.put_functions.Tie as tie
 

@@ -1,4 +1,4 @@
--- `extended::step_body` meets its contract: the bytes of an extended instruction, by its opcode. Assumes nothing.
+-- `extended::step_body` meets its contract: the bytes of an extended instruction, by its opcode.
 use borrow.Author.Needs.{needs}
 use Rattle.line_program.proofs.SkipLaws.{passes-to}
 use Rattle.machine.proofs.ExtendedLaws.{body-none, body-end, body-address, body-other, body-ended, body-fault}

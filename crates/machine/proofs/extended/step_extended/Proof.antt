@@ -1,4 +1,4 @@
--- `extended::step_extended` meets its contract: a length, then as many bytes. Assumes nothing.
+-- `extended::step_extended` meets its contract: a length, then as many bytes.
 use native.Mathlib.Omega.{arith}
 use borrow.Author.Needs.{needs}
 use Rattle.machine.proofs.ExtendedLaws.{extended-zero, extended-body, extended-fault, extended-within}

@@ -1,4 +1,4 @@
--- `extended::step_set_address` meets its contract: an address of any number of bytes, then a move. Assumes nothing.
+-- `extended::step_set_address` meets its contract: an address of any number of bytes, then a move.
 use borrow.Author.Needs.{needs}
 use Rattle.machine.proofs.ExtendedLaws.{address-steps, address-past}
 use Rattle.machine.proofs.extended.step_set_address.Statement.{statement}

@@ -1,12 +1,12 @@
--- `operands::read_line_sleb` meets its contract: the value so far, what a bit more is worth, and what is left. Assumes nothing.
+-- `operands::read_line_sleb` meets its contract: the value so far, what a bit more is worth, and what is left.
 use native.Mathlib.Nat.{mul-le-mul-right}
 use Prim.Native.Nat.{_*_, _%_, _≤_, _-_}
 use lib.ListN.{length}
 use borrow.Author.Needs.{needs}
 use native.Mathlib.Omega.{arith}
 use Rattle.line_program.proofs.UlebLaws.{roomy}
-use Rattle.machine.proofs.SlebLaws.{ReadingSigned, signed-start, signed-cut, signed-zero, signed-minus, signed-long-zero, signed-long-minus}
-use Rattle.machine.proofs.SlebLaws.{signed-overflow, signed-tenth-fits, signed-room, signed-end, signed-more}
+use Rattle.machine.proofs.operands.SlebLaws.{ReadingSigned, signed-start, signed-cut, signed-zero, signed-minus, signed-long-zero, signed-long-minus}
+use Rattle.machine.proofs.operands.SlebLaws.{signed-overflow, signed-tenth-fits, signed-room, signed-end, signed-more}
 use Rattle.machine.proofs.operands.read_line_sleb.Statement.{statement}
 use Rattle.machine.proofs.operands.read_line_sleb.Tie as tie
 

@@ -1,7 +1,7 @@
--- `operands::signed_value` meets its contract: the last byte, with its sign. Assumes nothing.
+-- `operands::signed_value` meets its contract: the last byte, with its sign.
 use native.Mathlib.Omega.{arith}
 use borrow.Author.Needs.{needs}
-use Rattle.machine.proofs.SlebLaws.{byte-below, value-low, value-high}
+use Rattle.machine.proofs.operands.SlebLaws.{byte-below, value-low, value-high}
 use Rattle.machine.proofs.operands.signed_value.Statement.{statement}
 use Rattle.machine.proofs.operands.signed_value.Tie as tie
 

@@ -1,4 +1,4 @@
--- `registers::advance_special` meets its contract: a length and a quotient of bytes make a small product. Assumes nothing.
+-- `registers::advance_special` meets its contract: a length and a quotient of bytes make a small product.
 use native.Mathlib.Omega.{arith}
 use borrow.Author.Needs.{needs}
 use Rattle.machine.proofs.RegisterLaws.{advance-by, special-room}

@@ -1,4 +1,4 @@
--- `steps::plain` meets its contract: by cases. Assumes nothing.
+-- `steps::plain` meets its contract: by cases.
 use borrow.Author.Needs.{needs}
 use Rattle.machine.proofs.StepLaws.{plain-of}
 use Rattle.machine.proofs.steps.plain.Statement.{statement}

@@ -1,4 +1,4 @@
--- `steps::quiet` meets its contract: by cases. Assumes nothing.
+-- `steps::quiet` meets its contract: by cases.
 use borrow.Author.Needs.{needs}
 use Rattle.machine.proofs.StepLaws.{quiet-of}
 use Rattle.machine.proofs.steps.quiet.Statement.{statement}

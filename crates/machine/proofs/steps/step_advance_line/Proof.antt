@@ -1,4 +1,4 @@
--- `steps::step_advance_line` meets its contract: a signed operand, added. Assumes nothing.
+-- `steps::step_advance_line` meets its contract: a signed operand, added.
 use borrow.Author.Needs.{needs}
 use Rattle.machine.proofs.StepLaws.{line-steps, line-fault}
 use Rattle.machine.proofs.steps.step_advance_line.Statement.{statement}

@@ -1,4 +1,4 @@
--- `steps::step_advance_pc` meets its contract: an operand, then a move. Assumes nothing.
+-- `steps::step_advance_pc` meets its contract: an operand, then a move.
 use borrow.Author.Needs.{needs}
 use Rattle.machine.proofs.StepLaws.{advance-steps, unsigned-fault}
 use Rattle.machine.proofs.steps.step_advance_pc.Statement.{statement}

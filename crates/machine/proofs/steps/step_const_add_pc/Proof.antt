@@ -1,4 +1,4 @@
--- `steps::step_const_add_pc` meets its contract: a move by special opcode 255. Assumes nothing.
+-- `steps::step_const_add_pc` meets its contract: a move by special opcode 255.
 use borrow.Author.Needs.{needs}
 use Rattle.machine.proofs.StepLaws.{const-steps}
 use Rattle.machine.proofs.steps.step_const_add_pc.Statement.{statement}

@@ -1,4 +1,4 @@
--- `steps::step_fixed_advance_pc` meets its contract: two bytes, then a move. Assumes nothing.
+-- `steps::step_fixed_advance_pc` meets its contract: two bytes, then a move.
 use lib.ListN.{getD}
 use mathlib.Core.Path.{_≡_}
 use Prim.Native.Nat.{_+_, _*_}

@@ -1,4 +1,4 @@
--- `steps::step_over` meets its contract: operands that are passed over. Assumes nothing.
+-- `steps::step_over` meets its contract: operands that are passed over.
 use borrow.Author.Needs.{needs}
 use Rattle.machine.proofs.StepLaws.{over-steps, over-ended, over-fault}
 use Rattle.machine.proofs.steps.step_over.Statement.{statement}

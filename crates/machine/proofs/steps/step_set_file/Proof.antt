@@ -1,4 +1,4 @@
--- `steps::step_set_file` meets its contract: an operand, kept. Assumes nothing.
+-- `steps::step_set_file` meets its contract: an operand, kept.
 use borrow.Author.Needs.{needs}
 use Rattle.machine.proofs.StepLaws.{file-steps, unsigned-fault}
 use Rattle.machine.proofs.steps.step_set_file.Statement.{statement}

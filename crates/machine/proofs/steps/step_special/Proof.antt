@@ -1,4 +1,4 @@
--- `steps::step_special` meets its contract: the line, then the address, then a row. Assumes nothing.
+-- `steps::step_special` meets its contract: the line, then the address, then a row.
 use borrow.Author.Needs.{needs}
 use Rattle.machine.proofs.StepLaws.{special-steps}
 use Rattle.machine.proofs.steps.step_special.Statement.{statement}

@@ -1,10 +1,10 @@
--- `steps::step_standard` meets its contract: by the opcode's number. Assumes nothing.
+-- `steps::step_standard` meets its contract: by the opcode's number.
 use mathlib.Core.Logic.{⊎-elim}
 use Prim.Native.Nat.{_<_}
 use native.Mathlib.Omega.{arith}
 use borrow.Author.Needs.{needs}
-use Rattle.machine.proofs.StandardLaws.{above, standard-copy, standard-advance, standard-line, standard-file, standard-column, standard-const}
-use Rattle.machine.proofs.StandardLaws.{standard-half, standard-isa, standard-none, standard-unknown}
+use Rattle.machine.proofs.steps.StandardLaws.{above, standard-copy, standard-advance, standard-line, standard-file, standard-column, standard-const}
+use Rattle.machine.proofs.steps.StandardLaws.{standard-half, standard-isa, standard-none, standard-unknown}
 use Rattle.machine.proofs.steps.step_standard.Statement.{statement}
 use Rattle.machine.proofs.steps.step_standard.Tie as tie
 

@@ -1,4 +1,4 @@
--- `path::any_separator` meets its contract. The loop looks at byte after byte; what is left holds a separator where the whole does. Assumes nothing.
+-- `path::any_separator` meets its contract. The loop looks at byte after byte; what is left holds a separator where the whole does.
 use Prim.Native.Nat.{_-_}
 use mathlib.Core.Path.{_≡_, refl, sym, _∙_}
 use native.Mathlib.Omega.{arith}

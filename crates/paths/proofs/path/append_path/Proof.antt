@@ -1,4 +1,5 @@
--- `path::append_path` meets its contract. Five ways: nothing to put, nothing before it, a slash at the end of the path, one at the start of the component, and neither. Assumes nothing.
+-- `path::append_path` meets its contract. Five ways: nothing to put, nothing before it, a slash at the end of the path, one at the start of the component,
+-- and neither.
 use Prim.Native.Nat.{_+_}
 use mathlib.Core.Path.{_∙_}
 use borrow.Author.Needs.{needs}

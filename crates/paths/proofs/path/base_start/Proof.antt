@@ -1,4 +1,4 @@
--- `path::base_start` meets its contract. The loop goes backward: the last byte that splits the path is that of the part that is left. Assumes nothing.
+-- `path::base_start` meets its contract. The loop goes backward: the last byte that splits the path is that of the part that is left.
 use Prim.Native.Nat.{_≤_}
 use mathlib.Core.Path.{_≡_}
 use native.Mathlib.Omega.{arith}

@@ -1,4 +1,4 @@
--- `path::basename_of` meets its contract. The part after the last slash. Assumes nothing.
+-- `path::basename_of` meets its contract. The part after the last slash.
 use borrow.Author.Needs.{needs}
 use Rattle.paths.proofs.PathCodeLaws.{basename-is}
 use Rattle.paths.proofs.path.basename_of.Statement.{statement}

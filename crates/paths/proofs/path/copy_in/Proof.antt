@@ -1,4 +1,4 @@
--- `path::copy_in` meets its contract. The loop copies byte after byte: what is left, laid down, gives what was asked. Assumes nothing.
+-- `path::copy_in` meets its contract. The loop copies byte after byte: what is left, laid down, gives what was asked.
 use Prim.Native.Nat.{_-_}
 use native.Mathlib.Omega.{arith}
 use borrow.Author.Needs.{needs}

@@ -1,4 +1,4 @@
--- `path::directory_of` meets its contract. The part before the basename, with the separator where it stays with the root. Assumes nothing.
+-- `path::directory_of` meets its contract. The part before the basename, with the separator where it stays with the root.
 use native.Mathlib.Omega.{arith}
 use borrow.Author.Needs.{needs}
 use lib.ListN.{length-take}

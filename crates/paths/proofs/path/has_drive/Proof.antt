@@ -1,4 +1,4 @@
--- `path::has_drive` meets its contract. A short path, one with a colon in the second byte, and one without. Assumes nothing.
+-- `path::has_drive` meets its contract. A short path, one with a colon in the second byte, and one without.
 use borrow.Author.Needs.{needs}
 use Rattle.paths.proofs.PathCodeLaws.{drive-short, drive-colon, drive-none}
 use Rattle.paths.proofs.path.has_drive.Statement.{statement}

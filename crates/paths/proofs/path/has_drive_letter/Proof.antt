@@ -1,4 +1,4 @@
--- `path::has_drive_letter` meets its contract. Assumes nothing.
+-- `path::has_drive_letter` meets its contract.
 use borrow.Author.Needs.{needs}
 use Rattle.paths.proofs.PathCodeLaws.{drive-letter-none, drive-letter-empty, drive-letter-first}
 use Rattle.paths.proofs.path.has_drive_letter.Statement.{statement}

@@ -1,4 +1,4 @@
--- `path::is_absolute_path` meets its contract. The three tests of the definition, in its order. Assumes nothing.
+-- `path::is_absolute_path` meets its contract. The three tests of the definition, in its order.
 use borrow.Author.Needs.{needs}
 use Rattle.paths.proofs.PathCodeLaws.{absolute-slash, absolute-drive, absolute-share}
 use Rattle.paths.proofs.path.is_absolute_path.Statement.{statement}

@@ -1,4 +1,4 @@
--- `path::is_letter` meets its contract. Assumes nothing.
+-- `path::is_letter` meets its contract.
 use Rattle.paths.proofs.PathCodeLaws.{letter-low, letter-capital, letter-between, letter-small}
 use Rattle.paths.proofs.path.is_letter.Statement.{statement}
 use Rattle.paths.proofs.path.is_letter.Tie as tie

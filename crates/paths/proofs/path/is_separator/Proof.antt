@@ -1,4 +1,4 @@
--- `path::is_separator` meets its contract. Two ways: a slash, or what the test for a backslash says. Assumes nothing.
+-- `path::is_separator` meets its contract. Two ways: a slash, or what the test for a backslash says.
 use Rattle.paths.proofs.PathCodeLaws.{separator-slash, separator-other}
 use Rattle.paths.proofs.path.is_separator.Statement.{statement}
 use Rattle.paths.proofs.path.is_separator.Tie as tie

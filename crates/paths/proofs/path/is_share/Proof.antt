@@ -1,4 +1,4 @@
--- `path::is_share` meets its contract. Each early return is a part of the definition that is false. Assumes nothing.
+-- `path::is_share` meets its contract. Each early return is a part of the definition that is false.
 use borrow.Author.Needs.{needs}
 use Rattle.paths.proofs.PathCodeLaws.{share-short, share-first, share-second, share-third, share-rest}
 use Rattle.paths.proofs.path.is_share.Statement.{statement}

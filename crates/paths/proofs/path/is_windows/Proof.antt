@@ -1,4 +1,4 @@
--- `path::is_windows` meets its contract. Assumes nothing.
+-- `path::is_windows` meets its contract.
 use borrow.Author.Needs.{needs}
 use Rattle.paths.proofs.PathCodeLaws.{windows-drive, windows-doubled}
 use Rattle.paths.proofs.path.is_windows.Statement.{statement}

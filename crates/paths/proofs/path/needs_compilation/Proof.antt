@@ -1,4 +1,4 @@
--- `path::needs_compilation` meets its contract. An absolute directory, an old version, and the directory's number. Assumes nothing.
+-- `path::needs_compilation` meets its contract. An absolute directory, an old version, and the directory's number.
 use borrow.Author.Needs.{needs}
 use Rattle.paths.proofs.PathCodeLaws.{needs-absolute, needs-old, needs-new}
 use Rattle.paths.proofs.path.needs_compilation.Statement.{statement}

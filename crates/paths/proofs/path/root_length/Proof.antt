@@ -1,4 +1,4 @@
--- `path::root_length` meets its contract. Assumes nothing.
+-- `path::root_length` meets its contract.
 use borrow.Author.Needs.{needs}
 use Rattle.paths.proofs.PathCodeLaws.{root-drive, root-doubled, root-other}
 use Rattle.paths.proofs.path.root_length.Statement.{statement}

@@ -1,4 +1,4 @@
--- `path::splits_at` meets its contract. Assumes nothing.
+-- `path::splits_at` meets its contract.
 use borrow.Author.Needs.{needs}
 use Rattle.paths.proofs.PathCodeLaws.{splits-windows, splits-slash}
 use Rattle.paths.proofs.path.splits_at.Statement.{statement}

@@ -1,4 +1,4 @@
--- `path::starts_doubled` meets its contract. Assumes nothing.
+-- `path::starts_doubled` meets its contract.
 use borrow.Author.Needs.{needs}
 use Rattle.paths.proofs.PathCodeLaws.{doubled-short, doubled-other, doubled-second}
 use Rattle.paths.proofs.path.starts_doubled.Statement.{statement}

@@ -1,4 +1,4 @@
--- `path::starts_with_slash` meets its contract. An empty path, and the first byte of another. Assumes nothing.
+-- `path::starts_with_slash` meets its contract. An empty path, and the first byte of another.
 use borrow.Author.Needs.{needs}
 use Rattle.paths.proofs.PathCodeLaws.{starts-empty, starts-first}
 use Rattle.paths.proofs.path.starts_with_slash.Statement.{statement}

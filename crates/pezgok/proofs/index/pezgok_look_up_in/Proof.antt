@@ -1,4 +1,4 @@
--- `index::pezgok_look_up_in` meets its contract: the numbers are those of the answer of `look_up_in`. Assumes nothing.
+-- `index::pezgok_look_up_in` meets its contract: the numbers are those of the answer of `look_up_in`.
 use borrow.Author.Needs.{needs}
 use Rattle.pezgok.proofs.LookLaws.{exports-look-up-in}
 use Rattle.pezgok.proofs.index.pezgok_look_up_in.Statement.{statement}

@@ -1,4 +1,4 @@
--- `index::tell_index` meets its contract: the numbers are those of the answer. Assumes nothing.
+-- `index::tell_index` meets its contract: the numbers are those of the answer.
 use borrow.Author.Needs.{needs}
 use Rattle.pezgok.proofs.LookLaws.{index-refused, index-finished}
 use Rattle.pezgok.proofs.index.tell_index.Statement.{statement}

@@ -1,6 +1,6 @@
--- `joins::pezgok_join_symbols` meets its contract: the numbers are those of the answer of `join_symbols_with`. Assumes nothing.
+-- `joins::pezgok_join_symbols` meets its contract: the numbers are those of the answer of `join_symbols_with`.
 use borrow.Author.Needs.{needs}
-use Rattle.pezgok.proofs.JoinedLaws.{exports-join}
+use Rattle.pezgok.proofs.joins.JoinedLaws.{exports-join}
 use Rattle.pezgok.proofs.joins.pezgok_join_symbols.Statement.{statement}
 use Rattle.pezgok.proofs.joins.pezgok_join_symbols.Tie as tie
 

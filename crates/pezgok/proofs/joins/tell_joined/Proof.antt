@@ -1,6 +1,6 @@
--- `joins::tell_joined` meets its contract: the numbers are those of the answer. Assumes nothing.
+-- `joins::tell_joined` meets its contract: the numbers are those of the answer.
 use borrow.Author.Needs.{needs}
-use Rattle.pezgok.proofs.JoinedLaws.{joined-refused, joined-finished}
+use Rattle.pezgok.proofs.joins.JoinedLaws.{joined-refused, joined-finished}
 use Rattle.pezgok.proofs.joins.tell_joined.Statement.{statement}
 use Rattle.pezgok.proofs.joins.tell_joined.Tie as tie
 

@@ -1,4 +1,4 @@
--- `look::pezgok_functions_inside` meets its contract: the numbers are those of the answer of `functions_inside`. Assumes nothing.
+-- `look::pezgok_functions_inside` meets its contract: the numbers are those of the answer of `functions_inside`.
 use borrow.Author.Needs.{needs}
 use Rattle.pezgok.proofs.LookLaws.{list-told}
 use Rattle.pezgok.proofs.look.pezgok_functions_inside.Statement.{statement}

@@ -1,4 +1,4 @@
--- `look::pezgok_look_up` meets its contract: the numbers are those of the answer of `look_up`. Assumes nothing.
+-- `look::pezgok_look_up` meets its contract: the numbers are those of the answer of `look_up`.
 use borrow.Author.Needs.{needs}
 use Rattle.pezgok.proofs.LookLaws.{exports-look-up}
 use Rattle.pezgok.proofs.look.pezgok_look_up.Statement.{statement}

@@ -1,4 +1,4 @@
--- `look::pezgok_nearest_below` meets its contract: the numbers are those of the answer of `nearest_below`. Assumes nothing.
+-- `look::pezgok_nearest_below` meets its contract: the numbers are those of the answer of `nearest_below`.
 use borrow.Author.Needs.{needs}
 use Rattle.pezgok.proofs.LookLaws.{nearest-told}
 use Rattle.pezgok.proofs.look.pezgok_nearest_below.Statement.{statement}

@@ -1,4 +1,4 @@
--- `look::tell_frames` meets its contract: the numbers are those of the answer. Assumes nothing.
+-- `look::tell_frames` meets its contract: the numbers are those of the answer.
 use borrow.Author.Needs.{needs}
 use Rattle.pezgok.proofs.LookLaws.{frames-refused, frames-rowless, frames-row}
 use Rattle.pezgok.proofs.look.tell_frames.Statement.{statement}

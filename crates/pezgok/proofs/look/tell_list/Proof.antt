@@ -1,4 +1,4 @@
--- `look::tell_list` meets its contract: the numbers are those of the answer. Assumes nothing.
+-- `look::tell_list` meets its contract: the numbers are those of the answer.
 use borrow.Author.Needs.{needs}
 use Rattle.pezgok.proofs.LookLaws.{list-refused, list-finished}
 use Rattle.pezgok.proofs.look.tell_list.Statement.{statement}

@@ -1,4 +1,4 @@
--- `look::tell_nearest` meets its contract: the numbers are those of the answer. Assumes nothing.
+-- `look::tell_nearest` meets its contract: the numbers are those of the answer.
 use borrow.Author.Needs.{needs}
 use Rattle.pezgok.proofs.LookLaws.{nearest-refused}
 use Rattle.pezgok.proofs.look.tell_nearest.Statement.{statement}

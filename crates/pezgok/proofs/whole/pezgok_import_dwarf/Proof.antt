@@ -1,4 +1,4 @@
--- `pezgok_import_dwarf` meets its contract: the numbers are those of the answer of `import_dwarf`. Assumes nothing.
+-- `pezgok_import_dwarf` meets its contract: the numbers are those of the answer of `import_dwarf`.
 use borrow.Author.Needs.{needs}
 use Rattle.pezgok.proofs.ExportLaws.{exports-dwarf}
 use Rattle.pezgok.proofs.whole.pezgok_import_dwarf.Statement.{statement}

@@ -1,4 +1,4 @@
--- `pezgok_measure_dwarf` meets its contract: the numbers are those of the answer of `measure_dwarf`. Assumes nothing.
+-- `pezgok_measure_dwarf` meets its contract: the numbers are those of the answer of `measure_dwarf`.
 use borrow.Author.Needs.{needs}
 use Rattle.pezgok.proofs.ExportLaws.{exports-measure-dwarf}
 use Rattle.pezgok.proofs.whole.pezgok_measure_dwarf.Statement.{statement}

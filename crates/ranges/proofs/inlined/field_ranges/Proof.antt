@@ -1,4 +1,4 @@
--- `inlined::field_ranges` meets its contract. Assumes nothing.
+-- `inlined::field_ranges` meets its contract.
 use borrow.Author.Needs.{needs}
 use Rattle.ranges.proofs.InlinedLaws.{field-refused, field-merged}
 use Rattle.ranges.proofs.inlined.field_ranges.Statement.{statement}

@@ -1,4 +1,4 @@
--- `inlined::inline_ranges` meets its contract. Assumes nothing.
+-- `inlined::inline_ranges` meets its contract.
 use borrow.Author.Needs.{needs}
 use Rattle.ranges.proofs.InlinedLaws.{inline-listless, inline-missing, list-there, list-within, list-word, inline-list}
 use Rattle.ranges.proofs.inlined.inline_ranges.Statement.{statement}

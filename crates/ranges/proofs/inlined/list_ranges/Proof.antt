@@ -1,4 +1,4 @@
--- `inlined::list_ranges` meets its contract. Assumes nothing.
+-- `inlined::list_ranges` meets its contract.
 use native.Mathlib.Omega.{arith}
 use borrow.Author.Needs.{needs}
 use Rattle.ranges.proofs.InlinedLaws.{list-few, list-nonempty, list-refused, list-merged}

@@ -1,4 +1,4 @@
--- `attributes::file_index_attribute` meets its contract. Assumes nothing.
+-- `attributes::file_index_attribute` meets its contract.
 use native.Mathlib.Omega.{arith}
 use borrow.Author.Needs.{needs}
 use Rattle.references.proofs.ReferenceLaws.{entry-next, entry-inside}

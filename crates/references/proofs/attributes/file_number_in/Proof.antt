@@ -1,4 +1,4 @@
--- `attributes::file_number_in` meets its contract. Assumes nothing.
+-- `attributes::file_number_in` meets its contract.
 use mathlib.Core.Path.{sym, ap}
 use borrow.Author.Needs.{needs}
 use Rattle.references.specs.Tables.{fileNumberIn}

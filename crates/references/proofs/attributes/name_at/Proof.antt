@@ -1,4 +1,4 @@
--- `attributes::name_at` meets its contract. Assumes nothing.
+-- `attributes::name_at` meets its contract.
 use mathlib.Core.Path.{_≡_, refl}
 use mathlib.Core.Bool.{false, true≢false}
 use mathlib.Core.Logic.{inl, inr}

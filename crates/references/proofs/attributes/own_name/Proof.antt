@@ -1,4 +1,4 @@
--- `attributes::own_name` meets its contract. Assumes nothing.
+-- `attributes::own_name` meets its contract.
 use borrow.Author.Needs.{needs}
 use Rattle.references.proofs.ReferenceLaws.{own-refused, own-found, own-later, own-last}
 use Rattle.references.proofs.attributes.own_name.Statement.{statement}

@@ -1,4 +1,4 @@
--- `attributes::reference_at` meets its contract. Assumes nothing.
+-- `attributes::reference_at` meets its contract.
 use borrow.Author.Needs.{needs}
 use native.Mathlib.Omega.{arith}
 use Rattle.references.proofs.ReferenceLaws.{entry-next, entry-inside, reference-read}

@@ -1,4 +1,4 @@
--- `attributes::reference_of` meets its contract. Assumes nothing.
+-- `attributes::reference_of` meets its contract.
 use mathlib.Core.Path.{sym, ap}
 use borrow.Author.Needs.{needs}
 use Rattle.references.specs.Tables.{referenceIn}

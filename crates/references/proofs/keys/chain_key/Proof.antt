@@ -1,4 +1,4 @@
--- `keys::chain_key` meets its contract: the target links to what its head led to. Assumes nothing.
+-- `keys::chain_key` meets its contract: the target links to what its head led to.
 use native.Mathlib.Omega.{arith}
 use borrow.Author.Needs.{needs}
 use Rattle.references.proofs.ChainLaws.{chain-small, joined-chain}

@@ -1,4 +1,4 @@
--- `keys::chain_keys` meets its contract: the heads lead nowhere at first, then to the newest of those that joined. Assumes nothing.
+-- `keys::chain_keys` meets its contract: the heads lead nowhere at first, then to the newest of those that joined.
 use Prim.Native.Nat.{_-_}
 use native.Mathlib.Omega.{arith}
 use borrow.Author.Needs.{needs}

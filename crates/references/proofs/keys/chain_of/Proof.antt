@@ -1,4 +1,4 @@
--- `keys::chain_of` meets its contract. Assumes nothing.
+-- `keys::chain_of` meets its contract.
 use borrow.Author.Needs.{needs}
 use Rattle.references.specs.Keys.{chainOf}
 use Rattle.references.proofs.keys.chain_of.Statement.{statement}

@@ -1,4 +1,4 @@
--- `keys::is_key` meets its contract. Assumes nothing.
+-- `keys::is_key` meets its contract.
 use borrow.Author.Needs.{needs}
 use Rattle.references.proofs.VisitedLaws.{key-other, key-main, key-supplementary}
 use Rattle.references.proofs.keys.is_key.Statement.{statement}

@@ -1,4 +1,4 @@
--- `keys::is_many` meets its contract. Assumes nothing.
+-- `keys::is_many` meets its contract.
 use borrow.Author.Tests.{le-ltb, lt-ltb}
 use Rattle.references.specs.Keys.{many}
 use Rattle.references.proofs.keys.is_many.Statement.{statement}

@@ -1,4 +1,4 @@
--- `keys::is_scanned` meets its contract: whether the target is among the n is whether it is among the i that are left. Assumes nothing.
+-- `keys::is_scanned` meets its contract: whether the target is among the n is whether it is among the i that are left.
 use native.Mathlib.Omega.{arith}
 use Rattle.references.proofs.VisitedLaws.{Looking, looking-start, looking-done, looking-found, looking-turn}
 use Rattle.references.proofs.keys.is_scanned.Statement.{statement}

@@ -1,4 +1,4 @@
--- `keys::is_visited` meets its contract. Many targets are sought along a chain, which leads to ever older ones. Assumes nothing.
+-- `keys::is_visited` meets its contract. Many targets are sought along a chain, which leads to ever older ones.
 use native.Mathlib.Omega.{arith}
 use borrow.Author.Needs.{needs}
 use Rattle.references.proofs.ChainLaws.{Front, chain-small, not-no, many-chained, walk-start, walk-less, walk-found, walk-step, walk-none}

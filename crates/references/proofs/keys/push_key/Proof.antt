@@ -1,4 +1,4 @@
--- `keys::push_key` meets its contract: a target that makes them many has all join their chains, a later one its own. Assumes nothing.
+-- `keys::push_key` meets its contract: a target that makes them many has all join their chains, a later one its own.
 use mathlib.Core.Path.{refl}
 use borrow.Author.Needs.{needs}
 use Rattle.references.proofs.ChainLaws.{not-no, not-yes, many-small}

@@ -1,4 +1,4 @@
--- The proof of the cycle of calls of resolve_name_inner and resolve_absolute_name: its parts stand in modules of their own. Assumes nothing.
+-- The proof of the cycle of calls of resolve_name_inner and resolve_absolute_name: its parts stand in modules of their own.
 mod Falls
 mod Inner
 mod Absolute

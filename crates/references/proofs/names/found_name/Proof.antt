@@ -1,4 +1,4 @@
--- `names::found_name` meets its contract. Assumes nothing.
+-- `names::found_name` meets its contract.
 use Rattle.references.proofs.NameLaws.{found-none, found-some}
 use Rattle.references.proofs.names.found_name.Statement.{statement}
 use Rattle.references.proofs.names.found_name.Tie as tie

@@ -1,4 +1,4 @@
--- `names::is_answer` meets its contract. Assumes nothing.
+-- `names::is_answer` meets its contract.
 use Prim.Native.Nat.{ℕ, suc}
 use native.Mathlib.Omega.{arith}
 use lib.Dec.{eqb}

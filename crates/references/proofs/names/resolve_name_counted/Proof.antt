@@ -1,4 +1,4 @@
--- `names::resolve_name_counted` meets its contract. Assumes nothing.
+-- `names::resolve_name_counted` meets its contract.
 use native.Mathlib.Omega.{arith}
 use borrow.Author.Needs.{needs}
 use Rattle.references.proofs.NameLaws.{start-stands, resolved-name, name-read, name-within}

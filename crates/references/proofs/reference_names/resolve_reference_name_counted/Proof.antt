@@ -1,4 +1,4 @@
--- `reference_names::resolve_reference_name_counted` meets its contract. Assumes nothing.
+-- `reference_names::resolve_reference_name_counted` meets its contract.
 use mathlib.Core.List.{[]}
 use native.Mathlib.Omega.{arith}
 use borrow.Author.Needs.{needs}

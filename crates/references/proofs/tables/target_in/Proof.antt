@@ -1,4 +1,4 @@
--- `tables::target_in` meets its contract. Assumes nothing.
+-- `tables::target_in` meets its contract.
 use borrow.Author.Needs.{needs}
 use Rattle.references.proofs.TargetLaws.{index-table-rising, leads-in-missing, leads-in-other, leads-in-at}
 use Rattle.references.proofs.tables.target_in.Statement.{statement}

@@ -1,4 +1,4 @@
--- `ways::unit_way` meets its contract. Assumes nothing.
+-- `ways::unit_way` meets its contract.
 use native.Mathlib.Omega.{arith}
 use borrow.Author.Needs.{needs}
 use Rattle.references.proofs.KeyLaws.{keys-inside}

@@ -1,4 +1,4 @@
--- `ways::way_of` meets its contract. Assumes nothing.
+-- `ways::way_of` meets its contract.
 use borrow.Author.Needs.{needs}
 use Rattle.references.proofs.FollowLaws.{placed-at, possible-unit}
 use Rattle.references.proofs.WayLaws.{reference-is, way-missing, way-unit, way-section, way-no-units, way-inside, way-supplementary}

@@ -1,4 +1,4 @@
--- `holds_only` reads within the buffer, and ends: what is left of it falls. Assumes nothing.
+-- `holds_only` reads within the buffer, and ends: what is left of it falls.
 use Prim.Native.Nat.{_≤_, _-_}
 use lib.ListN.{length}
 use borrow.Author.Needs.{needs}

@@ -1,4 +1,4 @@
--- `judge_buffer` lends parts of n bytes, which both buffers have. Assumes nothing.
+-- `judge_buffer` lends parts of n bytes, which both buffers have.
 use native.Mathlib.Omega.{arith}
 use lib.ListN.{length-take}
 use borrow.Author.Needs.{needs}

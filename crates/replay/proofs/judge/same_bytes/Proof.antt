@@ -1,4 +1,4 @@
--- `same_bytes` reads within both, which are as long, and ends: what is left of them falls. Assumes nothing.
+-- `same_bytes` reads within both, which are as long, and ends: what is left of them falls.
 use Prim.Native.Nat.{_≤_, _-_}
 use lib.ListN.{length}
 use borrow.Author.Needs.{needs}

@@ -1,4 +1,4 @@
--- `cut_case` lends parts that are no longer than the buffers. Assumes nothing.
+-- `cut_case` lends parts that are no longer than the buffers.
 use native.Mathlib.Omega.{arith}
 use lib.ListN.{length-take}
 use borrow.Author.Needs.{needs}

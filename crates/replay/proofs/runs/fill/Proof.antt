@@ -1,4 +1,4 @@
--- `fill` writes within the buffer, and ends: what is left of it falls. Assumes nothing.
+-- `fill` writes within the buffer, and ends: what is left of it falls.
 use mathlib.Core.Path.{_≡_}
 use Prim.Native.Nat.{_≤_, _-_}
 use lib.ListN.{length}

@@ -1,4 +1,4 @@
--- `run_case` lends the parts of the inputs. Assumes nothing.
+-- `run_case` lends the parts of the inputs.
 use native.Mathlib.Omega.{arith}
 use lib.ListN.{length-take}
 use borrow.Author.Needs.{needs}

@@ -1,6 +1,6 @@
--- `entries::first_operand` meets its contract. Assumes nothing.
+-- `entries::first_operand` meets its contract.
 use borrow.Author.Needs.{needs}
-use Rattle.rnglists.proofs.ReadLaws.{first-none, first-number, first-address}
+use Rattle.rnglists.proofs.entries.ReadLaws.{first-none, first-number, first-address}
 use Rattle.rnglists.proofs.entries.first_operand.Statement.{statement}
 use Rattle.rnglists.proofs.entries.first_operand.Tie as tie
 

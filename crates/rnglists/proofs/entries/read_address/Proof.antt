@@ -1,6 +1,6 @@
--- `entries::read_address` meets its contract. Assumes nothing.
+-- `entries::read_address` meets its contract.
 use borrow.Author.Needs.{needs}
-use Rattle.rnglists.proofs.ReadLaws.{cut-four, read-four, cut-eight, read-eight}
+use Rattle.rnglists.proofs.entries.ReadLaws.{cut-four, read-four, cut-eight, read-eight}
 use Rattle.rnglists.proofs.entries.read_address.Statement.{statement}
 use Rattle.rnglists.proofs.entries.read_address.Tie as tie
 

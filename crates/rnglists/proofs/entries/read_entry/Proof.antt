@@ -1,6 +1,6 @@
--- `entries::read_entry` meets its contract. Assumes nothing.
+-- `entries::read_entry` meets its contract.
 use borrow.Author.Needs.{needs}
-use Rattle.rnglists.proofs.ReadLaws.{entry-none, entry-unknown, entry-first, entry-second, entry-read, second-within}
+use Rattle.rnglists.proofs.entries.ReadLaws.{entry-none, entry-unknown, entry-first, entry-second, entry-read, second-within}
 use Rattle.rnglists.proofs.entries.read_entry.Statement.{statement}
 use Rattle.rnglists.proofs.entries.read_entry.Tie as tie
 

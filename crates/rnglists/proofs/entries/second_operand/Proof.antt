@@ -1,6 +1,6 @@
--- `entries::second_operand` meets its contract. Assumes nothing.
+-- `entries::second_operand` meets its contract.
 use borrow.Author.Needs.{needs}
-use Rattle.rnglists.proofs.ReadLaws.{second-none, second-none-five, second-address, second-number}
+use Rattle.rnglists.proofs.entries.ReadLaws.{second-none, second-none-five, second-address, second-number}
 use Rattle.rnglists.proofs.entries.second_operand.Statement.{statement}
 use Rattle.rnglists.proofs.entries.second_operand.Tie as tie
 

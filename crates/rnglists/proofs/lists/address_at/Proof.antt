@@ -1,6 +1,6 @@
--- `lists::address_at` meets its contract. Assumes nothing.
+-- `lists::address_at` meets its contract.
 use borrow.Author.Needs.{needs}
-use Rattle.rnglists.proofs.MeaningLaws.{address-none, past-four, found-four, past-eight, found-eight}
+use Rattle.rnglists.proofs.lists.MeaningLaws.{address-none, past-four, found-four, past-eight, found-eight}
 use Rattle.rnglists.proofs.lists.address_at.Statement.{statement}
 use Rattle.rnglists.proofs.lists.address_at.Tie as tie
 

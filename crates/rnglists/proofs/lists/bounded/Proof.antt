@@ -1,5 +1,5 @@
--- `lists::bounded` meets its contract. Assumes nothing.
-use Rattle.rnglists.proofs.MeaningLaws.{bounded-dead, bounded-start, bounded-end, bounded-live}
+-- `lists::bounded` meets its contract.
+use Rattle.rnglists.proofs.lists.MeaningLaws.{bounded-dead, bounded-start, bounded-end, bounded-live}
 use Rattle.rnglists.proofs.lists.bounded.Statement.{statement}
 use Rattle.rnglists.proofs.lists.bounded.Tie as tie
 

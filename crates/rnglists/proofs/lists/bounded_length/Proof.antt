@@ -1,6 +1,6 @@
--- `lists::bounded_length` meets its contract. Assumes nothing.
+-- `lists::bounded_length` meets its contract.
 use borrow.Author.Needs.{needs}
-use Rattle.rnglists.proofs.MeaningLaws.{bounded-any, bounded-start, length-past}
+use Rattle.rnglists.proofs.lists.MeaningLaws.{bounded-any, bounded-start, length-past}
 use Rattle.rnglists.proofs.lists.bounded_length.Statement.{statement}
 use Rattle.rnglists.proofs.lists.bounded_length.Tie as tie
 

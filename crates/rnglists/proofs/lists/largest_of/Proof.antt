@@ -1,5 +1,5 @@
--- `lists::largest_of` meets its contract. Assumes nothing.
-use Rattle.rnglists.proofs.MeaningLaws.{largest-four, largest-eight}
+-- `lists::largest_of` meets its contract.
+use Rattle.rnglists.proofs.lists.MeaningLaws.{largest-four, largest-eight}
 use Rattle.rnglists.proofs.lists.largest_of.Statement.{statement}
 use Rattle.rnglists.proofs.lists.largest_of.Tie as tie
 

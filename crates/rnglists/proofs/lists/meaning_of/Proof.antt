@@ -1,6 +1,6 @@
--- `lists::meaning_of` meets its contract: at each kind the definition's clause. Assumes nothing.
+-- `lists::meaning_of` meets its contract: at each kind the definition's clause.
 use borrow.Author.Needs.{needs}
-use Rattle.rnglists.proofs.MeaningLaws.{saying}
+use Rattle.rnglists.proofs.lists.MeaningLaws.{saying}
 use Rattle.rnglists.proofs.lists.meaning_of.Statement.{statement}
 use Rattle.rnglists.proofs.lists.meaning_of.Tie as tie
 

@@ -1,8 +1,8 @@
--- `lists::next_range` meets its contract. The loop's invariant: what is left of the list gives what was asked for. Assumes nothing.
+-- `lists::next_range` meets its contract. The loop's invariant: what is left of the list gives what was asked for.
 use borrow.Author.Needs.{needs}
 use Prim.Native.Nat.{_-_}
 use lib.ListN.{length}
-use Rattle.rnglists.proofs.NextLaws.{Left, left-start, next-fault, meant-fault, meant-end, meant-base, meant-range, turn-less}
+use Rattle.rnglists.proofs.lists.NextLaws.{Left, left-start, next-fault, meant-fault, meant-end, meant-base, meant-range, turn-less}
 use Rattle.rnglists.proofs.lists.next_range.Statement.{statement}
 use Rattle.rnglists.proofs.lists.next_range.Tie as tie
 

@@ -1,6 +1,6 @@
--- `lists::offset_pair` meets its contract. Assumes nothing.
+-- `lists::offset_pair` meets its contract.
 use borrow.Author.Needs.{needs}
-use Rattle.rnglists.proofs.MeaningLaws.{pair-dead, pair-base, pair-start, pair-dies, pair-end, pair-by}
+use Rattle.rnglists.proofs.lists.MeaningLaws.{pair-dead, pair-base, pair-start, pair-dies, pair-end, pair-by}
 use Rattle.rnglists.proofs.lists.offset_pair.Statement.{statement}
 use Rattle.rnglists.proofs.lists.offset_pair.Tie as tie
 

@@ -1,4 +1,4 @@
--- `earlier::covering_sequence` meets its contract. No sequence before i covers the address. Assumes nothing.
+-- `earlier::covering_sequence` meets its contract. No sequence before i covers the address.
 use Prim.Native.Nat.{_-_}
 use native.Mathlib.Omega.{arith}
 use Rattle.rows.specs.Stored.{sequenceOf}

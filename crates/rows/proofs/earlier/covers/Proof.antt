@@ -1,4 +1,4 @@
--- `earlier::covers` meets its contract. Assumes nothing.
+-- `earlier::covers` meets its contract.
 use borrow.Author.Tests.{not-true, not-false}
 use borrow.Author.Needs.{needs}
 use Rattle.rows.specs.Stored.{sequenceOf}

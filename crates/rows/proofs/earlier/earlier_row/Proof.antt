@@ -1,6 +1,6 @@
--- `earlier::earlier_row` meets its contract. Assumes nothing.
+-- `earlier::earlier_row` meets its contract.
 use borrow.Author.Needs.{needs}
-use Rattle.rows.proofs.EarlierLaws.{earlier-some, earlier-none}
+use Rattle.rows.proofs.earlier.EarlierLaws.{earlier-some, earlier-none}
 use Rattle.rows.proofs.earlier.earlier_row.Statement.{statement}
 use Rattle.rows.proofs.earlier.earlier_row.Tie as tie
 

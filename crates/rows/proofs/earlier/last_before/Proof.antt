@@ -1,8 +1,8 @@
--- `earlier::last_before` meets its contract. What is looked for stands among the first i rows. Assumes nothing.
+-- `earlier::last_before` meets its contract. What is looked for stands among the first i rows.
 use native.Mathlib.Omega.{arith}
 use borrow.Author.Needs.{needs}
 use Rattle.rows.specs.Stored.{sequenceOf}
-use Rattle.rows.proofs.EarlierLaws.{Backwards, back-start, back-next, back-found, back-none}
+use Rattle.rows.proofs.earlier.EarlierLaws.{Backwards, back-start, back-next, back-found, back-none}
 use Rattle.rows.proofs.earlier.last_before.Statement.{statement}
 use Rattle.rows.proofs.earlier.last_before.Tie as tie
 

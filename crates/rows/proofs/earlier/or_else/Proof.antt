@@ -1,4 +1,4 @@
--- `earlier::or_else` meets its contract. Assumes nothing.
+-- `earlier::or_else` meets its contract.
 use borrow.Author.Needs.{needs}
 use Rattle.tlv.specs.Lists.{orElse}
 use Rattle.rows.proofs.earlier.or_else.Statement.{statement}

@@ -1,4 +1,4 @@
--- `earlier::put_earlier` meets its contract. Assumes nothing.
+-- `earlier::put_earlier` meets its contract.
 use borrow.Author.Tests.{not-true, not-false}
 use borrow.Author.Needs.{needs}
 use Rattle.rows.proofs.ForRangeLaws.{front-not, front-none, front-put}

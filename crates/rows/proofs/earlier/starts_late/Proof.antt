@@ -1,4 +1,4 @@
--- `earlier::starts_late` meets its contract. Assumes nothing.
+-- `earlier::starts_late` meets its contract.
 use borrow.Author.Needs.{needs}
 use Rattle.rows.proofs.ForRangeLaws.{late-none, late-some}
 use Rattle.rows.proofs.earlier.starts_late.Statement.{statement}

@@ -1,4 +1,4 @@
--- `line::address_at` meets its contract. Assumes nothing.
+-- `line::address_at` meets its contract.
 use borrow.Author.Needs.{needs}
 use Rattle.rows.proofs.StoredLaws.{got-address}
 use Rattle.rows.proofs.line.address_at.Statement.{statement}

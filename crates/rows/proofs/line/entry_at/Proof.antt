@@ -1,4 +1,4 @@
--- `line::entry_at` meets its contract. Assumes nothing.
+-- `line::entry_at` meets its contract.
 use borrow.Author.Needs.{needs}
 use Rattle.rows.proofs.StoredLaws.{got-entry}
 use Rattle.rows.proofs.line.entry_at.Statement.{statement}

@@ -1,4 +1,4 @@
--- `line::put_entry` meets its contract: four writes are a row. Assumes nothing.
+-- `line::put_entry` meets its contract: four writes are a row.
 use borrow.Author.Needs.{needs}
 use Rattle.rows.proofs.StoredLaws.{put-entry}
 use Rattle.rows.proofs.line.put_entry.Statement.{statement}

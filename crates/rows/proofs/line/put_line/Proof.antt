@@ -1,4 +1,4 @@
--- `line::put_line` meets its contract. Assumes nothing.
+-- `line::put_line` meets its contract.
 use borrow.Author.Needs.{needs}
 use Rattle.rows.proofs.StoredLaws.{put-line}
 use Rattle.rows.proofs.line.put_line.Statement.{statement}

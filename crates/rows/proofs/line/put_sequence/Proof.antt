@@ -1,4 +1,4 @@
--- `line::put_sequence` meets its contract: by the variants. Assumes nothing.
+-- `line::put_sequence` meets its contract: by the variants.
 use borrow.Author.Needs.{needs}
 use Rattle.rows.proofs.StoredLaws.{put-some, put-none}
 use Rattle.rows.proofs.line.put_sequence.Statement.{statement}

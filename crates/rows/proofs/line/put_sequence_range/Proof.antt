@@ -1,4 +1,4 @@
--- `line::put_sequence_range` meets its contract. Assumes nothing.
+-- `line::put_sequence_range` meets its contract.
 use borrow.Author.Needs.{needs}
 use Rattle.rows.proofs.StoredLaws.{put-range}
 use Rattle.rows.proofs.line.put_sequence_range.Statement.{statement}

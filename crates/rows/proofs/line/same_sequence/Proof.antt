@@ -1,4 +1,4 @@
--- `line::same_sequence` meets its contract: by the variants of both. Assumes nothing.
+-- `line::same_sequence` meets its contract: by the variants of both.
 use borrow.Author.Needs.{needs}
 use Rattle.rows.proofs.line.same_sequence.Statement.{statement}
 use Rattle.rows.proofs.line.same_sequence.Tie as tie

@@ -1,4 +1,4 @@
--- `line::sequence_at` meets its contract. Assumes nothing.
+-- `line::sequence_at` meets its contract.
 use borrow.Author.Needs.{needs}
 use Rattle.rows.proofs.StoredLaws.{stored-some, stored-none}
 use Rattle.rows.proofs.line.sequence_at.Statement.{statement}

@@ -1,4 +1,4 @@
--- `normalize::dedup_rows` meets its contract: what is left so far and what the rest leaves are what the whole leaves. Assumes nothing.
+-- `normalize::dedup_rows` meets its contract: what is left so far and what the rest leaves are what the whole leaves.
 use Prim.Native.Nat.{_-_}
 use native.Mathlib.Omega.{arith}
 use mathlib.Core.Logic.{inl}
@@ -6,7 +6,7 @@ use borrow.Author.Needs.{needs}
 use Rattle.lines.specs.Lines.{sameRow}
 use Rattle.rows.specs.Sizes.{lineSize}
 use Rattle.rows.specs.Stored.{lineOf, lineAt}
-use Rattle.rows.proofs.DropLaws.{Dropping, dropping-start, dropping-same, dropping-other, dropping-done, dropped-nothing, deduped}
+use Rattle.rows.proofs.normalize.DropLaws.{Dropping, dropping-start, dropping-same, dropping-other, dropping-done, dropped-nothing, deduped}
 use Rattle.rows.proofs.normalize.dedup_rows.Statement.{statement}
 use Rattle.rows.proofs.normalize.dedup_rows.Tie as tie
 

@@ -1,6 +1,6 @@
--- `normalize::same_line` meets its contract. Assumes nothing.
+-- `normalize::same_line` meets its contract.
 use borrow.Author.Needs.{needs}
-use Rattle.rows.proofs.SameLaws.{files-differ, lines-decide}
+use Rattle.rows.proofs.normalize.SameLaws.{files-differ, lines-decide}
 use Rattle.rows.proofs.normalize.same_line.Statement.{statement}
 use Rattle.rows.proofs.normalize.same_line.Tie as tie
 

@@ -1,6 +1,6 @@
--- `normalize::same_row` meets its contract: the address, the file and the line, the sequence. Assumes nothing.
+-- `normalize::same_row` meets its contract: the address, the file and the line, the sequence.
 use borrow.Author.Needs.{needs}
-use Rattle.rows.proofs.SameLaws.{addresses-differ, lines-differ, sequences-decide}
+use Rattle.rows.proofs.normalize.SameLaws.{addresses-differ, lines-differ, sequences-decide}
 use Rattle.rows.proofs.normalize.same_row.Statement.{statement}
 use Rattle.rows.proofs.normalize.same_row.Tie as tie
 

@@ -1,4 +1,4 @@
--- `search::lower_bound` meets its contract. The number of leading rows is from lo to hi. Assumes nothing.
+-- `search::lower_bound` meets its contract. The number of leading rows is from lo to hi.
 use Prim.Native.Nat.{_≤_, _-_}
 use native.Mathlib.Omega.{arith}
 use Rattle.rows.specs.Stored.{linesOf}

@@ -1,4 +1,4 @@
--- `unit_lines::for_range` meets its contract. With 0 in place of `below` too: `none-below`. Assumes nothing.
+-- `unit_lines::for_range` meets its contract. With 0 in place of `below` too: `none-below`.
 use borrow.Author.Needs.{needs}
 use Rattle.rows.proofs.FrontLaws.{none-below}
 use Rattle.rows.proofs.ForRangeLaws.{rows-in-kept, for-missing, for-found}

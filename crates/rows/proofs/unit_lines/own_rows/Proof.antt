@@ -1,9 +1,9 @@
--- `unit_lines::own_rows` meets its contract. Assumes nothing.
+-- `unit_lines::own_rows` meets its contract.
 use Prim.Native.Nat.{_-_}
 use mathlib.Core.Logic.{inr}
 use native.Mathlib.Omega.{arith}
 use borrow.Author.Needs.{needs}
-use Rattle.rows.proofs.OwnRowLaws.{Owning, own-start, own-past, own-not, own-take, own-done}
+use Rattle.rows.proofs.unit_lines.OwnRowLaws.{Owning, own-start, own-past, own-not, own-take, own-done}
 use Rattle.rows.proofs.unit_lines.own_rows.Statement.{statement}
 use Rattle.rows.proofs.unit_lines.own_rows.Tie as tie
 

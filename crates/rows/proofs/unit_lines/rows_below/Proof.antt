@@ -1,4 +1,4 @@
--- `unit_lines::rows_below` meets its contract. Assumes nothing.
+-- `unit_lines::rows_below` meets its contract.
 use borrow.Author.Needs.{needs}
 use Rattle.rows.proofs.FrontLaws.{none-below, start-below}
 use Rattle.rows.proofs.unit_lines.rows_below.Statement.{statement}

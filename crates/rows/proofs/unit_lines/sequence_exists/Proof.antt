@@ -1,4 +1,4 @@
--- `unit_lines::sequence_exists` meets its contract. No sequence before i is the one that is asked for. Assumes nothing.
+-- `unit_lines::sequence_exists` meets its contract. No sequence before i is the one that is asked for.
 use Prim.Native.Nat.{_-_}
 use native.Mathlib.Omega.{arith}
 use borrow.Author.Needs.{needs}

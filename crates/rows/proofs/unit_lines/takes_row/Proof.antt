@@ -1,6 +1,6 @@
--- `unit_lines::takes_row` meets its contract. Assumes nothing.
+-- `unit_lines::takes_row` meets its contract.
 use borrow.Author.Needs.{needs}
-use Rattle.rows.proofs.OwnRowLaws.{takes-not, takes-by}
+use Rattle.rows.proofs.unit_lines.OwnRowLaws.{takes-not, takes-by}
 use Rattle.rows.proofs.unit_lines.takes_row.Statement.{statement}
 use Rattle.rows.proofs.unit_lines.takes_row.Tie as tie
 

@@ -1,4 +1,4 @@
--- `build_tables` writes the tables of one sheet behind those of the other, above the room for files. Assumes nothing.
+-- `build_tables` writes the tables of one sheet behind those of the other, above the room for files.
 use borrow.Author.Needs.{needs}
 use Rattle.search_answers.proofs.SearchLaws.{tables-built}
 use Rattle.search_answers.proofs.tables.build_tables.Statement.{statement}

@@ -1,4 +1,4 @@
--- `index_sheet` has room for both tables: the fields of the sheet bound them. Assumes nothing.
+-- `index_sheet` has room for both tables: the fields of the sheet bound them.
 use borrow.Author.Needs.{needs}
 use Rattle.tlv.proofs.PlaceFacts.{placed-start}
 use Rattle.search_answers.proofs.SearchLaws.{units-fit, entries-fit, sheet-indexed}

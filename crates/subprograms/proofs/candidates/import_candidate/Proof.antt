@@ -1,8 +1,8 @@
--- `candidates::import_candidate` meets its contract. Assumes nothing.
+-- `candidates::import_candidate` meets its contract.
 use borrow.Author.Needs.{needs}
 use native.Mathlib.Omega.{arith}
 use lib.Dec.{eqb}
-use Rattle.subprograms.proofs.CandidateLaws.{candidate-tombstone, candidate-live, candidate-dead}
+use Rattle.subprograms.proofs.candidates.CandidateLaws.{candidate-tombstone, candidate-live, candidate-dead}
 use Rattle.subprograms.proofs.candidates.import_candidate.Statement.{statement}
 use Rattle.subprograms.proofs.candidates.import_candidate.Tie as tie
 

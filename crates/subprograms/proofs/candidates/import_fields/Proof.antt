@@ -1,4 +1,4 @@
--- `candidates::import_fields` meets its contract. Assumes nothing.
+-- `candidates::import_fields` meets its contract.
 use borrow.Author.Needs.{needs}
 use native.Mathlib.Omega.{arith}
 use Rattle.subprograms.proofs.RangesLaws.{named-within, reason-short, named-whole, named-none, named-refused, named-after}

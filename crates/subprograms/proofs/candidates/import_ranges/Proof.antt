@@ -1,4 +1,4 @@
--- `candidates::import_ranges` meets its contract. The loop's invariant: whoever imports the ranges from here on has imported all of them. Assumes nothing.
+-- `candidates::import_ranges` meets its contract. The loop's invariant: whoever imports the ranges from here on has imported all of them.
 use borrow.Author.Needs.{needs}
 use mathlib.Core.Path.{_∙_}
 use Prim.Native.Nat.{_+_, _-_}
@@ -6,7 +6,7 @@ use native.Mathlib.Omega.{arith}
 use lib.ListN.{length}
 use Rattle.access.proofs.OwnLaws.{own-less}
 use Rattle.subprograms.specs.Entries.{BeginsAt}
-use Rattle.subprograms.proofs.NextEntryLaws.{begins-here, begins-after}
+use Rattle.subprograms.proofs.candidates.NextEntryLaws.{begins-here, begins-after}
 use Rattle.subprograms.proofs.RangesLaws.{Going, going-start, going-done, going-within, going-refused, going-turn}
 use Rattle.subprograms.proofs.candidates.import_ranges.Statement.{statement}
 use Rattle.subprograms.proofs.candidates.import_ranges.Tie as tie

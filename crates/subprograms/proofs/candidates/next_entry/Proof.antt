@@ -1,9 +1,9 @@
--- `candidates::next_entry` meets its contract. The loop's invariant: the entries from here on are those from place p on. Assumes nothing.
+-- `candidates::next_entry` meets its contract. The loop's invariant: the entries from here on are those from place p on.
 use Prim.Native.Nat.{_-_}
 use lib.ListN.{length}
 use borrow.Author.Needs.{needs}
 use Rattle.tlv.proofs.CursorLaws.{next-less}
-use Rattle.subprograms.proofs.NextEntryLaws.{Seeking, seeking-start, seeking-next}
+use Rattle.subprograms.proofs.candidates.NextEntryLaws.{Seeking, seeking-start, seeking-next}
 use Rattle.subprograms.proofs.candidates.next_entry.Statement.{statement}
 use Rattle.subprograms.proofs.candidates.next_entry.Tie as tie
 

@@ -1,8 +1,8 @@
--- `function_lines::declared_line` meets its contract. Assumes nothing.
+-- `function_lines::declared_line` meets its contract.
 use borrow.Author.Needs.{needs}
 use mathlib.Core.Path.{refl}
 use native.Mathlib.Omega.{arith}
-use Rattle.subprograms.proofs.DeclaredLineLaws.{declaring-in, finds-refused, finds-nothing, finds-line}
+use Rattle.subprograms.proofs.function_lines.DeclaredLineLaws.{declaring-in, finds-refused, finds-nothing, finds-line}
 use Rattle.subprograms.proofs.function_lines.declared_line.Statement.{statement}
 use Rattle.subprograms.proofs.function_lines.declared_line.Tie as tie
 

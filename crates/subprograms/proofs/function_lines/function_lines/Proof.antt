@@ -1,8 +1,8 @@
--- `function_lines::function_lines` meets its contract. Assumes nothing.
+-- `function_lines::function_lines` meets its contract.
 use borrow.Author.Needs.{needs}
 use mathlib.Core.Path.{refl, _∙_}
 use native.Mathlib.Omega.{arith}
-use Rattle.subprograms.proofs.FunctionLineLaws.{finds-unwarned, context-next, rows-within, warned-fits, finds-own, finds-declared}
+use Rattle.subprograms.proofs.function_lines.FunctionLineLaws.{finds-unwarned, context-next, rows-within, warned-fits, finds-own, finds-declared}
 use Rattle.subprograms.proofs.function_lines.function_lines.Statement.{statement}
 use Rattle.subprograms.proofs.function_lines.function_lines.Tie as tie
 

@@ -1,6 +1,6 @@
--- `function_lines::no_sequence` meets its contract. Assumes nothing.
+-- `function_lines::no_sequence` meets its contract.
 use native.Mathlib.Omega.{arith}
-use Rattle.subprograms.proofs.SequenceLaws.{word-within, limit-four, limit-eight}
+use Rattle.subprograms.proofs.function_lines.SequenceLaws.{word-within, limit-four, limit-eight}
 use Rattle.subprograms.proofs.function_lines.no_sequence.Statement.{statement}
 use Rattle.subprograms.proofs.function_lines.no_sequence.Tie as tie
 

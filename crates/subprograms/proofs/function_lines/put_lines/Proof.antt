@@ -1,4 +1,4 @@
--- `function_lines::put_lines` meets its contract. The loop's invariant: who lays the rows from here on has laid all. Assumes nothing.
+-- `function_lines::put_lines` meets its contract. The loop's invariant: who lays the rows from here on has laid all.
 use Prim.Native.Nat.{_-_, _≤_}
 use native.Mathlib.Omega.{arith}
 use lib.ListN.{drop}
@@ -6,7 +6,7 @@ use borrow.Author.Needs.{needs}
 use Rattle.buffers.proofs.BufferLaws.{Left, left-start, left-put, left-done}
 use Rattle.rows.specs.Stored.{entriesOf}
 use Rattle.subprograms.specs.Steps.{linesBytes}
-use Rattle.subprograms.proofs.FunctionLineLaws.{lines-laid, lines-lay}
+use Rattle.subprograms.proofs.function_lines.FunctionLineLaws.{lines-laid, lines-lay}
 use Rattle.subprograms.proofs.function_lines.put_lines.Statement.{statement}
 use Rattle.subprograms.proofs.function_lines.put_lines.Tie as tie
 

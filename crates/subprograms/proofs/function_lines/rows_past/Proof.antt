@@ -1,4 +1,4 @@
--- `function_lines::rows_past` meets its contract. Assumes nothing.
+-- `function_lines::rows_past` meets its contract.
 use borrow.Author.Needs.{needs}
 use native.Mathlib.Omega.{arith}
 use Rattle.subprograms.proofs.LaidPastLaws.{rows-past-test}

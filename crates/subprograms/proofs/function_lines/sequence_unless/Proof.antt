@@ -1,4 +1,4 @@
--- `function_lines::sequence_unless` meets its contract. Assumes nothing.
+-- `function_lines::sequence_unless` meets its contract.
 use borrow.Author.Tests.{eq-eqb, ne-eqb}
 use Rattle.subprograms.proofs.function_lines.sequence_unless.Statement.{statement}
 use Rattle.subprograms.proofs.function_lines.sequence_unless.Tie as tie

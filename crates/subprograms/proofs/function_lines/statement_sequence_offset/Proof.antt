@@ -1,11 +1,11 @@
--- `function_lines::statement_sequence_offset` meets its contract. Assumes nothing.
+-- `function_lines::statement_sequence_offset` meets its contract.
 use mathlib.Core.Path.{sym, ap, _∙_}
 use native.Mathlib.Omega.{arith}
 use borrow.Author.Needs.{needs}
 use Rattle.references.proofs.ReferenceLaws.{entry-next}
 use Rattle.dies.proofs.AttributeReads.{accepted-placed}
 use Rattle.dies.proofs.CallLaws.{entry-read}
-use Rattle.subprograms.proofs.SequenceLaws.{sequenceIn, sequence-read}
+use Rattle.subprograms.proofs.function_lines.SequenceLaws.{sequenceIn, sequence-read}
 use Rattle.subprograms.proofs.function_lines.statement_sequence_offset.Statement.{statement}
 use Rattle.subprograms.proofs.function_lines.statement_sequence_offset.Tie as tie
 

@@ -1,7 +1,7 @@
--- `function_lines::warn_sequence` meets its contract. Assumes nothing.
+-- `function_lines::warn_sequence` meets its contract.
 use native.Mathlib.Omega.{arith}
 use borrow.Author.Needs.{needs}
-use Rattle.subprograms.proofs.SequenceLaws.{warned-unasked, warned-valid, warned-about}
+use Rattle.subprograms.proofs.function_lines.SequenceLaws.{warned-unasked, warned-valid, warned-about}
 use Rattle.subprograms.proofs.function_lines.warn_sequence.Statement.{statement}
 use Rattle.subprograms.proofs.function_lines.warn_sequence.Tie as tie
 

@@ -1,8 +1,8 @@
--- `functions::import_details` meets its contract. Assumes nothing.
+-- `functions::import_details` meets its contract.
 use borrow.Author.Needs.{needs}
 use native.Mathlib.Omega.{arith}
 use Rattle.dies.proofs.CallLaws.{entry-read}
-use Rattle.subprograms.proofs.DetailStepLaws.{context-accepted, details-in, extracts-here, details-refused, details-done}
+use Rattle.subprograms.proofs.functions.DetailStepLaws.{context-accepted, details-in, extracts-here, details-refused, details-done}
 use Rattle.subprograms.proofs.functions.import_details.Statement.{statement}
 use Rattle.subprograms.proofs.functions.import_details.Tie as tie
 

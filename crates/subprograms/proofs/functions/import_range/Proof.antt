@@ -1,9 +1,9 @@
--- `functions::import_range` meets its contract. Assumes nothing.
+-- `functions::import_range` meets its contract.
 use borrow.Author.Needs.{needs}
 use native.Mathlib.Omega.{arith}
 use mathlib.Core.Path.{_∙_}
-use Rattle.subprograms.proofs.SectionStepLaws.{finds-with}
-use Rattle.subprograms.proofs.RangeStepLaws.{range-unlined, lined-context, lined-at, range-imported}
+use Rattle.subprograms.proofs.functions.SectionStepLaws.{finds-with}
+use Rattle.subprograms.proofs.functions.RangeStepLaws.{range-unlined, lined-context, lined-at, range-imported}
 use Rattle.subprograms.proofs.functions.import_range.Statement.{statement}
 use Rattle.subprograms.proofs.functions.import_range.Tie as tie
 

@@ -1,10 +1,10 @@
--- `lists::import_list` meets its contract. The loop's invariant: whoever imports the list from here on has imported all of it. Assumes nothing.
+-- `lists::import_list` meets its contract. The loop's invariant: whoever imports the list from here on has imported all of it.
 use borrow.Author.Needs.{needs}
 use mathlib.Core.Path.{_∙_}
 use Prim.Native.Nat.{_-_}
 use native.Mathlib.Omega.{arith}
 use lib.ListN.{length}
-use Rattle.subprograms.proofs.ListStepLaws.{GoingList, list-start, list-done, list-failed, list-less, list-refused, list-turn}
+use Rattle.subprograms.proofs.lists.ListStepLaws.{GoingList, list-start, list-done, list-failed, list-less, list-refused, list-turn}
 use Rattle.subprograms.proofs.lists.import_list.Statement.{statement}
 use Rattle.subprograms.proofs.lists.import_list.Tie as tie
 

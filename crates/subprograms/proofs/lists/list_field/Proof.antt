@@ -1,4 +1,4 @@
--- `lists::list_field` meets its contract. Assumes nothing.
+-- `lists::list_field` meets its contract.
 use borrow.Author.Needs.{needs}
 use Rattle.subprograms.proofs.EntryRangeLaws.{field-missing}
 use Rattle.subprograms.proofs.lists.list_field.Statement.{statement}

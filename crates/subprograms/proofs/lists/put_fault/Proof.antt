@@ -1,6 +1,6 @@
--- `lists::put_fault` meets its contract. Assumes nothing.
+-- `lists::put_fault` meets its contract.
 use borrow.Author.Needs.{needs}
-use Rattle.subprograms.proofs.ListStepLaws.{fault-digit, fault-digits}
+use Rattle.subprograms.proofs.lists.ListStepLaws.{fault-digit, fault-digits}
 use Rattle.subprograms.proofs.lists.put_fault.Statement.{statement}
 use Rattle.subprograms.proofs.lists.put_fault.Tie as tie
 

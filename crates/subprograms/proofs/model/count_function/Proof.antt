@@ -1,4 +1,4 @@
--- `model::count_function` meets its contract: each count is what `saturating_add` gives. Assumes nothing.
+-- `model::count_function` meets its contract: each count is what `saturating_add` gives.
 use borrow.Author.Needs.{needs}
 use Rattle.subprograms.proofs.model.count_function.Statement.{statement}
 use Rattle.subprograms.proofs.model.count_function.Tie as tie

@@ -1,4 +1,4 @@
--- `model::count_rejected` meets its contract: the count is what `saturating_add` gives. Assumes nothing.
+-- `model::count_rejected` meets its contract: the count is what `saturating_add` gives.
 use borrow.Author.Needs.{needs}
 use Rattle.subprograms.proofs.model.count_rejected.Statement.{statement}
 use Rattle.subprograms.proofs.model.count_rejected.Tie as tie

@@ -1,8 +1,8 @@
--- `text::holds_address` meets its contract. The loop's invariant: whether one of the ranges from here on holds the address is whether one of all does. Assumes nothing.
+-- `text::holds_address` meets its contract. The loop's invariant: whether one of the ranges from here on holds the address is whether one of all does.
 use Prim.Native.Nat.{_-_}
 use native.Mathlib.Omega.{arith}
 use borrow.Author.Needs.{needs}
-use Rattle.subprograms.proofs.TextLaws.{Holding, holding-start, holding-end, holding-low, holding-hit, holding-high}
+use Rattle.subprograms.proofs.text.TextLaws.{Holding, holding-start, holding-end, holding-low, holding-hit, holding-high}
 use Rattle.subprograms.proofs.text.holds_address.Statement.{statement}
 use Rattle.subprograms.proofs.text.holds_address.Tie as tie
 

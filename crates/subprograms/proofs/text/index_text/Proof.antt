@@ -1,10 +1,10 @@
--- `text::index_text` meets its contract. The loop's invariant: what is written and the ranges of the fields that are left are the unit's. Assumes nothing.
+-- `text::index_text` meets its contract. The loop's invariant: what is written and the ranges of the fields that are left are the unit's.
 use Prim.Native.Nat.{_-_, _+_, _*_, _≤_}
 use native.Mathlib.Omega.{arith}
 use lib.ListN.{length}
 use borrow.Author.Needs.{needs}
 use Rattle.access.proofs.OwnLaws.{own-less}
-use Rattle.subprograms.proofs.TextLaws.{TextListing, text-within, listing-start, listing-within, listing-room, listing-turn, listing-done}
+use Rattle.subprograms.proofs.text.TextLaws.{TextListing, text-within, listing-start, listing-within, listing-room, listing-turn, listing-done}
 use Rattle.subprograms.proofs.text.index_text.Statement.{statement}
 use Rattle.subprograms.proofs.text.index_text.Tie as tie
 

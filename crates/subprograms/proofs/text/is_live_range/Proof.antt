@@ -1,7 +1,7 @@
--- `text::is_live_range` meets its contract, a test for each branch. Assumes nothing.
+-- `text::is_live_range` meets its contract, a test for each branch.
 use native.Mathlib.Omega.{arith}
 use borrow.Author.Needs.{needs}
-use Rattle.subprograms.proofs.TextLaws.{live-empty, live-large, live-inside}
+use Rattle.subprograms.proofs.text.TextLaws.{live-empty, live-large, live-inside}
 use Rattle.subprograms.proofs.text.is_live_range.Statement.{statement}
 use Rattle.subprograms.proofs.text.is_live_range.Tie as tie
 

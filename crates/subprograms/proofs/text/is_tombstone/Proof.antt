@@ -1,7 +1,7 @@
--- `text::is_tombstone` meets its contract, by whether the range starts at 0 or is flagged. Assumes nothing.
+-- `text::is_tombstone` meets its contract, by whether the range starts at 0 or is flagged.
 use mathlib.Core.Logic.{inl, inr}
 use borrow.Author.Needs.{needs}
-use Rattle.subprograms.proofs.TextLaws.{tombstone-other, tombstone-zero, tombstone-marked}
+use Rattle.subprograms.proofs.text.TextLaws.{tombstone-other, tombstone-zero, tombstone-marked}
 use Rattle.subprograms.proofs.text.is_tombstone.Statement.{statement}
 use Rattle.subprograms.proofs.text.is_tombstone.Tie as tie
 

@@ -1,4 +1,4 @@
--- `units::import_entry` meets its contract. Assumes nothing.
+-- `units::import_entry` meets its contract.
 use borrow.Author.Needs.{needs}
 use native.Mathlib.Omega.{arith}
 use Rattle.tlv.proofs.PlaceFacts.{slice-bytes}

@@ -1,4 +1,4 @@
--- `units::import_named` meets its contract. Assumes nothing.
+-- `units::import_named` meets its contract.
 use borrow.Author.Needs.{needs}
 use native.Mathlib.Omega.{arith}
 use Rattle.ranges.proofs.InlinedLaws.{list-within, list-word}

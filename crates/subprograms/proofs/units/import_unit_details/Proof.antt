@@ -1,11 +1,11 @@
--- `units::import_unit_details` meets its contract. Assumes nothing.
+-- `units::import_unit_details` meets its contract.
 use borrow.Author.Needs.{needs}
 use mathlib.Core.Path.{_∙_}
 use Prim.Native.Nat.{_-_}
 use native.Mathlib.Omega.{arith}
 use lib.ListN.{length}
 use Rattle.tlv.proofs.CursorLaws.{next-less}
-use Rattle.subprograms.proofs.UnitLaws.{unit-inside, Importing, importing-start, importing-end, importing-cut, importing-unit, importing-passed, subprogram-inside, subprogram-entry, subprogram-here, entry-here, entry-rest, importing-refused, importing-entry}
+use Rattle.subprograms.proofs.units.UnitLaws.{unit-inside, Importing, importing-start, importing-end, importing-cut, importing-unit, importing-passed, subprogram-inside, subprogram-entry, subprogram-here, entry-here, entry-rest, importing-refused, importing-entry}
 use Rattle.subprograms.proofs.units.import_unit_details.Statement.{statement}
 use Rattle.subprograms.proofs.units.import_unit_details.Tie as tie
 

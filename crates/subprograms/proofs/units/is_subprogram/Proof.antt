@@ -1,4 +1,4 @@
--- `units::is_subprogram` meets its contract. Assumes nothing.
+-- `units::is_subprogram` meets its contract.
 use native.Mathlib.Omega.{arith}
 use borrow.Author.Tests.{eq-eqb, ne-eqb}
 use Rattle.subprograms.proofs.units.is_subprogram.Statement.{statement}

@@ -1,4 +1,4 @@
--- `extents::among` meets its contract. The loop's invariant: whether one from here on holds the address is whether one of all does. Assumes nothing.
+-- `extents::among` meets its contract. The loop's invariant: whether one from here on holds the address is whether one of all does.
 use Prim.Native.Nat.{_-_}
 use native.Mathlib.Omega.{arith}
 use borrow.Author.Needs.{needs}

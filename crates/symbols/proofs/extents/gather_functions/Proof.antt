@@ -1,11 +1,11 @@
--- `extents::gather_functions` meets its contract. Assumes nothing.
+-- `extents::gather_functions` meets its contract.
 use Prim.Native.Nat.{_-_}
 use native.Mathlib.Omega.{arith}
 use lib.ListN.{length}
 use borrow.Author.Needs.{needs}
 use Rattle.tlv.proofs.CursorLaws.{next-less, payload-within}
 use Rattle.lookup.proofs.StepLaws.{function-long}
-use Rattle.symbols.proofs.GatherLaws.{Gathering, gathering-start, gathered-short, gathered-end, gathered-cut, gathering-other, gathering-this}
+use Rattle.symbols.proofs.extents.GatherLaws.{Gathering, gathering-start, gathered-short, gathered-end, gathered-cut, gathering-other, gathering-this}
 use Rattle.symbols.proofs.extents.gather_functions.Statement.{statement}
 use Rattle.symbols.proofs.extents.gather_functions.Tie as tie
 

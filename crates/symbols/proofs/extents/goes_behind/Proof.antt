@@ -1,4 +1,4 @@
--- `extents::goes_behind` meets its contract. Assumes nothing.
+-- `extents::goes_behind` meets its contract.
 use mathlib.Core.Bool.{false≢true}
 use borrow.Author.Needs.{needs}
 use Rattle.symbols.proofs.extents.goes_behind.Statement.{statement}

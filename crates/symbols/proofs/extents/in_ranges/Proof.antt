@@ -1,4 +1,4 @@
--- `extents::in_ranges` meets its contract. Assumes nothing.
+-- `extents::in_ranges` meets its contract.
 use Prim.Native.Nat.{_-_}
 use native.Mathlib.Omega.{arith}
 use Rattle.symbols.proofs.SoughtLaws.{Sought, sought-start, sought-none, middle-below, middle-found, middle-above}

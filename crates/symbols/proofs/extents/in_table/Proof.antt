@@ -1,4 +1,4 @@
--- `extents::in_table` meets its contract. Assumes nothing.
+-- `extents::in_table` meets its contract.
 use native.Mathlib.Omega.{arith}
 use borrow.Author.Needs.{needs}
 use Rattle.symbols.proofs.SoughtLaws.{in-first, in-rest}

@@ -1,4 +1,4 @@
--- `extents::settle` meets its contract. Assumes nothing.
+-- `extents::settle` meets its contract.
 use native.Mathlib.Omega.{arith}
 use borrow.Author.Needs.{needs}
 use Rattle.symbols.proofs.ExtentLaws.{reordered-filled, settled}

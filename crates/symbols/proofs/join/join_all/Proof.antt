@@ -1,5 +1,5 @@
 -- `join::join_all` meets its contract: what stands in the result and what is left of the list make the whole, and the tables hold what the records hold.
--- Assumes nothing.
+--
 use mathlib.Core.Path.{_≡_, refl}
 use Prim.Native.Nat.{_-_}
 use lib.ListN.{length, take}
@@ -7,8 +7,8 @@ use borrow.Author.Needs.{needs}
 use Rattle.tlv.proofs.CursorLaws.{next-less, payload-within}
 use Rattle.symbols.specs.Walk.{rangesIn}
 use Rattle.symbols.specs.Extents.{Known}
-use Rattle.symbols.proofs.ResultLaws.{Joins, joins-start, joins-next, joins-short, joins-end, joins-cut, joins-long, joins-small, joins-fits}
-use Rattle.symbols.proofs.ResultLaws.{next-filled, next-known, same-known}
+use Rattle.symbols.proofs.join.ResultLaws.{Joins, joins-start, joins-next, joins-short, joins-end, joins-cut, joins-long, joins-small, joins-fits}
+use Rattle.symbols.proofs.join.ResultLaws.{next-filled, next-known, same-known}
 use Rattle.symbols.proofs.join.join_all.Statement.{statement}
 use Rattle.symbols.proofs.join.join_all.Tie as tie
 

@@ -1,4 +1,4 @@
--- `model::refusal_number` meets its contract. Assumes nothing.
+-- `model::refusal_number` meets its contract.
 use borrow.Author.Needs.{needs}
 use Rattle.symbols.proofs.model.refusal_number.Statement.{statement}
 use Rattle.symbols.proofs.model.refusal_number.Tie as tie

@@ -1,4 +1,4 @@
--- `byte` meets its contract: the byte is below 256, and is the number of one byte at its place. Assumes nothing.
+-- `byte` meets its contract: the byte is below 256, and is the number of one byte at its place.
 use mathlib.Core.Path.{sym}
 use native.Mathlib.Omega.{arith}
 use borrow.Author.Needs.{needs}

@@ -1,4 +1,4 @@
--- `read_u16` meets its contract: two bytes, read one by one, are one number. Assumes nothing.
+-- `read_u16` meets its contract: two bytes, read one by one, are one number.
 use native.Mathlib.Omega.{arith}
 use borrow.Author.Needs.{needs}
 use Rattle.tlv.proofs.WidthLaws.{join}

@@ -1,4 +1,4 @@
--- `read_u32` meets its contract: two halves are one number. Assumes nothing.
+-- `read_u32` meets its contract: two halves are one number.
 use native.Mathlib.Omega.{arith}
 use borrow.Author.Needs.{needs}
 use Rattle.tlv.proofs.WidthLaws.{join}

@@ -1,4 +1,4 @@
--- `read_u8` meets its contract: a byte is the number of one byte at its place. Assumes nothing.
+-- `read_u8` meets its contract: a byte is the number of one byte at its place.
 use mathlib.Core.Path.{sym}
 use borrow.Author.Needs.{needs}
 use Rattle.tlv.proofs.WidthLaws.{leAt-one}

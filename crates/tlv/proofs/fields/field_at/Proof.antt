@@ -1,4 +1,4 @@
--- `fields::field_at` meets its contract: each return is a case of `stepAt`. Assumes nothing.
+-- `fields::field_at` meets its contract: each return is a case of `stepAt`.
 use mathlib.Core.Path.{sym}
 use native.Mathlib.Omega.{arith}
 use borrow.Author.Needs.{needs}

@@ -1,4 +1,4 @@
--- `following::may_follow` meets its contract: at each tag the list that `after` gives. Assumes nothing.
+-- `following::may_follow` meets its contract: at each tag the list that `after` gives.
 use borrow.Author.Tests.{ne-eqb}
 use Rattle.tlv.specs.Grammar.{after, mayFollow}
 use Rattle.tlv.proofs.ShapeLaws.{any-of}

@@ -1,4 +1,4 @@
--- `grammar::check_input` meets its contract. The loop's invariant: the check of all is the check of what is left, in the context so far. Assumes nothing.
+-- `grammar::check_input` meets its contract. The loop's invariant: the check of all is the check of what is left, in the context so far.
 use mathlib.Core.Path.{_≡_, refl}
 use Prim.Native.Nat.{_≤_, _-_}
 use native.Mathlib.Omega.{arith}

@@ -1,4 +1,4 @@
--- `grammar::judge` meets its contract: each return from the tests that led there. Assumes nothing.
+-- `grammar::judge` meets its contract: each return from the tests that led there.
 use borrow.Author.Needs.{needs}
 use Rattle.tlv.proofs.CheckLaws.{payload-held, shaped-held, limited-held, judge-order, judge-shape, judge-count, judge-limit, judge-pass}
 use Rattle.tlv.proofs.grammar.judge.Statement.{statement}

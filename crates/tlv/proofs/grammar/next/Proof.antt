@@ -1,4 +1,4 @@
--- `grammar::next` meets its contract. No sum wraps after a field that has passed. Assumes nothing.
+-- `grammar::next` meets its contract. No sum wraps after a field that has passed.
 use borrow.Author.Needs.{needs}
 use Rattle.tlv.proofs.CheckLaws.{count-fits, units-fit, unit-first, unit-second, unit-third, entry-first, entry-second, unit-fits, entry-fits, next-unit, next-entry, next-other}
 use Rattle.tlv.proofs.grammar.next.Statement.{statement}

@@ -1,4 +1,4 @@
--- `grammar::payload_limited` meets its contract. What is read is in a payload that is shaped. Assumes nothing.
+-- `grammar::payload_limited` meets its contract. What is read is in a payload that is shaped.
 use native.Mathlib.Omega.{arith}
 use borrow.Author.Needs.{needs}
 use borrow.Author.Tests.{ne-eqb}

@@ -1,4 +1,4 @@
--- `grammar::payload_shaped` meets its contract: at each tag that of the test that it calls. Assumes nothing.
+-- `grammar::payload_shaped` meets its contract: at each tag that of the test that it calls.
 use borrow.Author.Needs.{needs}
 use borrow.Author.Tests.{ne-eqb}
 use Rattle.tlv.specs.Grammar.{payloadShaped}

@@ -1,4 +1,4 @@
--- `shapes::attribute_shaped` meets its contract: each return is what the grammar says of the payload. Assumes nothing.
+-- `shapes::attribute_shaped` meets its contract: each return is what the grammar says of the payload.
 use borrow.Author.Needs.{needs}
 use Rattle.tlv.proofs.ShapeLaws.{attribute-not, attribute-is}
 use Rattle.tlv.proofs.shapes.attribute_shaped.Statement.{statement}

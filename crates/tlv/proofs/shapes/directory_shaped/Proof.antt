@@ -1,4 +1,4 @@
--- `shapes::directory_shaped` meets its contract: each return is what the grammar says of the payload. Assumes nothing.
+-- `shapes::directory_shaped` meets its contract: each return is what the grammar says of the payload.
 use borrow.Author.Needs.{needs}
 use Rattle.tlv.proofs.ShapeLaws.{directory-not, directory-is}
 use Rattle.tlv.proofs.shapes.directory_shaped.Statement.{statement}

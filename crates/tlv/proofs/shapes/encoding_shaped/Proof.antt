@@ -1,4 +1,4 @@
--- `shapes::encoding_shaped` meets its contract: each return is what the grammar says of the payload. Assumes nothing.
+-- `shapes::encoding_shaped` meets its contract: each return is what the grammar says of the payload.
 use borrow.Author.Needs.{needs}
 use Rattle.tlv.proofs.ShapeLaws.{encoding-not, encoding-is}
 use Rattle.tlv.proofs.shapes.encoding_shaped.Statement.{statement}

@@ -1,4 +1,4 @@
--- `shapes::entry_shaped` meets its contract: each return is what the grammar says of the payload. Assumes nothing.
+-- `shapes::entry_shaped` meets its contract: each return is what the grammar says of the payload.
 use borrow.Author.Needs.{needs}
 use Rattle.tlv.proofs.ShapeLaws.{entry-not, entry-is}
 use Rattle.tlv.proofs.shapes.entry_shaped.Statement.{statement}

@@ -1,4 +1,4 @@
--- `shapes::failure_shaped` meets its contract: each return is what the grammar says of the payload. Assumes nothing.
+-- `shapes::failure_shaped` meets its contract: each return is what the grammar says of the payload.
 use borrow.Author.Needs.{needs}
 use Rattle.tlv.proofs.ShapeLaws.{failure-not, failure-is}
 use Rattle.tlv.proofs.shapes.failure_shaped.Statement.{statement}

@@ -1,4 +1,4 @@
--- `shapes::file_shaped` meets its contract: each return is what the grammar says of the payload. Assumes nothing.
+-- `shapes::file_shaped` meets its contract: each return is what the grammar says of the payload.
 use borrow.Author.Needs.{needs}
 use Rattle.tlv.proofs.ShapeLaws.{file-not, file-is}
 use Rattle.tlv.proofs.shapes.file_shaped.Statement.{statement}

@@ -1,4 +1,4 @@
--- `shapes::header_shaped` meets its contract: each return is what the grammar says of the payload. Assumes nothing.
+-- `shapes::header_shaped` meets its contract: each return is what the grammar says of the payload.
 use borrow.Author.Needs.{needs}
 use Rattle.tlv.proofs.ShapeLaws.{header-not, header-is}
 use Rattle.tlv.proofs.shapes.header_shaped.Statement.{statement}

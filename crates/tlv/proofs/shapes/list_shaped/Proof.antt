@@ -1,4 +1,4 @@
--- `shapes::list_shaped` meets its contract: each return is what the grammar says of the payload. Assumes nothing.
+-- `shapes::list_shaped` meets its contract: each return is what the grammar says of the payload.
 use borrow.Author.Needs.{needs}
 use Rattle.tlv.proofs.ShapeLaws.{list-not, list-is}
 use Rattle.tlv.proofs.shapes.list_shaped.Statement.{statement}

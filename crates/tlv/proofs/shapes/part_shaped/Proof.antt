@@ -1,4 +1,4 @@
--- `shapes::part_shaped` meets its contract: each return is what the grammar says of the payload. Assumes nothing.
+-- `shapes::part_shaped` meets its contract: each return is what the grammar says of the payload.
 use borrow.Author.Needs.{needs}
 use Rattle.tlv.proofs.ShapeLaws.{part-not, part-past, part-is}
 use Rattle.tlv.proofs.shapes.part_shaped.Statement.{statement}

@@ -1,4 +1,4 @@
--- `shapes::range_shaped` meets its contract: each return is what the grammar says of the payload. Assumes nothing.
+-- `shapes::range_shaped` meets its contract: each return is what the grammar says of the payload.
 use borrow.Author.Needs.{needs}
 use Rattle.tlv.proofs.ShapeLaws.{range-not, range-is}
 use Rattle.tlv.proofs.shapes.range_shaped.Statement.{statement}

@@ -1,4 +1,4 @@
--- `shapes::row_shaped` meets its contract: each return is what the grammar says of the payload. Assumes nothing.
+-- `shapes::row_shaped` meets its contract: each return is what the grammar says of the payload.
 use borrow.Author.Needs.{needs}
 use Rattle.tlv.proofs.ShapeLaws.{row-encoded, row-not, row-is}
 use Rattle.tlv.proofs.shapes.row_shaped.Statement.{statement}

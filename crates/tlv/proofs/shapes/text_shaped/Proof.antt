@@ -1,4 +1,4 @@
--- `shapes::text_shaped` meets its contract: each return is what the grammar says of the payload. Assumes nothing.
+-- `shapes::text_shaped` meets its contract: each return is what the grammar says of the payload.
 use Rattle.tlv.proofs.ShapeLaws.{text-is}
 use Rattle.tlv.proofs.shapes.text_shaped.Statement.{statement}
 use Rattle.tlv.proofs.shapes.text_shaped.Tie as tie

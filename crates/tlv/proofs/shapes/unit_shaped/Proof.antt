@@ -1,4 +1,4 @@
--- `shapes::unit_shaped` meets its contract: each return is what the grammar says of the payload. Assumes nothing.
+-- `shapes::unit_shaped` meets its contract: each return is what the grammar says of the payload.
 use borrow.Author.Needs.{needs}
 use Rattle.tlv.proofs.ShapeLaws.{unit-not, unit-is}
 use Rattle.tlv.proofs.shapes.unit_shaped.Statement.{statement}

@@ -1,4 +1,4 @@
--- `shapes::value_shaped` meets its contract. Assumes nothing.
+-- `shapes::value_shaped` meets its contract.
 use borrow.Author.Tests.{ne-eqb}
 use Rattle.tlv.specs.Grammar.{valueShaped}
 use Rattle.tlv.proofs.shapes.value_shaped.Statement.{statement}

@@ -1,4 +1,4 @@
--- The cycle of calls {resolve, resolve_reference, resolve_absolute} ends: thrice 64 less the depth falls, and 1 or 2 more. Assumes nothing.
+-- The cycle of calls {resolve, resolve_reference, resolve_absolute} ends: thrice 64 less the depth falls, and 1 or 2 more.
 use Prim.Native.Nat.{ℕ, _<_, _+_, _*_, _-_}
 use borrow.Fn.Kinds.{In}
 use borrow.Fn.PlainCycle.{Measures, is, falls, and}

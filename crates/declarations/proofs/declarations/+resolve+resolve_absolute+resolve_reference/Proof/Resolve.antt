@@ -1,4 +1,4 @@
--- The cycle of calls of the declaration search: what `resolve` asks. Assumes nothing.
+-- The cycle of calls of the declaration search: what `resolve` asks.
 use Prim.Native.Nat.{ℕ}
 use borrow.Author.Needs.{needs}
 use native.Mathlib.Omega.{arith}

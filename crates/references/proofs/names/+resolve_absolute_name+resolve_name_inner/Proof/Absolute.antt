@@ -1,4 +1,4 @@
--- The cycle of resolve_name_inner and resolve_absolute_name: what `resolve_absolute_name` asks. Assumes nothing.
+-- The cycle of resolve_name_inner and resolve_absolute_name: what `resolve_absolute_name` asks.
 use Prim.Native.Nat.{ℕ}
 use borrow.Author.Needs.{needs}
 use native.Mathlib.Omega.{arith}

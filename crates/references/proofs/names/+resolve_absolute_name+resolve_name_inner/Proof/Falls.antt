@@ -1,4 +1,4 @@
--- The cycle of resolve_name_inner and resolve_absolute_name: twice 64 less the depth, and one more for an offset, falls; what their calls say; and the loop. Assumes nothing.
+-- The cycle of resolve_name_inner and resolve_absolute_name: twice 64 less the depth, and one more for an offset, falls; what their calls say; and the loop.
 use Prim.Native.Nat.{ℕ, _<_, _+_, _*_, _-_}
 use borrow.Fn.Kinds.{In}
 use borrow.Fn.PlainCycle.{Measures, is, falls, and}

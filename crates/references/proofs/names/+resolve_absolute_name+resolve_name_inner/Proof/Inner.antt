@@ -1,4 +1,4 @@
--- The cycle of resolve_name_inner and resolve_absolute_name: what `resolve_name_inner` asks. Assumes nothing.
+-- The cycle of resolve_name_inner and resolve_absolute_name: what `resolve_name_inner` asks.
 use Prim.Native.Nat.{ℕ}
 use borrow.Author.Needs.{needs}
 use native.Mathlib.Omega.{arith}

@@ -1,0 +1,2 @@
+mod AttributeLaws
+mod RowLaws

@@ -1,0 +1,2 @@
+mod FinishLaws
+mod StoreLaws

@@ -1,0 +1,2 @@
+mod TableConvertLaws
+mod TableSequenceLaws

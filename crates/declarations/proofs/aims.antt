@@ -1,0 +1,2 @@
+mod AimLaws
+mod JoinLaws

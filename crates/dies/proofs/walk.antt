@@ -1,0 +1,2 @@
+mod CollectLaws
+mod CollectingLaws

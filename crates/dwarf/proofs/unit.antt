@@ -1,0 +1,2 @@
+mod UnitContextLaws
+mod UnitStepLaws

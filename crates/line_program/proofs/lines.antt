@@ -1,0 +1,2 @@
+mod OffsetLaws
+mod ScanLaws

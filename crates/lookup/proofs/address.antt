@@ -1,0 +1,2 @@
+mod ChainWalkLaws
+mod WalkLaws

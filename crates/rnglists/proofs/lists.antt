@@ -1,0 +1,2 @@
+mod MeaningLaws
+mod NextLaws

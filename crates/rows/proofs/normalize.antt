@@ -1,0 +1,2 @@
+mod DropLaws
+mod SameLaws

@@ -1,0 +1,2 @@
+mod CandidateLaws
+mod NextEntryLaws

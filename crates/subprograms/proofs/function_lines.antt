@@ -1,0 +1,3 @@
+mod DeclaredLineLaws
+mod FunctionLineLaws
+mod SequenceLaws

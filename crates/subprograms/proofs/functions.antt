@@ -1,0 +1,3 @@
+mod DetailStepLaws
+mod RangeStepLaws
+mod SectionStepLaws

@@ -1,0 +1,2 @@
+mod AnswerLaws
+mod ResultLaws
