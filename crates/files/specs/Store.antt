@@ -23,7 +23,7 @@ use Rattle.files.specs.Pieces.{sourceIn, spanOf, fileIn, PiecesIn}
 use Rattle.files.specs.Hash.{modulus, hashOf}
 use Rattle.files.specs.Possible.{possibleFiles, Possible}
 
--- ---- a record: 41 bytes, four spans of 8, the source 1, the hash 4, the link 4
+-- ---- a record: four spans of 8, the source 1, the hash 4, the link 4
 
 unfoldable pub piecesOf : List ℕ → FilePieces
 piecesOf b = record {
@@ -50,12 +50,6 @@ abbrev pub byteOf : DebugSource → ℕ
 byteOf DebugSource.Main = 0
 byteOf DebugSource.Supplementary = 1
 
--- a record stands at p: its pieces are strings of its sheet, and its hash is its file's
-pub record StoredAt (main supplementary w : List ℕ) (p : ℕ) : Type 0 where
-  pub within : p + 41 ≤ length w
-  pub pieces : PiecesIn (sourceIn main supplementary (sourceOf (chunk w p 41))) (piecesOf (chunk w p 41))
-  pub hashed : storedHash (chunk w p 41) ≡ hashOf (storedFile main supplementary (chunk w p 41))
-
 -- bytes of a bucket's head, of a file's record, and of both
 abbrev pub fileHead : ℕ
 fileHead = 4
@@ -65,6 +59,12 @@ fileBody = 41
 
 abbrev pub fileRecord : ℕ
 fileRecord = fileHead + fileBody
+
+-- a record stands at p: its pieces are strings of its sheet, and its hash is its file's
+pub record StoredAt (main supplementary w : List ℕ) (p : ℕ) : Type 0 where
+  pub within : p + fileBody ≤ length w
+  pub pieces : PiecesIn (sourceIn main supplementary (sourceOf (chunk w p fileBody))) (piecesOf (chunk w p fileBody))
+  pub hashed : storedHash (chunk w p fileBody) ≡ hashOf (storedFile main supplementary (chunk w p fileBody))
 
 -- ---- the table: a head for each bucket, as many records, and room to join a path
 
@@ -82,10 +82,10 @@ abbrev pub recordIn : List ℕ → StoredFiles → ℕ → List ℕ
 recordIn w t i = chunk w (recordsFrom t + i * fileBody) fileBody
 
 unfoldable pub entriesOf : List ℕ → List ℕ → List ℕ → StoredFiles → List FileEntry
-entriesOf main supplementary w t = records (storedFile main supplementary) 41 w (recordsFrom t) (t .count)
+entriesOf main supplementary w t = records (storedFile main supplementary) fileBody w (recordsFrom t) (t .count)
 
 unfoldable pub hashesOf : List ℕ → StoredFiles → List ℕ
-hashesOf w t = records storedHash 41 w (recordsFrom t) (t .count)
+hashesOf w t = records storedHash fileBody w (recordsFrom t) (t .count)
 
 -- one more than the last of the first n places whose hash falls into bucket b of m; 0 for none
 unfoldable pub lastIn : ℕ → ℕ → List ℕ → ℕ → ℕ
@@ -128,11 +128,11 @@ pub record PutPieces (w w′ : List ℕ) (at : ℕ) (p : FilePieces) : Type 0 wh
 
 -- a record was written
 pub record PutFile (w w′ : List ℕ) (at : ℕ) (source : DebugSource) (p : FilePieces) (hash link : ℕ) : Type 0 where
-  pub pieces : piecesOf (chunk w′ at 41) ≡ p
-  pub source-is : sourceOf (chunk w′ at 41) ≡ source
-  pub hashed : storedHash (chunk w′ at 41) ≡ hash
-  pub linked : storedLink (chunk w′ at 41) ≡ link
-  pub rest : Kept w w′ at 41
+  pub pieces : piecesOf (chunk w′ at fileBody) ≡ p
+  pub source-is : sourceOf (chunk w′ at fileBody) ≡ source
+  pub hashed : storedHash (chunk w′ at fileBody) ≡ hash
+  pub linked : storedLink (chunk w′ at fileBody) ≡ link
+  pub rest : Kept w w′ at fileBody
 
 -- where the head of a hash's chain stands
 abbrev pub headFrom : StoredFiles → ℕ → ℕ
@@ -145,7 +145,7 @@ pub record Linked (w w′ : List ℕ) (t : StoredFiles) (source : DebugSource) (
   pub hashed : storedHash (recordIn w′ t (t .count)) ≡ hash
   pub linked : storedLink (recordIn w′ t (t .count)) ≡ leAt 4 w (headFrom t hash)
   pub head : leAt 4 w′ (headFrom t hash) ≡ t .count + 1
-  pub rest : KeptBut w w′ ((recordsFrom t + t .count * 41, 41) ∷ (headFrom t hash, 4) ∷ [])
+  pub rest : KeptBut w w′ ((recordsFrom t + t .count * fileBody, fileBody) ∷ (headFrom t hash, fileHead) ∷ [])
 
 -- a file's directory was laid, and its hash is this
 pub record LaidAt (w w′ : List ℕ) (at : ℕ) (e : FileEntry) (r : LaidHash) : Type 0 where

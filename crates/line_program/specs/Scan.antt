@@ -18,13 +18,6 @@ use Rattle.line_program.specs.Program.{uleb, operandKinds}
 
 -- ---- an operand
 
--- bytes of an offset in the table, and the fewest bytes of a program that end a sequence
-abbrev pub offsetRecord : ℕ
-offsetRecord = 8
-
-abbrev pub sequenceLeast : ℕ
-sequenceLeast = 3
-
 -- what an operand that the code hands out means
 abbrev pub operandOf : List ℕ → Operand → Outcome Number
 operandOf s (Operand.Value v next) = done (record { value = v; rest = drop next s })
@@ -65,6 +58,13 @@ pub record Passes (s : List ℕ) (at : ℕ) (r : Skipped) (o : Outcome Passed) :
   pub within : PassedWithin s at r
 
 -- ---- sequences
+
+-- bytes of an offset in the table, and the fewest bytes of a program that end a sequence
+abbrev pub offsetRecord : ℕ
+offsetRecord = 8
+
+abbrev pub sequenceLeast : ℕ
+sequenceLeast = 3
 
 -- the table of n offsets
 abbrev pub offsetsAt : List ℕ → ℕ → ℕ → List ℕ
