@@ -70,6 +70,7 @@ RowOrEnd t = Any (λ x. t ≡ x) (0x10 ∷ 0x16 ∷ 0x17 ∷ [])
 row_is : (t : ℕ) → RowOrEnd t → is_own t ≡ true → t ≡ 0x16
 row_is t (inl e) own = absurd (false≢true (rw e at own))
 row_is t (inr (inl e)) own = e
+row_is t (inr (inr (inr x4))) own = elim x4 [ ]
 row_is t (inr (inr (inl e))) own = absurd (false≢true (rw e at own))
 
 passing-rows : (tag : ℕ) → (tag ≡ 0x16 → ⊥) → Passing tag RowOrEnd

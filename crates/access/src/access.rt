@@ -15,7 +15,7 @@ use tlv::shapes::{ROW_FIELD, ROW_WHOLE};
 use tlv::tags::{ATTRIBUTE_TAG, ENTRY_TAG, LIST_TAG, ROW_TAG, UNIT_TAG};
 
 // A field of an entry, or of a unit before its first entry.
-#[derive(Drop)]
+#[derive(Clone, Copy)]
 pub enum Own {
     // Its payload is the `len` bytes from `start` on, and `next` is past it.
     Field {
@@ -124,7 +124,7 @@ pub fn next_row(s: &[u8], p: usize) -> Own
 }
 
 // The value of an attribute.
-#[derive(Drop)]
+#[derive(Clone, Copy)]
 pub enum Value {
     Absent,
     Unsigned(u64),
@@ -211,7 +211,7 @@ pub fn attribute(s: &[u8], p: usize, name: u16) -> Value
 }
 
 // A place of a sheet.
-#[derive(Drop)]
+#[derive(Clone, Copy)]
 pub enum Place {
     At(usize),
     Missing,

@@ -68,7 +68,7 @@ pub fn index_entries(s: &[u8], work: &mut [u8], base: usize) -> usize
     }
 }
 
-#[derive(Drop)]
+#[derive(Clone, Copy)]
 pub enum Found {
     At { place: usize, unit: usize },
     Missing,

@@ -141,7 +141,7 @@ fn put_head(buffer: &mut [u8], at: usize, tag: u8, size: u16) -> usize
 // 40 file: directory length 2 bytes, directory, basename.
 pub fn put_file(buffer: &mut [u8], at: usize, directory: &[u8], basename: &[u8]) -> usize
     requires { 2 + length directory.now + length basename.now < 65536 }
-    ensures { Put at (encode tray_file_tag (file_payload (record { directory = directory.entry.now; basename = basename.now })))
+    ensures { Put at (encode tray_file_tag (file_payload (record { directory = directory.now; basename = basename.now })))
         buffer.old buffer.new result }
 {
     let headed = put_head(

@@ -10,7 +10,7 @@ use lib.Seq.{drop-drop, get_or-drop, length-take-le}
 use borrow.Author.Tests.{le-leb, lt-leb, lt-ltb, le-ltb, eq-eqb, ne_eqb}
 use Rattle.tlv.specs.declared.fields.Step.{Step}
 use Rattle.tlv.specs.Bytes.{le, le_at}
-use Rattle.tlv.specs.Fields.{Field, FieldList, end, cut, more, fields_from, fields, whole_fields, payloads}
+use Rattle.tlv.specs.Fields.{FieldList, end, cut, more, fields_from, fields, whole_fields, payloads}
 use Rattle.tlv.specs.Cursor.{step_at, fields_of}
 
 -- ---- the four cases of a step, each from the tests that lead there

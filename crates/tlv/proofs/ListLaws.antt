@@ -22,11 +22,13 @@ module _ {A : Type 0} where
   all-each (x ∷ xs) f = (f x, all-each xs f)
 
   pub any_map : {P Q : A → Type 0} (xs : List A) → ((x : A) → P x → Q x) → Any P xs → Any Q xs
+  any_map {P = P} {Q = Q} [] f x'' = elim x'' [ ]
   any_map (x ∷ xs) f (inl p) = inl (f x p)
   any_map (x ∷ xs) f (inr p) = inr (any_map xs f p)
 
   -- what follows of the one that is so, where another thing holds of all
   pub any_one : {C : Type 0} {P Q : A → Type 0} (xs : List A) → ((x : A) → P x → Q x → C) → All P xs → Any Q xs → C
+  any_one {C = C} {P = P} {Q = Q} [] f h x3 = elim x3 [ ]
   any_one (x ∷ xs) f h (inl q) = f x h.0 q
   any_one (x ∷ xs) f h (inr q) = any_one xs f h.1 q
 
@@ -58,6 +60,7 @@ module _ {A : Type 0} (P : A → Type 0) where
   all_set (y ∷ ys) (suc n) x p h = (h.0, all_set ys n x p h.1)
 
   pub any_some : (xs : List A) → Any P xs → xs ≢ []
+  any_some [] h = elim h [ ]
   any_some (x ∷ xs) h = cons≢nil
 
   pub some-any : (xs : List A) → All P xs → xs ≢ [] → Any P xs

@@ -19,6 +19,7 @@ module _ {A : Type 0} (P : A → Type 0) where
   all_get_d (x ∷ xs) (suc n) d h l = all_get_d xs n d h.1 (omega arith)
 
   pub any_get_or : (xs : List A) (d : A) → Any P xs → (n : ℕ) × (n < length xs) × P (get_or xs n d)
+  any_get_or [] d x' = elim x' [ ]
   any_get_or (x ∷ xs) d (inl p) = (0, omega arith, p)
   any_get_or (x ∷ xs) d (inr p) = let t = any_get_or xs d p in (suc t.0, omega arith, t.2)
 

@@ -4,7 +4,7 @@ ghost use Rattle.tlv.specs.Cursor.{step_at};
 
 use crate::bytes::read_u16;
 
-#[derive(Drop)]
+#[derive(Clone, Copy)]
 pub enum Step {
     // A whole field: its payload is the `len` bytes from `start` on, and `next` is past it.
     Field {

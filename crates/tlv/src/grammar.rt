@@ -26,7 +26,7 @@ const REASON_LIMIT: usize = 4096;
 const DEPTH_LIMIT: u16 = 1024;
 
 // What the fields so far leave to check the next one against.
-#[derive(Drop)]
+#[derive(Clone, Copy)]
 pub struct Context {
     pub previous: u8, // the tag of the last field, 0 before the first
     pub count: u64, // fields so far
@@ -141,7 +141,7 @@ pub fn next(c: Context, tag: u8, s: &[u8], start: usize, len: usize) -> Context
 }
 
 // What becomes of one field.
-#[derive(Drop)]
+#[derive(Clone, Copy)]
 pub enum Judged {
     Passed(Context),
     Misshapen,
@@ -168,7 +168,7 @@ fn judge(c: Context, tag: u8, s: &[u8], start: usize, len: usize) -> Judged
 }
 
 // What becomes of an input (document 01: a sheet): the number of its fields, or why not.
-#[derive(Drop)]
+#[derive(Clone, Copy)]
 pub enum Checked {
     Accepted(u64),
     Misshapen,

@@ -1,4 +1,6 @@
 // Type-length-value fields: the grammar of a sheet, and what its fields say.
+#![tactic(auto)]
+
 pub mod bytes;
 pub mod constants;
 pub mod fields;

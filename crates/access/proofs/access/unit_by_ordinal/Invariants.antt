@@ -1,0 +1,14 @@
+-- `access::unit_by_ordinal` meets its contract. The loop's invariant: the unit that is looked for has the number `left` among those from p on.
+use mathlib.Core.Path.{◌≡◌}
+use Prim.Native.Nat.{◌-◌}
+use lib.ListN.{length, drop}
+use Rattle.tlv.specs.Lists.{at}
+use Rattle.tlv.specs.Fields.{fields}
+use Rattle.access.specs.Places.{unit_places}
+use Rattle.access.proofs.access.unit_by_ordinal.Given as goal
+
+abbrev pub invariant-loop-t : goal.invariant-loop-t
+invariant-loop-t l = at (unit_places 0 (fields l.s)) l.ordinal ≡ at (unit_places l.p (fields (drop l.p l.s))) l.left
+
+abbrev pub decreases-loop-t : goal.decreases-loop-t
+decreases-loop-t l = length l.s - l.p
