@@ -133,6 +133,7 @@ own-few t g = omega (arith, grouped-few t 0x17 g.rest)
 -- ---- the unit at a place
 
 image_one : {A B : Type 0} (P : B → Type 0) (f : A → B) (a : A) (xs : List A) → All P (map f xs) → Any (λ x. x ≡ a) xs → P (f a)
+image_one {A = A} {B = B} P f a [] h x'' = elim x'' [ ]
 image_one P f a (x ∷ xs) h (inl e) = rw e at h.0
 image_one P f a (x ∷ xs) h (inr k) = image_one P f a xs h.1 k
 

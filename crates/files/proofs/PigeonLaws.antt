@@ -10,17 +10,20 @@ use Rattle.tlv.specs.Lists.{Any}
 module _ {A : Type 0} where
   -- a list without an element that stands in it
   without : (x : A) (l : List A) → Any (λ y. x ≡ y) l → List A
+  without x mathlib.Core.List.[] x'' = elim x'' [ ]
   without x (y ∷ l) (inl e) = l
   without x (y ∷ l) (inr k) = y ∷ without x l k
 
   without-length : (x : A) (l : List A) (k : Any (λ y. x ≡ y) l) → length l ≡ suc (length (without x l k))
   unfolding without
+  without-length x mathlib.Core.List.[] k = elim k [ ]
   without-length x (y ∷ l) (inl e) = omega arith
   without-length x (y ∷ l) (inr k) = let ih = without-length x l k in omega arith
 
   -- every other one still stands in it
   without_other : (x z : A) (l : List A) (k : Any (λ y. x ≡ y) l) → (z ≡ x → ⊥) → Any (λ y. z ≡ y) l → Any (λ y. z ≡ y) (without x l k)
   unfolding without
+  without_other x z mathlib.Core.List.[] k ne _ = elim k [ ]
   without_other x z (y ∷ l) (inl e) ne (inl f) = absurd (ne (f ∙ sym e))
   without_other x z (y ∷ l) (inl e) ne (inr m) = m
   without_other x z (y ∷ l) (inr k) ne (inl f) = inl f

@@ -13,7 +13,7 @@ use tlv::model::DebugSource;
 use tlv::tags::{FILE_TAG, UNIT_WHOLE};
 
 // The table with a header's files in it, and how many numbers the unit's map has; or why one was refused.
-#[derive(Drop)]
+#[derive(Clone, Copy)]
 pub enum InternedFiles {
     Refused(u8),
     Indices { table: StoredFiles, count: usize },

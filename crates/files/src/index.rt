@@ -7,18 +7,18 @@ ghost use Rattle.files.specs.Indices.{indices_in, number_of, PutIndex, Inserted,
 pub const INDEX_RECORD: usize = 5;
 
 // One of DWARF's own file numbers; not a number of the import's file table.
-#[derive(Drop)]
+#[derive(Clone, Copy)]
 pub struct FileNumber(pub u64);
 
 // Where the map stands in the work slice.
-#[derive(Drop)]
+#[derive(Clone, Copy)]
 pub struct StoredIndices {
     pub base: usize,
     pub count: usize,
 }
 
 // The table's number of a file.
-#[derive(Drop)]
+#[derive(Clone, Copy)]
 pub enum FoundIndex {
     Number(tlv::model::FileIndex),
     Missing,

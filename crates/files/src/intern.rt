@@ -15,7 +15,7 @@ use tlv::model::DebugSource;
 use tlv::tags::FILE_TAG;
 
 // The table with a file in it and the file's number; that the file has no path; or why it was refused.
-#[derive(Drop)]
+#[derive(Clone, Copy)]
 pub enum InternedFile {
     Refused(u8),
     Unnamed,

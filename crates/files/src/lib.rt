@@ -1,4 +1,6 @@
 // The file table of an import in the work slice, and a unit's files in it.
+#![tactic(auto)]
+
 pub mod hash;
 pub mod header;
 pub mod index;

@@ -10,7 +10,7 @@ ghost use Rattle.files.specs.Pieces.{span_in, file_in, SpanIn, PiecesIn, header_
 use crate::spans::{FileUnit, SPAN_RECORD, Span};
 
 // A file's path: its name is `base`; its directory is joined from the others, which may be empty.
-#[derive(Drop)]
+#[derive(Clone, Copy)]
 pub struct FilePieces {
     pub compilation: Span,
     pub directory: Span,
@@ -19,7 +19,7 @@ pub struct FilePieces {
 }
 
 // A header's file: one that could not be read, one that has no path, or its pieces.
-#[derive(Drop)]
+#[derive(Clone, Copy)]
 pub enum Named {
     Failed,
     Unnamed,
@@ -27,14 +27,14 @@ pub enum Named {
 }
 
 // A directory of a unit: one that could not be read, or its span; an empty one where it is not there.
-#[derive(Drop)]
+#[derive(Clone, Copy)]
 pub enum NamedDirectory {
     Failed,
     Path(Span),
 }
 
 // The two parts of a path: its directory and its name.
-#[derive(Drop)]
+#[derive(Clone, Copy)]
 pub struct PathParts {
     pub own: Span,
     pub base: Span,

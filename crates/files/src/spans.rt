@@ -13,7 +13,7 @@ use tlv::tags::{COMPILATION_TAG, DIRECTORY_TAG, HEADER_TAG, UNIT_WHOLE};
 pub const SPAN_RECORD: usize = 8;
 
 // A stretch of a sheet.
-#[derive(Drop)]
+#[derive(Clone, Copy)]
 pub struct Span {
     pub start: usize,
     pub len: usize,
@@ -21,7 +21,7 @@ pub struct Span {
 
 // What of a unit tells the paths of its files: its place, its line header's version, its compilation directory,
 // and a table of its directories' spans in the work slice.
-#[derive(Drop)]
+#[derive(Clone, Copy)]
 pub struct FileUnit {
     pub place: usize,
     pub version: u8,

@@ -27,7 +27,7 @@ pub const JOINED_LIMIT: usize = 3 * STRING_LIMIT + 2;
 
 // The table: the number of its first file, where it stands in the work slice, how many files it has room for and has,
 // and how many bytes were written to the files tray.
-#[derive(Drop)]
+#[derive(Clone, Copy)]
 pub struct StoredFiles {
     pub first: u32,
     pub base: usize,
@@ -37,14 +37,14 @@ pub struct StoredFiles {
 }
 
 // The place of a file in the table.
-#[derive(Drop)]
+#[derive(Clone, Copy)]
 pub enum FoundFile {
     At(usize),
     Missing,
 }
 
 // The table with a file in it and the file's number, or that the numbers are used up.
-#[derive(Drop)]
+#[derive(Clone, Copy)]
 pub enum AddedFile {
     Number {
         table: StoredFiles,
@@ -54,7 +54,7 @@ pub enum AddedFile {
 }
 
 // The length of a directory that was laid, and the hash of its file.
-#[derive(Drop)]
+#[derive(Clone, Copy)]
 pub struct LaidHash {
     pub n: usize,
     pub hash: u64,

@@ -1,7 +1,6 @@
 -- E2's cases, by computing.
 use mathlib.Core.Path.{refl}
 use Rattle.tlv.specs.Outcome.{◌>>=◌}
-use Rattle.line_program.specs.Standard
 use Rattle.line_program.specs.Program
 use Rattle.line_program.specs.SignedCases.{SignedCases}
 

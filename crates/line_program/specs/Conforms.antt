@@ -2,7 +2,6 @@
 use Rattle.std.specs.Prelude.{ℕ, zero, suc, ◌+◌, ◌-◌, ◌%◌, ◌^◌, ◌≤◌, ◌<◌, ◌≡◌, ◌↔◌, ◌⊎◌, ◌≢◌, true, false, List, [], ◌∷◌, length, get_or}
 use Rattle.std.proofs.Math.Option.{Option, none, some}
 use Rattle.tlv.specs.Outcome.{Outcome, refused, done}
-use Rattle.tlv.specs.Lists.{same}
 use Rattle.line_program.specs.Standard.{Operand, leb128, SignedOperand, sleb128, OperandKind, unsigned, signed, half, standard_operands}
 use Rattle.line_program.specs.Standard.{Opcodes, declared, operands_of, after_operand, Passed, instruction, sequences}
 use Rattle.line_program.specs.Program.{uleb, is_sign, sleb, bare, place_of, skip, scan_line_sequence_offsets}

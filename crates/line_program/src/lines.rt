@@ -12,7 +12,7 @@ pub const OFFSET_RECORD: usize = 8;
 pub const SEQUENCE_LEAST: usize = 3;
 
 // What a line header says of its place and its opcodes; the opcode lengths are a slice of their own.
-#[derive(Drop)]
+#[derive(Clone, Copy)]
 pub struct Header {
     pub offset: u64,
     pub header_length: u64,
@@ -22,7 +22,7 @@ pub struct Header {
 }
 
 // How many sequences a program has, or the fault.
-#[derive(Drop)]
+#[derive(Clone, Copy)]
 pub enum Scan {
     Count(usize),
     Fault(u8),
@@ -148,7 +148,7 @@ pub fn scan_line_sequence_offsets(
 }
 
 // Where a program begins, or that it begins past the last number.
-#[derive(Drop)]
+#[derive(Clone, Copy)]
 pub enum Offset {
     At(u64),
     Past,

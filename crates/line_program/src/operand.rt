@@ -5,14 +5,14 @@ ghost use Rattle.line_program.specs.Program.{is_sign, counted_kinds, skip_operan
 ghost use Rattle.line_program.specs.Scan.{Reads, Passes, over};
 
 // An operand: its value and the place after it, or the fault.
-#[derive(Drop)]
+#[derive(Clone, Copy)]
 pub enum Operand {
     Value { value: u64, next: usize },
     Fault(u8),
 }
 
 // An instruction that was passed over, with the place after it.
-#[derive(Drop)]
+#[derive(Clone, Copy)]
 pub enum Skipped {
     To(usize),
     Ended(usize),

@@ -1,0 +1,12 @@
+-- `header::intern_files` meets its contract. The loop's invariant: what is left to intern, after the map so far, gives what was asked; the measure is what is
+-- left of the sheet.
+use Prim.Native.Nat.{◌-◌}
+use lib.ListN.{length}
+use Rattle.files.proofs.InterningLaws.{Interning}
+use Rattle.files.proofs.header.intern_files.Given as goal
+
+abbrev pub invariant-loop-start : goal.invariant-loop-start
+invariant-loop-start l = Interning l.main l.supplementary l.initial.work l.work l.initial.files l.files l.initial.table l.table l.s l.unit l.base l.n l.count l.p
+
+abbrev pub decreases-loop-start : goal.decreases-loop-start
+decreases-loop-start l = length l.s - l.p

@@ -1,0 +1,30 @@
+-- `lookup::look_up_from` meets its contract. The file is laid to be looked up, and is found or not.
+use native.Mathlib.Omega.{arith}
+use mathlib.Core.Path.{sym, ap, ◌∙◌}
+use Rattle.files.specs.Hash.{hash_of}
+use Rattle.files.proofs.AddedLaws.{laid-files, laid-is, found_number}
+use Rattle.files.proofs.lookup.LookupLaws.{found_at, found-missing}
+use Rattle.files.proofs.lookup.look_up_from.Goals as goal
+
+pub find_file-requires-clause-files_in : goal.find_file-requires-clause-files_in
+find_file-requires-clause-files_in c = laid-files c.requires.files_in c.lay_file-l.ensures (omega arith)
+
+pub find_file-requires-clause-n_in_bounds : goal.find_file-requires-clause-n_in_bounds
+find_file-requires-clause-n_in_bounds c = omega (arith, c.lay_file-l.ensures.short)
+
+pub find_file-requires-clause-hash_value : goal.find_file-requires-clause-hash_value
+find_file-requires-clause-hash_value c = c.lay_file-l.ensures.hashed ∙ ap hash_of (sym (laid-is _ _ c.lay_file-l.ensures))
+
+pub overflow_cast-result : goal.overflow_cast-result
+overflow_cast-result c = let small = found_number c.requires.files_in c.lay_file-l.ensures (laid-is _ _ c.lay_file-l.ensures) c.find_file.ensures c.in-At.is in
+    omega arith
+
+pub overflow_add-result : goal.overflow_add-result
+overflow_add-result c = let small = found_number c.requires.files_in c.lay_file-l.ensures (laid-is _ _ c.lay_file-l.ensures) c.find_file.ensures c.in-At.is in
+    omega arith
+
+pub returns-in-At : goal.returns-in-At
+returns-in-At c = found_at c.requires.files_in c.lay_file-l.ensures (laid-is _ _ c.lay_file-l.ensures) (omega arith) c.find_file.ensures c.in-At.is
+
+pub returns-in-Missing : goal.returns-in-Missing
+returns-in-Missing c = found-missing c.requires.files_in c.lay_file-l.ensures (laid-is _ _ c.lay_file-l.ensures) (omega arith) c.find_file.ensures c.in-Missing.is
