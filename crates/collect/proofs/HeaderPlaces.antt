@@ -99,7 +99,7 @@ header-with {s} {start} {r} len R l =
     let o : r.offset ≡ le_at 8 (take len (drop start s)) 0 = sym (number-first s start len 8 r.offset (omega arith) R.offset) in
     let n : r.header_length ≡ le_at 8 (take len (drop start s)) 8 = sym (number_at s start len 8 8 r.header_length (omega arith) R.header-length) in
     let v : r.version ≡ le_at 1 (take len (drop start s)) 16 = sym (number_at s start len 1 16 r.version (omega arith) R.version) in
-    let w : r.word_size ≡ le_at 1 (take len (drop start s)) 17 = sym (number_at s start len 1 17 r.word_size (omega arith) R.word-size) in
+    let w : r.word_size ≡ le_at 1 (take len (drop start s)) 17 = sym (number_at s start len 1 17 r.word_size (omega arith) R.word_size) in
     let b : r.opcode_base ≡ le_at 1 (take len (drop start s)) 18 = sym (number_at s start len 1 18 r.opcode_base (omega arith) R.opcode_base-is) in
     let ls : take (start + len - (start + 19)) (drop (start + 19) s) ≡ drop 19 (take len (drop start s)) = ap (λ (k : ℕ). take k (drop (start + 19) s)) e ∙ sym (drop_part s start len 19) in
-    λ i. record { offset = o i; header_length = n i; version = v i; wordSize = w i; opcode_base = b i; opcode_lengths = ls i }
+    λ i. record { offset = o i; header_length = n i; version = v i; word_size = w i; opcode_base = b i; opcode_lengths = ls i }

@@ -21,7 +21,7 @@ use rows::unit_lines::StoredLines;
 use tlv::tags::{HEADER_TAG, UNIT_WHOLE};
 
 // The unit's lines and its map of file numbers in the work slice, the file table, and how many bytes of warnings were written; or the refusal.
-#[derive(Drop)]
+#[derive(Clone, Copy)]
 pub enum CollectedLines {
     Refused(u8),
     Lines {

@@ -17,7 +17,7 @@ use rows::line::LINE_SIZE;
 use tlv::model::DebugSource;
 
 // The unit, its file 0 before version 5, its map of file numbers, the table of its sequences' offsets, and where its lines go.
-#[derive(Drop)]
+#[derive(Clone, Copy)]
 pub struct Conversion {
     pub unit: FileUnit,
     pub zero: Own,
@@ -28,7 +28,7 @@ pub struct Conversion {
 }
 
 // The file table, how many lines there are, and how many bytes of warnings were written.
-#[derive(Drop)]
+#[derive(Clone, Copy)]
 pub struct Converting {
     pub table: StoredFiles,
     pub count: usize,
@@ -36,7 +36,7 @@ pub struct Converting {
 }
 
 // A row with the number of its sequence.
-#[derive(Drop)]
+#[derive(Clone, Copy)]
 pub struct Row {
     pub address: u64,
     pub file: FileNumber,
@@ -46,7 +46,7 @@ pub struct Row {
 }
 
 // The state after a row, or why it was refused.
-#[derive(Drop)]
+#[derive(Clone, Copy)]
 pub enum ConvertedRow {
     Refused(u8),
     Next(Converting),

@@ -21,7 +21,7 @@ use line_program::lines::{Header, Scan};
 use tlv::tags::{FILE_ZERO_TAG, UNIT_WHOLE};
 
 // What tells the paths of the unit's files, the unit's map, and the file table; or the refusal.
-#[derive(Drop)]
+#[derive(Clone, Copy)]
 pub enum InternedUnit {
     Refused(u8),
     Unit {

@@ -1,4 +1,6 @@
 // A unit's line rows, its files and its sequences (the Rust's collect_lines).
+#![tactic(auto)]
+
 pub mod collect;
 pub mod convert;
 pub mod finish;

@@ -17,7 +17,7 @@ use tlv::shapes::ROW_KIND;
 const FAILED_ROW: u8 = 6;
 
 // How many rows stand in finished sequences, and how many sequences are finished; or the fault: 6 of a row that could not be read, or a program's.
-#[derive(Drop)]
+#[derive(Clone, Copy)]
 pub enum CountedRows {
     Fault(u8),
     Rows { lines: usize, sequences: usize },

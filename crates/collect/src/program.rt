@@ -18,7 +18,7 @@ const PLAIN_ROW: u8 = 0;
 const END_ROW: u8 = 1;
 
 // How many rows stand in finished sequences, how many sequences are finished, and how many rows there are in all; or the program's fault.
-#[derive(Drop)]
+#[derive(Clone, Copy)]
 pub enum ProgramRows {
     Fault(u8),
     Rows {

@@ -8,7 +8,7 @@ use files::index::{FileNumber, StoredIndices};
 use files::spans::Span;
 
 // What a header has at a file number that the unit's map has no number for: nothing, a file with no path, or file 0 before version 5.
-#[derive(Drop)]
+#[derive(Clone, Copy)]
 pub enum SoughtFile {
     Missing,
     Unnamed,

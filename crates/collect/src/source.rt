@@ -22,7 +22,7 @@ use tlv::bytes::read_u8;
 use tlv::tags::ENCODING_TAG;
 
 // The unit's row fields, or the line program; its opcode lengths are the bytes of the main input from one place to below another.
-#[derive(Drop)]
+#[derive(Clone, Copy)]
 pub enum RowSource {
     Fields,
     Program {
@@ -33,14 +33,14 @@ pub enum RowSource {
 }
 
 // The rows that can be walked over: the unit's row fields, or a table of `count` rows in the work slice.
-#[derive(Drop)]
+#[derive(Clone, Copy)]
 pub enum UnitRows {
     Fields,
     Table { at: usize, count: usize },
 }
 
 // How many rows stand in finished sequences, how many sequences are finished, and where the rows are; or their fault.
-#[derive(Drop)]
+#[derive(Clone, Copy)]
 pub enum GatheredRows {
     Fault(u8),
     Rows {

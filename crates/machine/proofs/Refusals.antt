@@ -1,5 +1,5 @@
 -- The numbers that a program is refused with: 7 to 12 for operands and instructions, 21 for its encoding, 22 for its addresses.
-use Rattle.std.proofs.Common.{ℕ, zero, suc, ◌-◌, ◌≤◌, ◌⊎◌, List, [], ◌∷◌, length, inl, inr, arith}
+use Rattle.std.proofs.Common.{ℕ, zero, suc, ◌≤◌, ◌⊎◌, List, [], ◌∷◌, length, inl, inr, arith}
 use Rattle.tlv.specs.Model.{LineEncoding}
 use Rattle.tlv.proofs.RefusalLaws.{RefusesIn, never, refusing}
 use Rattle.line_program.specs.Standard.{Opcodes}

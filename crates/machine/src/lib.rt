@@ -1,4 +1,6 @@
 // The line number state machine: the rows of a line program.
+#![tactic(auto)]
+
 pub mod extended;
 pub mod machine;
 pub mod operands;

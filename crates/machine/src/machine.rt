@@ -25,7 +25,7 @@ fn step(program: &[u8], lengths: &[u8], e: Encoding, r: Registers, at: usize) ->
 
 // The next row of a program, plain or an end of sequence, with the registers that it shows and the place after its instruction; or the program's end, or
 // its fault.
-#[derive(Drop)]
+#[derive(Clone, Copy)]
 pub enum Emitted {
     Plain { registers: Registers, next: usize },
     Ended { registers: Registers, next: usize },

@@ -22,7 +22,7 @@ const SMALL: u64 = 72057594037927936;
 const NEGATIVE: u8 = 128;
 
 // What a header says of advances and of its opcodes; the opcode lengths are a slice of their own.
-#[derive(Drop)]
+#[derive(Clone, Copy)]
 pub struct Encoding {
     pub minimum_instruction_length: u8,
     pub maximum_operations: u8,
@@ -33,7 +33,7 @@ pub struct Encoding {
 }
 
 // The registers that a row shows.
-#[derive(Drop)]
+#[derive(Clone, Copy)]
 pub struct Registers {
     pub address: u64,
     pub file: u64,
@@ -42,7 +42,7 @@ pub struct Registers {
 }
 
 // The registers at another address, or that it is one that they can't have.
-#[derive(Drop)]
+#[derive(Clone, Copy)]
 pub enum Moved {
     To(Registers),
     Past,

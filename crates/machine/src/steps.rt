@@ -16,7 +16,7 @@ const LAST_OPCODE: u8 = 255;
 
 // An instruction that was executed, with the registers and the place after it: it appends no row, a plain one or, before the registers begin anew, an end of
 // sequence.
-#[derive(Drop)]
+#[derive(Clone, Copy)]
 pub enum Stepped {
     Quiet { registers: Registers, next: usize },
     Plain { registers: Registers, next: usize },

@@ -99,6 +99,10 @@ module _ {A : Type 0} {equal : A → A → Bool} {d : A} {before after : List A}
 
 -- ---- of a function's rows
 
+-- what an index past the end would give: no read is there
+abbrev pub none : LineEntry
+none = record { address = 0; file = record { 0 = 0 }; line = 0; column = 0 }
+
 pub compacts_none : (before : List LineEntry) → length before ≡ 0 → CompactsRows before before 0
 unfolding compact_line_rows drop_neighbours
 compacts_none [] e = record { count = refl; rows = refl }

@@ -1,4 +1,6 @@
 // A caller's rows compacted where they are (the Rust's normalize.rs). The tables' rows are bytes of the work slice, which crates/rows compacts.
+#![tactic(auto)]
+
 ghost use Rattle.std.specs.Prelude.{◌≡◌};
 ghost use Rattle.lines.specs.Lines.{same_line};
 ghost use Rattle.normalize.specs.Compacts.{CompactsRows};

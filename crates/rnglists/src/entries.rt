@@ -6,7 +6,7 @@ ghost use Rattle.rnglists.specs.Steps.{ReadsOperand, ReadsEntry, first_slot, sec
 use line_program::operand::Operand;
 
 // An entry: its kind, its operands, 0 for one that it has not, and the place after it; or the fault.
-#[derive(Drop)]
+#[derive(Clone, Copy)]
 pub enum ListEntry {
     Entry {
         kind: u8,

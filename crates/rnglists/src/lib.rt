@@ -1,2 +1,4 @@
+#![tactic(auto)]
+
 pub mod entries;
 pub mod lists;

@@ -9,14 +9,14 @@ use crate::entries::ListEntry;
 pub const RANGE_LEAST: usize = 3;
 
 // An address of the table, or 24.
-#[derive(Drop)]
+#[derive(Clone, Copy)]
 pub enum Found {
     At(u64),
     Past,
 }
 
 // What an entry says: the list ends; the base address changes; a range, and whether it is dead; or the fault, 24 or 25.
-#[derive(Drop)]
+#[derive(Clone, Copy)]
 pub enum Meant {
     End,
     Base(u64),
@@ -25,7 +25,7 @@ pub enum Meant {
 }
 
 // The next range of a list, with the place and the base address behind it; the list's end; or the fault.
-#[derive(Drop)]
+#[derive(Clone, Copy)]
 pub enum NextRange {
     End,
     Range {

@@ -14,14 +14,14 @@ use crate::search::lower_bound;
 use crate::unit_lines::{Rows, StoredLines};
 
 // The first sequence that covers an address.
-#[derive(Drop)]
+#[derive(Clone, Copy)]
 pub enum Covering {
     By(StatementSequence),
     Missing,
 }
 
 // The row that is in force where a function starts.
-#[derive(Drop)]
+#[derive(Clone, Copy)]
 pub enum Earlier {
     Row(tlv::model::LineEntry),
     Missing,

@@ -7,7 +7,7 @@ ghost use Rattle.rows.specs.Sizes.{entry_size, line_size, range_size, sequence_s
 ghost use Rattle.rows.specs.Stored.{sequence_of, stored_sequence, entry_of, line_at, PutEntry, PutSequence, PutLine, PutSequenceRange};
 
 // The offset at which the instructions of a row's sequence begin, where that is known.
-#[derive(Drop)]
+#[derive(Clone, Copy)]
 pub enum StatementSequence {
     At(u64),
     Unknown,

@@ -15,7 +15,7 @@ use crate::normalize::compact_line_rows;
 use crate::search::lower_bound;
 
 // Where a unit's sorted rows and its sequences stand in the work slice, and where the rows of a function are put.
-#[derive(Drop)]
+#[derive(Clone, Copy)]
 pub struct StoredLines {
     pub lines: usize,
     pub line_count: usize,
@@ -25,7 +25,7 @@ pub struct StoredLines {
 }
 
 // The rows of a function in the work slice; `invalid`: it asked for a sequence that does not exist, and has rows all the same.
-#[derive(Drop)]
+#[derive(Clone, Copy)]
 pub struct FunctionRows {
     pub rows: usize,
     pub count: usize,
@@ -33,14 +33,14 @@ pub struct FunctionRows {
 }
 
 // How many own rows a range has, and the place in the table of the first row at or past its end, or the table's length.
-#[derive(Drop)]
+#[derive(Clone, Copy)]
 pub struct OwnRows {
     pub count: usize,
     pub past: usize,
 }
 
 // Rows in the work slice.
-#[derive(Drop)]
+#[derive(Clone, Copy)]
 pub struct Rows {
     pub rows: usize,
     pub count: usize,

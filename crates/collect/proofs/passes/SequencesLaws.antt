@@ -8,7 +8,6 @@ use native.Mathlib.Nat.{add-zero}
 use native.Mathlib.Omega.{arith}
 use lib.ListN.{length, take, drop}
 use Rattle.tlv.specs.Grammar.{row_kind_at}
-use Rattle.tlv.specs.Lists.{at}
 use Rattle.tlv.specs.Bytes.{le_at}
 use Rattle.tlv.specs.Model.{row_of}
 use Rattle.tlv.specs.Checked.{Placed}

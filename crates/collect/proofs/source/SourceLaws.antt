@@ -70,7 +70,7 @@ module _ {main : List ℕ} {p : ℕ} {r : Own} (own : NextOwn main p encoding_ta
         opcodes-are =
             let z : start + len - (start + 19) ≡ len - 19 = omega arith in
             let o : q.opcode_base ≡ le_at 1 (take len (drop start main)) 18
-            = sym (number_at main start len 1 18 q.opcode_base (omega arith) (R.opcode-base ∙ base)) in
+            = sym (number_at main start len 1 18 q.opcode_base (omega arith) (R.opcode_base-is ∙ base)) in
             let ls : take (start + len - (start + 19)) (drop (start + 19) main) ≡ drop 19 (take len (drop start main))
             = ap (λ (k : ℕ). take k (drop (start + 19) main)) z ∙ sym (drop_part main start len 19) in
             λ i. record { base = o i; lengths = ls i }

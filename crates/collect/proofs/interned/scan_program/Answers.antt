@@ -1,0 +1,6 @@
+-- `interned::scan_program` meets its contract: what was read of the header, with its opcode lengths, is the header.
+use Rattle.collect.proofs.HeaderPlaces.{header-with}
+use Rattle.collect.proofs.interned.scan_program.Goals as goal
+
+pub returns : goal.returns
+returns c = rw (header-with c.args.len c.read_header-header.ensures c.requires.le_len) at c.line_sequence_offsets.ensures

@@ -1,0 +1,11 @@
+-- `passes::count_rows` meets its contract. The loop's invariant: the rows from here on, with the counts so far, count as all of them.
+use Prim.Native.Nat.{◌-◌}
+use lib.ListN.{length}
+use Rattle.collect.proofs.passes.CountLaws.{CountingRows}
+use Rattle.collect.proofs.passes.count_rows.Given as goal
+
+abbrev pub invariant-loop-start : goal.invariant-loop-start
+invariant-loop-start l = CountingRows l.s l.p l.at l.lines l.opened l.n
+
+abbrev pub decreases-loop-start : goal.decreases-loop-start
+decreases-loop-start l = length l.s - l.at

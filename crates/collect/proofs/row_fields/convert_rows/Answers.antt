@@ -1,0 +1,100 @@
+-- `row_fields::convert_rows` meets its contract. The loop's invariant: the rows that are left, with what the others have become, give what was asked; the
+-- measure is what is left of the sheet.
+use Prim.Native.Nat.{◌+◌, ◌≤◌, ◌<◌}
+use native.Mathlib.Omega.{arith}
+use lib.ListN.{length}
+use Rattle.tlv.specs.Grammar.{row_field_size}
+use Rattle.access.proofs.OwnLaws.{own-less}
+use Rattle.files.proofs.UnitLaws.{unit-within}
+use Rattle.collect.proofs.RowsFromLaws.{row_within, row-ahead}
+use Rattle.collect.proofs.row_fields.ConvertingLaws.{converting-start, converting-same, converting-full, converting-over, converting-ended, converting-refused, converting-more, converting-known}
+use Rattle.collect.proofs.row_fields.convert_rows.Goals as goal
+
+pub overflow_add-at : goal.overflow_add-at
+overflow_add-at c = let within = unit-within c.requires.conversion_in.placed in
+    omega (arith, c.well_formed.0)
+
+pub loop-more-init : goal.loop-more-init
+loop-more-init c = converting-start c.requires.conversion_in c.requires.line_size_in_bounds (omega (arith, c.well_formed.1.1.1.1.1.0)) (omega (arith, c.well_formed.1.1.1.1.1.1.1.0)) (omega (arith, c.well_formed.1.1.1.1.1.1.0))
+
+pub returns-then-more-eq0 : goal.returns-then-more-eq0
+returns-then-more-eq0 c = converting-full c.loop-more.invariant c.if-more-eq0.true
+
+pub returns-in_default : goal.returns-in_default
+returns-in_default c = converting-over c.loop-more.invariant c.next_row.ensures c.in_default.is
+
+pub read_row-row-requires : goal.read_row-row-requires
+read_row-row-requires c = row_within c.args.main.now _ _ c.next_row.ensures _ _ _ c.in-Field.is c.loop-more.invariant.placed
+
+pub overflow_add-start : goal.overflow_add-start
+overflow_add-start c = let w : c.in-Field.start + row_field_size ≤ length c.args.main.now = row_within c.args.main.now _ _ c.next_row.ensures _ _ _ c.in-Field.is c.loop-more.invariant.placed in
+    omega (arith, c.well_formed.0)
+
+pub read_u8-requires : goal.read_u8-requires
+read_u8-requires c = let w : c.in-Field.start + row_field_size ≤ length c.args.main.now = row_within c.args.main.now _ _ c.next_row.ensures _ _ _ c.in-Field.is c.loop-more.invariant.placed in
+    omega arith
+
+pub overflow_add-sequence : goal.overflow_add-sequence
+overflow_add-sequence c = let w : c.loop-more.at < length c.args.main.now = row-ahead c.args.main.now _ _ c.next_row.ensures _ _ _ c.in-Field.is in
+    omega (arith, c.well_formed.0)
+
+pub loop-more-smaller-then-read_u8-eq1 : goal.loop-more-smaller-then-read_u8-eq1
+loop-more-smaller-then-read_u8-eq1 c = search own-less
+
+pub loop-more-preserved-then-read_u8-eq1 : goal.loop-more-preserved-then-read_u8-eq1
+loop-more-preserved-then-read_u8-eq1 c = converting-ended c.loop-more.invariant c.next_row.ensures c.in-Field.is c.if-more-eq0.false _ c.read_u8.ensures c.if-read_u8-eq1.true
+
+pub convert_known-requires-clause-index_record_in_bounds : goal.convert_known-requires-clause-index_record_in_bounds
+convert_known-requires-clause-index_record_in_bounds c = omega arith
+
+pub convert_known-requires-clause-offset_record_in_bounds : goal.convert_known-requires-clause-offset_record_in_bounds
+convert_known-requires-clause-offset_record_in_bounds c = omega arith
+
+pub convert_known-requires-clause-line_size_in_bounds : goal.convert_known-requires-clause-line_size_in_bounds
+convert_known-requires-clause-line_size_in_bounds c = omega arith
+
+pub overflow_add-state : goal.overflow_add-state
+overflow_add-state c = omega (arith, c.well_formed.1.1.1.1.0)
+
+pub overflow_sub-more : goal.overflow_sub-more
+overflow_sub-more c = omega (arith, c.if-more-eq0.false)
+
+pub loop-more-smaller-then-convert_known : goal.loop-more-smaller-then-convert_known
+loop-more-smaller-then-convert_known c = search own-less
+
+pub loop-more-preserved-then-convert_known : goal.loop-more-preserved-then-convert_known
+loop-more-preserved-then-convert_known c = converting-known c.loop-more.invariant c.next_row.ensures c.in-Field.is c.if-more-eq0.false _ c.read_u8.ensures c.if-read_u8-eq1.false c.read_row-row.ensures (rw c.if-convert_known.true at c.convert_known.ensures) c.convert_known.auto.work
+
+pub convert_row-requires-clause-conversion_in : goal.convert_row-requires-clause-conversion_in
+convert_row-requires-clause-conversion_in c = let J = converting-same c.loop-more.invariant (rw c.if-convert_known.false at c.convert_known.ensures) in
+    let most = J.list.most in
+    let room = J.list.room in
+    J.list.holds
+
+pub convert_row-requires-clause-line_size_in_bounds : goal.convert_row-requires-clause-line_size_in_bounds
+convert_row-requires-clause-line_size_in_bounds c = let J = converting-same c.loop-more.invariant (rw c.if-convert_known.false at c.convert_known.ensures) in
+    let most = J.list.most in
+    let room = J.list.room in
+    omega arith
+
+pub shape_of-work-in-Refused : goal.shape_of-work-in-Refused
+shape_of-work-in-Refused c = omega (arith, c.convert_row.auto.work, c.convert_known.auto.work, c.loop-more.invariant.list.size)
+
+pub shape_of-files-in-Refused : goal.shape_of-files-in-Refused
+shape_of-files-in-Refused c = omega (arith, c.convert_row.auto.files, c.loop-more.invariant.list.files-size)
+
+pub shape_of-warnings-in-Refused : goal.shape_of-warnings-in-Refused
+shape_of-warnings-in-Refused c = omega (arith, c.convert_row.auto.warnings, c.loop-more.invariant.list.warnings-size)
+
+pub returns-in-Refused : goal.returns-in-Refused
+returns-in-Refused c = converting-refused (converting-same c.loop-more.invariant (rw c.if-convert_known.false at c.convert_known.ensures)) c.next_row.ensures c.in-Field.is c.if-more-eq0.false _ c.read_u8.ensures c.if-read_u8-eq1.false c.read_row-row.ensures c.convert_row.ensures c.in-Refused.is
+
+pub overflow_sub-more-in-Next : goal.overflow_sub-more-in-Next
+overflow_sub-more-in-Next c = omega (arith, c.if-more-eq0.false)
+
+pub loop-more-smaller : goal.loop-more-smaller
+loop-more-smaller c = own-less _ _ _ _ _ _ _ c.next_row.ensures c.in-Field.is
+
+pub loop-more-preserved : goal.loop-more-preserved
+loop-more-preserved c = converting-more (converting-same c.loop-more.invariant (rw c.if-convert_known.false at c.convert_known.ensures)) c.next_row.ensures c.in-Field.is c.if-more-eq0.false _ c.read_u8.ensures c.if-read_u8-eq1.false c.read_row-row.ensures
+    c.convert_row.ensures c.in-Next.is c.convert_row.auto.work c.convert_row.auto.files c.convert_row.auto.warnings

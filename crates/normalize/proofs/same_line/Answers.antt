@@ -1,0 +1,9 @@
+-- `normalize::same_line` meets its contract.
+use Rattle.normalize.proofs.CompactLaws.{files-differ, lines-decide}
+use Rattle.normalize.proofs.same_line.Goals as goal
+
+pub returns-then-a-b : goal.returns-then-a-b
+returns-then-a-b c = search files-differ
+
+pub returns : goal.returns
+returns c = search lines-decide
