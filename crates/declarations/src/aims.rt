@@ -17,14 +17,14 @@ use references::ways::{EntryAt, OffsetAt, index_of, input_of};
 use tlv::model::DebugSource;
 
 // The table with a unit's files in it, or the refusal.
-#[derive(Drop)]
+#[derive(Clone, Copy)]
 pub enum Joined {
     Refused(u8),
     Table(StoredFiles),
 }
 
 // Where an offset of a section leads a search: nowhere, since it was followed already; to a refusal; outside all units; or to an entry.
-#[derive(Drop)]
+#[derive(Clone, Copy)]
 pub enum Aim {
     Seen,
     Refused(u8),

@@ -4,7 +4,7 @@ use files::store::StoredFiles;
 use references::tables::Tables;
 
 // The search's tables, the map of the unit that is imported, and where the spans of a unit's directories and its map are put.
-#[derive(Drop)]
+#[derive(Clone, Copy)]
 pub struct Places {
     pub tables: Tables,
     pub indices: StoredIndices,
@@ -13,7 +13,7 @@ pub struct Places {
 }
 
 // How many targets were followed, the file table, and how many bytes of warnings were written.
-#[derive(Drop)]
+#[derive(Clone, Copy)]
 pub struct DeclaringState {
     pub count: usize,
     pub table: StoredFiles,
@@ -21,7 +21,7 @@ pub struct DeclaringState {
 }
 
 // A declaration's file and line, or none; or the refusal.
-#[derive(Drop)]
+#[derive(Clone, Copy)]
 pub enum Declared {
     Refused(u8),
     Missing(DeclaringState),

@@ -1,4 +1,6 @@
 // The searches for a declaration: its file and line.
+#![tactic(auto)]
+
 pub mod aims;
 pub mod declaration_lines;
 pub mod declarations;

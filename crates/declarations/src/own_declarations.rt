@@ -21,7 +21,7 @@ use tlv::model::DebugSource;
 use tlv::tags::{HEADER_TAG, UNIT_OFFSET, UNIT_WHOLE};
 
 // The file number and the line that an entry has, where it has both.
-#[derive(Drop)]
+#[derive(Clone, Copy)]
 pub enum OwnLine {
     Missing,
     At { file: FileNumber, line: u64 },

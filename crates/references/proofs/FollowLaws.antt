@@ -10,7 +10,6 @@ use Rattle.tlv.specs.declared.model.DebugSource.{DebugSource}
 use Rattle.tlv.specs.Lists.{Any, exists}
 use Rattle.tlv.specs.Bytes.{le_at}
 use Rattle.tlv.specs.Fields.{fields}
-use Rattle.tlv.specs.Model.{units}
 use Rattle.tlv.specs.Checked.{Placed}
 use Rattle.tlv.proofs.ListLaws.{any_one}
 use Rattle.tlv.proofs.CursorLaws.{field-within}

@@ -11,7 +11,7 @@ use lib.Dec.{eqb}
 use lib.ListN.{length}
 use borrow.Author.Tests.{eq-eqb, eqb-true}
 use Rattle.tlv.specs.declared.model.DebugSource.{DebugSource}
-use Rattle.tlv.specs.Lists.{Any, All, exists, first}
+use Rattle.tlv.specs.Lists.{Any, All, exists}
 use Rattle.tlv.specs.Bytes.{le_at}
 use Rattle.tlv.specs.Fields.{fields}
 use Rattle.tlv.specs.Checked.{Accepts}
@@ -78,14 +78,17 @@ same_self k = rw (eq-eqb k.offset k.offset refl) (go k.source)
 module _ (k : DieKey) where
   -- the list without one that is k
   abbrev without : (ps : List DieKey) → Any (λ x. k ≡ x) ps → List DieKey
+  without [] x' = elim x' [ ]
   without (p ∷ ps) (inl e) = ps
   without (p ∷ ps) (inr a) = p ∷ without ps a
 
   without-length : (ps : List DieKey) (a : Any (λ x. k ≡ x) ps) → length ps ≡ suc (length (without ps a))
+  without-length [] a = elim a [ ]
   without-length (p ∷ ps) (inl e) = refl
   without-length (p ∷ ps) (inr a) = ap suc (without-length ps a)
 
   without_keeps : (ps : List DieKey) (a : Any (λ x. k ≡ x) ps) (x : DieKey) → same_key k x ≡ false → Any (λ y. x ≡ y) ps → Any (λ y. x ≡ y) (without ps a)
+  without_keeps [] a x other _ = elim a [ ]
   without_keeps (p ∷ ps) (inl e) x other (inl is) =
       let same : k ≡ x = e ∙ sym is in
       absurd (true≢false (sym (same_self k) ∙ rw (← same) at other))
@@ -144,6 +147,7 @@ keys-in_none room = record { distinct = tt; possible = tt; chained = λ y. absur
 
 module _ {A : Type 0} (P : A → Type 0) where
   pub any_left : (xs ys : List A) → Any P xs → Any P (xs ++ ys)
+  any_left [] ys x' = elim x' [ ]
   any_left (x ∷ xs) ys (inl p) = inl p
   any_left (x ∷ xs) ys (inr p) = inr (any_left xs ys p)
 
@@ -152,6 +156,7 @@ module _ {A : Type 0} (P : A → Type 0) where
   any_right (x ∷ xs) ys p = inr (any_right xs ys p)
 
 pub any_image : {A B : Type 0} (f : A → B) (a : A) (xs : List A) → Any (λ x. x ≡ a) xs → Any (λ y. y ≡ f a) (map f xs)
+any_image {A = A} {B = B} f a [] x' = elim x' [ ]
 any_image f a (x ∷ xs) (inl e) = inl (ap f e)
 any_image f a (x ∷ xs) (inr e) = inr (any_image f a xs e)
 
@@ -159,11 +164,13 @@ any_image f a (x ∷ xs) (inr e) = inr (any_image f a xs e)
 module _ (f : CompilationUnit → List Attribute → List DieKey) (P : DieKey → Type 0) where
   pub entry-keys : (u : CompilationUnit) (e : Entry) (es : List Entry) → Any (λ x. x ≡ e) es → Any P (f u e.attributes) → Any P (entry_keys f u es)
   unfolding entry_keys
+  entry-keys u e [] x'' p = elim x'' [ ]
   entry-keys u e (d ∷ es) (inl same) p = any_left P (f u d.attributes) (entry_keys f u es) (rw same p)
   entry-keys u e (d ∷ es) (inr later) p = any_right P (f u d.attributes) (entry_keys f u es) (entry-keys u e es later p)
 
   pub unit-keys : (u : CompilationUnit) (us : List CompilationUnit) → Any (λ x. x ≡ u) us → Any P (entry_keys f u u.entries) → Any P (unit_keys f us)
   unfolding unit_keys
+  unit-keys u [] x'' p = elim x'' [ ]
   unit-keys u (v ∷ us) (inl same) p = any_left P (entry_keys f v v.entries) (unit_keys f us) (rw same p)
   unit-keys u (v ∷ us) (inr later) p = any_right P (entry_keys f v v.entries) (unit_keys f us) (unit-keys u us later p)
 
@@ -200,6 +207,7 @@ module _ (f : CompilationUnit → List Attribute → List DieKey)
     (u : CompilationUnit) (k : ℕ) (key : ℕ → DieKey)
     (here : (a : Attribute) (later : List Attribute) → a.kind ≡ k → Any (λ x. key a.value ≡ x) (f u (a ∷ later))) where
   pub taken : (bs : List Attribute) (a : Attribute) → Any (λ b. b ≡ a) bs → a.kind ≡ k → Any (λ x. key a.value ≡ x) (f u bs)
+  taken [] a x'' is = elim x'' [ ]
   taken (b ∷ bs) a (inl same) is = rw same (here a bs is)
   taken (b ∷ bs) a (inr later) is = there u (λ x. key a.value ≡ x) b bs (taken bs a later is)
 

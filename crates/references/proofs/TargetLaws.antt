@@ -7,7 +7,6 @@ use mathlib.Core.Option.{Option, none, some, none-ne-some}
 use Prim.Native.Nat.{ℕ, suc, ◌+◌, ◌-◌, ◌≤◌}
 use native.Mathlib.Omega.{arith}
 use lib.Dec.{eqb, leb, ltb}
-use lib.ListN.{length}
 use borrow.Author.Tests.{eq-eqb, ne_eqb, leb-true}
 use Rattle.tlv.specs.Lists.{Any, first, map_option}
 use Rattle.tlv.specs.Fields.{fields}
@@ -154,11 +153,13 @@ module _ {s w : List ℕ} {x : Index} (I : IndexIn s w x) (o : ℕ) where
 -- strictly ascending offsets: each entry is the first of its offset
 rising-above : (k : ℕ) (es : List IndexedEntry) (e : IndexedEntry) → RisingFrom k es → Any (λ d. d ≡ e) es → k ≤ e.offset
 unfolding RisingFrom
+rising-above k [] e h x'' = elim x'' [ ]
 rising-above k (d ∷ es) e h (inl same) = rw same at h.0
 rising-above k (d ∷ es) e h (inr later) = let l = rising-above (suc d.offset) es e h.1 later in let m = h.0 in omega arith
 
 pub rising-lookup : (k : ℕ) (es : List IndexedEntry) (e : IndexedEntry) → RisingFrom k es → Any (λ d. d ≡ e) es → lookup e.offset es ≡ some e
 unfolding RisingFrom lookup first
+rising-lookup k [] e h x'' = elim x'' [ ]
 rising-lookup k (d ∷ es) e h (inl same) = rw (same, eq-eqb e.offset e.offset refl)
 rising-lookup k (d ∷ es) e h (inr later) =
     let l = rising-above (suc d.offset) es e h.1 later in

@@ -10,7 +10,7 @@ use tlv::constants::{DW_AT_LINKAGE_NAME, DW_AT_MIPS_LINKAGE_NAME, DW_AT_NAME};
 use tlv::tags::ENTRY_WHOLE;
 
 // A reference to another entry.
-#[derive(Drop)]
+#[derive(Clone, Copy)]
 pub enum Reference {
     Missing,
     Unit(u64),
@@ -19,7 +19,7 @@ pub enum Reference {
 }
 
 // A number that an attribute is, where it is one.
-#[derive(Drop)]
+#[derive(Clone, Copy)]
 pub enum Number {
     Missing,
     Is(u64),

@@ -1,4 +1,6 @@
 // Names and declarations by reference (the Rust's convert/dwarf/references.rs).
+#![tactic(auto)]
+
 pub mod attributes;
 pub mod keys;
 pub mod names;

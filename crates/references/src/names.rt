@@ -15,7 +15,7 @@ use tlv::constants::{DW_AT_ABSTRACT_ORIGIN, DW_AT_SPECIFICATION};
 use tlv::model::DebugSource;
 
 // A name that a search found, by its length, or none.
-#[derive(Drop)]
+#[derive(Clone, Copy)]
 pub enum FoundName {
     Found(usize),
     Missing,

@@ -10,7 +10,7 @@ use access::index::{Found, find_entry};
 use access::units::unit_containing_offset;
 
 // Where the tables of a sheet's units and entries stand in the work slice.
-#[derive(Drop)]
+#[derive(Clone, Copy)]
 pub struct Index {
     pub units: usize,
     pub unit_count: usize,
@@ -19,7 +19,7 @@ pub struct Index {
 }
 
 // The tables of both sheets, and where the targets that a search has followed are put.
-#[derive(Drop)]
+#[derive(Clone, Copy)]
 pub struct Tables {
     pub main: Index,
     pub supplementary: Index,
@@ -27,7 +27,7 @@ pub struct Tables {
 }
 
 // Outside all units; in the unit at a place, where no entry starts; or the entry at a place, of the unit at a place.
-#[derive(Drop)]
+#[derive(Clone, Copy)]
 pub enum Target {
     Outside,
     NoEntry(usize),

@@ -12,7 +12,7 @@ use tlv::model::DebugSource;
 use tlv::tags::UNIT_OFFSET;
 
 // Where a search stands: the entry at a place of the unit at a place of a sheet, the source that its unit's targets are remembered under, and how deep.
-#[derive(Drop)]
+#[derive(Clone, Copy)]
 pub struct EntryAt {
     pub input: DebugSource,
     pub source: DebugSource,
@@ -22,7 +22,7 @@ pub struct EntryAt {
 }
 
 // An offset of a section that a search is to follow, the source that it is remembered under, and how deep.
-#[derive(Drop)]
+#[derive(Clone, Copy)]
 pub struct OffsetAt {
     pub input: DebugSource,
     pub source: DebugSource,
@@ -31,7 +31,7 @@ pub struct OffsetAt {
 }
 
 // How a search goes on from a reference: not at all; with a refusal; at an entry of the same unit, by its offset in the section; or at an offset of a section.
-#[derive(Drop)]
+#[derive(Clone, Copy)]
 pub enum Way {
     Nothing,
     Refused(u8),

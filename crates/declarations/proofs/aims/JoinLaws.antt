@@ -39,6 +39,7 @@ use Rattle.declarations.proofs.OwnDeclarationLaws.{described-clear, described-ta
 -- one of a list is at a number of it
 any_at : {A : Type 0} (a : A) (xs : List A) → Any (λ y. y ≡ a) xs → (k : ℕ) × (at xs k ≡ some a)
 unfolding at
+any_at {A = A} a mathlib.Core.List.[] x' = elim x' [ ]
 any_at a (x ∷ xs) (inl e) = (0, ap some e)
 any_at a (x ∷ xs) (inr h) = let r = any_at a xs h in (suc r.0, r.1)
 

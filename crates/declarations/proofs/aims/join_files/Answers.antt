@@ -1,0 +1,48 @@
+-- `aims::join_files` meets its contract. The unit is described, and its header's files are interned.
+use native.Mathlib.Omega.{arith}
+use Rattle.declarations.proofs.DeclareFrames.{spans-inside}
+use Rattle.declarations.proofs.OwnDeclarationLaws.{unit-here, sheet_here, spans-here, described-files, described-unit, described-placed, described-room}
+use Rattle.declarations.proofs.aims.JoinLaws.{joins-none, join-listed, join-room, joins-refused, joins-table}
+use Rattle.declarations.proofs.aims.join_files.Goals as goal
+
+pub lacks_header-requires : goal.lacks_header-requires
+lacks_header-requires c = unit-here c.requires.declaring_in c.args.input c.input_of-s.ensures.result_value c.requires.unit_known
+
+pub returns-then-lacks_header : goal.returns-then-lacks_header
+returns-then-lacks_header c = joins-none c.requires.declaring_in c.args.input c.input_of-s.ensures.result_value c.requires.unit_known c.lacks_header.ensures (omega (arith, c.well_formed)) c.if-lacks_header.true
+
+pub file_unit-described-requires-clause-unit_placed : goal.file_unit-described-requires-clause-unit_placed
+file_unit-described-requires-clause-unit_placed c = unit-here c.requires.declaring_in c.args.input c.input_of-s.ensures.result_value c.requires.unit_known
+
+pub file_unit-described-requires-clause-s_len_bound : goal.file_unit-described-requires-clause-s_len_bound
+file_unit-described-requires-clause-s_len_bound c = sheet_here c.requires.declaring_in c.args.input c.input_of-s.ensures.result_value c.requires.unit_known
+
+pub file_unit-described-requires-clause-place_in_bounds : goal.file_unit-described-requires-clause-place_in_bounds
+file_unit-described-requires-clause-place_in_bounds c = spans-here c.requires.declaring_in c.args.input c.input_of-s.ensures.result_value c.requires.unit_known
+
+pub overflow_mul-base : goal.overflow_mul-base
+overflow_mul-base c = omega (arith, c.well_formed, spans-inside c.requires.declaring_in, described-room c.requires.declaring_in c.args.input c.input_of-s.ensures.result_value c.requires.unit_known c.lacks_header.ensures c.if-lacks_header.false c.file_unit-described.ensures c.file_unit-described.auto.work)
+
+pub overflow_add-base : goal.overflow_add-base
+overflow_add-base c = omega (arith, c.well_formed, spans-inside c.requires.declaring_in, described-room c.requires.declaring_in c.args.input c.input_of-s.ensures.result_value c.requires.unit_known c.lacks_header.ensures c.if-lacks_header.false c.file_unit-described.ensures c.file_unit-described.auto.work)
+
+pub intern_header_files-requires-clause-files_in : goal.intern_header_files-requires-clause-files_in
+intern_header_files-requires-clause-files_in c = described-files c.requires.declaring_in c.args.input c.input_of-s.ensures.result_value c.requires.unit_known c.lacks_header.ensures c.if-lacks_header.false c.file_unit-described.ensures c.file_unit-described.auto.work
+
+pub intern_header_files-requires-clause-file_unit_in : goal.intern_header_files-requires-clause-file_unit_in
+intern_header_files-requires-clause-file_unit_in c = described-unit c.requires.declaring_in c.args.input c.input_of-s.ensures.result_value c.requires.unit_known c.lacks_header.ensures c.if-lacks_header.false c.file_unit-described.ensures c.file_unit-described.auto.work
+
+pub intern_header_files-requires-clause-unit_placed : goal.intern_header_files-requires-clause-unit_placed
+intern_header_files-requires-clause-unit_placed c = described-placed c.requires.declaring_in c.args.input c.input_of-s.ensures.result_value c.requires.unit_known c.lacks_header.ensures c.if-lacks_header.false c.file_unit-described.ensures c.file_unit-described.auto.work
+
+pub intern_header_files-requires-clause-listed : goal.intern_header_files-requires-clause-listed
+intern_header_files-requires-clause-listed c = join-listed c.requires.declaring_in c.args.input c.input_of-s.ensures.result_value c.requires.unit_known c.lacks_header.ensures c.if-lacks_header.false c.file_unit-described.ensures c.file_unit-described.auto.work
+
+pub intern_header_files-requires-clause-map_room : goal.intern_header_files-requires-clause-map_room
+intern_header_files-requires-clause-map_room c = join-room c.requires.declaring_in c.args.input c.input_of-s.ensures.result_value c.requires.unit_known c.lacks_header.ensures c.if-lacks_header.false c.file_unit-described.ensures c.file_unit-described.auto.work
+
+pub returns-in-Refused : goal.returns-in-Refused
+returns-in-Refused c = joins-refused c.requires.declaring_in c.args.input c.input_of-s.ensures.result_value c.requires.unit_known c.lacks_header.ensures c.if-lacks_header.false c.file_unit-described.ensures c.file_unit-described.auto.work c.intern_header_files.ensures _ c.in-Refused.is
+
+pub returns-in-Indices : goal.returns-in-Indices
+returns-in-Indices c = joins-table c.requires.declaring_in c.args.input c.input_of-s.ensures.result_value c.requires.unit_known c.lacks_header.ensures c.if-lacks_header.false c.file_unit-described.ensures c.file_unit-described.auto.work c.intern_header_files.ensures _ _ c.in-Indices.is

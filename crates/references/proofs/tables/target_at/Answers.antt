@@ -1,0 +1,15 @@
+-- `tables::target_at` meets its contract.
+use Rattle.references.proofs.TargetLaws.{index-table-rising, leads_outside, leads_no-entry, leads_at}
+use Rattle.references.proofs.tables.target_at.Goals as goal
+
+pub returns-in_default : goal.returns-in_default
+returns-in_default c = leads_outside c.requires c.args.target _ c.unit_containing_offset.ensures c.in_default.is
+
+pub find_entry-requires-clause-rising : goal.find_entry-requires-clause-rising
+find_entry-requires-clause-rising c = search index-table-rising
+
+pub returns-in_default-find_entry : goal.returns-in_default-find_entry
+returns-in_default-find_entry c = leads_no-entry c.requires c.args.target _ c.unit_containing_offset.ensures _ _ c.in-At.is c.find_entry.ensures c.in_default-find_entry.is
+
+pub returns : goal.returns
+returns c = leads_at c.requires c.args.target _ c.find_entry.ensures _ _ c.in-At-find_entry.is
