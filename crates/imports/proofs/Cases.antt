@@ -1,7 +1,6 @@
 -- Every ● case of document 01 holds, by computing.
 use mathlib.Core.Path.{refl}
 use Rattle.tlv.specs.Outcome.{◌>>=◌}
-use Rattle.line_program.specs.Standard
 use Rattle.line_program.specs.Program
 use Rattle.paths.specs.Paths
 use Rattle.imports.specs.Ranges

@@ -30,6 +30,7 @@ lies_true (p ∷ ps) r e = go (or_either (leb p.start r.start && leb r.end p.end
     go (inr h) ih = inr (ih h)
 
 lies_of : (ps : List AddressRange) (r : AddressRange) → Any (Inside r) ps → lies_in ps r ≡ true
+lies_of [] r x' = elim x' [ ]
 lies_of (p ∷ ps) r (inl h) = rw (le-leb p.start r.start h.0, le-leb r.end p.end h.1)
 lies_of (p ∷ ps) r (inr h) = rw (lies_of ps r h) (or-true (leb p.start r.start && leb r.end p.end))
 

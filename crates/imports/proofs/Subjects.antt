@@ -42,6 +42,7 @@ live-range text r e =
 -- a range of text around a nonempty range contains its start
 starts_in : (r : AddressRange) → Nonempty r → (text : List AddressRange) → Any (Inside r) text → exists (λ t. contains t r.start) text ≡ true
 unfolding exists contains
+starts_in r h [] x' = elim x' [ ]
 starts_in r h (p ∷ ps) (inl i) = rw (le-leb p.start r.start i.0, lt-ltb r.start p.end (omega arith))
 starts_in r h (p ∷ ps) (inr i) = by_test (λ b. b ≡ true) (leb p.start r.start && ltb r.start p.end) (λ e. refl) (λ e. starts_in r h ps i)
 

@@ -10,7 +10,7 @@ use borrow.Author.Tests.{eqb-true, eqb-false, ne_eqb, not-true, not-false}
 use Rattle.tlv.specs.declared.fields.Step.{Step}
 use Rattle.tlv.specs.Outcome.{done}
 use Rattle.tlv.specs.Lists.{All, exists}
-use Rattle.tlv.specs.Fields.{Field, fields}
+use Rattle.tlv.specs.Fields.{fields}
 use Rattle.tlv.specs.Cursor.{step_at, fields_of}
 use Rattle.tlv.specs.Checked.{field_in}
 use Rattle.tlv.proofs.CursorLaws.{fields-at, fields-field, next-less, next-within}

@@ -4,7 +4,7 @@
 use Rattle.std.specs.Prelude.{ℕ, ◌+◌, ◌*◌, ◌≤◌, ◌<◌, ◌≡◌, ◌↔◌, ◌≢◌, Bool, true, false, cond, not, List, length, drop, replicate}
 use Rattle.std.proofs.Math.Option.{some}
 use Rattle.tlv.specs.Tags.{tray_function_tag}
-use Rattle.tlv.specs.Outcome.{Outcome, refused, done, ◌>>=◌}
+use Rattle.tlv.specs.Outcome.{Outcome, refused, done}
 use Rattle.tlv.specs.Lists.{at, take_while}
 use Rattle.tlv.specs.Bytes.{le_at}
 use Rattle.tlv.specs.Fields.{FieldList, end, cut, more, fields}

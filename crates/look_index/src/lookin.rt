@@ -17,7 +17,7 @@ use tlv::fields::{Step, field_at};
 use tlv::tags::{TRAY_FUNCTION_TAG, TRAY_NODE_TAG};
 
 // The number of an extent.
-#[derive(Drop)]
+#[derive(Clone, Copy)]
 pub enum Choice {
     At(usize),
     Missing,
@@ -126,7 +126,7 @@ fn own_formed(s: &[u8], own: usize) -> bool
 }
 
 // What stands at a place: a function in document 01's form, whose own fields begin at `own`, or something else.
-#[derive(Drop)]
+#[derive(Clone, Copy)]
 pub enum Here {
     Formed(usize),
     Misshapen,

@@ -1,7 +1,7 @@
 -- The chain that one pass over the nodes takes is the chain of first children that hold the address.
 use mathlib.Core.Path.{◌≡◌, refl, sym, ap, subst, ◌∙◌}
 use mathlib.Core.Bool.{Bool, true, false, cond, ◌&&◌, true≢false}
-use mathlib.Core.Logic.{inl, inr, ◌≢◌}
+use mathlib.Core.Logic.{inl, inr}
 use mathlib.Core.List.{List, [], ◌∷◌, map, cons≢nil}
 use mathlib.Core.Option.{some, some-injective}
 use Prim.Native.Nat.{ℕ, zero, suc, ◌+◌, ◌-◌, ◌≤◌, ◌<◌}
@@ -94,6 +94,7 @@ module _ (a : ℕ) (gs : List GroupAt) where
 
   holds-exists : (rs : List AddressRange) → Holds rs a → exists (holds a) rs ≡ true
   unfolding exists
+  holds-exists [] x' = elim x' [ ]
   holds-exists (r ∷ rs) (inl h) = rw (le-leb r.start a h.0, lt-ltb a r.end h.1)
   holds-exists (r ∷ rs) (inr h) = go (holds a r) (holds-exists rs h)
     where

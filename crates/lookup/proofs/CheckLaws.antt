@@ -10,7 +10,7 @@ use borrow.Author.Tests.{le-leb, lt-leb, leb-true, eq-eqb, ne_eqb, not-true, not
 use Rattle.tlv.specs.declared.fields.Step.{Step}
 use Rattle.tlv.specs.Lists.{exists}
 use Rattle.tlv.specs.Bytes.{le_at}
-use Rattle.tlv.specs.Fields.{Field, fields}
+use Rattle.tlv.specs.Fields.{fields}
 use Rattle.tlv.specs.Cursor.{step_at, fields_of}
 use Rattle.tlv.specs.Checked.{field_in}
 use Rattle.tlv.proofs.TestLaws.{and_left, and_right}

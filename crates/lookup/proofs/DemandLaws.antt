@@ -11,7 +11,7 @@ use lib.ListN.{length, get_or, drop}
 use borrow.Author.Tests.{leb-true, ltb-true}
 use Rattle.tlv.specs.declared.model.AddressRange.{AddressRange}
 use Rattle.tlv.specs.Addresses.{RangeHolds}
-use Rattle.tlv.specs.Outcome.{refused, done, ◌>>=◌}
+use Rattle.tlv.specs.Outcome.{refused, done}
 use Rattle.tlv.specs.Lists.{Any, All, at, first, exists, map_option}
 use Rattle.tlv.specs.Model.{CompilationUnit, units}
 use Rattle.tlv.specs.Fields.{fields}
@@ -65,6 +65,8 @@ at_map f (x ∷ xs) (suc k) y e = at_map f xs k y e
 module _ {A B : Type 0} (R : A → B → Type 0) where
   pub pointwise_at : (xs : List A) (ys : List B) (k : ℕ) (y : B) → Pointwise R xs ys → at ys k ≡ some y → (x : A) × (at xs k ≡ some x) × R x y
   unfolding at
+  pointwise_at [] (z ∷ ys) k y h e = elim h [ ]
+  pointwise_at (x ∷ xs) [] k y h e = elim h [ ]
   pointwise_at [] [] k y h e = absurd (none-ne-some y e)
   pointwise_at (x ∷ xs) (z ∷ ys) zero y h e = (x, refl, subst (R x) (some-injective z y e) h.0)
   pointwise_at (x ∷ xs) (z ∷ ys) (suc k) y h e = pointwise_at xs ys k y h.1 e

@@ -35,6 +35,8 @@ use Rattle.lookup.proofs.SheetChain.{Paired, Inwards, inwards}
 module _ {A B : Type 0} (R : A → B → Type 0) where
   pointwise_left : (xs : List A) (ys : List B) (k : ℕ) (x : A) → Pointwise R xs ys → at xs k ≡ some x → (y : B) × (at ys k ≡ some y) × R x y
   unfolding at
+  pointwise_left [] (y ∷ ys) k x h e = elim h [ ]
+  pointwise_left (z ∷ xs) [] k x h e = elim h [ ]
   pointwise_left [] [] k x h e = absurd (none-ne-some x e)
   pointwise_left (z ∷ xs) (y ∷ ys) zero x h e = (y, refl, subst (λ (w : A). R w y) (some-injective z x e) h.0)
   pointwise_left (z ∷ xs) (y ∷ ys) (suc k) x h e = pointwise_left xs ys k x h.1 e

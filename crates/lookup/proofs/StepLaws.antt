@@ -10,7 +10,7 @@ use borrow.Author.Tests.{leb-true, ltb-true, eq-eqb, ne_eqb}
 use Rattle.tlv.specs.declared.fields.Step.{Step}
 use Rattle.tlv.specs.Lists.{exists, take_while}
 use Rattle.tlv.specs.Bytes.{le_at}
-use Rattle.tlv.specs.Fields.{Field, end, cut, fields}
+use Rattle.tlv.specs.Fields.{end, cut, fields}
 use Rattle.tlv.specs.Cursor.{step_at, fields_of}
 use Rattle.tlv.specs.Checked.{field_in}
 use Rattle.tlv.specs.Model.{range_of}

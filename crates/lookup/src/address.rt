@@ -23,7 +23,7 @@ fn holds_at(s: &[u8], start: usize, len: usize, address: u64) -> bool
 }
 
 // A function: the place of its field, and the place behind it, where its own fields begin.
-#[derive(Drop)]
+#[derive(Clone, Copy)]
 pub enum FunctionPlace {
     At { place: usize, own: usize },
     Missing,

@@ -1,4 +1,6 @@
 // Look-ups in a records tray: what is running at an address.
+#![tactic(auto)]
+
 pub mod address;
 pub mod below;
 pub mod form;

@@ -19,7 +19,7 @@ pub const DEEPEST: u64 = 256;
 pub const CHAIN_MOST: usize = 257;
 
 // Why a look-up is refused; `refusal_number` of specs/Answers.antt gives document 02's numbers.
-#[derive(Drop)]
+#[derive(Clone, Copy)]
 pub enum Refusal {
     ShortIndex,
     ShortList,
@@ -40,49 +40,49 @@ pub fn refusal_number(r: Refusal) -> u8
 }
 
 // The row in force.
-#[derive(Drop)]
+#[derive(Clone, Copy)]
 pub enum Row {
     At(usize),
     Missing,
 }
 
 // The places of a chain's nodes, the root's first, 0 behind them.
-#[derive(Drop)]
+#[derive(Clone, Copy)]
 pub struct Chain {
     pub places: [usize; CHAIN_MOST],
     pub nodes: usize,
 }
 
 // What is running at an address: the function, the row in force.
-#[derive(Drop)]
+#[derive(Clone, Copy)]
 pub enum Running {
     Found { function: usize, row: Row },
     Refused(Refusal),
 }
 
 // The chain stands beside the answer; after a refusal it has no node.
-#[derive(Drop)]
+#[derive(Clone, Copy)]
 pub struct LookedUp {
     pub running: Running,
     pub chain: Chain,
 }
 
 // The place of one function.
-#[derive(Drop)]
+#[derive(Clone, Copy)]
 pub enum Nearest {
     At(usize),
     Refused(Refusal),
 }
 
 // The byte length of a list.
-#[derive(Drop)]
+#[derive(Clone, Copy)]
 pub enum Listed {
     Finished(usize),
     Refused(Refusal),
 }
 
 // How many functions an index has, and whether it is in the order of their addresses.
-#[derive(Drop)]
+#[derive(Clone, Copy)]
 pub enum Indexed {
     Finished { functions: usize, rising: bool },
     Refused(Refusal),

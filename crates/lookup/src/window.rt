@@ -16,7 +16,7 @@ use tlv::model::AddressRange;
 use tlv::tags::TRAY_FUNCTION_TAG;
 
 // Which functions are listed.
-#[derive(Drop)]
+#[derive(Clone, Copy)]
 pub enum Wanted {
     Inside,
     Crossing,

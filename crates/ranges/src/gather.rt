@@ -60,7 +60,7 @@ pub fn gather_ranges(s: &[u8], at: usize, work: &mut [u8], q: usize, m: usize, t
 }
 
 // How many ranges of a list were gathered, or its fault.
-#[derive(Drop)]
+#[derive(Clone, Copy)]
 pub enum ListGathered {
     Ranges(usize),
     Fault(u8),

@@ -12,7 +12,7 @@ use tlv::shapes::{LIST_ADDRESSES, LIST_BASE, LIST_SIZE};
 use tlv::tags::{FAILURE_TAG, LIST_TAG};
 
 // How many ranges were merged, or the refusal that reading them is.
-#[derive(Drop)]
+#[derive(Clone, Copy)]
 pub enum Merged {
     Ranges(usize),
     Refused(u8),

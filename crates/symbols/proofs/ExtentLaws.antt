@@ -30,6 +30,7 @@ use Rattle.symbols.proofs.SoughtLaws.{exists-holds, same_test}
 
 module _ (a : ℕ) where
   pub held-left : (xs ys : List AddressRange) → Holds xs a → Holds (xs ++ ys) a
+  held-left [] ys x' = elim x' [ ]
   held-left (x ∷ xs) ys (inl h) = inl h
   held-left (x ∷ xs) ys (inr h) = inr (held-left xs ys h)
 

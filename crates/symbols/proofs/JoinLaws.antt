@@ -13,7 +13,7 @@ use borrow.Author.Tests.{leb-true, ltb-true, eqb-false}
 use Rattle.tlv.specs.declared.model.AddressRange.{AddressRange}
 use Rattle.tlv.specs.Lists.{All, exists, is_empty}
 use Rattle.tlv.specs.Bytes.{Bytes, le, le_at}
-use Rattle.tlv.specs.Outcome.{refused, done, ◌>>=◌}
+use Rattle.tlv.specs.Outcome.{refused, done}
 use Rattle.tlv.specs.Fields.{FieldList, end, cut, more, fields_from, fields, whole_fields, payloads}
 use Rattle.tlv.proofs.TestLaws.{and_left, and_right}
 use Rattle.tlv.proofs.OutcomeLaws.{done-is, refused-not, with_done}

@@ -34,6 +34,7 @@ holds-true a r h k = rw (le-leb r.start a h, lt-ltb a r.end k)
 
 pub exists-holds : (a : ℕ) (rs : List AddressRange) → Holds rs a → exists (holds a) rs ≡ true
 unfolding exists
+exists-holds a [] x' = elim x' [ ]
 exists-holds a (r ∷ rs) (inl h) = rw (holds-true a r h.0 h.1)
 exists-holds a (r ∷ rs) (inr h) = go (holds a r) (exists-holds a rs h)
   where

@@ -16,7 +16,7 @@ use tlv::tags::TRAY_FUNCTION_TAG;
 
 // The tables: `functions` merged ranges from the beginning of work on, and from `base` on `added` more, the first `merged` of which are merged. Where
 // there is no room, `fast` is false.
-#[derive(Drop)]
+#[derive(Clone, Copy)]
 pub struct Extents {
     pub fast: bool,
     pub functions: usize,
@@ -92,7 +92,7 @@ fn settle(work: &mut [u8], p: usize, n: usize) -> usize
 }
 
 // How many ranges were gathered; `fast` is false where they have no room.
-#[derive(Drop)]
+#[derive(Clone, Copy)]
 pub struct Gathered {
     pub fast: bool,
     pub n: usize,

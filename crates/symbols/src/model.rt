@@ -11,7 +11,7 @@ pub const SYMBOL_SIZE: usize = 16;
 pub const LAST: u64 = 18446744073709551615;
 
 // Why a join is refused; `refusal_number` of specs/Answers.antt gives document 02's numbers.
-#[derive(Drop)]
+#[derive(Clone, Copy)]
 pub enum Refusal {
     MisshapenRecords,
     MisshapenSymbol,
@@ -19,7 +19,7 @@ pub enum Refusal {
 }
 
 // The byte length of the result.
-#[derive(Drop)]
+#[derive(Clone, Copy)]
 pub enum Joined {
     Finished(usize),
     Refused(Refusal),

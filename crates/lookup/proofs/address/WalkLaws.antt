@@ -9,7 +9,7 @@ use borrow.Author.Tests.{le-leb, lt-leb, eq-eqb, ne_eqb}
 use Rattle.tlv.specs.declared.fields.Step.{Step}
 use Rattle.tlv.specs.Lists.{exists, take_while, first, last, or_else, map_option}
 use Rattle.tlv.specs.Bytes.{le_at}
-use Rattle.tlv.specs.Fields.{Field, payloads}
+use Rattle.tlv.specs.Fields.{payloads}
 use Rattle.tlv.specs.Cursor.{step_at}
 use Rattle.tlv.specs.Checked.{field_in}
 use Rattle.tlv.specs.Model.{range_of}

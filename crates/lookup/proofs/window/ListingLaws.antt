@@ -13,7 +13,7 @@ use Rattle.tlv.specs.declared.model.AddressRange.{AddressRange}
 use Rattle.tlv.specs.Outcome.{refused, done, ◌>>=◌}
 use Rattle.tlv.specs.Lists.{All, filter, is_empty}
 use Rattle.tlv.specs.Bytes.{Bytes, le_at}
-use Rattle.tlv.specs.Fields.{Field, fields, encode}
+use Rattle.tlv.specs.Fields.{fields, encode}
 use Rattle.tlv.specs.Cursor.{step_at}
 use Rattle.tlv.specs.Model.{range_of}
 use Rattle.tlv.proofs.CursorLaws.{field-within}

@@ -9,7 +9,7 @@ use lib.ListN.{length, drop}
 use borrow.Author.Tests.{le-leb, lt-leb, ne_eqb, eq-eqb, not-true, not-false}
 use Rattle.tlv.specs.declared.fields.Step.{Step}
 use Rattle.tlv.specs.Bytes.{le_at}
-use Rattle.tlv.specs.Fields.{Field, fields}
+use Rattle.tlv.specs.Fields.{fields}
 use Rattle.tlv.specs.Cursor.{step_at, fields_of}
 use Rattle.tlv.specs.Checked.{field_in}
 use Rattle.tlv.proofs.CursorLaws.{fields-at}

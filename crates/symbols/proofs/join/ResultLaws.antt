@@ -2,7 +2,7 @@
 use mathlib.Core.Path.{◌≡◌, refl, sym, ap, subst, ◌∙◌}
 use mathlib.Core.Bool.{true, ◌&&◌}
 use mathlib.Core.List.{List, [], ◌∷◌, ◌++◌, append-nil}
-use Prim.Native.Nat.{ℕ, zero, suc, ◌+◌, ◌-◌, ◌^◌, ◌≤◌, ◌<◌}
+use Prim.Native.Nat.{ℕ, zero, suc, ◌+◌, ◌^◌, ◌≤◌, ◌<◌}
 use native.Mathlib.Omega.{arith}
 use lib.Dec.{leb, ltb, eqb}
 use lib.ListN.{length, take, drop, set, length-append}
@@ -12,7 +12,7 @@ use Rattle.tlv.specs.declared.fields.Step.{Step}
 use Rattle.tlv.specs.declared.model.AddressRange.{AddressRange}
 use Rattle.tlv.specs.Addresses.{Nonempty}
 use Rattle.tlv.specs.Bytes.{Bytes, le_at}
-use Rattle.tlv.specs.Fields.{Field, fields, whole_fields, payloads}
+use Rattle.tlv.specs.Fields.{fields, whole_fields, payloads}
 use Rattle.tlv.specs.Cursor.{step_at, fields_of}
 use Rattle.tlv.specs.Checked.{field_in}
 use Rattle.tlv.proofs.TestLaws.{and_left, and_right}

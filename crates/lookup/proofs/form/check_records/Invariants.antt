@@ -1,0 +1,13 @@
+-- `form::check_records` meets its contract. The loop's invariant: the form of all is the form of what is left, after the fields so far.
+use mathlib.Core.Path.{◌≡◌}
+use Prim.Native.Nat.{◌≤◌, ◌-◌}
+use lib.ListN.{length, drop}
+use Rattle.tlv.specs.Fields.{fields}
+use Rattle.buffers.specs.Reader.{records_form}
+use Rattle.lookup.proofs.form.check_records.Given as goal
+
+abbrev pub invariant-loop-tag : goal.invariant-loop-tag
+invariant-loop-tag l = (l.p ≤ length l.s) × (records_form 0 0 (fields l.s) ≡ records_form l.previous l.depth (fields (drop l.p l.s)))
+
+abbrev pub decreases-loop-tag : goal.decreases-loop-tag
+decreases-loop-tag l = length l.s - l.p

@@ -1,0 +1,11 @@
+-- `gather::gather_ranges` meets its contract. The loop's invariant: the ranges put so far, and those of the fields from here on that fit, are all that fit.
+use Prim.Native.Nat.{◌-◌}
+use lib.ListN.{length}
+use Rattle.ranges.proofs.GatherLaws.{Gathering}
+use Rattle.ranges.proofs.gather.gather_ranges.Given as goal
+
+abbrev pub invariant-loop-start : goal.invariant-loop-start
+invariant-loop-start l = Gathering l.s l.at l.initial.work l.work l.q l.m l.to l.p l.n
+
+abbrev pub decreases-loop-start : goal.decreases-loop-start
+decreases-loop-start l = length l.s - l.p
