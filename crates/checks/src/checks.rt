@@ -67,7 +67,7 @@ pub fn is_oversize(
 }
 
 // The fields of both inputs, or the refusal.
-#[derive(Drop)]
+#[derive(Clone, Copy)]
 pub enum BothChecked {
     Accepted(usize),
     Refused(u8),

@@ -30,7 +30,7 @@ const OPEN_LISTS: usize = 257;
 // The tables that serve all units stand first: the main input's units at 0, its entries, the supplementary one's units and entries, the file table with its
 // room for files. From `lines` on stands what belongs to one unit, in rooms: its lines, its executable ranges, what a unit that is reached by reference
 // needs, the open nodes' ranges, the open and the closed call sites; behind them the followed targets.
-#[derive(Drop)]
+#[derive(Clone, Copy)]
 pub struct Layout {
     pub main_entries: usize,
     pub supplementary_units: usize,
@@ -53,7 +53,7 @@ pub struct Layout {
 }
 
 // Where the parts of one unit stand behind its lines.
-#[derive(Drop)]
+#[derive(Clone, Copy)]
 pub struct UnitLayout {
     pub text: usize,
     pub spans: usize,
@@ -64,7 +64,7 @@ pub struct UnitLayout {
 }
 
 // For each tag that needs a table, how many fields of it the input has.
-#[derive(Drop)]
+#[derive(Clone, Copy)]
 pub struct Counts {
     pub units: usize,
     pub text: usize,

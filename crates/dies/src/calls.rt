@@ -12,14 +12,14 @@ use tlv::model::FileIndex;
 use tlv::tags::UNIT_OFFSET;
 
 // The place in the warnings, and the refusal, 0 for none.
-#[derive(Drop)]
+#[derive(Clone, Copy)]
 pub struct Warned {
     pub at: usize,
     pub status: u8,
 }
 
 // A call's file with the place in the warnings, and the refusal, 0 for none.
-#[derive(Drop)]
+#[derive(Clone, Copy)]
 pub struct CalledFile {
     pub file: FileIndex,
     pub at: usize,
@@ -27,7 +27,7 @@ pub struct CalledFile {
 }
 
 // A call's line with the place in the warnings, and the refusal, 0 for none.
-#[derive(Drop)]
+#[derive(Clone, Copy)]
 pub struct CalledLine {
     pub line: u32,
     pub at: usize,

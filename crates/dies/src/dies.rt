@@ -16,7 +16,7 @@ use tlv::tags::{ENTRY_TAG, UNIT_TAG};
 
 // What is the same for every entry below a subprogram: the searches' tables, the unit's place and its map of file numbers, the function's range,
 // the two switches, where the open nodes' ranges, the open and the closed call sites are put, how many ranges a list can give, and whether the unit has lists.
-#[derive(Drop)]
+#[derive(Clone, Copy)]
 pub struct Details {
     pub tables: Tables,
     pub unit: usize,
@@ -33,7 +33,7 @@ pub struct Details {
 
 // How many inline nodes there are below the root, the places in the records and the warnings after them, and whether the records pass the largest place;
 // or the refusal.
-#[derive(Drop)]
+#[derive(Clone, Copy)]
 pub enum Extracted {
     Refused(u8),
     Details {

@@ -2,14 +2,14 @@
 ghost use Rattle.dies.specs.FrameStack.{Ready, Empty, Popped, shrunk};
 
 // An open node: the depth of its entry, and where its ranges begin in the stack of ranges.
-#[derive(Drop)]
+#[derive(Clone, Copy)]
 pub struct Frame {
     pub depth: u16,
     pub ranges: u32,
 }
 
 // The open nodes, of which there are n. The stack has `used` ranges: the function's own, and then each node's, the innermost last.
-#[derive(Drop)]
+#[derive(Clone, Copy)]
 pub struct Open {
     pub frames: [Frame; 256],
     pub n: usize,
@@ -31,7 +31,7 @@ pub fn none_open() -> Open
 }
 
 // What is left of the open nodes: how many there are, and how many ranges the stack has.
-#[derive(Drop)]
+#[derive(Clone, Copy)]
 pub struct Left {
     pub n: usize,
     pub used: usize,

@@ -1,4 +1,6 @@
 // Ranges in the work slice, the inline nodes that are open, and the walk over the entries below a subprogram.
+#![tactic(auto)]
+
 pub mod calls;
 pub mod dies;
 pub mod frames;

@@ -23,7 +23,7 @@ use tlv::model::{AddressRange, FileIndex};
 use tlv::tags::{ENTRY_DEPTH, ENTRY_WHOLE};
 
 // The places in the records and the warnings after a node, the refusal, 0 for none, and whether the records pass the largest place.
-#[derive(Drop)]
+#[derive(Clone, Copy)]
 pub struct Laid {
     pub at: usize,
     pub warned: usize,

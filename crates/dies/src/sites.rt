@@ -23,21 +23,21 @@ pub const OPEN_SITE: usize = 14;
 pub const CLOSED_SITE: usize = 12;
 
 // How many call sites are open, and how many are closed.
-#[derive(Drop)]
+#[derive(Clone, Copy)]
 pub struct Sites {
     pub opened: usize,
     pub closed: usize,
 }
 
 // The place in the records after the call sites, and whether they pass the largest place.
-#[derive(Drop)]
+#[derive(Clone, Copy)]
 pub struct LaidSites {
     pub at: usize,
     pub past: bool,
 }
 
 // An address that an attribute is; a failed one has no value.
-#[derive(Drop)]
+#[derive(Clone, Copy)]
 pub enum Address {
     Missing,
     Failed,

@@ -20,7 +20,7 @@ use tlv::tags::{ENTRY_DEPTH, ENTRY_KIND, ENTRY_TAG, UNIT_TAG};
 
 // What changes from entry to entry: the open nodes, how many call sites are open and closed, how many nodes there are,
 // the places in the records and the warnings, the refusal, 0 for none, and whether the records pass the largest place.
-#[derive(Drop)]
+#[derive(Clone, Copy)]
 pub struct Walk {
     pub frames: Open,
     pub opened: usize,

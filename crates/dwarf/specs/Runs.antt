@@ -1,7 +1,6 @@
 -- Contract. What an import promises up to refusal 15.
 use Rattle.std.specs.Prelude.{◌≡◌, Bool, cond, List, [], ℕ, ◌-◌, ◌≤◌, ltb, eqb, length, take, drop}
 use Rattle.tlv.specs.Outcome.{Outcome, refused, done}
-use Rattle.tlv.specs.Lists.{at}
 use Rattle.tlv.specs.Model.{CompilationUnit, units}
 use Rattle.buffers.specs.Buffer.{Put}
 use Rattle.buffers.specs.Output.{records_bytes, files_bytes, warnings_bytes}

@@ -1,4 +1,6 @@
 // The import of a unit and of all units (the Rust's convert/dwarf.rs).
+#![tactic(auto)]
+
 pub mod import;
 pub mod model;
 pub mod part;

@@ -2,7 +2,7 @@
 use subprograms::model::ConversionStats;
 
 // The answer of an import: the lengths of what was written to the three output buffers, and the statistics; or the papers' number of the refusal.
-#[derive(Drop)]
+#[derive(Clone, Copy)]
 pub enum Imported {
     Finished {
         records: usize,

@@ -9,7 +9,7 @@ use tlv::shapes::PART_LENGTH;
 use tlv::tags::{PART_TAG, UNIT_WHOLE};
 
 // Where the part begins and ends.
-#[derive(Drop)]
+#[derive(Clone, Copy)]
 pub struct Part {
     pub start: usize,
     pub end: usize,

@@ -18,7 +18,7 @@ use files::store::new_files;
 use subprograms::model::{ConversionStats, ImportState, no_stats};
 
 // The full lengths of what an import writes, each at most the largest place, the statistics, the refusal, 0 for none, and whether the records pass that place.
-#[derive(Drop)]
+#[derive(Clone, Copy)]
 pub struct Ran {
     pub records: usize,
     pub files: usize,
@@ -29,7 +29,7 @@ pub struct Ran {
 }
 
 // The units from number `from` to below `to`.
-#[derive(Drop)]
+#[derive(Clone, Copy)]
 pub struct Chosen {
     pub from: usize,
     pub to: usize,

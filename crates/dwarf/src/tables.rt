@@ -14,7 +14,7 @@ use checks::layout::Layout;
 use references::tables::Index;
 
 // The tables of both inputs.
-#[derive(Drop)]
+#[derive(Clone, Copy)]
 pub struct Indexes {
     pub main: Index,
     pub supplementary: Index,

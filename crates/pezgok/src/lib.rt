@@ -1,4 +1,6 @@
 // The import for callers from C and Rust: include/pezgok.h declares these functions.
+#![tactic(auto)]
+
 ghost use Rattle.std.specs.Prelude.{◌≡◌, []};
 ghost use Rattle.buffers.specs.Buffer.{Put};
 ghost use Rattle.dwarf.specs.Runs.{inputs_of};

@@ -25,7 +25,7 @@ use tlv::tags::ENTRY_WHOLE;
 
 // The file table and the places in the records and the warnings after a function's rows, how many these are, the refusal, 0 for none,
 // and whether the records pass the largest place.
-#[derive(Drop)]
+#[derive(Clone, Copy)]
 pub struct FoundLines {
     pub table: StoredFiles,
     pub at: usize,

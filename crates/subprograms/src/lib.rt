@@ -1,4 +1,6 @@
 // The subprograms of a unit: their ranges, rows and records (the Rust's import_unit_details).
+#![tactic(auto)]
+
 pub mod candidates;
 pub mod function_lines;
 pub mod functions;

@@ -7,7 +7,7 @@ use files::store::StoredFiles;
 use rows::unit_lines::StoredLines;
 
 // The statistics of document 01; each stays at its largest value.
-#[derive(Drop)]
+#[derive(Clone, Copy)]
 pub struct ConversionStats {
     pub functions: u64,
     pub line_rows: u64,
@@ -17,7 +17,7 @@ pub struct ConversionStats {
 
 // What is the same for every subprogram of a unit: the places of the searches, of the unit and of its lines, its n executable ranges at `text`,
 // the places of the walk below a subprogram, the two switches, a third of the bytes of the range lists, and whether the main sheet has any.
-#[derive(Drop)]
+#[derive(Clone, Copy)]
 pub struct ImportContext {
     pub places: Places,
     pub unit: usize,
@@ -35,7 +35,7 @@ pub struct ImportContext {
 
 // What changes from range to range: the file table, the places in the records and the warnings, the statistics, the refusal, 0 for none,
 // and whether the records pass the largest place.
-#[derive(Drop)]
+#[derive(Clone, Copy)]
 pub struct ImportState {
     pub table: StoredFiles,
     pub at: usize,

@@ -1,4 +1,6 @@
 // The words for the refusals.
+#![tactic(auto)]
+
 ghost use Rattle.buffers.specs.Buffer.{Put};
 ghost use Rattle.words.specs.Words.{refusal_word};
 

@@ -92,9 +92,9 @@ module _ {main supplementary program lists w w₁ : List ℕ} {l : Layout} {p : 
       let g = text-end in
       let h = walk-above in
       record {
-        main-index = made-tables.of-main.index;
+        main-index = made-tables.of_main.index;
         supplementary-index = made-tables.of-supplementary.index;
-        keys = keys-in_none (omega (arith, P.room, T.of-main.entry-count, T.of-supplementary.entry-count));
+        keys = keys-in_none (omega (arith, P.room, T.of_main.entry-count, T.of-supplementary.entry-count));
         main-units = omega arith;
         main-entries = omega arith;
         supplementary-units = omega arith;

@@ -4,7 +4,7 @@ use mathlib.Core.Bool.{Bool}
 use mathlib.Core.Logic.{inl, inr}
 use mathlib.Core.List.{List, [], ◌++◌, append_assoc}
 use mathlib.Core.Option.{Option, none, some}
-use Prim.Native.Nat.{ℕ, ◌+◌, ◌-◌, ◌≤◌}
+use Prim.Native.Nat.{ℕ, ◌+◌, ◌≤◌}
 use native.Mathlib.Omega.{arith}
 use lib.ListN.{length, take, drop, length-take, length-drop}
 use Rattle.tlv.specs.Outcome.{refused, ◌>>=◌}
@@ -162,7 +162,7 @@ module _ {main supplementary program lists w : List ℕ} {l : Layout} {p : UnitL
                   unit = unit_here main (M.unit-is i);
                   lines = lines_are i;
                   include_inlines = M.inlines-is i;
-                  include_call_sites = M.call-sites-is i;
+                  include_call_sites = M.call_sites-is i;
                 })
                 (unit_here main (M.unit-is i)).entries
                 (record { table = table_same i; records = rs; warnings = ws ++ C.new; stats = stats_of st.stats })))

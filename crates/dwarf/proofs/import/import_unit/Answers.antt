@@ -1,0 +1,9 @@
+-- `import::import_unit` meets its contract: what `import_by` promises of one unit.
+use Rattle.dwarf.proofs.AnswerLaws.{of_unit}
+use Rattle.dwarf.proofs.import.import_unit.Goals as goal
+
+pub import_by-requires : goal.import_by-requires
+import_by-requires c = c.ranges.first_file.fits
+
+pub returns : goal.returns
+returns c = of_unit c.import_by.ensures

@@ -1,0 +1,11 @@
+-- `text::index_text` meets its contract. The loop's invariant: what is written and the ranges of the fields that are left are the unit's.
+use Prim.Native.Nat.{◌-◌}
+use lib.ListN.{length}
+use Rattle.subprograms.proofs.text.TextLaws.{TextListing}
+use Rattle.subprograms.proofs.text.index_text.Given as goal
+
+abbrev pub invariant-loop-start : goal.invariant-loop-start
+invariant-loop-start l = TextListing l.main l.place l.initial.work l.work l.base l.p l.n
+
+abbrev pub decreases-loop-start : goal.decreases-loop-start
+decreases-loop-start l = length l.main - l.p
