@@ -1,4 +1,4 @@
-/* The proved import of one DWARF unit, or of all units, for C. Link libpezgok.a, which `rt staticlib pezgok` writes to target/staticlib.
+/* The proved import of one DWARF unit, or of all units, for C. Link libpezgok.a, which `interfaces/library` writes to target/staticlib.
  *
  * From a unit and an address to the calls that are running there, in this order (interfaces/frames.c is a whole program of it, the error paths too):
  *

@@ -1,4 +1,4 @@
-//! Links the static library, which `rt staticlib pezgok` writes. PEZGOK_LIB names its folder where it is another.
+//! Links the static library, which `interfaces/library` writes. PEZGOK_LIB names its folder where it is another.
 
 use std::env;
 use std::path::PathBuf;
@@ -12,7 +12,7 @@ fn main() {
     let library = folder.join("libpezgok.a");
     println!("cargo::rerun-if-changed={}", library.display());
     if !library.exists() {
-        println!("cargo::error=libpezgok.a is not there: run `rt staticlib pezgok` first");
+        println!("cargo::error=libpezgok.a is not there: run `interfaces/library` first");
         return;
     }
     println!("cargo::rustc-link-search=native={}", folder.display());
