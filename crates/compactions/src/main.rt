@@ -1,6 +1,9 @@
 // Compacts some lists of rows, and writes of each how many rows are left and what the slice then holds.
+#![tactic(auto)]
+
 ghost use Rattle.std.specs.Prelude.{◌≤◌};
 
+use std::io::{self, BufWriter, Write};
 use tlv::model::{FileIndex, LineEntry};
 
 // A code's two digits are the row's file and line; no two rows have the same column.
@@ -13,34 +16,31 @@ fn row(place: u16, code: u8) -> LineEntry {
     }
 }
 
-fn write_row(row: LineEntry) {
-    io::write_all(1, b" ");
-    io::print_decimal(1, row.address);
-    io::write_all(1, b":");
-    io::print_decimal(1, row.file.0 as u64);
-    io::write_all(1, b":");
-    io::print_decimal(1, row.line as u64);
-    io::write_all(1, b":");
-    io::print_decimal(1, row.column as u64);
+fn write_row(out: &mut impl Write, row: LineEntry) -> io::Result<()> {
+    let address = row.address;
+    let file = row.file.0;
+    let line = row.line;
+    let column = row.column;
+    write!(out, " {address}:{file}:{line}:{column}")
 }
 
-fn write_left(rows: [LineEntry; 6], count: usize) {
-    io::print_decimal(1, count as u64);
-    write_row(rows[0]);
-    write_row(rows[1]);
-    write_row(rows[2]);
-    write_row(rows[3]);
-    write_row(rows[4]);
-    write_row(rows[5]);
-    io::write_all(1, b"\n");
+fn write_left(out: &mut impl Write, rows: [LineEntry; 6], count: usize) -> io::Result<()> {
+    write!(out, "{count}")?;
+    write_row(out, rows[0])?;
+    write_row(out, rows[1])?;
+    write_row(out, rows[2])?;
+    write_row(out, rows[3])?;
+    write_row(out, rows[4])?;
+    write_row(out, rows[5])?;
+    writeln!(out)
 }
 
-// Compacts the first n of the rows. It lends structs, so its proof is by hand.
-fn compact(mut rows: [LineEntry; 6], n: usize)
+// Compacts the first n of the rows.
+fn compact(out: &mut impl Write, mut rows: [LineEntry; 6], n: usize) -> io::Result<()>
     requires { n ≤ 6 }
 {
     let count = normalize::compact_line_rows(&mut rows[..n]);
-    write_left(rows, count);
+    write_left(out, rows, count)
 }
 
 fn rows_of(codes: [u8; 6]) -> [LineEntry; 6] {
@@ -54,25 +54,30 @@ fn rows_of(codes: [u8; 6]) -> [LineEntry; 6] {
     ]
 }
 
-fn show(name: &[u8], codes: [u8; 6], n: usize)
+fn show(out: &mut impl Write, name: &str, codes: [u8; 6], n: usize) -> io::Result<()>
     requires { n ≤ 6 }
 {
-    io::write_all(1, name);
-    io::write_all(1, b": ");
-    compact(rows_of(codes), n);
+    write!(out, "{name}: ")?;
+    compact(out, rows_of(codes), n)
 }
 
-fn main() {
-    show(b"no rows", [11, 11, 11, 11, 11, 11], 0);
-    show(b"one row", [11, 11, 11, 11, 11, 11], 1);
-    show(b"all repeat", [11, 11, 11, 11, 11, 11], 6);
-    show(b"none repeats", [11, 12, 13, 21, 22, 23], 6);
-    show(b"run at the front", [11, 11, 11, 12, 13, 14], 6);
-    show(b"run in the middle", [11, 12, 12, 12, 13, 14], 6);
-    show(b"run at the end", [11, 12, 13, 14, 14, 14], 6);
-    show(b"three runs", [11, 11, 12, 12, 13, 13], 6);
-    show(b"other line", [11, 12, 11, 12, 11, 12], 6);
-    show(b"other file", [11, 21, 11, 21, 11, 21], 6);
-    show(b"back again", [11, 11, 22, 22, 11, 11], 6);
-    show(b"part of the rows", [11, 11, 12, 12, 12, 12], 3);
+fn show_all(out: &mut impl Write) -> io::Result<()> {
+    show(out, "no rows", [11, 11, 11, 11, 11, 11], 0)?;
+    show(out, "one row", [11, 11, 11, 11, 11, 11], 1)?;
+    show(out, "all repeat", [11, 11, 11, 11, 11, 11], 6)?;
+    show(out, "none repeats", [11, 12, 13, 21, 22, 23], 6)?;
+    show(out, "run at the front", [11, 11, 11, 12, 13, 14], 6)?;
+    show(out, "run in the middle", [11, 12, 12, 12, 13, 14], 6)?;
+    show(out, "run at the end", [11, 12, 13, 14, 14, 14], 6)?;
+    show(out, "three runs", [11, 11, 12, 12, 13, 13], 6)?;
+    show(out, "other line", [11, 12, 11, 12, 11, 12], 6)?;
+    show(out, "other file", [11, 21, 11, 21, 11, 21], 6)?;
+    show(out, "back again", [11, 11, 22, 22, 11, 11], 6)?;
+    show(out, "part of the rows", [11, 11, 12, 12, 12, 12], 3)
+}
+
+fn main(rt: HostRuntime) -> io::Result<()> {
+    let mut out = BufWriter::new(rt.alloc(), io::writer(&rt))?;
+    show_all(&mut out)?;
+    out.flush()
 }

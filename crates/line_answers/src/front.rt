@@ -5,6 +5,7 @@ ghost use Rattle.rows.specs.Selects.{RowsBelow};
 
 use rows::line::{ENTRY_SIZE, LINE_SIZE};
 use rows::unit_lines::StoredLines;
+use std::io::{self, Write};
 
 // A row in the table, and room for it among a function's rows.
 const STORED: usize = LINE_SIZE + ENTRY_SIZE;
@@ -50,7 +51,13 @@ fn front_below(work: &[u8], l: StoredLines, range: tlv::model::AddressRange, mos
 
 // A query: start (8 bytes), end (8), whether a sequence is asked for (1), its offset (8), how many rows at the front the loop passes over at once (4);
 // false where one of those does not lie below the range.
-fn answer_query(queries: &[u8], p: usize, work: &mut [u8], l: StoredLines) -> bool
+fn answer_query(
+    out: &mut impl Write,
+    queries: &[u8],
+    p: usize,
+    work: &mut [u8],
+    l: StoredLines,
+) -> io::Result<bool>
     requires p_in_bounds { p + 29 ≤ length queries.now }
     requires line_size_bound { l.lines + l.line_count * line_size ≤ l.buffer }
     requires entry_size_in_bounds { l.buffer + l.line_count * entry_size ≤ length work.old }
@@ -62,49 +69,53 @@ fn answer_query(queries: &[u8], p: usize, work: &mut [u8], l: StoredLines) -> bo
     let asked = rows::line::sequence_at(queries, p + 16);
     let wanted = tlv::bytes::read_u32(queries, p + 25) as usize;
     if l.line_count < wanted {
-        return false;
+        return Ok(false);
     }
     let below = front_below(work, l, range, wanted);
     if below < wanted {
-        return false;
+        return Ok(false);
     }
     let own = rows::unit_lines::own_rows(work, l, range, asked, l.buffer, below);
-    io::write_all(1, b"\nplace ");
-    io::print_decimal(1, own.past as u64);
-    crate::write_rows(work, l.buffer, own.count);
-    true
+    let past = own.past;
+    write!(out, "\nplace {past}")?;
+    crate::write_rows(out, work, l.buffer, own.count)?;
+    Ok(true)
 }
 
-fn answer_queries(queries: &[u8], work: &mut [u8], l: StoredLines) -> bool
+fn answer_queries(
+    out: &mut impl Write,
+    queries: &[u8],
+    work: &mut [u8],
+    l: StoredLines,
+) -> io::Result<bool>
     requires line_size_bound { l.lines + l.line_count * line_size ≤ l.buffer }
     requires entry_size_in_bounds { l.buffer + l.line_count * entry_size ≤ length work.old }
 {
     let mut p = 0;
     while 29 <= queries.len() - p {
-        if !answer_query(queries, p, work, l) {
-            return false;
+        if !answer_query(out, queries, p, work, l)? {
+            return Ok(false);
         }
         p += 29;
     }
-    true
+    Ok(true)
 }
 
 // How many rows there are (4 bytes), the rows: address (8), file (4), line (4), whether a sequence is known (1), its offset (8); then the queries.
-pub fn answer_front(call: &[u8], work: &mut [u8]) -> bool {
+pub fn answer_front(out: &mut impl Write, call: &[u8], work: &mut [u8]) -> io::Result<bool> {
     if call.len() < 4 {
-        return false;
+        return Ok(false);
     }
     let count = tlv::bytes::read_u32(call, 0) as usize;
     let end = 4 + count * LINE_SIZE;
     if call.len() < end {
-        return false;
+        return Ok(false);
     }
     if work.len() / STORED < count {
-        return false;
+        return Ok(false);
     }
     store_rows(&call[4..end], count, work);
-    io::write_all(1, b"front ");
-    io::print_decimal(1, count as u64);
+    write!(out, "front {count}")?;
     let l = StoredLines {
         lines: 0,
         line_count: count,
@@ -112,5 +123,5 @@ pub fn answer_front(call: &[u8], work: &mut [u8]) -> bool {
         sequence_count: 0,
         buffer: count * LINE_SIZE,
     };
-    answer_queries(&call[end..], work, l)
+    answer_queries(out, &call[end..], work, l)
 }

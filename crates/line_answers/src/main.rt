@@ -1,4 +1,6 @@
 // Reads calls of the lines layer from standard input and writes what its functions answer (oracle/README.md says how both stand).
+#![tactic(auto)]
+
 ghost use Rattle.std.specs.Prelude.{◌+◌, ◌*◌, ◌≤◌, length};
 ghost use Rattle.rows.specs.Selects.{RowsIn};
 
@@ -6,64 +8,82 @@ use crate::collected::collect_case;
 use crate::output::{write_offsets, write_path, write_refused, write_rows};
 use collect::collect::CollectedLines;
 use rows::unit_lines::StoredLines;
+use std::io::{self, BufReader, BufWriter, Read, Write};
+use streams::read_full;
 
 pub mod collected;
 mod front;
 pub mod output;
 
+// The longest call.
+const CALL_LIMIT: usize = 16384;
+
+const WORK_SIZE: usize = 65536;
+
 // The number in the next 4 bytes.
-fn next_u32() -> u32 {
+fn next_u32(input: &mut impl Read) -> io::Result<u32> {
     let mut bytes = [0u8; 4];
-    io::read_full(0, &mut bytes);
-    tlv::bytes::read_u32(&bytes, 0)
+    read_full(input, &mut bytes)?;
+    Ok(tlv::bytes::read_u32(&bytes, 0))
 }
 
 // The next byte.
-fn next_u8() -> u8 {
+fn next_u8(input: &mut impl Read) -> io::Result<u8> {
     let mut bytes = [0u8; 1];
-    io::read_full(0, &mut bytes);
-    bytes[0]
+    read_full(input, &mut bytes)?;
+    Ok(bytes[0])
 }
 
 // The answers follow, one function for each kind of call; false where the call is cut off or has no room.
 
 // A place (8 bytes), then the program.
-fn answer_operand(call: &[u8]) -> bool {
+fn answer_operand(out: &mut impl Write, call: &[u8]) -> io::Result<bool> {
     if call.len() < 8 {
-        return false;
+        return Ok(false);
     }
     let place = tlv::bytes::read_u64(call, 0) as usize;
     match line_program::operand::read_line_uleb(&call[8..], place) {
         line_program::operand::Operand::Value { value, next } => {
-            io::write_all(1, b"operand ");
-            io::print_decimal(1, value);
-            io::write_all(1, b" ");
-            io::print_decimal(1, next as u64);
+            write!(out, "operand {value} {next}")?;
         }
         line_program::operand::Operand::Fault(refusal) => {
-            write_refused(refusal);
+            write_refused(out, refusal)?;
         }
     }
-    true
+    Ok(true)
 }
 
 // The opcode base (1 byte), how many opcode lengths there are (1), the program's offset (8), the lengths, the program.
-fn answer_program(call: &[u8], work: &mut [u8]) -> bool {
+fn answer_program(out: &mut impl Write, call: &[u8], work: &mut [u8]) -> io::Result<bool> {
     if call.len() < 10 {
-        return false;
+        return Ok(false);
     }
     let opcode_base = call[0];
     let start = 10 + tlv::bytes::read_u8(call, 1) as usize;
     let offset = tlv::bytes::read_u64(call, 2);
     if call.len() < start {
-        return false;
+        return Ok(false);
     }
-    scan(&call[start..], &call[10..start], opcode_base, offset, work)
+    scan(
+        out,
+        &call[start..],
+        &call[10..start],
+        opcode_base,
+        offset,
+        work,
+    )
 }
 
-fn scan(program: &[u8], lengths: &[u8], opcode_base: u8, offset: u64, work: &mut [u8]) -> bool {
+fn scan(
+    out: &mut impl Write,
+    program: &[u8],
+    lengths: &[u8],
+    opcode_base: u8,
+    offset: u64,
+    work: &mut [u8],
+) -> io::Result<bool> {
     if work.len() / 8 < program.len() / 3 {
-        return false;
+        return Ok(false);
     }
     match line_program::lines::scan_line_sequence_offsets(
         program,
@@ -75,62 +95,68 @@ fn scan(program: &[u8], lengths: &[u8], opcode_base: u8, offset: u64, work: &mut
     ) {
         line_program::lines::Scan::Count(n) => {
             let end = n * 8;
-            write_offsets(&work[..end]);
+            write_offsets(out, &work[..end])?;
         }
         line_program::lines::Scan::Fault(refusal) => {
-            write_refused(refusal);
+            write_refused(out, refusal)?;
         }
     }
-    true
+    Ok(true)
 }
 
 // The path.
-fn answer_path(path: &[u8]) {
-    io::write_all(1, b"path ");
-    write_path(paths::path::directory_of(path));
-    io::write_all(1, b"|");
-    write_path(paths::path::basename_of(path));
+fn answer_path(out: &mut impl Write, path: &[u8]) -> io::Result<()> {
+    write!(out, "path ")?;
+    write_path(out, paths::path::directory_of(path))?;
+    write!(out, "|")?;
+    write_path(out, paths::path::basename_of(path))?;
     if paths::path::is_absolute_path(path) {
-        io::write_all(1, b"|1");
+        write!(out, "|1")
     } else {
-        io::write_all(1, b"|0");
+        write!(out, "|0")
     }
 }
 
 // The length of the first component (2 bytes), the first, the second.
-fn answer_join(call: &[u8], work: &mut [u8]) -> bool {
+fn answer_join(out: &mut impl Write, call: &[u8], work: &mut [u8]) -> io::Result<bool> {
     if call.len() < 2 {
-        return false;
+        return Ok(false);
     }
     let start = 2 + tlv::bytes::read_u16(call, 0) as usize;
     if call.len() < start {
-        return false;
+        return Ok(false);
     }
-    join(&call[2..start], &call[start..], work)
+    join(out, &call[2..start], &call[start..], work)
 }
 
-fn join(first: &[u8], second: &[u8], work: &mut [u8]) -> bool {
+fn join(out: &mut impl Write, first: &[u8], second: &[u8], work: &mut [u8]) -> io::Result<bool> {
     if work.len() <= first.len() {
-        return false;
+        return Ok(false);
     }
     let n = paths::path::append_path(work, 0, 0, first);
     if work.len() <= n {
-        return false;
+        return Ok(false);
     }
     if work.len() - n <= second.len() {
-        return false;
+        return Ok(false);
     }
     let m = paths::path::append_path(work, 0, n, second);
     if work.len() < m {
-        return false;
+        return Ok(false);
     }
-    io::write_all(1, b"joined ");
-    write_path(&work[..m]);
-    true
+    write!(out, "joined ")?;
+    write_path(out, &work[..m])?;
+    Ok(true)
 }
 
 // A query: start (8 bytes), end (8), whether a sequence is asked for (1), its offset (8).
-fn answer_query(queries: &[u8], p: usize, work: &mut [u8], l: StoredLines)
+fn answer_query(
+    out: &mut impl Write,
+    queries: &[u8],
+    p: usize,
+    work: &mut [u8],
+    l: StoredLines,
+) -> io::Result<()>
     requires p_in_bounds { p + 25 ≤ length queries.now }
     requires rows_in { RowsIn work.old l }
     ensures { RowsIn work.new l }
@@ -141,54 +167,69 @@ fn answer_query(queries: &[u8], p: usize, work: &mut [u8], l: StoredLines)
     };
     let r = rows::unit_lines::for_range(work, l, range, rows::line::sequence_at(queries, p + 16));
     if r.invalid {
-        io::write_all(1, b"\nrows 1");
+        write!(out, "\nrows 1")?;
     } else {
-        io::write_all(1, b"\nrows 0");
+        write!(out, "\nrows 0")?;
     }
-    write_rows(work, r.rows, r.count);
+    write_rows(out, work, r.rows, r.count)
 }
 
-fn answer_queries(queries: &[u8], work: &mut [u8], l: StoredLines)
+fn answer_queries(
+    out: &mut impl Write,
+    queries: &[u8],
+    work: &mut [u8],
+    l: StoredLines,
+) -> io::Result<()>
     requires { RowsIn work.old l }
 {
     let mut p = 0;
     while 25 <= queries.len() - p {
-        answer_query(queries, p, work, l);
+        answer_query(out, queries, p, work, l)?;
         p += 25;
     }
+    Ok(())
 }
 
 // How many lines and sequences there are, the files, and the warnings.
-fn write_collected(l: StoredLines, files: &[u8], warnings: &[u8]) {
-    io::write_all(1, b"lines ");
-    io::print_decimal(1, l.line_count as u64);
-    io::write_all(1, b" sequences ");
-    io::print_decimal(1, l.sequence_count as u64);
-    io::write_all(1, b"|");
-    write_path(files);
-    io::write_all(1, b"|");
-    write_path(warnings);
+fn write_collected(
+    out: &mut impl Write,
+    l: StoredLines,
+    files: &[u8],
+    warnings: &[u8],
+) -> io::Result<()> {
+    let lines = l.line_count;
+    let sequences = l.sequence_count;
+    write!(out, "lines {lines} sequences {sequences}|")?;
+    write_path(out, files)?;
+    write!(out, "|")?;
+    write_path(out, warnings)
 }
 
 // The lengths of the sheet and of the program (4 bytes each), the sheet, the program, the queries.
-fn answer_rows(call: &[u8], work: &mut [u8]) -> bool {
+fn answer_rows(out: &mut impl Write, call: &[u8], work: &mut [u8]) -> io::Result<bool> {
     if call.len() < 8 {
-        return false;
+        return Ok(false);
     }
     let start = 8 + tlv::bytes::read_u32(call, 0) as usize;
     let end = start + tlv::bytes::read_u32(call, 4) as usize;
     if call.len() < end {
-        return false;
+        return Ok(false);
     }
-    collect_rows(&call[8..start], &call[start..end], &call[end..], work)
+    collect_rows(out, &call[8..start], &call[start..end], &call[end..], work)
 }
 
-fn collect_rows(main: &[u8], program: &[u8], queries: &[u8], work: &mut [u8]) -> bool {
+fn collect_rows(
+    out: &mut impl Write,
+    main: &[u8],
+    program: &[u8],
+    queries: &[u8],
+    work: &mut [u8],
+) -> io::Result<bool> {
     let mut files = [0u8; 16384];
     let mut warnings = [0u8; 16384];
     match collect_case(main, program, work, &mut files, &mut warnings) {
         CollectedLines::Refused(refusal) => {
-            write_refused(refusal);
+            write_refused(out, refusal)?;
         }
         CollectedLines::Lines {
             lines: l,
@@ -198,60 +239,80 @@ fn collect_rows(main: &[u8], program: &[u8], queries: &[u8], work: &mut [u8]) ->
         } => {
             let written = table.written;
             if 16384 < written {
-                return false;
+                return Ok(false);
             }
             if 16384 < warned {
-                return false;
+                return Ok(false);
             }
-            write_collected(l, &files[..written], &warnings[..warned]);
-            answer_queries(queries, work, l);
+            write_collected(out, l, &files[..written], &warnings[..warned])?;
+            answer_queries(out, queries, work, l)?;
         }
     }
-    true
+    Ok(true)
 }
 
-fn answer(kind: u8, call: &[u8], work: &mut [u8]) -> bool {
+fn answer(out: &mut impl Write, kind: u8, call: &[u8], work: &mut [u8]) -> io::Result<bool> {
     match kind {
-        1 => answer_operand(call),
-        2 => answer_program(call, work),
+        1 => answer_operand(out, call),
+        2 => answer_program(out, call, work),
         3 => {
-            answer_path(call);
-            true
+            answer_path(out, call)?;
+            Ok(true)
         }
-        4 => answer_join(call, work),
-        5 => answer_rows(call, work),
-        6 => front::answer_front(call, work),
-        _ => false,
+        4 => answer_join(out, call, work),
+        5 => answer_rows(out, call, work),
+        6 => front::answer_front(out, call, work),
+        _ => Ok(false),
     }
 }
 
 // Answers the next call; false where that can't be done, with a message.
-fn next_answer(buffer: &mut [u8], work: &mut [u8]) -> bool {
-    let kind = next_u8();
-    let n = next_u32() as usize;
+fn next_answer(
+    input: &mut impl Read,
+    out: &mut impl Write,
+    buffer: &mut [u8],
+    work: &mut [u8],
+) -> io::Result<bool> {
+    let kind = next_u8(input)?;
+    let n = next_u32(input)? as usize;
     if buffer.len() < n {
-        io::write_all(1, b"longer than the buffer\n");
-        return false;
+        writeln!(out, "longer than the buffer")?;
+        return Ok(false);
     }
-    if io::read_full(0, &mut buffer[..n]) < n {
-        io::write_all(1, b"cut off\n");
-        return false;
+    if read_full(input, &mut buffer[..n])? < n {
+        writeln!(out, "cut off")?;
+        return Ok(false);
     }
-    if !answer(kind, &buffer[..n], work) {
-        io::write_all(1, b"no such call\n");
-        return false;
+    if !answer(out, kind, &buffer[..n], work)? {
+        writeln!(out, "no such call")?;
+        return Ok(false);
     }
-    io::write_all(1, b"\n");
-    true
+    writeln!(out)?;
+    Ok(true)
 }
 
-pub fn main() {
-    let mut buffer = [0u8; 16384];
-    let mut work = [0u8; 65536];
-    let count = next_u32();
+// Answers all calls of an input.
+fn answer_all(
+    input: &mut impl Read,
+    out: &mut impl Write,
+    buffer: &mut [u8],
+    work: &mut [u8],
+) -> io::Result<()> {
+    let count = next_u32(input)?;
     for _ in 0..count {
-        if !next_answer(&mut buffer, &mut work) {
-            return;
+        if !next_answer(input, out, buffer, work)? {
+            return Ok(());
         }
     }
+    Ok(())
+}
+
+pub fn main(rt: HostRuntime) -> io::Result<()> {
+    let alloc = rt.alloc();
+    let mut buffer = vec![in alloc; 0u8; CALL_LIMIT]?;
+    let mut work = vec![in alloc; 0u8; WORK_SIZE]?;
+    let mut input = BufReader::new(alloc, rt.reader())?;
+    let mut out = BufWriter::new(alloc, io::writer(&rt))?;
+    answer_all(&mut input, &mut out, &mut buffer, &mut work)?;
+    out.flush()
 }

@@ -3,14 +3,10 @@ ghost use Rattle.std.specs.Prelude.{◌+◌, ◌*◌, ◌≤◌, length};
 ghost use Rattle.rows.specs.Sizes.{entry_size};
 
 use rows::line::ENTRY_SIZE;
+use std::io::{self, Write};
 
-fn wide(b: u8) -> u64 {
-    b as u64
-}
-
-pub fn write_refused(refusal: u8) {
-    io::write_all(1, b"refused ");
-    io::print_decimal(1, wide(refusal));
+pub fn write_refused(out: &mut impl Write, refusal: u8) -> io::Result<()> {
+    write!(out, "refused {refusal}")
 }
 
 // Whether a byte of a path is written as it is.
@@ -27,54 +23,51 @@ fn is_plain(b: u8) -> bool {
     b < 0x7f
 }
 
-fn write_byte(b: u8) {
+fn write_byte(out: &mut impl Write, b: u8) -> io::Result<()> {
     if is_plain(b) {
-        let byte = [b];
-        io::write_all(1, &byte);
+        out.write_all(&[b])
     } else {
-        io::write_all(1, b"\\");
-        io::print_hex(1, wide(b), 2);
+        write!(out, "\\{b:02x}")
     }
 }
 
-pub fn write_path(path: &[u8]) {
+pub fn write_path(out: &mut impl Write, path: &[u8]) -> io::Result<()> {
     let mut i = 0;
     while i < path.len() {
-        write_byte(path[i]);
+        write_byte(out, path[i])?;
         i += 1;
     }
+    Ok(())
 }
 
 // The numbers of a table, eight bytes each.
-pub fn write_offsets(table: &[u8]) {
-    io::write_all(1, b"sequences");
+pub fn write_offsets(out: &mut impl Write, table: &[u8]) -> io::Result<()> {
+    write!(out, "sequences")?;
     let mut p = 0;
     while 8 <= table.len() - p {
-        io::write_all(1, b" ");
-        io::print_hex(1, tlv::bytes::read_u64(table, p), 1);
+        let offset = tlv::bytes::read_u64(table, p);
+        write!(out, " {offset:x}")?;
         p += 8;
     }
+    Ok(())
 }
 
-fn write_entry(entry: tlv::model::LineEntry) {
-    let file = entry.file;
-    io::write_all(1, b" ");
-    io::print_hex(1, entry.address, 1);
-    io::write_all(1, b":");
-    io::print_decimal(1, file.0 as u64);
-    io::write_all(1, b":");
-    io::print_decimal(1, entry.line as u64);
-    io::write_all(1, b":");
-    io::print_decimal(1, entry.column as u64);
+fn write_entry(out: &mut impl Write, entry: tlv::model::LineEntry) -> io::Result<()> {
+    let address = entry.address;
+    let file = entry.file.0;
+    let line = entry.line;
+    let column = entry.column;
+    write!(out, " {address:x}:{file}:{line}:{column}")
 }
 
 // The `count` rows that stand at a place.
-pub fn write_rows(work: &[u8], rows: usize, count: usize)
+pub fn write_rows(out: &mut impl Write, work: &[u8], rows: usize, count: usize) -> io::Result<()>
     requires { rows + count * entry_size ≤ length work.now }
 {
     let mut i = 0;
     while i < count {
-        write_entry(rows::line::entry_at(work, rows + i * ENTRY_SIZE));
+        write_entry(out, rows::line::entry_at(work, rows + i * ENTRY_SIZE))?;
         i += 1;
     }
+    Ok(())
 }

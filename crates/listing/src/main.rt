@@ -1,5 +1,14 @@
 // Document 01's listing program: imports unit 0 of unit.main, with unit.sup and unit.line, and prints what the import gives.
+#![tactic(auto)]
+
+ghost use Rattle.std.specs.Prelude.{◌≤◌, IfOk, length};
+
 use dwarf::model::Imported;
+use std::alloc::Global;
+use std::fs;
+use std::io::{self, BufWriter, Write};
+use std::rt::Files;
+use streams::read_full;
 use subprograms::model::ConversionStats;
 use tlv::fields::Step;
 use tlv::tags::{
@@ -17,173 +26,159 @@ const ROW_SIZE: usize = buffers::output::TRAY_ROW as usize;
 
 const ROW_COLUMN: usize = buffers::output::TRAY_COLUMN as usize;
 
+// The work of the import, and each of its output buffers.
+const WORK_SIZE: usize = 57344;
+
+const TRAY_SIZE: usize = 32768;
+
 // Reads the file of a name, as far as the buffer goes, and answers how many bytes came; a file that can't be opened is empty.
-fn read_file(name: &[u8], buffer: &mut [u8]) -> usize {
-    let fd = os::open_read(name);
-    if fd < 0 {
-        return 0;
+fn read_file(rt: &impl Files, name: &str, buffer: &mut [u8]) -> io::Result<usize>
+    ensures { IfOk result (λ n. n ≤ length buffer.new) }
+{
+    match fs::open(rt, name) {
+        Ok(mut file) => read_full(&mut file, buffer),
+        Err(_) => Ok(0),
     }
-    let n = io::read_full(fd, buffer);
-    libc::close(fd);
-    n
 }
 
-fn write_space() {
-    io::write_all(1, b" ");
+fn write_space(out: &mut impl Write) -> io::Result<()> {
+    write!(out, " ")
 }
 
-fn write_hex(n: u64) {
-    write_space();
-    io::print_hex(1, n, 1);
+fn write_hex(out: &mut impl Write, n: u64) -> io::Result<()> {
+    write!(out, " {n:x}")
 }
 
-fn write_decimal(n: u64) {
-    write_space();
-    io::print_decimal(1, n);
+fn write_decimal(out: &mut impl Write, n: u64) -> io::Result<()> {
+    write!(out, " {n}")
 }
 
-fn write_text(s: &[u8]) {
-    write_space();
-    io::write_all(1, s);
+fn write_text(out: &mut impl Write, s: &[u8]) -> io::Result<()> {
+    write_space(out)?;
+    out.write_all(s)
 }
 
-fn end_line() {
-    io::write_all(1, b"\n");
+fn end_line(out: &mut impl Write) -> io::Result<()> {
+    writeln!(out)
 }
 
 // 41: start, end, name.
-fn write_function(p: &[u8]) {
+fn write_function(out: &mut impl Write, p: &[u8]) -> io::Result<()> {
     if p.len() < 16 {
-        return;
+        return Ok(());
     }
-    io::write_all(1, b"function ");
-    io::print_hex(1, tlv::bytes::read_u64(p, 0), 1);
-    write_hex(tlv::bytes::read_u64(p, 8));
-    write_text(&p[16..]);
-    end_line();
+    let start = tlv::bytes::read_u64(p, 0);
+    write!(out, "function {start:x}")?;
+    write_hex(out, tlv::bytes::read_u64(p, 8))?;
+    write_text(out, &p[16..])?;
+    end_line(out)
 }
 
 // 42: address, file, line, column.
-fn write_row(p: &[u8]) {
+fn write_row(out: &mut impl Write, p: &[u8]) -> io::Result<()> {
     if p.len() < ROW_SIZE {
-        return;
+        return Ok(());
     }
-    io::write_all(1, b"row ");
-    io::print_hex(1, tlv::bytes::read_u64(p, 0), 1);
-    write_decimal(tlv::bytes::read_u32(p, 8) as u64);
-    write_decimal(tlv::bytes::read_u32(p, 12) as u64);
-    write_decimal(tlv::bytes::read_u16(p, ROW_COLUMN) as u64);
-    end_line();
+    let address = tlv::bytes::read_u64(p, 0);
+    write!(out, "row {address:x}")?;
+    write_decimal(out, tlv::bytes::read_u32(p, 8) as u64)?;
+    write_decimal(out, tlv::bytes::read_u32(p, 12) as u64)?;
+    write_decimal(out, tlv::bytes::read_u16(p, ROW_COLUMN) as u64)?;
+    end_line(out)
 }
 
 // 43: depth, call file, call line, name.
-fn write_inline(p: &[u8]) {
+fn write_inline(out: &mut impl Write, p: &[u8]) -> io::Result<()> {
     if p.len() < 10 {
-        return;
+        return Ok(());
     }
-    io::write_all(1, b"inline ");
-    io::print_decimal(1, tlv::bytes::read_u16(p, 0) as u64);
-    write_decimal(tlv::bytes::read_u32(p, 2) as u64);
-    write_decimal(tlv::bytes::read_u32(p, 6) as u64);
-    write_text(&p[10..]);
-    end_line();
+    let depth = tlv::bytes::read_u16(p, 0);
+    write!(out, "inline {depth}")?;
+    write_decimal(out, tlv::bytes::read_u32(p, 2) as u64)?;
+    write_decimal(out, tlv::bytes::read_u32(p, 6) as u64)?;
+    write_text(out, &p[10..])?;
+    end_line(out)
 }
 
 // 44: start, end.
-fn write_range(p: &[u8]) {
+fn write_range(out: &mut impl Write, p: &[u8]) -> io::Result<()> {
     if p.len() < 16 {
-        return;
+        return Ok(());
     }
-    io::write_all(1, b"range ");
-    io::print_hex(1, tlv::bytes::read_u64(p, 0), 1);
-    write_hex(tlv::bytes::read_u64(p, 8));
-    end_line();
+    let start = tlv::bytes::read_u64(p, 0);
+    write!(out, "range {start:x}")?;
+    write_hex(out, tlv::bytes::read_u64(p, 8))?;
+    end_line(out)
 }
 
 // 45: return offset, pattern count, pattern. A site without a pattern ends after its offset.
-fn write_site(p: &[u8]) {
+fn write_site(out: &mut impl Write, p: &[u8]) -> io::Result<()> {
     if p.len() < 9 {
-        return;
+        return Ok(());
     }
-    io::write_all(1, b"site ");
-    io::print_hex(1, tlv::bytes::read_u64(p, 0), 1);
+    let address = tlv::bytes::read_u64(p, 0);
+    write!(out, "site {address:x}")?;
     if tlv::bytes::read_u8(p, 8) != 0 {
-        write_text(&p[9..]);
+        write_text(out, &p[9..])?;
     }
-    end_line();
+    end_line(out)
 }
 
 // 40: directory length, directory, basename; its number in the table goes before them.
-fn write_file(p: &[u8], number: u64) {
+fn write_file(out: &mut impl Write, p: &[u8], number: u64) -> io::Result<()> {
     if p.len() < 2 {
-        return;
+        return Ok(());
     }
     let split = 2 + tlv::bytes::read_u16(p, 0) as usize;
     if p.len() < split {
-        return;
+        return Ok(());
     }
-    io::write_all(1, b"file ");
-    io::print_decimal(1, number);
-    write_text(&p[2..split]);
-    write_text(&p[split..]);
-    end_line();
+    write!(out, "file {number}")?;
+    write_text(out, &p[2..split])?;
+    write_text(out, &p[split..])?;
+    end_line(out)
 }
 
 // 46: kind, then two numbers, or of kinds 1 and 2 the reason.
-fn write_warning(p: &[u8]) {
+fn write_warning(out: &mut impl Write, p: &[u8]) -> io::Result<()> {
     if p.len() < 1 {
-        return;
+        return Ok(());
     }
     let kind = tlv::bytes::read_u8(p, 0);
-    io::write_all(1, b"warning ");
-    io::print_decimal(1, kind as u64);
+    write!(out, "warning {kind}")?;
     if kind < 3 {
-        write_text(&p[1..]);
+        write_text(out, &p[1..])?;
     } else if 17 <= p.len() {
-        write_hex(tlv::bytes::read_u64(p, 1));
-        write_hex(tlv::bytes::read_u64(p, 9));
+        write_hex(out, tlv::bytes::read_u64(p, 1))?;
+        write_hex(out, tlv::bytes::read_u64(p, 9))?;
     }
-    end_line();
+    end_line(out)
 }
 
 // The line of a field of an output buffer.
-fn write_field(tag: u8, p: &[u8], number: u64) {
+fn write_field(out: &mut impl Write, tag: u8, p: &[u8], number: u64) -> io::Result<()> {
     match tag {
-        TRAY_FILE_TAG => {
-            write_file(p, number);
-        }
-        TRAY_FUNCTION_TAG => {
-            write_function(p);
-        }
-        TRAY_ROW_TAG => {
-            write_row(p);
-        }
-        TRAY_NODE_TAG => {
-            write_inline(p);
-        }
-        TRAY_RANGE_TAG => {
-            write_range(p);
-        }
-        TRAY_SITE_TAG => {
-            write_site(p);
-        }
-        _ => {
-            write_warning(p);
-        }
+        TRAY_FILE_TAG => write_file(out, p, number),
+        TRAY_FUNCTION_TAG => write_function(out, p),
+        TRAY_ROW_TAG => write_row(out, p),
+        TRAY_NODE_TAG => write_inline(out, p),
+        TRAY_RANGE_TAG => write_range(out, p),
+        TRAY_SITE_TAG => write_site(out, p),
+        _ => write_warning(out, p),
     }
 }
 
 // A line for each field; the fields have numbers from `first` on.
-fn write_fields(s: &[u8], first: u64) {
+fn write_fields(out: &mut impl Write, s: &[u8], first: u64) -> io::Result<()> {
     let mut number = first;
     let mut p: usize = 0;
     loop {
         match tlv::fields::field_at(s, p) {
             Step::End => {
-                return;
+                return Ok(());
             }
             Step::Cut => {
-                return;
+                return Ok(());
             }
             Step::Field {
                 tag,
@@ -191,7 +186,7 @@ fn write_fields(s: &[u8], first: u64) {
                 len: _,
                 next,
             } => {
-                write_field(tag, &s[start..next], number);
+                write_field(out, tag, &s[start..next], number)?;
                 if number < 4294967296 {
                     number += 1;
                 }
@@ -201,13 +196,13 @@ fn write_fields(s: &[u8], first: u64) {
     }
 }
 
-fn write_stats(s: ConversionStats) {
-    io::write_all(1, b"stats ");
-    io::print_decimal(1, s.functions);
-    write_decimal(s.line_rows);
-    write_decimal(s.inline_nodes);
-    write_decimal(s.rejected_ranges);
-    end_line();
+fn write_stats(out: &mut impl Write, s: ConversionStats) -> io::Result<()> {
+    let functions = s.functions;
+    write!(out, "stats {functions}")?;
+    write_decimal(out, s.line_rows)?;
+    write_decimal(out, s.inline_nodes)?;
+    write_decimal(out, s.rejected_ranges)?;
+    end_line(out)
 }
 
 // The part of a buffer that was written.
@@ -219,11 +214,17 @@ fn written(buffer: &[u8], n: usize) -> &[u8] {
 }
 
 // There is no file for a list section and none for an address table: both are empty.
-fn list<'a>(main: &'a [u8], supplementary: &'a [u8], program: &[u8]) {
-    let mut work = [0u8; 57344];
-    let mut records = [0u8; 32768];
-    let mut files = [0u8; 32768];
-    let mut warnings = [0u8; 32768];
+fn list<'a>(
+    out: &mut impl Write,
+    alloc: Global,
+    main: &'a [u8],
+    supplementary: &'a [u8],
+    program: &[u8],
+) -> io::Result<()> {
+    let mut work = vec![in alloc; 0u8; WORK_SIZE]?;
+    let mut records = vec![in alloc; 0u8; TRAY_SIZE]?;
+    let mut files = vec![in alloc; 0u8; TRAY_SIZE]?;
+    let mut warnings = vec![in alloc; 0u8; TRAY_SIZE]?;
     match dwarf::import::import_unit(
         main,
         supplementary,
@@ -239,35 +240,38 @@ fn list<'a>(main: &'a [u8], supplementary: &'a [u8], program: &[u8]) {
         &mut files,
         &mut warnings,
     ) {
-        Imported::Refused(r) => {
-            io::write_all(1, b"refused ");
-            io::print_decimal(1, r as u64);
-            end_line();
-        }
+        Imported::Refused(r) => writeln!(out, "refused {r}"),
         Imported::Finished {
             records: a,
             files: b,
             warnings: c,
             stats,
         } => {
-            write_fields(written(&records, a), 0);
-            write_fields(written(&files, b), 1);
-            write_fields(written(&warnings, c), 0);
-            write_stats(stats);
+            write_fields(out, written(&records, a), 0)?;
+            write_fields(out, written(&files, b), 1)?;
+            write_fields(out, written(&warnings, c), 0)?;
+            write_stats(out, stats)
         }
     }
 }
 
-fn main() {
-    let mut main = [0u8; 16385];
-    let mut supplementary = [0u8; 16385];
-    let mut program = [0u8; 2049];
-    let m = read_file(b"unit.main", &mut main);
-    let s = read_file(b"unit.sup", &mut supplementary);
-    let l = read_file(b"unit.line", &mut program);
+// Reads the three files of the folder, and lists what their import gives.
+fn list_files(rt: &impl Files, out: &mut impl Write, alloc: Global) -> io::Result<()> {
+    let mut main = vec![in alloc; 0u8; INPUT_LIMIT + 1]?;
+    let mut supplementary = vec![in alloc; 0u8; INPUT_LIMIT + 1]?;
+    let mut program = vec![in alloc; 0u8; PROGRAM_LIMIT + 1]?;
+    let m = read_file(rt, "unit.main", &mut main)?;
+    let s = read_file(rt, "unit.sup", &mut supplementary)?;
+    let l = read_file(rt, "unit.line", &mut program)?;
     if INPUT_LIMIT < m || INPUT_LIMIT < s || PROGRAM_LIMIT < l {
-        io::write_all(1, b"oversize\n");
-        return;
+        return writeln!(out, "oversize");
     }
-    list(&main[..m], &supplementary[..s], &program[..l]);
+    list(out, alloc, &main[..m], &supplementary[..s], &program[..l])
+}
+
+fn main(rt: HostRuntime) -> io::Result<()> {
+    let alloc = rt.alloc();
+    let mut out = BufWriter::new(alloc, io::writer(&rt))?;
+    list_files(&rt, &mut out, alloc)?;
+    out.flush()
 }

@@ -1,7 +1,11 @@
 // Reads records trays and queries of them from standard input and writes what the look-ups answer (oracle/README.md says how both stand).
+#![tactic(auto)]
+
 ghost use Rattle.std.specs.Prelude.{◌+◌, ◌≤◌, length};
 
 use lookup::model::{Chain, Listed, Nearest, Row, Running};
+use std::io::{self, BufReader, BufWriter, Read, Write};
+use streams::read_full;
 
 // The byte that a list is filled with before it is lent.
 const FILLED: u8 = 0xa5;
@@ -9,81 +13,75 @@ const FILLED: u8 = 0xa5;
 // A query: its kind, an address or a window's start, the window's end, the length of the list that is lent.
 const QUERY_SIZE: usize = 19;
 
+// The longest call.
+const CALL_LIMIT: usize = 65536;
+
+// The longest list that is lent.
+const LIST_LIMIT: usize = 4096;
+
 // The number in the next 4 bytes.
-fn next_u32() -> u32 {
+fn next_u32(input: &mut impl Read) -> io::Result<u32> {
     let mut bytes = [0u8; 4];
-    io::read_full(0, &mut bytes);
-    tlv::bytes::read_u32(&bytes, 0)
+    read_full(input, &mut bytes)?;
+    Ok(tlv::bytes::read_u32(&bytes, 0))
 }
 
-fn end_line() {
-    io::write_all(1, b"\n");
+fn end_line(out: &mut impl Write) -> io::Result<()> {
+    writeln!(out)
 }
 
-fn write_place(place: usize) {
-    io::write_all(1, b" ");
-    io::print_decimal(1, place as u64);
+fn write_place(out: &mut impl Write, place: usize) -> io::Result<()> {
+    write!(out, " {place}")
 }
 
-fn write_refused(refusal: u8) {
-    io::write_all(1, b"refused");
-    write_place(refusal as usize);
+fn write_refused(out: &mut impl Write, refusal: u8) -> io::Result<()> {
+    write!(out, "refused {refusal}")
 }
 
-fn write_row(row: Row) {
+fn write_row(out: &mut impl Write, row: Row) -> io::Result<()> {
     match row {
-        Row::Missing => {
-            io::write_all(1, b" no row");
-        }
-        Row::At(place) => {
-            io::write_all(1, b" row");
-            write_place(place);
-        }
+        Row::Missing => write!(out, " no row"),
+        Row::At(place) => write!(out, " row {place}"),
     }
 }
 
 // All 257 places of a chain, as far as they are not 0 or are of it.
-fn write_chain(chain: Chain) {
+fn write_chain(out: &mut impl Write, chain: Chain) -> io::Result<()> {
     let places = chain.places;
     let nodes = chain.nodes;
-    io::write_all(1, b" chain");
+    write!(out, " chain")?;
     let mut i: usize = 0;
     while i < 257 {
         let place = places[i];
         if (i < nodes) | (place != 0) {
-            write_place(place);
+            write_place(out, place)?;
         }
         i += 1;
     }
+    Ok(())
 }
 
-fn answer_address(tray: &[u8], address: u64) {
+fn answer_address(out: &mut impl Write, tray: &[u8], address: u64) -> io::Result<()> {
     let answer = lookup::address::look_up(tray, address);
     let running = answer.running;
     let chain = answer.chain;
     match running {
         Running::Refused(r) => {
-            write_refused(lookup::model::refusal_number(r));
+            write_refused(out, lookup::model::refusal_number(r))?;
         }
         Running::Found { function, row } => {
-            io::write_all(1, b"function");
-            write_place(function);
-            write_row(row);
+            write!(out, "function {function}")?;
+            write_row(out, row)?;
         }
     }
-    write_chain(chain);
+    write_chain(out, chain)
 }
 
-fn answer_nearest(tray: &[u8], address: u64) {
+fn answer_nearest(out: &mut impl Write, tray: &[u8], address: u64) -> io::Result<()> {
     let answer = lookup::below::nearest_below(tray, address);
     match answer {
-        Nearest::Refused(r) => {
-            write_refused(lookup::model::refusal_number(r));
-        }
-        Nearest::At(place) => {
-            io::write_all(1, b"function");
-            write_place(place);
-        }
+        Nearest::Refused(r) => write_refused(out, lookup::model::refusal_number(r)),
+        Nearest::At(place) => write!(out, "function {place}"),
     }
 }
 
@@ -96,61 +94,82 @@ fn fill(list: &mut [u8]) {
     }
 }
 
-fn write_byte(b: u8) {
-    io::print_hex(1, b as u64, 2);
+fn write_byte(out: &mut impl Write, b: u8) -> io::Result<()> {
+    write!(out, "{b:02x}")
 }
 
 // All bytes of a list that was lent.
-fn write_bytes(list: &[u8]) {
+fn write_bytes(out: &mut impl Write, list: &[u8]) -> io::Result<()> {
     let mut i: usize = 0;
     while i < list.len() {
-        write_byte(list[i]);
+        write_byte(out, list[i])?;
         i += 1;
     }
+    Ok(())
 }
 
-fn write_listed(listed: Listed) {
+fn write_listed(out: &mut impl Write, listed: Listed) -> io::Result<()> {
     match listed {
-        Listed::Refused(r) => {
-            write_refused(lookup::model::refusal_number(r));
-        }
-        Listed::Finished(n) => {
-            io::write_all(1, b"list");
-            write_place(n);
-        }
+        Listed::Refused(r) => write_refused(out, lookup::model::refusal_number(r)),
+        Listed::Finished(n) => write!(out, "list {n}"),
     }
 }
 
-fn answer_inside(tray: &[u8], start: u64, end: u64, list: &mut [u8]) {
+fn answer_inside(
+    out: &mut impl Write,
+    tray: &[u8],
+    start: u64,
+    end: u64,
+    list: &mut [u8],
+) -> io::Result<()> {
     fill(list);
     let listed = lookup::window::functions_inside(tray, start, end, list);
-    write_listed(listed);
-    io::write_all(1, b" ");
-    write_bytes(list);
+    write_listed(out, listed)?;
+    write!(out, " ")?;
+    write_bytes(out, list)
 }
 
-fn answer_crossing(tray: &[u8], start: u64, end: u64, list: &mut [u8]) {
+fn answer_crossing(
+    out: &mut impl Write,
+    tray: &[u8],
+    start: u64,
+    end: u64,
+    list: &mut [u8],
+) -> io::Result<()> {
     fill(list);
     let listed = lookup::window::functions_crossing(tray, start, end, list);
-    write_listed(listed);
-    io::write_all(1, b" ");
-    write_bytes(list);
+    write_listed(out, listed)?;
+    write!(out, " ")?;
+    write_bytes(out, list)
 }
 
 // The functions inside a window, or those that cross its edge, in so many bytes of the list.
-fn answer_window(tray: &[u8], inside: bool, start: u64, end: u64, wanted: usize, list: &mut [u8]) {
+fn answer_window(
+    out: &mut impl Write,
+    tray: &[u8],
+    inside: bool,
+    start: u64,
+    end: u64,
+    wanted: usize,
+    list: &mut [u8],
+) -> io::Result<()> {
     if list.len() < wanted {
-        io::write_all(1, b"longer than the list");
-        return;
+        return write!(out, "longer than the list");
     }
     if inside {
-        answer_inside(tray, start, end, &mut list[..wanted]);
+        answer_inside(out, tray, start, end, &mut list[..wanted])
     } else {
-        answer_crossing(tray, start, end, &mut list[..wanted]);
+        answer_crossing(out, tray, start, end, &mut list[..wanted])
     }
 }
 
-fn answer_query(tray: &[u8], queries: &[u8], p: usize, list: &mut [u8])
+fn answer_query(
+    out: &mut impl Write,
+    tray: &[u8],
+    queries: &[u8],
+    p: usize,
+    list: &mut [u8],
+) -> io::Result<()>
     requires { p + 19 ≤ length queries.now }
 {
     let kind = tlv::bytes::read_u8(queries, p);
@@ -158,63 +177,89 @@ fn answer_query(tray: &[u8], queries: &[u8], p: usize, list: &mut [u8])
     let second = tlv::bytes::read_u64(queries, p + 9);
     let wanted = tlv::bytes::read_u16(queries, p + 17) as usize;
     if kind == 1 {
-        answer_address(tray, first);
+        answer_address(out, tray, first)
     } else {
         if kind == 2 {
-            answer_nearest(tray, first);
+            answer_nearest(out, tray, first)
         } else {
-            answer_window(tray, kind == 3, first, second, wanted, list);
+            answer_window(out, tray, kind == 3, first, second, wanted, list)
         }
     }
 }
 
-fn answer_queries(tray: &[u8], queries: &[u8], list: &mut [u8]) {
+fn answer_queries(
+    out: &mut impl Write,
+    tray: &[u8],
+    queries: &[u8],
+    list: &mut [u8],
+) -> io::Result<()> {
     let mut p = 0;
     while QUERY_SIZE <= queries.len() - p {
-        answer_query(tray, queries, p, list);
-        end_line();
+        answer_query(out, tray, queries, p, list)?;
+        end_line(out)?;
         p += QUERY_SIZE;
     }
+    Ok(())
 }
 
 // The length of the tray (4 bytes), the tray, the queries; false where the call is cut off.
-fn answer(call: &[u8], list: &mut [u8]) -> bool {
+fn answer(out: &mut impl Write, call: &[u8], list: &mut [u8]) -> io::Result<bool> {
     if call.len() < 4 {
-        return false;
+        return Ok(false);
     }
     let end = 4 + tlv::bytes::read_u32(call, 0) as usize;
     if call.len() < end {
-        return false;
+        return Ok(false);
     }
-    answer_queries(&call[4..end], &call[end..], list);
-    true
+    answer_queries(out, &call[4..end], &call[end..], list)?;
+    Ok(true)
 }
 
 // Answers the next call; false where that can't be done, with a message.
-fn next_answer(buffer: &mut [u8], list: &mut [u8]) -> bool {
-    let n = next_u32() as usize;
+fn next_answer(
+    input: &mut impl Read,
+    out: &mut impl Write,
+    buffer: &mut [u8],
+    list: &mut [u8],
+) -> io::Result<bool> {
+    let n = next_u32(input)? as usize;
     if buffer.len() < n {
-        io::write_all(1, b"longer than the buffer\n");
-        return false;
+        writeln!(out, "longer than the buffer")?;
+        return Ok(false);
     }
-    if io::read_full(0, &mut buffer[..n]) < n {
-        io::write_all(1, b"cut off\n");
-        return false;
+    if read_full(input, &mut buffer[..n])? < n {
+        writeln!(out, "cut off")?;
+        return Ok(false);
     }
-    if !answer(&buffer[..n], list) {
-        io::write_all(1, b"no such call\n");
-        return false;
+    if !answer(out, &buffer[..n], list)? {
+        writeln!(out, "no such call")?;
+        return Ok(false);
     }
-    true
+    Ok(true)
 }
 
-fn main() {
-    let mut buffer = [0u8; 65536];
-    let mut list = [0u8; 4096];
-    let count = next_u32();
+// Answers all calls of an input.
+fn answer_all(
+    input: &mut impl Read,
+    out: &mut impl Write,
+    buffer: &mut [u8],
+    list: &mut [u8],
+) -> io::Result<()> {
+    let count = next_u32(input)?;
     for _ in 0..count {
-        if !next_answer(&mut buffer, &mut list) {
-            return;
+        if !next_answer(input, out, buffer, list)? {
+            return Ok(());
         }
     }
+    Ok(())
+}
+
+fn main(rt: HostRuntime) -> io::Result<()> {
+    let alloc = rt.alloc();
+    let mut buffer = vec![in alloc; 0u8; CALL_LIMIT]?;
+    let mut list = vec![in alloc; 0u8; LIST_LIMIT]?;
+    let mut input = BufReader::new(alloc, rt.reader())?;
+    let mut out = BufWriter::new(alloc, io::writer(&rt))?;
+    answer_all(&mut input, &mut out, &mut buffer, &mut list)?;
+    out.flush()
 }

@@ -1,8 +1,11 @@
 // Cases and answers as they stand in their files (oracle/README.md).
 
+use std::io;
+use streams::read_full;
+
 // What a case asks besides its inputs' bytes: all units or that of the ordinal; the lengths are those of the inputs, of work and of the output buffers.
 // The lengths of the list section and the address table stand behind the other inputs, where `sections` says that the case has them; else both are 0.
-#[derive(Drop)]
+#[derive(Clone, Copy)]
 pub struct Case {
     pub main: u32,
     pub supplementary: u32,
@@ -22,7 +25,7 @@ pub struct Case {
 }
 
 // A recorded answer, without the bytes that follow it.
-#[derive(Drop)]
+#[derive(Clone, Copy)]
 pub struct Answer {
     pub refusal: u8,
     pub records: usize,
@@ -35,7 +38,7 @@ pub struct Answer {
 }
 
 // A case whose inputs were read; or they are cut off or too large.
-#[derive(Drop)]
+#[derive(Clone, Copy)]
 pub enum Read {
     Whole(Case),
     Cut,
@@ -76,41 +79,47 @@ pub fn answer_of(head: &[u8; 57]) -> Answer {
 }
 
 // Reads the n bytes that come next to a place of the inputs; false where there are no n, or no room for them.
-fn read_at(cases: i32, inputs: &mut [u8], at: usize, n: usize) -> bool {
+fn read_at(cases: &mut impl io::Read, inputs: &mut [u8], at: usize, n: usize) -> io::Result<bool> {
     if inputs.len() < at {
-        return false;
+        return Ok(false);
     }
     if inputs.len() - at < n {
-        return false;
+        return Ok(false);
     }
     let end = at + n;
-    n <= io::read_full(cases, &mut inputs[at..end])
+    let came = read_full(cases, &mut inputs[at..end])?;
+    Ok(n <= came)
 }
 
 // Reads the list section and the address table to a place of the inputs, and says their lengths.
-fn read_sections(cases: i32, c: Case, inputs: &mut [u8], at: usize) -> Read {
+fn read_sections(
+    cases: &mut impl io::Read,
+    c: Case,
+    inputs: &mut [u8],
+    at: usize,
+) -> io::Result<Read> {
     let mut head = [0u8; 8];
-    if io::read_full(cases, &mut head) < 8 {
-        return Read::Cut;
+    if read_full(cases, &mut head)? < 8 {
+        return Ok(Read::Cut);
     }
     let mut with = c;
     with.lists = tlv::bytes::read_u32(&head, 0);
     with.addresses = tlv::bytes::read_u32(&head, 4);
     let n = with.lists as usize + with.addresses as usize;
-    if read_at(cases, inputs, at, n) {
-        return Read::Whole(with);
+    if read_at(cases, inputs, at, n)? {
+        return Ok(Read::Whole(with));
     }
-    Read::Cut
+    Ok(Read::Cut)
 }
 
 // Reads the inputs of a case, one behind the other from the front.
-pub fn read_inputs(cases: i32, c: Case, inputs: &mut [u8]) -> Read {
+pub fn read_inputs(cases: &mut impl io::Read, c: Case, inputs: &mut [u8]) -> io::Result<Read> {
     let n = c.main as usize + c.supplementary as usize + c.program as usize;
-    if !read_at(cases, inputs, 0, n) {
-        return Read::Cut;
+    if !read_at(cases, inputs, 0, n)? {
+        return Ok(Read::Cut);
     }
     if c.sections {
         return read_sections(cases, c, inputs, n);
     }
-    Read::Whole(c)
+    Ok(Read::Whole(c))
 }

@@ -1,13 +1,15 @@
 // Holds what a pass or an import gave to a recorded answer.
 use crate::cases::Answer;
 use dwarf::model::Imported;
+use std::io::{self, Read};
+use streams::read_full;
 use subprograms::model::ConversionStats;
 
 // What stands in the output buffers and in work before a call.
 pub const FILLED: u8 = 0xa5;
 
 // What became of a case.
-#[derive(Drop)]
+#[derive(Clone, Copy)]
 pub enum Verdict {
     End,
     Same,
@@ -61,47 +63,52 @@ fn same_stats(s: ConversionStats, a: Answer) -> bool {
 }
 
 // Whether a buffer begins with the n bytes that come next in the file of answers, and is as it was behind them.
-fn judge_buffer(answers: i32, expected: &mut [u8], buffer: &[u8], n: usize) -> Verdict {
+fn judge_buffer(
+    answers: &mut impl Read,
+    expected: &mut [u8],
+    buffer: &[u8],
+    n: usize,
+) -> io::Result<Verdict> {
     if expected.len() < n {
-        return Verdict::Cut;
+        return Ok(Verdict::Cut);
     }
     if buffer.len() < n {
-        return Verdict::Lengths;
+        return Ok(Verdict::Lengths);
     }
-    if io::read_full(answers, &mut expected[..n]) < n {
-        return Verdict::Cut;
+    if read_full(answers, &mut expected[..n])? < n {
+        return Ok(Verdict::Cut);
     }
     if !same_bytes(&expected[..n], &buffer[..n]) {
-        return Verdict::Bytes;
+        return Ok(Verdict::Bytes);
     }
     if !holds_only(&buffer[n..], FILLED) {
-        return Verdict::Past;
+        return Ok(Verdict::Past);
     }
-    Verdict::Same
+    Ok(Verdict::Same)
 }
 
 // The three buffers of a finished import.
 fn judge_buffers(
-    answers: i32,
+    answers: &mut impl Read,
     a: Answer,
     expected: &mut [u8],
     records: &[u8],
     files: &[u8],
     warnings: &[u8],
-) -> Verdict {
-    let first = judge_buffer(answers, expected, records, a.records);
+) -> io::Result<Verdict> {
+    let first = judge_buffer(answers, expected, records, a.records)?;
     let Verdict::Same = first else {
-        return first;
+        return Ok(first);
     };
-    let second = judge_buffer(answers, expected, files, a.files);
+    let second = judge_buffer(answers, expected, files, a.files)?;
     let Verdict::Same = second else {
-        return second;
+        return Ok(second);
     };
     judge_buffer(answers, expected, warnings, a.warnings)
 }
 
 fn judge_finished(
-    answers: i32,
+    answers: &mut impl Read,
     a: Answer,
     lengths: [usize; 3],
     stats: ConversionStats,
@@ -109,15 +116,15 @@ fn judge_finished(
     records: &[u8],
     files: &[u8],
     warnings: &[u8],
-) -> Verdict {
+) -> io::Result<Verdict> {
     if a.refusal != 0 {
-        return Verdict::Refusal;
+        return Ok(Verdict::Refusal);
     }
     if lengths[0] != a.records || lengths[1] != a.files || lengths[2] != a.warnings {
-        return Verdict::Lengths;
+        return Ok(Verdict::Lengths);
     }
     if !same_stats(stats, a) {
-        return Verdict::Statistics;
+        return Ok(Verdict::Statistics);
     }
     judge_buffers(answers, a, expected, records, files, warnings)
 }
@@ -133,7 +140,7 @@ fn judge_refused(a: Answer, n: u8, records: &[u8], files: &[u8], warnings: &[u8]
 }
 
 pub fn judge(
-    answers: i32,
+    answers: &mut impl Read,
     a: Answer,
     r: Imported,
     expected: &mut [u8],
@@ -141,12 +148,12 @@ pub fn judge(
     records: &[u8],
     files: &[u8],
     warnings: &[u8],
-) -> Verdict {
+) -> io::Result<Verdict> {
     if !holds_only(work, 0) {
-        return Verdict::Work;
+        return Ok(Verdict::Work);
     }
     match r {
-        Imported::Refused(n) => judge_refused(a, n, records, files, warnings),
+        Imported::Refused(n) => Ok(judge_refused(a, n, records, files, warnings)),
         Imported::Finished {
             records: x,
             files: y,

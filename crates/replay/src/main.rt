@@ -1,37 +1,47 @@
 // Runs recorded cases through the import and holds every answer to the recorded one: refusal, lengths, statistics, the bytes written, those past
 // each length, the buffers filled with 0 after a refusal, work all 0. Before each import the pass that writes no buffer is held to the same answer.
 // Names the first case that differs. oracle/README.md says how both files stand.
+#![tactic(auto)]
+
 ghost use Rattle.std.specs.Prelude.{◌≡◌, length};
 
-use cases::{Read, answer_of, case_of, read_inputs};
+use cases::{answer_of, case_of, read_inputs};
 use judge::Verdict;
 use runs::cut_case;
+use std::alloc::Global;
+use std::fs;
+use std::io::{self, BufReader, BufWriter, Read, Write};
+use std::rt::Files;
+use streams::read_full;
 
 mod cases;
 mod judge;
 mod runs;
 
+// The most bytes of a case's inputs, and of each output.
+const LARGE: usize = 65536;
+
 // The next case of a file of cases, with its answer from a file of answers.
 fn next_case(
-    cases: i32,
-    answers: i32,
+    cases: &mut impl Read,
+    answers: &mut impl Read,
     inputs: &mut [u8],
     expected: &mut [u8],
     work: &mut [u8],
     records: &mut [u8],
     files: &mut [u8],
     warnings: &mut [u8],
-) -> Verdict {
+) -> io::Result<Verdict> {
     let mut head = [0u8; 45];
-    if io::read_full(cases, &mut head) < 45 {
-        return Verdict::End;
+    if read_full(cases, &mut head)? < 45 {
+        return Ok(Verdict::End);
     }
     let mut answer = [0u8; 57];
-    if io::read_full(answers, &mut answer) < 57 {
-        return Verdict::Cut;
+    if read_full(answers, &mut answer)? < 57 {
+        return Ok(Verdict::Cut);
     }
-    let Read::Whole(c) = read_inputs(cases, case_of(&head), inputs) else {
-        return Verdict::Cut;
+    let cases::Read::Whole(c) = read_inputs(cases, case_of(&head), inputs)? else {
+        return Ok(Verdict::Cut);
     };
     cut_case(
         answers,
@@ -46,57 +56,51 @@ fn next_case(
     )
 }
 
-fn write_difference(number: u64, what: &[u8]) {
-    io::write_all(1, b" case ");
-    io::print_decimal(1, number);
-    io::write_all(1, b" differs: ");
-    io::write_all(1, what);
-    io::write_all(1, b"\n");
+fn write_difference(out: &mut impl Write, number: u64, what: &str) -> io::Result<()> {
+    writeln!(out, " case {number} differs: {what}")
 }
 
 // Writes what became of case `number`; true where there may be a next one.
-fn write_verdict(number: u64, v: Verdict) -> bool {
+fn write_verdict(out: &mut impl Write, number: u64, v: Verdict) -> io::Result<bool> {
     match v {
         Verdict::Same => {
-            return true;
+            return Ok(true);
         }
         Verdict::End => {
-            io::write_all(1, b" ");
-            io::print_decimal(1, number);
-            io::write_all(1, b" cases, all as recorded\n");
+            writeln!(out, " {number} cases, all as recorded")?;
         }
         Verdict::Refusal => {
-            write_difference(number, b"refusal");
+            write_difference(out, number, "refusal")?;
         }
         Verdict::Lengths => {
-            write_difference(number, b"lengths");
+            write_difference(out, number, "lengths")?;
         }
         Verdict::Statistics => {
-            write_difference(number, b"statistics");
+            write_difference(out, number, "statistics")?;
         }
         Verdict::Bytes => {
-            write_difference(number, b"bytes written");
+            write_difference(out, number, "bytes written")?;
         }
         Verdict::Past => {
-            write_difference(number, b"bytes past a length");
+            write_difference(out, number, "bytes past a length")?;
         }
         Verdict::Fill => {
-            write_difference(number, b"buffers after a refusal");
+            write_difference(out, number, "buffers after a refusal")?;
         }
         Verdict::Work => {
-            write_difference(number, b"work");
+            write_difference(out, number, "work")?;
         }
         Verdict::Pass => {
-            write_difference(number, b"the pass that writes no buffer");
+            write_difference(out, number, "the pass that writes no buffer")?;
         }
         Verdict::Cut => {
-            write_difference(number, b"the files are cut off or too large");
+            write_difference(out, number, "the files are cut off or too large")?;
         }
     }
-    false
+    Ok(false)
 }
 
-// Zeros for work. Its own function: a caller's proof sees only the length.
+// Zeros for work.
 fn work_buffer() -> [u8; 98304]
     ensures { 98304 ≡ length result }
 {
@@ -104,13 +108,18 @@ fn work_buffer() -> [u8; 98304]
 }
 
 // The cases of two open files, at most a million.
-fn replay_cases(cases: i32, answers: i32) {
-    let mut inputs = io::large_buffer();
-    let mut expected = io::large_buffer();
+fn replay_cases(
+    out: &mut impl Write,
+    alloc: Global,
+    cases: &mut impl Read,
+    answers: &mut impl Read,
+) -> io::Result<()> {
+    let mut inputs = vec![in alloc; 0u8; LARGE]?;
+    let mut expected = vec![in alloc; 0u8; LARGE]?;
     let mut work = work_buffer();
-    let mut records = io::large_buffer();
-    let mut files = io::large_buffer();
-    let mut warnings = io::large_buffer();
+    let mut records = vec![in alloc; 0u8; LARGE]?;
+    let mut files = vec![in alloc; 0u8; LARGE]?;
+    let mut warnings = vec![in alloc; 0u8; LARGE]?;
     let mut number: u64 = 0;
     while number < 1000000 {
         let v = next_case(
@@ -122,32 +131,65 @@ fn replay_cases(cases: i32, answers: i32) {
             &mut records,
             &mut files,
             &mut warnings,
-        );
-        if !write_verdict(number, v) {
-            return;
+        )?;
+        if !write_verdict(out, number, v)? {
+            return Ok(());
         }
         number += 1;
     }
+    Ok(())
 }
 
-fn replay(name: &[u8], cases: &[u8], answers: &[u8]) {
-    io::write_all(1, name);
-    let c = os::open_read(cases);
-    let a = os::open_read(answers);
-    if c < 0 || a < 0 {
-        io::write_all(1, b": a file is missing\n");
-        return;
-    }
-    replay_cases(c, a);
-    libc::close(c);
-    libc::close(a);
+fn replay(
+    rt: &impl Files,
+    out: &mut impl Write,
+    alloc: Global,
+    name: &str,
+    cases: &str,
+    answers: &str,
+) -> io::Result<()> {
+    write!(out, "{name}")?;
+    let (Ok(c), Ok(a)) = (fs::open(rt, cases), fs::open(rt, answers)) else {
+        return writeln!(out, ": a file is missing");
+    };
+    let mut c = BufReader::new(alloc, c)?;
+    let mut a = BufReader::new(alloc, a)?;
+    replay_cases(out, alloc, &mut c, &mut a)
 }
 
-fn main() {
-    replay(b"document", b"document.cases", b"document.answers");
-    replay(b"generated", b"generated.cases", b"generated.answers");
-    replay(b"units", b"units.cases", b"units.answers");
-    replay(b"wholes", b"wholes.cases", b"wholes.answers");
-    replay(b"objects", b"objects.cases", b"objects.answers");
-    replay(b"lists", b"lists.cases", b"lists.answers");
+fn replay_all(rt: &impl Files, out: &mut impl Write, alloc: Global) -> io::Result<()> {
+    replay(
+        rt,
+        out,
+        alloc,
+        "document",
+        "document.cases",
+        "document.answers",
+    )?;
+    replay(
+        rt,
+        out,
+        alloc,
+        "generated",
+        "generated.cases",
+        "generated.answers",
+    )?;
+    replay(rt, out, alloc, "units", "units.cases", "units.answers")?;
+    replay(rt, out, alloc, "wholes", "wholes.cases", "wholes.answers")?;
+    replay(
+        rt,
+        out,
+        alloc,
+        "objects",
+        "objects.cases",
+        "objects.answers",
+    )?;
+    replay(rt, out, alloc, "lists", "lists.cases", "lists.answers")
+}
+
+fn main(rt: HostRuntime) -> io::Result<()> {
+    let alloc = rt.alloc();
+    let mut out = BufWriter::new(alloc, io::writer(&rt))?;
+    replay_all(&rt, &mut out, alloc)?;
+    out.flush()
 }

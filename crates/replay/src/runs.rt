@@ -4,6 +4,7 @@ ghost use Rattle.std.specs.Prelude.{◌≤◌};
 use crate::cases::{Answer, Case};
 use crate::judge::{FILLED, Verdict, judge, judge_pass};
 use dwarf::model::Imported;
+use std::io::{self, Read};
 
 fn lesser(a: usize, b: usize) -> usize
     ensures { result ≤ b }
@@ -118,7 +119,7 @@ fn import_case<'a>(
 
 // A case over its inputs and over buffers of its lengths: the pass, then the import.
 fn run_both<'a>(
-    answers: i32,
+    answers: &mut impl Read,
     c: Case,
     a: Answer,
     main: &'a [u8],
@@ -131,10 +132,10 @@ fn run_both<'a>(
     records: &mut [u8],
     files: &mut [u8],
     warnings: &mut [u8],
-) -> Verdict {
+) -> io::Result<Verdict> {
     let said = measure_case(c, main, supplementary, program, lists, addresses, work);
     if !judge_pass(a, said, work, [records.len(), files.len(), warnings.len()]) {
-        return Verdict::Pass;
+        return Ok(Verdict::Pass);
     }
     let r = import_case(
         c,
@@ -153,7 +154,7 @@ fn run_both<'a>(
 
 // A case whose inputs were read, over those and over buffers of its lengths.
 fn run_case(
-    answers: i32,
+    answers: &mut impl Read,
     c: Case,
     a: Answer,
     inputs: &[u8],
@@ -162,14 +163,14 @@ fn run_case(
     records: &mut [u8],
     files: &mut [u8],
     warnings: &mut [u8],
-) -> Verdict {
+) -> io::Result<Verdict> {
     let main = c.main as usize;
     let second = main + c.supplementary as usize;
     let third = second + c.program as usize;
     let fourth = third + c.lists as usize;
     let end = fourth + c.addresses as usize;
     if inputs.len() < end {
-        return Verdict::Cut;
+        return Ok(Verdict::Cut);
     }
     run_both(
         answers,
@@ -190,7 +191,7 @@ fn run_case(
 
 // The buffers of a case: an output buffer is no longer than ours, which hold every recorded output.
 pub fn cut_case(
-    answers: i32,
+    answers: &mut impl Read,
     c: Case,
     a: Answer,
     inputs: &[u8],
@@ -199,10 +200,10 @@ pub fn cut_case(
     records: &mut [u8],
     files: &mut [u8],
     warnings: &mut [u8],
-) -> Verdict {
+) -> io::Result<Verdict> {
     let w = c.work;
     if work.len() < w {
-        return Verdict::Cut;
+        return Ok(Verdict::Cut);
     }
     let x = lesser(c.records, records.len());
     let y = lesser(c.files, files.len());

@@ -2,18 +2,14 @@
 ghost use Rattle.std.specs.Prelude.{◌+◌, ◌<◌};
 
 use declarations::declaring::Declared;
+use std::io::{self, Write};
 
-fn wide(b: u8) -> u64 {
-    b as u64
+pub fn end_line(out: &mut impl Write) -> io::Result<()> {
+    writeln!(out)
 }
 
-pub fn end_line() {
-    io::write_all(1, b"\n");
-}
-
-fn write_refused(refusal: u8) {
-    io::write_all(1, b"refused ");
-    io::print_decimal(1, wide(refusal));
+fn write_refused(out: &mut impl Write, refusal: u8) -> io::Result<()> {
+    write!(out, "refused {refusal}")
 }
 
 // Whether a byte of a name is written as it is.
@@ -30,66 +26,62 @@ fn is_plain(b: u8) -> bool {
     b < 0x7f
 }
 
-fn write_byte(b: u8) {
+fn write_byte(out: &mut impl Write, b: u8) -> io::Result<()> {
     if is_plain(b) {
-        let byte = [b];
-        io::write_all(1, &byte);
+        out.write_all(&[b])
     } else {
-        io::write_all(1, b"\\");
-        io::print_hex(1, wide(b), 2);
+        write!(out, "\\{b:02x}")
     }
 }
 
-fn write_bytes(name: &[u8]) {
+fn write_bytes(out: &mut impl Write, name: &[u8]) -> io::Result<()> {
     let mut i = 0;
     while i < name.len() {
-        write_byte(name[i]);
+        write_byte(out, name[i])?;
         i += 1;
     }
+    Ok(())
 }
 
 // How many entries were read.
-fn write_reads(reads: usize) {
-    io::write_all(1, b" ");
-    io::print_decimal(1, reads as u64);
+fn write_reads(out: &mut impl Write, reads: usize) -> io::Result<()> {
+    write!(out, " {reads}")
 }
 
 // What a name search has found, or its refusal.
-pub fn write_found(status: u8, name: &[u8], reads: usize) {
+pub fn write_found(out: &mut impl Write, status: u8, name: &[u8], reads: usize) -> io::Result<()> {
     if status != 0 {
-        write_refused(status);
+        write_refused(out, status)?;
     } else {
-        io::write_all(1, b"name ");
-        write_bytes(name);
+        write!(out, "name ")?;
+        write_bytes(out, name)?;
     }
-    write_reads(reads);
+    write_reads(out, reads)
 }
 
 // What a declaration search has found, or its refusal.
-pub fn write_declared(declared: Declared, reads: usize) {
+pub fn write_declared(out: &mut impl Write, declared: Declared, reads: usize) -> io::Result<()> {
     match declared {
         Declared::Refused(refusal) => {
-            write_refused(refusal);
+            write_refused(out, refusal)?;
         }
         Declared::Missing(_) => {
-            io::write_all(1, b"no line");
+            write!(out, "no line")?;
         }
         Declared::Found {
             state: _,
             file,
             line,
         } => {
-            io::write_all(1, b"line ");
-            io::print_decimal(1, file.0 as u64);
-            io::write_all(1, b" ");
-            io::print_decimal(1, line as u64);
+            let number = file.0;
+            write!(out, "line {number} {line}")?;
         }
     }
-    write_reads(reads);
+    write_reads(out, reads)
 }
 
-pub fn write_refused_line(refusal: u8) -> bool {
-    write_refused(refusal);
-    end_line();
-    true
+pub fn write_refused_line(out: &mut impl Write, refusal: u8) -> io::Result<bool> {
+    write_refused(out, refusal)?;
+    end_line(out)?;
+    Ok(true)
 }

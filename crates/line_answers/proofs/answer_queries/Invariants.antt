@@ -1,0 +1,9 @@
+use Rattle.std.proofs.Common.{length, ◌-◌, ◌≤◌, ◌≡◌}
+use Rattle.rows.specs.Selects.{RowsIn}
+use Rattle.line_answers.proofs.answer_queries.Given as goal
+
+abbrev pub invariant-loop-p : goal.invariant-loop-p
+invariant-loop-p g l = l.p ≤ length l.queries × RowsIn l.work l.l × length l.work ≡ length l.initial.work
+
+abbrev pub decreases-loop-p : goal.decreases-loop-p
+decreases-loop-p g l = length l.queries - l.p

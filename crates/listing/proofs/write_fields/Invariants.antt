@@ -1,0 +1,8 @@
+use Rattle.std.proofs.Common.{length, ◌-◌, ◌≤◌}
+use Rattle.listing.proofs.write_fields.Given as goal
+
+abbrev pub invariant-loop-tag : goal.invariant-loop-tag
+invariant-loop-tag g l = l.p ≤ length l.s
+
+abbrev pub decreases-loop-tag : goal.decreases-loop-tag
+decreases-loop-tag g l = length l.s - l.p

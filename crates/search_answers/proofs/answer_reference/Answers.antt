@@ -1,0 +1,5 @@
+use Rattle.search_answers.proofs.SearchLaws.{search_still}
+use Rattle.search_answers.proofs.answer_reference.Goals as goal
+
+pub returns : goal.returns
+returns g c = search search_still

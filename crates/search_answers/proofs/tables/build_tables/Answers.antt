@@ -1,0 +1,5 @@
+use Rattle.search_answers.proofs.SearchLaws.{tables-built}
+use Rattle.search_answers.proofs.tables.build_tables.Goals as goal
+
+pub returns : goal.returns
+returns c = search tables-built
