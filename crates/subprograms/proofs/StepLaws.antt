@@ -100,7 +100,7 @@ module _ {main supplementary : List ℕ} {over : List (ℕ × ℕ)} where
   pub grows_no : {F : State → Outcome State} {w t f u w₁ t₁ f₁ u₁ : List ℕ} {st st₁ : ImportState} → (st₁.status ≡ 0 → ⊥)
       → ((rs : List Function) (ws : List Warning) → F (state_of main supplementary w st rs ws) ≡ refused st₁.status)
       → Grows F (sheets main supplementary) over (memory w t f u) st (memory w₁ t₁ f₁ u₁) st₁
-  grows_no n no = record {
+  grows_no n refuses = record {
     records = [];
     new = [];
     laid = λ e. absurd (n e);
@@ -109,7 +109,7 @@ module _ {main supplementary : List ℕ} {over : List (ℕ × ℕ)} where
     grown = λ e. absurd (n e);
     kept = λ e. absurd (n e);
     ok = λ e. absurd (n e);
-    no = λ e. no;
+    no = λ e. refuses;
   }
 
   -- a step that was refused, whatever was to follow
