@@ -1,4 +1,4 @@
-// Tables of records in the work slice: numbers written at a place, a record copied, bytes set to 0. bytes.rt has the reads.
+// Tables of records in the work slice: numbers written at a place, a record copied, bytes set to 0. `tlv::bytes` has the reads.
 ghost use Rattle.std.specs.Prelude.{◌≡◌, ◌⊎◌, ◌+◌, ◌≤◌, ◌<◌, length, replicate};
 ghost use Rattle.buffers.specs.Table.{Wrote, CopiedBytes, Zeroed};
 

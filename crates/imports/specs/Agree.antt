@@ -82,8 +82,7 @@ abbrev pub Fits : List AddressRange → AddressRange → Type 0
 Fits ps r = Nonempty r × Any (Inside r) ps
 
 -- the rule for an entry e that is held against ps, where `mine` are its merged ranges, empty if it is not kept: it is "kept exactly when it has a name and a
--- nonempty
--- range that lies inside one merged range" of ps, and is inlined; its "merged ranges are its ranges that lie so, and no others, merged"
+-- nonempty range that lies inside one merged range" of ps, and is inlined; its "merged ranges are its ranges that lie so, and no others, merged"
 pub record Rule (ps mine : List AddressRange) (e : TreeEntry) : Type 0 where
   pub kept : (mine ≢ []) ↔ ((e.tag ≡ dw_tag_inlined_subroutine) × (e.name ≢ []) × Any (Fits ps) e.ranges)
   pub apart : Apart mine

@@ -17,7 +17,7 @@ abbrev pub printed_unit : CompilationUnit
 printed_unit = unit_of none (given src ∷ [])
 
 pub record PrintedPath : Type 0 where
-  -- the file is one that the theorem on paths speaks of (Conforms.antt, `in_first`)
+  -- the file is one that the theorem on paths speaks of (PathConforms.antt of `paths`, `in_first`)
   pub names : NamesFile (file 0 cue)
   pub relative : Relative cue
   pub directory : FirstDirectory printed_unit (header 5) (file 0 cue)

@@ -31,8 +31,7 @@ frames_given (Running.Found function row) c = done (record { function = function
 frames_given (Running.Refused r) c = refused (refusal_number r)
 
 -- the contract of `address::look_up`: the definition's answer; places that are not of the chain are 0, also after a refusal; demand 3, where an import with
--- inlines
--- wrote the tray
+-- inlines wrote the tray
 pub record LooksUp (tray : List ℕ) (a : ℕ) (r : LookedUp) : Type 0 where
   pub is : frames_given r.running r.chain ≡ look_up tray a
   pub few : r.chain.nodes ≤ 257

@@ -70,8 +70,8 @@ table_place version n = cond (leb 5 version) n (n - 1)
 abbrev pub read_as : List ℕ → Option Directory
 read_as path = some (record { failed = false; path = path })
 
--- the unit has the compilation directory, which from version 5 on is the table's directory 0 too; number 0 is that one; a directory of another number was read,
--- is no Windows path and stands below it
+-- the unit has the compilation directory, which from version 5 on is the table's directory 0 too; number 0 is that one; a directory of another number was
+-- read, is no Windows path and stands below it
 pub record PlainDirectory (u : CompilationUnit) (h : LineHeader) (f : HeaderFile) (compilation : List ℕ) : Type 0 where
   pub compilation_is : u.directory ≡ some compilation
   pub first : 5 ≤ h.version → at u.directories 0 ≡ read_as compilation

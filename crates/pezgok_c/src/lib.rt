@@ -1,4 +1,5 @@
-// The functions of `pezgok`, exported for C: include/pezgok.h declares them.
+// The functions of `pezgok`, exported for C: include/pezgok.h declares them. A crate is a library or a static library, so these stand apart, each with the
+// clauses of the function that it calls.
 #![tactic(auto)]
 
 ghost use Rattle.std.specs.Prelude.{[]};

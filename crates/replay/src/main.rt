@@ -100,7 +100,7 @@ fn write_verdict(out: &mut impl Write, number: u64, v: Verdict) -> io::Result<bo
     Ok(false)
 }
 
-// Zeros for work.
+// Zeros for work. Its own function: a caller's proof sees only the length.
 fn work_buffer() -> [u8; 98304]
     ensures { 98304 ≡ length result }
 {

@@ -57,8 +57,7 @@ fn index_sheet(s: &[u8], n: usize, work: &mut [u8], base: usize) -> Index
 }
 
 // Writes the tables of both sheets, which have n and m fields. Below them is room for a file table of n + m + 1 files and for a unit's directories and map,
-// above
-// them for the followed targets. No files of the unit where a search starts are known.
+// above them for the followed targets. No files of the unit where a search starts are known.
 pub fn build_tables(
     main: &[u8],
     supplementary: &[u8],

@@ -167,7 +167,7 @@ pub fn join_symbols_with(records: &[u8], symbols: &[u8], res: &mut [u8], work: &
     r
 }
 
-// The same with no work lent: one byte, since a slice of no bytes is not a covered form.
+// The same with no work lent: one byte, since rattle-kit-5 covered no slice of no bytes.
 pub fn join_symbols(records: &[u8], symbols: &[u8], res: &mut [u8]) -> Joined
     ensures { join_given result res.new ≡ join_symbols records.now symbols.now res.old }
 {

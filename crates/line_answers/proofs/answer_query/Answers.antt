@@ -1,3 +1,4 @@
+-- `answer_query` writes above the unit's lines.
 use Rattle.line_answers.proofs.AnswerLaws.{rows-still}
 use Rattle.line_answers.proofs.answer_query.Goals as goal
 

@@ -1,3 +1,4 @@
+-- `write_fields` lends payloads within the buffer, and ends: what is left of it falls.
 use native.Mathlib.Omega.{arith}
 use Rattle.tlv.proofs.CursorLaws.{field-within}
 use Rattle.listing.proofs.write_fields.Goals as goal

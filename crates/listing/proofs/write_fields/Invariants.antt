@@ -1,3 +1,4 @@
+-- `write_fields` lends payloads within the buffer, and ends: what is left of it falls.
 use Rattle.std.proofs.Common.{length, ◌-◌, ◌≤◌}
 use Rattle.listing.proofs.write_fields.Given as goal
 

@@ -1,3 +1,4 @@
+-- `fill` writes within the list, and ends: what is left of it falls.
 use Rattle.std.proofs.Common.{length, ◌-◌, ◌≡◌}
 use Rattle.look_answers.proofs.fill.Given as goal
 

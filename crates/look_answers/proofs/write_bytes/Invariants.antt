@@ -1,3 +1,4 @@
+-- `write_bytes` reads within the list, and ends: what is left of it falls.
 use Rattle.std.proofs.Common.{length, ◌-◌}
 use Rattle.look_answers.proofs.write_bytes.Given as goal
 

@@ -1,3 +1,4 @@
+-- `write_chain` reads within the chain, and ends.
 use Rattle.std.proofs.Common.{◌-◌}
 use Rattle.look_answers.proofs.write_chain.Given as goal
 

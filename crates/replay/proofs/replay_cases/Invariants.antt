@@ -1,3 +1,4 @@
+-- `replay_cases` ends: the cases that are left fall.
 use Rattle.std.proofs.Common.{◌-◌}
 use Rattle.replay.proofs.replay_cases.Given as goal
 

@@ -1,3 +1,4 @@
+-- `answer_declaration` starts from an empty table of files, and leaves the tables as they are.
 use Rattle.search_answers.proofs.SearchLaws.{declaring_in, declared-still}
 use Rattle.search_answers.proofs.answer_declaration.Goals as goal
 

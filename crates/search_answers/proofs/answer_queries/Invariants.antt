@@ -1,3 +1,4 @@
+-- `answer_queries` reads within the queries, and ends: what is left of them falls.
 use Rattle.std.proofs.Common.{length, ◌-◌, ◌≤◌, ◌≡◌}
 use Rattle.search_answers.specs.Searches.{SearchesIn}
 use Rattle.search_answers.proofs.answer_queries.Given as goal

@@ -1,5 +1,4 @@
 -- `dies::has_entries` meets its contract.
--- where it answers true nothing is promised
 use mathlib.Core.Path.{◌≡◌}
 use mathlib.Core.Bool.{true, false}
 use Prim.Native.Nat.{ℕ}
@@ -8,6 +7,7 @@ use borrow.Author.Tests.{ltb-false}
 use Rattle.dies.proofs.EntryWalkLaws.{none_end, none-cut, none-unit, none-stop, entry-room}
 use Rattle.dies.proofs.dies.has_entries.Goals as goal
 
+-- where it answers true nothing is promised
 never : true ≡ false → ⊥
 never e = let z : ◌≡◌ {A = ℕ} 0 1 = cc in omega arith
 

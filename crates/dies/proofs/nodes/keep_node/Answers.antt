@@ -1,5 +1,4 @@
 -- `nodes::keep_node` meets its contract.
--- what the test of a node's depth says of the n nodes above it
 use mathlib.Core.Path.{ap}
 use mathlib.Core.Bool.{not}
 use mathlib.Core.Path.{◌≡◌, sym, ◌∙◌}
@@ -14,6 +13,7 @@ use Rattle.dies.proofs.ListRoomLaws.{own-used, own-small}
 use Rattle.dies.proofs.NodeStepLaws.{keep_file, keep_line, keep_deep, keep_done}
 use Rattle.dies.proofs.nodes.keep_node.Goals as goal
 
+-- what the test of a node's depth says of the n nodes above it
 deeper : {r : Bool} {n : ℕ} → r ≡ leb (n + 1) 256 → r ≡ false → 256 ≤ n
 deeper {n = n} is f = omega (arith, leb-false (n + 1) 256 (sym is ∙ f))
 

@@ -1,5 +1,4 @@
 -- `nodes::make_inline_node` meets its contract.
--- what was found says whether the name has bytes
 use mathlib.Core.Path.{◌≡◌, refl, ◌∙◌}
 use mathlib.Core.List.{List}
 use Prim.Native.Nat.{ℕ}
@@ -23,6 +22,7 @@ use Rattle.dies.proofs.NodeStepLaws.{refused_as, noded-at}
 use Rattle.dies.proofs.nodes.make_inline_node.Goals as goal
 use Rattle.dies.proofs.nodes.make_inline_node.Goals.{then-n-gt0, else-n-gt0}
 
+-- what was found says whether the name has bytes
 module _ {main supplementary w w' inlined : List ℕ} {x : Tables} {o : Outcome (List ℕ)} {st : ℕ} {r : FoundName} (R : Resolved main supplementary x w w' o st inlined) (is : r ≡ found_name inlined) where
   nameless : r ≡ FoundName.Missing → length inlined ≡ 0
   nameless missing = missing-length inlined is missing

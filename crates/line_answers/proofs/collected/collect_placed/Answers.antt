@@ -1,3 +1,4 @@
+-- `collect_placed` has room for the file table and the lines: the fields of a sheet bound both.
 use Rattle.tlv.proofs.PlaceFacts.{placed-start}
 use Rattle.line_answers.proofs.AnswerLaws.{possible-room, lines-room, collected-rows}
 use Rattle.line_answers.proofs.collected.collect_placed.Goals as goal

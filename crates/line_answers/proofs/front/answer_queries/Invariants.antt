@@ -1,3 +1,4 @@
+-- `front::answer_queries` reads within the queries, and ends: what is left of them falls.
 use Rattle.std.proofs.Common.{length, ◌-◌, ◌≤◌, ◌≡◌}
 use Rattle.line_answers.proofs.front.answer_queries.Given as goal
 

@@ -1,3 +1,4 @@
+-- `front::front_below` counts rows that lie below the range, and ends: what is left of them falls.
 use native.Mathlib.Omega.{arith}
 use Rattle.line_answers.proofs.front.FrontLaws.{one_more}
 use Rattle.line_answers.proofs.front.front_below.Goals as goal

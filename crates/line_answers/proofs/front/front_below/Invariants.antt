@@ -1,3 +1,4 @@
+-- `front::front_below` counts rows that lie below the range, and ends: what is left of them falls.
 use Rattle.std.proofs.Common.{◌-◌, ◌≤◌}
 use Rattle.rows.specs.Selects.{RowsBelow}
 use Rattle.line_answers.proofs.front.front_below.Given as goal

@@ -1,3 +1,4 @@
+-- `front::store_rows` writes within the table, and ends: what is left of the rows falls.
 use Rattle.std.proofs.Common.{length, ◌-◌, ◌≤◌, ◌≡◌}
 use Rattle.line_answers.proofs.front.store_rows.Given as goal
 

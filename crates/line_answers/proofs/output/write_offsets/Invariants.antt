@@ -1,3 +1,4 @@
+-- `write_offsets` reads within the table, and ends: what is left of it falls.
 use Rattle.std.proofs.Common.{length, ◌-◌, ◌≤◌}
 use Rattle.line_answers.proofs.output.write_offsets.Given as goal
 

@@ -1,3 +1,4 @@
+-- `write_rows` reads within the rows, and ends: what is left of them falls.
 use Rattle.std.proofs.Common.{◌-◌, ◌≤◌}
 use Rattle.line_answers.proofs.output.write_rows.Given as goal
 

@@ -1,5 +1,4 @@
 -- `attributes::name_at` meets its contract.
--- a number that is none of several
 use mathlib.Core.Path.{◌≡◌, refl}
 use mathlib.Core.Bool.{false, true≢false}
 use mathlib.Core.Logic.{inl, inr}
@@ -18,6 +17,7 @@ use Rattle.access.specs.contracts.access.Value.{the_type}
 use Rattle.references.proofs.ReferenceLaws.{entry_next, entry-inside, NoText, name-absent, name-text, name-refused, text-inside}
 use Rattle.references.proofs.attributes.name_at.Goals as goal
 
+-- a number that is none of several
 not-of : (x : ℕ) (ks : List ℕ) → exists (eqb x) ks ≡ false → OneOf ks x → ⊥
 unfolding exists
 not-of x [] e h = h

@@ -1,5 +1,4 @@
 -- `names::is_answer` meets its contract.
--- a name is empty where it has no bytes
 use Prim.Native.Nat.{ℕ, suc}
 use native.Mathlib.Omega.{arith}
 use lib.Dec.{eqb}
@@ -12,6 +11,7 @@ use Rattle.tlv.specs.Lists.{is_empty}
 use Rattle.references.specs.Names.{is_answer}
 use Rattle.references.proofs.names.is_answer.Goals as goal
 
+-- a name is empty where it has no bytes
 empty-length : (r : List ℕ) → not (eqb (length r) 0) ≡ not (is_empty r)
 empty-length [] = refl
 empty-length (b ∷ r) = let h : suc (length r) ≡ 0 → ⊥ = λ e. omega arith in rw (ne_eqb (suc (length r)) 0 h)

@@ -1,3 +1,4 @@
+-- `same_bytes` reads within both, which are as long, and ends: what is left of them falls.
 use Rattle.std.proofs.Common.{length, ◌-◌, ◌≡◌}
 use Rattle.replay.proofs.judge.same_bytes.Given as goal
 

@@ -1,3 +1,4 @@
+-- `fill` writes within the buffer, and ends: what is left of it falls.
 use Rattle.std.proofs.Common.{length, ◌-◌, ◌≡◌}
 use Rattle.replay.proofs.runs.fill.Given as goal
 

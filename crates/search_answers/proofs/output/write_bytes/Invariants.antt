@@ -1,3 +1,4 @@
+-- `write_bytes` reads within the name, and ends: what is left of it falls.
 use Rattle.std.proofs.Common.{length, ◌-◌}
 use Rattle.search_answers.proofs.output.write_bytes.Given as goal
 

@@ -1,3 +1,4 @@
+-- `index_sheet` has room for both tables: the fields of the sheet bound them.
 use Rattle.tlv.proofs.PlaceFacts.{placed-start}
 use Rattle.search_answers.proofs.SearchLaws.{units-fit, entries_fit, sheet-indexed}
 use Rattle.search_answers.proofs.tables.index_sheet.Goals as goal

@@ -1,5 +1,4 @@
 -- `join::join_all` meets its contract: what stands in the result and what is left of the list make the whole, and the tables hold what the records hold.
---
 use mathlib.Core.Path.{refl}
 use borrow.Author.Rules.{rules}
 use Rattle.tlv.proofs.CursorLaws.{next-less, payload-within}
