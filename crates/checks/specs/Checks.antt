@@ -3,7 +3,8 @@ use Rattle.std.specs.Prelude.{◌≡◌, Bool, cond, false, ◌&&◌, ◌||◌, 
 use Rattle.std.proofs.Math.Option.{Option, none, some}
 use Rattle.tlv.specs.Outcome.{Outcome, refused, done, ◌>>=◌}
 use Rattle.tlv.specs.Lists.{at, is_empty, is_none}
-use Rattle.tlv.specs.Limits.{input_limit, program_limit, list_limit, work_of_field, work_of_program_byte, work_of_encoded_byte, work_of_list_byte, counted_lists, work_besides}
+use Rattle.tlv.specs.Limits.{input_limit, program_limit, list_limit, work_of_field, work_of_program_byte, work_of_encoded_byte}
+use Rattle.tlv.specs.Limits.{work_of_list_byte, counted_lists, work_besides}
 use Rattle.tlv.specs.Grammar.{check_input}
 use Rattle.tlv.specs.Checked.{Accepts}
 use Rattle.tlv.specs.Model.{CompilationUnit, units}

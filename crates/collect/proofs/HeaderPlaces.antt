@@ -73,19 +73,19 @@ encoding-here {s} {p} U = unit-encoding s p (step_at s p) 0x10 (p + 3) 18 (p + 2
 -- ---- its header
 
 module _ {s : List ℕ} {p : ℕ} {r : Own} (U : UnitPlaced s p) (own : NextOwn s (p + 21) 0x13 r) where
-  header-is : (unit_here s p).header ≡ map_option header_of (payload_of 0x13 (own_fields (fields (drop (p + 21) s))))
-  header-is = unit-header s p (step_at s p) 0x10 (p + 3) 18 (p + 21) refl U.is
+  header-first : (unit_here s p).header ≡ map_option header_of (payload_of 0x13 (own_fields (fields (drop (p + 21) s))))
+  header-first = unit-header s p (step_at s p) 0x10 (p + 3) 18 (p + 21) refl U.is
 
   pub header-none : r ≡ Own.Missing → (unit_here s p).header ≡ none
   unfolding map_option
-  header-none e = header-is ∙ ap (map_option header_of) (first-none s (p + 21) 0x13 r own e)
+  header-none e = header-first ∙ ap (map_option header_of) (first-none s (p + 21) 0x13 r own e)
 
   pub header-found : {start len next : ℕ} → r ≡ Own.Field start len next → HeaderIn s p start len
   unfolding map_option
   header-found {start} {len} {next} e =
       let f = own-field s (p + 21) 0x13 r start len next own e (unit-next U) in
       record {
-        is = header-is ∙ ap (map_option header_of) (first_found s (p + 21) 0x13 r own start len next e);
+        is = header-first ∙ ap (map_option header_of) (first_found s (p + 21) 0x13 r own start len next e);
         long = placed-header s f.place f.step 0x13 start len next f.here f.reads f.is refl;
         within = (own-within s (p + 21) 0x13 r start len next own e).0;
       }

@@ -127,7 +127,8 @@ finish_run u h offsets table indices run =
     done (record { table = c.table; lines = unit_lines offsets run c; warnings = c.warnings })
 
 abbrev pub finish_from : List ℕ → List ℕ → List ℕ → Conversion → StoredFiles → Run → Outcome Collected
-finish_from main supplementary w c t = finish_run (unit_at main c) (header_in main c) (offsets_of w c) (table_of main supplementary w t) (indices_in w c.indices)
+finish_from main supplementary w c t =
+    finish_run (unit_at main c) (header_in main c) (offsets_of w c) (table_of main supplementary w t) (indices_in w c.indices)
 
 -- the same of rows that may be refused
 abbrev pub finish_rows : Outcome (List LineRow) → List ℕ → List ℕ → List ℕ → Conversion → StoredFiles → Outcome Collected

@@ -17,7 +17,8 @@ use Rattle.references.specs.Search.{attribute}
 use Rattle.references.specs.Tables.{EntryKnown}
 use Rattle.references.specs.Names.{dwarf_of, reference_name}
 use Rattle.references.specs.Keys.{keys_extent}
-use Rattle.imports.specs.Tree.{CallSiteFrame, Descendants, DetailContext, ends_here, finish, make_call_site, push_call_site, collect_entry, collect_descendants}
+use Rattle.imports.specs.Tree.{CallSiteFrame, Descendants, DetailContext, ends_here, finish, make_call_site, push_call_site, collect_entry}
+use Rattle.imports.specs.Tree.{collect_descendants}
 use Rattle.imports.specs.Import.{descendants_of}
 use Rattle.ranges.specs.RangeTable.{ranges_at, range_fields, own_lists}
 use Rattle.dies.specs.declared.dies.Details.{Details}
@@ -253,6 +254,7 @@ DescendedBy o d name at warned t t' u u' (Extracted.Details nodes at' warned' pa
 
 pub record Descends (main supplementary lists addresses w w' : List ℕ) (d : Details) (name : List ℕ) (p depth at warned : ℕ) (t t' u u' : List ℕ)
     (r : Extracted) : Type 0 where
-  pub is : DescendedBy (collect_descendants (context_in main supplementary lists addresses w d) (descendants_of depth (entries_from main p))) d name at warned t
+  pub is : DescendedBy (collect_descendants (context_in main supplementary lists addresses w d) (descendants_of depth (entries_from main p)))
+      d name at warned t
       t' u u' r
   pub rest : Kept w w' d.ranges (walked main supplementary d)

@@ -10,7 +10,7 @@ use lib.ListN.{length, get_or, length-map}
 use Rattle.tlv.specs.declared.model.AddressRange.{AddressRange}
 use Rattle.tlv.specs.Outcome.{done, refused}
 use Rattle.tlv.proofs.TestLaws.{by_less}
-use Rattle.tlv.proofs.PlaceLaws.{all_get_d, get_or_image}
+use Rattle.tlv.proofs.PlaceLaws.{all_get_or, get_or_image}
 use Rattle.imports.specs.Agree.{TreeEntry, TreeNode, root_of, ParentOf, entry, entry_depth, Kept, against, Rule, node, node_depth, NodeOf, root, below}
 use Rattle.imports.proofs.StackMachine.{Walked, tree}
 use Rattle.imports.proofs.ListAgree.{Steps, ListNearestOf, ListPair, ListAgree, ListTooDeep, ListAnswer, ListDemand}
@@ -45,11 +45,11 @@ module _ (f : AddressRange) (es : List TreeEntry) (ns : List TreeNode) (steps : 
 
   kept_at : (j : ℕ) → j < length ns → (0 ≤ entry_of j) × (entry_of j < 0 + length es) × Kept (merged f es) (entry_of j)
   unfolding entry_of kept-numbers
-  kept_at j l = all_get_d (λ i. (0 ≤ i) × (i < 0 + length es) × Kept (merged f es) i) kept-numbers j 0 (kept-among (merged f es) 0 (length es)) (omega (arith, long))
+  kept_at j l = all_get_or (λ i. (0 ≤ i) × (i < 0 + length es) × Kept (merged f es) i) kept-numbers j 0 (kept-among (merged f es) 0 (length es)) (omega (arith, long))
 
   shallow-at : (j : ℕ) → j < length ns → level (entry_of j) < 256
   unfolding entry_of level
-  shallow-at j l = all_get_d (λ i. length (above f es (entry_depth es i) i) < 256) kept-numbers j 0 made.shallow (omega (arith, long))
+  shallow-at j l = all_get_or (λ i. length (above f es (entry_depth es i) i) < 256) kept-numbers j 0 made.shallow (omega (arith, long))
 
   ascending : (j k : ℕ) → j < k → k < length ns → entry_of j < entry_of k
   unfolding entry_of kept-numbers

@@ -9,7 +9,7 @@ use lib.ListN.{length, get_or}
 use Rattle.tlv.specs.declared.model.AddressRange.{AddressRange}
 use Rattle.tlv.specs.Lists.{All}
 use Rattle.tlv.proofs.ListLaws.{all_map}
-use Rattle.tlv.proofs.PlaceLaws.{all_get_d}
+use Rattle.tlv.proofs.PlaceLaws.{all_get_or}
 
 -- entry n in front, where it has merged ranges
 abbrev pub number_if : ℕ → List AddressRange → List ℕ → List ℕ
@@ -40,7 +40,7 @@ module _ (merged : ℕ → List AddressRange) where
           get_or (number_if n ms (kept_from (suc n) m)) j 0 < get_or (number_if n ms (kept_from (suc n) m)) k 0
       go [] j k h l ih = ih j k h l
       go (x ∷ ms) j zero h l ih = absurd (omega arith)
-      go (x ∷ ms) zero (suc k) h l ih = omega (arith, all_get_d (λ i. (suc n ≤ i) × (i < suc n + m) × (merged i ≢ [])) (kept_from (suc n) m) k 0 (kept-among (suc n) m) (omega arith))
+      go (x ∷ ms) zero (suc k) h l ih = omega (arith, all_get_or (λ i. (suc n ≤ i) × (i < suc n + m) × (merged i ≢ [])) (kept_from (suc n) m) k 0 (kept-among (suc n) m) (omega arith))
       go (x ∷ ms) (suc j) (suc k) h l ih = ih j k (omega arith) (omega arith)
 
   pub kept-onto : (n m i : ℕ) → n ≤ i → i < n + m → merged i ≢ [] → (j : ℕ) × (j < length (kept_from n m)) × (get_or (kept_from n m) j 0 ≡ i)

@@ -11,7 +11,7 @@ use Rattle.tlv.specs.Lists.{Any, All}
 use Rattle.tlv.specs.Model.{CompilationUnit, Entry}
 use Rattle.tlv.specs.Accepted.{EntryAccepted, Ordered, UnitAccepted}
 use Rattle.tlv.proofs.ListLaws.{all_map, all_drop, all-take_while}
-use Rattle.tlv.proofs.PlaceLaws.{all_get_d, any_get_or, get_or_image, drop_image, while_at, while_image}
+use Rattle.tlv.proofs.PlaceLaws.{all_get_or, any_get_or, get_or_image, drop_image, while_at, while_image}
 use Rattle.references.specs.Search.{Dwarf}
 use Rattle.imports.specs.Import.{descendants_of}
 use Rattle.imports.specs.Agree.{TreeEntry, tree_entry, tree_entries, entry, entry_depth, Below}
@@ -86,7 +86,7 @@ module _ (d : Dwarf) (u : CompilationUnit) where
           let g = is_below (tree_entries d u) s steps among i b in
           let l : i - suc s < length (entries_below u s) = omega (arith, below-count) in
           let w : suc s + (i - suc s) ≡ i = omega arith in
-          subst P (below-entry (i - suc s) l ∙ ap (unit_entry u) w) (all_get_d P (entries_below u s) (i - suc s) blank h l)
+          subst P (below-entry (i - suc s) l ∙ ap (unit_entry u) w) (all_get_or P (entries_below u s) (i - suc s) blank h l)
 
       -- the offsets that warnings say have 64 bits
       pub below-offsets : All (λ e. u.offset + e.offset < 2 ^ 64) (entries_below u s)

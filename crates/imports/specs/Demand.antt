@@ -1,5 +1,6 @@
 -- Theorem. Demand 3 whole, and that trays can be read back: what holds of every import that is done, for every input.
-use Rattle.std.specs.Prelude.{ℕ, suc, ◌-◌, ◌^◌, ◌≤◌, ◌<◌, ◌≡◌, ◌↔◌, ◌⊎◌, ◌≢◌, Bool, true, false, cond, ◌&&◌, not, List, [], ◌∷◌, ◌++◌, map, length, get_or, take, drop, eqb}
+use Rattle.std.specs.Prelude.{ℕ, suc, ◌-◌, ◌^◌, ◌≤◌, ◌<◌, ◌≡◌, ◌↔◌, ◌⊎◌, ◌≢◌, Bool, true, false, cond, ◌&&◌, not, List, [], ◌∷◌, ◌++◌, map}
+use Rattle.std.specs.Prelude.{length, get_or, take, drop, eqb}
 use Rattle.std.proofs.Math.Option.{Option, none, some}
 use Rattle.tlv.specs.Constants.{dw_tag_call_site, dw_tag_inlined_subroutine, dw_tag_subprogram}
 use Rattle.tlv.specs.declared.model.AddressRange.{AddressRange}

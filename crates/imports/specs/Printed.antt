@@ -98,7 +98,13 @@ files_buffer = 0x40 ∷ 0x0b ∷ 0x00 ∷ 0x04 ∷ 0x00 ∷ 0x2f ∷ 0x73 ∷ 0x
 -- stats 1 2 1 0
 abbrev pub printed_after : After
 printed_after = record {
-  answer = record { refusal = 0; records = 135; files = 14; warnings = 0; stats = record { functions = 1; line_rows = 2; inline_nodes = 1; rejected_ranges = 0 } };
+  answer = record {
+    refusal = 0;
+    records = 135;
+    files = 14;
+    warnings = 0;
+    stats = record { functions = 1; line_rows = 2; inline_nodes = 1; rejected_ranges = 0 };
+  };
   records = records_buffer ++ replicate (32768 - 135) 0xbb;
   files = files_buffer ++ replicate (32768 - 14) 0xcc;
   warnings = replicate 32768 0xdd;

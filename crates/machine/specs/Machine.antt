@@ -1,6 +1,7 @@
 -- Definition. The line number state machine of the Standard (6.2.2 and 6.2.5, versions 2 to 5): the rows of a program. Operand faults are document 01's 7 to
 -- 12, as the sequence scan has them; 21 and 22 are document 02's (E8).
-use Rattle.std.specs.Prelude.{ℕ, zero, suc, ◌+◌, ◌-◌, ◌*◌, ◌/◌, ◌%◌, ◌^◌, min, Bool, cond, not, ◌&&◌, ◌||◌, List, [], ◌∷◌, ◌++◌, length, take, drop, ◌==◌, nat_le, nat_lt}
+use Rattle.std.specs.Prelude.{ℕ, zero, suc, ◌+◌, ◌-◌, ◌*◌, ◌/◌, ◌%◌, ◌^◌, min, Bool, cond, not, ◌&&◌, ◌||◌, List, [], ◌∷◌, ◌++◌, length}
+use Rattle.std.specs.Prelude.{take, drop, ◌==◌, nat_le, nat_lt}
 use Rattle.tlv.specs.Outcome.{Outcome, refused, done, ◌>>=◌}
 use Rattle.tlv.specs.Bytes.{le}
 use Rattle.tlv.specs.Model.{LineEncoding, LineRow}

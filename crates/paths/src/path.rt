@@ -4,7 +4,8 @@ ghost use Rattle.tlv.specs.Lists.{exists};
 ghost use Rattle.buffers.specs.Buffer.{overlay};
 ghost use Rattle.buffers.specs.Table.{chunk};
 ghost use Rattle.line_program.specs.Standard.{slash};
-ghost use Rattle.paths.specs.Paths.{is_separator, starts_with, is_drive, is_share, is_letter, has_drive_letter, starts_doubled, is_windows, splits_at, base_start};
+ghost use Rattle.paths.specs.Paths.{is_separator, starts_with, is_drive, is_share, is_letter, has_drive_letter, starts_doubled};
+ghost use Rattle.paths.specs.Paths.{is_windows, splits_at, base_start};
 ghost use Rattle.paths.specs.Paths.{basename_of, root_length, directory_name, is_absolute, append_path, needs_compilation};
 ghost use Rattle.paths.specs.Join.{Laid};
 

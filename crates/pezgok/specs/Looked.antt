@@ -22,7 +22,9 @@ row_in has place = cond (eqb has 0) none (some place)
 -- the answer that a refusal's number, four numbers and the chain's places stand for
 abbrev pub frames_in : ℕ → List ℕ → List ℕ → Outcome Frames
 frames_in n found chain =
-    cond (eqb n 0) (done (record { function = get_or found 0 0; row = row_in (get_or found 1 0) (get_or found 2 0); chain = take (get_or found 3 0) chain })) (refused n)
+    cond (eqb n 0)
+    (done (record { function = get_or found 0 0; row = row_in (get_or found 1 0) (get_or found 2 0); chain = take (get_or found 3 0) chain }))
+    (refused n)
 
 -- none after a refusal
 abbrev pub nodes_of : Running → ℕ → ℕ

@@ -122,7 +122,8 @@ list_at lists addresses place size offset from = ranges_in size (drop place addr
 -- that of the field whose payload starts at a place
 abbrev pub list_of : List ℕ → List ℕ → List ℕ → ℕ → ListRanges
 list_of main lists addresses start =
-    list_at lists addresses (le_at 8 main (start + list_addresses_at)) (le_at 1 main (start + list_size_at)) (le_at 8 main start) (le_at 8 main (start + list_base_at))
+    list_at lists addresses (le_at 8 main (start + list_addresses_at)) (le_at 1 main (start + list_size_at))
+    (le_at 8 main start) (le_at 8 main (start + list_base_at))
 
 -- the ranges that it gives
 abbrev pub list_given : ListRanges → List AddressRange

@@ -1,7 +1,8 @@
 -- Definition. Names and declarations by reference (the Rust's convert/dwarf/references.rs, without its caches).
 use Rattle.std.specs.Prelude.{ℕ, zero, suc, ◌+◌, ◌-◌, ◌^◌, Bool, true, false, cond, ◌&&◌, ◌||◌, List, [], ◌∷◌, ◌++◌, leb, ltb, eqb}
 use Rattle.std.proofs.Math.Option.{Option, none, some}
-use Rattle.tlv.specs.Constants.{dw_at_abstract_origin, dw_at_decl_file, dw_at_decl_line, dw_at_linkage_name, dw_at_mips_linkage_name, dw_at_name, dw_at_specification}
+use Rattle.tlv.specs.Constants.{dw_at_abstract_origin, dw_at_decl_file, dw_at_decl_line, dw_at_linkage_name, dw_at_mips_linkage_name}
+use Rattle.tlv.specs.Constants.{dw_at_name, dw_at_specification}
 use Rattle.tlv.specs.declared.model.FileIndex.{FileIndex}
 use Rattle.tlv.specs.declared.model.LineEntry.{LineEntry}
 use Rattle.tlv.specs.Outcome.{Outcome, refused, done, ◌>>=◌}

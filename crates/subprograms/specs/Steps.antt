@@ -9,7 +9,8 @@ use Rattle.tlv.specs.Fields.{encode}
 use Rattle.tlv.specs.Model.{Entry, EntryRange, RangeFailure}
 use Rattle.buffers.specs.Buffer.{Put}
 use Rattle.buffers.specs.Table.{Kept, KeptBut}
-use Rattle.buffers.specs.Output.{Function, Warning, each_of, row_payload, warning_payload, records_bytes, warnings_bytes, about, rejected_range, malformed_ranges}
+use Rattle.buffers.specs.Output.{Function, Warning, each_of, row_payload, warning_payload, records_bytes, warnings_bytes, about}
+use Rattle.buffers.specs.Output.{rejected_range, malformed_ranges}
 use Rattle.access.specs.Places.{entry_here, unit_here}
 use Rattle.lines.specs.Files.{FileTable}
 use Rattle.lines.specs.Rows.{for_range}
@@ -17,7 +18,8 @@ use Rattle.files.specs.Store.{table_of, Grown}
 use Rattle.rnglists.specs.RangeLists.{ListRanges, failure_by, decimal}
 use Rattle.references.specs.Search.{resolve_declaration_line}
 use Rattle.imports.specs.Tree.{Descendants}
-use Rattle.imports.specs.Import.{State, ImportContext, statement_sequence_offset, sequence_warning, declaration_if, lines_with, is_tombstone, is_live_range, rejected}
+use Rattle.imports.specs.Import.{State, ImportContext, statement_sequence_offset, sequence_warning, declaration_if, lines_with}
+use Rattle.imports.specs.Import.{is_tombstone, is_live_range, rejected}
 use Rattle.imports.specs.Import.{import_range, import_ranges, import_subprogram, is_subprogram, descendants_of}
 use Rattle.dies.specs.declared.dies.Details.{Details}
 use Rattle.dies.specs.declared.calls.Warned.{Warned}

@@ -13,10 +13,10 @@ use Rattle.tlv.specs.Lists.{All, Any, take_while, drop_while}
 use Rattle.tlv.proofs.TestLaws.{by_test}
 
 module _ {A : Type 0} (P : A → Type 0) where
-  pub all_get_d : (xs : List A) (n : ℕ) (d : A) → All P xs → n < length xs → P (get_or xs n d)
-  all_get_d [] n d h l = absurd (omega arith)
-  all_get_d (x ∷ xs) zero d h l = h.0
-  all_get_d (x ∷ xs) (suc n) d h l = all_get_d xs n d h.1 (omega arith)
+  pub all_get_or : (xs : List A) (n : ℕ) (d : A) → All P xs → n < length xs → P (get_or xs n d)
+  all_get_or [] n d h l = absurd (omega arith)
+  all_get_or (x ∷ xs) zero d h l = h.0
+  all_get_or (x ∷ xs) (suc n) d h l = all_get_or xs n d h.1 (omega arith)
 
   pub any_get_or : (xs : List A) (d : A) → Any P xs → (n : ℕ) × (n < length xs) × P (get_or xs n d)
   any_get_or [] d x' = elim x' [ ]
