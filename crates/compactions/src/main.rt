@@ -3,7 +3,7 @@
 
 ghost use Rattle.std.specs.Prelude.{◌≤◌};
 
-use std::io::{self, BufWriter, Write};
+use std::io::{self, Write};
 use tlv::model::{FileIndex, LineEntry};
 
 // A code's two digits are the row's file and line; no two rows have the same column.
@@ -77,7 +77,5 @@ fn show_all(out: &mut impl Write) -> io::Result<()> {
 }
 
 fn main(rt: HostRuntime) -> io::Result<()> {
-    let mut out = BufWriter::new(rt.alloc(), io::writer(&rt))?;
-    show_all(&mut out)?;
-    out.flush()
+    show_all(&mut io::writer(&rt))
 }

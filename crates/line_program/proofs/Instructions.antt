@@ -11,7 +11,7 @@ use lib.ListN.{length, drop, replicate}
 use Rattle.tlv.specs.Outcome.{Outcome, refused, done, ◌>>=◌}
 use Rattle.line_program.specs.Standard.{and_then, Operand, leb128, SignedOperand, sleb128, OperandKind, unsigned, signed, half, standard_operands, Opcodes}
 use Rattle.line_program.specs.Standard.{declared, operands_of}
-use Rattle.line_program.specs.Standard.{after_operand, after_operands, Passed, extended_body as standardBody, extended_of, instruction}
+use Rattle.line_program.specs.Standard.{after_operand, after_operands, Passed, extended_body as standard_body, extended_of, instruction}
 use Rattle.line_program.specs.Program.{uleb, sleb, counted_kinds, operand_kinds, skip_operand, skip_operands, place_of, take_line_bytes, extended_body, extended, skip}
 use Rattle.line_program.specs.Conforms.{DeclaresCount, DeclaresStandard, Beside}
 use Rattle.line_program.proofs.Operands.{Answer, ended, wide, long, answer}
@@ -95,7 +95,7 @@ abbrev passed : Bool → List ℕ → Passed
 passed ends rest = record { ends = ends; rest = rest }
 
 -- the bytes of an instruction that has n
-beside_body : (whole n : ℕ) (s : List ℕ) → Beside (extended_body whole n s) (standardBody (n - 1) s)
+beside_body : (whole n : ℕ) (s : List ℕ) → Beside (extended_body whole n s) (standard_body (n - 1) s)
 unfolding extended_body take_line_bytes ◌>>=◌
 beside_body whole n [] = beside_none 8 (omega arith) (omega arith)
 beside_body whole n (b ∷ s) = go (leb (n - 1) (length s)) (ltb (place_of whole s + (n - 1)) (2 ^ 64))
@@ -109,7 +109,7 @@ beside_body whole n (b ∷ s) = go (leb (n - 1) (length s)) (ltb (place_of whole
 beside-extended : (whole : ℕ) (s : List ℕ) → Beside (extended whole s) (and_then (leb128 s) extended_of)
 unfolding extended
 beside-extended whole s = beside_then (uleb s) (leb128 s) _ extended_of (beside_uleb s) (λ o.
-    beside_if (eqb o.value 0) (refused 9) (extended_body whole o.value o.rest) none (standardBody (o.value - 1) o.rest)
+    beside_if (eqb o.value 0) (refused 9) (extended_body whole o.value o.rest) none (standard_body (o.value - 1) o.rest)
     (λ e. beside_none 9 (omega arith) (omega arith)) (λ e. beside_body whole o.value o.rest))
 
 -- ---- any instruction

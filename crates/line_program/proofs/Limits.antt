@@ -11,8 +11,8 @@ use lib.ListN.{length, drop}
 use Rattle.tlv.specs.Outcome.{Outcome, refused, done, ◌>>=◌}
 use Rattle.tlv.specs.Lists.{map_option}
 use Rattle.line_program.specs.Standard.{and_then, Operand, leb128, SignedOperand, sleb128, OperandKind, unsigned, signed, half, standard_operands, Opcodes}
-use Rattle.line_program.specs.Standard.{operands_of, after_operand, after_operands, Passed, extended_body as standardBody, extended_of, instruction}
-use Rattle.line_program.specs.Standard.{sequences_within as standardWithin}
+use Rattle.line_program.specs.Standard.{operands_of, after_operand, after_operands, Passed, extended_body as standard_body, extended_of, instruction}
+use Rattle.line_program.specs.Standard.{sequences_within as standard_within}
 use Rattle.line_program.specs.Program.{uleb, sleb, operand_kinds, skip_operand, skip_operands, place_of, take_line_bytes, extended_body, extended, skip}
 use Rattle.line_program.specs.Program.{sequences_within}
 use Rattle.line_program.specs.Conforms.{DeclaresCount, DeclaresStandard, AdvanceLine, Short, ShortSigned, Narrow, NarrowOperands, NarrowInstruction}
@@ -70,7 +70,7 @@ abbrev passed : Bool → List ℕ → Passed
 passed ends rest = record { ends = ends; rest = rest }
 
 -- its bytes have no limit
-agrees-body : (whole n : ℕ) (s : List ℕ) → Agrees 11 (extended_body whole n s) (standardBody (n - 1) s) (Unit {0})
+agrees-body : (whole n : ℕ) (s : List ℕ) → Agrees 11 (extended_body whole n s) (standard_body (n - 1) s) (Unit {0})
 unfolding extended_body take_line_bytes ◌>>=◌
 agrees-body whole n [] = agrees-none 11 8
 agrees-body whole n (b ∷ s) = go (leb (n - 1) (length s)) (ltb (place_of whole s + (n - 1)) (2 ^ 64))
@@ -131,8 +131,8 @@ module _ (h : Opcodes) (d : DeclaresStandard h) (base whole : ℕ) where
       go true e = agrees-when 12 (agrees-map 12 x y (λ l. from ∷ l) g) (λ k. (ltb-true here (2 ^ 64) e, k)) (λ k. k.1)
       go false e = agrees-refused 12 12 (λ l f. (omega arith, omega arith, λ k. omega (arith, ltb-false here (2 ^ 64) e, k.0)))
 
-  pub agrees-sequences : (k from : ℕ) (s : List ℕ) → Agrees 12 (sequences_within k h base whole from s) (standardWithin k h base whole from s) (Keeps k s)
-  unfolding sequences_within standardWithin
+  pub agrees-sequences : (k from : ℕ) (s : List ℕ) → Agrees 12 (sequences_within k h base whole from s) (standard_within k h base whole from s) (Keeps k s)
+  unfolding sequences_within standard_within
   agrees-sequences zero from s = agrees-done 12 [] refl (tt, tt)
   agrees-sequences (suc k) from [] = agrees-done 12 [] refl (tt, tt)
   agrees-sequences (suc k) from (o ∷ s) =

@@ -9,7 +9,7 @@ use lib.Dec.{ltb}
 use lib.ListN.{length}
 use Rattle.tlv.specs.Outcome.{Outcome, refused, done, ◌>>=◌}
 use Rattle.tlv.specs.Lists.{map_option}
-use Rattle.line_program.specs.Standard.{Opcodes, instruction, sequences_within as standardWithin, sequences}
+use Rattle.line_program.specs.Standard.{Opcodes, instruction, sequences_within as standard_within, sequences}
 use Rattle.line_program.specs.Program.{place_of, skip, sequences_within, scan_line_sequence_offsets}
 use Rattle.line_program.specs.Conforms.{DeclaresStandard, Beside, Programs}
 use Rattle.line_program.proofs.Beside.{beside-limit, beside_if, beside_then, beside_map}
@@ -23,8 +23,8 @@ beside_end true from x y b = beside_map x y (λ l. from ∷ l) b
 beside_end false from x y b = beside-limit 12 (map_option (λ l. from ∷ l) y) (omega arith) (omega arith)
 
 module _ (h : Opcodes) (d : DeclaresStandard h) (base whole : ℕ) where
-  pub beside-sequences : (k from : ℕ) (s : List ℕ) → Beside (sequences_within k h base whole from s) (standardWithin k h base whole from s)
-  unfolding sequences_within standardWithin
+  pub beside-sequences : (k from : ℕ) (s : List ℕ) → Beside (sequences_within k h base whole from s) (standard_within k h base whole from s)
+  unfolding sequences_within standard_within
   beside-sequences zero from s = refl
   beside-sequences (suc k) from [] = refl
   beside-sequences (suc k) from (o ∷ s) = beside_then (skip h whole o s) (instruction h o s) _ _ (beside_skip h d whole o s) (λ t.

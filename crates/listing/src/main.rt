@@ -4,9 +4,8 @@
 ghost use Rattle.std.specs.Prelude.{◌≤◌, IfOk, length};
 
 use dwarf::model::Imported;
-use std::alloc::Global;
 use std::fs;
-use std::io::{self, BufWriter, Write};
+use std::io::{self, Write};
 use std::rt::Files;
 use streams::read_full;
 use subprograms::model::ConversionStats;
@@ -42,15 +41,17 @@ fn read_file(rt: &impl Files, name: &str, buffer: &mut [u8]) -> io::Result<usize
 }
 
 fn write_space(out: &mut impl Write) -> io::Result<()> {
-    write!(out, " ")
+    out.write_all(b" ")
 }
 
 fn write_hex(out: &mut impl Write, n: u64) -> io::Result<()> {
-    write!(out, " {n:x}")
+    write_space(out)?;
+    write!(out, "{n:x}")
 }
 
 fn write_decimal(out: &mut impl Write, n: u64) -> io::Result<()> {
-    write!(out, " {n}")
+    write_space(out)?;
+    write!(out, "{n}")
 }
 
 fn write_text(out: &mut impl Write, s: &[u8]) -> io::Result<()> {
@@ -59,7 +60,7 @@ fn write_text(out: &mut impl Write, s: &[u8]) -> io::Result<()> {
 }
 
 fn end_line(out: &mut impl Write) -> io::Result<()> {
-    writeln!(out)
+    out.write_all(b"\n")
 }
 
 // 41: start, end, name.
@@ -68,7 +69,8 @@ fn write_function(out: &mut impl Write, p: &[u8]) -> io::Result<()> {
         return Ok(());
     }
     let start = tlv::bytes::read_u64(p, 0);
-    write!(out, "function {start:x}")?;
+    out.write_all(b"function ")?;
+    write!(out, "{start:x}")?;
     write_hex(out, tlv::bytes::read_u64(p, 8))?;
     write_text(out, &p[16..])?;
     end_line(out)
@@ -80,7 +82,8 @@ fn write_row(out: &mut impl Write, p: &[u8]) -> io::Result<()> {
         return Ok(());
     }
     let address = tlv::bytes::read_u64(p, 0);
-    write!(out, "row {address:x}")?;
+    out.write_all(b"row ")?;
+    write!(out, "{address:x}")?;
     write_decimal(out, tlv::bytes::read_u32(p, 8) as u64)?;
     write_decimal(out, tlv::bytes::read_u32(p, 12) as u64)?;
     write_decimal(out, tlv::bytes::read_u16(p, ROW_COLUMN) as u64)?;
@@ -93,7 +96,8 @@ fn write_inline(out: &mut impl Write, p: &[u8]) -> io::Result<()> {
         return Ok(());
     }
     let depth = tlv::bytes::read_u16(p, 0);
-    write!(out, "inline {depth}")?;
+    out.write_all(b"inline ")?;
+    write!(out, "{depth}")?;
     write_decimal(out, tlv::bytes::read_u32(p, 2) as u64)?;
     write_decimal(out, tlv::bytes::read_u32(p, 6) as u64)?;
     write_text(out, &p[10..])?;
@@ -106,7 +110,8 @@ fn write_range(out: &mut impl Write, p: &[u8]) -> io::Result<()> {
         return Ok(());
     }
     let start = tlv::bytes::read_u64(p, 0);
-    write!(out, "range {start:x}")?;
+    out.write_all(b"range ")?;
+    write!(out, "{start:x}")?;
     write_hex(out, tlv::bytes::read_u64(p, 8))?;
     end_line(out)
 }
@@ -117,7 +122,8 @@ fn write_site(out: &mut impl Write, p: &[u8]) -> io::Result<()> {
         return Ok(());
     }
     let address = tlv::bytes::read_u64(p, 0);
-    write!(out, "site {address:x}")?;
+    out.write_all(b"site ")?;
+    write!(out, "{address:x}")?;
     if tlv::bytes::read_u8(p, 8) != 0 {
         write_text(out, &p[9..])?;
     }
@@ -133,7 +139,8 @@ fn write_file(out: &mut impl Write, p: &[u8], number: u64) -> io::Result<()> {
     if p.len() < split {
         return Ok(());
     }
-    write!(out, "file {number}")?;
+    out.write_all(b"file ")?;
+    write!(out, "{number}")?;
     write_text(out, &p[2..split])?;
     write_text(out, &p[split..])?;
     end_line(out)
@@ -145,7 +152,8 @@ fn write_warning(out: &mut impl Write, p: &[u8]) -> io::Result<()> {
         return Ok(());
     }
     let kind = tlv::bytes::read_u8(p, 0);
-    write!(out, "warning {kind}")?;
+    out.write_all(b"warning ")?;
+    write!(out, "{kind}")?;
     if kind < 3 {
         write_text(out, &p[1..])?;
     } else if 17 <= p.len() {
@@ -198,7 +206,8 @@ fn write_fields(out: &mut impl Write, s: &[u8], first: u64) -> io::Result<()> {
 
 fn write_stats(out: &mut impl Write, s: ConversionStats) -> io::Result<()> {
     let functions = s.functions;
-    write!(out, "stats {functions}")?;
+    out.write_all(b"stats ")?;
+    write!(out, "{functions}")?;
     write_decimal(out, s.line_rows)?;
     write_decimal(out, s.inline_nodes)?;
     write_decimal(out, s.rejected_ranges)?;
@@ -216,15 +225,14 @@ fn written(buffer: &[u8], n: usize) -> &[u8] {
 // There is no file for a list section and none for an address table: both are empty.
 fn list<'a>(
     out: &mut impl Write,
-    alloc: Global,
     main: &'a [u8],
     supplementary: &'a [u8],
     program: &[u8],
 ) -> io::Result<()> {
-    let mut work = vec![in alloc; 0u8; WORK_SIZE]?;
-    let mut records = vec![in alloc; 0u8; TRAY_SIZE]?;
-    let mut files = vec![in alloc; 0u8; TRAY_SIZE]?;
-    let mut warnings = vec![in alloc; 0u8; TRAY_SIZE]?;
+    let mut work = [0u8; WORK_SIZE];
+    let mut records = [0u8; TRAY_SIZE];
+    let mut files = [0u8; TRAY_SIZE];
+    let mut warnings = [0u8; TRAY_SIZE];
     match dwarf::import::import_unit(
         main,
         supplementary,
@@ -240,7 +248,11 @@ fn list<'a>(
         &mut files,
         &mut warnings,
     ) {
-        Imported::Refused(r) => writeln!(out, "refused {r}"),
+        Imported::Refused(r) => {
+            out.write_all(b"refused ")?;
+            write!(out, "{r}")?;
+            end_line(out)
+        }
         Imported::Finished {
             records: a,
             files: b,
@@ -256,22 +268,19 @@ fn list<'a>(
 }
 
 // Reads the three files of the folder, and lists what their import gives.
-fn list_files(rt: &impl Files, out: &mut impl Write, alloc: Global) -> io::Result<()> {
-    let mut main = vec![in alloc; 0u8; INPUT_LIMIT + 1]?;
-    let mut supplementary = vec![in alloc; 0u8; INPUT_LIMIT + 1]?;
-    let mut program = vec![in alloc; 0u8; PROGRAM_LIMIT + 1]?;
+fn list_files(rt: &impl Files, out: &mut impl Write) -> io::Result<()> {
+    let mut main = [0u8; INPUT_LIMIT + 1];
+    let mut supplementary = [0u8; INPUT_LIMIT + 1];
+    let mut program = [0u8; PROGRAM_LIMIT + 1];
     let m = read_file(rt, "unit.main", &mut main)?;
     let s = read_file(rt, "unit.sup", &mut supplementary)?;
     let l = read_file(rt, "unit.line", &mut program)?;
     if INPUT_LIMIT < m || INPUT_LIMIT < s || PROGRAM_LIMIT < l {
-        return writeln!(out, "oversize");
+        return out.write_all(b"oversize\n");
     }
-    list(out, alloc, &main[..m], &supplementary[..s], &program[..l])
+    list(out, &main[..m], &supplementary[..s], &program[..l])
 }
 
 fn main(rt: HostRuntime) -> io::Result<()> {
-    let alloc = rt.alloc();
-    let mut out = BufWriter::new(alloc, io::writer(&rt))?;
-    list_files(&rt, &mut out, alloc)?;
-    out.flush()
+    list_files(&rt, &mut io::writer(&rt))
 }

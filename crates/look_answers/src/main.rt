@@ -4,7 +4,7 @@
 ghost use Rattle.std.specs.Prelude.{◌+◌, ◌≤◌, length};
 
 use lookup::model::{Chain, Listed, Nearest, Row, Running};
-use std::io::{self, BufReader, BufWriter, Read, Write};
+use std::io::{self, Read, Write};
 use streams::read_full;
 
 // The byte that a list is filled with before it is lent.
@@ -255,11 +255,12 @@ fn answer_all(
 }
 
 fn main(rt: HostRuntime) -> io::Result<()> {
-    let alloc = rt.alloc();
-    let mut buffer = vec![in alloc; 0u8; CALL_LIMIT]?;
-    let mut list = vec![in alloc; 0u8; LIST_LIMIT]?;
-    let mut input = BufReader::new(alloc, rt.reader())?;
-    let mut out = BufWriter::new(alloc, io::writer(&rt))?;
-    answer_all(&mut input, &mut out, &mut buffer, &mut list)?;
-    out.flush()
+    let mut buffer = [0u8; CALL_LIMIT];
+    let mut list = [0u8; LIST_LIMIT];
+    answer_all(
+        &mut rt.reader(),
+        &mut io::writer(&rt),
+        &mut buffer,
+        &mut list,
+    )
 }

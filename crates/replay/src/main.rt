@@ -8,9 +8,8 @@ ghost use Rattle.std.specs.Prelude.{◌≡◌, length};
 use cases::{answer_of, case_of, read_inputs};
 use judge::Verdict;
 use runs::cut_case;
-use std::alloc::Global;
 use std::fs;
-use std::io::{self, BufReader, BufWriter, Read, Write};
+use std::io::{self, Read, Write};
 use std::rt::Files;
 use streams::read_full;
 
@@ -110,16 +109,15 @@ fn work_buffer() -> [u8; 98304]
 // The cases of two open files, at most a million.
 fn replay_cases(
     out: &mut impl Write,
-    alloc: Global,
     cases: &mut impl Read,
     answers: &mut impl Read,
 ) -> io::Result<()> {
-    let mut inputs = vec![in alloc; 0u8; LARGE]?;
-    let mut expected = vec![in alloc; 0u8; LARGE]?;
+    let mut inputs = [0u8; LARGE];
+    let mut expected = [0u8; LARGE];
     let mut work = work_buffer();
-    let mut records = vec![in alloc; 0u8; LARGE]?;
-    let mut files = vec![in alloc; 0u8; LARGE]?;
-    let mut warnings = vec![in alloc; 0u8; LARGE]?;
+    let mut records = [0u8; LARGE];
+    let mut files = [0u8; LARGE];
+    let mut warnings = [0u8; LARGE];
     let mut number: u64 = 0;
     while number < 1000000 {
         let v = next_case(
@@ -143,53 +141,26 @@ fn replay_cases(
 fn replay(
     rt: &impl Files,
     out: &mut impl Write,
-    alloc: Global,
     name: &str,
     cases: &str,
     answers: &str,
 ) -> io::Result<()> {
     write!(out, "{name}")?;
-    let (Ok(c), Ok(a)) = (fs::open(rt, cases), fs::open(rt, answers)) else {
+    let (Ok(mut c), Ok(mut a)) = (fs::open(rt, cases), fs::open(rt, answers)) else {
         return writeln!(out, ": a file is missing");
     };
-    let mut c = BufReader::new(alloc, c)?;
-    let mut a = BufReader::new(alloc, a)?;
-    replay_cases(out, alloc, &mut c, &mut a)
+    replay_cases(out, &mut c, &mut a)
 }
 
-fn replay_all(rt: &impl Files, out: &mut impl Write, alloc: Global) -> io::Result<()> {
-    replay(
-        rt,
-        out,
-        alloc,
-        "document",
-        "document.cases",
-        "document.answers",
-    )?;
-    replay(
-        rt,
-        out,
-        alloc,
-        "generated",
-        "generated.cases",
-        "generated.answers",
-    )?;
-    replay(rt, out, alloc, "units", "units.cases", "units.answers")?;
-    replay(rt, out, alloc, "wholes", "wholes.cases", "wholes.answers")?;
-    replay(
-        rt,
-        out,
-        alloc,
-        "objects",
-        "objects.cases",
-        "objects.answers",
-    )?;
-    replay(rt, out, alloc, "lists", "lists.cases", "lists.answers")
+fn replay_all(rt: &impl Files, out: &mut impl Write) -> io::Result<()> {
+    replay(rt, out, "document", "document.cases", "document.answers")?;
+    replay(rt, out, "generated", "generated.cases", "generated.answers")?;
+    replay(rt, out, "units", "units.cases", "units.answers")?;
+    replay(rt, out, "wholes", "wholes.cases", "wholes.answers")?;
+    replay(rt, out, "objects", "objects.cases", "objects.answers")?;
+    replay(rt, out, "lists", "lists.cases", "lists.answers")
 }
 
 fn main(rt: HostRuntime) -> io::Result<()> {
-    let alloc = rt.alloc();
-    let mut out = BufWriter::new(alloc, io::writer(&rt))?;
-    replay_all(&rt, &mut out, alloc)?;
-    out.flush()
+    replay_all(&rt, &mut io::writer(&rt))
 }

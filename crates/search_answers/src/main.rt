@@ -6,15 +6,16 @@ ghost use Rattle.tlv.specs.Checked.{Accepts};
 ghost use Rattle.references.specs.Tables.{EntryKnown};
 ghost use Rattle.search_answers.specs.Searches.{SearchesIn};
 
-use crate::output::{end_line, write_declared, write_found, write_refused_line};
+use crate::output::{end_line, write_refused_line};
+use crate::searches::{answer_declaration, answer_name, answer_reference};
 use crate::tables::{build_tables, has_room};
-use declarations::declaring::{DeclaringState, Places};
+use declarations::declaring::Places;
 use references::tables::Target;
-use std::io::{self, BufReader, BufWriter, Read, Write};
+use std::io::{self, Read, Write};
 use streams::read_full;
-use tlv::constants::DW_AT_CALL_ORIGIN;
 
 pub mod output;
+mod searches;
 pub mod tables;
 
 // The longest call.
@@ -27,108 +28,6 @@ fn next_u32(input: &mut impl Read) -> io::Result<u32> {
     let mut bytes = [0u8; 4];
     read_full(input, &mut bytes)?;
     Ok(tlv::bytes::read_u32(&bytes, 0))
-}
-
-// The name of an entry.
-fn answer_name<'a>(
-    out: &mut impl Write,
-    main: &'a [u8],
-    supplementary: &'a [u8],
-    work: &mut [u8],
-    d: Places,
-    files: usize,
-    unit: usize,
-    place: usize,
-) -> io::Result<()>
-    requires searches_in { SearchesIn main.now supplementary.now work.old d files }
-    requires entry_known { EntryKnown main.now unit place }
-    ensures { SearchesIn main.now supplementary.now work.new d files }
-{
-    let tables = d.tables;
-    let mut status: u8 = 0;
-    let mut reads: usize = 0;
-    let name = references::names::resolve_name_counted(
-        main,
-        supplementary,
-        work,
-        &mut reads,
-        &mut status,
-        tables,
-        unit,
-        place,
-    );
-    write_found(out, status, name, reads)
-}
-
-// The name that its call origin refers to.
-fn answer_reference<'a>(
-    out: &mut impl Write,
-    main: &'a [u8],
-    supplementary: &'a [u8],
-    work: &mut [u8],
-    d: Places,
-    files: usize,
-    unit: usize,
-    place: usize,
-) -> io::Result<()>
-    requires searches_in { SearchesIn main.now supplementary.now work.old d files }
-    requires entry_known { EntryKnown main.now unit place }
-    ensures { SearchesIn main.now supplementary.now work.new d files }
-{
-    let tables = d.tables;
-    let mut status: u8 = 0;
-    let mut reads: usize = 0;
-    let name = references::reference_names::resolve_reference_name_counted(
-        main,
-        supplementary,
-        work,
-        &mut reads,
-        &mut status,
-        tables,
-        unit,
-        place,
-        DW_AT_CALL_ORIGIN,
-    );
-    write_found(out, status, name, reads)
-}
-
-// Its declaration, from an empty table of files on. What would be written to the trays is not asked for: a byte each stands for them.
-fn answer_declaration<'a>(
-    out: &mut impl Write,
-    main: &'a [u8],
-    supplementary: &'a [u8],
-    work: &mut [u8],
-    d: Places,
-    files: usize,
-    unit: usize,
-    place: usize,
-) -> io::Result<()>
-    requires searches_in { SearchesIn main.now supplementary.now work.old d files }
-    requires entry_known { EntryKnown main.now unit place }
-    ensures { SearchesIn main.now supplementary.now work.new d files }
-{
-    let mut files_tray = [0u8; 1];
-    let mut warnings = [0u8; 1];
-    let mut reads: usize = 0;
-    let table = files::store::new_files(main, supplementary, work, 0, files, 1, 0);
-    let from = DeclaringState {
-        count: 0,
-        table: table,
-        warned: 0,
-    };
-    let declared = declarations::declaration_lines::resolve_declaration_line_counted(
-        main,
-        supplementary,
-        work,
-        &mut files_tray,
-        &mut warnings,
-        &mut reads,
-        d,
-        unit,
-        place,
-        from,
-    );
-    write_declared(out, declared, reads)
 }
 
 // A query: its kind (1 byte), the offset of an entry in the section (8).
@@ -312,11 +211,12 @@ fn answer_all(
 }
 
 pub fn main(rt: HostRuntime) -> io::Result<()> {
-    let alloc = rt.alloc();
-    let mut buffer = vec![in alloc; 0u8; CALL_LIMIT]?;
-    let mut work = vec![in alloc; 0u8; WORK_SIZE]?;
-    let mut input = BufReader::new(alloc, rt.reader())?;
-    let mut out = BufWriter::new(alloc, io::writer(&rt))?;
-    answer_all(&mut input, &mut out, &mut buffer, &mut work)?;
-    out.flush()
+    let mut buffer = [0u8; CALL_LIMIT];
+    let mut work = [0u8; WORK_SIZE];
+    answer_all(
+        &mut rt.reader(),
+        &mut io::writer(&rt),
+        &mut buffer,
+        &mut work,
+    )
 }

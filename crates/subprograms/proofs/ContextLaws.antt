@@ -9,7 +9,7 @@ use native.Mathlib.Omega.{arith}
 use lib.ListN.{length}
 use Rattle.tlv.specs.Lists.{at, Any}
 use Rattle.tlv.specs.Fields.{fields}
-use Rattle.tlv.specs.Model.{range_of as addressesOf}
+use Rattle.tlv.specs.Model.{range_of as addresses_of}
 use Rattle.buffers.specs.Table.{Kept, Clear, KeptBut}
 use Rattle.buffers.proofs.TableLaws.{here, there, but_of}
 use Rattle.buffers.proofs.RecordLaws.{records-but}
@@ -132,7 +132,7 @@ module _ {main supplementary w w' : List ℕ} {q : ImportContext} {t : StoredFil
 
   text_same : ranges_at w' q.text q.text_count ≡ ranges_at w q.text q.text_count
   unfolding ranges_at
-  text_same = let O = C.ordered in records-but addressesOf 16 q.text q.text_count K (below-spans O _ _ O.buffer O.text)
+  text_same = let O = C.ordered in records-but addresses_of 16 q.text q.text_count K (below-spans O _ _ O.buffer O.text)
 
   -- the tables stay, and the file table has become another
   pub context-kept : {t' : StoredFiles} → length w' ≡ length w → t'.base ≡ t.base → t'.room ≡ t.room → FilesIn main supplementary w' t'

@@ -108,8 +108,8 @@ module _ (s : List ℕ) (start len : ℕ) (fits : start + len ≤ length s) (c :
   pub unit-here : t ≡ 0x10 → len ≡ 18
   unit-here e = here-unit s start len fits c t shape e
 
-  pub entry_long : t ≡ 0x17 → len ≡ 12
-  entry_long e = here-entry s start len fits c t shape e
+  pub entry-sized : t ≡ 0x17 → len ≡ 12
+  entry-sized e = here-entry s start len fits c t shape e
 
   -- its numbers are in the string
   pub unit-first : t ≡ 0x10 → start + 8 ≤ length s
@@ -122,10 +122,10 @@ module _ (s : List ℕ) (start len : ℕ) (fits : start + len ≤ length s) (c :
   unit-third e = let l = unit-here e in omega arith
 
   pub entry_first : t ≡ 0x17 → start + 8 ≤ length s
-  entry_first e = let l = entry_long e in omega arith
+  entry_first e = let l = entry-sized e in omega arith
 
   pub entry-second : t ≡ 0x17 → start + 8 + 2 ≤ length s
-  entry-second e = let l = entry_long e in omega arith
+  entry-second e = let l = entry-sized e in omega arith
 
   -- a unit ends below 2 ^ 64, and an entry is below its unit's end
   pub unit-fits : (o n : ℕ) → t ≡ 0x10 → o ≡ le_at 8 s start → n ≡ le_at 8 s (start + 8) → o + n < 2 ^ 64
@@ -137,7 +137,7 @@ module _ (s : List ℕ) (start len : ℕ) (fits : start + len ≤ length s) (c :
 
   pub entry-fits : (o : ℕ) → c.length < 2 ^ 64 → t ≡ 0x17 → o ≡ le_at 8 s start → o + 1 < 2 ^ 64
   entry-fits o small e eo =
-      let l = entry_long e in
+      let l = entry-sized e in
       let below = rw (number-first s start len 8 o (omega arith) eo) at (entry-within c (take len (drop start s)) (rw e at shape)) in
       omega arith
 
@@ -176,7 +176,7 @@ module _ (s : List ℕ) (start len : ℕ) (fits : start + len ≤ length s) (c :
       ≡ next c (field_in s t start len)
   unfolding next
   next-entry o d e eo ed =
-      let l = entry_long e in
+      let l = entry-sized e in
       rw (e, number-first s start len 8 o (omega arith) eo, number_at s start len 2 8 d (omega arith) ed)
 
 pub next-other : (c : Context) (t : ℕ) (p : List ℕ) → (t ≡ 0x10 → ⊥) → (t ≡ 0x17 → ⊥)

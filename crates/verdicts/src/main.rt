@@ -1,7 +1,7 @@
 // Reads sheets from standard input and writes each one's name and verdict (corpus/grammar says how they stand there).
 #![tactic(auto)]
 
-use std::io::{self, BufReader, BufWriter, Read, Write};
+use std::io::{self, Read, Write};
 use streams::read_full;
 
 // The longest name or sheet.
@@ -69,10 +69,6 @@ fn judge_all(input: &mut impl Read, out: &mut impl Write, buffer: &mut [u8]) -> 
 }
 
 fn main(rt: HostRuntime) -> io::Result<()> {
-    let alloc = rt.alloc();
-    let mut buffer = vec![in alloc; 0u8; SHEET_LIMIT]?;
-    let mut input = BufReader::new(alloc, rt.reader())?;
-    let mut out = BufWriter::new(alloc, io::writer(&rt))?;
-    judge_all(&mut input, &mut out, &mut buffer)?;
-    out.flush()
+    let mut buffer = [0u8; SHEET_LIMIT];
+    judge_all(&mut rt.reader(), &mut io::writer(&rt), &mut buffer)
 }

@@ -33,8 +33,8 @@ use Rattle.dies.proofs.PastLaws.{past_same, past-turn, site-length}
 use Rattle.dies.proofs.WalkStateLaws.{details_kept, kept-keys}
 
 -- the bytes of call sites
-abbrev sitesBytes : List CallSite → List ℕ
-sitesBytes xs = each_of (λ x. encode 0x45 (site_payload x)) xs
+abbrev sites_bytes : List CallSite → List ℕ
+sites_bytes xs = each_of (λ x. encode 0x45 (site_payload x)) xs
 
 bytes-done : (st : ℕ) (r x : List ℕ) → bytes_given st r ≡ done x → r ≡ x
 unfolding bytes_given
@@ -43,9 +43,9 @@ bytes-done st r x e = either (eqb st 0) (λ y. done-is (rw y at e)) (λ n. refus
 pub record Siting (main supplementary : List ℕ) (d : Details) (n at : ℕ) (w₀ t₀ w t : List ℕ) (place i : ℕ) (b : Bool) : Type 0 where
   pub within : i ≤ n
   pub details : DetailsIn main supplementary w d
-  pub left : Left at (sitesBytes (sites_at (origin_name main supplementary d.unit) w₀ d.sites n)) t₀ place (sitesBytes (drop i (sites_at (origin_name main supplementary d.unit) w₀ d.sites n))) t
-  pub over : is_past at (length (sitesBytes (sites_at (origin_name main supplementary d.unit) w₀ d.sites n)))
-      ≡ (b || is_past place (length (sitesBytes (drop i (sites_at (origin_name main supplementary d.unit) w₀ d.sites n)))))
+  pub left : Left at (sites_bytes (sites_at (origin_name main supplementary d.unit) w₀ d.sites n)) t₀ place (sites_bytes (drop i (sites_at (origin_name main supplementary d.unit) w₀ d.sites n))) t
+  pub over : is_past at (length (sites_bytes (sites_at (origin_name main supplementary d.unit) w₀ d.sites n)))
+      ≡ (b || is_past place (length (sites_bytes (drop i (sites_at (origin_name main supplementary d.unit) w₀ d.sites n)))))
   pub kept : Kept w₀ w d.tables.keys (keys_extent main supplementary d.tables)
   pub size : length w ≡ length w₀
 
@@ -64,7 +64,7 @@ module _ {main supplementary : List ℕ} {d : Details} {at : ℕ} {w₀ t₀ w t
   pub siting-done : s.closed ≤ i → SitesPut main supplementary d s.closed at w₀ w t₀ t (record { at = place; past = b })
   unfolding sites_at each_of
   siting-done h =
-      let none = ap sitesBytes (records-rest_none (site_of (origin_name main supplementary d.unit)) 12 w₀ d.sites s.closed i h) in
+      let none = ap sites_bytes (records-rest_none (site_of (origin_name main supplementary d.unit)) 12 w₀ d.sites s.closed i h) in
       record {
         put = left-done S.left none;
         past = sym (S.over ∙ ap (λ (l : List ℕ). b || is_past place (length l)) none ∙ sym (past_same b place S.left.fits));
@@ -106,11 +106,11 @@ module _ {main supplementary : List ℕ} {d : Details} {at : ℕ} {w₀ t₀ w t
         pattern = (ap (origin_name main supplementary d.unit) (le_at-front 4 w₀ (d.sites + i * 12) 12 (omega arith) ∙ same_place) ∙ sym name-is) k;
       }
 
-      rest-is : sitesBytes (drop i (sites_at (origin_name main supplementary d.unit) w₀ d.sites s.closed))
-          ≡ encode 0x45 (site_payload (record { return_offset = offset; pattern = name })) ++ sitesBytes (drop (i + 1) (sites_at (origin_name main supplementary d.unit) w₀ d.sites s.closed))
+      rest-is : sites_bytes (drop i (sites_at (origin_name main supplementary d.unit) w₀ d.sites s.closed))
+          ≡ encode 0x45 (site_payload (record { return_offset = offset; pattern = name })) ++ sites_bytes (drop (i + 1) (sites_at (origin_name main supplementary d.unit) w₀ d.sites s.closed))
       unfolding sites_at each_of
-      rest-is = ap sitesBytes (records-rest_cons (site_of (origin_name main supplementary d.unit)) 12 w₀ d.sites s.closed i h)
-          ∙ ap (λ (x : CallSite). encode 0x45 (site_payload x) ++ sitesBytes (drop (i + 1) (sites_at (origin_name main supplementary d.unit) w₀ d.sites s.closed))) site-is
+      rest-is = ap sites_bytes (records-rest_cons (site_of (origin_name main supplementary d.unit)) 12 w₀ d.sites s.closed i h)
+          ∙ ap (λ (x : CallSite). encode 0x45 (site_payload x) ++ sites_bytes (drop (i + 1) (sites_at (origin_name main supplementary d.unit) w₀ d.sites s.closed))) site-is
 
       pub siting-next : {t₁ : List ℕ} {q : ℕ} → Put place (encode 0x45 (site_payload (record { return_offset = offset; pattern = name }))) t t₁ q → length w₁ ≡ length w
           → {o : Bool} → o ≡ is_past place (12 + length name) → Siting main supplementary d s.closed at w₀ t₀ w₁ t₁ q (i + 1) (b || o)

@@ -112,19 +112,19 @@ module _ (o : Options) (i : Inputs) (asked : i.ordinal ≡ o.ordinal) where
       go false e = rw (e, ← asked) (λ k. checked i (λ n. chosen_is i n (at (units i.main) i.ordinal) k))
 
 module _ (i : Inputs) (rest : ℕ → Outcome State) {b : Bool} (e : b ≡ oversize_of i.main i.supplementary i.program i.lists i.addresses) where
-  abbrev fieldsFirst : Outcome State
-  fieldsFirst = check_input (length i.program) i.main >>= λ m. check_input (length i.program) i.supplementary >>= λ s. rest (m + s)
+  abbrev fields_first : Outcome State
+  fields_first = check_input (length i.program) i.main >>= λ m. check_input (length i.program) i.supplementary >>= λ s. rest (m + s)
 
-  by_size : checked i rest ≡ cond b (refused 1) fieldsFirst
+  by_size : checked i rest ≡ cond b (refused 1) fields_first
   unfolding checked answer.oversize
-  by_size = ap (λ (a : Bool). cond a (refused 1) fieldsFirst) (sym e)
+  by_size = ap (λ (a : Bool). cond a (refused 1) fields_first) (sym e)
 
   checked-oversize : b ≡ true → checked i rest ≡ refused 1
-  checked-oversize is = by_size ∙ ap (λ (a : Bool). cond a (refused 1) fieldsFirst) is
+  checked-oversize is = by_size ∙ ap (λ (a : Bool). cond a (refused 1) fields_first) is
 
   module _ (is : b ≡ false) {x : BothChecked} (C : ChecksBoth i.main i.supplementary (length i.program) x) where
-    sized : checked i rest ≡ fieldsFirst
-    sized = by_size ∙ ap (λ (a : Bool). cond a (refused 1) fieldsFirst) is
+    sized : checked i rest ≡ fields_first
+    sized = by_size ∙ ap (λ (a : Bool). cond a (refused 1) fields_first) is
 
     checked_refused : {n : ℕ} → x ≡ BothChecked.Refused n → (n ≡ 0 → ⊥) × (checked i rest ≡ refused n)
     checked_refused {n} ex =

@@ -31,8 +31,8 @@ use Rattle.dwarf.specs.declared.tables.Indexes.{Indexes}
 use Rattle.dwarf.specs.Tables.{TablesIn, LinesLaid, MakesContext}
 use Rattle.dwarf.proofs.TablesLaws.{units-below, entries_within, other-units_below, other-entries_below, tables-kept}
 
-abbrev pub contextMade : Layout → UnitLayout → Indexes → ℕ → StoredLines → StoredIndices → Bool → Bool → ℕ → ImportContext
-contextMade l p x unit lines indices inlines call_sites count = record {
+abbrev pub context_made : Layout → UnitLayout → Indexes → ℕ → StoredLines → StoredIndices → Bool → Bool → ℕ → ImportContext
+context_made l p x unit lines indices inlines call_sites count = record {
   places = record {
     tables = record { main = x.main; supplementary = x.supplementary; keys = p.keys };
     indices = indices;
@@ -119,7 +119,7 @@ module _ {main supplementary program lists w w₁ : List ℕ} {l : Layout} {p : 
 
   module _ (inlines call_sites : Bool) where
     abbrev made : ImportContext
-    made = contextMade l p x unit lines indices inlines call_sites count
+    made = context_made l p x unit lines indices inlines call_sites count
 
     made-ordered : {t : StoredFiles} → l.files ≤ t.base → t.base + extent t ≤ l.lines → Ordered main supplementary made t
     unfolding unit_list_room

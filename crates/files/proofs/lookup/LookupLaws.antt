@@ -46,13 +46,13 @@ use Rattle.files.proofs.AddedLaws.{laid-files}
 
 -- ---- the n-th field of a file
 
-abbrev payloadsFrom : List ℕ → ℕ → List (List ℕ)
-payloadsFrom s p = payloads 0x15 (own_fields (fields (drop p s)))
+abbrev payloads_from : List ℕ → ℕ → List (List ℕ)
+payloads_from s p = payloads 0x15 (own_fields (fields (drop p s)))
 
 -- the file that is looked for has the number `left` among those from place q on
 pub record Passing (s : List ℕ) (p n q left : ℕ) : Type 0 where
   pub placed : Placed s q
-  pub same : at (payloadsFrom s p) n ≡ at (payloadsFrom s q) left
+  pub same : at (payloads_from s p) n ≡ at (payloads_from s q) left
 
 pub passing-start : {s : List ℕ} {p : ℕ} (n : ℕ) → Placed s p → Passing s p n p n
 passing-start n h = record { placed = h; same = refl }
@@ -68,7 +68,7 @@ module _ {s : List ℕ} {p n q left : ℕ} {r : Own} (J : Passing s p n q left) 
   passing-over e = record { is = sym (J.same ∙ rw (← own.is, e)); within = tt }
 
   module _ {start len next : ℕ} (e : r ≡ Own.Field start len next) where
-    first-is : payloadsFrom s q ≡ span_in s (record { start = start; len = len }) ∷ payloadsFrom s next
+    first-is : payloads_from s q ≡ span_in s (record { start = start; len = len }) ∷ payloads_from s next
     unfolding chunk
     first-is = rw (← own.is, e)
 
@@ -79,7 +79,7 @@ module _ {s : List ℕ} {p n q left : ℕ} {r : Own} (J : Passing s p n q left) 
     pub passing-next : (left ≡ 0 → ⊥) → Passing s p n next (left - 1)
     passing-next ne = record {
       placed = own-placed s q 0x15 r start len next own e J.placed;
-      same = J.same ∙ rw first-is (at_next (span_in s (record { start = start; len = len })) (payloadsFrom s next) left (omega arith));
+      same = J.same ∙ rw first-is (at_next (span_in s (record { start = start; len = len })) (payloads_from s next) left (omega arith));
     }
 
 -- ---- the place of a file
@@ -135,7 +135,7 @@ module _ {s : List ℕ} {p n : ℕ} {r : Own} (U : UnitPlaced s p) (N : NthFile 
   file-is : at (unit_here s p).files n ≡ map_option file_of (own_file s r)
   file-is =
       ap (λ (fs : List HeaderFile). at fs n) (unit-files s p (step_at s p) 0x10 (p + 3) 18 (p + 21) refl U.is)
-      ∙ at-image file_of (payloadsFrom s (p + 21)) n ∙ ap (map_option file_of) (sym N.is)
+      ∙ at-image file_of (payloads_from s (p + 21)) n ∙ ap (map_option file_of) (sym N.is)
 
   number_is : (t : FileTable) → nth_number (unit_here s p) (header_here s p) t n ≡ number_at (unit_here s p) (header_here s p) t (map_option file_of (own_file s r))
   number_is t = nth-is (unit_here s p) (header_here s p) t n ∙ ap (number_at (unit_here s p) (header_here s p) t) file-is

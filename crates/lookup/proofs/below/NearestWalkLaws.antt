@@ -31,31 +31,31 @@ abbrev placed : Option GroupAt → Outcome ℕ
 placed o = qualifying (λ f. f.place) o
 
 -- the better of what is found so far, which ends at `latest`, and of what is left
-abbrev pub bestOf : Nearest → ℕ → Option GroupAt → Outcome ℕ
-bestOf (Nearest.Refused r) latest o = qualifying (λ f. f.place) o
-bestOf (Nearest.At p) latest none = done p
-bestOf (Nearest.At p) latest (some g) = cond (ltb latest (function_range g).end) (done g.place) (done p)
+abbrev pub best_of : Nearest → ℕ → Option GroupAt → Outcome ℕ
+best_of (Nearest.Refused r) latest o = qualifying (λ f. f.place) o
+best_of (Nearest.At p) latest none = done p
+best_of (Nearest.At p) latest (some g) = cond (ltb latest (function_range g).end) (done g.place) (done p)
 
 -- while none is found, the latest end is 0
 abbrev pub Started : Nearest → ℕ → Type 0
 Started (Nearest.Refused r) latest = (refusal_number r ≡ 20) × (latest ≡ 0)
 Started (Nearest.At p) latest = Unit {0}
 
-none_left : (n : Nearest) (latest : ℕ) → Started n latest → nearest_given n ≡ bestOf n latest none
+none_left : (n : Nearest) (latest : ℕ) → Started n latest → nearest_given n ≡ best_of n latest none
 none_left (Nearest.Refused r) latest s = ap refused s.0
 none_left (Nearest.At p) latest s = refl
 
 -- a function that ends later than what is found
 takes : (n : Nearest) (latest : ℕ) (f : GroupAt) (o : Option GroupAt) → latest < end_of f
-    → bestOf n latest (some (later_end f o)) ≡ bestOf (Nearest.At f.place) (end_of f) o
+    → best_of n latest (some (later_end f o)) ≡ best_of (Nearest.At f.place) (end_of f) o
 takes n latest f none h = go n
   where
-    go : (m : Nearest) → bestOf m latest (some f) ≡ done f.place
+    go : (m : Nearest) → best_of m latest (some f) ≡ done f.place
     go (Nearest.Refused r) = refl
     go (Nearest.At p) = rw (lt-ltb latest (end_of f) h)
 takes n latest f (some g) h = go (ltb (end_of f) (end_of g)) refl n
   where
-    go : (b : Bool) → ltb (end_of f) (end_of g) ≡ b → (m : Nearest) → bestOf m latest (some (cond b g f)) ≡ cond b (done g.place) (done f.place)
+    go : (b : Bool) → ltb (end_of f) (end_of g) ≡ b → (m : Nearest) → best_of m latest (some (cond b g f)) ≡ cond b (done g.place) (done f.place)
     go true e (Nearest.Refused r) = refl
     go true e (Nearest.At p) = let l : end_of f < end_of g = ltb-true _ _ e in rw (lt-ltb latest (end_of g) (omega arith))
     go false e (Nearest.Refused r) = refl
@@ -63,16 +63,16 @@ takes n latest f (some g) h = go (ltb (end_of f) (end_of g)) refl n
 
 -- a function that does not
 leaves : (n : Nearest) (latest : ℕ) (f : GroupAt) (o : Option GroupAt) → Started n latest → 0 < end_of f → end_of f ≤ latest
-    → bestOf n latest (some (later_end f o)) ≡ bestOf n latest o
+    → best_of n latest (some (later_end f o)) ≡ best_of n latest o
 leaves (Nearest.Refused r) latest f o s z h = let l = s.1 in absurd (omega arith)
 leaves (Nearest.At p) latest f none s z h = rw (le-ltb latest (end_of f) h)
 leaves (Nearest.At p) latest f (some g) s z h = go (ltb (end_of f) (end_of g)) refl
   where
-    go : (b : Bool) → ltb (end_of f) (end_of g) ≡ b → bestOf (Nearest.At p) latest (some (cond b g f)) ≡ cond (ltb latest (end_of g)) (done g.place) (done p)
+    go : (b : Bool) → ltb (end_of f) (end_of g) ≡ b → best_of (Nearest.At p) latest (some (cond b g f)) ≡ cond (ltb latest (end_of g)) (done g.place) (done p)
     go true e = refl
     go false e = let l : end_of g ≤ end_of f = ltb-false _ _ e in rw (le-ltb latest (end_of f) h, le-ltb latest (end_of g) (omega arith))
 
-module _ (s : List ℕ) (a p latest : ℕ) (n : Nearest) (r : Step) (v : Outcome ℕ) (inv : v ≡ bestOf n latest (ending_below a (functions_from s p)))
+module _ (s : List ℕ) (a p latest : ℕ) (n : Nearest) (r : Step) (v : Outcome ℕ) (inv : v ≡ best_of n latest (ending_below a (functions_from s p)))
     (begun : Started n latest) (at : r ≡ step_at s p) where
   pub nearest-end : r ≡ Step.End → nearest_given n ≡ v
   unfolding ending_below
@@ -83,7 +83,7 @@ module _ (s : List ℕ) (a p latest : ℕ) (n : Nearest) (r : Step) (v : Outcome
   nearest-cut e = none_left n latest begun ∙ sym (inv ∙ rw (functions-cut s p r at e))
 
   module _ (t start len next : ℕ) (e : r ≡ Step.Field t start len next) where
-    pub nearest-other : (t ≡ 0x41 → ⊥) → v ≡ bestOf n latest (ending_below a (functions_from s next))
+    pub nearest-other : (t ≡ 0x41 → ⊥) → v ≡ best_of n latest (ending_below a (functions_from s next))
     nearest-other q = inv ∙ rw (functions-next s p r at t start len next e q)
 
     module _ (st : Stands s p) (x : ℕ) (q : t ≡ 0x41) (is : x ≡ le_at 8 s (start + 8)) where
@@ -99,19 +99,19 @@ module _ (s : List ℕ) (a p latest : ℕ) (n : Nearest) (r : Step) (v : Outcome
       unfolding ending_below
       left_is = rw (functions-this s p r at t start len next e q)
 
-      pub nearest-above : a < x → v ≡ bestOf n latest (ending_below a (functions_from s next))
-      nearest-above h = inv ∙ ap (bestOf n latest) (left_is ∙ rw (end_is, lt-leb x a h))
+      pub nearest-above : a < x → v ≡ best_of n latest (ending_below a (functions_from s next))
+      nearest-above h = inv ∙ ap (best_of n latest) (left_is ∙ rw (end_is, lt-leb x a h))
 
-      below : x ≤ a → v ≡ bestOf n latest (some (later_end this (ending_below a (functions_from s next))))
-      below h = inv ∙ ap (bestOf n latest) (left_is ∙ rw (end_is, le-leb x a h))
+      below : x ≤ a → v ≡ best_of n latest (some (later_end this (ending_below a (functions_from s next))))
+      below h = inv ∙ ap (best_of n latest) (left_is ∙ rw (end_is, le-leb x a h))
 
-      pub nearest-takes : x ≤ a → latest < x → v ≡ bestOf (Nearest.At p) x (ending_below a (functions_from s next))
+      pub nearest-takes : x ≤ a → latest < x → v ≡ best_of (Nearest.At p) x (ending_below a (functions_from s next))
       nearest-takes h k =
           let i = end_is in
           below h ∙ takes n latest this (ending_below a (functions_from s next)) (omega arith)
-          ∙ ap (λ (y : ℕ). bestOf (Nearest.At p) y (ending_below a (functions_from s next))) i
+          ∙ ap (λ (y : ℕ). best_of (Nearest.At p) y (ending_below a (functions_from s next))) i
 
-      pub nearest-leaves : x ≤ a → x ≤ latest → v ≡ bestOf n latest (ending_below a (functions_from s next))
+      pub nearest-leaves : x ≤ a → x ≤ latest → v ≡ best_of n latest (ending_below a (functions_from s next))
       nearest-leaves h k =
           let i = end_is in
           let z = function-filled s p r at t start len next e st x q is in

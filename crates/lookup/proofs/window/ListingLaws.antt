@@ -50,20 +50,20 @@ range-read s start len a b h ea eb = rw (number-first s start len 8 a (omega ari
 
 -- ---- the fields that are left
 
-abbrev pub leftBytes : Wanted → AddressRange → List ℕ → ℕ → List ℕ
-leftBytes k w s p = wanted_bytes k w (functions_from s p)
+abbrev pub left_bytes : Wanted → AddressRange → List ℕ → ℕ → List ℕ
+left_bytes k w s p = wanted_bytes k w (functions_from s p)
 
 module _ (s : List ℕ) (k : Wanted) (w : AddressRange) (p : ℕ) (r : Step) (at : r ≡ step_at s p) where
-  pub left_end : r ≡ Step.End → leftBytes k w s p ≡ []
+  pub left_end : r ≡ Step.End → left_bytes k w s p ≡ []
   unfolding wanted_bytes function_fields filter each_of
   left_end e = rw (functions-end s p r at e)
 
-  pub left_cut : r ≡ Step.Cut → leftBytes k w s p ≡ []
+  pub left_cut : r ≡ Step.Cut → left_bytes k w s p ≡ []
   unfolding wanted_bytes function_fields filter each_of
   left_cut e = rw (functions-cut s p r at e)
 
   module _ (t start len next : ℕ) (e : r ≡ Step.Field t start len next) where
-    pub left_other : (t ≡ 0x41 → ⊥) → leftBytes k w s p ≡ leftBytes k w s next
+    pub left_other : (t ≡ 0x41 → ⊥) → left_bytes k w s p ≡ left_bytes k w s next
     left_other q = rw (functions-next s p r at t start len next e q)
 
     pub part-below : p ≤ next
@@ -83,22 +83,22 @@ module _ (s : List ℕ) (k : Wanted) (w : AddressRange) (p : ℕ) (r : Step) (at
         part-long i = length-take-le len (drop start s) (rw length-drop (omega arith))
 
     module _ (x : AddressRange) (b : Bool) (q : t ≡ 0x41) (is : x ≡ range_of (take len (drop start s))) (h : b ≡ passing k w x) where
-      pub left_not : b ≡ false → leftBytes k w s p ≡ leftBytes k w s next
+      pub left_not : b ≡ false → left_bytes k w s p ≡ left_bytes k w s next
       unfolding wanted_bytes filter
       left_not f = rw (functions-this s p r at t start len next e q, ← is, ← h, f)
 
-      pub left-this : Bytes s → b ≡ true → leftBytes k w s p ≡ take (next - p) (drop p s) ++ leftBytes k w s next
+      pub left-this : Bytes s → b ≡ true → left_bytes k w s p ≡ take (next - p) (drop p s) ++ left_bytes k w s next
       unfolding wanted_bytes filter function_fields each_of
       left-this bytes f = rw (functions-this s p r at t start len next e q, ← is, ← h, f, part-is bytes, q)
 
 -- a wanted field is laid: the others are left
 pub left_laid : {all lent₀ lent lent₂ : List ℕ} {at₁ at₂ : ℕ} (s : List ℕ) (k : Wanted) (w : AddressRange) (p : ℕ) (r : Step) (t start len next : ℕ)
     (x : AddressRange) (b : Bool)
-    → Left 0 all lent₀ at₁ (leftBytes k w s p) lent → r ≡ step_at s p → r ≡ Step.Field t start len next → t ≡ 0x41 → x ≡ range_of (take len (drop start s))
+    → Left 0 all lent₀ at₁ (left_bytes k w s p) lent → r ≡ step_at s p → r ≡ Step.Field t start len next → t ≡ 0x41 → x ≡ range_of (take len (drop start s))
     → b ≡ passing k w x → b ≡ true
-    → LaidPart s lent lent₂ p next at₁ at₂ → Left 0 all lent₀ at₂ (leftBytes k w s next) lent₂
+    → LaidPart s lent lent₂ p next at₁ at₂ → Left 0 all lent₀ at₂ (left_bytes k w s next) lent₂
 left_laid s k w p r t start len next x b left at e q is h f l =
-    left-put (leftBytes k w s p) (leftBytes k w s next) left (left-this s k w p r at t start len next e x b q is h l.bytes f) l.put
+    left-put (left_bytes k w s p) (left_bytes k w s next) left (left-this s k w p r at t start len next e x b q is h l.bytes f) l.put
 
 -- ---- the list as a whole
 

@@ -28,16 +28,16 @@ use Rattle.rows.proofs.FilterLaws.{last-append, last-take}
 use Rattle.rows.proofs.StoredLaws.{line-sequence, line-entry, lines-take, lines-suc}
 use Rattle.rows.proofs.SequenceLaws.{covers_at}
 
-abbrev pub earlierThan : ℕ → Option ℕ → SequencedLine → Bool
-earlierThan a s = λ x. ltb x.entry.address a && belongs s x.statement_sequence
+abbrev pub earlier_than : ℕ → Option ℕ → SequencedLine → Bool
+earlier_than a s = λ x. ltb x.entry.address a && belongs s x.statement_sequence
 
 -- what is looked for stands among the first i rows
 pub record Backwards (w : List ℕ) (base n a : ℕ) (s : Option ℕ) (i : ℕ) : Type 0 where
   pub few : i ≤ leading a (lines_of w base n)
   pub most : i ≤ n
-  pub left : last (earlierThan a s) (lines_of w base n) ≡ last (earlierThan a s) (lines_of w base i)
+  pub left : last (earlier_than a s) (lines_of w base n) ≡ last (earlier_than a s) (lines_of w base i)
 
-too-late : (a : ℕ) (s : Option ℕ) (x : SequencedLine) → a ≤ x.entry.address → earlierThan a s x ≡ false
+too-late : (a : ℕ) (s : Option ℕ) (x : SequencedLine) → a ≤ x.entry.address → earlier_than a s x ≡ false
 too-late a s x h = rw (le-ltb x.entry.address a h)
 
 pub back_start : {w : List ℕ} {l : StoredLines} {a i : ℕ} (s : Option ℕ) → RowsIn w l → i ≡ leading a (lines_of w l.lines l.line_count) → Backwards w l.lines l.line_count a s i
@@ -48,25 +48,25 @@ back_start {w} {l} {a} {i} s R e =
       few = omega arith;
       most = h;
       left =
-          last-take (earlierThan a s) i xs (all_map (drop i xs) (too-late a s) (all_from a 0 xs i R.sorted (omega arith)))
-          ∙ ap (last (earlierThan a s)) (lines-take w l.lines l.line_count i h);
+          last-take (earlier_than a s) i xs (all_map (drop i xs) (too-late a s) (all_from a 0 xs i R.sorted (omega arith)))
+          ∙ ap (last (earlier_than a s)) (lines-take w l.lines l.line_count i h);
     }
 
 module _ {w : List ℕ} {base n a i : ℕ} {s : Option ℕ} (B : Backwards w base n a s i) where
   module _ (own : StatementSequence) {t : Bool} (h : 0 < i) (q : sequence_of own ≡ stored_sequence w (base + (i - 1) * line_size + entry_size)) (e : t ≡ belongs s (sequence_of own)) where
-    back-test : earlierThan a s (line_at w (base + (i - 1) * line_size)) ≡ t
+    back-test : earlier_than a s (line_at w (base + (i - 1) * line_size)) ≡ t
     back-test =
         rw (lt-ltb (line_at w (base + (i - 1) * line_size)).entry.address a (row_below w base n a (i - 1) (omega (arith, B.most)) (omega (arith, B.few))))
         (ap (belongs s) (line-sequence w (base + (i - 1) * line_size) ∙ sym q) ∙ sym e)
 
     -- row i - 1 is the last of the i
-    last_row : last (earlierThan a s) (lines_of w base i) ≡ or_else (cond t (some (line_at w (base + (i - 1) * line_size))) none) (last (earlierThan a s) (lines_of w base (i - 1)))
+    last_row : last (earlier_than a s) (lines_of w base i) ≡ or_else (cond t (some (line_at w (base + (i - 1) * line_size))) none) (last (earlier_than a s) (lines_of w base (i - 1)))
     unfolding last or_else
     last_row =
         let is : i ≡ i - 1 + 1 = omega arith in
-        ap (λ (k : ℕ). last (earlierThan a s) (lines_of w base k)) is
-        ∙ ap (last (earlierThan a s)) (lines-suc w base (i - 1))
-        ∙ last-append (earlierThan a s) (lines_of w base (i - 1)) (line_at w (base + (i - 1) * line_size) ∷ [])
+        ap (λ (k : ℕ). last (earlier_than a s) (lines_of w base k)) is
+        ∙ ap (last (earlier_than a s)) (lines-suc w base (i - 1))
+        ∙ last-append (earlier_than a s) (lines_of w base (i - 1)) (line_at w (base + (i - 1) * line_size) ∷ [])
         ∙ rw back-test
 
     pub back-next : t ≡ false → Backwards w base n a s (i - 1)
@@ -74,13 +74,13 @@ module _ {w : List ℕ} {base n a i : ℕ} {s : Option ℕ} (B : Backwards w bas
     back-next f = record { few = omega (arith, B.few); most = omega (arith, B.most); left = B.left ∙ last_row ∙ rw f }
 
     pub back_found : {x : LineEntry} → t ≡ true → x ≡ entry_of (chunk w (base + (i - 1) * line_size) entry_size)
-        → earlier_of (Earlier.Row (record { address = a; file = x.file; line = x.line; column = x.column })) ≡ moved_to a (last (earlierThan a s) (lines_of w base n))
+        → earlier_of (Earlier.Row (record { address = a; file = x.file; line = x.line; column = x.column })) ≡ moved_to a (last (earlier_than a s) (lines_of w base n))
     unfolding or_else
     back_found {x} f is =
         let same : x ≡ (line_at w (base + (i - 1) * line_size)).entry = is ∙ sym (line-entry w (base + (i - 1) * line_size)) in
         rw (B.left, last_row, f, same)
 
-  pub back_none : i ≤ 0 → earlier_of Earlier.Missing ≡ moved_to a (last (earlierThan a s) (lines_of w base n))
+  pub back_none : i ≤ 0 → earlier_of Earlier.Missing ≡ moved_to a (last (earlier_than a s) (lines_of w base n))
   unfolding last lines_of records tab
   back_none h = let z : i ≡ 0 = omega arith in rw (B.left, z)
 
@@ -95,7 +95,7 @@ module _ (w : List ℕ) (l : StoredLines) (r : AddressRange) (asked : StatementS
   pub earlier-some : (own within : StatementSequence) (e : Earlier) {c : Covering} → c ≡ Covering.By own
       → covering_of c (first (covers_at (sequence_of asked) r.start) (ranges_of w l.sequences l.sequence_count))
       → sequence_of within ≡ or_else (sequence_of asked) (sequence_of own)
-      → earlier_of e ≡ moved_to r.start (last (earlierThan r.start (sequence_of within)) (lines_of w l.lines l.line_count))
+      → earlier_of e ≡ moved_to r.start (last (earlier_than r.start (sequence_of within)) (lines_of w l.lines l.line_count))
       → earlier_of e ≡ earlier_row (unit_lines_of w l) r (sequence_of asked)
   unfolding earlier_row unit_lines_of
   earlier-some own within e is C o h =

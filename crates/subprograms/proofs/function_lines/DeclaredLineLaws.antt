@@ -38,21 +38,21 @@ use Rattle.subprograms.specs.Steps.{FunctionLines, declared_line, FindsLines}
 use Rattle.subprograms.proofs.LaidPastLaws.{lines-length}
 
 -- where the search starts: no target is followed yet
-abbrev pub declaringFrom : ImportState → DeclaringState
-declaringFrom st = record { count = 0; table = st.table; warned = st.warned }
+abbrev pub declaring_from : ImportState → DeclaringState
+declaring_from st = record { count = 0; table = st.table; warned = st.warned }
 
 -- the search of the declaration of the entry at p has answered r
 abbrev pub Searches : List ℕ → List ℕ → ImportContext → ImportState → ℕ → List ℕ → List ℕ → List ℕ → List ℕ → List ℕ → List ℕ → Declared → Type 0
 Searches main supplementary q st p w w' f f' u u' r =
     Declares (resolve_declaration 64 (dwarf_of main supplementary) (place_at main supplementary (start_at q.unit p)) (indices_in w q.places.indices))
-    main supplementary w w' f f' u u' q.places (declaringFrom st) r
+    main supplementary w w' f f' u u' q.places (declaring_from st) r
 
 -- the rows that an answer of the search leaves
 abbrev rows_of : ℕ → Declaring → FunctionLines
 rows_of start d = record { rows = lines_with (record { start = start; end = start }) d.found []; table = d.table; warnings = d.warnings }
 
 module _ {main supplementary w : List ℕ} {q : ImportContext} (st : ImportState) (C : ContextIn main supplementary w q st.table) where
-  pub declaring_in : st.warned ≤ top → DeclaringIn main supplementary w q.places (declaringFrom st)
+  pub declaring_in : st.warned ≤ top → DeclaringIn main supplementary w q.places (declaring_from st)
   declaring_in h =
       let o = C.ordered in
       record {
@@ -83,8 +83,8 @@ module _ {main supplementary w : List ℕ} {q : ImportContext} (st : ImportState
     begun : (ws : List Warning)
         → resolve_declaration_line (dwarf_of main supplementary) (unit_here main q.unit) (entry_here main p) (indices_in w q.places.indices) (table_of main supplementary w st.table) ws
         ≡ resolve_declaration 64 (dwarf_of main supplementary) (place_at main supplementary (start_at q.unit p)) (indices_in w q.places.indices)
-        (declaring_at main supplementary w q.places (declaringFrom st) ws 1)
-    begun ws = declaration-line main supplementary w q.places (declaringFrom st) q.unit p (indices_in w q.places.indices) ws refl
+        (declaring_at main supplementary w q.places (declaring_from st) ws 1)
+    begun ws = declaration-line main supplementary w q.places (declaring_from st) q.unit p (indices_in w q.places.indices) ws refl
 
     -- a refusal is no 0
     no_zero : {f u w' f' u' : List ℕ} {n : ℕ} → Searches main supplementary q st p w w' f f' u u' (Declared.Refused n) → n ≡ 0 → ⊥
@@ -95,7 +95,7 @@ module _ {main supplementary w : List ℕ} {q : ImportContext} (st : ImportState
     module _ (start : ℕ) where
       goes : (ws : List Warning) {o : Outcome Declaring}
           → resolve_declaration 64 (dwarf_of main supplementary) (place_at main supplementary (start_at q.unit p)) (indices_in w q.places.indices)
-          (declaring_at main supplementary w q.places (declaringFrom st) ws 1) ≡ o
+          (declaring_at main supplementary w q.places (declaring_from st) ws 1) ≡ o
           → declared_line (context_of main supplementary w q) (entry_here main p) start (table_of main supplementary w st.table) ws ≡ (o >>= λ d. done (rows_of start d))
       unfolding declared_line lines_in
       goes ws h = ap (λ (x : Outcome Declaring). x >>= λ d. done (rows_of start d)) (begun ws ∙ h)

@@ -61,33 +61,33 @@ lines-lay w p n i l h e = ap (λ (ls : List LineEntry). lines_bytes ls) (entries
 
 -- ---- which rows a function takes does not depend on the files of its unit
 
-abbrev linesAs : List SequencedLine → FileIndices → List LineSequenceRange → UnitLines
-linesAs es fs ss = record { entries = es; files = fs; sequences = ss }
+abbrev lines_as : List SequencedLine → FileIndices → List LineSequenceRange → UnitLines
+lines_as es fs ss = record { entries = es; files = fs; sequences = ss }
 
 module _ (es : List SequencedLine) (fs gs : FileIndices) (ss : List LineSequenceRange) where
-  exists-same : (o : Option ℕ) → sequence_exists (linesAs es fs ss) o ≡ sequence_exists (linesAs es gs ss) o
+  exists-same : (o : Option ℕ) → sequence_exists (lines_as es fs ss) o ≡ sequence_exists (lines_as es gs ss) o
   exists-same none = refl
   exists-same (some n) = refl
 
-  selected-same : (o : Option ℕ) → selected_sequence (linesAs es fs ss) o ≡ selected_sequence (linesAs es gs ss) o
+  selected-same : (o : Option ℕ) → selected_sequence (lines_as es fs ss) o ≡ selected_sequence (lines_as es gs ss) o
   unfolding selected_sequence
   selected-same o = ap (λ (b : Bool). cond b o none) (exists-same o)
 
-  earlier-same : (start : ℕ) (s : Option ℕ) (o : Option LineSequenceRange) → earlier_in (linesAs es fs ss) start s o ≡ earlier_in (linesAs es gs ss) start s o
+  earlier-same : (start : ℕ) (s : Option ℕ) (o : Option LineSequenceRange) → earlier_in (lines_as es fs ss) start s o ≡ earlier_in (lines_as es gs ss) start s o
   earlier-same start s none = refl
   earlier-same start s (some x) = refl
 
-  rows_same : (r : AddressRange) (s : Option ℕ) → rows_for (linesAs es fs ss) r s ≡ rows_for (linesAs es gs ss) r s
+  rows_same : (r : AddressRange) (s : Option ℕ) → rows_for (lines_as es fs ss) r s ≡ rows_for (lines_as es gs ss) r s
   unfolding rows_for own_rows earlier_row
   rows_same r s =
-      let own = own_rows (linesAs es fs ss) r s in
+      let own = own_rows (lines_as es fs ss) r s in
       ap (λ (l : List LineEntry). compact_line_rows (cond (starts_late r.start own) (l ++ own) own))
       (earlier-same r.start s (first (λ x. belongs s x.statement_sequence && contains x.range r.start) ss))
 
-  chosen-same : (r : AddressRange) (o : Option ℕ) → rows_for (linesAs es fs ss) r (selected_sequence (linesAs es fs ss) o) ≡ rows_for (linesAs es gs ss) r (selected_sequence (linesAs es gs ss) o)
-  chosen-same r o = rows_same r (selected_sequence (linesAs es fs ss) o) ∙ ap (rows_for (linesAs es gs ss) r) (selected-same o)
+  chosen-same : (r : AddressRange) (o : Option ℕ) → rows_for (lines_as es fs ss) r (selected_sequence (lines_as es fs ss) o) ≡ rows_for (lines_as es gs ss) r (selected_sequence (lines_as es gs ss) o)
+  chosen-same r o = rows_same r (selected_sequence (lines_as es fs ss) o) ∙ ap (rows_for (lines_as es gs ss) r) (selected-same o)
 
-  range_same : (r : AddressRange) (o : Option ℕ) → for_range (linesAs es fs ss) r o ≡ for_range (linesAs es gs ss) r o
+  range_same : (r : AddressRange) (o : Option ℕ) → for_range (lines_as es fs ss) r o ≡ for_range (lines_as es gs ss) r o
   unfolding for_range
   range_same r o = λ i. record { rows = chosen-same r o i; invalid = not (exists-same o i) && not (is_empty (chosen-same r o i)) }
 
@@ -98,15 +98,15 @@ stored_same w l is r o = range_same _ _ _ _ r o
 -- ---- what the definition does
 
 -- the rows of a range, or its declaration
-abbrev rowsLeft : AddressRange → List LineEntry → Declaring → FunctionLines
-rowsLeft r rows d = record { rows = lines_with r d.found rows; table = d.table; warnings = d.warnings }
+abbrev rows_left : AddressRange → List LineEntry → Declaring → FunctionLines
+rows_left r rows d = record { rows = lines_with r d.found rows; table = d.table; warnings = d.warnings }
 
 module _ (q : import.ImportContext) (e : Entry) (r : AddressRange) (table : FileTable) (ws : List Warning) where
   abbrev lines_from : Outcome (List Warning) → List LineEntry → Outcome FunctionLines
   lines_from o rows =
       o >>= λ new.
       declaration_if q e table (ws ++ new) rows >>= λ d.
-      done (rowsLeft r rows d)
+      done (rows_left r rows d)
 
   from_is : {o : Outcome (List Warning)} {rows : List LineEntry}
       → sequence_warning q.unit e (statement_sequence_offset q.unit e) (for_range q.lines r (statement_sequence_offset q.unit e)).invalid ≡ o
@@ -128,7 +128,7 @@ module _ (q : import.ImportContext) (e : Entry) (r : AddressRange) (table : File
       row (some l) = refl
 
       go : (o : Outcome Declaring)
-          → (o >>= λ d. done (rowsLeft r [] d)) ≡ (o >>= λ d. done (rowsLeft (record { start = r.start; end = r.start }) [] d))
+          → (o >>= λ d. done (rows_left r [] d)) ≡ (o >>= λ d. done (rows_left (record { start = r.start; end = r.start }) [] d))
       go (refused n) = refl
       go (done d) = λ i. done (record { rows = row d.found i; table = d.table; warnings = d.warnings })
 

@@ -78,33 +78,33 @@ module _ {s : List ℕ} {q : ℕ} (A : Accepted s) (U : UnitIn s q) where
 
 -- ---- the sequence that a value asks for
 
-abbrev pub sequenceIn : ℕ → Value → Option ℕ
-sequenceIn limit Value.Absent = none
-sequenceIn limit (Value.Unsigned n) = cond (eqb n limit) none (some n)
-sequenceIn limit (Value.FileNumber n) = none
-sequenceIn limit (Value.Text start len) = none
-sequenceIn limit (Value.UnitReference n) = none
-sequenceIn limit (Value.SectionReference n) = none
-sequenceIn limit (Value.SupplementaryReference n) = none
-sequenceIn limit (Value.SectionOffset n) = cond (eqb n limit) none (some n)
-sequenceIn limit (Value.LineOffset n) = cond (eqb n limit) none (some n)
-sequenceIn limit (Value.Address n) = none
-sequenceIn limit Value.Failed = none
+abbrev pub sequence_in : ℕ → Value → Option ℕ
+sequence_in limit Value.Absent = none
+sequence_in limit (Value.Unsigned n) = cond (eqb n limit) none (some n)
+sequence_in limit (Value.FileNumber n) = none
+sequence_in limit (Value.Text start len) = none
+sequence_in limit (Value.UnitReference n) = none
+sequence_in limit (Value.SectionReference n) = none
+sequence_in limit (Value.SupplementaryReference n) = none
+sequence_in limit (Value.SectionOffset n) = cond (eqb n limit) none (some n)
+sequence_in limit (Value.LineOffset n) = cond (eqb n limit) none (some n)
+sequence_in limit (Value.Address n) = none
+sequence_in limit Value.Failed = none
 
-abbrev sequenceMeant : ℕ → Meaning → Option ℕ
-sequenceMeant limit absent = none
-sequenceMeant limit (unsigned n) = cond (eqb n limit) none (some n)
-sequenceMeant limit (file_number n) = none
-sequenceMeant limit (text b) = none
-sequenceMeant limit (unit_reference n) = none
-sequenceMeant limit (section_reference n) = none
-sequenceMeant limit (supplementary_reference n) = none
-sequenceMeant limit (section_offset n) = cond (eqb n limit) none (some n)
-sequenceMeant limit (line_offset n) = cond (eqb n limit) none (some n)
-sequenceMeant limit (address n) = none
-sequenceMeant limit failed = none
+abbrev sequence_meant : ℕ → Meaning → Option ℕ
+sequence_meant limit absent = none
+sequence_meant limit (unsigned n) = cond (eqb n limit) none (some n)
+sequence_meant limit (file_number n) = none
+sequence_meant limit (text b) = none
+sequence_meant limit (unit_reference n) = none
+sequence_meant limit (section_reference n) = none
+sequence_meant limit (supplementary_reference n) = none
+sequence_meant limit (section_offset n) = cond (eqb n limit) none (some n)
+sequence_meant limit (line_offset n) = cond (eqb n limit) none (some n)
+sequence_meant limit (address n) = none
+sequence_meant limit failed = none
 
-value-sequence : (limit : ℕ) (s : List ℕ) (v : Value) → sequenceIn limit v ≡ sequenceMeant limit (meant s v)
+value-sequence : (limit : ℕ) (s : List ℕ) (v : Value) → sequence_in limit v ≡ sequence_meant limit (meant s v)
 value-sequence limit s Value.Absent = refl
 value-sequence limit s (Value.Unsigned n) = refl
 value-sequence limit s (Value.FileNumber n) = refl
@@ -121,7 +121,7 @@ cond-not : (b : Bool) (x y : Option ℕ) → cond b x y ≡ cond (not b) y x
 cond-not true x y = refl
 cond-not false x y = refl
 
-meaning-sequence : (u : CompilationUnit) (o : Option Attribute) → sequenceMeant (2 ^ (8 * u.word_size) - 1) (meaning_of o) ≡ sequence_if u o
+meaning-sequence : (u : CompilationUnit) (o : Option Attribute) → sequence_meant (2 ^ (8 * u.word_size) - 1) (meaning_of o) ≡ sequence_if u o
 unfolding meaning_of value_of
 meaning-sequence u none = refl
 meaning-sequence u (some a) =
@@ -140,12 +140,12 @@ meaning-sequence u (some a) =
 module _ {s : List ℕ} {q p limit : ℕ} {v : Value} (A : Accepted s) (K : EntryKnown s q p)
     (says : Says s v (meaning_of (first (is_named 0x3e0c) (map attribute_of (payloads 0x18 (own_fields (fields (drop (p + 15) s))))))))
     (most : limit ≡ 2 ^ (8 * (unit_here s q).word_size) - 1) where
-  pub sequence-read : {x : Option ℕ} → x ≡ sequenceIn limit v → x ≡ statement_sequence_offset (unit_here s q) (entry_here s p)
+  pub sequence-read : {x : Option ℕ} → x ≡ sequence_in limit v → x ≡ statement_sequence_offset (unit_here s q) (entry_here s p)
   unfolding statement_sequence_offset
   sequence-read is =
       is ∙ value-sequence limit s v
-      ∙ ap (sequenceMeant limit) (attribute-says (accepted-placed A K) K v 0x3e0c says).is
-      ∙ ap (λ (l : ℕ). sequenceMeant l (meaning_of (attribute (entry_here s p) 0x3e0c))) most
+      ∙ ap (sequence_meant limit) (attribute-says (accepted-placed A K) K v 0x3e0c says).is
+      ∙ ap (λ (l : ℕ). sequence_meant l (meaning_of (attribute (entry_here s p) 0x3e0c))) most
       ∙ meaning-sequence (unit_here s q) (attribute (entry_here s p) 0x3e0c)
 
 -- ---- a sequence that does not exist warns

@@ -43,12 +43,12 @@ abbrev record_of : List ℕ → AddressRange → List LineEntry → Descendants 
 record_of name r rows x = record { range = r; name = name; lines = rows; inline = rooted name r x.inlines; call_sites = x.call_sites }
 
 -- what follows the descendants, and what follows the rows
-abbrev rangeEnd : List ℕ → AddressRange → State → FunctionLines → Descendants → Outcome State
-rangeEnd name r s l x = done (add_function (record_of name r l.rows x) (length x.inlines)
+abbrev range_end : List ℕ → AddressRange → State → FunctionLines → Descendants → Outcome State
+range_end name r s l x = done (add_function (record_of name r l.rows x) (length x.inlines)
     (record { table = l.table; records = s.records; warnings = l.warnings ++ x.warnings; stats = s.stats }))
 
-abbrev rangeThen : ImportContext → List Entry → List ℕ → AddressRange → State → FunctionLines → Outcome State
-rangeThen q below name r s l = extract_subprogram_details (detail_context q r) below >>= rangeEnd name r s l
+abbrev range_then : ImportContext → List Entry → List ℕ → AddressRange → State → FunctionLines → Outcome State
+range_then q below name r s l = extract_subprogram_details (detail_context q r) below >>= range_end name r s l
 
 -- steps from which a value is made for what follows
 module _ {B C D : Type 0} (g : B → C) (k : C → Outcome D) where
@@ -63,9 +63,9 @@ module _ {B C D : Type 0} (g : B → C) (k : C → Outcome D) where
   make-then-both (done a) f = make-then (f a)
 
 pub range-parts : (q : ImportContext) (e : Entry) (below : List Entry) (name : List ℕ) (r : AddressRange) (s : State)
-    → import_range q e below name r s ≡ (function_lines q e r s.table s.warnings >>= rangeThen q below name r s)
+    → import_range q e below name r s ≡ (function_lines q e r s.table s.warnings >>= range_then q below name r s)
 unfolding import_range function_lines
-range-parts q e below name r s = make-then-both _ (rangeThen q below name r s) _ _
+range-parts q e below name r s = make-then-both _ (range_then q below name r s) _ _
 
 -- a state by its parts
 state-as : {table table₁ : FileTable} (rs : List Function) {ws ws₁ : List Warning} {n n₁ : ConversionStats} → table ≡ table₁ → ws ≡ ws₁ → n ≡ n₁
@@ -82,8 +82,8 @@ record-bytes name r rows x =
 -- ---- in memory
 
 -- the state after the rows
-abbrev linedState : FoundLines → Stats → ImportState
-linedState l stats = record { table = l.table; at = l.at; warned = l.warned; stats = stats; status = l.status; past = l.past }
+abbrev lined_state : FoundLines → Stats → ImportState
+lined_state l stats = record { table = l.table; at = l.at; warned = l.warned; stats = stats; status = l.status; past = l.past }
 
 module _ {main supplementary w w₁ : List ℕ} (lists addresses : List ℕ) {q : Context} {t₁ t₂ f f₁ u u₁ : List ℕ} (st : ImportState) (p : ℕ) (r : AddressRange) (name : List ℕ) {headed : ℕ} {over : Bool} {l : FoundLines}
     (B : over ≡ is_past st.at (19 + length name))
@@ -99,17 +99,17 @@ module _ {main supplementary w w₁ : List ℕ} (lists addresses : List ℕ) {q 
 
   module _ {t : List ℕ} (H : Put st.at (encode 0x41 (function_payload r name)) t t₁ headed) where
     -- the rows are refused
-    pub range-unlined : (l.status ≡ 0 → ⊥) → Imports (import_range (context_with main supplementary lists addresses w q) (entry_here main p) (below_entry main p) name r) (sheets main supplementary) q (memory w t f u) st (memory w₁ t₂ f₁ u₁) (linedState l st.stats)
+    pub range-unlined : (l.status ≡ 0 → ⊥) → Imports (import_range (context_with main supplementary lists addresses w q) (entry_here main p) (below_entry main p) name r) (sheets main supplementary) q (memory w t f u) st (memory w₁ t₂ f₁ u₁) (lined_state l st.stats)
     unfolding ◌>>=◌
     range-unlined z =
         grows_no z λ rs ws.
         let s = state_of main supplementary w st rs ws in
         range-parts (context_with main supplementary lists addresses w q) (entry_here main p) (below_entry main p) name r s
-        ∙ ap (λ (o : Outcome FunctionLines). o >>= rangeThen (context_with main supplementary lists addresses w q) (below_entry main p) name r s) (L.no z ws)
+        ∙ ap (λ (o : Outcome FunctionLines). o >>= range_then (context_with main supplementary lists addresses w q) (below_entry main p) name r s) (L.no z ws)
 
     module _ {w₂ t₃ u₂ : List ℕ} {r' : ImportState} (z : l.status ≡ 0) (size : length w₁ ≡ length w) (size₂ : length w₂ ≡ length w₁)
         (D : ImportsDetails (extract_subprogram_details (detail_context (context_with main supplementary lists addresses w₁ q) r) (below_entry main p)) main supplementary q name r l.count
-        w₁ t₂ u₁ (linedState l st.stats) w₂ t₃ u₂ r') where
+        w₁ t₂ u₁ (lined_state l st.stats) w₂ t₃ u₂ r') where
       -- the file table stands below the walk's part
       table_below : Clear l.table.base (extent l.table) ((q.ranges, walk_extent main supplementary q) ∷ [])
       table_below =
@@ -117,18 +117,18 @@ module _ {main supplementary w w₁ : List ℕ} (lists addresses : List ℕ) {q 
           (inl (omega (arith, o.table, o.indices, o.lines, o.sequences, o.buffer, o.text, o.spans)), tt)
 
       -- the rows that were found behind warnings ws
-      abbrev linesFound : List Warning → FunctionLines
-      linesFound ws = record { rows = L.rows; table = table_of main supplementary w₁ l.table; warnings = ws ++ L.new }
+      abbrev lines_found : List Warning → FunctionLines
+      lines_found ws = record { rows = L.rows; table = table_of main supplementary w₁ l.table; warnings = ws ++ L.new }
 
       -- the definition after the rows
       after-rows : (rs : List Function) (ws : List Warning) → import_range (context_with main supplementary lists addresses w q) (entry_here main p) (below_entry main p) name r (state_of main supplementary w st rs ws)
-          ≡ rangeThen (context_with main supplementary lists addresses w₁ q) (below_entry main p) name r (state_of main supplementary w st rs ws) (linesFound ws)
+          ≡ range_then (context_with main supplementary lists addresses w₁ q) (below_entry main p) name r (state_of main supplementary w st rs ws) (lines_found ws)
       unfolding ◌>>=◌
       after-rows rs ws =
           let s = state_of main supplementary w st rs ws in
           range-parts (context_with main supplementary lists addresses w q) (entry_here main p) (below_entry main p) name r s
-          ∙ ap (λ (o : Outcome FunctionLines). o >>= rangeThen (context_with main supplementary lists addresses w q) (below_entry main p) name r s) (L.ok z ws)
-          ∙ ap (λ (k : ImportContext). rangeThen k (below_entry main p) name r s (linesFound ws)) (sym (context-same C (L.kept z) lists addresses))
+          ∙ ap (λ (o : Outcome FunctionLines). o >>= range_then (context_with main supplementary lists addresses w q) (below_entry main p) name r s) (L.ok z ws)
+          ∙ ap (λ (k : ImportContext). range_then k (below_entry main p) name r s (lines_found ws)) (sym (context-same C (L.kept z) lists addresses))
 
       -- and after the walk
       ends_as : r'.status ≡ 0 → (rs : List Function) (ws : List Warning) → import_range (context_with main supplementary lists addresses w q) (entry_here main p) (below_entry main p) name r (state_of main supplementary w st rs ws)
@@ -141,7 +141,7 @@ module _ {main supplementary w w₁ : List ℕ} (lists addresses : List ℕ) {q 
           let stats : stats_of r'.stats ≡ with_function (length L.rows) (length x.inlines) (stats_of st.stats) =
           D.counted k ∙ ap (λ (n : ℕ). with_function n (length x.inlines) (stats_of st.stats)) (L.count z) in
           after-rows rs ws
-          ∙ ap (λ (o : Outcome Descendants). o >>= rangeEnd name r (state_of main supplementary w st rs ws) (linesFound ws)) (D.ok k)
+          ∙ ap (λ (o : Outcome Descendants). o >>= range_end name r (state_of main supplementary w st rs ws) (lines_found ws)) (D.ok k)
           ∙ ap done (state-as (rs ++ (record_of name r L.rows x ∷ [])) (sym table) (append_assoc ws L.new x.warnings) (sym stats))
 
       -- the head, the rows or the rest pass the largest place
@@ -164,5 +164,5 @@ module _ {main supplementary w w₁ : List ℕ} (lists addresses : List ℕ) {q 
         grown = λ k. rw D.table (grown-kept (L.grown z) (but_one D.rest) table_below size₂);
         kept = λ k. but_trans (L.kept z) (touched-walk main supplementary q st.table D.rest);
         ok = ends_as;
-        no = λ k rs ws. after-rows rs ws ∙ ap (λ (o : Outcome Descendants). o >>= rangeEnd name r (state_of main supplementary w st rs ws) (linesFound ws)) (D.no k);
+        no = λ k rs ws. after-rows rs ws ∙ ap (λ (o : Outcome Descendants). o >>= range_end name r (state_of main supplementary w st rs ws) (lines_found ws)) (D.no k);
       }

@@ -38,8 +38,8 @@ bind_assoc (done a) f g = refl
 
 module _ (q : import.ImportContext) (e : Entry) (below : List Entry) (name : List ℕ) where
   -- what follows the ranges of a list with a fault
-  abbrev warnsAfter : List ℕ → State → Outcome State
-  warnsAfter reason t = done (rejected (malformed_ranges true reason ∷ []) t)
+  abbrev warns_after : List ℕ → State → Outcome State
+  warns_after reason t = done (rejected (malformed_ranges true reason ∷ []) t)
 
   abbrev failed : Bool → List ℕ → Option RangeFailure
   failed b reason = cond b none (some (record { stage = 1; reason = reason }))
@@ -49,8 +49,8 @@ module _ (q : import.ImportContext) (e : Entry) (below : List Entry) (name : Lis
       → import_failing q e below name (x ∷ xs) (failed b reason) s ≡ (import_one q e below name x s >>= λ t. import_failing q e below name xs (failed b reason) t)
   failing-step true reason x xs s = ranges-step q e below name x xs s
   failing-step false reason x xs s =
-      ap (λ (o : Outcome State). o >>= warnsAfter reason) (ranges-step q e below name x xs s)
-      ∙ bind_assoc (import_one q e below name x s) (import_ranges q e below name xs) (warnsAfter reason)
+      ap (λ (o : Outcome State). o >>= warns_after reason) (ranges-step q e below name x xs s)
+      ∙ bind_assoc (import_one q e below name x s) (import_ranges q e below name xs) (warns_after reason)
 
   listed-step : (x : EntryRange) (l : ListRanges) (s : State)
       → import_listed q e below name (and_before x l) s ≡ (import_one q e below name x s >>= λ t. import_listed q e below name l t)
@@ -61,10 +61,10 @@ module _ (q : import.ImportContext) (e : Entry) (below : List Entry) (name : Lis
   listed-none s = ranges-none q e below name s
 
   -- it has a fault here
-  failing-none : (b : Bool) (reason : List ℕ) (s : State) → b ≡ false → import_failing q e below name [] (failed b reason) s ≡ warnsAfter reason s
+  failing-none : (b : Bool) (reason : List ℕ) (s : State) → b ≡ false → import_failing q e below name [] (failed b reason) s ≡ warns_after reason s
   unfolding ◌>>=◌
   failing-none true reason s h = absurd (false≢true (sym h))
-  failing-none false reason s h = ap (λ (o : Outcome State). o >>= warnsAfter reason) (ranges-none q e below name s)
+  failing-none false reason s h = ap (λ (o : Outcome State). o >>= warns_after reason) (ranges-none q e below name s)
 
   listed-fault : (n : ℕ) (s : State) → 7 ≤ n → import_listed q e below name (faulty n) s ≡ done (rejected (malformed_ranges true (decimal n) ∷ []) s)
   listed-fault n s h = failing-none (eqb n 0) (decimal n) s (ne_eqb n 0 (λ z. omega arith))

@@ -90,12 +90,12 @@ module _ (text : List AddressRange) (r : AddressRange) where
 
 -- ---- the loop that writes the executable ranges of the unit at `place`: n are written, and those of the fields from p on are left
 
-abbrev textFrom : List ℕ → ℕ → List AddressRange
-textFrom s p = map range_of (payloads 0x12 (own_fields (fields (drop p s))))
+abbrev text_from : List ℕ → ℕ → List AddressRange
+text_from s p = map range_of (payloads 0x12 (own_fields (fields (drop p s))))
 
 pub record TextListing (s : List ℕ) (place : ℕ) (w₀ w : List ℕ) (base p n : ℕ) : Type 0 where
   pub placed : Placed s p
-  pub left : ranges_at w base n ++ textFrom s p ≡ (unit_here s place).text
+  pub left : ranges_at w base n ++ text_from s p ≡ (unit_here s place).text
   pub rest : Kept w₀ w base (16 * n)
   pub size : length w ≡ length w₀
 
@@ -127,7 +127,7 @@ module _ {s : List ℕ} {place : ℕ} {w₀ w : List ℕ} {base p n : ℕ} {r : 
     pub listing-within : start + 16 ≤ length s
     listing-within = omega (arith, long, own-within s p 0x12 r start len next own e)
 
-    text-more : textFrom s p ≡ range_of (chunk s start 16) ∷ textFrom s next
+    text-more : text_from s p ≡ range_of (chunk s start 16) ∷ text_from s next
     unfolding chunk
     text-more = ap (map range_of) (sym (rw e at own.is)) ∙ rw long
 
@@ -142,9 +142,9 @@ module _ {s : List ℕ} {place : ℕ} {w₀ w : List ℕ} {base p n : ℕ} {r : 
     listing-turn {x} {w'} ex P same = record {
       placed = own-placed s p 0x12 r start len next own e L.placed;
       left =
-          ap (λ (l : List AddressRange). l ++ textFrom s next) (ranges-push base n P)
-          ∙ append_assoc (ranges_at w base n) (x ∷ []) (textFrom s next)
-          ∙ ap (λ (y : AddressRange). ranges_at w base n ++ (y ∷ textFrom s next)) ex
+          ap (λ (l : List AddressRange). l ++ text_from s next) (ranges-push base n P)
+          ∙ append_assoc (ranges_at w base n) (x ∷ []) (text_from s next)
+          ∙ ap (λ (y : AddressRange). ranges_at w base n ++ (y ∷ text_from s next)) ex
           ∙ ap (λ (l : List AddressRange). ranges_at w base n ++ l) (sym text-more)
           ∙ L.left;
       rest = kept_trans (kept-wide base (16 * (n + 1)) L.rest (omega arith) (omega arith)) (kept-wide base (16 * (n + 1)) P.rest (omega arith) (omega arith));

@@ -154,8 +154,8 @@ module _ {main supplementary lists addresses : List ℕ} {q : ImportContext} {w�
             let l = placed-entry main place r tag start len next I.placed reads e is in
             omega arith
 
-        pub entry_long : EntryKnown main q.unit place
-        entry_long = known-here main place r reads tag start len next e I.known is
+        pub entry-known : EntryKnown main q.unit place
+        entry-known = known-here main place r reads tag start len next e I.known is
 
         pub entry-rest : (Placed main (place + 15)) × EntriesKnown main q.unit (place + 15)
         entry-rest = (rw next-is at (placed-next main place r tag start len next I.placed reads e), rw next-is at (known-entry main place r reads tag start len next e I.known is))
@@ -218,7 +218,7 @@ module _ {main supplementary lists addresses : List ℕ} {q : ImportContext} {w�
             (λ y.
             let is : tag ≡ 0x17 = eqb-true tag 0x17 y in
             importing-entry is
-            (entry-passed lists addresses st I.context (entry_long is) (λ z. false≢true (sym n ∙ test ∙ rw (y, eq-eqb (le_at 2 main (place + 13)) 0x2e z)))
+            (entry-passed lists addresses st I.context (entry-known is) (λ z. false≢true (sym n ∙ test ∙ rw (y, eq-eqb (le_at 2 main (place + 13)) 0x2e z)))
             I.status I.bounds.0 I.bounds.1
             (omega (arith, I.records-size, (I.does.laid I.status).small))
             (omega (arith, I.files-size, (I.does.grown I.status).put.small))

@@ -115,8 +115,8 @@ module _ {list result₀ result result' : List ℕ} {from p at q : ℕ} {r : Ste
   abbrev symbol : Symbol
   symbol = symbol_of (take len (drop start list))
 
-  abbrev bytesLaid : List ℕ
-  bytesLaid = laid_for (ranges_in (take at result)) symbol
+  abbrev bytes_laid : List ℕ
+  bytes_laid = laid_for (ranges_in (take at result)) symbol
 
   step : Turned (take at result) symbol (symbols_from list next)
       (symbol_fits (take len (drop start list)) (symbol-whole list p r s j.formed t start len next e j.bytes)) j.standing.formed
@@ -125,7 +125,7 @@ module _ {list result₀ result result' : List ℕ} {from p at q : ℕ} {r : Ste
       (symbol_fits (take len (drop start list)) (symbol-whole list p r s j.formed t start len next e j.bytes)) j.standing.formed
 
   -- the whole result, told from behind the symbol
-  whole-next : whole_from (take from result₀) list 0 ≡ whole_from (take at result ++ bytesLaid) list next
+  whole-next : whole_from (take from result₀) list 0 ≡ whole_from (take at result ++ bytes_laid) list next
   unfolding whole_from
   whole-next = j.whole ∙ rw (symbol-next list p r s j.formed t start len next e) step.same
 
@@ -135,17 +135,17 @@ module _ {list result₀ result result' : List ℕ} {from p at q : ℕ} {r : Ste
       let fits = put-fits laid h in
       let small = laid.small in
       let place = laid.place in
-      let there : q ≡ at + length bytesLaid = omega arith in
-      let front : take at result' ≡ take at result = rw laid.buffer (take-overlay at at bytesLaid result (omega arith)) in
-      let rest : take (length bytesLaid) (drop at result') ≡ bytesLaid = rw laid.buffer (part-overlay at bytesLaid result fits) in
-      let now : take q result' ≡ take at result ++ bytesLaid = rw (there, take-add at (length bytesLaid) result', front, rest) in
-      let kept : drop q result' ≡ drop q result = rw laid.buffer (drop-overlay q at bytesLaid result (omega arith)) in
+      let there : q ≡ at + length bytes_laid = omega arith in
+      let front : take at result' ≡ take at result = rw laid.buffer (take-overlay at at bytes_laid result (omega arith)) in
+      let rest : take (length bytes_laid) (drop at result') ≡ bytes_laid = rw laid.buffer (part-overlay at bytes_laid result fits) in
+      let now : take q result' ≡ take at result ++ bytes_laid = rw (there, take-add at (length bytes_laid) result', front, rest) in
+      let kept : drop q result' ≡ drop q result = rw laid.buffer (drop-overlay q at bytes_laid result (omega arith)) in
       record {
         formed = formed-next list p r s j.formed t start len next e;
         bytes = j.bytes;
         standing = record { within = h; formed = rw now step.formed };
         whole = whole-next ∙ ap (λ (l : List ℕ). whole_from l list next) (sym now);
-        behind = kept ∙ further (length bytesLaid) q there;
+        behind = kept ∙ further (length bytes_laid) q there;
         size = put-length laid ∙ j.size;
       }
     where
@@ -153,26 +153,26 @@ module _ {list result₀ result result' : List ℕ} {from p at q : ℕ} {r : Ste
       further n k h = rw (h, ← drop-drop n at result, ← drop-drop n at result₀, j.behind)
 
   -- what stands in the result then
-  taken : q ≤ length result' → take q result' ≡ take at result ++ bytesLaid
+  taken : q ≤ length result' → take q result' ≡ take at result ++ bytes_laid
   taken h =
       let fits = put-fits laid h in
       let small = laid.small in
       let place = laid.place in
-      let there : q ≡ at + length bytesLaid = omega arith in
-      let front : take at result' ≡ take at result = rw laid.buffer (take-overlay at at bytesLaid result (omega arith)) in
-      let rest : take (length bytesLaid) (drop at result') ≡ bytesLaid = rw laid.buffer (part-overlay at bytesLaid result fits) in
-      rw (there, take-add at (length bytesLaid) result', front, rest)
+      let there : q ≡ at + length bytes_laid = omega arith in
+      let front : take at result' ≡ take at result = rw laid.buffer (take-overlay at at bytes_laid result (omega arith)) in
+      let rest : take (length bytes_laid) (drop at result') ≡ bytes_laid = rw laid.buffer (part-overlay at bytes_laid result fits) in
+      rw (there, take-add at (length bytes_laid) result', front, rest)
 
   -- something was laid just if the place moved
-  laid-some : q ≤ length result' → at < q → bytesLaid ≡ [] → ⊥
-  laid-some h l e = let place = laid.place in let z : length bytesLaid ≡ 0 = ap length e in omega arith
+  laid-some : q ≤ length result' → at < q → bytes_laid ≡ [] → ⊥
+  laid-some h l e = let place = laid.place in let z : length bytes_laid ≡ 0 = ap length e in omega arith
 
-  laid_none : q ≤ length result' → q ≤ at → bytesLaid ≡ []
+  laid_none : q ≤ length result' → q ≤ at → bytes_laid ≡ []
   laid_none h l =
       let fits = put-fits laid h in
       let small = laid.small in
       let place = laid.place in
-      empty bytesLaid (omega arith)
+      empty bytes_laid (omega arith)
     where
       empty : (l : List ℕ) → length l ≡ 0 → l ≡ []
       empty [] e = refl
@@ -205,7 +205,7 @@ module _ {list result₀ result result' : List ℕ} {from p at q : ℕ} {r : Ste
       let within = j.standing.within in
       let front : length (take at result) ≡ at = length-take-le at result within in
       let long : length (whole_from (take from result₀) list 0)
-      ≡ at + length bytesLaid + length (bare_bytes (joining (ranges_in (take at result ++ bytesLaid)) (symbols_from list next))) =
+      ≡ at + length bytes_laid + length (bare_bytes (joining (ranges_in (take at result ++ bytes_laid)) (symbols_from list next))) =
       ap length whole-next ∙ rw (length-append, length-append, front) in
       record { fits = λ l. absurd (omega arith); short = λ l. omega arith }
 

@@ -2,7 +2,7 @@
 use mathlib.Core.Path.{◌∙◌}
 use native.Mathlib.Omega.{arith}
 use Rattle.tlv.proofs.CursorLaws.{next-less}
-use Rattle.subprograms.proofs.units.UnitLaws.{unit-inside, importing-start, importing-end, importing-cut, importing-unit, importing-passed, subprogram-inside, subprogram-entry, subprogram-here, entry_long, entry-rest, importing-refused, importing-entry}
+use Rattle.subprograms.proofs.units.UnitLaws.{unit-inside, importing-start, importing-end, importing-cut, importing-unit, importing-passed, subprogram-inside, subprogram-entry, subprogram-here, entry-known, entry-rest, importing-refused, importing-entry}
 use Rattle.subprograms.proofs.units.import_unit_details.Goals as goal
 
 pub overflow_add-at : goal.overflow_add-at
@@ -27,7 +27,7 @@ pub import_entry-r-requires-clause-context_in : goal.import_entry-r-requires-cla
 import_entry-r-requires-clause-context_in c = let is = subprogram-entry c.loop-r.invariant c.field_at.ensures c.in-Field.is c.is_subprogram.ensures c.if-is_subprogram.true in c.loop-r.invariant.context
 
 pub import_entry-r-requires-clause-entry_known : goal.import_entry-r-requires-clause-entry_known
-import_entry-r-requires-clause-entry_known c = let is = subprogram-entry c.loop-r.invariant c.field_at.ensures c.in-Field.is c.is_subprogram.ensures c.if-is_subprogram.true in entry_long c.loop-r.invariant c.field_at.ensures c.in-Field.is is
+import_entry-r-requires-clause-entry_known c = let is = subprogram-entry c.loop-r.invariant c.field_at.ensures c.in-Field.is c.is_subprogram.ensures c.if-is_subprogram.true in entry-known c.loop-r.invariant c.field_at.ensures c.in-Field.is is
 
 pub import_entry-r-requires-clause-placed : goal.import_entry-r-requires-clause-placed
 import_entry-r-requires-clause-placed c = let is = subprogram-entry c.loop-r.invariant c.field_at.ensures c.in-Field.is c.is_subprogram.ensures c.if-is_subprogram.true in entry-rest c.loop-r.invariant c.field_at.ensures c.in-Field.is is

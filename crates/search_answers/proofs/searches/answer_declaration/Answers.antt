@@ -1,6 +1,6 @@
--- `answer_declaration` starts from an empty table of files, and leaves the tables as they are.
+-- `searches::answer_declaration` starts from an empty table of files, and leaves the tables as they are.
 use Rattle.search_answers.proofs.SearchLaws.{declaring_in, declared-still}
-use Rattle.search_answers.proofs.answer_declaration.Goals as goal
+use Rattle.search_answers.proofs.searches.answer_declaration.Goals as goal
 
 pub resolve_declaration_line_counted-declared-requires-clause-declaring_in :
     goal.resolve_declaration_line_counted-declared-requires-clause-declaring_in
