@@ -54,9 +54,6 @@ overflow_add-d c = let T : Top c.args.s.frames c.if-n-gt0.top = elim c.if-n-gt0.
 pub overflow_sub-used : goal.overflow_sub-used
 overflow_sub-used c = let T : Top c.args.s.frames c.if-n-gt0.top = elim c.if-n-gt0.branch [ then-n-gt0 w ↦ top-some _ c.requires.fits.ready w.if-n-gt0.true w.top-is | else-n-gt0 w ↦ top-none _ c.requires.fits.ready w.if-n-gt0.false w.top-is ] in omega (arith, T.within)
 
-pub overflow_mul-used : goal.overflow_mul-used
-overflow_mul-used c = omega (arith, c.requires.fits.used, c.requires.details_in.ranges, c.requires.details_in.stack, c.requires.details_in.sites, c.requires.details_in.tables.keys.room)
-
 pub overflow_add-d-2 : goal.overflow_add-d-2
 overflow_add-d-2 c = omega (arith, c.requires.fits.used, c.requires.details_in.ranges, c.requires.details_in.stack, c.requires.details_in.sites, c.requires.details_in.tables.keys.room)
 

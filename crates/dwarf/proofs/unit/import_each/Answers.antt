@@ -12,9 +12,6 @@ loop-k-init c = (
       (omega (arith, c.well_formed)) (omega (arith, c.well_formed)) (omega (arith, c.well_formed)),
 )
 
-pub overflow_mul-k : goal.overflow_mul-k
-overflow_mul-k c = omega (arith, record-inside c.loop-k.invariant.1 c.loop-k-test.true)
-
 pub overflow_add-units : goal.overflow_add-units
 overflow_add-units c = omega (arith, record-inside c.loop-k.invariant.1 c.loop-k-test.true, c.loop-k.invariant.0)
 

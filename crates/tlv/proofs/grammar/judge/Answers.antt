@@ -14,7 +14,7 @@ pub returns-then-c-ge-FIELD_LIMIT : goal.returns-then-c-ge-FIELD_LIMIT
 returns-then-c-ge-FIELD_LIMIT c = search judge-count
 
 pub payload_limited-requires-clause-s_value : goal.payload_limited-requires-clause-s_value
-payload_limited-requires-clause-s_value c = payload-held _ _ _ _ c.payload_shaped.ensures (ap not c.if-not-payload_shaped.false)
+payload_limited-requires-clause-s_value c = search payload-held
 
 pub returns-then-not-payload_limited : goal.returns-then-not-payload_limited
 returns-then-not-payload_limited c = search judge-limit
