@@ -43,6 +43,7 @@ fn read_address(lists: &[u8], at: usize, size: u8) -> Operand
 }
 
 // The first operand of an entry of a kind that the Standard knows.
+#[tactic(auto, using(crate::proofs::entries::ReadLaws::first_operands))]
 fn first_operand(lists: &[u8], at: usize, size: u8, kind: u8) -> Operand
     requires fact { (size ≡ 4) ⊎ (size ≡ 8) }
     requires at_in_bounds { at ≤ length lists.now }

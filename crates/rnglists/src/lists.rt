@@ -114,6 +114,7 @@ fn bounded_length(top: u64, start: u64, size: u64) -> Meant
 }
 
 // An offset pair from a base address.
+#[tactic(auto, using(crate::proofs::lists::MeaningLaws::pairs))]
 fn offset_pair(top: u64, base: u64, first: u64, second: u64) -> Meant
     ensures { SaysPair top base first second result }
 {

@@ -166,3 +166,6 @@ module _ {s : List ℕ} {at size : ℕ} where
 -- the second operand begins within the bytes
 pub second-within : {s : List ℕ} {at size v next : ℕ} {x : Slot} {r : Operand} → r ≡ Operand.Value v next → ReadsOperand s at size x r → next ≤ length s
 second-within {s} {at} {size} {v} {next} {x} e R = let Q : ReadsOperand s at size x (Operand.Value v next) = rw e at R in Q.within.1
+
+-- for the goals that a test names: found, not named
+pub ruleset first_operands = (first-number, first-address)

@@ -171,3 +171,5 @@ module _ {table : List ℕ} {place size from k a b : ℕ} where
 
 -- the laws by which `search` follows the kinds
 pub ruleset saying = (says-end, says-base, says-pair, says-between, says-length, past-base, past-start, past-length, found-base, found-length, past_end, found-end)
+
+pub ruleset pairs = (pair-dead, pair-start)

@@ -1,5 +1,6 @@
 -- `address::chain_at` meets its contract: what is gathered and what is left make the chain.
 use native.Mathlib.Omega.{arith}
+use Prim.Native.Nat.{◌≤◌}
 use borrow.Author.Rules.{rules}
 use Rattle.tlv.proofs.CursorLaws.{next-less}
 use Rattle.lookup.proofs.OwnLaws.{own-stands_next, node-first}
@@ -50,7 +51,7 @@ pub loop-places-smaller-else-depth-n-2 : goal.loop-places-smaller-else-depth-n-2
 loop-places-smaller-else-depth-n-2 c = search next-less
 
 pub loop-places-preserved-else-depth-n-2 : goal.loop-places-preserved-else-depth-n-2
-loop-places-preserved-else-depth-n-2 c = (search own-stands_next, search chain-deeper)
+loop-places-preserved-else-depth-n-2 c = let deeper : c.loop-places.n ≤ c.read_u16-depth.result = omega arith in (search own-stands_next, search chain-deeper)
 
 pub loop-places-smaller : goal.loop-places-smaller
 loop-places-smaller c = search next-less

@@ -1,15 +1,9 @@
 -- `lists::offset_pair` meets its contract.
-use Rattle.rnglists.proofs.lists.MeaningLaws.{pair-dead, pair-base, pair-start, pair-dies, pair_end, pair-by}
+use Rattle.rnglists.proofs.lists.MeaningLaws.{pair-base, pair-dies, pair_end, pair-by}
 use Rattle.rnglists.proofs.lists.offset_pair.Goals as goal
-
-pub returns-then-base-top : goal.returns-then-base-top
-returns-then-base-top c = search pair-dead
 
 pub returns-then-top-base : goal.returns-then-top-base
 returns-then-top-base c = search pair-base
-
-pub returns-then-room-first : goal.returns-then-room-first
-returns-then-room-first c = search pair-start
 
 pub returns-then-start-top : goal.returns-then-start-top
 returns-then-start-top c = search pair-dies
