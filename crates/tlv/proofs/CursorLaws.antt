@@ -5,6 +5,8 @@ use Prim.Native.Nat.{ℕ, zero, suc, ◌+◌, ◌-◌, ◌<◌, ◌≤◌}
 use native.Mathlib.Nat.{add-zero}
 use native.Mathlib.Omega.{arith}
 use native.Mathlib.Decide.{dec_le}
+use mathlib.Core.Bool.{Bool, true, false, cond}
+use lib.Dec.{leb, ltb}
 use lib.ListN.{length, take, drop, get_or, length-drop}
 use lib.Seq.{drop-drop, get_or-drop, length-take-le}
 use borrow.Author.Tests.{le-leb, lt-leb, lt-ltb, le-ltb, eq-eqb, ne_eqb}
@@ -93,6 +95,16 @@ within s p =
             | no k ↦ rw (step-short s p (omega arith) (omega arith)) tt
           ]
     ]
+
+-- where bytes are left, a step is no end
+pub never-end : (s : List ℕ) (p : ℕ) → p < length s → step_at s p ≡ Step.End → ⊥
+unfolding step_at
+never-end s p h e = go (ltb (length s - p) 3) (leb (le_at 2 s (p + 1)) (length s - (p + 3))) (rw (lt-leb (length s) p h) at e)
+  where
+    go : (a b : Bool) → cond a Step.Cut (cond b (Step.Field (get_or s p 0) (p + 3) (le_at 2 s (p + 1)) (p + 3 + le_at 2 s (p + 1))) Step.Cut) ≡ Step.End → ⊥
+    go true b x = cc
+    go false true x = cc
+    go false false x = cc
 
 -- ---- a step that is a field: its payload is whole, and its next place is further on, within the string
 

@@ -16,3 +16,5 @@ pub mod PayloadFacts
 pub mod CheckLaws
 pub mod PlaceFacts
 pub mod PlacePromises
+pub mod AnswerLaws
+pub mod FieldLaws

@@ -12,14 +12,16 @@ use mir.Val.{Fits}
 use borrow.Author.Tests.{eqb-true}
 use Rattle.tlv.specs.declared.fields.Step.{Step}
 use Rattle.tlv.specs.declared.grammar.Context.{Context}
-use Rattle.tlv.specs.declared.grammar.Checked.{Checked}
+use Rattle.std.specs.Prelude.{Result, Ok}
+use Rattle.tlv.specs.declared.refusal.Refusal.{Refusal}
+use Rattle.tlv.specs.Refusals.{outcome_of}
 use Rattle.tlv.specs.Outcome.{done}
 use Rattle.tlv.specs.Lists.{Any, exists}
 use Rattle.tlv.specs.Bytes.{Bytes}
 use Rattle.tlv.specs.Fields.{Field, FieldList, end, cut, more, fields, whole_fields}
 use Rattle.tlv.specs.Cursor.{step_at}
 use Rattle.tlv.specs.Grammar.{start, after, may_follow, shaped, limited, next, check_from, check_input}
-use Rattle.tlv.specs.Checked.{Accepts, field_in, checked_of, Placed}
+use Rattle.tlv.specs.Checked.{Accepts, field_in, Placed}
 use Rattle.tlv.proofs.TestLaws.{by_test}
 use Rattle.tlv.proofs.ListLaws.{all_drop}
 use Rattle.tlv.proofs.OutcomeLaws.{done-is, refused-not}
@@ -31,7 +33,7 @@ use Rattle.tlv.proofs.AcceptedCounts.{next-count}
 -- ---- an accepted sheet
 
 -- an answer that accepts
-pub accepted-done : (s : List ℕ) (r : Checked) (program n : ℕ) → checked_of r ≡ check_input program s → r ≡ Checked.Accepted n → Accepts s n
+pub accepted-done : (s : List ℕ) (r : Result ℕ Refusal) (program n : ℕ) → outcome_of r ≡ check_input program s → r ≡ Ok n → Accepts s n
 accepted-done s r program n e is = record { program = program; passes = rw is at (sym e) }
 
 -- the fields that are checked are counted

@@ -1,9 +1,8 @@
 -- Contract. What the checker's answers mean, of a field and of a sheet, and what is a place of an accepted sheet.
-use Rattle.std.specs.Prelude.{◌≡◌, cond, List, ℕ, ◌≤◌, length, take, drop}
+use Rattle.std.specs.Prelude.{◌≡◌, Result, Ok, Err, cond, List, ℕ, ◌≤◌, length, take, drop}
 use Rattle.tlv.specs.declared.grammar.Context.{Context}
-use Rattle.tlv.specs.declared.grammar.Judged.{Judged}
-use Rattle.tlv.specs.declared.grammar.Checked.{Checked}
-use Rattle.tlv.specs.Outcome.{Outcome, refused, done}
+use Rattle.tlv.specs.declared.refusal.Refusal.{Refusal}
+use Rattle.tlv.specs.Outcome.{done}
 use Rattle.tlv.specs.Fields.{Field, fields}
 use Rattle.tlv.specs.Grammar.{shaped, limited, next, check_from, check_input}
 
@@ -12,14 +11,8 @@ abbrev pub field_in : List ℕ → ℕ → ℕ → ℕ → Field
 field_in s t start n = record { tag = t; payload = take n (drop start s) }
 
 -- what becomes of a field after c
-unfoldable pub judged_of : Context → Field → Judged
-judged_of c f = cond (shaped c f) (cond (limited c f) (Judged.Passed (next c f)) Judged.PastLimit) Judged.Misshapen
-
--- the outcome that an answer stands for
-abbrev pub checked_of : Checked → Outcome ℕ
-checked_of (Checked.Accepted n) = done n
-checked_of Checked.Misshapen = refused 2
-checked_of Checked.PastLimit = refused 3
+unfoldable pub judged_of : Context → Field → Result Context Refusal
+judged_of c f = cond (shaped c f) (cond (limited c f) (Ok (next c f)) (Err Refusal.PastLimit)) (Err Refusal.Misshapen)
 
 -- a sheet is accepted, with a line program of some length, and has n fields
 pub record Accepts (s : List ℕ) (n : ℕ) : Type 0 where

@@ -1,6 +1,7 @@
 -- Contract. What stands at a place of a byte string: the contract of the field cursor.
-use Rattle.std.specs.Prelude.{cond, List, ℕ, ◌+◌, ◌-◌, leb, ltb, length, take, drop, get_or}
+use Rattle.std.specs.Prelude.{Option, Some, None, cond, List, ℕ, ◌+◌, ◌-◌, leb, ltb, length, take, drop, get_or}
 use Rattle.tlv.specs.declared.fields.Step.{Step}
+use Rattle.tlv.specs.declared.fields.FieldSpan.{FieldSpan}
 use Rattle.tlv.specs.Bytes.{le_at}
 use Rattle.tlv.specs.Fields.{FieldList, end, cut, more, fields}
 
@@ -16,3 +17,12 @@ abbrev pub fields_of : List ℕ → Step → FieldList
 fields_of s Step.End = end
 fields_of s Step.Cut = cut
 fields_of s (Step.Field t start n next) = more (record { tag = t; payload = take n (drop start s) }) (fields (drop next s))
+
+-- the field of a step: none at the end, nor where it is cut
+unfoldable pub span_of : Step → Option FieldSpan
+span_of Step.End = None
+span_of Step.Cut = None
+span_of (Step.Field t start n next) = Some (record { tag = t; start = start; len = n; next = next })
+
+abbrev pub field_from : List ℕ → ℕ → Option FieldSpan
+field_from s p = span_of (step_at s p)

@@ -1,6 +1,7 @@
 pub mod Tags
 pub mod Constants
 pub mod Outcome
+pub mod Refusals
 pub mod Addresses
 pub mod Lists
 pub mod Bytes

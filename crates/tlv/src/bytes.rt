@@ -1,39 +1,77 @@
 // Numbers in bytes, lowest byte first.
-ghost use Rattle.std.specs.Prelude.{◌≡◌, ◌+◌, ◌≤◌, ◌<◌, length};
+ghost use Rattle.std.specs.Prelude.{◌≡◌, ℕ, ◌+◌, ◌≤◌, length};
+ghost use Rattle.std.proofs.Common.{rules};
 ghost use Rattle.tlv.specs.Bytes.{le_at};
 
-// The byte at a place, in a type that a second byte fits too.
-fn byte(s: &[u8], p: usize) -> u16
-    requires { p < length s.now }
-    ensures { (result ≡ le_at 1 s.now p) × (result < 256) }
-{
-    s[p] as u16
+// An unsigned number that stands in `width` bytes.
+pub trait Number {
+    // How many bytes it takes.
+    ghost WIDTH: { ℕ };
+
+    const WIDTH: usize;
+
+    ghost value: { Self → ℕ };
+
+    // The number at a place.
+    fn read(s: &[u8], p: usize) -> Self
+        requires { p + WIDTH ≤ length s.now }
+        ensures { value result ≡ le_at WIDTH s.now p };
+
+    ghost narrow: { WIDTH ≤ 8 };
 }
 
-pub fn read_u8(s: &[u8], p: usize) -> u8
-    requires { p < length s.now }
-    ensures { result ≡ le_at 1 s.now p }
-{
-    s[p]
+impl Number for u8 {
+    ghost WIDTH = { 1 };
+
+    const WIDTH: usize = 1;
+
+    ghost value = { λ n. n };
+
+    ghost narrow = { Prim.search rules };
+
+    fn read(s: &[u8], p: usize) -> u8 {
+        s[p]
+    }
 }
 
-pub fn read_u16(s: &[u8], p: usize) -> u16
-    requires { p + 2 ≤ length s.now }
-    ensures { result ≡ le_at 2 s.now p }
-{
-    byte(s, p) + byte(s, p + 1) * 256
+impl Number for u16 {
+    ghost WIDTH = { 2 };
+
+    const WIDTH: usize = 2;
+
+    ghost value = { λ n. n };
+
+    ghost narrow = { Prim.search rules };
+
+    fn read(s: &[u8], p: usize) -> u16 {
+        u8::read(s, p) as u16 + u8::read(s, p + 1) as u16 * 256
+    }
 }
 
-pub fn read_u32(s: &[u8], p: usize) -> u32
-    requires { p + 4 ≤ length s.now }
-    ensures { result ≡ le_at 4 s.now p }
-{
-    read_u16(s, p) as u32 + read_u16(s, p + 2) as u32 * 65536
+impl Number for u32 {
+    ghost WIDTH = { 4 };
+
+    const WIDTH: usize = 4;
+
+    ghost value = { λ n. n };
+
+    ghost narrow = { Prim.search rules };
+
+    fn read(s: &[u8], p: usize) -> u32 {
+        u16::read(s, p) as u32 + u16::read(s, p + 2) as u32 * 65536
+    }
 }
 
-pub fn read_u64(s: &[u8], p: usize) -> u64
-    requires { p + 8 ≤ length s.now }
-    ensures { result ≡ le_at 8 s.now p }
-{
-    read_u32(s, p) as u64 + read_u32(s, p + 4) as u64 * 4294967296
+impl Number for u64 {
+    ghost WIDTH = { 8 };
+
+    const WIDTH: usize = 8;
+
+    ghost value = { λ n. n };
+
+    ghost narrow = { Prim.search rules };
+
+    fn read(s: &[u8], p: usize) -> u64 {
+        u32::read(s, p) as u64 + u32::read(s, p + 4) as u64 * 4294967296
+    }
 }

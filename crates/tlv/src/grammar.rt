@@ -1,11 +1,13 @@
 // Which sheets are accepted: the first bad field decides, and in one field 2 (misshapen) goes before 3 (past limit).
 ghost use Rattle.std.specs.Prelude.{◌≡◌, true, ◌+◌, ◌≤◌, length, take, drop};
 ghost use Rattle.tlv.specs.Grammar.{payload_shaped, payload_limited, shaped, limited, next, check_input};
-ghost use Rattle.tlv.specs.Checked.{field_in, judged_of, checked_of};
+ghost use Rattle.tlv.specs.Refusals.{outcome_of};
+ghost use Rattle.tlv.specs.Checked.{judged_of};
 
-use crate::bytes::{read_u8, read_u16, read_u64};
-use crate::fields::{Step, field_at};
+use crate::bytes::Number;
+use crate::fields::next_field;
 use crate::following::may_follow;
+use crate::refusal::Refusal;
 use crate::shapes::{
     attribute_shaped, directory_shaped, encoding_shaped, entry_shaped, failure_shaped, file_shaped,
     header_shaped, list_shaped, part_shaped, range_shaped, row_shaped, text_shaped, unit_shaped,
@@ -40,144 +42,111 @@ pub struct Context {
     pub encoded: bool, // the last unit has a line encoding, so it may have no row
 }
 
-pub fn payload_shaped(c: Context, tag: u8, s: &[u8], start: usize, len: usize) -> bool
-    requires { start + len ≤ length s.now }
-    ensures { result ≡ payload_shaped c tag (take len (drop start s.now)) }
+#[tactic(auto, unfolding(crate::specs::Grammar::payload_shaped))]
+pub fn payload_shaped(c: Context, tag: u8, payload: &[u8]) -> bool
+    ensures { result ≡ payload_shaped c tag payload.now }
 {
     match tag {
-        UNIT_TAG => unit_shaped(c, s, start, len),
+        UNIT_TAG => unit_shaped(c, payload),
         COMPILATION_TAG => true,
-        TEXT_TAG => text_shaped(s, start, len),
-        HEADER_TAG => header_shaped(s, start, len),
-        ENCODING_TAG => encoding_shaped(s, start, len),
-        PART_TAG => part_shaped(c, s, start, len),
-        DIRECTORY_TAG => directory_shaped(s, start, len),
-        FILE_TAG => file_shaped(s, start, len),
-        FILE_ZERO_TAG => file_shaped(s, start, len),
-        ROW_TAG => row_shaped(c, s, start, len),
-        ENTRY_TAG => entry_shaped(c, s, start, len),
-        ATTRIBUTE_TAG => attribute_shaped(s, start, len),
-        RANGE_TAG => range_shaped(s, start, len),
-        FAILURE_TAG => failure_shaped(c.previous, s, start, len),
-        LIST_TAG => list_shaped(c, s, start, len),
+        TEXT_TAG => text_shaped(payload),
+        HEADER_TAG => header_shaped(payload),
+        ENCODING_TAG => encoding_shaped(payload),
+        PART_TAG => part_shaped(c, payload),
+        DIRECTORY_TAG => directory_shaped(payload),
+        FILE_TAG => file_shaped(payload),
+        FILE_ZERO_TAG => file_shaped(payload),
+        ROW_TAG => row_shaped(c, payload),
+        ENTRY_TAG => entry_shaped(c, payload),
+        ATTRIBUTE_TAG => attribute_shaped(payload),
+        RANGE_TAG => range_shaped(payload),
+        FAILURE_TAG => failure_shaped(c.previous, payload),
+        LIST_TAG => list_shaped(c, payload),
         _ => false,
     }
 }
 
 // Whether a payload that is shaped is within the limits.
-pub fn payload_limited(c: Context, tag: u8, s: &[u8], start: usize, len: usize) -> bool
-    requires len_in_bounds { start + len ≤ length s.now }
-    requires s_value { payload_shaped c tag (take len (drop start s.now)) ≡ true }
-    ensures { result ≡ payload_limited c tag (take len (drop start s.now)) }
+#[tactic(auto, unfolding(crate::specs::Grammar::payload_limited, crate::specs::Grammar::payload_shaped, crate::specs::Grammar::entry_shaped, crate::specs::Grammar::attribute_shaped))]
+pub fn payload_limited(c: Context, tag: u8, payload: &[u8]) -> bool
+    requires { payload_shaped c tag payload.now ≡ true }
+    ensures { result ≡ payload_limited c tag payload.now }
 {
     match tag {
         UNIT_TAG => c.units < UNIT_LIMIT,
-        COMPILATION_TAG => len <= STRING_LIMIT,
-        DIRECTORY_TAG => len <= STRING_LIMIT + 1,
-        FILE_TAG => len <= STRING_LIMIT + 9,
-        FILE_ZERO_TAG => len <= STRING_LIMIT + 9,
-        ENTRY_TAG => read_u16(s, start + 8) <= DEPTH_LIMIT,
-        ATTRIBUTE_TAG => (read_u8(s, start + 2) != 3) | (len <= STRING_LIMIT + 3),
-        FAILURE_TAG => len <= REASON_LIMIT + 1,
+        COMPILATION_TAG => payload.len() <= STRING_LIMIT,
+        DIRECTORY_TAG => payload.len() <= STRING_LIMIT + 1,
+        FILE_TAG => payload.len() <= STRING_LIMIT + 9,
+        FILE_ZERO_TAG => payload.len() <= STRING_LIMIT + 9,
+        ENTRY_TAG => u16::read(payload, 8) <= DEPTH_LIMIT,
+        ATTRIBUTE_TAG => (u8::read(payload, 2) != 3) | (payload.len() <= STRING_LIMIT + 3),
+        FAILURE_TAG => payload.len() <= REASON_LIMIT + 1,
         _ => true,
     }
 }
 
 // The context after a field that has passed.
-pub fn next(c: Context, tag: u8, s: &[u8], start: usize, len: usize) -> Context
-    requires len_in_bounds { start + len ≤ length s.now }
-    requires len_value { shaped c (field_in s.now tag start len) ≡ true }
-    requires len_value_2 { limited c (field_in s.now tag start len) ≡ true }
-    ensures { result ≡ next c (field_in s.now tag start len) }
+#[tactic(auto, unfolding(crate::specs::Grammar::next, crate::specs::Grammar::shaped, crate::specs::Grammar::limited, crate::specs::Grammar::payload_shaped, crate::specs::Grammar::payload_limited, crate::specs::Grammar::unit_shaped, crate::specs::Grammar::entry_shaped))]
+pub fn next(c: Context, tag: u8, payload: &[u8]) -> Context
+    requires shaped { shaped c (record { tag = tag; payload = payload.now }) ≡ true }
+    requires limited { limited c (record { tag = tag; payload = payload.now }) ≡ true }
+    ensures { result ≡ next c (record { tag = tag; payload = payload.now }) }
 {
-    let count = c.count + 1;
+    let after = Context {
+        previous: tag,
+        count: c.count + 1,
+        ..c
+    };
     match tag {
         UNIT_TAG => {
-            let offset = read_u64(s, start);
-            let size = read_u64(s, start + 8);
-            let version = read_u8(s, start + 16);
+            let offset = u64::read(payload, 0);
+            let length = u64::read(payload, 8);
             Context {
-                previous: tag,
-                count: count,
                 units: c.units + 1,
-                end: offset + size,
-                length: size,
-                version: version,
+                end: offset + length,
+                length,
+                version: u8::read(payload, 16),
                 offset: 0,
                 depth: 0,
-                program: c.program,
                 encoded: false,
+                ..after
             }
         }
-        ENTRY_TAG => {
-            let offset = read_u64(s, start);
-            let depth = read_u16(s, start + 8) as u64;
-            Context {
-                previous: tag,
-                count: count,
-                units: c.units,
-                end: c.end,
-                length: c.length,
-                version: c.version,
-                offset: offset + 1,
-                depth: depth + 1,
-                program: c.program,
-                encoded: c.encoded,
-            }
-        }
+        ENTRY_TAG => Context {
+            offset: u64::read(payload, 0) + 1,
+            depth: u16::read(payload, 8) as u64 + 1,
+            ..after
+        },
         _ => Context {
-            previous: tag,
-            count: count,
-            units: c.units,
-            end: c.end,
-            length: c.length,
-            version: c.version,
-            offset: c.offset,
-            depth: c.depth,
-            program: c.program,
             encoded: (tag == ENCODING_TAG) | c.encoded,
+            ..after
         },
     }
 }
 
-// What becomes of one field.
-#[derive(Clone, Copy)]
-pub enum Judged {
-    Passed(Context),
-    Misshapen,
-    PastLimit,
-}
-
-fn judge(c: Context, tag: u8, s: &[u8], start: usize, len: usize) -> Judged
-    requires { start + len ≤ length s.now }
-    ensures { result ≡ judged_of c (field_in s.now tag start len) }
+// What becomes of one field: the context after it, or why not.
+#[tactic(auto, unfolding(crate::specs::Checked::judged_of, crate::specs::Grammar::shaped, crate::specs::Grammar::limited))]
+fn judge(c: Context, tag: u8, payload: &[u8]) -> Result<Context, Refusal>
+    ensures { result ≡ judged_of c (record { tag = tag; payload = payload.now }) }
 {
     if !may_follow(c.previous, tag) {
-        return Judged::Misshapen;
+        return Err(Refusal::Misshapen);
     }
-    if !payload_shaped(c, tag, s, start, len) {
-        return Judged::Misshapen;
+    if !payload_shaped(c, tag, payload) {
+        return Err(Refusal::Misshapen);
     }
     if FIELD_LIMIT <= c.count {
-        return Judged::PastLimit;
+        return Err(Refusal::PastLimit);
     }
-    if !payload_limited(c, tag, s, start, len) {
-        return Judged::PastLimit;
+    if !payload_limited(c, tag, payload) {
+        return Err(Refusal::PastLimit);
     }
-    Judged::Passed(next(c, tag, s, start, len))
+    Ok(next(c, tag, payload))
 }
 
-// What becomes of an input (document 01: a sheet): the number of its fields, or why not.
-#[derive(Clone, Copy)]
-pub enum Checked {
-    Accepted(u64),
-    Misshapen,
-    PastLimit,
-}
-
-// With the length of the line program that is lent with it.
-pub fn check_input(s: &[u8], program: usize) -> Checked
-    ensures { checked_of result ≡ check_input program s.now }
+// What becomes of an input (document 01: a sheet), with the length of the line program that is lent with it: the number of its fields, or why not.
+pub fn check_input(s: &[u8], program: usize) -> Result<u64, Refusal>
+    ensures { outcome_of result ≡ check_input program s.now }
 {
     let mut p: usize = 0;
     let mut c = Context {
@@ -192,31 +161,12 @@ pub fn check_input(s: &[u8], program: usize) -> Checked
         program: program as u64,
         encoded: false,
     };
-    loop {
-        match field_at(s, p) {
-            Step::End => {
-                return Checked::Accepted(c.count);
-            }
-            Step::Cut => {
-                return Checked::Misshapen;
-            }
-            Step::Field {
-                tag,
-                start,
-                len,
-                next: past,
-            } => match judge(c, tag, s, start, len) {
-                Judged::Misshapen => {
-                    return Checked::Misshapen;
-                }
-                Judged::PastLimit => {
-                    return Checked::PastLimit;
-                }
-                Judged::Passed(after) => {
-                    c = after;
-                    p = past;
-                }
-            },
-        }
+    while p < s.len() {
+        let Some(field) = next_field(s, p) else {
+            return Err(Refusal::Misshapen);
+        };
+        c = judge(c, field.tag, &s[field.start..field.start + field.len])?;
+        p = field.next;
     }
+    Ok(c.count)
 }

@@ -7,5 +7,6 @@ pub mod fields;
 pub mod following;
 pub mod grammar;
 pub mod model;
+pub mod refusal;
 pub mod shapes;
 pub mod tags;

@@ -1,9 +1,9 @@
 // The shapes of payloads, a predicate for each tag.
-ghost use Rattle.std.specs.Prelude.{◌≡◌, true, ◌+◌, ◌≤◌, length, take, drop};
+ghost use Rattle.std.specs.Prelude.{◌≡◌};
 ghost use Rattle.tlv.specs.Grammar.{unit_shaped, text_shaped, header_shaped, encoding_shaped, part_shaped, directory_shaped, file_shaped};
 ghost use Rattle.tlv.specs.Grammar.{row_shaped, entry_shaped, value_shaped, attribute_shaped, range_shaped, failure_shaped, list_shaped};
 
-use crate::bytes::{read_u8, read_u16, read_u64};
+use crate::bytes::Number;
 use crate::grammar::Context;
 use crate::tags::RANGE_TAG;
 
@@ -42,19 +42,19 @@ pub const ROW_FIELD: usize = ROW_KIND + 1;
 // The whole field: its tag, its length and its payload.
 pub const ROW_WHOLE: usize = 3 + ROW_FIELD;
 
-// The shape of each field's payload, the `len` bytes from `start` on.
+// The shape of each field's payload.
 
-pub fn unit_shaped(c: Context, s: &[u8], start: usize, len: usize) -> bool
-    requires { start + len ≤ length s.now }
-    ensures { result ≡ unit_shaped c (take len (drop start s.now)) }
+#[tactic(auto, unfolding(crate::specs::Grammar::unit_shaped))]
+pub fn unit_shaped(c: Context, payload: &[u8]) -> bool
+    ensures { result ≡ unit_shaped c payload.now }
 {
-    if len != 18 {
+    if payload.len() != 18 {
         return false;
     }
-    let offset = read_u64(s, start);
-    let size = read_u64(s, start + 8);
-    let version = read_u8(s, start + 16);
-    let word = read_u8(s, start + 17);
+    let offset = u64::read(payload, 0);
+    let size = u64::read(payload, 8);
+    let version = u8::read(payload, 16);
+    let word = u8::read(payload, 17);
     let room = 18446744073709551615 - offset;
     (2 <= version)
         & (version <= 5)
@@ -63,94 +63,94 @@ pub fn unit_shaped(c: Context, s: &[u8], start: usize, len: usize) -> bool
         & (c.end <= offset)
 }
 
-pub fn text_shaped(s: &[u8], start: usize, len: usize) -> bool
-    requires { start + len ≤ length s.now }
-    ensures { result ≡ text_shaped (take len (drop start s.now)) }
+#[tactic(auto, unfolding(crate::specs::Grammar::text_shaped))]
+pub fn text_shaped(payload: &[u8]) -> bool
+    ensures { result ≡ text_shaped payload.now }
 {
-    len == 16
+    payload.len() == 16
 }
 
-pub fn header_shaped(s: &[u8], start: usize, len: usize) -> bool
-    requires { start + len ≤ length s.now }
-    ensures { result ≡ header_shaped (take len (drop start s.now)) }
+#[tactic(auto, unfolding(crate::specs::Grammar::header_shaped))]
+pub fn header_shaped(payload: &[u8]) -> bool
+    ensures { result ≡ header_shaped payload.now }
 {
-    if len < 19 {
+    if payload.len() < 19 {
         return false;
     }
-    let version = read_u8(s, start + 16);
-    let word = read_u8(s, start + 17);
+    let version = u8::read(payload, 16);
+    let word = u8::read(payload, 17);
     (2 <= version) & (version <= 5) & ((word == 4) | (word == 8))
 }
 
-pub fn encoding_shaped(s: &[u8], start: usize, len: usize) -> bool
-    requires { start + len ≤ length s.now }
-    ensures { result ≡ encoding_shaped (take len (drop start s.now)) }
+#[tactic(auto, unfolding(crate::specs::Grammar::encoding_shaped))]
+pub fn encoding_shaped(payload: &[u8]) -> bool
+    ensures { result ≡ encoding_shaped payload.now }
 {
-    if len != ENCODING_FIELD {
+    if payload.len() != ENCODING_FIELD {
         return false;
     }
-    read_u8(s, start + ENCODING_FLAG) <= 1
+    u8::read(payload, ENCODING_FLAG) <= 1
 }
 
 // No part passes the program.
-pub fn part_shaped(c: Context, s: &[u8], start: usize, len: usize) -> bool
-    requires { start + len ≤ length s.now }
-    ensures { result ≡ part_shaped c (take len (drop start s.now)) }
+#[tactic(auto, unfolding(crate::specs::Grammar::part_shaped))]
+pub fn part_shaped(c: Context, payload: &[u8]) -> bool
+    ensures { result ≡ part_shaped c payload.now }
 {
-    if len != PART_FIELD {
+    if payload.len() != PART_FIELD {
         return false;
     }
-    let from = read_u64(s, start);
-    let size = read_u64(s, start + PART_LENGTH);
+    let from = u64::read(payload, 0);
+    let size = u64::read(payload, PART_LENGTH);
     if c.program < from {
         return false;
     }
     size <= c.program - from
 }
 
-pub fn directory_shaped(s: &[u8], start: usize, len: usize) -> bool
-    requires { start + len ≤ length s.now }
-    ensures { result ≡ directory_shaped (take len (drop start s.now)) }
+#[tactic(auto, unfolding(crate::specs::Grammar::directory_shaped))]
+pub fn directory_shaped(payload: &[u8]) -> bool
+    ensures { result ≡ directory_shaped payload.now }
 {
-    if len < 1 {
+    if payload.len() < 1 {
         return false;
     }
-    read_u8(s, start) <= 1
+    u8::read(payload, 0) <= 1
 }
 
-pub fn file_shaped(s: &[u8], start: usize, len: usize) -> bool
-    requires { start + len ≤ length s.now }
-    ensures { result ≡ file_shaped (take len (drop start s.now)) }
+#[tactic(auto, unfolding(crate::specs::Grammar::file_shaped))]
+pub fn file_shaped(payload: &[u8]) -> bool
+    ensures { result ≡ file_shaped payload.now }
 {
-    if len < 9 {
+    if payload.len() < 9 {
         return false;
     }
-    read_u8(s, start) <= 1
+    u8::read(payload, 0) <= 1
 }
 
 // A unit with a line encoding has no rows of its own.
-pub fn row_shaped(c: Context, s: &[u8], start: usize, len: usize) -> bool
-    requires { start + len ≤ length s.now }
-    ensures { result ≡ row_shaped c (take len (drop start s.now)) }
+#[tactic(auto, unfolding(crate::specs::Grammar::row_shaped))]
+pub fn row_shaped(c: Context, payload: &[u8]) -> bool
+    ensures { result ≡ row_shaped c payload.now }
 {
     if c.encoded {
         return false;
     }
-    if len != ROW_FIELD {
+    if payload.len() != ROW_FIELD {
         return false;
     }
-    read_u8(s, start + ROW_KIND) <= 2
+    u8::read(payload, ROW_KIND) <= 2
 }
 
-pub fn entry_shaped(c: Context, s: &[u8], start: usize, len: usize) -> bool
-    requires { start + len ≤ length s.now }
-    ensures { result ≡ entry_shaped c (take len (drop start s.now)) }
+#[tactic(auto, unfolding(crate::specs::Grammar::entry_shaped))]
+pub fn entry_shaped(c: Context, payload: &[u8]) -> bool
+    ensures { result ≡ entry_shaped c payload.now }
 {
-    if len != 12 {
+    if payload.len() != 12 {
         return false;
     }
-    let offset = read_u64(s, start);
-    let depth = read_u16(s, start + 8) as u64;
+    let offset = u64::read(payload, 0);
+    let depth = u16::read(payload, 8) as u64;
     (c.offset <= offset)
         & (offset < c.length)
         & (depth <= c.depth)
@@ -168,44 +168,44 @@ pub fn value_shaped(kind: u8, n: usize) -> bool
     }
 }
 
-pub fn attribute_shaped(s: &[u8], start: usize, len: usize) -> bool
-    requires { start + len ≤ length s.now }
-    ensures { result ≡ attribute_shaped (take len (drop start s.now)) }
+#[tactic(auto, unfolding(crate::specs::Grammar::attribute_shaped))]
+pub fn attribute_shaped(payload: &[u8]) -> bool
+    ensures { result ≡ attribute_shaped payload.now }
 {
-    if len < 3 {
+    if payload.len() < 3 {
         return false;
     }
-    value_shaped(read_u8(s, start + 2), len - 3)
+    value_shaped(u8::read(payload, 2), payload.len() - 3)
 }
 
-pub fn range_shaped(s: &[u8], start: usize, len: usize) -> bool
-    requires { start + len ≤ length s.now }
-    ensures { result ≡ range_shaped (take len (drop start s.now)) }
+#[tactic(auto, unfolding(crate::specs::Grammar::range_shaped))]
+pub fn range_shaped(payload: &[u8]) -> bool
+    ensures { result ≡ range_shaped payload.now }
 {
-    if len != 17 {
+    if payload.len() != 17 {
         return false;
     }
-    read_u8(s, start + 16) <= 1
+    u8::read(payload, 16) <= 1
 }
 
-pub fn failure_shaped(previous: u8, s: &[u8], start: usize, len: usize) -> bool
-    requires { start + len ≤ length s.now }
-    ensures { result ≡ failure_shaped previous (take len (drop start s.now)) }
+#[tactic(auto, unfolding(crate::specs::Grammar::failure_shaped))]
+pub fn failure_shaped(previous: u8, payload: &[u8]) -> bool
+    ensures { result ≡ failure_shaped previous payload.now }
 {
-    if len < 1 {
+    if payload.len() < 1 {
         return false;
     }
-    let stage = read_u8(s, start);
+    let stage = u8::read(payload, 0);
     (stage <= 1) & ((stage == 1) | (previous != RANGE_TAG))
 }
 
-pub fn list_shaped(c: Context, s: &[u8], start: usize, len: usize) -> bool
-    requires { start + len ≤ length s.now }
-    ensures { result ≡ list_shaped c (take len (drop start s.now)) }
+#[tactic(auto, unfolding(crate::specs::Grammar::list_shaped))]
+pub fn list_shaped(c: Context, payload: &[u8]) -> bool
+    ensures { result ≡ list_shaped c payload.now }
 {
-    if len != LIST_FIELD {
+    if payload.len() != LIST_FIELD {
         return false;
     }
-    let size = read_u8(s, start + LIST_SIZE);
+    let size = u8::read(payload, LIST_SIZE);
     (c.version == LIST_VERSION) & ((size == 4) | (size == 8))
 }

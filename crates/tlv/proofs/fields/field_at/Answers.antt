@@ -12,7 +12,7 @@ pub returns-then-s-p-lt3 : goal.returns-then-s-p-lt3
 returns-then-s-p-lt3 c = sym (step-short _ _ (search rules) (search rules))
 
 pub returns-then-len-s : goal.returns-then-len-s
-returns-then-len-s c = rw c.read_u16-len.ensures (sym (step_field _ _ (search rules) (search rules) (omega arith)))
+returns-then-len-s c = rw c.read-len.ensures (sym (step_field _ _ (search rules) (search rules) (omega arith)))
 
 pub returns-else-len-s : goal.returns-else-len-s
 returns-else-len-s c = sym (step_cut _ _ (search rules) (search rules) (omega arith))

@@ -1,0 +1,7 @@
+-- Two halves are one number.
+use Rattle.std.proofs.Common.{arith}
+use Rattle.tlv.proofs.WidthLaws.{join}
+use Rattle.tlv.proofs.bytes.U32Number.read.Goals as goal
+
+pub returns : goal.returns
+returns c = join 2 2 _ _ _ _ (omega arith) c.read.ensures c.read-2.ensures
