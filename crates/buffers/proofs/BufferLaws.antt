@@ -10,7 +10,8 @@ use native.Mathlib.Omega.{arith}
 use borrow.Author.Tests.{le-leb, lt-leb, leb-true}
 use lib.Dec.{leb}
 use lib.ListN.{length, set, take, drop, get_or, length-set, length-append}
-use lib.Seq.{set_out, take-suc, take_all, take-set-le, sets, sets-eq, drop_at, take-append_seam, length-take-le}
+use borrow.Rule.Slice.PartMut.{put_mid}
+use lib.Seq.{drop-drop, set_out, take-suc, take_all, take-set-le, sets, sets-eq, drop_at, take-append_seam, length-take-le}
 use Rattle.tlv.specs.Bytes.{bytes_of}
 use Rattle.tlv.proofs.ByteLaws.{length-bytes_of}
 use Rattle.tlv.proofs.WidthLaws.{bytes_of-two}
@@ -62,6 +63,13 @@ part-overlay at bs t h =
 -- the whole tray, where all that is laid from its start on fits
 pub overlay-whole : (bs t : List ℕ) → length bs ≤ length t → overlay 0 bs t ≡ bs ++ drop (length bs) t
 overlay-whole bs t h = overlay-sets 0 bs t ∙ (rw zero-add at (sets-eq bs t 0 (omega arith)))
+
+-- bytes that take the place of as many are laid
+pub mid-overlay : (at k : ℕ) (bs ys t : List ℕ) → ys ≡ bs → k ≡ length bs → at + k ≤ length t → put_mid at k t ys ≡ overlay at bs t
+mid-overlay at k bs ys t e n h = rw (e, n, drop-drop (length bs) at t, overlay-sets at bs t, sets-eq bs t at (omega arith), append_assoc (take at t) bs (drop (at + length bs) t))
+
+pub laid : {at k : ℕ} {bs ys t : List ℕ} → ys ≡ bs → k ≡ length bs → at + k ≤ length t → length t < top → Put at bs t (put_mid at k t ys) (at + length bs)
+laid {at} {k} {bs} {ys} {t} e n h small = record { buffer = mid-overlay at k bs ys t e n h; place = omega arith; small = small }
 
 -- ---- puts
 
@@ -186,3 +194,10 @@ put_whole {r} {out} {t} f h = f.buffer ∙ overlay-whole out t (omega (arith, pu
 -- a place past the tray: the output is longer than it
 pub put-lost : {r : ℕ} {out t t' : List ℕ} → Put 0 out t t' r → length t' < r → length t < length out
 put-lost f h = omega (arith, f.place, put-length f)
+
+-- a number that was written at the front
+pub wrote-front : {w w' : List ℕ} {k v : ℕ} → Wrote w w' 0 k v → k ≤ length w → bytes_of k v ≡ take k w'
+wrote-front {w} {w'} {k} {v} W h =
+    let n = length-bytes_of k v in
+    let p : take (length (bytes_of k v)) (overlay 0 (bytes_of k v) w) ≡ bytes_of k v = part-overlay 0 (bytes_of k v) w (omega (arith, n)) in
+    rw W.bytes (sym (rw n at p))

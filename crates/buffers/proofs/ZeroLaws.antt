@@ -1,46 +1,18 @@
 -- Bytes set to 0: one by one, what they then are, and tables that hold only 0.
 use mathlib.Core.Path.{◌≡◌, refl, sym, ap, ◌∙◌}
 use mathlib.Core.List.{List, ◌∷◌, append_assoc, append-nil}
-use Prim.Native.Nat.{ℕ, zero, suc, ◌+◌, ◌-◌, ◌≤◌, ◌<◌}
+use Prim.Native.Nat.{ℕ, zero, suc, ◌+◌, ◌-◌, ◌≤◌}
 use native.Mathlib.Nat.{sub-zero}
-use native.Mathlib.Numerals.{add-one}
 use native.Mathlib.Omega.{arith}
-use lib.ListN.{length, set, replicate, length-set, length-replicate, take-append-drop}
-use lib.Seq.{take-suc-set, append_snoc, drop-set-lt, drop-length}
+use lib.ListN.{length, take, drop, replicate, length-drop, length-replicate}
+use borrow.Rule.Slice.PartMut.{put_mid}
+use lib.Seq.{length-take-le, drop-length}
 use Rattle.tlv.specs.Bytes.{le, le_at}
 use Rattle.buffers.specs.Buffer.{overlay}
 use Rattle.buffers.specs.Table.{chunk, zeroed, Zeroed}
 use Rattle.buffers.proofs.ChunkLaws.{chunk_part, chunk-over, overlay-eq, le_at-is}
+use Rattle.buffers.proofs.BufferLaws.{mid-overlay}
 use Rattle.buffers.proofs.TableLaws.{kept-over}
-
--- ---- the loop
-
-zeroed_step : (w : List ℕ) (i to : ℕ) → i < to → to ≤ length w → zeroed (set w i 0) (i + 1) to ≡ zeroed w i to
-unfolding zeroed
-zeroed_step w i to h l =
-    let z : to - i ≡ suc (to - (i + 1)) = omega arith in
-    let m : i < length w = omega arith in
-    rw (z, add-one i, take-suc-set w i 0 m, drop-set-lt to w i 0 h, append_snoc)
-
-zeroed-none : (w : List ℕ) (i to : ℕ) → i ≡ to → zeroed w i to ≡ w
-unfolding zeroed
-zeroed-none w i to h = let z : to - i ≡ 0 = omega arith in rw (z, h, append-nil, take-append-drop)
-
--- zeros from i on are what is left to do
-pub record Zeroing (w₀ w : List ℕ) (from to i : ℕ) : Type 0 where
-  pub within : i ≤ to
-  pub left : zeroed w i to ≡ zeroed w₀ from to
-  pub length-same : length w ≡ length w₀
-
-pub zeroing-start : (w : List ℕ) (from to : ℕ) → from ≤ to → Zeroing w w from to from
-zeroing-start w from to h = record { within = h; left = refl; length-same = refl }
-
-pub zeroing_step : {w₀ w : List ℕ} {from to i : ℕ} → Zeroing w₀ w from to i → i < to → to ≤ length w₀ → Zeroing w₀ (set w i 0) from to (i + 1)
-zeroing_step {w₀} {w} {from} {to} {i} Z h l = record {
-  within = omega arith;
-  left = zeroed_step w i to h (omega (arith, Z.length-same)) ∙ Z.left;
-  length-same = length-set w i 0 ∙ Z.length-same;
-}
 
 -- zeros are bytes laid over
 pub zeroed-over : (w : List ℕ) (from to : ℕ) → from ≤ to → to ≤ length w → zeroed w from to ≡ overlay from (replicate (to - from) 0) w
@@ -50,21 +22,23 @@ zeroed-over w from to h l =
     let e : from + length zeros ≡ to = rw length-replicate (omega arith) in
     sym (rw (e, ← append_assoc) at (overlay-eq from zeros w (omega arith)))
 
-pub zeroing_done : {w₀ w : List ℕ} {from to i : ℕ} → Zeroing w₀ w from to i → to ≤ i → (from ≤ to) × (to ≤ length w₀) → Zeroed w₀ w from to
-zeroing_done {w₀} {w} {from} {to} {i} Z h b = record {
-  bytes = e;
-  same = rw over (chunk-over from zeros w₀ (to - from) (length-replicate (to - from) 0) (omega (arith, b.0, b.1)));
-  rest = rw over (kept-over from zeros w₀ (to - from) (length-replicate (to - from) 0));
+-- zeros that take the place of as many bytes
+pub zeros_laid : {w ys : List ℕ} {from to : ℕ} → ys ≡ replicate (length (take (to - from) (drop from w))) 0 → from ≤ to → to ≤ length w
+    → Zeroed w (put_mid from (to - from) w ys) from to
+zeros_laid {w} {ys} {from} {to} e h l = record {
+  bytes = over ∙ sym (zeroed-over w from to h l);
+  same = rw over (chunk-over from zeros w (to - from) (length-replicate (to - from) 0) (omega arith));
+  rest = rw over (kept-over from zeros w (to - from) (length-replicate (to - from) 0));
 }
   where
     zeros : List ℕ
     zeros = replicate (to - from) 0
 
-    e : w ≡ zeroed w₀ from to
-    e = sym (zeroed-none w i to (omega (arith, Z.within))) ∙ Z.left
+    as-many : length (take (to - from) (drop from w)) ≡ to - from
+    as-many = length-take-le (to - from) (drop from w) (rw length-drop (omega arith))
 
-    over : w ≡ overlay from zeros w₀
-    over = e ∙ zeroed-over w₀ from to b.0 b.1
+    over : put_mid from (to - from) w ys ≡ overlay from zeros w
+    over = mid-overlay from (to - from) zeros ys w (e ∙ ap (λ (m : ℕ). replicate m 0) as-many) (sym (length-replicate (to - from) 0)) (omega arith)
 
 -- the whole list
 pub zeroed-all : {w w' : List ℕ} → Zeroed w w' 0 (length w) → w' ≡ replicate (length w) 0

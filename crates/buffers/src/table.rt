@@ -2,38 +2,11 @@
 ghost use Rattle.std.specs.Prelude.{◌≡◌, ◌⊎◌, ◌+◌, ◌≤◌, ◌<◌, length, replicate};
 ghost use Rattle.buffers.specs.Table.{Wrote, CopiedBytes, Zeroed};
 
-use tlv::bytes::read_u64;
+use crate::numbers::Written;
+use tlv::bytes::Number;
 
-pub fn set_u8(w: &mut [u8], p: usize, v: u8)
-    requires { p < length w.old }
-    ensures { Wrote w.old w.new p 1 v }
-{
-    w[p] = v;
-}
-
-pub fn set_u16(w: &mut [u8], p: usize, v: u16)
-    requires { p + 2 ≤ length w.old }
-    ensures { Wrote w.old w.new p 2 v }
-{
-    set_u8(w, p, (v % 256) as u8);
-    set_u8(w, p + 1, (v / 256) as u8);
-}
-
-pub fn set_u32(w: &mut [u8], p: usize, v: u32)
-    requires { p + 4 ≤ length w.old }
-    ensures { Wrote w.old w.new p 4 v }
-{
-    set_u16(w, p, (v % 65536) as u16);
-    set_u16(w, p + 2, (v / 65536) as u16);
-}
-
-pub fn set_u64(w: &mut [u8], p: usize, v: u64)
-    requires { p + 8 ≤ length w.old }
-    ensures { Wrote w.old w.new p 8 v }
-{
-    set_u32(w, p, (v % 4294967296) as u32);
-    set_u32(w, p + 4, (v / 4294967296) as u32);
-}
+// The bytes of a word.
+const WORD: usize = 8;
 
 // Eight bytes are read before any of them is written: the two places may lie anyhow.
 fn copy_word(w: &mut [u8], from: usize, to: usize)
@@ -41,8 +14,8 @@ fn copy_word(w: &mut [u8], from: usize, to: usize)
     requires to_in_bounds { to + 8 ≤ length w.old }
     ensures { CopiedBytes w.old w.new from to 8 }
 {
-    let v = read_u64(w, from);
-    set_u64(w, to, v);
+    let v = u64::read(w, from);
+    v.write(w, to);
 }
 
 // Copies whole words, as many as the size has. Returns how many bytes they are.
@@ -52,12 +25,11 @@ fn copy_words(w: &mut [u8], from: usize, to: usize, size: usize) -> usize
     requires fact { (to ≤ from) ⊎ (from + size ≤ to) }
     ensures { (result ≤ size) × CopiedBytes w.old w.new from to result }
 {
-    let mut i = 0;
-    while 8 <= size - i {
-        copy_word(w, from + i, to + i);
-        i += 8;
+    let words = size / WORD;
+    for i in 0..words {
+        copy_word(w, from + i * WORD, to + i * WORD);
     }
-    i
+    words * WORD
 }
 
 fn copy_bytes(w: &mut [u8], from: usize, to: usize, size: usize)
@@ -66,10 +38,8 @@ fn copy_bytes(w: &mut [u8], from: usize, to: usize, size: usize)
     requires fact { (to ≤ from) ⊎ (from + size ≤ to) }
     ensures { CopiedBytes w.old w.new from to size }
 {
-    let mut i = 0;
-    while i < size {
+    for i in 0..size {
         w[to + i] = w[from + i];
-        i += 1;
     }
 }
 
@@ -90,11 +60,7 @@ pub fn fill_zero(w: &mut [u8], from: usize, to: usize)
     requires { (from ≤ to) × (to ≤ length w.old) }
     ensures { Zeroed w.old w.new from to }
 {
-    let mut i = from;
-    while i < to {
-        w[i] = 0;
-        i += 1;
-    }
+    w[from..to].fill(0);
 }
 
 pub fn clear(w: &mut [u8])

