@@ -14,6 +14,7 @@ use Rattle.tlv.specs.Checked.{Placed}
 use Rattle.tlv.proofs.CursorLaws.{fields-field}
 use Rattle.tlv.proofs.ShapeLaws.{number_at, number-first}
 use Rattle.tlv.proofs.PlacePromises.{placed-entry}
+use Rattle.std.specs.Prelude.{Option}
 use Rattle.access.specs.declared.access.Value.{Value}
 use Rattle.access.specs.Places.{own_fields, entry_here}
 use Rattle.access.specs.Access.{is_named, meaning_of, Says}
@@ -55,6 +56,6 @@ module _ (s : List ℕ) (p : ℕ) (r : Step) (t start len next : ℕ) (reads : r
         rw (fields-field s p r t start len next reads e) (number_at s start len 2 10 (le_at 2 s (start + 10)) (omega arith) refl)
 
   -- what is said of the first attribute of a name in the fields behind is said of the entry
-  pub entry-says : (v : Value) (name : ℕ) → Says s v (meaning_of (first (is_named name) (map attribute_of (payloads 0x18 (own_fields (fields (drop next s)))))))
+  pub entry-says : (v : Option Value) (name : ℕ) → Says s v (meaning_of (first (is_named name) (map attribute_of (payloads 0x18 (own_fields (fields (drop next s)))))))
       → Says s v (meaning_of (first (is_named name) (entry_here s p).attributes))
   entry-says v name h = rw entry-attributes h

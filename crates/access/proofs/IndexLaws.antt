@@ -8,15 +8,16 @@ use native.Mathlib.Omega.{arith}
 use lib.Dec.{eqb}
 use lib.ListN.{length, take, drop, length-append}
 use borrow.Author.Tests.{eq-eqb, ne_eqb, eqb-true}
-use Rattle.tlv.specs.declared.fields.Step.{Step}
+use Rattle.std.specs.Prelude.{Some, None}
+use Rattle.tlv.specs.declared.fields.FieldSpan.{FieldSpan}
 use Rattle.tlv.specs.Bytes.{le_at}
 use Rattle.tlv.specs.Fields.{Field, FieldList, end, cut, more, fields, whole_fields, payloads}
 use Rattle.tlv.specs.Grammar.{shaped, limited, next, check_from}
-use Rattle.tlv.specs.Cursor.{step_at}
+use Rattle.tlv.specs.Cursor.{step_at, field_from}
 use Rattle.tlv.specs.Checked.{Accepts, field_in, Placed}
 use Rattle.tlv.proofs.ShapeLaws.{number_at, number-first}
 use Rattle.tlv.proofs.AcceptedGroups.{passed-both}
-use Rattle.tlv.proofs.CursorLaws.{fields-at, fields-field, field-within, payload-length, payload-within, next-within}
+use Rattle.tlv.proofs.FieldLaws.{is-step, at-none, fields-field, field-within, payload-length, payload-within, next-within}
 use Rattle.tlv.proofs.PlaceFacts.{placed-shaped}
 use Rattle.tlv.proofs.PlacePromises.{placed-unit, placed-entry, placed-unit_fits}
 use Rattle.buffers.specs.Table.{chunk, records, Kept, Wrote}
@@ -85,53 +86,49 @@ module _ (p q o : ℕ) (f : Field) (fs : FieldList) (past : ℕ) (to : behind p 
   index-other h k = rw (ne_eqb f.tag 0x10 h, ne_eqb f.tag 0x17 k, to)
 
 -- the same by places
-module _ (s : List ℕ) (p q o : ℕ) (r : Step) (at : r ≡ step_at s p) where
-  here_end : r ≡ Step.End → entry_index p q o (fields (drop p s)) ≡ []
+module _ (s : List ℕ) (p q o : ℕ) where
+  here_end : None ≡ field_from s p → entry_index p q o (fields (drop p s)) ≡ []
   unfolding entry_index
-  here_end e = rw (fields-at s p, ← at, e)
+  here_end at = at-none s p at (λ (fs : FieldList). entry_index p q o fs ≡ []) refl refl
 
-  here-cut : r ≡ Step.Cut → entry_index p q o (fields (drop p s)) ≡ []
-  unfolding entry_index
-  here-cut e = rw (fields-at s p, ← at, e)
-
-  module _ (t start len past : ℕ) (e : r ≡ Step.Field t start len past) where
-    to : p + 3 + length (take len (drop start s)) ≡ past
-    to = let w = field-within s p r t start len past at e in omega (arith, payload-length s p r t start len past at e)
+  module _ (f : FieldSpan) (at : Some f ≡ field_from s p) where
+    to : p + 3 + length (take f.len (drop f.start s)) ≡ f.next
+    to = let w = field-within s p f at in omega (arith, payload-length s p f at)
 
     -- v is the offset in the payload
-    module _ (v : ℕ) (ev : v ≡ le_at 8 s start) where
-      here-unit : len ≡ 18 → t ≡ 0x10 → entry_index p q o (fields (drop p s)) ≡ entry_index past p v (fields (drop past s))
+    module _ (v : ℕ) (ev : v ≡ le_at 8 s f.start) where
+      here-unit : f.len ≡ 18 → f.tag ≡ 0x10 → entry_index p q o (fields (drop p s)) ≡ entry_index f.next p v (fields (drop f.next s))
       here-unit long is =
           rw (
-            fields-field s p r t start len past at e,
-            index-unit p q o (field_in s t start len) (fields (drop past s)) past to is,
-            number-first s start len 8 v (omega arith) ev,
+            fields-field s p f at,
+            index-unit p q o (field_in s f.tag f.start f.len) (fields (drop f.next s)) f.next to is,
+            number-first s f.start f.len 8 v (omega arith) ev,
           )
 
-      here-entry : len ≡ 12 → t ≡ 0x17 → entry_index p q o (fields (drop p s)) ≡ record { offset = o + v; place = p; unit = q } ∷ entry_index past q o (fields (drop past s))
+      here-entry : f.len ≡ 12 → f.tag ≡ 0x17
+          → entry_index p q o (fields (drop p s)) ≡ record { offset = o + v; place = p; unit = q } ∷ entry_index f.next q o (fields (drop f.next s))
       here-entry long is =
           rw (
-            fields-field s p r t start len past at e,
-            index-entry p q o (field_in s t start len) (fields (drop past s)) past to is,
-            number-first s start len 8 v (omega arith) ev,
+            fields-field s p f at,
+            index-entry p q o (field_in s f.tag f.start f.len) (fields (drop f.next s)) f.next to is,
+            number-first s f.start f.len 8 v (omega arith) ev,
           )
 
-    here-other : (t ≡ 0x10 → ⊥) → (t ≡ 0x17 → ⊥) → entry_index p q o (fields (drop p s)) ≡ entry_index past q o (fields (drop past s))
-    here-other h k = rw (fields-field s p r t start len past at e, index-other p q o (field_in s t start len) (fields (drop past s)) past to h k)
+    here-other : (f.tag ≡ 0x10 → ⊥) → (f.tag ≡ 0x17 → ⊥) → entry_index p q o (fields (drop p s)) ≡ entry_index f.next q o (fields (drop f.next s))
+    here-other h k = rw (fields-field s p f at, index-other p q o (field_in s f.tag f.start f.len) (fields (drop f.next s)) f.next to h k)
 
 -- the next place of a place is one, and its context is the next one
-module _ (s : List ℕ) (p : ℕ) (r : Step) (t start len past : ℕ) (h : Placed s p) (at : r ≡ step_at s p) (e : r ≡ Step.Field t start len past) where
-  next-placed : Placed s past
+module _ (s : List ℕ) (p : ℕ) (f : FieldSpan) (h : Placed s p) (at : Some f ≡ field_from s p) where
+  next-placed : Placed s f.next
   unfolding check_from
   next-placed =
       let c = h.context in
-      let f = field_in s t start len in
+      let x = field_in s f.tag f.start f.len in
       record {
-        context = next c f;
+        context = next c x;
         count = h.count;
-        passes = (passed-both (shaped c f) (limited c f) (check_from (next c f) (fields (drop past s))) h.count
-            (rw (fields-field s p r t start len past at e) at h.passes)).2;
-        within = next-within s p r t start len past at e;
+        passes = (passed-both (shaped c x) (limited c x) (check_from (next c x) (fields (drop f.next s))) h.count (rw (fields-field s p f at) at h.passes)).2;
+        within = next-within s p f at;
       }
 
 -- ---- the loop: n entries are written, those from p on are left, and the unit is at place `unit` and offset `offset`
@@ -161,88 +158,84 @@ module _ {s w₀ w : List ℕ} {base p n unit offset : ℕ} (I : Indexing s w₀
       sym (append-nil (records indexed_of 16 w base n)) ∙ rw none at I.left in
       record { table = all; count = sym (records-length indexed_of 16 w base n) ∙ ap length all; rest = I.rest; size = I.size }
 
-  module _ (r : Step) (at : r ≡ step_at s p) where
-    pub indexing_end : r ≡ Step.End → Indexed s w₀ w base n
-    indexing_end e = indexing_done (here_end s p unit offset r at e)
+  pub indexing_end : None ≡ field_from s p → Indexed s w₀ w base n
+  indexing_end at = indexing_done (here_end s p unit offset at)
 
-    pub indexing_cut : r ≡ Step.Cut → Indexed s w₀ w base n
-    indexing_cut e = indexing_done (here-cut s p unit offset r at e)
+  module _ (f : FieldSpan) (at : Some f ≡ field_from s p) where
+    -- the offset of a unit and of an entry can be read
+    pub unit-read : f.tag ≡ 0x10 → f.start + 8 ≤ length s
+    unit-read is =
+        let l = placed-unit s p (step_at s p) f.tag f.start f.len f.next I.placed refl (is-step s p f at) is in
+        let w = payload-within s p f at in
+        omega arith
 
-    module _ (t start len past : ℕ) (e : r ≡ Step.Field t start len past) where
-      -- the offset of a unit and of an entry can be read
-      pub unit-read : t ≡ 0x10 → start + 8 ≤ length s
-      unit-read is =
-          let l = placed-unit s p r t start len past I.placed at e is in
-          let w = payload-within s p r t start len past at e in
-          omega arith
+    pub entry_read : f.tag ≡ 0x17 → f.start + 8 ≤ length s
+    entry_read is =
+        let l = placed-entry s p (step_at s p) f.tag f.start f.len f.next I.placed refl (is-step s p f at) is in
+        let w = payload-within s p f at in
+        omega arith
 
-      pub entry_read : t ≡ 0x17 → start + 8 ≤ length s
-      entry_read is =
-          let l = placed-entry s p r t start len past I.placed at e is in
-          let w = payload-within s p r t start len past at e in
-          omega arith
+    -- an entry's offset in the section fits, and there is room for its record
+    pub sum_fits : (v : ℕ) → f.tag ≡ 0x17 → v ≡ le_at 8 s f.start → v < 2 ^ 64 → offset + v < 2 ^ 64
+    sum_fits v is ev b =
+        let l = placed-entry s p (step_at s p) f.tag f.start f.len f.next I.placed refl (is-step s p f at) is in
+        let below : le_at 8 (take f.len (drop f.start s)) 0 < I.placed.context.length =
+        entry-high I.placed.context (field_in s f.tag f.start f.len) (placed-shaped s p (step_at s p) f.tag f.start f.len f.next I.placed refl (is-step s p f at)) is in
+        I.fits v (rw (number-first s f.start f.len 8 v (omega arith) ev) at below) b
 
-      -- an entry's offset in the section fits, and there is room for its record
-      pub sum_fits : (v : ℕ) → t ≡ 0x17 → v ≡ le_at 8 s start → v < 2 ^ 64 → offset + v < 2 ^ 64
-      sum_fits v is ev b =
-          let l = placed-entry s p r t start len past I.placed at e is in
-          let below : le_at 8 (take len (drop start s)) 0 < I.placed.context.length =
-          entry-high I.placed.context (field_in s t start len) (placed-shaped s p r t start len past I.placed at e) is in
-          I.fits v (rw (number-first s start len 8 v (omega arith) ev) at below) b
+    pub entry-room : f.tag ≡ 0x17 → base + 16 * length (payloads 0x17 (whole_fields (fields s))) ≤ length w₀ → base + n * 16 + 16 ≤ length w
+    entry-room is h =
+        let l = placed-entry s p (step_at s p) f.tag f.start f.len f.next I.placed refl (is-step s p f at) is in
+        let here = here-entry s p unit offset f at (le_at 8 s f.start) refl l is in
+        let count = ap length I.left in
+        let size = I.size in
+        omega (
+          arith,
+          rw (here, length-append, records-length) at count,
+          index-length 0 0 0 (fields s),
+        )
 
-      pub entry-room : t ≡ 0x17 → base + 16 * length (payloads 0x17 (whole_fields (fields s))) ≤ length w₀ → base + n * 16 + 16 ≤ length w
-      entry-room is h =
-          let l = placed-entry s p r t start len past I.placed at e is in
-          let here = here-entry s p unit offset r at t start len past e (le_at 8 s start) refl l is in
-          let count = ap length I.left in
-          let size = I.size in
-          omega (
-            arith,
-            rw (here, length-append, records-length) at count,
-            index-length 0 0 0 (fields s),
-          )
+    pub turn-unit : (v : ℕ) → f.tag ≡ 0x10 → v ≡ le_at 8 s f.start → Indexing s w₀ w base f.next n p v
+    unfolding next-placed next
+    turn-unit v is ev =
+        let long = placed-unit s p (step_at s p) f.tag f.start f.len f.next I.placed refl (is-step s p f at) is in
+        let whole = placed-unit_fits s p (step_at s p) f.tag f.start f.len f.next I.placed refl (is-step s p f at) v (le_at 8 s (f.start + 8)) is ev refl in
+        let size : le_at 8 (take f.len (drop f.start s)) 8 ≡ le_at 8 s (f.start + 8) = number_at s f.start f.len 8 8 _ (omega arith) refl in
+        record {
+          placed = next-placed s p f I.placed at;
+          fits = λ o. rw (eq-eqb f.tag 0x10 is, size) (λ l b. omega arith);
+          unit-within = I.placed.within;
+          left = rw (← here-unit s p unit offset f at v ev long is) I.left;
+          rest = I.rest;
+          size = I.size;
+        }
 
-      pub turn-unit : (v : ℕ) → t ≡ 0x10 → v ≡ le_at 8 s start → Indexing s w₀ w base past n p v
-      unfolding next-placed next
-      turn-unit v is ev =
-          let long = placed-unit s p r t start len past I.placed at e is in
-          let whole = placed-unit_fits s p r t start len past I.placed at e v (le_at 8 s (start + 8)) is ev refl in
-          let size : le_at 8 (take len (drop start s)) 8 ≡ le_at 8 s (start + 8) = number_at s start len 8 8 _ (omega arith) refl in
-          record {
-            placed = next-placed s p r t start len past I.placed at e;
-            fits = λ o. rw (eq-eqb t 0x10 is, size) (λ l b. omega arith);
-            unit-within = I.placed.within;
-            left = rw (← here-unit s p unit offset r at t start len past e v ev long is) I.left;
-            rest = I.rest;
-            size = I.size;
-          }
+    pub turn-entry : (v : ℕ) {w' : List ℕ} → f.tag ≡ 0x17 → v ≡ le_at 8 s f.start → PutEntry w w' (base + n * 16) (offset + v) p unit → length w' ≡ length w
+        → Indexing s w₀ w' base f.next (n + 1) unit offset
+    unfolding next-placed next
+    turn-entry v {w'} is ev P same =
+        let long = placed-entry s p (step_at s p) f.tag f.start f.len f.next I.placed refl (is-step s p f at) is in
+        let e₁ : IndexedEntry = record { offset = offset + v; place = p; unit = unit } in
+        let here = here-entry s p unit offset f at v ev long is in
+        record {
+          placed = next-placed s p f I.placed at;
+          fits = rw is I.fits;
+          unit-within = I.unit-within;
+          left = rw (records-push indexed_of 16 base n e₁ P.rest P.entry, append_assoc) (rw here at I.left);
+          rest = kept_trans (kept-wide base (16 * (n + 1)) I.rest (omega arith) (omega arith)) (kept-wide base (16 * (n + 1)) P.rest (omega arith) (omega arith));
+          size = same ∙ I.size;
+        }
 
-      pub turn-entry : (v : ℕ) {w' : List ℕ} → t ≡ 0x17 → v ≡ le_at 8 s start → PutEntry w w' (base + n * 16) (offset + v) p unit → length w' ≡ length w
-          → Indexing s w₀ w' base past (n + 1) unit offset
-      unfolding next-placed next
-      turn-entry v {w'} is ev P same =
-          let long = placed-entry s p r t start len past I.placed at e is in
-          let e₁ : IndexedEntry = record { offset = offset + v; place = p; unit = unit } in
-          let here = here-entry s p unit offset r at t start len past e v ev long is in
-          record {
-            placed = next-placed s p r t start len past I.placed at e;
-            fits = rw is I.fits;
-            unit-within = I.unit-within;
-            left = rw (records-push indexed_of 16 base n e₁ P.rest P.entry, append_assoc) (rw here at I.left);
-            rest = kept_trans (kept-wide base (16 * (n + 1)) I.rest (omega arith) (omega arith)) (kept-wide base (16 * (n + 1)) P.rest (omega arith) (omega arith));
-            size = same ∙ I.size;
-          }
-
-      pub turn-other : (t ≡ 0x10 → ⊥) → (t ≡ 0x17 → ⊥) → Indexing s w₀ w base past n unit offset
-      unfolding next-placed next
-      turn-other h k = record {
-        placed = next-placed s p r t start len past I.placed at e;
-        fits = rw (ne_eqb t 0x10 h, ne_eqb t 0x17 k) I.fits;
-        unit-within = I.unit-within;
-        left = rw (← here-other s p unit offset r at t start len past e h k) I.left;
-        rest = I.rest;
-        size = I.size;
-      }
+    pub turn-other : (f.tag ≡ 0x10 → ⊥) → (f.tag ≡ 0x17 → ⊥) → Indexing s w₀ w base f.next n unit offset
+    unfolding next-placed next
+    turn-other h k = record {
+      placed = next-placed s p f I.placed at;
+      fits = rw (ne_eqb f.tag 0x10 h, ne_eqb f.tag 0x17 k) I.fits;
+      unit-within = I.unit-within;
+      left = rw (← here-other s p unit offset f at h k) I.left;
+      rest = I.rest;
+      size = I.size;
+    }
 
 -- ---- the table of an accepted sheet is what a search asks for
 

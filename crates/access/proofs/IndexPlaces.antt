@@ -20,7 +20,8 @@ use Rattle.tlv.proofs.ListLaws.{all_map, all_first, given-some}
 use Rattle.tlv.proofs.CursorLaws.{row-ind}
 use Rattle.tlv.proofs.AcceptedGroups.{passed-both}
 use Rattle.buffers.specs.Table.{records}
-use Rattle.access.specs.declared.index.Found.{Found}
+use Rattle.std.specs.Prelude.{Some, None}
+use Rattle.access.specs.declared.index.EntryPlace.{EntryPlace}
 use Rattle.access.specs.Places.{entry_here, unit_here, behind, unit_places, IndexedEntry, entry_index}
 use Rattle.access.specs.Index.{indexed_of, lookup, found_of, entry_in}
 use Rattle.access.proofs.IndexOrder.{entry-high, after-unit, after-entry, after-other}
@@ -138,10 +139,10 @@ module _ (s : List ℕ) (n : ℕ) (accepted : Accepts s n) where
         index-finds s n e.unit (entry_here s e.place).offset accepted found-placed.unit ∙ rw (sum, found, eq-eqb e.unit e.unit refl)
 
 -- what an answer of the search says of the sheet whose index the table is
-module _ (s w : List ℕ) (base r x : ℕ) (f : Found) (table : records indexed_of 16 w base r ≡ entry_index 0 0 0 (fields s))
-    (answer : found_of x f ≡ lookup x (records indexed_of 16 w base r)) where
-  pub answer_at : (p u : ℕ) → f ≡ Found.At p u → lookup x (entry_index 0 0 0 (fields s)) ≡ some (record { offset = x; place = p; unit = u })
-  answer_at p u is = sym (rw (table, is) at answer)
+module _ (s w : List ℕ) (base r x : ℕ) (table : records indexed_of 16 w base r ≡ entry_index 0 0 0 (fields s)) where
+  pub answer_at : (e : EntryPlace) → found_of x (Some e) ≡ lookup x (records indexed_of 16 w base r)
+      → lookup x (entry_index 0 0 0 (fields s)) ≡ some (record { offset = x; place = e.place; unit = e.unit })
+  answer_at e answer = sym (rw table at answer)
 
-  pub answer-missing : f ≡ Found.Missing → lookup x (entry_index 0 0 0 (fields s)) ≡ none
-  answer-missing is = sym (rw (table, is) at answer)
+  pub answer-missing : found_of x None ≡ lookup x (records indexed_of 16 w base r) → lookup x (entry_index 0 0 0 (fields s)) ≡ none
+  answer-missing answer = sym (rw table at answer)

@@ -7,19 +7,20 @@ use Prim.Native.Nat.{ℕ}
 use lib.Dec.{eqb}
 use lib.ListN.{drop}
 use borrow.Author.Tests.{eqb-true}
-use Rattle.tlv.specs.declared.fields.Step.{Step}
+use Rattle.std.specs.Prelude.{Some}
+use Rattle.tlv.specs.declared.fields.FieldSpan.{FieldSpan}
 use Rattle.tlv.specs.declared.grammar.Context.{Context}
 use Rattle.tlv.specs.Outcome.{done}
 use Rattle.tlv.specs.Lists.{Any, exists, take_while}
 use Rattle.tlv.specs.Fields.{Field, FieldList, end, cut, more, fields, whole_fields, payloads}
-use Rattle.tlv.specs.Cursor.{step_at}
+use Rattle.tlv.specs.Cursor.{step_at, field_from}
 use Rattle.tlv.specs.Grammar.{after, may_follow, payload_shaped, shaped, limited, next, check_from}
 use Rattle.tlv.specs.Tags.{encoding_tag, part_tag}
 use Rattle.tlv.specs.Checked.{field_in, Placed}
 use Rattle.tlv.proofs.TestLaws.{by_test, and_left, or_either}
-use Rattle.tlv.proofs.CursorLaws.{fields-field}
+use Rattle.tlv.proofs.FieldLaws.{is-step, fields-field}
 use Rattle.tlv.proofs.AcceptedGroups.{passed-both}
-use Rattle.tlv.proofs.PlaceFacts.{follows, next-previous, placed-rest}
+use Rattle.tlv.proofs.PlaceFacts.{follows, next-previous, placed-rest, placed-next}
 use Rattle.access.specs.Places.{own_fields}
 
 -- a field of this tag is no entry and no unit
@@ -56,11 +57,12 @@ module _ (tag : ℕ) (Late : ℕ → Type 0) (passing : Passing tag Late) where
       one f (whole_fields (more g gs)) late (λ own. none_left d g gs n (passing.keeps f.tag g.tag late own may) both.2)
 
   -- the same at a place
-  pub none_from : (s : List ℕ) (p : ℕ) (r : Step) (t start len past : ℕ) → Placed s p → r ≡ step_at s p → r ≡ Step.Field t start len past → Late t
+  pub none_from : (s : List ℕ) (p : ℕ) (f : FieldSpan) → Placed s p → Some f ≡ field_from s p → Late f.tag
       → payloads tag (own_fields (fields (drop p s))) ≡ []
-  none_from s p r t start len past h at e late =
-      rw (fields-field s p r t start len past at e)
-      (none_left h.context (field_in s t start len) (fields (drop past s)) h.count late (placed-rest s p r t start len past h at e))
+  none_from s p f h at late =
+      rw (fields-field s p f at)
+      (none_left h.context (field_in s f.tag f.start f.len) (fields (drop f.next s)) h.count late
+      (placed-rest s p (step_at s p) f.tag f.start f.len f.next h refl (is-step s p f at)))
 
 -- ---- rows: only rows may follow, and entries and units
 
@@ -108,11 +110,15 @@ passing-attributes = record { never = λ late own. late refl; keeps = keeps }
 
 -- ---- at a place
 
-module _ (s : List ℕ) (p : ℕ) (r : Step) (t start len past : ℕ) (h : Placed s p) (at : r ≡ step_at s p) (e : r ≡ Step.Field t start len past) where
+module _ (s : List ℕ) (p : ℕ) (f : FieldSpan) (h : Placed s p) (at : Some f ≡ field_from s p) where
   -- from a row on no field of another tag is a unit's own
-  pub none-after_row : (tag : ℕ) → (tag ≡ 0x16 → ⊥) → t ≡ 0x16 → payloads tag (own_fields (fields (drop p s))) ≡ []
-  none-after_row tag other is = none_from tag RowOrEnd (passing-rows tag other) s p r t start len past h at e (inr (inl is))
+  pub none-after_row : (tag : ℕ) → (tag ≡ 0x16 → ⊥) → f.tag ≡ 0x16 → payloads tag (own_fields (fields (drop p s))) ≡ []
+  none-after_row tag other is = none_from tag RowOrEnd (passing-rows tag other) s p f h at (inr (inl is))
 
   -- from a field that is no attribute on no attribute is the entry's
-  pub none-after-attributes : (t ≡ 0x18 → ⊥) → payloads 0x18 (own_fields (fields (drop p s))) ≡ []
-  none-after-attributes = none_from 0x18 (λ t. t ≡ 0x18 → ⊥) passing-attributes s p r t start len past h at e
+  pub none-after-attributes : (f.tag ≡ 0x18 → ⊥) → payloads 0x18 (own_fields (fields (drop p s))) ≡ []
+  none-after-attributes = none_from 0x18 (λ t. t ≡ 0x18 → ⊥) passing-attributes s p f h at
+
+  -- its next place is a place
+  pub next-placed : Placed s f.next
+  next-placed = placed-next s p (step_at s p) f.tag f.start f.len f.next h refl (is-step s p f at)

@@ -22,7 +22,7 @@ use Rattle.tlv.proofs.CursorLaws.{fields-at, fields-field, row-ind}
 use Rattle.tlv.proofs.ShapeLaws.{number_at, number-first}
 use Rattle.tlv.proofs.AcceptedGroups.{passed-both}
 use Rattle.tlv.proofs.PlacePromises.{placed-unit}
-use Rattle.access.specs.declared.access.Place.{Place}
+use Rattle.std.specs.Prelude.{Option, Some}
 use Rattle.access.specs.Places.{own_fields, unit_fields, unit_here, unit_places}
 use Rattle.access.specs.Access.{place_of}
 use Rattle.access.proofs.UnitPlaceLaws.{before-is, units-at}
@@ -86,13 +86,13 @@ all-unit_places s p h =
 
 -- ---- the unit of a number
 
-module _ (s : List ℕ) (k : ℕ) (r : Place) (e : place_of r ≡ at (unit_places 0 (fields s)) k) where
+module _ (s : List ℕ) (k : ℕ) where
   -- the answer is the unit's place
-  pub unit_of-place : at (units s) k ≡ map_option (unit_here s) (place_of r)
-  unit_of-place = units-at s k ∙ rw (← e)
+  pub unit_of-place : (r : Option ℕ) → place_of r ≡ at (unit_places 0 (fields s)) k → at (units s) k ≡ map_option (unit_here s) (place_of r)
+  unit_of-place r e = units-at s k ∙ rw (← e)
 
-  pub unit-placed : (q : ℕ) → r ≡ Place.At q → Placed s 0 → UnitAt s q
-  unit-placed q is h = given-some (UnitAt s) (at (unit_places 0 (fields s)) k) q (all-at (UnitAt s) (unit_places 0 (fields s)) k (all-unit_places s 0 h)) (rw is at (sym e))
+  pub unit-placed : (q : ℕ) → place_of (Some q) ≡ at (unit_places 0 (fields s)) k → Placed s 0 → UnitAt s q
+  unit-placed q e h = given-some (UnitAt s) (at (unit_places 0 (fields s)) k) q (all-at (UnitAt s) (unit_places 0 (fields s)) k (all-unit_places s 0 h)) (sym e)
 
 -- ---- what is in its fields
 

@@ -8,14 +8,16 @@ use native.Mathlib.Omega.{arith}
 use lib.Dec.{eqb}
 use lib.ListN.{length, take, drop}
 use borrow.Author.Tests.{eq-eqb, ne_eqb}
-use Rattle.tlv.specs.declared.fields.Step.{Step}
+use Rattle.std.specs.Prelude.{Some, None}
+use Rattle.tlv.specs.declared.fields.FieldSpan.{FieldSpan}
 use Rattle.tlv.specs.Lists.{take_while, at, map_option}
-use Rattle.tlv.specs.Fields.{Field, more, fields, Groups, whole_fields, grouped}
+use Rattle.tlv.specs.Fields.{Field, FieldList, more, fields, Groups, whole_fields, grouped}
 use Rattle.tlv.specs.Model.{CompilationUnit, unit_of, units}
-use Rattle.tlv.specs.Cursor.{step_at, fields_of}
+use Rattle.tlv.specs.Cursor.{field_from}
 use Rattle.tlv.specs.Checked.{field_in}
 use Rattle.tlv.proofs.ListLaws.{at-image}
-use Rattle.tlv.proofs.CursorLaws.{fields-at, field-within, payload-length, row-ind}
+use Rattle.tlv.proofs.CursorLaws.{row-ind}
+use Rattle.tlv.proofs.FieldLaws.{at-none, fields-field, field-within, payload-length}
 use Rattle.access.specs.Places.{unit_fields, unit_here, unit_places}
 
 -- ---- the units and their places
@@ -69,30 +71,26 @@ unfolding at
 at-later x xs zero h = absurd (h refl)
 at-later x xs (suc k) h = let less : suc k - 1 ≡ k = omega arith in rw less
 
-module _ (s : List ℕ) (p k : ℕ) (o : Option ℕ) (r : Step) (inv : o ≡ at (unit_places p (fields (drop p s))) k) (reads : r ≡ step_at s p) where
-  turn : o ≡ at (unit_places p (fields_of s r)) k
-  turn = inv ∙ rw (fields-at s p, ← reads)
-
-  pub unit-end : r ≡ Step.End → none ≡ o
+module _ (s : List ℕ) (p k : ℕ) (o : Option ℕ) (inv : o ≡ at (unit_places p (fields (drop p s))) k) where
+  pub unit-end : None ≡ field_from s p → none ≡ o
   unfolding unit_places at
-  unit-end e = sym (rw e at turn)
+  unit-end reads = sym (inv ∙ at-none s p reads (λ (fs : FieldList). at (unit_places p fs) k ≡ none) refl refl)
 
-  pub unit-cut : r ≡ Step.Cut → none ≡ o
-  unfolding unit_places at
-  unit-cut e = sym (rw e at turn)
+  module _ (f : FieldSpan) (reads : Some f ≡ field_from s p) where
+    next-is : p + 3 + length (take f.len (drop f.start s)) ≡ f.next
+    next-is = let w = field-within s p f reads in omega (arith, payload-length s p f reads)
 
-  module _ (t start len next : ℕ) (e : r ≡ Step.Field t start len next) where
-    next-is : p + 3 + length (take len (drop start s)) ≡ next
-    next-is = let w = field-within s p r t start len next reads e in omega (arith, payload-length s p r t start len next reads e)
+    turn : o ≡ at (unit_places p (more (field_in s f.tag f.start f.len) (fields (drop f.next s)))) k
+    turn = inv ∙ rw (fields-field s p f reads)
 
-    pub unit-found : t ≡ 0x10 → k ≡ 0 → some p ≡ o
+    pub unit-found : f.tag ≡ 0x10 → k ≡ 0 → some p ≡ o
     unfolding unit_places at
-    unit-found h z = sym (rw (e, eq-eqb t 0x10 h, z) at turn)
+    unit-found h z = sym (rw (eq-eqb f.tag 0x10 h, z) at turn)
 
-    pub unit-passed : t ≡ 0x10 → (k ≡ 0 → ⊥) → o ≡ at (unit_places next (fields (drop next s))) (k - 1)
+    pub unit-passed : f.tag ≡ 0x10 → (k ≡ 0 → ⊥) → o ≡ at (unit_places f.next (fields (drop f.next s))) (k - 1)
     unfolding unit_places
-    unit-passed h z = rw (e, eq-eqb t 0x10 h, next-is) at turn ∙ at-later p (unit_places next (fields (drop next s))) k z
+    unit-passed h z = rw (eq-eqb f.tag 0x10 h, next-is) at turn ∙ at-later p (unit_places f.next (fields (drop f.next s))) k z
 
-    pub unit-other : (t ≡ 0x10 → ⊥) → o ≡ at (unit_places next (fields (drop next s))) k
+    pub unit-other : (f.tag ≡ 0x10 → ⊥) → o ≡ at (unit_places f.next (fields (drop f.next s))) k
     unfolding unit_places
-    unit-other h = rw (e, ne_eqb t 0x10 h, next-is) at turn
+    unit-other h = rw (ne_eqb f.tag 0x10 h, next-is) at turn

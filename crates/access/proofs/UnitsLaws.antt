@@ -5,12 +5,13 @@ use mathlib.Core.List.{List, [], ◌∷◌, ◌++◌, map, append-nil, append_as
 use Prim.Native.Nat.{ℕ, ◌+◌, ◌*◌, ◌≤◌}
 use native.Mathlib.Omega.{arith}
 use lib.ListN.{length, take, drop, length-append, length-map}
-use Rattle.tlv.specs.declared.fields.Step.{Step}
+use Rattle.std.specs.Prelude.{Some, None}
+use Rattle.tlv.specs.declared.fields.FieldSpan.{FieldSpan}
 use Rattle.tlv.specs.Bytes.{le_at}
-use Rattle.tlv.specs.Fields.{fields}
-use Rattle.tlv.specs.Cursor.{step_at}
+use Rattle.tlv.specs.Fields.{FieldList, fields}
+use Rattle.tlv.specs.Cursor.{step_at, field_from}
 use Rattle.tlv.specs.Checked.{field_in, Placed}
-use Rattle.tlv.proofs.CursorLaws.{fields-at, fields-field, field-within, payload-length, payload-within}
+use Rattle.tlv.proofs.FieldLaws.{is-step, at-none, fields-field, field-within, payload-length, payload-within}
 use Rattle.tlv.proofs.PlaceFacts.{placed-next}
 use Rattle.tlv.proofs.PlacePromises.{placed-unit}
 use Rattle.buffers.specs.Table.{chunk, records, Kept, Wrote}
@@ -47,31 +48,28 @@ put-unit {w} {w₁} {w₂} {w₃} {p} {o} {n} {q} A B C = record {
 
 -- ---- the units from a place on
 
-module _ (s : List ℕ) (p : ℕ) (r : Step) (at : r ≡ step_at s p) where
-  places-end : r ≡ Step.End → unit_places p (fields (drop p s)) ≡ []
+module _ (s : List ℕ) (p : ℕ) where
+  places-end : None ≡ field_from s p → unit_places p (fields (drop p s)) ≡ []
   unfolding unit_places
-  places-end e = rw (fields-at s p, ← at, e)
+  places-end at = at-none s p at (λ (fs : FieldList). unit_places p fs ≡ []) refl refl
 
-  places-cut : r ≡ Step.Cut → unit_places p (fields (drop p s)) ≡ []
-  unfolding unit_places
-  places-cut e = rw (fields-at s p, ← at, e)
+  module _ (f : FieldSpan) (at : Some f ≡ field_from s p) where
+    past_is : p + 3 + length (take f.len (drop f.start s)) ≡ f.next
+    past_is = let w = field-within s p f at in omega (arith, payload-length s p f at)
 
-  module _ (t start len past : ℕ) (e : r ≡ Step.Field t start len past) where
-    past_is : p + 3 + length (take len (drop start s)) ≡ past
-    past_is = let w = field-within s p r t start len past at e in omega (arith, payload-length s p r t start len past at e)
+    places-here : f.tag ≡ 0x10 → unit_places p (fields (drop p s)) ≡ p ∷ unit_places f.next (fields (drop f.next s))
+    places-here is = rw (fields-field s p f at) (places-unit p (field_in s f.tag f.start f.len) (fields (drop f.next s)) f.next past_is is)
 
-    places-here : t ≡ 0x10 → unit_places p (fields (drop p s)) ≡ p ∷ unit_places past (fields (drop past s))
-    places-here is = rw (fields-field s p r t start len past at e) (places-unit p (field_in s t start len) (fields (drop past s)) past past_is is)
-
-    places-past : (t ≡ 0x10 → ⊥) → unit_places p (fields (drop p s)) ≡ unit_places past (fields (drop past s))
-    places-past h = rw (fields-field s p r t start len past at e) (places-other p (field_in s t start len) (fields (drop past s)) past past_is h)
+    places-past : (f.tag ≡ 0x10 → ⊥) → unit_places p (fields (drop p s)) ≡ unit_places f.next (fields (drop f.next s))
+    places-past h = rw (fields-field s p f at) (places-other p (field_in s f.tag f.start f.len) (fields (drop f.next s)) f.next past_is h)
 
     -- the unit at p, of the offset o and the length n
-    indexed-here : (o n : ℕ) → Placed s p → t ≡ 0x10 → o ≡ le_at 8 s start → n ≡ le_at 8 s (start + 8) → indexed_unit s p ≡ record { offset = o; length = n; place = p }
+    indexed-here : (o n : ℕ) → Placed s p → f.tag ≡ 0x10 → o ≡ le_at 8 s f.start → n ≡ le_at 8 s (f.start + 8)
+        → indexed_unit s p ≡ record { offset = o; length = n; place = p }
     unfolding indexed_unit
     indexed-here o n h is eo en = λ i. record {
-      offset = (unit-offset s p r t start len past at e h is ∙ sym eo) i;
-      length = (unit-length s p r t start len past at e h is ∙ sym en) i;
+      offset = (unit-offset s p (step_at s p) f.tag f.start f.len f.next refl (is-step s p f at) h is ∙ sym eo) i;
+      length = (unit-length s p (step_at s p) f.tag f.start f.len f.next refl (is-step s p f at) h is ∙ sym en) i;
       place = p;
     }
 
@@ -103,50 +101,49 @@ module _ {s w₀ w : List ℕ} {base p n : ℕ} (I : Listing s w₀ w base p n) 
         size = I.size;
       }
 
-  module _ (r : Step) (at : r ≡ step_at s p) where
-    pub listing-end : r ≡ Step.End → IndexedUnits s w₀ w base n
-    listing-end e = listing-done (places-end s p r at e)
+  pub listing-end : None ≡ field_from s p → IndexedUnits s w₀ w base n
+  listing-end at = listing-done (places-end s p at)
 
-    pub listing-cut : r ≡ Step.Cut → IndexedUnits s w₀ w base n
-    listing-cut e = listing-done (places-cut s p r at e)
+  module _ (f : FieldSpan) (at : Some f ≡ field_from s p) where
+    long : f.tag ≡ 0x10 → f.start + 18 ≤ length s
+    long is =
+        let l = placed-unit s p (step_at s p) f.tag f.start f.len f.next I.placed refl (is-step s p f at) is in
+        let w = payload-within s p f at in
+        omega arith
 
-    module _ (t start len past : ℕ) (e : r ≡ Step.Field t start len past) where
-      -- the offset and the length of a unit can be read
-      pub offset_read : t ≡ 0x10 → start + 8 ≤ length s
-      offset_read is =
-          let l = placed-unit s p r t start len past I.placed at e is in
-          let w = payload-within s p r t start len past at e in
-          omega arith
+    -- the offset and the length of a unit can be read
+    pub offset_read : f.tag ≡ 0x10 → f.start + 8 ≤ length s
+    offset_read is = let l = long is in omega arith
 
-      pub length-read : t ≡ 0x10 → start + 8 + 8 ≤ length s
-      length-read is =
-          let l = placed-unit s p r t start len past I.placed at e is in
-          let w = payload-within s p r t start len past at e in
-          omega arith
+    pub length-read : f.tag ≡ 0x10 → f.start + 8 + 8 ≤ length s
+    length-read is = let l = long is in omega arith
 
-      -- and there is room for its record
-      pub unit-room : t ≡ 0x10 → base + 24 * length (unit_places 0 (fields s)) ≤ length w₀ → base + n * 24 + 24 ≤ length w
-      unit-room is h =
-          let count = ap length I.left in
-          let size = I.size in
-          omega (arith, rw (places-here s p r at t start len past e is, length-append, records-length, length-map, length-map) at count)
+    -- and there is room for its record
+    pub unit-room : f.tag ≡ 0x10 → base + 24 * length (unit_places 0 (fields s)) ≤ length w₀ → base + n * 24 + 24 ≤ length w
+    unit-room is h =
+        let count = ap length I.left in
+        let size = I.size in
+        omega (arith, rw (places-here s p f at is, length-append, records-length, length-map, length-map) at count)
 
-      pub turn-listed : (o m : ℕ) {w' : List ℕ} → t ≡ 0x10 → o ≡ le_at 8 s start → m ≡ le_at 8 s (start + 8) → PutUnit w w' (base + n * 24) o m p → length w' ≡ length w
-          → Listing s w₀ w' base past (n + 1)
-      turn-listed o m {w'} is eo em P same =
-          let here = indexed-here s p r at t start len past e o m I.placed is eo em in
-          record {
-            placed = placed-next s p r t start len past I.placed at e;
-            left = rw (records-push unit_of24 24 base n (indexed_unit s p) P.rest (P.unit ∙ sym here), append_assoc)
-                (rw (places-here s p r at t start len past e is) at I.left);
-            rest = kept_trans (kept-wide base (24 * (n + 1)) I.rest (omega arith) (omega arith)) (kept-wide base (24 * (n + 1)) P.rest (omega arith) (omega arith));
-            size = same ∙ I.size;
-          }
+    next-placed : Placed s f.next
+    next-placed = placed-next s p (step_at s p) f.tag f.start f.len f.next I.placed refl (is-step s p f at)
 
-      pub turn-passed : (t ≡ 0x10 → ⊥) → Listing s w₀ w base past n
-      turn-passed h = record {
-        placed = placed-next s p r t start len past I.placed at e;
-        left = rw (← places-past s p r at t start len past e h) I.left;
-        rest = I.rest;
-        size = I.size;
-      }
+    pub turn-listed : (o m : ℕ) {w' : List ℕ} → f.tag ≡ 0x10 → o ≡ le_at 8 s f.start → m ≡ le_at 8 s (f.start + 8) → PutUnit w w' (base + n * 24) o m p
+        → length w' ≡ length w → Listing s w₀ w' base f.next (n + 1)
+    turn-listed o m {w'} is eo em P same =
+        let here = indexed-here s p f at o m I.placed is eo em in
+        record {
+          placed = next-placed;
+          left = rw (records-push unit_of24 24 base n (indexed_unit s p) P.rest (P.unit ∙ sym here), append_assoc)
+              (rw (places-here s p f at is) at I.left);
+          rest = kept_trans (kept-wide base (24 * (n + 1)) I.rest (omega arith) (omega arith)) (kept-wide base (24 * (n + 1)) P.rest (omega arith) (omega arith));
+          size = same ∙ I.size;
+        }
+
+    pub turn-passed : (f.tag ≡ 0x10 → ⊥) → Listing s w₀ w base f.next n
+    turn-passed h = record {
+      placed = next-placed;
+      left = rw (← places-past s p f at h) I.left;
+      rest = I.rest;
+      size = I.size;
+    }

@@ -1,40 +1,38 @@
 -- Contract. What is read at the places of a sheet: the next field of a tag, the value of an attribute, the place of a unit.
-use Rattle.std.specs.Prelude.{◌≡◌, Bool, cond, List, [], ◌∷◌, ℕ, ◌+◌, ◌≤◌, ◌<◌, eqb, length, take, drop}
-use Rattle.std.proofs.Math.Option.{Option, none, some}
-use Rattle.tlv.specs.declared.fields.Step.{Step}
+use Rattle.std.specs.Prelude.{Option, Some, None, ◌≡◌, Bool, cond, List, [], ◌∷◌, ℕ, ◌+◌, ◌≤◌, ◌<◌, eqb, length, take, drop}
+use Rattle.std.proofs.Math.Option.{none, some}
+use Rattle.std.proofs.Math.Option as math
+use Rattle.tlv.specs.declared.fields.FieldSpan.{FieldSpan}
 use Rattle.tlv.specs.Fields.{fields, payloads}
 use Rattle.tlv.specs.Model.{Attribute}
-use Rattle.tlv.specs.Cursor.{step_at}
+use Rattle.tlv.specs.Cursor.{field_from}
 use Rattle.tlv.specs.Checked.{Placed}
-use Rattle.access.specs.declared.access.Own.{Own}
 use Rattle.access.specs.declared.access.Value.{Value}
-use Rattle.access.specs.declared.access.Place.{Place}
 use Rattle.access.specs.Places.{own_fields}
 
 -- ---- the next field of a tag before the next entry or unit
 
 -- the payloads that an answer begins
-abbrev pub own_payloads : List ℕ → ℕ → Own → List (List ℕ)
-own_payloads s tag (Own.Field start len next) = take len (drop start s) ∷ payloads tag (own_fields (fields (drop next s)))
-own_payloads s tag Own.Missing = []
+abbrev pub own_payloads : List ℕ → ℕ → Option FieldSpan → List (List ℕ)
+own_payloads s tag (Some f) = take f.len (drop f.start s) ∷ payloads tag (own_fields (fields (drop f.next s)))
+own_payloads s tag None = []
 
-abbrev pub OwnWithin : List ℕ → ℕ → Own → Type 0
-OwnWithin s p (Own.Field start len next) = (start + len ≤ length s) × (p < next) × (next ≤ length s)
-OwnWithin s p Own.Missing = Unit
+abbrev pub OwnWithin : List ℕ → ℕ → Option FieldSpan → Type 0
+OwnWithin s p (Some f) = (f.start + f.len ≤ length s) × (p < f.next) × (f.next ≤ length s)
+OwnWithin s p None = Unit
 
 -- the field stands at a place, and that is a place of an accepted sheet where p is one
-pub record Standing (s : List ℕ) (p tag start len next : ℕ) : Type 0 where
+pub record Standing (s : List ℕ) (p tag : ℕ) (f : FieldSpan) : Type 0 where
   pub place : ℕ
-  pub step : Step
-  pub reads : step ≡ step_at s place
-  pub is : step ≡ Step.Field tag start len next
+  pub reads : Some f ≡ field_from s place
+  pub tagged : f.tag ≡ tag
   pub placed : Placed s p → Placed s place
 
-abbrev pub OwnStanding : List ℕ → ℕ → ℕ → Own → Type 0
-OwnStanding s p tag (Own.Field start len next) = Standing s p tag start len next
-OwnStanding s p tag Own.Missing = Unit
+abbrev pub OwnStanding : List ℕ → ℕ → ℕ → Option FieldSpan → Type 0
+OwnStanding s p tag (Some f) = Standing s p tag f
+OwnStanding s p tag None = Unit
 
-pub record NextOwn (s : List ℕ) (p tag : ℕ) (r : Own) : Type 0 where
+pub record NextOwn (s : List ℕ) (p tag : ℕ) (r : Option FieldSpan) : Type 0 where
   pub is : own_payloads s tag r ≡ payloads tag (own_fields (fields (drop p s)))
   pub within : OwnWithin s p r
   pub stands : OwnStanding s p tag r
@@ -74,7 +72,7 @@ value_of a =
     (cond (eqb k 9) (address n)
     failed))))))))
 
-unfoldable pub meaning_of : Option Attribute → Meaning
+unfoldable pub meaning_of : math.Option Attribute → Meaning
 meaning_of none = absent
 meaning_of (some a) = value_of a
 
@@ -93,7 +91,6 @@ number_value k n =
 
 -- what a value that is handed out means, in its sheet
 abbrev pub meant : List ℕ → Value → Meaning
-meant s Value.Absent = absent
 meant s (Value.Unsigned n) = unsigned n
 meant s (Value.FileNumber n) = file_number n
 meant s (Value.Text start len) = text (take len (drop start s))
@@ -107,7 +104,6 @@ meant s Value.Failed = failed
 
 -- a text lies inside the sheet
 abbrev pub ValueWithin : List ℕ → Value → Type 0
-ValueWithin s Value.Absent = Unit
 ValueWithin s (Value.Unsigned n) = Unit
 ValueWithin s (Value.FileNumber n) = Unit
 ValueWithin s (Value.Text start len) = start + len ≤ length s
@@ -119,12 +115,21 @@ ValueWithin s (Value.LineOffset n) = Unit
 ValueWithin s (Value.Address n) = Unit
 ValueWithin s Value.Failed = Unit
 
-pub record Says (s : List ℕ) (r : Value) (m : Meaning) : Type 0 where
-  pub is : meant s r ≡ m
-  pub within : ValueWithin s r
+-- .. and where there is none
+abbrev pub said : List ℕ → Option Value → Meaning
+said s (Some v) = meant s v
+said s None = absent
+
+abbrev pub SaidWithin : List ℕ → Option Value → Type 0
+SaidWithin s (Some v) = ValueWithin s v
+SaidWithin s None = Unit
+
+pub record Says (s : List ℕ) (r : Option Value) (m : Meaning) : Type 0 where
+  pub is : said s r ≡ m
+  pub within : SaidWithin s r
 
 -- ---- the place of a unit
 
-abbrev pub place_of : Place → Option ℕ
-place_of (Place.At p) = some p
-place_of Place.Missing = none
+abbrev pub place_of : Option ℕ → math.Option ℕ
+place_of (Some p) = some p
+place_of None = none

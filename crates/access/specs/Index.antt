@@ -1,12 +1,13 @@
 -- Contract. The index of a sheet's entries in the work slice, and a search in it: what its functions promise.
-use Rattle.std.specs.Prelude.{◌≡◌, cond, List, [], ◌∷◌, ℕ, suc, ◌*◌, ◌≤◌, eqb, ltb, length}
-use Rattle.std.proofs.Math.Option.{Option, none, some}
+use Rattle.std.specs.Prelude.{Option, Some, None, ◌≡◌, cond, List, [], ◌∷◌, ℕ, suc, ◌*◌, ◌≤◌, eqb, ltb, length}
+use Rattle.std.proofs.Math.Option.{none, some}
+use Rattle.std.proofs.Math.Option as math
 use Rattle.tlv.specs.Lists.{first}
 use Rattle.tlv.specs.Bytes.{le_at}
 use Rattle.tlv.specs.Fields.{fields}
 use Rattle.tlv.specs.Model.{Entry}
 use Rattle.buffers.specs.Table.{chunk, records, Kept}
-use Rattle.access.specs.declared.index.Found.{Found}
+use Rattle.access.specs.declared.index.EntryPlace.{EntryPlace}
 use Rattle.access.specs.Places.{IndexedEntry, entry_index, entry_here}
 
 -- bytes of a record of the table
@@ -40,7 +41,7 @@ abbrev pub Rising : List IndexedEntry → Type 0
 Rising es = RisingFrom 0 es
 
 -- the first entry of an offset
-unfoldable pub lookup : ℕ → List IndexedEntry → Option IndexedEntry
+unfoldable pub lookup : ℕ → List IndexedEntry → math.Option IndexedEntry
 lookup o es = first (λ e. eqb e.offset o) es
 
 -- how many entries stand before the first whose offset is o or more
@@ -49,11 +50,11 @@ lower_than o [] = 0
 lower_than o (e ∷ es) = cond (ltb e.offset o) (suc (lower_than o es)) 0
 
 -- the entry that an answer to a search for o stands for
-abbrev pub found_of : ℕ → Found → Option IndexedEntry
-found_of o (Found.At place unit) = some (record { offset = o; place = place; unit = unit })
-found_of o Found.Missing = none
+abbrev pub found_of : ℕ → Option EntryPlace → math.Option IndexedEntry
+found_of o (Some e) = some (record { offset = o; place = e.place; unit = e.unit })
+found_of o None = none
 
 -- the entry of the unit at q that an entry of the index stands for: none if it is another unit's
-unfoldable pub entry_in : List ℕ → ℕ → Option IndexedEntry → Option Entry
+unfoldable pub entry_in : List ℕ → ℕ → math.Option IndexedEntry → math.Option Entry
 entry_in s q none = none
 entry_in s q (some e) = cond (eqb e.unit q) (some (entry_here s e.place)) none

@@ -6,9 +6,9 @@ ghost use Rattle.tlv.specs.Checked.{Placed};
 ghost use Rattle.buffers.specs.Table.{records};
 ghost use Rattle.access.specs.Index.{indexed_of, PutEntry, Indexed, Rising, lookup, lower_than, found_of, entry_record};
 
-use buffers::table::{set_u32, set_u64};
-use tlv::bytes::{read_u32, read_u64};
-use tlv::fields::{Step, field_at};
+use buffers::numbers::Written;
+use tlv::bytes::Number;
+use tlv::fields::next_field;
 use tlv::tags::{ENTRY_TAG, UNIT_TAG};
 
 // Bytes of a record of the table.
@@ -21,9 +21,9 @@ fn put_entry(work: &mut [u8], p: usize, offset: u64, place: usize, unit: usize)
     requires unit_bound { unit < 2 ^ 32 }
     ensures { PutEntry work.old work.new p offset place unit }
 {
-    set_u64(work, p, offset);
-    set_u32(work, p + 8, place as u32);
-    set_u32(work, p + 12, unit as u32);
+    offset.write(work, p);
+    (place as u32).write(work, p + 8);
+    (unit as u32).write(work, p + 12);
 }
 
 // Writes a record for each field 17 of an accepted sheet, and returns their number.
@@ -37,41 +37,25 @@ pub fn index_entries(s: &[u8], work: &mut [u8], base: usize) -> usize
     let mut n: usize = 0;
     let mut unit: usize = 0;
     let mut offset: u64 = 0;
-    loop {
-        match field_at(s, p) {
-            Step::End => {
-                return n;
-            }
-            Step::Cut => {
-                return n;
-            }
-            Step::Field {
-                tag,
-                start,
-                len: _,
-                next,
-            } => {
-                if tag == UNIT_TAG {
-                    offset = read_u64(s, start);
-                    unit = p;
-                    p = next;
-                } else if tag == ENTRY_TAG {
-                    let own = read_u64(s, start);
-                    put_entry(work, base + n * ENTRY_RECORD, offset + own, p, unit);
-                    n += 1;
-                    p = next;
-                } else {
-                    p = next;
-                }
-            }
+    while let Some(field) = next_field(s, p) {
+        if field.tag == UNIT_TAG {
+            offset = u64::read(s, field.start);
+            unit = p;
+        } else if field.tag == ENTRY_TAG {
+            let own = u64::read(s, field.start);
+            put_entry(work, base + n * ENTRY_RECORD, offset + own, p, unit);
+            n += 1;
         }
+        p = field.next;
     }
+    n
 }
 
-#[derive(Clone, Copy)]
-pub enum Found {
-    At { place: usize, unit: usize },
-    Missing,
+// Where an entry stands, and the unit that it is in.
+#[derive(Clone, Copy, Debug)]
+pub struct EntryPlace {
+    pub place: usize,
+    pub unit: usize,
 }
 
 // How many of the n records have a lower offset: a binary search.
@@ -80,11 +64,12 @@ fn lower_entry(work: &[u8], base: usize, n: usize, offset: u64) -> usize
     requires rising { Rising (records indexed_of 16 work.now base n) }
     ensures { result ≡ lower_than offset (records indexed_of 16 work.now base n) }
 {
+    // Stays a search by hand: the records lie as bytes in the work slice, which no method of slices reaches.
     let mut lo: usize = 0;
     let mut hi = n;
     while lo < hi {
         let mid = lo + (hi - lo) / 2;
-        if read_u64(work, base + mid * ENTRY_RECORD) < offset {
+        if u64::read(work, base + mid * ENTRY_RECORD) < offset {
             lo = mid + 1;
         } else {
             hi = mid;
@@ -94,21 +79,21 @@ fn lower_entry(work: &[u8], base: usize, n: usize, offset: u64) -> usize
 }
 
 // The entry of an offset, of a table of n records.
-pub fn find_entry(work: &[u8], base: usize, n: usize, offset: u64) -> Found
+pub fn find_entry(work: &[u8], base: usize, n: usize, offset: u64) -> Option<EntryPlace>
     requires n_in_bounds { base + entry_record * n ≤ length work.now }
     requires rising { Rising (records indexed_of 16 work.now base n) }
     ensures { found_of offset result ≡ lookup offset (records indexed_of 16 work.now base n) }
 {
     let i = lower_entry(work, base, n, offset);
     if n <= i {
-        return Found::Missing;
+        return None;
     }
     let p = base + i * ENTRY_RECORD;
-    if read_u64(work, p) != offset {
-        return Found::Missing;
+    if u64::read(work, p) != offset {
+        return None;
     }
-    Found::At {
-        place: read_u32(work, p + 8) as usize,
-        unit: read_u32(work, p + 12) as usize,
-    }
+    Some(EntryPlace {
+        place: u32::read(work, p + 8) as usize,
+        unit: u32::read(work, p + 12) as usize,
+    })
 }

@@ -7,10 +7,9 @@ ghost use Rattle.access.specs.Places.{unit_places};
 ghost use Rattle.access.specs.Access.{place_of};
 ghost use Rattle.access.specs.Units.{unit_of24, PutUnit, IndexedUnits, containing, unit_record};
 
-use crate::access::Place;
-use buffers::table::set_u64;
-use tlv::bytes::read_u64;
-use tlv::fields::{Step, field_at};
+use buffers::numbers::Written;
+use tlv::bytes::Number;
+use tlv::fields::next_field;
 use tlv::tags::UNIT_TAG;
 
 // Bytes of a record of the table.
@@ -21,9 +20,9 @@ fn put_unit(work: &mut [u8], p: usize, offset: u64, size: u64, place: usize)
     requires { p + 24 ≤ length work.old }
     ensures { PutUnit work.old work.new p offset size place }
 {
-    set_u64(work, p, offset);
-    set_u64(work, p + 8, size);
-    set_u64(work, p + 16, place as u64);
+    offset.write(work, p);
+    size.write(work, p + 8);
+    (place as u64).write(work, p + 16);
 }
 
 // Writes a record for each field 10 of an accepted sheet, and returns their number.
@@ -34,51 +33,30 @@ pub fn index_units(s: &[u8], work: &mut [u8], base: usize) -> usize
 {
     let mut p: usize = 0;
     let mut n: usize = 0;
-    loop {
-        match field_at(s, p) {
-            Step::End => {
-                return n;
-            }
-            Step::Cut => {
-                return n;
-            }
-            Step::Field {
-                tag,
-                start,
-                len: _,
-                next,
-            } => {
-                if tag == UNIT_TAG {
-                    let offset = read_u64(s, start);
-                    let size = read_u64(s, start + 8);
-                    put_unit(work, base + n * UNIT_RECORD, offset, size, p);
-                    n += 1;
-                    p = next;
-                } else {
-                    p = next;
-                }
-            }
+    while let Some(field) = next_field(s, p) {
+        if field.tag == UNIT_TAG {
+            let offset = u64::read(s, field.start);
+            let size = u64::read(s, field.start + 8);
+            put_unit(work, base + n * UNIT_RECORD, offset, size, p);
+            n += 1;
         }
+        p = field.next;
     }
+    n
 }
 
 // The place of the first unit of a table of n records that has the offset target in it.
-pub fn unit_containing_offset(work: &[u8], base: usize, n: usize, target: u64) -> Place
+pub fn unit_containing_offset(work: &[u8], base: usize, n: usize, target: u64) -> Option<usize>
     requires { base + unit_record * n ≤ length work.now }
     ensures { place_of result ≡ containing target (records unit_of24 24 work.now base n) }
 {
-    let mut i: usize = 0;
-    while i < n {
+    for i in 0..n {
         let p = base + i * UNIT_RECORD;
-        let offset = read_u64(work, p);
-        let size = read_u64(work, p + 8);
-        if target < offset {
-            i += 1;
-        } else if target - offset < size {
-            return Place::At(read_u64(work, p + 16) as usize);
-        } else {
-            i += 1;
+        let offset = u64::read(work, p);
+        let size = u64::read(work, p + 8);
+        if offset <= target && target - offset < size {
+            return Some(u64::read(work, p + 16) as usize);
         }
     }
-    Place::Missing
+    None
 }

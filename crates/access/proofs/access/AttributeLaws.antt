@@ -3,23 +3,24 @@ use mathlib.Core.Path.{◌≡◌, refl, sym, ap, ◌∙◌}
 use mathlib.Core.Bool.{Bool, true, false, cond}
 use mathlib.Core.List.{List, [], ◌∷◌, map}
 use mathlib.Core.Option.{some}
-use Prim.Native.Nat.{ℕ, ◌+◌, ◌-◌, ◌≤◌, ◌<◌}
+use Prim.Native.Nat.{ℕ, ◌+◌, ◌-◌, ◌≤◌}
 use native.Mathlib.Omega.{arith}
 use lib.Dec.{eqb}
 use lib.ListN.{length, take, drop}
 use borrow.Author.Tests.{leb-true, eqb-true, eq-eqb, ne_eqb}
-use Rattle.tlv.specs.declared.fields.Step.{Step}
+use Rattle.std.specs.Prelude.{Some, None}
+use Rattle.tlv.specs.declared.fields.FieldSpan.{FieldSpan}
 use Rattle.tlv.specs.Lists.{first, take_while}
 use Rattle.tlv.specs.Bytes.{le_at}
-use Rattle.tlv.specs.Fields.{fields, whole_fields, payloads}
-use Rattle.tlv.specs.Cursor.{step_at}
+use Rattle.tlv.specs.Fields.{FieldList, fields, whole_fields, payloads}
+use Rattle.tlv.specs.Cursor.{step_at, field_from}
 use Rattle.tlv.specs.Grammar.{may_follow, value_shaped, attribute_shaped, payload_shaped, shaped}
 use Rattle.tlv.specs.Model.{attribute_of}
 use Rattle.tlv.specs.Checked.{Placed}
 use Rattle.tlv.proofs.TestLaws.{by_test, and_left, and_right}
 use Rattle.tlv.proofs.WidthLaws.{drop_part}
 use Rattle.tlv.proofs.ShapeLaws.{part_length, number_at, number-first}
-use Rattle.tlv.proofs.CursorLaws.{fields-at, payload-within, fields-field}
+use Rattle.tlv.proofs.FieldLaws.{is-step, at-none, payload-within, fields-field}
 use Rattle.tlv.proofs.PlaceFacts.{placed-shaped}
 use Rattle.access.specs.declared.access.Value.{Value}
 use Rattle.access.specs.Places.{own_fields}
@@ -55,7 +56,7 @@ module _ (s : List ℕ) (start len : ℕ) (fits : start + len ≤ length s) (sh 
   pub attribute-wide : 3 ≤ len
   attribute-wide = both.0
 
-  pub kind-within : start + 2 < length s
+  pub kind-within : start + 2 + 1 ≤ length s
   kind-within = let w = attribute-wide in omega arith
 
   module _ (k : ℕ) (ek : k ≡ le_at 1 s (start + 2)) where
@@ -73,16 +74,16 @@ module _ (s : List ℕ) (start len : ℕ) (fits : start + len ≤ length s) (sh 
     pub number-inside : (k ≡ 3 → ⊥) → (k ≡ 10 → ⊥) → start + 3 + 8 ≤ length s
     number-inside three ten = let w = number-wide three ten in omega arith
 
-    pub says-text : k ≡ 3 → Says s (Value.Text (start + 3) (len - 3)) (value_of (attribute_of (take len (drop start s))))
+    pub says-text : k ≡ 3 → Says s (Some (Value.Text (start + 3) (len - 3))) (value_of (attribute_of (take len (drop start s))))
     unfolding value_of attribute_of
     says-text three = let wide = attribute-wide in record { is = rw (kind-is, three, drop_part s start len 3); within = omega arith }
 
-    pub says-failed : k ≡ 10 → Says s Value.Failed (value_of (attribute_of (take len (drop start s))))
+    pub says-failed : k ≡ 10 → Says s (Some Value.Failed) (value_of (attribute_of (take len (drop start s))))
     unfolding value_of attribute_of
     says-failed ten = record { is = rw (kind-is, ten); within = tt }
 
     pub says-number : (n : ℕ) (r : Value) → (k ≡ 3 → ⊥) → (k ≡ 10 → ⊥) → n ≡ le_at 8 s (start + 3) → r ≡ number_value k n
-        → Says s r (value_of (attribute_of (take len (drop start s))))
+        → Says s (Some r) (value_of (attribute_of (take len (drop start s))))
     unfolding value_of attribute_of number_value
     says-number n r three ten en er =
         let wide = number-wide three ten in
@@ -93,57 +94,53 @@ module _ (s : List ℕ) (start len : ℕ) (fits : start + len ≤ length s) (sh 
 
 -- ---- a turn of the loop: m is what is looked for
 
-module _ (s : List ℕ) (p name : ℕ) (r : Step) (m : Meaning)
-    (inv : m ≡ meaning_of (first (is_named name) (map attribute_of (payloads 0x18 (own_fields (fields (drop p s)))))))
-    (reads : r ≡ step_at s p) where
+module _ (s : List ℕ) (p name : ℕ) (m : Meaning) (inv : m ≡ meaning_of (first (is_named name) (map attribute_of (payloads 0x18 (own_fields (fields (drop p s))))))) where
   -- no attribute is left
-  absent-where : payloads 0x18 (own_fields (fields (drop p s))) ≡ [] → Says s Value.Absent m
+  absent-where : payloads 0x18 (own_fields (fields (drop p s))) ≡ [] → Says s None m
   unfolding first meaning_of
   absent-where none = record { is = sym (rw none at inv); within = tt }
 
-  pub absent-end : r ≡ Step.End → Says s Value.Absent m
+  pub absent-end : None ≡ field_from s p → Says s None m
   unfolding own_fields take_while whole_fields payloads
-  absent-end e = absent-where (rw (fields-at s p, ← reads, e))
+  absent-end reads = absent-where (at-none s p reads (λ (fs : FieldList). payloads 0x18 (own_fields fs) ≡ []) refl refl)
 
-  pub absent-cut : r ≡ Step.Cut → Says s Value.Absent m
-  unfolding own_fields take_while whole_fields payloads
-  absent-cut e = absent-where (rw (fields-at s p, ← reads, e))
+  module _ (f : FieldSpan) (reads : Some f ≡ field_from s p) (h : Placed s p) where
+    pub absent-other : (f.tag ≡ 0x18 → ⊥) → Says s None m
+    absent-other other = absent-where (none-after-attributes s p f h reads other)
 
-  module _ (t start len next : ℕ) (e : r ≡ Step.Field t start len next) (h : Placed s p) where
-    pub absent-other : (t ≡ 0x18 → ⊥) → Says s Value.Absent m
-    absent-other other = absent-where (none-after-attributes s p r t start len next h reads e other)
-
-    module _ (is : t ≡ 0x18) where
-      pub found-shaped : attribute_shaped (take len (drop start s)) ≡ true
+    module _ (is : f.tag ≡ 0x18) where
+      pub found-shaped : attribute_shaped (take f.len (drop f.start s)) ≡ true
       unfolding shaped payload_shaped
       found-shaped =
-          let payload = take len (drop start s) in
-          rw is at (and_right (may_follow h.context.previous t) (payload_shaped h.context t payload) (placed-shaped s p r t start len next h reads e))
+          let payload = take f.len (drop f.start s) in
+          rw is at (and_right (may_follow h.context.previous f.tag) (payload_shaped h.context f.tag payload)
+          (placed-shaped s p (step_at s p) f.tag f.start f.len f.next h refl (is-step s p f reads)))
 
-      wide : 3 ≤ len
-      wide = attribute-wide s start len (payload-within s p r t start len next reads e) found-shaped
+      wide : 3 ≤ f.len
+      wide = attribute-wide s f.start f.len (payload-within s p f reads) found-shaped
 
-      pub name-within : start + 2 ≤ length s
-      name-within = let w = wide in let l = payload-within s p r t start len next reads e in omega arith
+      pub name-within : f.start + 2 ≤ length s
+      name-within = let w = wide in let l = payload-within s p f reads in omega arith
 
-      turn : m ≡ meaning_of (first (is_named name) (map attribute_of (take len (drop start s) ∷ payloads 0x18 (own_fields (fields (drop next s))))))
+      turn : m ≡ meaning_of (first (is_named name) (map attribute_of (take f.len (drop f.start s) ∷ payloads 0x18 (own_fields (fields (drop f.next s))))))
       unfolding own_fields take_while whole_fields payloads
-      turn = inv ∙ rw (fields-field s p r t start len next reads e, is)
+      turn = inv ∙ rw (fields-field s p f reads, is)
 
-      module _ (n : ℕ) (en : n ≡ le_at 2 s start) where
-        name-is : (attribute_of (take len (drop start s))).name ≡ n
+      module _ (n : ℕ) (en : n ≡ le_at 2 s f.start) where
+        name-is : (attribute_of (take f.len (drop f.start s))).name ≡ n
         unfolding attribute_of
-        name-is = let w = wide in number-first s start len 2 n (omega arith) en
+        name-is = let w = wide in number-first s f.start f.len 2 n (omega arith) en
 
-        turn-name : m ≡ meaning_of (cond (eqb n name) (some (attribute_of (take len (drop start s)))) (first (is_named name) (map attribute_of (payloads 0x18 (own_fields (fields (drop next s)))))))
+        turn-name : m ≡ meaning_of (cond (eqb n name) (some (attribute_of (take f.len (drop f.start s))))
+            (first (is_named name) (map attribute_of (payloads 0x18 (own_fields (fields (drop f.next s)))))))
         unfolding first
         turn-name =
-            let rest = first (is_named name) (map attribute_of (payloads 0x18 (own_fields (fields (drop next s))))) in
-            turn ∙ ap (λ (x : ℕ). meaning_of (cond (eqb x name) (some (attribute_of (take len (drop start s)))) rest)) name-is
+            let rest = first (is_named name) (map attribute_of (payloads 0x18 (own_fields (fields (drop f.next s))))) in
+            turn ∙ ap (λ (x : ℕ). meaning_of (cond (eqb x name) (some (attribute_of (take f.len (drop f.start s)))) rest)) name-is
 
-        pub attribute-found : (v : Value) → n ≡ name → Says s v (value_of (attribute_of (take len (drop start s)))) → Says s v m
+        pub attribute-found : (v : Value) → n ≡ name → Says s (Some v) (value_of (attribute_of (take f.len (drop f.start s)))) → Says s (Some v) m
         unfolding meaning_of
         attribute-found v g says = rw (turn-name, eq-eqb n name g) says
 
-        pub attribute-passed : (n ≡ name → ⊥) → m ≡ meaning_of (first (is_named name) (map attribute_of (payloads 0x18 (own_fields (fields (drop next s))))))
+        pub attribute-passed : (n ≡ name → ⊥) → m ≡ meaning_of (first (is_named name) (map attribute_of (payloads 0x18 (own_fields (fields (drop f.next s))))))
         attribute-passed g = rw (ne_eqb n name g) at turn-name

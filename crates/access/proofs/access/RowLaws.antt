@@ -5,15 +5,15 @@ use Prim.Native.Nat.{ℕ, ◌+◌, ◌-◌, ◌≤◌, ◌<◌}
 use native.Mathlib.Omega.{arith}
 use native.Mathlib.Decide.{dec_le}
 use lib.ListN.{length, get_or}
+use Rattle.std.specs.Prelude.{Some}
 use Rattle.tlv.specs.declared.fields.Step.{Step}
 use Rattle.tlv.specs.Grammar.{row_field_size}
 use Rattle.tlv.specs.Bytes.{le_at}
-use Rattle.tlv.specs.Cursor.{step_at}
+use Rattle.tlv.specs.Cursor.{step_at, span_of, field_from}
 use Rattle.tlv.specs.Checked.{Placed}
 use Rattle.tlv.proofs.CursorLaws.{step-short, step_cut, step_field}
 use Rattle.tlv.proofs.PlaceFacts.{placed-whole}
 use Rattle.tlv.proofs.PlacePromises.{placed_row}
-use Rattle.access.specs.declared.access.Own.{Own}
 use Rattle.access.specs.Access.{NextOwn}
 use Rattle.access.proofs.OwnLaws.{looking-start, own-found}
 
@@ -42,5 +42,9 @@ module _ (s : List ℕ) (p : ℕ) (here : Placed s p) (inside : p < length s) (r
   row_step : step_at s p ≡ Step.Field 0x16 (p + 3) row_field_size (p + (3 + row_field_size))
   row_step = rw (behind, size, row) at step
 
-  pub row_here : NextOwn s p 0x16 (Own.Field (p + 3) row_field_size (p + (3 + row_field_size)))
-  row_here = own-found s p 0x16 p (step_at s p) (looking-start s p 0x16) refl 0x16 (p + 3) row_field_size (p + (3 + row_field_size)) row_step (λ e. omega (arith, e)) (λ e. omega (arith, e)) refl
+  row_field : Some (record { tag = 0x16; start = p + 3; len = row_field_size; next = p + (3 + row_field_size) }) ≡ field_from s p
+  unfolding span_of
+  row_field = rw row_step
+
+  pub row_here : NextOwn s p 0x16 (Some (record { tag = 0x16; start = p + 3; len = row_field_size; next = p + (3 + row_field_size) }))
+  row_here = own-found s p 0x16 p (looking-start s p 0x16) _ row_field (λ e. omega (arith, e)) (λ e. omega (arith, e)) refl

@@ -14,7 +14,7 @@ use Rattle.tlv.proofs.TestLaws.{by_less}
 use Rattle.buffers.specs.Table.{records}
 use Rattle.buffers.proofs.ChunkLaws.{le_at-front}
 use Rattle.buffers.proofs.RecordLaws.{records-length, records-at, records-rest_none, records-rest_cons}
-use Rattle.access.specs.declared.index.Found.{Found}
+use Rattle.std.specs.Prelude.{Some, None}
 use Rattle.access.specs.Places.{IndexedEntry}
 use Rattle.access.specs.Index.{indexed_of, RisingFrom, Rising, lookup, lower_than, found_of}
 use Rattle.access.proofs.IndexLaws.{indexed-is}
@@ -103,15 +103,15 @@ module _ (w : List ℕ) (base n o : ℕ) where
     looked : lookup o (records indexed_of 16 w base n) ≡ hit o (drop i (records indexed_of 16 w base n))
     looked = lookup-hit o 0 (records indexed_of 16 w base n) r ∙ rw at
 
-    pub found-past : n ≤ i → found_of o Found.Missing ≡ lookup o (records indexed_of 16 w base n)
+    pub found-past : n ≤ i → found_of o None ≡ lookup o (records indexed_of 16 w base n)
     found-past h = rw (looked, records-rest_none indexed_of 16 w base n i h)
 
     module _ (v : ℕ) (h : i < n) (is : v ≡ le_at 8 w (base + i * 16)) where
-      pub found-other : (v ≡ o → ⊥) → found_of o Found.Missing ≡ lookup o (records indexed_of 16 w base n)
+      pub found-other : (v ≡ o → ⊥) → found_of o None ≡ lookup o (records indexed_of 16 w base n)
       found-other ne =
           rw (looked, records-rest_cons indexed_of 16 w base n i h, indexed-is w (base + i * 16) v _ _ (sym is) refl refl, ne_eqb v o ne)
 
       pub found_at : (a u : ℕ) → v ≡ o → a ≡ le_at 4 w (base + i * 16 + 8) → u ≡ le_at 4 w (base + i * 16 + 12)
-          → found_of o (Found.At a u) ≡ lookup o (records indexed_of 16 w base n)
+          → found_of o (Some (record { place = a; unit = u })) ≡ lookup o (records indexed_of 16 w base n)
       found_at a u same ea eu =
           rw (looked, records-rest_cons indexed_of 16 w base n i h, indexed-is w (base + i * 16) o a u (sym is ∙ same) (sym ea) (sym eu), eq-eqb o o refl)

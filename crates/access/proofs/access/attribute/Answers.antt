@@ -1,36 +1,29 @@
 -- `access::attribute` meets its contract. The loop's invariant: the attribute that is looked for is the first of its name from here on.
-use mathlib.Core.Path.{refl}
-use Rattle.tlv.proofs.CursorLaws.{next-less, payload-within}
-use Rattle.tlv.proofs.PlaceFacts.{placed-next}
-use Rattle.access.proofs.access.AttributeLaws.{absent-end, absent-cut, absent-other, found-shaped, name-within, attribute-found, attribute-passed}
+use Rattle.tlv.proofs.FieldLaws.{next-less, payload-within}
+use Rattle.access.proofs.OrderLaws.{next-placed}
+use Rattle.access.proofs.access.AttributeLaws.{absent-end, absent-other, found-shaped, name-within, attribute-found, attribute-passed}
 use Rattle.access.proofs.access.attribute.Goals as goal
 
-pub loop-tag-init : goal.loop-tag-init
-loop-tag-init c = (c.requires, refl)
+pub returns-then-field-ne-ATTRIBUTE_TAG : goal.returns-then-field-ne-ATTRIBUTE_TAG
+returns-then-field-ne-ATTRIBUTE_TAG c = search (absent-other, c.in-Some.ensures)
 
-pub returns-in-End : goal.returns-in-End
-returns-in-End c = search absent-end
-
-pub returns-in-Cut : goal.returns-in-Cut
-returns-in-Cut c = search absent-cut
-
-pub returns-then-tag-ne-ATTRIBUTE_TAG : goal.returns-then-tag-ne-ATTRIBUTE_TAG
-returns-then-tag-ne-ATTRIBUTE_TAG c = search absent-other
-
-pub read_u16-requires : goal.read_u16-requires
-read_u16-requires c = search name-within
+pub read-requires : goal.read-requires
+read-requires c = search (name-within, c.in-Some.ensures)
 
 pub value_at-requires-clause-len_in_bounds : goal.value_at-requires-clause-len_in_bounds
-value_at-requires-clause-len_in_bounds c = search payload-within
+value_at-requires-clause-len_in_bounds c = search (payload-within, c.in-Some.ensures)
 
 pub value_at-requires-clause-s_value : goal.value_at-requires-clause-s_value
-value_at-requires-clause-s_value c = search found-shaped
+value_at-requires-clause-s_value c = search (found-shaped, c.in-Some.ensures)
 
-pub returns-then-read_u16-name : goal.returns-then-read_u16-name
-returns-then-read_u16-name c = search attribute-found
+pub returns-then-read-name : goal.returns-then-read-name
+returns-then-read-name c = search (attribute-found, c.in-Some.ensures)
 
-pub loop-tag-smaller : goal.loop-tag-smaller
-loop-tag-smaller c = search next-less
+pub loop-field-smaller : goal.loop-field-smaller
+loop-field-smaller c = search (next-less, c.in-Some.ensures)
 
-pub loop-tag-preserved : goal.loop-tag-preserved
-loop-tag-preserved c = (search placed-next, search attribute-passed)
+pub loop-field-preserved : goal.loop-field-preserved
+loop-field-preserved c = (search (next-placed, c.in-Some.ensures), search (attribute-passed, c.in-Some.ensures))
+
+pub returns : goal.returns
+returns c = search (absent-end, c.in_default.ensures)

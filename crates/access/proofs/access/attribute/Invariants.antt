@@ -11,8 +11,8 @@ use Rattle.access.specs.Places.{own_fields}
 use Rattle.access.specs.Access.{is_named, meaning_of}
 use Rattle.access.proofs.access.attribute.Given as goal
 
-abbrev pub invariant-loop-tag : goal.invariant-loop-tag
-invariant-loop-tag l = Placed l.s l.at × (meaning_of (first (is_named l.name) (map attribute_of (payloads 0x18 (own_fields (fields (drop l.p l.s)))))) ≡ meaning_of (first (is_named l.name) (map attribute_of (payloads 0x18 (own_fields (fields (drop l.at l.s)))))))
+abbrev pub invariant-loop-field : goal.invariant-loop-field
+invariant-loop-field l = Placed l.s l.at × (meaning_of (first (is_named l.name) (map attribute_of (payloads 0x18 (own_fields (fields (drop l.p l.s)))))) ≡ meaning_of (first (is_named l.name) (map attribute_of (payloads 0x18 (own_fields (fields (drop l.at l.s)))))))
 
-abbrev pub decreases-loop-tag : goal.decreases-loop-tag
-decreases-loop-tag l = length l.s - l.at
+abbrev pub decreases-loop-field : goal.decreases-loop-field
+decreases-loop-field l = length l.s - l.at

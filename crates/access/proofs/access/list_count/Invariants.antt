@@ -4,8 +4,8 @@ use lib.ListN.{length}
 use Rattle.access.proofs.ListCountLaws.{CountingLists}
 use Rattle.access.proofs.access.list_count.Given as goal
 
-abbrev pub invariant-loop-tag : goal.invariant-loop-tag
-invariant-loop-tag l = CountingLists l.s l.p l.at l.n
+abbrev pub invariant-loop-field : goal.invariant-loop-field
+invariant-loop-field l = CountingLists l.s l.p l.at l.n
 
-abbrev pub decreases-loop-tag : goal.decreases-loop-tag
-decreases-loop-tag l = length l.s - l.at
+abbrev pub decreases-loop-field : goal.decreases-loop-field
+decreases-loop-field l = length l.s - l.at

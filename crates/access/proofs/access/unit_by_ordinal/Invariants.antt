@@ -7,8 +7,8 @@ use Rattle.tlv.specs.Fields.{fields}
 use Rattle.access.specs.Places.{unit_places}
 use Rattle.access.proofs.access.unit_by_ordinal.Given as goal
 
-abbrev pub invariant-loop-t : goal.invariant-loop-t
-invariant-loop-t l = at (unit_places 0 (fields l.s)) l.ordinal ≡ at (unit_places l.p (fields (drop l.p l.s))) l.left
+abbrev pub invariant-loop-field : goal.invariant-loop-field
+invariant-loop-field l = at (unit_places 0 (fields l.s)) l.ordinal ≡ at (unit_places l.p (fields (drop l.p l.s))) l.left
 
-abbrev pub decreases-loop-t : goal.decreases-loop-t
-decreases-loop-t l = length l.s - l.p
+abbrev pub decreases-loop-field : goal.decreases-loop-field
+decreases-loop-field l = length l.s - l.p

@@ -2,20 +2,20 @@
 use Rattle.access.proofs.access.AttributeLaws.{attribute-wide, kind-within, number-inside, says-text, says-failed, says-number}
 use Rattle.access.proofs.access.value_at.Goals as goal
 
-pub read_u8-kind-requires : goal.read_u8-kind-requires
-read_u8-kind-requires c = search kind-within
-
 pub overflow_sub-left : goal.overflow_sub-left
 overflow_sub-left c = search attribute-wide
 
-pub returns-then-kind-eq3 : goal.returns-then-kind-eq3
-returns-then-kind-eq3 c = search says-text
+pub read-kind-requires : goal.read-kind-requires
+read-kind-requires c = search kind-within
+
+pub read-requires : goal.read-requires
+read-requires c = search number-inside
+
+pub returns : goal.returns
+returns c = search says-number
 
 pub returns-then-kind-eq10 : goal.returns-then-kind-eq10
 returns-then-kind-eq10 c = search says-failed
 
-pub read_u64-requires : goal.read_u64-requires
-read_u64-requires c = search number-inside
-
-pub returns : goal.returns
-returns c = search says-number
+pub returns-then-kind-eq3 : goal.returns-then-kind-eq3
+returns-then-kind-eq3 c = search says-text

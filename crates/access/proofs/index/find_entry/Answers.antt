@@ -2,11 +2,11 @@
 use Rattle.access.proofs.index.FindLaws.{found-past, found-other, found_at}
 use Rattle.access.proofs.index.find_entry.Goals as goal
 
+pub returns : goal.returns
+returns c = search found_at
+
 pub returns-then-n-i : goal.returns-then-n-i
 returns-then-n-i c = search found-past
 
-pub returns-then-read_u64-offset : goal.returns-then-read_u64-offset
-returns-then-read_u64-offset c = search found-other
-
-pub returns : goal.returns
-returns c = search found_at
+pub returns-then-read-offset : goal.returns-then-read-offset
+returns-then-read-offset c = search found-other

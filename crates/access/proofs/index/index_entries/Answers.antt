@@ -2,68 +2,65 @@
 use Prim.Native.Nat.{◌+◌, ◌*◌, ◌^◌, ◌≤◌, ◌<◌}
 use native.Mathlib.Omega.{arith}
 use lib.ListN.{length}
-use Rattle.tlv.proofs.CursorLaws.{next-less}
-use Rattle.access.proofs.IndexLaws.{indexing-start, indexing_end, indexing_cut, unit-read, entry_read, sum_fits, entry-room, turn-unit, turn-entry, turn-other}
+use Rattle.tlv.proofs.FieldLaws.{next-less}
+use Rattle.access.proofs.IndexLaws.{indexing-start, indexing_end, unit-read, entry_read, sum_fits, entry-room, turn-unit, turn-entry, turn-other}
 use Rattle.access.proofs.index.index_entries.Goals as goal
 
-pub loop-tag-init : goal.loop-tag-init
-loop-tag-init c = search indexing-start
+pub returns : goal.returns
+returns c = search (indexing_end, c.in_default.ensures)
 
-pub returns-in-End : goal.returns-in-End
-returns-in-End c = search indexing_end
+pub read-offset-requires : goal.read-offset-requires
+read-offset-requires c = search (unit-read, c.in-Some.ensures)
 
-pub returns-in-Cut : goal.returns-in-Cut
-returns-in-Cut c = search indexing_cut
+pub loop-field-smaller-then-field-eq-UNIT_TAG : goal.loop-field-smaller-then-field-eq-UNIT_TAG
+loop-field-smaller-then-field-eq-UNIT_TAG c = search (next-less, c.in-Some.ensures)
 
-pub read_u64-offset-requires : goal.read_u64-offset-requires
-read_u64-offset-requires c = search unit-read
+pub loop-field-preserved-then-field-eq-UNIT_TAG : goal.loop-field-preserved-then-field-eq-UNIT_TAG
+loop-field-preserved-then-field-eq-UNIT_TAG c = search (turn-unit, c.in-Some.ensures)
 
-pub loop-tag-smaller-then-tag-eq-UNIT_TAG : goal.loop-tag-smaller-then-tag-eq-UNIT_TAG
-loop-tag-smaller-then-tag-eq-UNIT_TAG c = search next-less
-
-pub loop-tag-preserved-then-tag-eq-UNIT_TAG : goal.loop-tag-preserved-then-tag-eq-UNIT_TAG
-loop-tag-preserved-then-tag-eq-UNIT_TAG c = search turn-unit
-
-pub read_u64-own-requires : goal.read_u64-own-requires
-read_u64-own-requires c = search entry_read
+pub read-own-requires : goal.read-own-requires
+read-own-requires c = search (entry_read, c.in-Some.ensures)
 
 pub overflow_mul-n : goal.overflow_mul-n
-overflow_mul-n c = let room : c.args.base + c.loop-tag.n * 16 + 16 ≤ length c.loop-tag.work = search entry-room in
+overflow_mul-n c = let room : c.args.base + c.loop-field.n * 16 + 16 ≤ length c.loop-field.work = search (entry-room, c.in-Some.ensures) in
     omega arith
 
 pub overflow_add-base : goal.overflow_add-base
-overflow_add-base c = let room : c.args.base + c.loop-tag.n * 16 + 16 ≤ length c.loop-tag.work = search entry-room in
+overflow_add-base c = let room : c.args.base + c.loop-field.n * 16 + 16 ≤ length c.loop-field.work = search (entry-room, c.in-Some.ensures) in
     omega arith
 
 pub overflow_add-offset : goal.overflow_add-offset
-overflow_add-offset c = let small : c.read_u64-own.result < 2 ^ 64 = omega arith in
-    let sum : c.loop-tag.offset + c.read_u64-own.result < 2 ^ 64 = search sum_fits in
+overflow_add-offset c = let small : c.read-own.result < 2 ^ 64 = omega arith in
+    let sum : c.loop-field.offset + c.read-own.result < 2 ^ 64 = search (sum_fits, c.in-Some.ensures) in
     omega arith
 
 pub put_entry-requires-clause-p_in_bounds : goal.put_entry-requires-clause-p_in_bounds
-put_entry-requires-clause-p_in_bounds c = let room : c.args.base + c.loop-tag.n * 16 + 16 ≤ length c.loop-tag.work = search entry-room in
+put_entry-requires-clause-p_in_bounds c = let room : c.args.base + c.loop-field.n * 16 + 16 ≤ length c.loop-field.work = search (entry-room, c.in-Some.ensures) in
     omega arith
 
 pub put_entry-requires-clause-place_bound : goal.put_entry-requires-clause-place_bound
-put_entry-requires-clause-place_bound c = let room : c.args.base + c.loop-tag.n * 16 + 16 ≤ length c.loop-tag.work = search entry-room in
+put_entry-requires-clause-place_bound c = let room : c.args.base + c.loop-field.n * 16 + 16 ≤ length c.loop-field.work = search (entry-room, c.in-Some.ensures) in
     omega arith
 
 pub put_entry-requires-clause-unit_bound : goal.put_entry-requires-clause-unit_bound
-put_entry-requires-clause-unit_bound c = let room : c.args.base + c.loop-tag.n * 16 + 16 ≤ length c.loop-tag.work = search entry-room in
+put_entry-requires-clause-unit_bound c = let room : c.args.base + c.loop-field.n * 16 + 16 ≤ length c.loop-field.work = search (entry-room, c.in-Some.ensures) in
     omega arith
 
 pub overflow_add-n : goal.overflow_add-n
-overflow_add-n c = let room : c.args.base + c.loop-tag.n * 16 + 16 ≤ length c.loop-tag.work = search entry-room in
+overflow_add-n c = let room : c.args.base + c.loop-field.n * 16 + 16 ≤ length c.loop-field.work = search (entry-room, c.in-Some.ensures) in
     omega arith
 
-pub loop-tag-smaller-then-tag-eq-ENTRY_TAG : goal.loop-tag-smaller-then-tag-eq-ENTRY_TAG
-loop-tag-smaller-then-tag-eq-ENTRY_TAG c = search next-less
+pub loop-field-smaller-then-field-eq-ENTRY_TAG : goal.loop-field-smaller-then-field-eq-ENTRY_TAG
+loop-field-smaller-then-field-eq-ENTRY_TAG c = search (next-less, c.in-Some.ensures)
 
-pub loop-tag-preserved-then-tag-eq-ENTRY_TAG : goal.loop-tag-preserved-then-tag-eq-ENTRY_TAG
-loop-tag-preserved-then-tag-eq-ENTRY_TAG c = search turn-entry
+pub loop-field-preserved-then-field-eq-ENTRY_TAG : goal.loop-field-preserved-then-field-eq-ENTRY_TAG
+loop-field-preserved-then-field-eq-ENTRY_TAG c = search (turn-entry, c.in-Some.ensures)
 
-pub loop-tag-smaller : goal.loop-tag-smaller
-loop-tag-smaller c = search next-less
+pub loop-field-smaller : goal.loop-field-smaller
+loop-field-smaller c = search (next-less, c.in-Some.ensures)
 
-pub loop-tag-preserved : goal.loop-tag-preserved
-loop-tag-preserved c = search turn-other
+pub loop-field-preserved : goal.loop-field-preserved
+loop-field-preserved c = search (turn-other, c.in-Some.ensures)
+
+pub loop-field-init : goal.loop-field-init
+loop-field-init c = search indexing-start

@@ -2,52 +2,49 @@
 use Prim.Native.Nat.{◌+◌, ◌*◌, ◌≤◌}
 use native.Mathlib.Omega.{arith}
 use lib.ListN.{length}
-use Rattle.tlv.proofs.CursorLaws.{next-less}
-use Rattle.access.proofs.UnitsLaws.{listing_start, listing-end, listing-cut, offset_read, length-read, unit-room, turn-listed, turn-passed}
+use Rattle.tlv.proofs.FieldLaws.{next-less}
+use Rattle.access.proofs.UnitsLaws.{listing_start, listing-end, offset_read, length-read, unit-room, turn-listed, turn-passed}
 use Rattle.access.proofs.units.index_units.Goals as goal
 
-pub loop-tag-init : goal.loop-tag-init
-loop-tag-init c = search listing_start
+pub returns : goal.returns
+returns c = search (listing-end, c.in_default.ensures)
 
-pub returns-in-End : goal.returns-in-End
-returns-in-End c = search listing-end
+pub read-offset-requires : goal.read-offset-requires
+read-offset-requires c = search (offset_read, c.in-Some.ensures)
 
-pub returns-in-Cut : goal.returns-in-Cut
-returns-in-Cut c = search listing-cut
-
-pub read_u64-offset-requires : goal.read_u64-offset-requires
-read_u64-offset-requires c = search offset_read
-
-pub overflow_add-start : goal.overflow_add-start
-overflow_add-start c = let read : c.in-Field.start + 8 ≤ length c.args.s.now = search offset_read in
+pub overflow_add-field : goal.overflow_add-field
+overflow_add-field c = let read : c.in-Some.field.start + 8 ≤ length c.args.s.now = search (offset_read, c.in-Some.ensures) in
     omega arith
 
-pub read_u64-size-requires : goal.read_u64-size-requires
-read_u64-size-requires c = search length-read
+pub read-size-requires : goal.read-size-requires
+read-size-requires c = search (length-read, c.in-Some.ensures)
 
 pub overflow_mul-n : goal.overflow_mul-n
-overflow_mul-n c = let room : c.args.base + c.loop-tag.n * 24 + 24 ≤ length c.loop-tag.work = search unit-room in
+overflow_mul-n c = let room : c.args.base + c.loop-field.n * 24 + 24 ≤ length c.loop-field.work = search (unit-room, c.in-Some.ensures) in
     omega arith
 
 pub overflow_add-base : goal.overflow_add-base
-overflow_add-base c = let room : c.args.base + c.loop-tag.n * 24 + 24 ≤ length c.loop-tag.work = search unit-room in
+overflow_add-base c = let room : c.args.base + c.loop-field.n * 24 + 24 ≤ length c.loop-field.work = search (unit-room, c.in-Some.ensures) in
     omega arith
 
 pub put_unit-requires : goal.put_unit-requires
-put_unit-requires c = search unit-room
+put_unit-requires c = search (unit-room, c.in-Some.ensures)
 
 pub overflow_add-n : goal.overflow_add-n
-overflow_add-n c = let room : c.args.base + c.loop-tag.n * 24 + 24 ≤ length c.loop-tag.work = search unit-room in
+overflow_add-n c = let room : c.args.base + c.loop-field.n * 24 + 24 ≤ length c.loop-field.work = search (unit-room, c.in-Some.ensures) in
     omega arith
 
-pub loop-tag-smaller-then-tag-eq-UNIT_TAG : goal.loop-tag-smaller-then-tag-eq-UNIT_TAG
-loop-tag-smaller-then-tag-eq-UNIT_TAG c = search next-less
+pub loop-field-smaller-then-field-eq-UNIT_TAG : goal.loop-field-smaller-then-field-eq-UNIT_TAG
+loop-field-smaller-then-field-eq-UNIT_TAG c = search (next-less, c.in-Some.ensures)
 
-pub loop-tag-preserved-then-tag-eq-UNIT_TAG : goal.loop-tag-preserved-then-tag-eq-UNIT_TAG
-loop-tag-preserved-then-tag-eq-UNIT_TAG c = search turn-listed
+pub loop-field-preserved-then-field-eq-UNIT_TAG : goal.loop-field-preserved-then-field-eq-UNIT_TAG
+loop-field-preserved-then-field-eq-UNIT_TAG c = search (turn-listed, c.in-Some.ensures)
 
-pub loop-tag-smaller : goal.loop-tag-smaller
-loop-tag-smaller c = search next-less
+pub loop-field-smaller : goal.loop-field-smaller
+loop-field-smaller c = search (next-less, c.in-Some.ensures)
 
-pub loop-tag-preserved : goal.loop-tag-preserved
-loop-tag-preserved c = search turn-passed
+pub loop-field-preserved : goal.loop-field-preserved
+loop-field-preserved c = search (turn-passed, c.in-Some.ensures)
+
+pub loop-field-init : goal.loop-field-init
+loop-field-init c = search listing_start

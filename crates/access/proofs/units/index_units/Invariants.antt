@@ -4,8 +4,8 @@ use lib.ListN.{length}
 use Rattle.access.proofs.UnitsLaws.{Listing}
 use Rattle.access.proofs.units.index_units.Given as goal
 
-abbrev pub invariant-loop-tag : goal.invariant-loop-tag
-invariant-loop-tag l = Listing l.s l.initial.work l.work l.base l.p l.n
+abbrev pub invariant-loop-field : goal.invariant-loop-field
+invariant-loop-field l = Listing l.s l.initial.work l.work l.base l.p l.n
 
-abbrev pub decreases-loop-tag : goal.decreases-loop-tag
-decreases-loop-tag l = length l.s - l.p
+abbrev pub decreases-loop-field : goal.decreases-loop-field
+decreases-loop-field l = length l.s - l.p
