@@ -11,7 +11,8 @@ use lib.Dec.{ltb}
 use lib.ListN.{length, get_or, drop, drop_of_length-le}
 use lib.Seq.{drop-cons}
 use Rattle.tlv.specs.Outcome.{Outcome, refused, done, ◌>>=◌}
-use Rattle.line_program.specs.declared.operand.Operand.{Operand}
+use Rattle.std.specs.Prelude.{Ok, Err}
+use Rattle.tlv.specs.declared.refusal.Refusal.{Refusal}
 use Rattle.line_program.specs.Program.{uleb_within, uleb}
 use Rattle.line_program.specs.Standard.{Operand as Number}
 use Rattle.line_program.specs.Scan.{Reads}
@@ -55,7 +56,7 @@ unfolding uleb_within
 cut-any zero = refl
 cut-any (suc k) = refl
 
-pub turn-cut : {s : List ℕ} {at v m k p : ℕ} → Reading s at v m k p → length s ≤ p → Reads s at (Operand.Fault 7)
+pub turn-cut : {s : List ℕ} {at v m k p : ℕ} → Reading s at v m k p → length s ≤ p → Reads s at (Err Refusal.Cut)
 turn-cut {s} {at} {v} {m} {k} {p} R h = record {
   is = sym (R.goes ∙ ap (λ (l : List ℕ). shifted v m (uleb_within k l)) (drop_of_length-le s {i = p} h) ∙ ap (shifted v m) (cut-any k));
   within = tt;
@@ -89,7 +90,7 @@ module _ (s : List ℕ) (at v m k p b : ℕ) (R : Reading s at v m k p) (h : p <
   here : (j : ℕ) → k ≡ j → uleb (drop at s) ≡ shifted v m (uleb_within j (b ∷ drop (p + 1) s))
   here j z = R.goes ∙ (λ i. shifted v m (uleb_within (z i) (drop_at s p b h e i)))
 
-  value_read : (j : ℕ) → k ≡ j → uleb_within j (b ∷ drop (p + 1) s) ≡ done (record { value = b; rest = drop (p + 1) s }) → Reads s at (Operand.Value (v + b * m) (p + 1))
+  value_read : (j : ℕ) → k ≡ j → uleb_within j (b ∷ drop (p + 1) s) ≡ done (record { value = b; rest = drop (p + 1) s }) → Reads s at (Ok (record { value = v + b * m; next = p + 1 }))
   value_read j z f = record {
     is =
         let q : v + b * m ≡ v + m * b = omega (arith, mul_comm b m) in
@@ -97,19 +98,19 @@ module _ (s : List ℕ) (at v m k p b : ℕ) (R : Reading s at v m k p) (h : p <
     within = (omega (arith, R.from), omega arith);
   }
 
-  pub turn-overflow : k ≡ 0 → 1 < b % 128 → Reads s at (Operand.Fault 10)
+  pub turn-overflow : k ≡ 0 → 1 < b % 128 → Reads s at (Err Refusal.Overflowing)
   unfolding uleb_within
   turn-overflow z g = record { is = sym (rw (lt-ltb 1 (b % 128) g) at (here 0 z)); within = tt }
 
-  pub turn-tenth : k ≡ 0 → b % 128 ≤ 1 → b < 128 → Reads s at (Operand.Value (v + b * m) (p + 1))
+  pub turn-tenth : k ≡ 0 → b % 128 ≤ 1 → b < 128 → Reads s at (Ok (record { value = v + b * m; next = p + 1 }))
   unfolding uleb_within
   turn-tenth z g l = value_read 0 z (rw (le-ltb 1 (b % 128) g, lt-ltb b 128 l))
 
-  pub turn-overlong : k ≡ 0 → b % 128 ≤ 1 → 128 ≤ b → Reads s at (Operand.Fault 11)
+  pub turn-overlong : k ≡ 0 → b % 128 ≤ 1 → 128 ≤ b → Reads s at (Err Refusal.Overlong)
   unfolding uleb_within
   turn-overlong z g l = record { is = sym (rw (le-ltb 1 (b % 128) g, le-ltb b 128 l) at (here 0 z)); within = tt }
 
-  pub turn_end : (k ≡ 0 → ⊥) → b < 128 → Reads s at (Operand.Value (v + b * m) (p + 1))
+  pub turn_end : (k ≡ 0 → ⊥) → b < 128 → Reads s at (Ok (record { value = v + b * m; next = p + 1 }))
   unfolding uleb_within
   turn_end n l =
       let z : k ≡ suc (k - 1) = omega arith in

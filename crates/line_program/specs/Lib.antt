@@ -3,3 +3,5 @@ pub mod Program
 pub mod Conforms
 pub mod SignedCases
 pub mod Scan
+pub mod Passing
+pub mod PassLaws

@@ -1,10 +1,12 @@
 // Line programs (the Rust's convert/dwarf/lines.rs): operands, skipping, where sequences begin. The faults are document 01's refusals 7 to 12.
-ghost use Rattle.std.specs.Prelude.{◌≡◌, ◌+◌, ◌*◌, ◌-◌, ◌/◌, ◌≤◌, ◌<◌, length, get_or, drop};
+ghost use Rattle.std.specs.Prelude.{◌≡◌, ◌+◌, ◌*◌, ◌-◌, ◌/◌, ◌≤◌, ◌<◌, [], length, get_or, drop};
 ghost use Rattle.line_program.specs.Program.{skip_operands, extended_body, extended, skip};
 ghost use Rattle.line_program.specs.Program.{scan_line_sequence_offsets, initial_length, version_bytes, program_offset, line_sequence_offsets};
-ghost use Rattle.line_program.specs.Scan.{Passes, Scanned, OffsetIs, over, kinds_by, header_at, header_with, offset_record, sequence_least};
+ghost use Rattle.line_program.specs.Scan.{Passes, SkipsTo, Scanned, OffsetIs, kinds_by, header_with, offset_record, sequence_least};
 
-use crate::operand::{Operand, Skipped, read_line_uleb, skip_counted, take_line_bytes, wide};
+use crate::operand::{Skipped, read_line_uleb, skip_counted, take_line_bytes};
+use buffers::numbers::Written;
+use tlv::refusal::Refusal;
 
 // Bytes of an offset in the table, and the fewest bytes of a program that end a sequence.
 pub const OFFSET_RECORD: usize = 8;
@@ -12,7 +14,7 @@ pub const OFFSET_RECORD: usize = 8;
 pub const SEQUENCE_LEAST: usize = 3;
 
 // What a line header says of its place and its opcodes; the opcode lengths are a slice of their own.
-#[derive(Clone, Copy)]
+#[derive(Clone, Copy, Debug, PartialEq, Eq, Hash)]
 pub struct Header {
     pub offset: u64,
     pub header_length: u64,
@@ -21,47 +23,31 @@ pub struct Header {
     pub opcode_base: u8,
 }
 
-// How many sequences a program has, or the fault.
-#[derive(Clone, Copy)]
-pub enum Scan {
-    Count(usize),
-    Fault(u8),
-}
-
 // Passes over the n bytes of an extended instruction, of which the first is its opcode, at `at`; a byte of the length stands before it.
-fn skip_payload(program: &[u8], n: u64, at: usize) -> Skipped
+fn skip_payload(program: &[u8], n: u64, at: usize) -> Result<Skipped, Refusal>
     requires { (0 < at) × (at ≤ length program.now) × (0 < n) }
     ensures { Passes program.now (at - 1) result (extended_body (length program.now) n (drop at program.now)) }
 {
     if program.len() <= at {
-        return Skipped::Fault(8);
+        return Err(Refusal::CutExtended);
     }
     let opcode = program[at];
-    match take_line_bytes(program, n - 1, at + 1) {
-        Skipped::To(next) => {
-            if opcode == 1 {
-                return Skipped::Ended(next);
-            }
-            Skipped::To(next)
-        }
-        Skipped::Ended(next) => Skipped::Ended(next),
-        Skipped::Fault(fault) => Skipped::Fault(fault),
+    let next = take_line_bytes(program, n - 1, at + 1)?;
+    if opcode == 1 {
+        return Ok(Skipped::Ended(next));
     }
+    Ok(Skipped::To(next))
 }
 
 // Passes over what follows the zero byte of an extended instruction.
-fn skip_extended(program: &[u8], at: usize) -> Skipped
+fn skip_extended(program: &[u8], at: usize) -> Result<Skipped, Refusal>
     ensures { Passes program.now at result (extended (length program.now) (drop at program.now)) }
 {
-    match read_line_uleb(program, at) {
-        Operand::Value { value, next } => {
-            if value == 0 {
-                return Skipped::Fault(9);
-            }
-            skip_payload(program, value, next)
-        }
-        Operand::Fault(fault) => Skipped::Fault(fault),
+    let length = read_line_uleb(program, at)?;
+    if length.value == 0 {
+        return Err(Refusal::ZeroExtended);
     }
+    skip_payload(program, length.value, length.next)
 }
 
 // How many operands a header gives to an opcode: none to one past its table.
@@ -69,30 +55,31 @@ pub fn operand_count(lengths: &[u8], opcode: u8) -> u8
     requires { 0 < opcode }
     ensures { result ≡ get_or lengths.now (opcode - 1) 0 }
 {
-    let i = (opcode - 1) as usize;
-    if i < lengths.len() {
-        return lengths[i];
+    match lengths.get((opcode - 1) as usize) {
+        Some(&n) => n,
+        None => 0,
     }
-    0
 }
 
 // Passes over what follows a standard opcode.
-fn skip_standard(program: &[u8], lengths: &[u8], opcode: u8, at: usize) -> Skipped
+fn skip_standard(program: &[u8], lengths: &[u8], opcode: u8, at: usize) -> Result<usize, Refusal>
     requires { (at ≤ length program.now) × (0 < opcode) }
-    ensures { Passes program.now at result (over (skip_operands (kinds_by lengths.now opcode) (drop at program.now))) }
+    ensures { SkipsTo program.now at result (skip_operands (kinds_by lengths.now opcode) (drop at program.now)) }
 {
     match opcode {
         9 => take_line_bytes(program, 2, at),
-        1 | 6 | 7 | 8 | 10 | 11 => Skipped::To(at),
-        _ => {
-            let n = operand_count(lengths, opcode);
-            skip_counted(program, opcode, n, at)
-        }
+        1 | 6 | 7 | 8 | 10 | 11 => Ok(at),
+        _ => skip_counted(program, opcode, operand_count(lengths, opcode), at),
     }
 }
 
 // Passes over the instruction at a place.
-pub fn skip_instruction(program: &[u8], lengths: &[u8], opcode_base: u8, at: usize) -> Skipped
+pub fn skip_instruction(
+    program: &[u8],
+    lengths: &[u8],
+    opcode_base: u8,
+    at: usize,
+) -> Result<Skipped, Refusal>
     requires { at < length program.now }
     ensures { Passes program.now (at + 1) result
         (skip (record { base = opcode_base; lengths = lengths.now }) (length program.now) (get_or program.now at 0)
@@ -104,9 +91,10 @@ pub fn skip_instruction(program: &[u8], lengths: &[u8], opcode_base: u8, at: usi
         return skip_extended(program, next);
     }
     if opcode < opcode_base {
-        return skip_standard(program, lengths, opcode, next);
+        let past = skip_standard(program, lengths, opcode, next)?;
+        return Ok(Skipped::To(past));
     }
-    Skipped::To(next)
+    Ok(Skipped::To(next))
 }
 
 // Writes where each sequence of a program begins, eight bytes each, from base on.
@@ -117,7 +105,7 @@ pub fn scan_line_sequence_offsets(
     program_offset: u64,
     work: &mut [u8],
     base: usize,
-) -> Scan
+) -> Result<usize, Refusal>
     requires { base + length program.now / sequence_least * offset_record ≤ length work.old }
     ensures { Scanned program.now work.old work.new base result
         (scan_line_sequence_offsets (record { base = opcode_base; lengths = lengths.now }) program_offset program.now) }
@@ -125,70 +113,53 @@ pub fn scan_line_sequence_offsets(
     let mut p: usize = 0;
     let mut n: usize = 0;
     let mut from = program_offset;
+    // Stays a loop: each instruction's own length moves the place.
     while p < program.len() {
-        match skip_instruction(program, lengths, opcode_base, p) {
+        match skip_instruction(program, lengths, opcode_base, p)? {
             Skipped::To(next) => {
                 p = next;
             }
             Skipped::Ended(next) => {
-                buffers::table::set_u64(work, base + n * OFFSET_RECORD, from);
-                if 18446744073709551615 - program_offset < (next as u64) {
-                    return Scan::Fault(12);
-                }
-                from = program_offset + next as u64;
+                from.write(work, base + n * OFFSET_RECORD);
+                let Some(after) = program_offset.checked_add(next as u64) else {
+                    return Err(Refusal::Overflow);
+                };
+                from = after;
                 n += 1;
                 p = next;
             }
-            Skipped::Fault(fault) => {
-                return Scan::Fault(fault);
-            }
         }
     }
-    Scan::Count(n)
+    Ok(n)
 }
 
-// Where a program begins, or that it begins past the last number.
-#[derive(Clone, Copy)]
-pub enum Offset {
-    At(u64),
-    Past,
-}
-
-// Where the program of a header begins.
-pub fn program_offset(offset: u64, header_length: u64, version: u8, word_size: u8) -> Offset
-    ensures { OffsetIs result (program_offset (header_at offset header_length version word_size)) }
-{
-    let initial = initial_length(word_size);
-    let counts = version_bytes(version);
-    let fixed = initial + 2 + counts + wide(word_size);
-    if 18446744073709551615 - offset < fixed {
-        return Offset::Past;
+impl Header {
+    // Where its program begins; none past the last number.
+    pub fn program_offset(self) -> Option<u64>
+        ensures { OffsetIs result (program_offset (header_with self [])) }
+    {
+        let sizes = version_bytes(self.version) + u64::from(self.word_size);
+        let fixed = initial_length(self.word_size) + 2 + sizes;
+        self.offset
+            .checked_add(fixed)?
+            .checked_add(self.header_length)
     }
-    let start = offset + fixed;
-    if 18446744073709551615 - start < header_length {
-        return Offset::Past;
-    }
-    Offset::At(start + header_length)
 }
 
 // How many bytes a header's own length takes.
+#[tactic(auto, unfolding(crate::specs::Program::initial_length))]
 fn initial_length(word_size: u8) -> u64
     ensures { (result ≡ initial_length word_size) × (result ≤ 12) }
 {
-    if word_size == 8 {
-        return 12;
-    }
-    4
+    if word_size == 8 { 12 } else { 4 }
 }
 
 // The sizes of addresses and selectors, which a header has from version 5 on.
+#[tactic(auto, unfolding(crate::specs::Program::version_bytes))]
 fn version_bytes(version: u8) -> u64
     ensures { (result ≡ version_bytes version) × (result ≤ 2) }
 {
-    if 5 <= version {
-        return 2;
-    }
-    0
+    if version >= 5 { 2 } else { 0 }
 }
 
 // Writes where each sequence of the program of a header begins, eight bytes each, from base on.
@@ -198,25 +169,13 @@ pub fn line_sequence_offsets(
     header: Header,
     work: &mut [u8],
     base: usize,
-) -> Scan
+) -> Result<usize, Refusal>
     requires { base + length program.now / sequence_least * offset_record ≤ length work.old }
     ensures { Scanned program.now work.old work.new base result
         (line_sequence_offsets (header_with header lengths.now) program.now) }
 {
-    match program_offset(
-        header.offset,
-        header.header_length,
-        header.version,
-        header.word_size,
-    ) {
-        Offset::At(offset) => scan_line_sequence_offsets(
-            program,
-            lengths,
-            header.opcode_base,
-            offset,
-            work,
-            base,
-        ),
-        Offset::Past => Scan::Fault(12),
-    }
+    let Some(offset) = header.program_offset() else {
+        return Err(Refusal::Overflow);
+    };
+    scan_line_sequence_offsets(program, lengths, header.opcode_base, offset, work, base)
 }

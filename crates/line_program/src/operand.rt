@@ -1,62 +1,59 @@
 // Operands of line programs.
-ghost use Rattle.std.specs.Prelude.{◌≡◌, ◌+◌, ◌*◌, ◌-◌, ◌≤◌, ◌<◌, length, drop, replicate};
-ghost use Rattle.line_program.specs.Standard.{unsigned, signed};
+ghost use Rattle.std.specs.Prelude.{◌≡◌, ℕ, Bool, List, ◌+◌, ◌*◌, ◌-◌, ◌≤◌, ◌<◌, length, drop, replicate};
+ghost use Rattle.line_program.specs.Standard.{OperandKind, unsigned, signed};
 ghost use Rattle.line_program.specs.Program.{is_sign, counted_kinds, skip_operand, skip_operands, take_line_bytes};
-ghost use Rattle.line_program.specs.Scan.{Reads, Passes, over};
+ghost use Rattle.line_program.specs.Passing.{pass_within, fits_unsigned};
+ghost use Rattle.line_program.specs.PassLaws.{unsigned_passes, signed_passes};
+ghost use Rattle.line_program.specs.Scan.{Reads, SkipsTo};
 
-// An operand: its value and the place after it, or the fault.
-#[derive(Clone, Copy)]
-pub enum Operand {
-    Value { value: u64, next: usize },
-    Fault(u8),
+use tlv::refusal::Refusal;
+
+// An operand that was read: its value and the place after it.
+#[derive(Clone, Copy, Debug, PartialEq, Eq, Hash)]
+pub struct Operand {
+    pub value: u64,
+    pub next: usize,
 }
 
-// An instruction that was passed over, with the place after it.
-#[derive(Clone, Copy)]
+// An instruction that was passed over, with the place after it; it may have ended a sequence.
+#[derive(Clone, Copy, Debug, PartialEq, Eq, Hash)]
 pub enum Skipped {
     To(usize),
     Ended(usize),
-    Fault(u8),
-}
-
-// A byte as a number of 64 bits.
-pub fn wide(b: u8) -> u64
-    ensures { (result ≡ b) × (result < 256) }
-{
-    b as u64
 }
 
 // The unsigned operand at a place.
-pub fn read_line_uleb(program: &[u8], at: usize) -> Operand
+pub fn read_line_uleb(program: &[u8], at: usize) -> Result<Operand, Refusal>
     ensures { Reads program.now at result }
 {
     let mut value: u64 = 0;
     let mut scale: u64 = 1;
     let mut left: u64 = 9;
     let mut p = at;
+    // Stays a loop: each byte says whether another one follows.
     loop {
         if program.len() <= p {
-            return Operand::Fault(7);
+            return Err(Refusal::Cut);
         }
-        let byte = wide(program[p]);
+        let byte = u64::from(program[p]);
         p += 1;
         if left == 0 {
             if 1 < byte % 128 {
-                return Operand::Fault(10);
+                return Err(Refusal::Overflowing);
             }
             if byte < 128 {
-                return Operand::Value {
+                return Ok(Operand {
                     value: value + byte * scale,
                     next: p,
-                };
+                });
             }
-            return Operand::Fault(11);
+            return Err(Refusal::Overlong);
         }
         if byte < 128 {
-            return Operand::Value {
+            return Ok(Operand {
                 value: value + byte * scale,
                 next: p,
-            };
+            });
         }
         value += byte % 128 * scale;
         scale *= 128;
@@ -64,121 +61,109 @@ pub fn read_line_uleb(program: &[u8], at: usize) -> Operand
     }
 }
 
-// Passes over the unsigned operand at a place: read_line_uleb without the value, for speed.
-fn skip_operand(program: &[u8], at: usize) -> Skipped
-    ensures { Passes program.now at result (over (skip_operand unsigned (drop at program.now))) }
+// Which low seven bits the tenth byte of an operand may have: those that 64 bits hold.
+trait TenthByte {
+    ghost kind: { OperandKind };
+
+    ghost fits: { ℕ → Bool };
+
+    fn fits(bits: u8) -> bool
+        ensures { result ≡ fits bits };
+
+    ghost passes: { (s : List ℕ) → skip_operand kind s ≡ pass_within fits 9 s };
+}
+
+struct Unsigned;
+
+impl TenthByte for Unsigned {
+    ghost kind = { unsigned };
+
+    ghost fits = { fits_unsigned };
+
+    ghost passes = { unsigned_passes };
+
+    fn fits(bits: u8) -> bool {
+        bits <= 1
+    }
+}
+
+// The low bits are bit 63 and the sign above it, all alike.
+struct Signed;
+
+impl TenthByte for Signed {
+    ghost kind = { signed };
+
+    ghost fits = { is_sign };
+
+    ghost passes = { signed_passes };
+
+    fn fits(bits: u8) -> bool {
+        matches!(bits, 0 | 0x7f)
+    }
+}
+
+// Passes over the operand at a place: for speed without its value.
+fn skip_operand<B: TenthByte>(program: &[u8], at: usize) -> Result<usize, Refusal>
+    ensures { SkipsTo program.now at result (skip_operand B.kind (drop at program.now)) }
 {
     let mut left: u64 = 9;
     let mut p = at;
+    // Stays a loop: each byte says whether another one follows.
     loop {
         if program.len() <= p {
-            return Skipped::Fault(7);
+            return Err(Refusal::Cut);
         }
         let byte = program[p];
         p += 1;
         if left == 0 {
-            if 1 < byte % 128 {
-                return Skipped::Fault(10);
+            if !B::fits(byte % 128) {
+                return Err(Refusal::Overflowing);
             }
             if byte < 128 {
-                return Skipped::To(p);
+                return Ok(p);
             }
-            return Skipped::Fault(11);
+            return Err(Refusal::Overlong);
         }
         if byte < 128 {
-            return Skipped::To(p);
-        }
-        left -= 1;
-    }
-}
-
-// Whether the low seven bits of a tenth byte are all alike: bit 63 of a signed number, and its sign.
-fn is_sign(bits: u8) -> bool
-    ensures { result ≡ is_sign bits }
-{
-    if bits == 0 {
-        return true;
-    }
-    bits == 0x7f
-}
-
-// Passes over the signed operand at a place.
-fn skip_signed_operand(program: &[u8], at: usize) -> Skipped
-    ensures { Passes program.now at result (over (skip_operand signed (drop at program.now))) }
-{
-    let mut left: u64 = 9;
-    let mut p = at;
-    loop {
-        if program.len() <= p {
-            return Skipped::Fault(7);
-        }
-        let byte = program[p];
-        p += 1;
-        if left == 0 {
-            if !is_sign(byte % 128) {
-                return Skipped::Fault(10);
-            }
-            if byte < 128 {
-                return Skipped::To(p);
-            }
-            return Skipped::Fault(11);
-        }
-        if byte < 128 {
-            return Skipped::To(p);
+            return Ok(p);
         }
         left -= 1;
     }
 }
 
 // Passes over n unsigned operands.
-pub fn skip_operands(program: &[u8], n: u8, at: usize) -> Skipped
+pub fn skip_operands(program: &[u8], n: u8, at: usize) -> Result<usize, Refusal>
     requires { at ≤ length program.now }
-    ensures { Passes program.now at result (over (skip_operands (replicate n unsigned) (drop at program.now))) }
+    ensures { SkipsTo program.now at result (skip_operands (replicate n unsigned) (drop at program.now)) }
 {
-    let mut left = n;
     let mut p = at;
-    while 0 < left {
-        match skip_operand(program, p) {
-            Skipped::To(next) => {
-                p = next;
-                left -= 1;
-            }
-            Skipped::Ended(next) => {
-                return Skipped::Ended(next);
-            }
-            Skipped::Fault(fault) => {
-                return Skipped::Fault(fault);
-            }
-        }
+    for _ in 0..n {
+        p = skip_operand::<Unsigned>(program, p)?;
     }
-    Skipped::To(p)
+    Ok(p)
 }
 
 // Passes over the n operands that a header counts for an opcode: opcode 3's single one is signed, all others are unsigned.
-pub fn skip_counted(program: &[u8], opcode: u8, n: u8, at: usize) -> Skipped
+pub fn skip_counted(program: &[u8], opcode: u8, n: u8, at: usize) -> Result<usize, Refusal>
     requires { at ≤ length program.now }
-    ensures { Passes program.now at result (over (skip_operands (counted_kinds opcode n) (drop at program.now))) }
+    ensures { SkipsTo program.now at result (skip_operands (counted_kinds opcode n) (drop at program.now)) }
 {
-    if opcode != 3 {
-        return skip_operands(program, n, at);
+    if opcode == 3 && n == 1 {
+        return skip_operand::<Signed>(program, at);
     }
-    if n != 1 {
-        return skip_operands(program, n, at);
-    }
-    skip_signed_operand(program, at)
+    skip_operands(program, n, at)
 }
 
 // Passes over n bytes from a place on; an end past the last number is told from one past the program.
-pub fn take_line_bytes(program: &[u8], n: u64, at: usize) -> Skipped
+pub fn take_line_bytes(program: &[u8], n: u64, at: usize) -> Result<usize, Refusal>
     requires { at ≤ length program.now }
-    ensures { Passes program.now at result (over (take_line_bytes (length program.now) n (drop at program.now))) }
+    ensures { SkipsTo program.now at result (take_line_bytes (length program.now) n (drop at program.now)) }
 {
-    let room = (program.len() - at) as u64;
-    if room < n {
-        if 18446744073709551615 - (at as u64) < n {
-            return Skipped::Fault(12);
-        }
-        return Skipped::Fault(7);
+    let Some(end) = (at as u64).checked_add(n) else {
+        return Err(Refusal::Overflow);
+    };
+    if (program.len() as u64) < end {
+        return Err(Refusal::Cut);
     }
-    Skipped::To(at + n as usize)
+    Ok(end as usize)
 }

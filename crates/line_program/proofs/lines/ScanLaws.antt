@@ -13,7 +13,8 @@ use Rattle.buffers.specs.Table.{Kept, Wrote}
 use Rattle.buffers.proofs.TableLaws.{kept_refl, kept-wide, kept_trans}
 use Rattle.buffers.proofs.RecordLaws.{records-nil, numbers-push}
 use Rattle.line_program.specs.declared.operand.Skipped.{Skipped}
-use Rattle.line_program.specs.declared.lines.Scan.{Scan}
+use Rattle.std.specs.Prelude.{Ok, Err}
+use Rattle.tlv.specs.declared.refusal.Refusal.{Refusal}
 use Rattle.line_program.specs.Program.{skip, sequences_within, scan_line_sequence_offsets}
 use Rattle.line_program.specs.Standard.{Passed, Opcodes}
 use Rattle.line_program.specs.Scan.{Passes, offsets_at, Scanned}
@@ -55,7 +56,7 @@ left-none zero h offset whole from = refl
 left-none (suc k) h offset whole from = refl
 
 pub scan-done : {h : Opcodes} {s w₀ w : List ℕ} {offset base n from p : ℕ} → Scanning h s w₀ w offset base n from p → length s ≤ p
-    → Scanned s w₀ w base (Scan.Count n) (scan_line_sequence_offsets h offset s)
+    → Scanned s w₀ w base (Ok n) (scan_line_sequence_offsets h offset s)
 unfolding ◌>>=◌
 scan-done {h} {s} {w₀} {w} {offset} {base} {n} {from} {p} S g = record {
   is =
@@ -86,8 +87,7 @@ unfolding ◌>>=◌
 bind-push xs x (refused n) = refl
 bind-push xs x (done l) = ap done (sym (append_assoc xs (x ∷ []) l))
 
-module _ {h : Opcodes} {s w₀ w : List ℕ} {offset base n from p : ℕ} (S : Scanning h s w₀ w offset base n from p) (g : p < length s)
-    {r : Skipped} (P : Passes s (p + 1) r (skip h (length s) (get_or s p 0) (drop (p + 1) s))) where
+module _ {h : Opcodes} {s w₀ w : List ℕ} {offset base n from p : ℕ} (S : Scanning h s w₀ w offset base n from p) (g : p < length s) where
   turned : {o : Outcome Passed} → skip h (length s) (get_or s p 0) (drop (p + 1) s) ≡ o
       → scan_line_sequence_offsets h offset s ≡ (after (S.fuel - 1) h offset (length s) from o >>= (λ l. done (offsets_at w base n ++ l)))
   turned e =
@@ -97,16 +97,15 @@ module _ {h : Opcodes} {s w₀ w : List ℕ} {offset base n from p : ℕ} (S : S
       ∙ ap (λ (x : Outcome (List ℕ)). x >>= (λ l. done (offsets_at w base n ++ l)))
       (one_more (S.fuel - 1) h offset (length s) from (get_or s p 0) (drop (p + 1) s) ∙ ap (after (S.fuel - 1) h offset (length s) from) e)
 
-  pub scan-fault : {f : ℕ} → r ≡ Skipped.Fault f → Scanned s w₀ w base (Scan.Fault f) (scan_line_sequence_offsets h offset s)
+  pub scan-err : {f : Refusal} → Passes s (p + 1) (Err f) (skip h (length s) (get_or s p 0) (drop (p + 1) s))
+      → Scanned s w₀ w base (Err f) (scan_line_sequence_offsets h offset s)
   unfolding ◌>>=◌
-  scan-fault {f} e =
-      let Q : Passes s (p + 1) (Skipped.Fault f) (skip h (length s) (get_or s p 0) (drop (p + 1) s)) = rw e at P in
-      record { is = sym (turned (sym Q.is)); within = tt; rest = S.rest }
+  scan-err Q = record { is = sym (turned (sym Q.is)); within = tt; rest = S.rest }
 
-  pub scan-to : {next : ℕ} → r ≡ Skipped.To next → Scanning h s w₀ w offset base n from next
+  pub scan-to : {next : ℕ} → Passes s (p + 1) (Ok (Skipped.To next)) (skip h (length s) (get_or s p 0) (drop (p + 1) s))
+      → Scanning h s w₀ w offset base n from next
   unfolding ◌>>=◌
-  scan-to {next} e =
-      let Q : Passes s (p + 1) (Skipped.To next) (skip h (length s) (get_or s p 0) (drop (p + 1) s)) = rw e at P in
+  scan-to Q =
       record {
         fuel = S.fuel - 1;
         enough = omega (arith, S.enough, Q.within.0);
@@ -117,10 +116,7 @@ module _ {h : Opcodes} {s w₀ w : List ℕ} {offset base n from p : ℕ} (S : S
         size = S.size;
       }
 
-  module _ {next : ℕ} (e : r ≡ Skipped.Ended next) where
-    told : Passes s (p + 1) (Skipped.Ended next) (skip h (length s) (get_or s p 0) (drop (p + 1) s))
-    told = rw e at P
-
+  module _ {next : ℕ} (told : Passes s (p + 1) (Ok (Skipped.Ended next)) (skip h (length s) (get_or s p 0) (drop (p + 1) s))) where
     -- there is room for one more
     pub scan-room : base + length s / 3 * 8 ≤ length w₀ → base + n * 8 + 8 ≤ length w
     scan-room k = omega (arith, S.counted, S.size, told.within.0, told.within.1)
@@ -132,7 +128,7 @@ module _ {h : Opcodes} {s w₀ w : List ℕ} {offset base n from p : ℕ} (S : S
       kept : Kept w₀ w' base (length s / 3 * 8)
       kept = kept_trans S.rest (kept-wide base (length s / 3 * 8) W.rest (omega arith) (omega (arith, S.counted, told.within.0, told.within.1)))
 
-      pub scan-past : 18446744073709551615 - offset < next → Scanned s w₀ w' base (Scan.Fault 12) (scan_line_sequence_offsets h offset s)
+      pub scan-past : 18446744073709551615 - offset < next → Scanned s w₀ w' base (Err Refusal.Overflow) (scan_line_sequence_offsets h offset s)
       unfolding ◌>>=◌
       scan-past k =
           let q : 2 ^ 64 ≤ offset + next = omega arith in

@@ -2,9 +2,8 @@
 use Rattle.line_program.proofs.lines.OffsetLaws.{header-past, header-at}
 use Rattle.line_program.proofs.lines.line_sequence_offsets.Goals as goal
 
-pub returns-in-At : goal.returns-in-At
-returns-in-At c = header-at _ _ _ _ _ _ c.program_offset.ensures c.in-At.is
-    c.scan_line_sequence_offsets.ensures
+pub returns : goal.returns
+returns c = header-at _ _ _ _ _ c.in-Some.ensures c.scan_line_sequence_offsets.ensures
 
-pub returns-in-Past : goal.returns-in-Past
-returns-in-Past c = header-past _ _ _ _ _ _ c.program_offset.ensures c.in-Past.is
+pub returns-in_default : goal.returns-in_default
+returns-in_default c = header-past _ _ _ _ _ c.in_default.ensures

@@ -1,17 +1,17 @@
 -- `lines::skip_extended` meets its contract. The length is read, then its bytes are passed over.
-use native.Mathlib.Omega.{arith}
-use Rattle.line_program.proofs.InstructionLaws.{reads-within, extended-fault, extended-zero, extended-payload}
+use Rattle.std.proofs.Common.{arith}
+use Rattle.std.proofs.lemmas.Result.{err_from_is_err_and}
+use Rattle.line_program.proofs.InstructionLaws.{extended-err, extended-zero, extended-payload}
 use Rattle.line_program.proofs.lines.skip_extended.Goals as goal
 
-pub returns-then-value-eq0 : goal.returns-then-value-eq0
-returns-then-value-eq0 c = search extended-zero
-
 pub skip_payload-requires : goal.skip_payload-requires
-skip_payload-requires c = let q = reads-within c.read_line_uleb.ensures c.in-Value.is in
-    (omega arith, q.1, omega arith)
+skip_payload-requires c = let q = c.in_ok-length.ensures.within in (omega arith, q.1, omega arith)
 
-pub returns-else-value-eq0 : goal.returns-else-value-eq0
-returns-else-value-eq0 c = search extended-payload
+pub returns-in_err-length : goal.returns-in_err-length
+returns-in_err-length c = let p = err_from_is_err_and c.from_residual.result c.from_residual.ensures.1 in rw (p.1, p.2) (extended-err c.in_err-length.ensures)
 
-pub returns-in-Fault : goal.returns-in-Fault
-returns-in-Fault c = search extended-fault
+pub returns-then-length-eq0 : goal.returns-then-length-eq0
+returns-then-length-eq0 c = extended-zero c.in_ok-length.ensures c.if-length-eq0.true
+
+pub returns : goal.returns
+returns c = extended-payload c.in_ok-length.ensures c.if-length-eq0.false c.skip_payload.ensures

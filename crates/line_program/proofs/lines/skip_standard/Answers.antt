@@ -14,7 +14,7 @@ pub returns-in_default : goal.returns-in_default
 returns-in_default c = let m = c.in_default-1.rest in
     let k : (c.args.opcode < 6) ⊎ (12 ≤ c.args.opcode) = elim c.in_default.branch [ in_default-via-then-opcode-lt6 w ↦ inl (omega arith) | in_default-via-else-opcode-lt6+else-opcode-lt12 w ↦ inr (omega arith) ] in
     standard-rest _ _ _ _ m.0.1 m.1 k
-    c.operand_count-n.ensures c.skip_counted.ensures
+    c.operand_count.ensures c.skip_counted.ensures
 
 pub returns-in-1 : goal.returns-in-1
 returns-in-1 c = standard-bare _ _ _ _ 1 c.in-1.is refl refl (omega arith)

@@ -1,39 +1,26 @@
 -- `operand::skip_operand` meets its contract. What is left of the operand is passed over as the whole is.
-use native.Mathlib.Omega.{arith}
-use borrow.Author.Tests.{le-leb, lt-leb}
-use Rattle.line_program.proofs.SkipLaws.{passing-unsigned, passing-cut, passing-overflow, passing-tenth, passing-overlong, passing-end}
-use Rattle.line_program.proofs.SkipLaws.{passing-more}
+use mathlib.Core.Path.{sym, ◌∙◌}
+use Rattle.line_program.specs.Program.{skip_operand}
+use Rattle.line_program.proofs.SkipLaws.{passing-start, passing-cut, passing-overflow, passing-tenth, passing-overlong, passing-end, passing-more}
 use Rattle.line_program.proofs.operand.skip_operand.Goals as goal
 
 pub loop-p-init : goal.loop-p-init
-loop-p-init c = passing-unsigned _ _
+loop-p-init g c = passing-start _ (skip_operand g.B.TenthByte.kind) _ _ g.met.B.TenthByte.passes
 
-pub returns-then-program-p : goal.returns-then-program-p
-returns-then-program-p c = search passing-cut
-
-pub bounds-program-p : goal.bounds-program-p
-bounds-program-p c = omega arith
-
-pub overflow_add-p : goal.overflow_add-p
-overflow_add-p c = omega arith
-
-pub returns-then-byte-gt1 : goal.returns-then-byte-gt1
-returns-then-byte-gt1 c = search (passing-overflow, lt-leb)
+pub returns-then-not-fits : goal.returns-then-not-fits
+returns-then-not-fits g c = let f = sym c.fits.ensures ∙ c.if-not-fits.true in search passing-overflow
 
 pub returns-then-byte-lt128 : goal.returns-then-byte-lt128
-returns-then-byte-lt128 c = search (passing-tenth, le-leb)
+returns-then-byte-lt128 g c = let f = sym c.fits.ensures ∙ c.if-not-fits.false in search passing-tenth
 
 pub returns-then-left-eq0 : goal.returns-then-left-eq0
-returns-then-left-eq0 c = search (passing-overlong, le-leb)
-
-pub returns-then-byte-lt128-2 : goal.returns-then-byte-lt128-2
-returns-then-byte-lt128-2 c = search passing-end
-
-pub overflow_sub-left : goal.overflow_sub-left
-overflow_sub-left c = omega arith
-
-pub loop-p-smaller : goal.loop-p-smaller
-loop-p-smaller c = omega arith
+returns-then-left-eq0 g c = let f = sym c.fits.ensures ∙ c.if-not-fits.false in search passing-overlong
 
 pub loop-p-preserved : goal.loop-p-preserved
-loop-p-preserved c = search passing-more
+loop-p-preserved g c = search passing-more
+
+pub returns-then-byte-lt128-2 : goal.returns-then-byte-lt128-2
+returns-then-byte-lt128-2 g c = search passing-end
+
+pub returns-then-program-p : goal.returns-then-program-p
+returns-then-program-p g c = search passing-cut

@@ -3,11 +3,11 @@ use native.Mathlib.Omega.{arith}
 use Rattle.line_program.proofs.InstructionLaws.{take_past, take_cut, take_to}
 use Rattle.line_program.proofs.operand.take_line_bytes.Goals as goal
 
-pub returns-then-at-n : goal.returns-then-at-n
-returns-then-at-n c = take_past _ _ _ (omega arith) (omega arith) (omega arith)
-
-pub returns-then-room-n : goal.returns-then-room-n
-returns-then-room-n c = take_cut _ _ _ (omega arith) (omega arith) (omega arith) (omega arith)
+pub returns-then-program-end : goal.returns-then-program-end
+returns-then-program-end c = let z = c.in-Some.ensures in take_cut _ _ _ (omega arith) (omega (arith, z.1)) (omega (arith, z.0))
 
 pub returns : goal.returns
-returns c = take_to _ _ _ (omega arith) (omega arith)
+returns c = let z = c.in-Some.ensures in rw z.1 (take_to _ _ _ (omega arith) (omega (arith, z.1)))
+
+pub returns-in_default : goal.returns-in_default
+returns-in_default c = take_past _ _ _ (omega arith) (omega (arith, c.in_default.ensures)) (omega (arith, c.in_default.ensures))
