@@ -9,6 +9,7 @@ use borrow.Author.Tests.{lt-ltb, le-ltb, le-leb, lt-leb, eq-eqb, ne_eqb, not-tru
 use lib.Dec.{leb, ltb, eqb}
 use lib.ListN.{length, get_or, take, drop, length-take, length-drop, drop_of_length-le}
 use lib.Seq.{take-suc, take-length, take_all, drop-cons}
+use Rattle.std.specs.List.{list_any}
 use Rattle.tlv.specs.Lists.{exists}
 use Rattle.line_program.specs.Standard.{slash}
 use Rattle.paths.specs.Paths.{is_separator, starts_with, is_drive, is_share, is_absolute, is_letter, starts_with_letter, has_drive_letter, starts_doubled}
@@ -71,148 +72,35 @@ basename-is s n e = rw (← e) (take_all (length s - n) (drop n s) (omega (arith
 
 -- ---- separators
 
-pub separator-slash : (b : ℕ) → b ≡ slash → true ≡ is_separator b
-unfolding is_separator
-separator-slash b e = rw (eq-eqb b slash e)
-
-pub separator-other : (b : ℕ) → (b ≡ slash → ⊥) → eqb b 0x5c ≡ is_separator b
-unfolding is_separator
-separator-other b n = rw (ne_eqb b slash n)
-
-module _ (s : List ℕ) (i : ℕ) where
-  pub any_none : length s ≤ i → exists is_separator (drop i s) ≡ false
-  unfolding exists
-  any_none h = ap (exists is_separator) (drop_of_length-le s {i = i} h)
-
-  module _ (h : i < length s) (r : Bool) (e : r ≡ is_separator (get_or s i 0)) where
-    any_at : exists is_separator (drop i s) ≡ cond r true (exists is_separator (drop (i + 1) s))
-    unfolding exists
-    any_at = ap (exists is_separator) (drop_byte s i (get_or s i 0) h refl) ∙ ap (λ (x : Bool). cond x true (exists is_separator (drop (i + 1) s))) (sym e)
-
-    pub any_here : (v : Bool) → v ≡ exists is_separator (drop i s) → r ≡ true → true ≡ v
-    any_here v q t = sym (q ∙ any_at ∙ ap (λ (x : Bool). cond x true (exists is_separator (drop (i + 1) s))) t)
-
-    pub any_more : (v : Bool) → v ≡ exists is_separator (drop i s) → r ≡ false → v ≡ exists is_separator (drop (i + 1) s)
-    any_more v q t = q ∙ any_at ∙ ap (λ (x : Bool). cond x true (exists is_separator (drop (i + 1) s))) t
+-- the library's word
+pub exists-any : (p : ℕ → Bool) (s : List ℕ) → exists p s ≡ list_any p s
+unfolding exists
+exists-any p [] = refl
+exists-any p (x ∷ s) = go (p x) (exists-any p s)
+  where
+    go : (b : Bool) → exists p s ≡ list_any p s → cond b true (exists p s) ≡ (b || list_any p s)
+    go true e = refl
+    go false e = e
 
 -- ---- paths that Windows wrote
 
-pub letter_low : (b : ℕ) → b < 0x41 → false ≡ is_letter b
-letter_low b h = rw (lt-leb 0x41 b h, lt-leb 0x61 b (omega arith))
+-- a drive stands in three bytes at the least
+pub drive-some : (s : List ℕ) → true ≡ is_drive s → 0 < length s
+unfolding is_drive
+drive-some [] e = absurd cc
+drive-some (x ∷ s) e = omega arith
 
-pub letter_capital : (b : ℕ) → 0x41 ≤ b → b ≤ 0x5a → true ≡ is_letter b
-letter_capital b h g = rw (le-leb 0x41 b h, le-leb b 0x5a g)
-
-pub letter-between : (b : ℕ) → 0x5a < b → b < 0x61 → false ≡ is_letter b
-letter-between b h g = rw (le-leb 0x41 b (omega arith), lt-leb b 0x5a h, lt-leb 0x61 b g)
-
-pub letter-small : (b : ℕ) → 0x5a < b → 0x61 ≤ b → leb b 0x7a ≡ is_letter b
-letter-small b h g = rw (le-leb 0x41 b (omega arith), lt-leb b 0x5a h, le-leb 0x61 b g)
-
-module _ (s : List ℕ) (d : Bool) (e : d ≡ is_drive s) where
-  pub drive-letter_none : not d ≡ true → false ≡ has_drive_letter s
-  drive-letter_none h = rw (← e, not-true d h)
-
-  pub drive-letter_empty : length s ≡ 0 → false ≡ has_drive_letter s
-  unfolding starts_with_letter
-  drive-letter_empty h = go s h
-    where
-      go : (s : List ℕ) → length s ≡ 0 → false ≡ has_drive_letter s
-      go [] h = sym (and-false (is_drive []))
-      go (x ∷ s) h = absurd (omega arith)
-
-  pub drive-letter-first : not d ≡ false → (length s ≡ 0 → ⊥) → (r : Bool) → r ≡ is_letter (get_or s 0 0) → r ≡ has_drive_letter s
-  unfolding starts_with_letter
-  drive-letter-first h n r q = q ∙ rw (← e, not-false d h) (first s n)
-    where
-      first : (s : List ℕ) → (length s ≡ 0 → ⊥) → is_letter (get_or s 0 0) ≡ starts_with_letter s
-      first [] n = absurd (n refl)
-      first (x ∷ s) n = refl
-
-pub doubled-short : (s : List ℕ) → length s < 2 → false ≡ starts_doubled s
-unfolding starts_doubled
-doubled-short [] h = refl
-doubled-short (a ∷ []) h = refl
-doubled-short (a ∷ b ∷ s) h = absurd (omega arith)
-
-doubled-at : (s : List ℕ) → 2 ≤ length s → starts_doubled s ≡ (eqb (get_or s 0 0) 0x5c && eqb (get_or s 1 0) 0x5c)
-unfolding starts_doubled
-doubled-at [] h = absurd (omega arith)
-doubled-at (a ∷ []) h = absurd (omega arith)
-doubled-at (a ∷ b ∷ s) h = refl
-
-pub doubled-other : (s : List ℕ) → 2 ≤ length s → (get_or s 0 0 ≡ 0x5c → ⊥) → false ≡ starts_doubled s
-doubled-other s h n = sym (rw (ne_eqb (get_or s 0 0) 0x5c n) at (doubled-at s h))
-
-pub doubled-second : (s : List ℕ) → 2 ≤ length s → get_or s 0 0 ≡ 0x5c → eqb (get_or s 1 0) 0x5c ≡ starts_doubled s
-doubled-second s h e = sym (rw (eq-eqb (get_or s 0 0) 0x5c e) at (doubled-at s h))
-
-module _ (s : List ℕ) (d : Bool) (e : d ≡ has_drive_letter s) where
-  pub windows-drive : d ≡ true → true ≡ is_windows s
-  unfolding is_windows
-  windows-drive h = rw (← e, h)
-
-  pub windows-doubled : d ≡ false → (r : Bool) → r ≡ starts_doubled s → r ≡ is_windows s
-  unfolding is_windows
-  windows-doubled h r q = rw (← e, h) q
-
-  pub root-drive : d ≡ true → 3 ≡ root_length s
-  unfolding root_length
-  root-drive h = rw (← e, h)
-
-  module _ (h : d ≡ false) (r : Bool) (q : r ≡ starts_doubled s) where
-    pub root-doubled : r ≡ true → 2 ≡ root_length s
-    unfolding root_length
-    root-doubled k = rw (← e, h, ← q, k)
-
-    pub root-other : r ≡ false → 1 ≡ root_length s
-    unfolding root_length
-    root-other k = rw (← e, h, ← q, k)
-
-pub splits-windows : (w : Bool) (b : ℕ) → w ≡ true → (r : Bool) → r ≡ is_separator b → r ≡ splits_at w b
-splits-windows w b h r e = rw h e
-
-pub splits-slash : (w : Bool) (b : ℕ) → w ≡ false → eqb b slash ≡ splits_at w b
-splits-slash w b h = rw h
+pub drive-letter : (s : List ℕ) (r : Bool) → true ≡ is_drive s → r ≡ is_letter (get_or s 0 0) → r ≡ has_drive_letter s
+unfolding starts_with_letter
+drive-letter [] r e q = absurd (omega (arith, drive-some [] e))
+drive-letter (x ∷ s) r e q = rw (← e) q
 
 -- ---- absolute paths
-
-pub starts_empty : (s : List ℕ) → length s ≡ 0 → false ≡ starts_with slash s
-unfolding starts_with
-starts_empty [] h = refl
-starts_empty (x ∷ s) h = absurd (omega arith)
 
 pub starts_first : (s : List ℕ) → (length s ≡ 0 → ⊥) → eqb (get_or s 0 0) slash ≡ starts_with slash s
 unfolding starts_with
 starts_first [] h = absurd (h refl)
 starts_first (x ∷ s) h = refl
-
-pub drive-short : (s : List ℕ) → length s < 3 → false ≡ is_drive s
-unfolding is_drive
-drive-short [] h = refl
-drive-short (a ∷ []) h = refl
-drive-short (a ∷ b ∷ []) h = refl
-drive-short (a ∷ b ∷ c ∷ s) h = absurd (omega arith)
-
-drive-at : (s : List ℕ) → 3 ≤ length s → is_drive s ≡ (eqb (get_or s 1 0) 0x3a && is_separator (get_or s 2 0))
-unfolding is_drive
-drive-at [] h = absurd (omega arith)
-drive-at (a ∷ []) h = absurd (omega arith)
-drive-at (a ∷ b ∷ []) h = absurd (omega arith)
-drive-at (a ∷ b ∷ c ∷ s) h = refl
-
-pub drive-colon : (s : List ℕ) (r : Bool) → 3 ≤ length s → get_or s 1 0 ≡ 0x3a → r ≡ is_separator (get_or s 2 0) → r ≡ is_drive s
-drive-colon s r h k e = e ∙ sym (rw (eq-eqb (get_or s 1 0) 0x3a k) at (drive-at s h))
-
-pub drive-none : (s : List ℕ) → 3 ≤ length s → (get_or s 1 0 ≡ 0x3a → ⊥) → false ≡ is_drive s
-drive-none s h k = sym (rw (ne_eqb (get_or s 1 0) 0x3a k) at (drive-at s h))
-
-pub share-short : (s : List ℕ) → length s < 3 → false ≡ is_share s
-unfolding is_share
-share-short [] h = refl
-share-short (a ∷ []) h = refl
-share-short (a ∷ b ∷ []) h = refl
-share-short (a ∷ b ∷ c ∷ s) h = absurd (omega arith)
 
 share-at : (s : List ℕ) → 3 ≤ length s
     → is_share s ≡ (is_separator (get_or s 0 0) && eqb (get_or s 0 0) (get_or s 1 0) && not (is_separator (get_or s 2 0)) && exists is_separator (drop 3 s))
@@ -222,45 +110,8 @@ share-at (a ∷ []) h = absurd (omega arith)
 share-at (a ∷ b ∷ []) h = absurd (omega arith)
 share-at (a ∷ b ∷ c ∷ s) h = refl
 
-module _ (s : List ℕ) (h : 3 ≤ length s) (a : Bool) (ea : a ≡ is_separator (get_or s 0 0)) where
-  pub share-first : not a ≡ true → false ≡ is_share s
-  share-first k = sym (rw (← ea, not-true a k) at (share-at s h))
-
-  pub share-second : not a ≡ false → (get_or s 0 0 ≡ get_or s 1 0 → ⊥) → false ≡ is_share s
-  share-second k n = sym (rw (← ea, not-false a k, ne_eqb (get_or s 0 0) (get_or s 1 0) n) at (share-at s h))
-
-  module _ (k : not a ≡ false) (q : get_or s 0 0 ≡ get_or s 1 0) (b : Bool) (eb : b ≡ is_separator (get_or s 2 0)) where
-    pub share-third : b ≡ true → false ≡ is_share s
-    share-third t = sym (rw (← ea, not-false a k, eq-eqb (get_or s 0 0) (get_or s 1 0) q, ← eb, t) at (share-at s h))
-
-    pub share-rest : b ≡ false → (r : Bool) → r ≡ exists is_separator (drop 3 s) → r ≡ is_share s
-    share-rest t r e = e ∙ sym (rw (← ea, not-false a k, eq-eqb (get_or s 0 0) (get_or s 1 0) q, ← eb, t) at (share-at s h))
-
-module _ (s : List ℕ) (a : Bool) (ea : a ≡ starts_with slash s) where
-  pub absolute-slash : a ≡ true → true ≡ is_absolute s
-  unfolding is_absolute
-  absolute-slash k = rw (← ea, k)
-
-  module _ (k : a ≡ false) (d : Bool) (ed : d ≡ is_drive s) where
-    pub absolute-drive : d ≡ true → true ≡ is_absolute s
-    unfolding is_absolute
-    absolute-drive t = rw (← ea, k, ← ed, t)
-
-    pub absolute-share : d ≡ false → (r : Bool) → r ≡ is_share s → r ≡ is_absolute s
-    unfolding is_absolute
-    absolute-share t r e = rw (← ea, k, ← ed, t) e
-
--- ---- which directories stand below the compilation directory
-
-module _ (version number : ℕ) (s : List ℕ) (a : Bool) (ea : a ≡ is_absolute s) where
-  pub needs-absolute : a ≡ true → false ≡ needs_compilation version number s
-  unfolding needs_compilation
-  needs-absolute k = rw (← ea, k) (sym (and-false (ltb version 5 || not (eqb number 0))))
-
-  pub needs_old : a ≡ false → version < 5 → true ≡ needs_compilation version number s
-  unfolding needs_compilation
-  needs_old k h = rw (← ea, k, lt-ltb version 5 h)
-
-  pub needs_new : a ≡ false → 5 ≤ version → not (eqb number 0) ≡ needs_compilation version number s
-  unfolding needs_compilation
-  needs_new k h = rw (← ea, k, le-ltb version 5 h) (sym (and-true (not (eqb number 0))))
+pub share-all : (s : List ℕ) (r : Bool) → 3 ≤ length s → is_separator (get_or s 0 0) ≡ true → eqb (get_or s 0 0) (get_or s 1 0) ≡ true
+    → not (is_separator (get_or s 2 0)) ≡ true → r ≡ list_any is_separator (take (length s - 3) (drop 3 s)) → r ≡ is_share s
+share-all s r h a b t e =
+    let z : take (length s - 3) (drop 3 s) ≡ drop 3 s = take_all (length s - 3) (drop 3 s) (omega (arith, length-drop 3 s)) in
+    e ∙ ap (list_any is_separator) z ∙ sym (exists-any is_separator (drop 3 s)) ∙ sym (rw (a, b, t) at (share-at s h))

@@ -1,6 +1,6 @@
 // Paths: parts of a path, and paths joined in a work slice.
-ghost use Rattle.std.specs.Prelude.{◌≡◌, true, false, ◌+◌, ◌-◌, ◌≤◌, ◌<◌, length, drop};
-ghost use Rattle.tlv.specs.Lists.{exists};
+ghost use Rattle.std.specs.Prelude.{◌≡◌, true, false, ◌+◌, ◌-◌, ◌≤◌, length};
+ghost use Rattle.std.specs.List.{list_any};
 ghost use Rattle.buffers.specs.Buffer.{overlay};
 ghost use Rattle.buffers.specs.Table.{chunk};
 ghost use Rattle.line_program.specs.Standard.{slash};
@@ -14,12 +14,10 @@ fn base_start(path: &[u8]) -> usize
     ensures { (result ≡ base_start path.now) × (result ≤ length path.now) }
 {
     let windows = is_windows(path);
-    let mut i = path.len();
-    while 0 < i {
-        if splits_at(windows, path[i - 1]) {
-            return i;
+    for i in (0..path.len()).rev() {
+        if splits_at(windows, path[i]) {
+            return i + 1;
         }
-        i -= 1;
     }
     0
 }
@@ -33,8 +31,7 @@ pub fn directory_of(path: &[u8]) -> &[u8]
     if n <= root {
         return &path[..n];
     }
-    let m = n - 1;
-    &path[..m]
+    &path[..n - 1]
 }
 
 // What stands after the last byte that splits a path.
@@ -45,141 +42,90 @@ pub fn basename_of(path: &[u8]) -> &[u8]
     &path[n..]
 }
 
+#[tactic(auto, unfolding(crate::specs::Paths::is_separator))]
 fn is_separator(b: u8) -> bool
     ensures { result ≡ is_separator b }
 {
-    if b == 0x2f {
-        return true;
-    }
-    b == 0x5c
+    matches!(b, b'/' | b'\\')
 }
 
-// Whether a separator stands at a place or after it.
-fn any_separator(path: &[u8], from: usize) -> bool
-    ensures { result ≡ exists is_separator (drop from path.now) }
+fn any_separator(path: &[u8]) -> bool
+    ensures { result ≡ list_any is_separator path.now }
 {
-    let mut i = from;
-    while i < path.len() {
-        if is_separator(path[i]) {
-            return true;
-        }
-        i += 1;
-    }
-    false
+    path.iter().any(|&b| is_separator(b))
 }
 
+#[tactic(auto, unfolding(crate::specs::Paths::starts_with))]
 fn starts_with_slash(path: &[u8]) -> bool
     ensures { result ≡ starts_with slash path.now }
 {
-    if path.len() == 0 {
-        return false;
-    }
-    path[0] == 0x2f
+    path.first() == Some(&b'/')
 }
 
+#[tactic(auto, unfolding(crate::specs::Paths::is_drive))]
 fn has_drive(path: &[u8]) -> bool
     ensures { result ≡ is_drive path.now }
 {
-    if path.len() < 3 {
-        return false;
-    }
-    if path[1] == 0x3a {
-        return is_separator(path[2]);
-    }
-    false
+    path.len() >= 3 && path[1] == b':' && is_separator(path[2])
 }
 
+#[tactic(auto, unfolding(crate::specs::Paths::is_share))]
 fn is_share(path: &[u8]) -> bool
     ensures { result ≡ is_share path.now }
 {
-    if path.len() < 3 {
-        return false;
-    }
-    if !is_separator(path[0]) {
-        return false;
-    }
-    if path[0] != path[1] {
-        return false;
-    }
-    if is_separator(path[2]) {
-        return false;
-    }
-    any_separator(path, 3)
+    path.len() >= 3
+        && is_separator(path[0])
+        && path[0] == path[1]
+        && !is_separator(path[2])
+        && any_separator(&path[3..])
 }
 
+#[tactic(auto, unfolding(crate::specs::Paths::is_absolute))]
 pub fn is_absolute_path(path: &[u8]) -> bool
     ensures { result ≡ is_absolute path.now }
 {
-    if starts_with_slash(path) {
-        return true;
-    }
-    if has_drive(path) {
-        return true;
-    }
-    is_share(path)
+    starts_with_slash(path) || has_drive(path) || is_share(path)
 }
 
+#[tactic(auto, unfolding(crate::specs::Paths::is_letter))]
 fn is_letter(b: u8) -> bool
     ensures { result ≡ is_letter b }
 {
-    if b < 0x41 {
-        return false;
-    }
-    if b <= 0x5a {
-        return true;
-    }
-    if b < 0x61 {
-        return false;
-    }
-    b <= 0x7a
+    b.is_ascii_alphabetic()
 }
 
 // Whether a path begins with a drive letter, a colon and a separator.
 fn has_drive_letter(path: &[u8]) -> bool
     ensures { result ≡ has_drive_letter path.now }
 {
-    if !has_drive(path) {
-        return false;
-    }
-    if path.len() == 0 {
-        return false;
-    }
-    is_letter(path[0])
+    has_drive(path) && is_letter(path[0])
 }
 
 // Whether a path begins with two backslashes.
+#[tactic(auto, unfolding(crate::specs::Paths::starts_doubled))]
 fn starts_doubled(path: &[u8]) -> bool
     ensures { result ≡ starts_doubled path.now }
 {
-    if path.len() < 2 {
-        return false;
-    }
-    if path[0] != 0x5c {
-        return false;
-    }
-    path[1] == 0x5c
+    path.len() >= 2 && path[0] == b'\\' && path[1] == b'\\'
 }
 
+#[tactic(auto, unfolding(crate::specs::Paths::is_windows))]
 fn is_windows(path: &[u8]) -> bool
     ensures { result ≡ is_windows path.now }
 {
-    if has_drive_letter(path) {
-        return true;
-    }
-    starts_doubled(path)
+    has_drive_letter(path) || starts_doubled(path)
 }
 
 // Whether a byte splits a path.
+#[tactic(auto, unfolding(crate::specs::Paths::splits_at))]
 fn splits_at(windows: bool, b: u8) -> bool
     ensures { result ≡ splits_at windows b }
 {
-    if windows {
-        return is_separator(b);
-    }
-    b == 0x2f
+    if windows { is_separator(b) } else { b == b'/' }
 }
 
 // How many bytes at the front of a path keep their last separator.
+#[tactic(auto, unfolding(crate::specs::Paths::root_length))]
 fn root_length(path: &[u8]) -> usize
     ensures { result ≡ root_length path.now }
 {
@@ -197,11 +143,7 @@ fn copy_in(work: &mut [u8], to: usize, path: &[u8])
     requires { to + length path.now ≤ length work.old }
     ensures { work.new ≡ overlay to path.now work.old }
 {
-    let mut i = 0;
-    while i < path.len() {
-        work[to + i] = path[i];
-        i += 1;
-    }
+    work[to..to + path.len()].copy_from_slice(path);
 }
 
 // Puts a component below the path of n bytes that stands at a place of the work slice, and returns its length then.
@@ -218,28 +160,19 @@ pub fn append_path(work: &mut [u8], at: usize, n: usize, component: &[u8]) -> us
         copy_in(work, at, component);
         return m;
     }
-    if work[end - 1] == 0x2f {
+    if work[end - 1] == b'/' || component[0] == b'/' {
         copy_in(work, end, component);
         return n + m;
     }
-    if component[0] == 0x2f {
-        copy_in(work, end, component);
-        return n + m;
-    }
-    work[end] = 0x2f;
+    work[end] = b'/';
     copy_in(work, end + 1, component);
     n + 1 + m
 }
 
 // Whether a file's directory is one below the compilation directory.
+#[tactic(auto, unfolding(crate::specs::Paths::needs_compilation))]
 pub fn needs_compilation(version: u8, number: u64, directory: &[u8]) -> bool
     ensures { result ≡ needs_compilation version number directory.now }
 {
-    if is_absolute_path(directory) {
-        return false;
-    }
-    if version < 5 {
-        return true;
-    }
-    number != 0
+    !is_absolute_path(directory) && (version < 5 || number != 0)
 }

@@ -10,8 +10,5 @@ slice_bounds-result-end c = simp length-take (omega arith)
 pub returns-then-n-root : goal.returns-then-n-root
 returns-then-n-root c = search directory-short
 
-pub slice_bounds-result-end-2 : goal.slice_bounds-result-end-2
-slice_bounds-result-end-2 c = simp length-take (omega arith)
-
 pub returns : goal.returns
 returns c = search directory-long
