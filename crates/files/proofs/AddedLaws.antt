@@ -23,7 +23,8 @@ use Rattle.paths.proofs.PathBounds.{append_path-length}
 use Rattle.lines.specs.Files.{file_index, place_of, append_file, add_file_at, add_file}
 use Rattle.files.specs.declared.pieces.FilePieces.{FilePieces}
 use Rattle.files.specs.declared.store.StoredFiles.{StoredFiles}
-use Rattle.files.specs.declared.store.FoundFile.{FoundFile}
+use Rattle.std.specs.Prelude.{Some, None, Result, Ok, Err}
+use Rattle.tlv.specs.declared.refusal.Refusal.{Refusal}
 use Rattle.files.specs.declared.store.AddedFile.{AddedFile}
 use Rattle.files.specs.declared.store.LaidHash.{LaidHash}
 use Rattle.files.specs.Pieces.{source_in, span_in, file_in, PiecesIn}
@@ -82,6 +83,11 @@ pub laid-is : (s : List ℕ) {w w₁ : List ℕ} {at : ℕ} (p : FilePieces) {l 
 unfolding file_in
 laid-is s p L = λ i. record { directory = L.directory i; basename = cut-span s p.base.start p.base.len i }
 
+-- .. in the sheet of its source
+pub laid-as : {s s' : List ℕ} {w w₁ : List ℕ} {at : ℕ} (p : FilePieces) {l : LaidHash} → s' ≡ s → LaidAt w w₁ at (file_in s' p) l
+    → ◌≡◌ {A = FileEntry} (record { directory = chunk w₁ at l.n; basename = take (p.base.start + p.base.len - p.base.start) (drop p.base.start s') }) (file_in s p)
+laid-as {s} {s'} p e L = laid-is s' p L ∙ ap (λ (x : List ℕ). file_in x p) e
+
 -- ---- a file that is found
 
 -- e is looked up as e₁
@@ -90,17 +96,17 @@ module _ {main supplementary w w₁ : List ℕ} {t : StoredFiles} {e e₁ : File
   laid-place : place_of e₁ (entries_of main supplementary w₁ t) ≡ place_of e (entries_of main supplementary w t)
   laid-place = λ j. place_of (q j) (entries-apart F L.rest (inl (omega arith)) j)
 
-  pub found_number : {r : FoundFile} {i : ℕ} → found_of r ≡ place_of e₁ (entries_of main supplementary w₁ t) → r ≡ FoundFile.At i → t.first + i < 2 ^ 32
-  found_number {r} {i} f is =
-      let place : place_of e (entries_of main supplementary w t) ≡ some i = sym laid-place ∙ sym f ∙ ap found_of is in
+  pub found_number : {i : ℕ} → found_of (Some i) ≡ place_of e₁ (entries_of main supplementary w₁ t) → t.first + i < 2 ^ 32
+  found_number {i} f =
+      let place : place_of e (entries_of main supplementary w t) ≡ some i = sym laid-place ∙ sym f in
       omega (arith, place-within e (entries_of main supplementary w t) i place, entries-length main supplementary w t, F.numbered)
 
-  pub found-adds : {files : List ℕ} {r : FoundFile} {i : ℕ} → found_of r ≡ place_of e₁ (entries_of main supplementary w₁ t) → r ≡ FoundFile.At i → length w₁ ≡ length w → t.written ≤ top → length files < top
-      → Adds main supplementary w w₁ files files t e (AddedFile.Number t (file_index (t.first + i)))
+  pub found-adds : {files : List ℕ} {i : ℕ} → found_of (Some i) ≡ place_of e₁ (entries_of main supplementary w₁ t) → length w₁ ≡ length w → t.written ≤ top → length files < top
+      → Adds main supplementary w w₁ files files t e (Ok (record { table = t; number = file_index (t.first + i) }))
   unfolding add_file table_of files_bytes each_of
-  found-adds {files} {r} {i} f is same small fits = record {
+  found-adds {files} {i} f same small fits = record {
     is = (λ j. done (record { table = record { first = t.first; entries = entries-apart F L.rest (inl (omega arith)) j }; number = file_index (t.first + i) }))
-        ∙ ap (add_file_at (table_of main supplementary w t) e) (sym (ap found_of is) ∙ f ∙ laid-place);
+        ∙ ap (add_file_at (table_of main supplementary w t) e) (f ∙ laid-place);
     after = record {
       new = [];
       entries = entries-apart F L.rest (inl (omega arith)) ∙ sym (append-nil (entries_of main supplementary w t));
@@ -113,13 +119,13 @@ module _ {main supplementary w w₁ : List ℕ} {t : StoredFiles} {e e₁ : File
     rest = kept-wide t.base (extent t) L.rest (omega arith) (omega arith);
   }
 
-  pub missing-place : {r : FoundFile} → found_of r ≡ place_of e₁ (entries_of main supplementary w₁ t) → r ≡ FoundFile.Missing → place_of e (entries_of main supplementary w₁ t) ≡ none
-  missing-place f is = ap (λ (x : FileEntry). place_of x (entries_of main supplementary w₁ t)) (sym q) ∙ sym f ∙ ap found_of is
+  pub missing-place : found_of None ≡ place_of e₁ (entries_of main supplementary w₁ t) → place_of e (entries_of main supplementary w₁ t) ≡ none
+  missing-place f = ap (λ (x : FileEntry). place_of x (entries_of main supplementary w₁ t)) (sym q) ∙ sym f
 
 -- ---- a new file
 
 -- what it gives does not depend on what was laid before
-pub adds-laid : {main supplementary w w₁ w₂ files files' : List ℕ} {t : StoredFiles} {e : FileEntry} {l : LaidHash} {r : AddedFile} → FilesIn main supplementary w t
+pub adds-laid : {main supplementary w w₁ w₂ files files' : List ℕ} {t : StoredFiles} {e : FileEntry} {l : LaidHash} {r : Result AddedFile Refusal} → FilesIn main supplementary w t
     → LaidAt w w₁ (t.base + t.room * 45) e l → Adds main supplementary w₁ w₂ files files' t e r → Adds main supplementary w w₂ files files' t e r
 unfolding table_of
 adds-laid {main} {supplementary} {w} {w₁} {w₂} {files} {files'} {t} {e} {l} {r} F L A = record {
@@ -131,8 +137,8 @@ adds-laid {main} {supplementary} {w} {w₁} {w₂} {files} {files'} {t} {e} {l} 
     old : entries_of main supplementary w₁ t ≡ entries_of main supplementary w t
     old = entries-apart F L.rest (inl (omega arith))
 
-    go : (r : AddedFile) → AddedAfter main supplementary w₁ w₂ files files' t r → AddedAfter main supplementary w w₂ files files' t r
-    go (AddedFile.Number t' n) G = record {
+    go : (r : Result AddedFile Refusal) → AddedAfter main supplementary w₁ w₂ files files' t r → AddedAfter main supplementary w w₂ files files' t r
+    go (Ok a) G = record {
       new = G.new;
       entries = G.entries ∙ ap (λ (es : List FileEntry). es ++ G.new) old;
       holds = G.holds;
@@ -141,11 +147,11 @@ adds-laid {main} {supplementary} {w} {w₁} {w₂} {files} {files'} {t} {e} {l} 
       room = G.room;
       first = G.first;
     }
-    go AddedFile.Full G = G
+    go (Err x) G = G
 
 -- the numbers are used up
 pub full-adds : {main supplementary w files : List ℕ} {t : StoredFiles} {e : FileEntry} → place_of e (entries_of main supplementary w t) ≡ none → 4294967295 < t.first + t.count
-    → Adds main supplementary w w files files t e AddedFile.Full
+    → Adds main supplementary w w files files t e (Err Refusal.FilesFull)
 unfolding add_file append_file table_of
 full-adds {main} {supplementary} {w} {files} {t} {e} new h = record {
   is = rw (new, entries-length main supplementary w t, le-ltb (t.first + t.count) (2 ^ 32) (omega arith));
@@ -153,41 +159,44 @@ full-adds {main} {supplementary} {w} {files} {t} {e} new h = record {
   rest = kept_refl w t.base (extent t);
 }
 
--- it is written behind the others
-pub new-adds : (s : List ℕ) {main supplementary w w' files files' : List ℕ} {t : StoredFiles} {source : DebugSource} {p : FilePieces} {hash n r : ℕ}
-    → FilesIn main supplementary w t → s ≡ source_in main supplementary source → PiecesIn s p → Possible main supplementary (file_in s p) → LaidFile w t n hash (file_in s p)
-    → place_of (file_in s p) (entries_of main supplementary w t) ≡ none → t.first + t.count ≤ 4294967295
-    → Put t.written (encode 0x40 (file_payload (record {
-      directory = take (t.base + t.room * 45 + n - (t.base + t.room * 45)) (drop (t.base + t.room * 45) w);
-      basename = take (p.base.start + p.base.len - p.base.start) (drop p.base.start s);
-    }))) files files' r
-    → Linked w w' t source p hash → length w' ≡ length w → Adds main supplementary w w' files files' t (file_in s p) (AddedFile.Number (grown_by t r) (file_index (t.first + t.count)))
-unfolding add_file append_file table_of files_bytes each_of file_in
-new-adds s {main} {supplementary} {w} {w'} {files} {files'} {t} {source} {p} {hash} {n} {r} F es P M D new h W L same = record {
-  is = sym (rw (new, entries-length main supplementary w t, lt-ltb (t.first + t.count) (2 ^ 32) (omega arith), ← grown));
-  after = record {
-    new = file_in s p ∷ [];
-    entries = grown;
-    holds = files-grown F es P M new D.hashed L r (omega arith) (omega (arith, W.place)) same;
-    put = put_as (append-nil (encode 0x40 (file_payload (file_in s p))) ∙ ap (λ (e : FileEntry). encode 0x40 (file_payload e)) (sym laid)) W;
-    base = refl;
-    room = refl;
-    first = refl;
-  };
-  rest = record { same = λ q k. ⊎_elim (λ a. L.rest.same q k (inl (omega arith), (inl (omega arith), tt))) (λ a. L.rest.same q k (inr (omega (arith, left)), (inr (omega (arith, head)), tt))) };
-}
-  where
-    left : t.count + 1 < t.room
-    left = room-left F (file_in s p) M new
+-- it is written behind the others, cut out of the sheet s
+module _ {main supplementary w w' files files' : List ℕ} {t : StoredFiles} {source : DebugSource} {p : FilePieces} {l : LaidHash} where
+  pub new-adds : (s : List ℕ) {r : ℕ} → s ≡ source_in main supplementary source → FilesIn main supplementary w t → PiecesIn (source_in main supplementary source) p
+      → Possible main supplementary (file_in (source_in main supplementary source) p) → LaidFile w t l.n l.hash (file_in (source_in main supplementary source) p)
+      → place_of (file_in (source_in main supplementary source) p) (entries_of main supplementary w t) ≡ none → t.first + t.count ≤ 4294967295
+      → Put t.written (encode 0x40 (file_payload (record {
+        directory = take (t.base + t.room * 45 + l.n - (t.base + t.room * 45)) (drop (t.base + t.room * 45) w);
+        basename = take (p.base.start + p.base.len - p.base.start) (drop p.base.start s);
+      }))) files files' r
+      → Linked w w' t source p l.hash → length w' ≡ length w
+      → Adds main supplementary w w' files files' t (file_in (source_in main supplementary source) p) (Ok (record { table = grown_by t r; number = file_index (t.first + t.count) }))
+  unfolding add_file append_file table_of files_bytes each_of file_in
+  new-adds s {r} es F P M D new h W L same = record {
+    is = sym (rw (new, entries-length main supplementary w t, lt-ltb (t.first + t.count) (2 ^ 32) (omega arith), ← grown));
+    after = record {
+      new = file_in (source_in main supplementary source) p ∷ [];
+      entries = grown;
+      holds = files-grown F refl P M new D.hashed L r (omega arith) (omega (arith, W.place)) same;
+      put = put_as (append-nil (encode 0x40 (file_payload (file_in (source_in main supplementary source) p))) ∙ ap (λ (e : FileEntry). encode 0x40 (file_payload e)) (sym laid)) W;
+      base = refl;
+      room = refl;
+      first = refl;
+    };
+    rest = record { same = λ q k. ⊎_elim (λ a. L.rest.same q k (inl (omega arith), (inl (omega arith), tt))) (λ a. L.rest.same q k (inr (omega (arith, left)), (inr (omega (arith, head)), tt))) };
+  }
+    where
+      left : t.count + 1 < t.room
+      left = room-left F (file_in (source_in main supplementary source) p) M new
 
-    head : hash % t.room * 4 + 4 ≤ t.room * 4
-    head = head-before t.room hash (omega (arith, left))
+      head : l.hash % t.room * 4 + 4 ≤ t.room * 4
+      head = head-before t.room l.hash (omega (arith, left))
 
-    grown : entries_of main supplementary w' (grown_by t r) ≡ entries_of main supplementary w t ++ (file_in s p ∷ [])
-    grown = entries-grown F es P M new D.hashed L r
+      grown : entries_of main supplementary w' (grown_by t r) ≡ entries_of main supplementary w t ++ (file_in (source_in main supplementary source) p ∷ [])
+      grown = entries-grown F refl P M new D.hashed L r
 
-    laid : ◌≡◌ {A = FileEntry} (record {
-      directory = take (t.base + t.room * 45 + n - (t.base + t.room * 45)) (drop (t.base + t.room * 45) w);
-      basename = take (p.base.start + p.base.len - p.base.start) (drop p.base.start s);
-    }) (file_in s p)
-    laid = λ i. record { directory = (cut-span w (t.base + t.room * 45) n ∙ D.directory) i; basename = cut-span s p.base.start p.base.len i }
+      laid : ◌≡◌ {A = FileEntry} (record {
+        directory = take (t.base + t.room * 45 + l.n - (t.base + t.room * 45)) (drop (t.base + t.room * 45) w);
+        basename = take (p.base.start + p.base.len - p.base.start) (drop p.base.start s);
+      }) (file_in (source_in main supplementary source) p)
+      laid = (λ i. record { directory = (cut-span w (t.base + t.room * 45) l.n ∙ D.directory) i; basename = cut-span s p.base.start p.base.len i })
+          ∙ (λ i. record { directory = (file_in (source_in main supplementary source) p).directory; basename = span_in (es i) p.base })

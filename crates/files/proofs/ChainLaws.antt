@@ -16,7 +16,7 @@ use Rattle.buffers.proofs.TableLaws.{le-or_lt}
 use Rattle.buffers.proofs.RecordLaws.{records-at, records-length}
 use Rattle.lines.specs.Files.{same_file, place_of}
 use Rattle.files.specs.declared.store.StoredFiles.{StoredFiles}
-use Rattle.files.specs.declared.store.FoundFile.{FoundFile}
+use Rattle.std.specs.Prelude.{Some, None}
 use Rattle.files.specs.Hash.{hash_of}
 use Rattle.files.specs.Store.{stored_file, stored_hash, records_from, record_in, StoredAt, entries_of, hashes_of, last_in, head_from, FilesIn, found_of}
 use Rattle.files.proofs.StoreLaws.{link_at}
@@ -112,12 +112,12 @@ module _ {main supplementary w : List ℕ} {t : StoredFiles} (F : FilesIn main s
         omega (arith, L.within, r ∙ sym (link_at w (records_from t + (k - 1) * 41)) ∙ F.linked (k - 1) l)
 
     pub searching-found : {b : Bool} → b ≡ same_file e (stored_file main supplementary (record_in w t (k - 1))) → b ≡ true
-        → found_of (FoundFile.At (k - 1)) ≡ place_of e (entries_of main supplementary w t)
+        → found_of (Some (k - 1)) ≡ place_of e (entries_of main supplementary w t)
     searching-found q z =
         let same = same-file e (stored_file main supplementary (record_in w t (k - 1))) (sym q ∙ z) in
         sym (ap (λ (x : FileEntry). place_of x (entries_of main supplementary w t)) same ∙ F.distinct (k - 1) (omega (arith, S.within)))
 
-  pub searching_none : {k : ℕ} → Searching main supplementary w t e k → k ≡ 0 → found_of FoundFile.Missing ≡ place_of e (entries_of main supplementary w t)
+  pub searching_none : {k : ℕ} → Searching main supplementary w t e k → k ≡ 0 → found_of None ≡ place_of e (entries_of main supplementary w t)
   unfolding entries_of
   searching_none S z =
       sym (place_none e (records (stored_file main supplementary) 41 w (records_from t) t.count)

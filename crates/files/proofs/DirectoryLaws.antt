@@ -14,7 +14,9 @@ use Rattle.buffers.specs.Table.{chunk, Kept, Wrote}
 use Rattle.buffers.proofs.ChunkLaws.{le_at-chunk, le_at-front}
 use Rattle.buffers.proofs.TableLaws.{kept_refl, kept_trans, kept-wide, le_at-kept}
 use Rattle.buffers.proofs.RecordLaws.{records-length, records-nil, records-push}
-use Rattle.access.specs.declared.access.Own.{Own}
+use Rattle.std.specs.Prelude.{Option, Some, None}
+use Rattle.tlv.specs.Cursor.{step_at}
+use Rattle.tlv.specs.declared.fields.FieldSpan.{FieldSpan}
 use Rattle.access.specs.Places.{own_fields}
 use Rattle.access.specs.Access.{own_payloads, NextOwn}
 use Rattle.access.proofs.OwnLaws.{own-within, own-field, own-placed}
@@ -66,49 +68,51 @@ listing_start s w p base h = record {
   size = refl;
 }
 
-module _ {s w₀ w : List ℕ} {p base at n : ℕ} (I : Listing s w₀ w p base at n) (r : Own) (own : NextOwn s at 0x14 r)
+module _ {s w₀ w : List ℕ} {p base at n : ℕ} (I : Listing s w₀ w p base at n)
     (room : base + 8 * length (payloads 0x14 (own_fields (fields (drop p s)))) ≤ length w₀) where
-  turn : spanned_of s w base n ++ own_payloads s 0x14 r ≡ payloads 0x14 (own_fields (fields (drop p s)))
-  turn = rw own.is I.left
+  module _ (r : Option FieldSpan) (own : NextOwn s at 0x14 r) where
+    turn : spanned_of s w base n ++ own_payloads s 0x14 r ≡ payloads 0x14 (own_fields (fields (drop p s)))
+    turn = rw own.is I.left
 
-  counted : n + length (own_payloads s 0x14 r) ≡ length (payloads 0x14 (own_fields (fields (drop p s))))
-  counted = rw (length-append, spanned-length) at (ap length turn)
+    counted : n + length (own_payloads s 0x14 r) ≡ length (payloads 0x14 (own_fields (fields (drop p s))))
+    counted = rw (length-append, spanned-length) at (ap length turn)
 
-  pub listing-done : r ≡ Own.Missing → DirectoriesIn s w₀ w p base n
-  listing-done e =
+  pub listing-done : NextOwn s at 0x14 None → DirectoriesIn s w₀ w p base n
+  listing-done own =
       let size = I.size in
-      let count = rw e at counted in
+      let count = counted None own in
       record {
-        is = sym (append-nil (spanned_of s w base n)) ∙ rw e at turn;
+        is = sym (append-nil (spanned_of s w base n)) ∙ turn None own;
         spans = I.spans;
         within = omega arith;
         rest = I.rest;
       }
 
-  module _ (start len next : ℕ) (e : r ≡ Own.Field start len next) where
+  module _ (f : FieldSpan) (own : NextOwn s at 0x14 (Some f)) where
     pub listing-room : base + n * 8 + 8 ≤ length w
     listing-room =
         let size = I.size in
-        let count = rw e at counted in
+        let count = counted (Some f) own in
         omega arith
 
-    pub listing-small : length s < 4294967296 → start + len < 4294967296
-    listing-small small = let w = own-within s at 0x14 r start len next own e in omega arith
+    pub listing-small : length s < 4294967296 → f.start + f.len < 4294967296
+    listing-small small = let w = own-within s at 0x14 f own in omega arith
 
-    directory-in : DirectoryIn s (record { start = start; len = len })
+    directory-in : DirectoryIn s (record { start = f.start; len = f.len })
     directory-in =
-        let f = own-field s at 0x14 r start len next own e I.placed in
-        let flag = placed-directory s f.place f.step 0x14 start len next f.here f.reads f.is refl in
-        let string = placed-directory-string s f.place f.step 0x14 start len next f.here f.reads f.is refl in
-        record { within = (own-within s at 0x14 r start len next own e).0; flagged = flag; short = omega arith }
+        let x = own-field s at 0x14 f own I.placed in
+        let flag = placed-directory s x.place (step_at s x.place) 0x14 f.start f.len f.next x.here refl x.is refl in
+        let string = placed-directory-string s x.place (step_at s x.place) 0x14 f.start f.len f.next x.here refl x.is refl in
+        record { within = (own-within s at 0x14 f own).0; flagged = flag; short = omega arith }
 
-    pub listing_step : {w' : List ℕ} → PutSpan w w' (base + n * 8) (record { start = start; len = len }) → length w' ≡ length w → Listing s w₀ w' p base next (n + 1)
+    pub listing_step : {w' : List ℕ} → PutSpan w w' (base + n * 8) (record { start = f.start; len = f.len }) → length w' ≡ length w
+        → Listing s w₀ w' p base f.next (n + 1)
     unfolding spanned_of chunk
     listing_step {w'} P same =
-        let a : Span = record { start = start; len = len } in
+        let a : Span = record { start = f.start; len = f.len } in
         record {
-          placed = own-placed s at 0x14 r start len next own e I.placed;
-          left = rw (records-push (λ b. span_in s (span_of b)) 8 base n (span_in s a) P.rest (ap (span_in s) P.span), append_assoc) (rw e at turn);
+          placed = own-placed s at 0x14 f own I.placed;
+          left = rw (records-push (λ b. span_in s (span_of b)) 8 base n (span_in s a) P.rest (ap (span_in s) P.span), append_assoc) (turn (Some f) own);
           spans = below_more (λ i. DirectoryIn s (span_of (chunk w' (base + i * 8) 8))) n
               (λ i h. rw (P.rest.same (base + i * 8) 8 (inl (omega arith))) (I.spans i h))
               (rw P.span directory-in);

@@ -7,6 +7,12 @@ use mathlib.Core.List.{List, [], ◌∷◌, ◌++◌, map, append-nil, append_as
 use mathlib.Core.Option.{Option, none, some}
 use lib.ListN.{length, drop}
 use Rattle.tlv.specs.declared.model.FileIndex.{FileIndex}
+use Rattle.std.specs.Prelude.{Some, None, Result, Ok, Err}
+use Rattle.std.specs.Prelude as std
+use Rattle.tlv.specs.declared.refusal.Refusal.{Refusal}
+use Rattle.tlv.specs.Refusals as refusals
+use Rattle.tlv.specs.declared.fields.FieldSpan.{FieldSpan}
+use Rattle.files.specs.declared.store.AddedFile.{AddedFile}
 use Rattle.tlv.specs.Outcome.{Outcome, refused, done, ◌>>=◌}
 use Rattle.tlv.specs.Lists.{Any}
 use Rattle.tlv.specs.Fields.{fields, payloads}
@@ -19,7 +25,6 @@ use Rattle.buffers.specs.Buffer.{top}
 use Rattle.buffers.specs.Table.{chunk, KeptBut}
 use Rattle.buffers.proofs.TableLaws.{but_refl, but_trans}
 use Rattle.buffers.proofs.RecordLaws.{records-suc, records-but}
-use Rattle.access.specs.declared.access.Own.{Own}
 use Rattle.access.specs.Places.{own_fields, unit_here}
 use Rattle.access.specs.Access.{NextOwn}
 use Rattle.access.proofs.OwnLaws.{own-within, own-field, own-placed}
@@ -28,8 +33,6 @@ use Rattle.lines.specs.Files.{FileTable, FileIndices, intern_file, Indexed, inte
 use Rattle.files.specs.declared.spans.Span.{Span}
 use Rattle.files.specs.declared.spans.FileUnit.{FileUnit}
 use Rattle.files.specs.declared.store.StoredFiles.{StoredFiles}
-use Rattle.files.specs.declared.intern.InternedFile.{InternedFile}
-use Rattle.files.specs.declared.header.InternedFiles.{InternedFiles}
 use Rattle.files.specs.Pieces.{source_in, span_in, header_here, UnitPlaced, FileUnitIn}
 use Rattle.files.specs.Possible.{with_zero}
 use Rattle.files.specs.Store.{extent, table_of, FilesIn, Grown}
@@ -57,23 +60,24 @@ place-small {s = s} F source e p U =
 abbrev spanned : ℕ → ℕ → Span
 spanned start len = record { start = start; len = len }
 
-module _ {s : List ℕ} {p : ℕ} {r : Own} (own : NextOwn s p 0x15 r) where
-  files-over : r ≡ Own.Missing → files_from s p ≡ []
+module _ {s : List ℕ} {p : ℕ} where
+  files-over : NextOwn s p 0x15 None → files_from s p ≡ []
   unfolding files_from
-  files-over e = rw (← own.is, e)
+  files-over own = rw (← own.is)
 
-  files-first : (start len next : ℕ) → r ≡ Own.Field start len next → files_from s p ≡ file_of (span_in s (spanned start len)) ∷ files_from s next
-  unfolding files_from chunk
-  files-first start len next e = rw (← own.is, e)
+  module _ {f : FieldSpan} (own : NextOwn s p 0x15 (Some f)) where
+    files-first : files_from s p ≡ file_of (span_in s (spanned f.start f.len)) ∷ files_from s f.next
+    unfolding files_from chunk
+    files-first = rw (← own.is)
 
-  -- its payload is one of a file
-  pub file-span : {start len next : ℕ} → r ≡ Own.Field start len next → Placed s p → FileSpanIn s (spanned start len)
-  file-span {start} {len} {next} e h =
-      let f = own-field s p 0x15 r start len next own e h in
-      let w = own-within s p 0x15 r start len next own e in
-      let short = placed-file-string s f.place f.step 0x15 start len next f.here f.reads f.is refl in
-      let long = placed-file s f.place f.step 0x15 start len next f.here f.reads f.is refl in
-      record { within = w.0; numbered = long; short = omega arith }
+    -- its payload is one of a file
+    pub file-span : Placed s p → FileSpanIn s (spanned f.start f.len)
+    file-span h =
+        let x = own-field s p 0x15 f own h in
+        let w = own-within s p 0x15 f own in
+        let short = placed-file-string s x.place (step_at s x.place) 0x15 f.start f.len f.next x.here refl x.is refl in
+        let long = placed-file s x.place (step_at s x.place) 0x15 f.start f.len f.next x.here refl x.is refl in
+        record { within = w.0; numbered = long; short = omega arith }
 
 -- ---- one file more, on the definitions
 
@@ -95,6 +99,11 @@ module _ (u : CompilationUnit) (h : LineHeader) (t : FileTable) (f : HeaderFile)
 intern_over : (u : CompilationUnit) (h : LineHeader) (t : FileTable) (is : FileIndices) → (intern_files u h t [] >>= with_indices is) ≡ done (record { table = t; indices = is })
 unfolding intern_files ◌>>=◌
 intern_over u h t is = rw append-nil
+
+-- the table after a file: it is as it was where the file has no path
+abbrev pub grown_table : StoredFiles → std.Option AddedFile → StoredFiles
+grown_table t None = t
+grown_table t (Some a) = a.table
 
 -- ---- the loop: n records of the map are written, n₀ of them before it, and the files from p on are left
 
@@ -134,28 +143,28 @@ interning-start {main} {supplementary} {w} {files} {t} {s} {u} {base} {n} F U P 
       files-size = refl;
     }
 
-module _ {main supplementary w₀ w files₀ files : List ℕ} {t₀ t : StoredFiles} {s : List ℕ} {u : FileUnit} {base n₀ n p : ℕ} {r : Own}
-    (J : Interning main supplementary w₀ w files₀ files t₀ t s u base n₀ n p) (own : NextOwn s p 0x15 r) where
-  pub interning_over : r ≡ Own.Missing → InternsFiles main supplementary w₀ w files₀ files t₀ s u base n₀ (InternedFiles.Indices t n)
-  interning_over e =
-      let none_left : length (files_from s p) ≡ 0 = ap length (files-over own e) in
+module _ {main supplementary w₀ w files₀ files : List ℕ} {t₀ t : StoredFiles} {s : List ℕ} {u : FileUnit} {base n₀ n p : ℕ}
+    (J : Interning main supplementary w₀ w files₀ files t₀ t s u base n₀ n p) where
+  pub interning_over : NextOwn s p 0x15 None → InternsFiles main supplementary w₀ w files₀ files t₀ s u base n₀ (Ok (record { table = t; count = n }))
+  interning_over own =
+      let none_left : length (files_from s p) ≡ 0 = ap length (files-over own) in
       let count = J.count in
       let few = J.few in
       record {
-        is = sym (J.left ∙ rw (files-over own e) (intern_over (unit_here s u.place) (header_here s u.place) (table_of main supplementary w t) (indices_of w base n)));
+        is = sym (J.left ∙ rw (files-over own) (intern_over (unit_here s u.place) (header_here s u.place) (table_of main supplementary w t) (indices_of w base n)));
         after = (J.grown, omega arith);
         rest = J.rest;
       }
 
-  module _ {start len next : ℕ} (e : r ≡ Own.Field start len next) where
-    one_more : length (files_from s p) ≡ 1 + length (files_from s next)
-    one_more = let f = ap length (files-first own start len next e) in omega arith
+  module _ {f : FieldSpan} (own : NextOwn s p 0x15 (Some f)) where
+    one_more : length (files_from s p) ≡ 1 + length (files_from s f.next)
+    one_more = let first = ap length (files-first own) in omega arith
 
-    pub file-within : FileSpanIn s (spanned start len)
-    file-within = file-span own e J.placed
+    pub file-within : FileSpanIn s (spanned f.start f.len)
+    file-within = file-span own J.placed
 
-    pub file_of-unit : OfUnit s u.place (spanned start len)
-    file_of-unit = record { listed = J.listed (file_of (span_in s (spanned start len))) (subst (λ (fs : List HeaderFile). Any (λ x. file_of (span_in s (spanned start len)) ≡ x) fs) (sym (files-first own start len next e)) (inl refl)) }
+    pub file_of-unit : OfUnit s u.place (spanned f.start f.len)
+    file_of-unit = record { listed = J.listed (file_of (span_in s (spanned f.start f.len))) (subst (λ (fs : List HeaderFile). Any (λ x. file_of (span_in s (spanned f.start f.len)) ≡ x) fs) (sym (files-first own)) (inl refl)) }
 
     -- there is room for its number, past the table
     pub file-room : (t.base + extent t ≤ base + n * 5) × (base + n * 5 + 5 ≤ length w)
@@ -165,7 +174,7 @@ module _ {main supplementary w₀ w files₀ files : List ℕ} {t₀ t : StoredF
         let few = J.few in
         (omega arith, omega (arith, one_more))
 
-    module _ {w' files' : List ℕ} {q : InternedFile} (A : InternsAt main supplementary w w' files files' t s u (spanned start len) (base + n * 5) q) where
+    module _ {w' files' : List ℕ} {q : Result (std.Option AddedFile) Refusal} (A : InternsAt main supplementary w w' files files' t s u (spanned f.start f.len) (base + n * 5) q) where
       wide : KeptBut w w' ((t₀.base, extent t₀) ∷ (base, 5 * (1 + length (unit_here s u.place).files)) ∷ [])
       wide =
           let G = J.grown in
@@ -174,30 +183,22 @@ module _ {main supplementary w₀ w files₀ files : List ℕ} {t₀ t : StoredF
           let long = one_more in
           record { same = λ a k c. A.rest.same a k (rw (G.base, G.room) c.0, (⊎_elim (λ l. inl (omega arith)) (λ l. inr (omega arith)) c.1.0, tt)) }
 
-      pub interning-refused : {k : ℕ} → q ≡ InternedFile.Refused k → InternsFiles main supplementary w₀ w' files₀ files' t₀ s u base n₀ (InternedFiles.Refused k)
-      interning-refused {k} eq = record {
-        is = intern-refused (unit_here s u.place) (header_here s u.place) (table_of main supplementary w t) (file_of (span_in s (spanned start len))) (files_from s next) (indices_of w base n) k (rw eq at A.is)
-            ∙ sym (J.left ∙ rw (files-first own start len next e));
-        after = tt;
-        rest = but_trans J.rest wide;
-      }
-
       module _ (size : length w' ≡ length w) (files-size : length files' ≡ length files) where
         step : (t' : StoredFiles) (o : Option FileIndex)
-            → done (record { table = table_of main supplementary w' t'; number = o }) ≡ intern_file (unit_here s u.place) (header_here s u.place) (table_of main supplementary w t) (file_of (span_in s (spanned start len)))
-            → Grown main supplementary w w' files files' t t' → index_of (chunk w' (base + n * 5) 5) ≡ o → Interning main supplementary w₀ w' files₀ files' t₀ t' s u base n₀ (n + 1) next
+            → done (record { table = table_of main supplementary w' t'; number = o }) ≡ intern_file (unit_here s u.place) (header_here s u.place) (table_of main supplementary w t) (file_of (span_in s (spanned f.start f.len)))
+            → Grown main supplementary w w' files files' t t' → index_of (chunk w' (base + n * 5) 5) ≡ o → Interning main supplementary w₀ w' files₀ files' t₀ t' s u base n₀ (n + 1) f.next
         unfolding indices_of
         step t' o is G number =
             let room = J.room in
             let count = J.count in
             let few = J.few in
-            let first = files-first own start len next e in
+            let first = files-first own in
             let long = one_more in
             let pushed : indices_of w' base (n + 1) ≡ indices_of w base n ++ (o ∷ []) =
             records-suc index_of 5 w' base n ∙ (λ i. records-but index_of 5 base n A.rest (inr (omega arith), (inl (omega arith), tt)) i ++ (number i ∷ [])) in
             record {
-              placed = own-placed s p 0x15 r start len next own e J.placed;
-              left = J.left ∙ rw (first, pushed) (intern_more (unit_here s u.place) (header_here s u.place) (table_of main supplementary w t) (file_of (span_in s (spanned start len))) (files_from s next)
+              placed = own-placed s p 0x15 f own J.placed;
+              left = J.left ∙ rw (first, pushed) (intern_more (unit_here s u.place) (header_here s u.place) (table_of main supplementary w t) (file_of (span_in s (spanned f.start f.len))) (files_from s f.next)
                   (indices_of w base n) (table_of main supplementary w' t') o is);
               grown = grown-trans J.grown G;
               unit = unit_kept J.unit A.rest (inr (omega arith), (inl (omega arith), tt)) size;
@@ -210,8 +211,17 @@ module _ {main supplementary w₀ w files₀ files : List ℕ} {t₀ t : StoredF
               files-size = files-size ∙ J.files-size;
             }
 
-        pub interning-unnamed : q ≡ InternedFile.Unnamed → Interning main supplementary w₀ w' files₀ files' t₀ t s u base n₀ (n + 1) next
-        interning-unnamed eq = step t none (rw eq at A.is) (rw eq at A.after) (rw eq at A.number)
+    module _ {w' files' : List ℕ} where
+      pub interning-refused : {e : Refusal} → InternsAt main supplementary w w' files files' t s u (spanned f.start f.len) (base + n * 5) (Err e)
+          → InternsFiles main supplementary w₀ w' files₀ files' t₀ s u base n₀ (Err e)
+      interning-refused {e} A = record {
+        is = intern-refused (unit_here s u.place) (header_here s u.place) (table_of main supplementary w t) (file_of (span_in s (spanned f.start f.len)))
+            (files_from s f.next) (indices_of w base n) (refusals.number_of e) A.is ∙ sym (J.left ∙ rw (files-first own));
+        after = tt;
+        rest = but_trans J.rest (wide A);
+      }
 
-        pub interning-number : {t' : StoredFiles} {k : FileIndex} → q ≡ InternedFile.Number t' k → Interning main supplementary w₀ w' files₀ files' t₀ t' s u base n₀ (n + 1) next
-        interning-number {t'} {k} eq = step t' (some k) (rw eq at A.is) (rw eq at A.after) (rw eq at A.number)
+      pub interning_turn : (o : std.Option AddedFile) → InternsAt main supplementary w w' files files' t s u (spanned f.start f.len) (base + n * 5) (Ok o)
+          → length w' ≡ length w → length files' ≡ length files → Interning main supplementary w₀ w' files₀ files' t₀ (grown_table t o) s u base n₀ (n + 1) f.next
+      interning_turn None A size files-size = step A size files-size t none A.is A.after A.number
+      interning_turn (Some a) A size files-size = step A size files-size a.table (some a.number) A.is A.after A.number

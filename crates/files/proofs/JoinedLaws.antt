@@ -2,23 +2,25 @@
 use mathlib.Core.Path.{◌≡◌, refl, sym, ap, ◌∙◌}
 use mathlib.Core.Bool.{Bool, true, false, cond, ◌&&◌, ◌||◌, not, or-true}
 use mathlib.Core.List.{List, [], ◌∷◌, ◌++◌, append_assoc, append-nil}
-use Prim.Native.Nat.{ℕ, suc, ◌+◌, ◌-◌, ◌≤◌, ◌<◌}
-use native.Mathlib.Nat.{add-zero}
+use Prim.Native.Nat.{ℕ, suc, ◌+◌, ◌-◌, ◌≤◌}
 use native.Mathlib.Omega.{arith}
-use borrow.Author.Tests.{eq-eqb, ne_eqb, not-true, not-false}
+use borrow.Author.Tests.{eqb-true, eq-eqb, ne_eqb, not-true, not-false}
 use lib.Dec.{eqb}
-use lib.ListN.{length, get_or, drop, replicate, length-append, length-replicate, drop_of_length-le}
+use lib.Pointwise.{pointwise}
+use lib.ListN.{length, get_or, take, drop, replicate, length-append, length-replicate}
+use Rattle.std.specs.Prelude.{◌==◌}
 use Rattle.tlv.specs.Lists.{same}
 use Rattle.tlv.proofs.TestLaws.{by_test, same_true}
 use Rattle.buffers.specs.Table.{chunk}
-use Rattle.buffers.proofs.ChunkLaws.{chunk-length, chunk-none, chunk-cons, chunk-add}
+use Rattle.buffers.proofs.ChunkLaws.{chunk-length, chunk-cons, chunk-add}
 use Rattle.line_program.specs.Standard.{slash}
 use Rattle.paths.specs.Paths.{starts_with, ends_with, append_path}
-use Rattle.paths.proofs.PathCodeLaws.{drop_byte, starts_first}
+use Rattle.paths.proofs.PathCodeLaws.{starts_first}
 use Rattle.paths.proofs.Joining.{ends-append, append_none, append-first}
 use Rattle.paths.proofs.JoinLaws.{ends_at, append_both}
 use Rattle.files.specs.Pieces.{Separated}
 use Rattle.files.specs.Joined.{component_at}
+use Rattle.files.proofs.DirectoryLaws.{cut-span}
 
 -- ---- same
 
@@ -43,44 +45,30 @@ same_length a b n = go (same a b) refl
     go true e = absurd (n (ap length (same_true a b e)))
     go false e = refl
 
--- ---- bytes_at
+-- the library's equality of slices
+pub same-pointwise : (a b : List ℕ) → pointwise eqb a b ≡ same a b
+unfolding same
+same-pointwise [] [] = refl
+same-pointwise [] (y ∷ b) = refl
+same-pointwise (x ∷ a) [] = refl
+same-pointwise (x ∷ a) (y ∷ b) = ap (λ (t : Bool). eqb x y && t) (same-pointwise a b)
 
--- what is left to compare gives the answer
-pub record Comparing (w s : List ℕ) (at i : ℕ) : Type 0 where
-  pub goes : same (chunk w (at + i) (length s - i)) (drop i s) ≡ same (chunk w at (length s)) s
-
-pub compare-start : (w s : List ℕ) (at : ℕ) → Comparing w s at 0
-compare-start w s at = let z : length s - 0 ≡ length s = omega arith in record { goes = λ j. same (chunk w (add-zero at j) (z j)) s }
-
-module _ {w s : List ℕ} {at i : ℕ} (C : Comparing w s at i) where
-  pub compare_done : length s ≤ i → true ≡ same (chunk w at (length s)) s
-  unfolding same
-  compare_done h =
-      let z : length s - i ≡ 0 = omega arith in
-      sym (λ j. same ((ap (chunk w (at + i)) z ∙ chunk-none w (at + i)) j) (drop_of_length-le s {i = i} h j)) ∙ C.goes
-
-  module _ (h : i < length s) (room : at + length s ≤ length w) where
-    compare_at : (eqb (get_or w (at + i) 0) (get_or s i 0) && same (chunk w (at + (i + 1)) (length s - (i + 1))) (drop (i + 1) s)) ≡ same (chunk w at (length s)) s
-    unfolding same
-    compare_at =
-        let z : length s - i ≡ suc (length s - (i + 1)) = omega arith in
-        let p : suc (at + i) ≡ at + (i + 1) = omega arith in
-        let e : chunk w (at + i) (length s - i) ≡ get_or w (at + i) 0 ∷ chunk w (at + (i + 1)) (length s - (i + 1))
-        = ap (chunk w (at + i)) z ∙ chunk-cons w (at + i) (length s - (i + 1)) (omega arith) ∙ ap (λ (q : ℕ). get_or w (at + i) 0 ∷ chunk w q (length s - (i + 1))) p
-        in
-        sym (λ j. same (e j) (drop_byte s i (get_or s i 0) h refl j)) ∙ C.goes
-
-    pub compare_differ : (get_or w (at + i) 0 ≡ get_or s i 0 → ⊥) → false ≡ same (chunk w at (length s)) s
-    compare_differ n = rw (ne_eqb (get_or w (at + i) 0) (get_or s i 0) n) at compare_at
-
-    pub compare_step : get_or w (at + i) 0 ≡ get_or s i 0 → Comparing w s at (i + 1)
-    compare_step q = record { goes = rw (eq-eqb (get_or w (at + i) 0) (get_or s i 0) q) at compare_at }
+pub bytes-same : (w s : List ℕ) (at : ℕ) {r : Bool} → r ≡ pointwise eqb (take (at + length s - at) (drop at w)) s → r ≡ same (chunk w at (length s)) s
+bytes-same w s at e = e ∙ same-pointwise (take (at + length s - at) (drop at w)) s ∙ ap (λ (l : List ℕ). same l s) (cut-span w at (length s))
 
 -- ---- separator
 
 -- no slash goes between
 unseparated : (p c : List ℕ) → append_path p c ≡ p ++ c → Separated p c 0
 unseparated p c e = record { joined = e ∙ ap (λ (l : List ℕ). l ++ c) (sym (append-nil p)); one = omega arith }
+
+-- a list of which the library says whether it is empty
+pub emptied : (l : List ℕ) → true ≡ (length l == 0) → length l ≡ 0
+emptied l e = eqb-true (length l) 0 (sym e)
+
+pub filled : (l : List ℕ) → false ≡ (length l == 0) → length l ≡ 0 → ⊥
+filled [] e z = cc
+filled (x ∷ l) e z = omega arith
 
 pub separated_first : (p c : List ℕ) → length p ≡ 0 → Separated p c 0
 separated_first [] c z = unseparated [] c (append-first c)
@@ -175,8 +163,10 @@ module _ (w s : List ℕ) (at n : ℕ) (one : n ≤ 1) (z : n ≡ 0 → ⊥) (ro
       ∙ ap (λ (l : List ℕ). same l (slash ∷ s)) (chunk-cons w at (length s) (omega arith))
       ∙ ap (λ (k : ℕ). eqb (get_or w at 0) slash && same (chunk w k (length s)) s) p
 
-  pub component_differs : (get_or w at 0 ≡ slash → ⊥) → false ≡ component_at w at n s
-  component_differs k = sym (component-slash ∙ ap (λ (b : Bool). b && same (chunk w (at + 1) (length s)) s) (ne_eqb (get_or w at 0) slash k))
+  pub component_differs : (get_or w at 0 ≡ slash → ⊥) → eqb (get_or w at 0) slash ≡ component_at w at n s
+  component_differs k =
+      let no = ne_eqb (get_or w at 0) slash k in
+      no ∙ sym (component-slash ∙ ap (λ (b : Bool). b && same (chunk w (at + 1) (length s)) s) no)
 
   pub component-after : {r : Bool} → get_or w at 0 ≡ slash → r ≡ same (chunk w (at + 1) (length s)) s → r ≡ component_at w at n s
   component-after k e = e ∙ sym (component-slash ∙ ap (λ (b : Bool). b && same (chunk w (at + 1) (length s)) s) (eq-eqb (get_or w at 0) slash k))
@@ -221,8 +211,8 @@ module _ (w : List ℕ) (at n f g : ℕ) (c d o : List ℕ) (S : Separated c d f
       joined-first k = sym (rw (← ea, not-true a k) at joined_is)
 
       module _ (k : not a ≡ false) {b : Bool} (eb : b ≡ component_at w (at + length c) f d) where
-        pub joined-second : not b ≡ true → false ≡ same (chunk w at n) whole
-        joined-second t = sym (rw (← ea, not-false a k, ← eb, not-true b t) at joined_is)
+        pub joined-second : b ≡ false → b ≡ same (chunk w at n) whole
+        joined-second t = t ∙ sym (rw (← ea, not-false a k, ← eb, t) at joined_is)
 
-        pub joined-third : {r : Bool} → not b ≡ false → r ≡ component_at w (at + length c + f + length d) g o → r ≡ same (chunk w at n) whole
-        joined-third t e = e ∙ sym (rw (← ea, not-false a k, ← eb, not-false b t) at joined_is)
+        pub joined-third : {r : Bool} → b ≡ true → r ≡ component_at w (at + length c + f + length d) g o → r ≡ same (chunk w at n) whole
+        joined-third t e = e ∙ sym (rw (← ea, not-false a k, ← eb, t) at joined_is)

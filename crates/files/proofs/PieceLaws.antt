@@ -10,7 +10,9 @@ use borrow.Author.Tests.{lt-ltb, le-ltb, eq-eqb, ne_eqb}
 use lib.Dec.{eqb, leb}
 use lib.ListN.{length, take, drop, get_or, length-take, length-drop}
 use lib.Seq.{take-take}
-use Rattle.tlv.specs.Outcome.{Outcome, refused, done, ◌>>=◌}
+use Rattle.std.specs.Prelude.{Option, Some, None, Result, Ok, Err}
+use Rattle.tlv.specs.declared.refusal.Refusal.{Refusal}
+use Rattle.tlv.specs.Outcome.{refused, done, ◌>>=◌}
 use Rattle.tlv.specs.Lists.{at, map_option, is_empty}
 use Rattle.tlv.specs.Bytes.{le_at}
 use Rattle.tlv.specs.Model.{HeaderFile, directory_of, file_of}
@@ -27,8 +29,7 @@ use Rattle.paths.specs.Paths.{joined_directory, file_entry}
 use Rattle.paths.proofs.PathBounds.{base_start-within}
 use Rattle.files.specs.declared.spans.Span.{Span}
 use Rattle.files.specs.declared.spans.FileUnit.{FileUnit}
-use Rattle.files.specs.declared.pieces.Named.{Named}
-use Rattle.files.specs.declared.pieces.NamedDirectory.{NamedDirectory}
+use Rattle.files.specs.declared.pieces.FilePieces.{FilePieces}
 use Rattle.files.specs.declared.pieces.PathParts.{PathParts}
 use Rattle.files.specs.Pieces.{span_in, file_in, SpanIn, span_of, spanned_of, header_here, DirectoryIn, FileUnitIn, PartsIn, Reads, Before, relative_entry}
 use Rattle.files.specs.Pieces.{Relative, Pieced}
@@ -127,7 +128,7 @@ module _ {s w : List ℕ} {u : FileUnit} (U : FileUnitIn s w u) where
   listed : (i : ℕ) → at (unit_here s u.place).directories i ≡ map_option directory_of (at (spanned_of s w u.directories u.directory_count) i)
   listed i = rw (← U.directories) (at-image directory_of (spanned_of s w u.directories u.directory_count) i)
 
-  pub directory-past : (i : ℕ) → u.directory_count ≤ i → Reads s (NamedDirectory.Path (record { start = 0; len = 0 })) (read_directory (at (unit_here s u.place).directories i))
+  pub directory-past : (i : ℕ) → u.directory_count ≤ i → Reads s (Ok (record { start = 0; len = 0 })) (read_directory (at (unit_here s u.place).directories i))
   unfolding map_option chunk
   directory-past i h =
       let l : length (spanned_of s w u.directories u.directory_count) ≤ i = rw spanned-length h in
@@ -140,7 +141,7 @@ module _ {s w : List ℕ} {u : FileUnit} (U : FileUnitIn s w u) where
     directory-here : DirectoryIn s (record { start = start; len = len })
     directory-here = rw span-here at (U.spans i h)
 
-    pub flag_read : start < length s
+    pub flag_read : start + 1 ≤ length s
     flag_read = let d = directory-here in let a = d.within in let b = d.flagged in omega arith
 
     pub flag-before : 1 ≤ len
@@ -161,10 +162,10 @@ module _ {s w : List ℕ} {u : FileUnit} (U : FileUnitIn s w u) where
           let d = directory-here.flagged in
           rw (listed i, spanned_here, number-first s start len 1 f d ef, drop_part s start len 1)
 
-      pub directory-failed : f ≡ 1 → Reads s NamedDirectory.Failed (read_directory (at (unit_here s u.place).directories i))
+      pub directory-failed : f ≡ 1 → Reads s (Err Refusal.Decoder) (read_directory (at (unit_here s u.place).directories i))
       directory-failed e = record { is = rw (read_is, eq-eqb f 1 e); within = tt }
 
-      pub directory-path : (f ≡ 1 → ⊥) → Reads s (NamedDirectory.Path (record { start = start + 1; len = len - 1 })) (read_directory (at (unit_here s u.place).directories i))
+      pub directory-path : (f ≡ 1 → ⊥) → Reads s (Ok (record { start = start + 1; len = len - 1 })) (read_directory (at (unit_here s u.place).directories i))
       directory-path e =
           let d = directory-here in
           let a = d.within in
@@ -175,11 +176,11 @@ module _ {s w : List ℕ} {u : FileUnit} (U : FileUnitIn s w u) where
   -- ---- the directory of a number
 
   module _ (n : ℕ) where
-    pub named-zero : u.version < 5 → n ≡ 0 → Reads s (NamedDirectory.Path (record { start = 0; len = 0 })) (named_directory (unit_here s u.place) (header_here s u.place).version n)
+    pub named-zero : u.version < 5 → n ≡ 0 → Reads s (Ok (record { start = 0; len = 0 })) (named_directory (unit_here s u.place) (header_here s u.place).version n)
     unfolding named_directory chunk
     named-zero h e = record { is = rw (← U.version, lt-ltb u.version 5 h, eq-eqb n 0 e); within = no_span-in s }
 
-    module _ (r : NamedDirectory) where
+    module _ (r : Result Span Refusal) where
       pub named-old : u.version < 5 → (n ≡ 0 → ⊥) → Reads s r (read_directory (at (unit_here s u.place).directories (n - 1)))
           → Reads s r (named_directory (unit_here s u.place) (header_here s u.place).version n)
       unfolding named_directory
@@ -202,26 +203,19 @@ module _ (s : List ℕ) (version : ℕ) (a : Span) (n : ℕ) (d : Span) (b : Boo
 
 -- ---- a file with a relative path
 
-pub reads-span : {s : List ℕ} {o : Outcome (List ℕ)} (r : NamedDirectory) (a : Span) → Reads s r o → r ≡ NamedDirectory.Path a → SpanIn s a
-reads-span {s} {o} r a R e = let Q : Reads s (NamedDirectory.Path a) o = rw e at R in Q.within
-
-module _ {s : List ℕ} {u : FileUnit} (n : ℕ) (parts : PathParts) (r : NamedDirectory)
-    (R : Reads s r (named_directory (unit_here s u.place) (header_here s u.place).version n)) where
-  pub relative-failed : r ≡ NamedDirectory.Failed → Relative s u n parts Named.Failed
+module _ {s : List ℕ} {u : FileUnit} (n : ℕ) (parts : PathParts) where
+  pub relative-failed : {e : Refusal} → Reads s (Err e) (named_directory (unit_here s u.place) (header_here s u.place).version n) → Relative s u n parts (Err e)
   unfolding relative_entry ◌>>=◌
-  relative-failed e =
-      let Q : Reads s NamedDirectory.Failed (named_directory (unit_here s u.place) (header_here s u.place).version n) = rw e at R in
-      record { is = rw (← Q.is); within = tt }
+  relative-failed R = record { is = rw (← R.is); within = tt }
 
-  pub relative-found : {w : List ℕ} (d c : Span) → r ≡ NamedDirectory.Path d → FileUnitIn s w u → Before s u.version u.compilation n d c → SpanIn s parts.own → SpanIn s parts.base
-      → Relative s u n parts (Named.Pieces (record { compilation = c; directory = d; own = parts.own; base = parts.base }))
+  pub relative-found : {w : List ℕ} (d c : Span) → Reads s (Ok d) (named_directory (unit_here s u.place) (header_here s u.place).version n) → FileUnitIn s w u
+      → Before s u.version u.compilation n d c → SpanIn s parts.own → SpanIn s parts.base
+      → Relative s u n parts (Ok (Some (record { compilation = c; directory = d; own = parts.own; base = parts.base })))
   unfolding relative_entry ◌>>=◌ file_in joined_directory
-  relative-found {w} d c e U B own base =
-      let Q : Reads s (NamedDirectory.Path d) (named_directory (unit_here s u.place) (header_here s u.place).version n) = rw e at R in
-      record {
-        is = rw (← Q.is, ← U.version, ← U.compilation, B.is);
-        within = record { compilation = B.string; directory = Q.within; own = own; base = base };
-      }
+  relative-found d c R U B own base = record {
+    is = rw (← R.is, ← U.version, ← U.compilation, B.is);
+    within = record { compilation = B.string; directory = R.within; own = own; base = base };
+  }
 
 -- ---- a file
 
@@ -248,7 +242,7 @@ module _ (s : List ℕ) (u : FileUnit) (file : Span) (long : 9 ≤ file.len) (f 
       let number : le_at 8 (take file.len (drop file.start s)) 1 ≡ le_at 8 s (file.start + 1) = number_at s file.start file.len 8 1 (le_at 8 s (file.start + 1)) (omega arith) refl in
       rw (number-first s file.start file.len 1 f (omega arith) ef, number, drop_part s file.start file.len 9)
 
-  pub pieced-failed : f ≡ 1 → Pieced s u file Named.Failed
+  pub pieced-failed : f ≡ 1 → Pieced s u file (Err Refusal.Decoder)
   unfolding file_entry
   pieced-failed e = record { is = rw (file-is, eq-eqb f 1 e); within = tt }
 
@@ -256,7 +250,7 @@ module _ (s : List ℕ) (u : FileUnit) (file : Span) (long : 9 ≤ file.len) (f 
     base-length : length (basename_of (span_in s path)) ≡ parts.base.len
     base-length = ap length (sym P.base) ∙ chunk-length s parts.base.start parts.base.len P.base-in.within
 
-    pub pieced-unnamed : parts.base.len ≡ 0 → Pieced s u file Named.Unnamed
+    pub pieced-unnamed : parts.base.len ≡ 0 → Pieced s u file (Ok None)
     unfolding file_entry
     pieced-unnamed e = record { is = rw (file-is, ne_eqb f 1 good, empty_is (basename_of (span_in s path)) (base-length ∙ e)); within = tt }
 
@@ -265,14 +259,14 @@ module _ (s : List ℕ) (u : FileUnit) (file : Span) (long : 9 ≤ file.len) (f 
       named = empty_not (basename_of (span_in s path)) (λ e. some-name (sym base-length ∙ e))
 
       pub pieced-absolute : b ≡ true
-          → Pieced s u file (Named.Pieces (record { compilation = record { start = 0; len = 0 }; directory = record { start = 0; len = 0 }; own = parts.own; base = parts.base }))
+          → Pieced s u file (Ok (Some (record { compilation = record { start = 0; len = 0 }; directory = record { start = 0; len = 0 }; own = parts.own; base = parts.base })))
       unfolding file_entry file_in chunk
       pieced-absolute t = record {
         is = rw (file-is, ne_eqb f 1 good, named, ← eb, t, append-alone (span_in s parts.own), P.own, P.base);
         within = record { compilation = no_span-in s; directory = no_span-in s; own = P.own_in; base = P.base-in };
       }
 
-      pub pieced-relative : (n : ℕ) (r : Named) → b ≡ false → n ≡ le_at 8 s (file.start + 1) → Relative s u n parts r → Pieced s u file r
+      pub pieced-relative : (n : ℕ) (r : Result (Option FilePieces) Refusal) → b ≡ false → n ≡ le_at 8 s (file.start + 1) → Relative s u n parts r → Pieced s u file r
       unfolding file_entry relative_entry
       pieced-relative n r t en Q = record {
         is = rw (file-is, ne_eqb f 1 good, named, ← eb, t, ← en, ← P.own, ← P.base) Q.is;

@@ -108,13 +108,15 @@ module _ {main supplementary w : List ℕ} {p : ℕ} (I : StoredAt main suppleme
       go true z = absurd (ne (r ∙ sym (hash_at w p) ∙ I.hashed ∙ ap hash_of (sym (same-file e _ z)) ∙ sym q))
       go false z = refl
 
-  module _ {ps : FilePieces} {source x : DebugSource} (ep : ps ≡ pieces_of (chunk w p 41)) (es : source ≡ source_of (chunk w p 41)) (is : source ≡ x) where
-    pub source-pieces : PiecesIn (source_in main supplementary x) ps
-    source-pieces = rw (ep, ← is, es) I.pieces
+  -- its pieces are cut out of the sheet of its source
+  module _ {ps : FilePieces} {source : DebugSource} {s : List ℕ} (ep : ps ≡ pieces_of (chunk w p 41)) (es : source ≡ source_of (chunk w p 41))
+      (sheet : s ≡ source_in main supplementary source) where
+    pub source-pieces : PiecesIn s ps
+    source-pieces = rw (ep, sheet, es) I.pieces
 
-    pub source-file : (e : FileEntry) {r : Bool} → r ≡ same_file e (file_in (source_in main supplementary x) ps) → r ≡ same_file e (stored_file main supplementary (chunk w p 41))
+    pub source-file : (e : FileEntry) {r : Bool} → r ≡ same_file e (file_in s ps) → r ≡ same_file e (stored_file main supplementary (chunk w p 41))
     unfolding stored_file
-    source-file e q = q ∙ rw (ep, ← is, es)
+    source-file e q = q ∙ rw (ep, sheet, es)
 
 -- ---- the place of a file
 

@@ -7,6 +7,8 @@ use native.Mathlib.Nat.{add-zero, mod-lt, mul-le-mul_right}
 use native.Mathlib.Omega.{arith}
 use borrow.Author.Tests.{eq-eqb, ne_eqb}
 use Rattle.tlv.specs.Bytes.{le_at}
+use denote.Enum.Declared.{tag_of}
+use Rattle.tlv.specs.contracts.model.DebugSource.{the_type}
 use Rattle.tlv.specs.declared.model.DebugSource.{DebugSource}
 use Rattle.buffers.specs.Table.{chunk, Wrote}
 use Rattle.buffers.proofs.ChunkLaws.{chunk_part, le_at-chunk}
@@ -77,6 +79,11 @@ put-pieces {w} {w₁} {w₂} {w₃} {w₄} {at} {p} A B C D = record {
 source-back : (w : List ℕ) (p : ℕ) (s : DebugSource) → le_at 1 w (p + 32) ≡ byte_of s → source_of (chunk w p 41) ≡ s
 source-back w p DebugSource.Main e = sym (got_main w p (sym e) refl)
 source-back w p DebugSource.Supplementary e = sym (got-supplementary w p (sym e) (λ q. omega arith))
+
+-- the number of a case is its byte
+pub byte-is : (source : DebugSource) → tag_of the_type source ≡ byte_of source
+byte-is DebugSource.Main = refl
+byte-is DebugSource.Supplementary = refl
 
 pub put_record : {w w₁ w₂ w₃ w₄ : List ℕ} {at b hash link : ℕ} {source : DebugSource} {p : FilePieces} → PutPieces w w₁ at p → b ≡ byte_of source → Wrote w₁ w₂ (at + 32) 1 b
     → Wrote w₂ w₃ (at + 33) 4 hash → Wrote w₃ w₄ (at + 37) 4 link → PutFile w w₄ at source p hash link

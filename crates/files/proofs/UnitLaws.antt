@@ -2,7 +2,7 @@
 use mathlib.Core.Path.{◌≡◌, refl, sym, ap, ◌∙◌}
 use mathlib.Core.List.{List, map}
 use mathlib.Core.Option.{Option, none, some}
-use Prim.Native.Nat.{ℕ, ◌+◌, ◌*◌, ◌≤◌, ◌<◌}
+use Prim.Native.Nat.{ℕ, ◌+◌, ◌*◌, ◌≤◌}
 use native.Mathlib.Omega.{arith}
 use lib.ListN.{length, take, drop, length-map}
 use Rattle.tlv.specs.Lists.{map_option}
@@ -16,9 +16,10 @@ use Rattle.tlv.proofs.ShapeLaws.{number_at}
 use Rattle.tlv.proofs.PlaceFacts.{placed-next}
 use Rattle.tlv.proofs.PlacePromises.{placed-header, placed-string}
 use Rattle.buffers.specs.Table.{chunk}
-use Rattle.access.specs.declared.access.Own.{Own}
+use Rattle.std.specs.Prelude.{Some, None}
+use Rattle.tlv.specs.declared.fields.FieldSpan.{FieldSpan}
 use Rattle.access.specs.Places.{own_fields, unit_here}
-use Rattle.access.specs.Access.{own_payloads, NextOwn}
+use Rattle.access.specs.Access.{NextOwn}
 use Rattle.access.proofs.OwnLaws.{own-within, own-field}
 use Rattle.access.proofs.UnitFacts.{unit-directory, unit-header, unit-directories}
 use Rattle.files.specs.declared.spans.Span.{Span}
@@ -27,64 +28,60 @@ use Rattle.files.proofs.DirectoryLaws.{spanned-length}
 
 -- ---- the first field of a tag
 
-module _ (s : List ℕ) (p t : ℕ) (r : Own) (own : NextOwn s p t r) where
-  first-is : payload_of t (own_fields (fields (drop p s))) ≡ head_of (own_payloads s t r)
+module _ (s : List ℕ) (p t : ℕ) where
+  pub first-none : NextOwn s p t None → payload_of t (own_fields (fields (drop p s))) ≡ none
   unfolding payload_of
-  first-is = ap head_of (sym own.is)
+  first-none own = ap head_of (sym own.is)
 
-  pub first-none : r ≡ Own.Missing → payload_of t (own_fields (fields (drop p s))) ≡ none
-  first-none e = rw e at first-is
-
-  pub first_found : (start len next : ℕ) → r ≡ Own.Field start len next → payload_of t (own_fields (fields (drop p s))) ≡ some (take len (drop start s))
-  first_found start len next e = rw e at first-is
+  pub first_found : (f : FieldSpan) → NextOwn s p t (Some f) → payload_of t (own_fields (fields (drop p s))) ≡ some (take f.len (drop f.start s))
+  unfolding payload_of
+  first_found f own = ap head_of (sym own.is)
 
 -- ---- the compilation directory
 
-module _ (s : List ℕ) (p : ℕ) (r : Own) (own : NextOwn s p 0x11 r) where
-  pub compilation-none : r ≡ Own.Missing → CompilationIn s p (record { start = 0; len = 0 })
-  unfolding chunk
-  compilation-none e = record {
-    is = rw (first-none s p 0x11 r own e);
-    string = record { within = omega arith; short = omega arith };
-  }
+pub compilation-none : (s : List ℕ) (p : ℕ) → NextOwn s p 0x11 None → CompilationIn s p (record { start = 0; len = 0 })
+unfolding chunk
+compilation-none s p own = record {
+  is = rw (first-none s p 0x11 own);
+  string = record { within = omega arith; short = omega arith };
+}
 
-  pub compilation-found : (start len next : ℕ) → r ≡ Own.Field start len next → Placed s p → CompilationIn s p (record { start = start; len = len })
-  unfolding chunk
-  compilation-found start len next e h =
-      let f = own-field s p 0x11 r start len next own e h in
-      record {
-        is = rw (first_found s p 0x11 r own start len next e);
-        string = record {
-          within = (own-within s p 0x11 r start len next own e).0;
-          short = placed-string s f.place f.step 0x11 start len next f.here f.reads f.is refl;
-        };
-      }
+pub compilation-found : (s : List ℕ) (p : ℕ) (f : FieldSpan) → NextOwn s p 0x11 (Some f) → Placed s p → CompilationIn s p (record { start = f.start; len = f.len })
+unfolding chunk
+compilation-found s p f own h =
+    let x = own-field s p 0x11 f own h in
+    record {
+      is = rw (first_found s p 0x11 f own);
+      string = record {
+        within = (own-within s p 0x11 f own).0;
+        short = placed-string s x.place (step_at s x.place) 0x11 f.start f.len f.next x.here refl x.is refl;
+      };
+    }
 
 -- ---- the version
 
-module _ (s : List ℕ) (p : ℕ) (r : Own) (own : NextOwn s p 0x13 r) where
-  pub version-none : r ≡ Own.Missing → 0 ≡ version_in s p
-  unfolding version_in map_option
-  version-none e = sym (ap (λ (o : Option (List ℕ)). (or_header (map_option header_of o)).version) (first-none s p 0x13 r own e))
+pub version-none : (s : List ℕ) (p : ℕ) → NextOwn s p 0x13 None → 0 ≡ version_in s p
+unfolding version_in map_option
+version-none s p own = sym (ap (λ (o : Option (List ℕ)). (or_header (map_option header_of o)).version) (first-none s p 0x13 own))
 
-  module _ (start len next : ℕ) (e : r ≡ Own.Field start len next) (h : Placed s p) where
-    header-long : 19 ≤ len
-    header-long =
-        let f = own-field s p 0x13 r start len next own e h in
-        placed-header s f.place f.step 0x13 start len next f.here f.reads f.is refl
+module _ (s : List ℕ) (p : ℕ) (f : FieldSpan) (own : NextOwn s p 0x13 (Some f)) (h : Placed s p) where
+  header-long : 19 ≤ f.len
+  header-long =
+      let x = own-field s p 0x13 f own h in
+      placed-header s x.place (step_at s x.place) 0x13 f.start f.len f.next x.here refl x.is refl
 
-    pub version-read : start + 16 < length s
-    version-read =
-        let l = header-long in
-        let w = own-within s p 0x13 r start len next own e in
-        omega arith
+  pub version-read : f.start + 16 + 1 ≤ length s
+  version-read =
+      let l = header-long in
+      let w = own-within s p 0x13 f own in
+      omega arith
 
-    pub version-found : (v : ℕ) → v ≡ le_at 1 s (start + 16) → v ≡ version_in s p
-    unfolding version_in map_option header_of
-    version-found v ev =
-        let l = header-long in
-        sym (number_at s start len 1 16 v (omega arith) ev)
-        ∙ sym (ap (λ (o : Option (List ℕ)). (or_header (map_option header_of o)).version) (first_found s p 0x13 r own start len next e))
+  pub version-found : (v : ℕ) → v ≡ le_at 1 s (f.start + 16) → v ≡ version_in s p
+  unfolding version_in map_option header_of
+  version-found v ev =
+      let l = header-long in
+      sym (number_at s f.start f.len 1 16 v (omega arith) ev)
+      ∙ sym (ap (λ (o : Option (List ℕ)). (or_header (map_option header_of o)).version) (first_found s p 0x13 f own))
 
 -- ---- the unit
 

@@ -1,6 +1,8 @@
 -- Contract. What the functions that intern a unit's files promise.
-use Rattle.std.specs.Prelude.{ℕ, ◌+◌, ◌*◌, ◌≤◌, ◌≡◌, List, [], ◌∷◌, ◌++◌, length}
+use Rattle.std.specs.Prelude.{Option, Some, None, Result, Ok, Err, ℕ, ◌+◌, ◌*◌, ◌≤◌, ◌≡◌, List, [], ◌∷◌, ◌++◌, length}
 use Rattle.std.proofs.Math.Option.{none, some}
+use Rattle.tlv.specs.declared.refusal.Refusal.{Refusal}
+use Rattle.tlv.specs.Refusals as refusals
 use Rattle.tlv.specs.Outcome.{Outcome, refused, done, ◌>>=◌}
 use Rattle.tlv.specs.Limits.{string_limit}
 use Rattle.tlv.specs.Lists.{Any}
@@ -13,7 +15,7 @@ use Rattle.lines.specs.Files.{FileIndices, Interned, intern_file, Indexed, inter
 use Rattle.files.specs.declared.spans.Span.{Span}
 use Rattle.files.specs.declared.spans.FileUnit.{FileUnit}
 use Rattle.files.specs.declared.store.StoredFiles.{StoredFiles}
-use Rattle.files.specs.declared.intern.InternedFile.{InternedFile}
+use Rattle.files.specs.declared.store.AddedFile.{AddedFile}
 use Rattle.files.specs.declared.header.InternedFiles.{InternedFiles}
 use Rattle.files.specs.Pieces.{span_in, header_here, span_record}
 use Rattle.files.specs.Possible.{with_zero, Possible}
@@ -41,19 +43,19 @@ pub record OfUnit (s : List ℕ) (p : ℕ) (file : Span) : Type 0 where
 
 -- ---- intern_file
 
-abbrev pub interned_of : List ℕ → List ℕ → List ℕ → StoredFiles → InternedFile → Outcome Interned
-interned_of main supplementary w t (InternedFile.Refused n) = refused n
-interned_of main supplementary w t InternedFile.Unnamed = done (record { table = table_of main supplementary w t; number = none })
-interned_of main supplementary w t (InternedFile.Number t' n) = done (record { table = table_of main supplementary w t'; number = some n })
+abbrev pub interned_of : List ℕ → List ℕ → List ℕ → StoredFiles → Result (Option AddedFile) Refusal → Outcome Interned
+interned_of main supplementary w t (Ok None) = done (record { table = table_of main supplementary w t; number = none })
+interned_of main supplementary w t (Ok (Some a)) = done (record { table = table_of main supplementary w a.table; number = some a.number })
+interned_of main supplementary w t (Err e) = refused (refusals.number_of e)
 
 -- the table has grown; after a refusal the files tray is as it was
-abbrev pub InternedAfter : List ℕ → List ℕ → List ℕ → List ℕ → List ℕ → List ℕ → StoredFiles → InternedFile → Type 0
-InternedAfter main supplementary w w' files files' t (InternedFile.Refused n) = files' ≡ files
-InternedAfter main supplementary w w' files files' t InternedFile.Unnamed = Grown main supplementary w w' files files' t t
-InternedAfter main supplementary w w' files files' t (InternedFile.Number t' n) = Grown main supplementary w w' files files' t t'
+abbrev pub InternedAfter : List ℕ → List ℕ → List ℕ → List ℕ → List ℕ → List ℕ → StoredFiles → Result (Option AddedFile) Refusal → Type 0
+InternedAfter main supplementary w w' files files' t (Ok None) = Grown main supplementary w w' files files' t t
+InternedAfter main supplementary w w' files files' t (Ok (Some a)) = Grown main supplementary w w' files files' t a.table
+InternedAfter main supplementary w w' files files' t (Err e) = files' ≡ files
 
 pub record Interns (main supplementary w w' files files' : List ℕ) (t : StoredFiles) (s : List ℕ) (u : FileUnit) (file : Span)
-    (r : InternedFile) : Type 0 where
+    (r : Result (Option AddedFile) Refusal) : Type 0 where
   pub is : interned_of main supplementary w' t r
       ≡ intern_file (unit_here s u.place) (header_here s u.place) (table_of main supplementary w t) (file_of (span_in s file))
   pub after : InternedAfter main supplementary w w' files files' t r
@@ -62,13 +64,13 @@ pub record Interns (main supplementary w w' files files' : List ℕ) (t : Stored
 -- ---- intern_at
 
 -- the number of an interned file was written at p
-abbrev pub NumberedAt : List ℕ → ℕ → InternedFile → Type 0
-NumberedAt w p (InternedFile.Refused n) = Unit
-NumberedAt w p InternedFile.Unnamed = index_of (chunk w p 5) ≡ none
-NumberedAt w p (InternedFile.Number t n) = index_of (chunk w p 5) ≡ some n
+abbrev pub NumberedAt : List ℕ → ℕ → Result (Option AddedFile) Refusal → Type 0
+NumberedAt w p (Ok None) = index_of (chunk w p 5) ≡ none
+NumberedAt w p (Ok (Some a)) = index_of (chunk w p 5) ≡ some a.number
+NumberedAt w p (Err e) = Unit
 
 pub record InternsAt (main supplementary w w' files files' : List ℕ) (t : StoredFiles) (s : List ℕ) (u : FileUnit) (file : Span) (p : ℕ)
-    (r : InternedFile) : Type 0 where
+    (r : Result (Option AddedFile) Refusal) : Type 0 where
   pub is : interned_of main supplementary w' t r
       ≡ intern_file (unit_here s u.place) (header_here s u.place) (table_of main supplementary w t) (file_of (span_in s file))
   pub after : InternedAfter main supplementary w w' files files' t r
@@ -83,29 +85,29 @@ pub record MapRoom (s w : List ℕ) (t : StoredFiles) (u : FileUnit) (base : ℕ
   pub directories : u.directories + u.directory_count * 8 ≤ base
   pub map : base + index_record * (1 + length (unit_here s u.place).files) ≤ length w
 
-abbrev pub indexed_of : List ℕ → List ℕ → List ℕ → ℕ → InternedFiles → Outcome Indexed
-indexed_of main supplementary w base (InternedFiles.Refused n) = refused n
-indexed_of main supplementary w base (InternedFiles.Indices t n) = done (record { table = table_of main supplementary w t; indices = indices_of w base n })
+abbrev pub indexed_of : List ℕ → List ℕ → List ℕ → ℕ → Result InternedFiles Refusal → Outcome Indexed
+indexed_of main supplementary w base (Ok r) = done (record { table = table_of main supplementary w r.table; indices = indices_of w base r.count })
+indexed_of main supplementary w base (Err e) = refused (refusals.number_of e)
 
-abbrev pub IndexedAfter : List ℕ → List ℕ → List ℕ → List ℕ → List ℕ → List ℕ → StoredFiles → ℕ → InternedFiles → Type 0
-IndexedAfter main supplementary w w' files files' t m (InternedFiles.Refused n) = Unit
-IndexedAfter main supplementary w w' files files' t m (InternedFiles.Indices t' n) = Grown main supplementary w w' files files' t t' × (n ≤ m)
+abbrev pub IndexedAfter : List ℕ → List ℕ → List ℕ → List ℕ → List ℕ → List ℕ → StoredFiles → ℕ → Result InternedFiles Refusal → Type 0
+IndexedAfter main supplementary w w' files files' t m (Ok r) = Grown main supplementary w w' files files' t r.table × (r.count ≤ m)
+IndexedAfter main supplementary w w' files files' t m (Err e) = Unit
 
 -- a map, before what was indexed
 abbrev pub with_indices : FileIndices → Indexed → Outcome Indexed
 with_indices is r = done (record { table = r.table; indices = is ++ r.indices })
 
 -- the files of a header, after the n records of the map
-pub record InternsFiles (main supplementary w w' files files' : List ℕ) (t : StoredFiles) (s : List ℕ) (u : FileUnit) (base n : ℕ) (r : InternedFiles)
-    : Type 0 where
+pub record InternsFiles (main supplementary w w' files files' : List ℕ) (t : StoredFiles) (s : List ℕ) (u : FileUnit) (base n : ℕ)
+    (r : Result InternedFiles Refusal) : Type 0 where
   pub is : indexed_of main supplementary w' base r
       ≡ (intern_files (unit_here s u.place) (header_here s u.place) (table_of main supplementary w t) (unit_here s u.place).files >>= with_indices
       (indices_of w base n))
   pub after : IndexedAfter main supplementary w w' files files' t (1 + length (unit_here s u.place).files) r
   pub rest : KeptBut w w' ((t.base, extent t) ∷ (base, index_record * (1 + length (unit_here s u.place).files)) ∷ [])
 
-pub record InternsHeader (main supplementary w w' files files' : List ℕ) (t : StoredFiles) (s : List ℕ) (u : FileUnit) (base : ℕ) (r : InternedFiles)
-    : Type 0 where
+pub record InternsHeader (main supplementary w w' files files' : List ℕ) (t : StoredFiles) (s : List ℕ) (u : FileUnit) (base : ℕ)
+    (r : Result InternedFiles Refusal) : Type 0 where
   pub is : indexed_of main supplementary w' base r ≡ intern_header_files (unit_here s u.place) (header_here s u.place) (table_of main supplementary w t)
   pub after : IndexedAfter main supplementary w w' files files' t (1 + length (unit_here s u.place).files) r
   pub rest : KeptBut w w' ((t.base, extent t) ∷ (base, index_record * (1 + length (unit_here s u.place).files)) ∷ [])

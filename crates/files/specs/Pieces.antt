@@ -1,7 +1,10 @@
 -- Contract. A file by the pieces of a sheet that its path is joined from.
-use Rattle.std.specs.Prelude.{ℕ, ◌+◌, ◌*◌, ◌≤◌, ◌<◌, ◌≡◌, cond, List, [], ◌++◌, map, length, drop, replicate}
-use Rattle.std.proofs.Math.Option.{Option, none, some}
+use Rattle.std.specs.Prelude.{Option, Some, None, Result, Ok, Err, ℕ, ◌+◌, ◌*◌, ◌≤◌, ◌<◌, ◌≡◌, cond, List, [], ◌++◌, map, length, drop, replicate}
+use Rattle.std.proofs.Math.Option.{none, some}
+use Rattle.std.proofs.Math.Option as math
 use Rattle.tlv.specs.Tags.{compilation_tag, directory_tag, header_tag, unit_tag, unit_whole, field_head}
+use Rattle.tlv.specs.declared.refusal.Refusal.{Refusal}
+use Rattle.tlv.specs.Refusals as refusals
 use Rattle.tlv.specs.Outcome.{Outcome, refused, done, ◌>>=◌}
 use Rattle.tlv.specs.Bytes.{le_at}
 use Rattle.tlv.specs.Limits.{string_limit}
@@ -21,8 +24,6 @@ use Rattle.paths.specs.Paths.{or_empty, basename_of, directory_name, append_path
 use Rattle.files.specs.declared.spans.Span.{Span}
 use Rattle.files.specs.declared.pieces.FilePieces.{FilePieces}
 use Rattle.files.specs.declared.spans.FileUnit.{FileUnit}
-use Rattle.files.specs.declared.pieces.Named.{Named}
-use Rattle.files.specs.declared.pieces.NamedDirectory.{NamedDirectory}
 use Rattle.files.specs.declared.pieces.PathParts.{PathParts}
 
 -- the sheet of a source
@@ -59,7 +60,7 @@ pub record Separated (path component : List ℕ) (r : ℕ) : Type 0 where
 -- ---- a unit's header and directories
 
 -- the line header of the unit at a place; an empty one where it has none
-abbrev pub or_header : Option LineHeader → LineHeader
+abbrev pub or_header : math.Option LineHeader → LineHeader
 or_header none = header_at 0 0 0 0
 or_header (some h) = h
 
@@ -128,15 +129,15 @@ pub record Described (s w w' : List ℕ) (p base : ℕ) (r : FileUnit) : Type 0 
 
 -- ---- the pieces of a header's file
 
-abbrev pub named_of : List ℕ → Named → Outcome (Option FileEntry)
-named_of s Named.Failed = refused 6
-named_of s Named.Unnamed = done none
-named_of s (Named.Pieces p) = done (some (file_in s p))
+abbrev pub named_of : List ℕ → Result (Option FilePieces) Refusal → Outcome (math.Option FileEntry)
+named_of s (Ok None) = done none
+named_of s (Ok (Some p)) = done (some (file_in s p))
+named_of s (Err e) = refused (refusals.number_of e)
 
-abbrev pub NamedIn : List ℕ → Named → Type 0
-NamedIn s Named.Failed = Unit
-NamedIn s Named.Unnamed = Unit
-NamedIn s (Named.Pieces p) = PiecesIn s p
+abbrev pub NamedIn : List ℕ → Result (Option FilePieces) Refusal → Type 0
+NamedIn s (Ok None) = Unit
+NamedIn s (Ok (Some p)) = PiecesIn s p
+NamedIn s (Err e) = Unit
 
 -- the parts of the path in a span
 pub record PartsIn (s : List ℕ) (path : Span) (r : PathParts) : Type 0 where
@@ -146,15 +147,15 @@ pub record PartsIn (s : List ℕ) (path : Span) (r : PathParts) : Type 0 where
   pub base-in : SpanIn s r.base
 
 -- what a directory that the code hands out means
-abbrev pub read_in : List ℕ → NamedDirectory → Outcome (List ℕ)
-read_in s NamedDirectory.Failed = refused 6
-read_in s (NamedDirectory.Path a) = done (span_in s a)
+abbrev pub read_in : List ℕ → Result Span Refusal → Outcome (List ℕ)
+read_in s (Ok a) = done (span_in s a)
+read_in s (Err e) = refused (refusals.number_of e)
 
-abbrev pub ReadIn : List ℕ → NamedDirectory → Type 0
-ReadIn s NamedDirectory.Failed = Unit
-ReadIn s (NamedDirectory.Path a) = SpanIn s a
+abbrev pub ReadIn : List ℕ → Result Span Refusal → Type 0
+ReadIn s (Ok a) = SpanIn s a
+ReadIn s (Err e) = Unit
 
-pub record Reads (s : List ℕ) (r : NamedDirectory) (o : Outcome (List ℕ)) : Type 0 where
+pub record Reads (s : List ℕ) (r : Result Span Refusal) (o : Outcome (List ℕ)) : Type 0 where
   pub is : read_in s r ≡ o
   pub within : ReadIn s r
 
@@ -164,15 +165,15 @@ pub record Before (s : List ℕ) (version : ℕ) (compilation : Span) (number : 
   pub string : SpanIn s r
 
 -- the file of a relative path by the number of its directory and the two parts of the path
-unfoldable pub relative_entry : CompilationUnit → ℕ → ℕ → List ℕ → List ℕ → Outcome (Option FileEntry)
+unfoldable pub relative_entry : CompilationUnit → ℕ → ℕ → List ℕ → List ℕ → Outcome (math.Option FileEntry)
 relative_entry u version n own base =
     named_directory u version n >>= λ d.
     done (some (record { directory = joined_directory version n (or_empty u.directory) d own; basename = base }))
 
-pub record Relative (s : List ℕ) (u : FileUnit) (number : ℕ) (parts : PathParts) (r : Named) : Type 0 where
+pub record Relative (s : List ℕ) (u : FileUnit) (number : ℕ) (parts : PathParts) (r : Result (Option FilePieces) Refusal) : Type 0 where
   pub is : named_of s r ≡ relative_entry (unit_here s u.place) (header_here s u.place).version number (span_in s parts.own) (span_in s parts.base)
   pub within : NamedIn s r
 
-pub record Pieced (s : List ℕ) (u : FileUnit) (file : Span) (r : Named) : Type 0 where
+pub record Pieced (s : List ℕ) (u : FileUnit) (file : Span) (r : Result (Option FilePieces) Refusal) : Type 0 where
   pub is : named_of s r ≡ file_entry (unit_here s u.place) (header_here s u.place) (file_of (span_in s file))
   pub within : NamedIn s r

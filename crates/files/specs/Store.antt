@@ -1,6 +1,10 @@
 -- Contract. The file table in a list of bytes (document 01: the work slice): its records, and the chains of a hash table.
+use Rattle.std.specs.Prelude.{Option, Some, None, Result, Ok, Err}
 use Rattle.std.specs.Prelude.{ℕ, zero, suc, ◌+◌, ◌*◌, ◌%◌, ◌≤◌, ◌<◌, ◌^◌, ◌≡◌, cond, List, [], ◌∷◌, ◌++◌, eqb, length, get_or}
-use Rattle.std.proofs.Math.Option.{Option, none, some}
+use Rattle.std.proofs.Math.Option.{none, some}
+use Rattle.std.proofs.Math.Option as math
+use Rattle.tlv.specs.declared.refusal.Refusal.{Refusal}
+use Rattle.tlv.specs.Refusals as refusals
 use Rattle.tlv.specs.Outcome.{Outcome, refused, done}
 use Rattle.tlv.specs.Bytes.{le_at}
 use Rattle.tlv.specs.Limits.{joined_limit}
@@ -11,7 +15,6 @@ use Rattle.buffers.specs.Output.{FileEntry, files_bytes}
 use Rattle.lines.specs.Files.{FileTable, place_of, Added, add_file}
 use Rattle.files.specs.declared.pieces.FilePieces.{FilePieces}
 use Rattle.files.specs.declared.store.StoredFiles.{StoredFiles}
-use Rattle.files.specs.declared.store.FoundFile.{FoundFile}
 use Rattle.files.specs.declared.store.AddedFile.{AddedFile}
 use Rattle.files.specs.declared.store.LaidHash.{LaidHash}
 use Rattle.files.specs.Pieces.{source_in, span_of, file_in, PiecesIn}
@@ -160,20 +163,20 @@ pub record Grown (main supplementary w w' files files' : List ℕ) (t t' : Store
   pub room : t'.room ≡ t.room
   pub first : t'.first ≡ t.first
 
-abbrev pub found_of : FoundFile → Option ℕ
-found_of (FoundFile.At n) = some n
-found_of FoundFile.Missing = none
+abbrev pub found_of : Option ℕ → math.Option ℕ
+found_of (Some n) = some n
+found_of None = none
 
-abbrev pub added_of : List ℕ → List ℕ → List ℕ → AddedFile → Outcome Added
-added_of main supplementary w (AddedFile.Number t n) = done (record { table = table_of main supplementary w t; number = n })
-added_of main supplementary w AddedFile.Full = refused 15
+abbrev pub added_of : List ℕ → List ℕ → List ℕ → Result AddedFile Refusal → Outcome Added
+added_of main supplementary w (Ok a) = done (record { table = table_of main supplementary w a.table; number = a.number })
+added_of main supplementary w (Err e) = refused (refusals.number_of e)
 
 -- the table has grown; where the numbers are used up, nothing was written to the files tray
-abbrev pub AddedAfter : List ℕ → List ℕ → List ℕ → List ℕ → List ℕ → List ℕ → StoredFiles → AddedFile → Type 0
-AddedAfter main supplementary w w' files files' t (AddedFile.Number t' n) = Grown main supplementary w w' files files' t t'
-AddedAfter main supplementary w w' files files' t AddedFile.Full = files' ≡ files
+abbrev pub AddedAfter : List ℕ → List ℕ → List ℕ → List ℕ → List ℕ → List ℕ → StoredFiles → Result AddedFile Refusal → Type 0
+AddedAfter main supplementary w w' files files' t (Ok a) = Grown main supplementary w w' files files' t a.table
+AddedAfter main supplementary w w' files files' t (Err e) = files' ≡ files
 
-pub record Adds (main supplementary w w' files files' : List ℕ) (t : StoredFiles) (e : FileEntry) (r : AddedFile) : Type 0 where
+pub record Adds (main supplementary w w' files files' : List ℕ) (t : StoredFiles) (e : FileEntry) (r : Result AddedFile Refusal) : Type 0 where
   pub is : added_of main supplementary w' r ≡ add_file (table_of main supplementary w t) e
   pub after : AddedAfter main supplementary w w' files files' t r
   pub rest : Kept w w' t.base (extent t)

@@ -8,10 +8,8 @@ pub fn hash_bytes(h: u64, s: &[u8]) -> u64
     ensures { (result ≡ hash_from h s.now) × (result < modulus) }
 {
     let mut r = h;
-    let mut i = 0;
-    while i < s.len() {
-        r = (r * 16777619 + s[i] as u64 + 1) % 4294967296;
-        i += 1;
+    for &b in s {
+        r = (r * 16777619 + b as u64 + 1) % 4294967296;
     }
     r
 }

@@ -3,70 +3,62 @@ ghost use Rattle.std.specs.Prelude.{◌≡◌, ◌+◌, ◌*◌, ◌≤◌, leng
 ghost use Rattle.lines.specs.Files.{get};
 ghost use Rattle.files.specs.Indices.{indices_in, number_of, PutIndex, Inserted, index_record};
 
+use buffers::numbers::Written;
+use tlv::bytes::Number;
+use tlv::model::FileIndex;
+
 // Bytes of a record of the map.
 pub const INDEX_RECORD: usize = 5;
 
 // One of DWARF's own file numbers; not a number of the import's file table.
-#[derive(Clone, Copy)]
+#[derive(Clone, Copy, Debug)]
 pub struct FileNumber(pub u64);
 
 // Where the map stands in the work slice.
-#[derive(Clone, Copy)]
+#[derive(Clone, Copy, Debug)]
 pub struct StoredIndices {
     pub base: usize,
     pub count: usize,
 }
 
-// The table's number of a file.
-#[derive(Clone, Copy)]
-pub enum FoundIndex {
-    Number(tlv::model::FileIndex),
-    Missing,
-}
-
-// Writes a record of the map.
-pub fn put_index(work: &mut [u8], p: usize, index: FoundIndex)
+// Writes a record of the map: the table's number of a file, if it has one.
+pub fn put_index(work: &mut [u8], p: usize, index: Option<FileIndex>)
     requires { p + 5 ≤ length work.old }
     ensures { PutIndex work.old work.new p (number_of index) }
 {
     match index {
-        FoundIndex::Number(number) => {
-            buffers::table::set_u8(work, p, 1);
-            buffers::table::set_u32(work, p + 1, number.0);
+        Some(number) => {
+            1u8.write(work, p);
+            number.0.write(work, p + 1);
         }
-        FoundIndex::Missing => {
-            buffers::table::set_u8(work, p, 0);
+        None => {
+            0u8.write(work, p);
         }
     }
 }
 
 // The table's number for one of DWARF's.
-pub fn get_index(work: &[u8], indices: StoredIndices, number: FileNumber) -> FoundIndex
+pub fn get_index(work: &[u8], indices: StoredIndices, number: FileNumber) -> Option<FileIndex>
     requires { indices.base + indices.count * index_record ≤ length work.now }
     ensures { number_of result ≡ get (indices_in work.now indices) number.0 }
 {
     if (indices.count as u64) <= number.0 {
-        return FoundIndex::Missing;
+        return None;
     }
     let p = indices.base + number.0 as usize * INDEX_RECORD;
-    if tlv::bytes::read_u8(work, p) == 1 {
-        return FoundIndex::Number(tlv::model::FileIndex(tlv::bytes::read_u32(work, p + 1)));
+    if u8::read(work, p) != 1 {
+        return None;
     }
-    FoundIndex::Missing
+    Some(FileIndex(u32::read(work, p + 1)))
 }
 
 // Gives one of DWARF's numbers a number of the table; one past the map stays without.
-pub fn insert_index(
-    work: &mut [u8],
-    indices: StoredIndices,
-    number: FileNumber,
-    index: tlv::model::FileIndex,
-)
+pub fn insert_index(work: &mut [u8], indices: StoredIndices, number: FileNumber, index: FileIndex)
     requires { indices.base + indices.count * index_record ≤ length work.old }
     ensures { Inserted work.old work.new indices number index }
 {
     if number.0 < indices.count as u64 {
         let p = indices.base + number.0 as usize * INDEX_RECORD;
-        put_index(work, p, FoundIndex::Number(index));
+        put_index(work, p, Some(index));
     }
 }

@@ -11,16 +11,11 @@ ghost use Rattle.files.specs.Joined.{component_at};
 fn separator(path: &[u8], component: &[u8]) -> usize
     ensures { Separated path.now component.now result }
 {
-    if path.len() == 0 {
-        return 0;
-    }
-    if component.len() == 0 {
-        return 0;
-    }
-    if path[path.len() - 1] == 0x2f {
-        return 0;
-    }
-    if component[0] == 0x2f {
+    if path.is_empty()
+        || component.is_empty()
+        || path[path.len() - 1] == b'/'
+        || component[0] == b'/'
+    {
         return 0;
     }
     1
@@ -31,14 +26,8 @@ pub fn bytes_at(work: &[u8], at: usize, s: &[u8]) -> bool
     requires { at + length s.now ≤ length work.now }
     ensures { result ≡ same (chunk work.now at (length s.now)) s.now }
 {
-    let mut i = 0;
-    while i < s.len() {
-        if work[at + i] != s[i] {
-            return false;
-        }
-        i += 1;
-    }
-    true
+    let end = at + s.len();
+    &work[at..end] == s
 }
 
 // Whether a number of slashes, 0 or 1, and then the bytes of s stand at a place.
@@ -50,10 +39,7 @@ fn component_at(work: &[u8], at: usize, slashes: usize, s: &[u8]) -> bool
     if slashes == 0 {
         return bytes_at(work, at, s);
     }
-    if work[at] != 0x2f {
-        return false;
-    }
-    bytes_at(work, at + 1, s)
+    work[at] == b'/' && bytes_at(work, at + 1, s)
 }
 
 // How many slashes joining puts between directory below compilation and own: what stands before own ends as directory
@@ -61,7 +47,7 @@ fn component_at(work: &[u8], at: usize, slashes: usize, s: &[u8]) -> bool
 fn separator_below(compilation: &[u8], directory: &[u8], own: &[u8]) -> usize
     ensures { Separated (append_path compilation.now directory.now) own.now result }
 {
-    if directory.len() == 0 {
+    if directory.is_empty() {
         return separator(compilation, own);
     }
     separator(directory, own)
@@ -90,8 +76,6 @@ pub fn is_joined(
         return false;
     }
     let below = at + compilation.len();
-    if !component_at(work, below, first, directory) {
-        return false;
-    }
-    component_at(work, below + first + directory.len(), second, own)
+    component_at(work, below, first, directory)
+        && component_at(work, below + first + directory.len(), second, own)
 }

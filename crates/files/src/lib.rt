@@ -9,5 +9,6 @@ pub mod joined;
 pub mod lookup;
 pub mod pieces;
 pub mod records;
+pub mod sheets;
 pub mod spans;
 pub mod store;

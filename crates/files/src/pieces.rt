@@ -8,9 +8,11 @@ ghost use Rattle.paths.specs.Join.{Laid};
 ghost use Rattle.files.specs.Pieces.{span_in, file_in, SpanIn, PiecesIn, header_here, FileUnitIn, PartsIn, Reads, Before, Relative, Pieced};
 
 use crate::spans::{FileUnit, SPAN_RECORD, Span};
+use tlv::bytes::Number;
+use tlv::refusal::Refusal;
 
 // A file's path: its name is `base`; its directory is joined from the others, which may be empty.
-#[derive(Clone, Copy)]
+#[derive(Clone, Copy, Debug)]
 pub struct FilePieces {
     pub compilation: Span,
     pub directory: Span,
@@ -18,23 +20,8 @@ pub struct FilePieces {
     pub base: Span,
 }
 
-// A header's file: one that could not be read, one that has no path, or its pieces.
-#[derive(Clone, Copy)]
-pub enum Named {
-    Failed,
-    Unnamed,
-    Pieces(FilePieces),
-}
-
-// A directory of a unit: one that could not be read, or its span; an empty one where it is not there.
-#[derive(Clone, Copy)]
-pub enum NamedDirectory {
-    Failed,
-    Path(Span),
-}
-
 // The two parts of a path: its directory and its name.
-#[derive(Clone, Copy)]
+#[derive(Clone, Copy, Debug)]
 pub struct PathParts {
     pub own: Span,
     pub base: Span,
@@ -100,34 +87,34 @@ fn path_parts(s: &[u8], path: Span) -> PathParts
 }
 
 // The directory at an index of a unit's table.
-fn directory_at(s: &[u8], work: &[u8], unit: FileUnit, index: u64) -> NamedDirectory
+fn directory_at(s: &[u8], work: &[u8], unit: FileUnit, index: u64) -> Result<Span, Refusal>
     requires { FileUnitIn s.now work.now unit }
     ensures { Reads s.now result (read_directory (at (unit_here s.now unit.place).directories index)) }
 {
     if unit.directory_count as u64 <= index {
-        return NamedDirectory::Path(Span { start: 0, len: 0 });
+        return Ok(Span { start: 0, len: 0 });
     }
     let p = unit.directories + index as usize * SPAN_RECORD;
-    let start = tlv::bytes::read_u32(work, p) as usize;
-    let len = tlv::bytes::read_u32(work, p + 4) as usize;
-    if tlv::bytes::read_u8(s, start) == 1 {
-        return NamedDirectory::Failed;
+    let start = u32::read(work, p) as usize;
+    let len = u32::read(work, p + 4) as usize;
+    if u8::read(s, start) == 1 {
+        return Err(Refusal::Decoder);
     }
-    NamedDirectory::Path(Span {
+    Ok(Span {
         start: start + 1,
         len: len - 1,
     })
 }
 
 // The directory of a number, which the versions count differently.
-fn named_directory(s: &[u8], work: &[u8], unit: FileUnit, number: u64) -> NamedDirectory
+fn named_directory(s: &[u8], work: &[u8], unit: FileUnit, number: u64) -> Result<Span, Refusal>
     requires { FileUnitIn s.now work.now unit }
     ensures { Reads s.now result (named_directory (unit_here s.now unit.place) (header_here s.now unit.place).version
         number) }
 {
     if unit.version < 5 {
         if number == 0 {
-            return NamedDirectory::Path(Span { start: 0, len: 0 });
+            return Ok(Span { start: 0, len: 0 });
         }
         return directory_at(s, work, unit, number - 1);
     }
@@ -135,59 +122,62 @@ fn named_directory(s: &[u8], work: &[u8], unit: FileUnit, number: u64) -> NamedD
 }
 
 // The pieces of a file with a relative path, by the number of its directory.
-fn relative_pieces(s: &[u8], work: &[u8], unit: FileUnit, number: u64, parts: PathParts) -> Named
+fn relative_pieces(
+    s: &[u8],
+    work: &[u8],
+    unit: FileUnit,
+    number: u64,
+    parts: PathParts,
+) -> Result<Option<FilePieces>, Refusal>
     requires file_unit_in { FileUnitIn s.now work.now unit }
     requires span_in { SpanIn s.now parts.own }
     requires span_in_2 { SpanIn s.now parts.base }
     ensures { Relative s.now unit number parts result }
 {
-    match named_directory(s, work, unit, number) {
-        NamedDirectory::Failed => Named::Failed,
-        NamedDirectory::Path(directory) => {
-            let own = parts.own;
-            let base = parts.base;
-            let whole = unit.compilation;
-            let compilation = compilation_before(s, unit.version, whole, number, directory);
-            Named::Pieces(FilePieces {
-                compilation: compilation,
-                directory: directory,
-                own: own,
-                base: base,
-            })
-        }
-    }
+    let directory = named_directory(s, work, unit, number)?;
+    let compilation = compilation_before(s, unit.version, unit.compilation, number, directory);
+    Ok(Some(FilePieces {
+        compilation,
+        directory,
+        own: parts.own,
+        base: parts.base,
+    }))
 }
 
 // The pieces of the file whose payload is `file`.
-pub fn file_pieces(s: &[u8], work: &[u8], unit: FileUnit, file: Span) -> Named
+pub fn file_pieces(
+    s: &[u8],
+    work: &[u8],
+    unit: FileUnit,
+    file: Span,
+) -> Result<Option<FilePieces>, Refusal>
     requires file_unit_in { FileUnitIn s.now work.now unit }
     requires len_in_bounds { file.start + file.len ≤ length s.now }
     requires le_len { 9 ≤ file.len }
     requires len_bound { file.len ≤ 9 + string_limit }
     ensures { Pieced s.now unit file result }
 {
-    if tlv::bytes::read_u8(s, file.start) == 1 {
-        return Named::Failed;
+    if u8::read(s, file.start) == 1 {
+        return Err(Refusal::Decoder);
     }
     let path = Span {
         start: file.start + 9,
         len: file.len - 9,
     };
     let parts = path_parts(s, path);
-    let own = parts.own;
-    let base = parts.base;
-    if base.len == 0 {
-        return Named::Unnamed;
+    if parts.base.len == 0 {
+        return Ok(None);
     }
     if is_absolute_span(s, path) {
-        return Named::Pieces(FilePieces {
-            compilation: Span { start: 0, len: 0 },
-            directory: Span { start: 0, len: 0 },
-            own: own,
-            base: base,
-        });
+        let none = Span { start: 0, len: 0 };
+        return Ok(Some(FilePieces {
+            compilation: none,
+            directory: none,
+            own: parts.own,
+            base: parts.base,
+        }));
     }
-    let number = tlv::bytes::read_u64(s, file.start + 1);
+    let number = u64::read(s, file.start + 1);
     relative_pieces(s, work, unit, number, parts)
 }
 

@@ -4,11 +4,14 @@ ghost use Rattle.buffers.specs.Table.{chunk};
 ghost use Rattle.lines.specs.Files.{same_file};
 ghost use Rattle.files.specs.Pieces.{span_of, file_in, PiecesIn};
 ghost use Rattle.files.specs.Hash.{hash_of};
-ghost use Rattle.files.specs.Store.{pieces_of, source_of, stored_file, byte_of, StoredAt, PutPieces, PutFile};
+ghost use Rattle.files.specs.Store.{pieces_of, source_of, stored_file, StoredAt, PutPieces, PutFile};
 
 use crate::joined::{bytes_at, is_joined};
 use crate::pieces::FilePieces;
+use crate::sheets::sheet_of;
 use crate::spans::{Span, put_span};
+use buffers::numbers::Written;
+use tlv::bytes::Number;
 use tlv::model::DebugSource;
 
 // The span at a place: its start 4 bytes, its length 4 bytes.
@@ -17,8 +20,8 @@ fn get_span(work: &[u8], p: usize) -> Span
     ensures { result ≡ span_of (chunk work.now p 8) }
 {
     Span {
-        start: tlv::bytes::read_u32(work, p) as usize,
-        len: tlv::bytes::read_u32(work, p + 4) as usize,
+        start: u32::read(work, p) as usize,
+        len: u32::read(work, p + 4) as usize,
     }
 }
 
@@ -27,15 +30,11 @@ fn get_pieces(work: &[u8], p: usize) -> FilePieces
     requires { p + 41 ≤ length work.now }
     ensures { result ≡ pieces_of (chunk work.now p 41) }
 {
-    let compilation = get_span(work, p);
-    let directory = get_span(work, p + 8);
-    let own = get_span(work, p + 16);
-    let base = get_span(work, p + 24);
     FilePieces {
-        compilation: compilation,
-        directory: directory,
-        own: own,
-        base: base,
+        compilation: get_span(work, p),
+        directory: get_span(work, p + 8),
+        own: get_span(work, p + 16),
+        base: get_span(work, p + 24),
     }
 }
 
@@ -44,10 +43,11 @@ fn get_source(work: &[u8], p: usize) -> DebugSource
     requires { p + 41 ≤ length work.now }
     ensures { result ≡ source_of (chunk work.now p 41) }
 {
-    if tlv::bytes::read_u8(work, p + 32) == 0 {
-        return DebugSource::Main;
+    if u8::read(work, p + 32) == 0 {
+        DebugSource::Main
+    } else {
+        DebugSource::Supplementary
     }
-    DebugSource::Supplementary
 }
 
 // Whether the file whose directory is the n bytes at `at`, and whose name is base, is the one of pieces of s.
@@ -60,10 +60,7 @@ fn is_pieces(s: &[u8], p: FilePieces, work: &[u8], at: usize, n: usize, base: &[
     let d = p.directory;
     let o = p.own;
     let b = p.base;
-    if base.len() != b.len {
-        return false;
-    }
-    if !bytes_at(s, b.start, base) {
+    if base.len() != b.len || !bytes_at(s, b.start, base) {
         return false;
     }
     let c0 = c.start;
@@ -92,24 +89,11 @@ pub fn is_file(
     ensures { result ≡ same_file (record { directory = chunk work.now at n; basename = base.now })
         (stored_file main.now supplementary.now (chunk work.now p 41)) }
 {
-    if tlv::bytes::read_u32(work, p + 33) as u64 != hash {
+    if u32::read(work, p + 33) as u64 != hash {
         return false;
     }
-    let pieces = get_pieces(work, p);
-    match get_source(work, p) {
-        DebugSource::Main => is_pieces(main, pieces, work, at, n, base),
-        DebugSource::Supplementary => is_pieces(supplementary, pieces, work, at, n, base),
-    }
-}
-
-// The byte of a source in a record.
-fn source_byte(source: DebugSource) -> u8
-    ensures { result ≡ byte_of source }
-{
-    match source {
-        DebugSource::Main => 0,
-        DebugSource::Supplementary => 1,
-    }
+    let s = sheet_of(main, supplementary, get_source(work, p));
+    is_pieces(s, get_pieces(work, p), work, at, n, base)
 }
 
 // Writes the pieces of a record.
@@ -119,14 +103,10 @@ fn put_pieces(s: &[u8], work: &mut [u8], at: usize, p: FilePieces)
     requires s_len_bound { length s.now < 2 ^ 32 }
     ensures { PutPieces work.old work.new at p }
 {
-    let compilation = p.compilation;
-    let directory = p.directory;
-    let own = p.own;
-    let base = p.base;
-    put_span(work, at, compilation);
-    put_span(work, at + 8, directory);
-    put_span(work, at + 16, own);
-    put_span(work, at + 24, base);
+    put_span(work, at, p.compilation);
+    put_span(work, at + 8, p.directory);
+    put_span(work, at + 16, p.own);
+    put_span(work, at + 24, p.base);
 }
 
 // Writes a record: a file's pieces, its source, its hash, and the link to the file before it in its chain.
@@ -146,7 +126,7 @@ pub fn put_record(
     ensures { PutFile work.old work.new at source p hash link }
 {
     put_pieces(s, work, at, p);
-    buffers::table::set_u8(work, at + 32, source_byte(source));
-    buffers::table::set_u32(work, at + 33, hash as u32);
-    buffers::table::set_u32(work, at + 37, link);
+    (source as u8).write(work, at + 32);
+    (hash as u32).write(work, at + 33);
+    link.write(work, at + 37);
 }

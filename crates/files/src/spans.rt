@@ -7,13 +7,16 @@ ghost use Rattle.tlv.specs.Checked.{Placed};
 ghost use Rattle.access.specs.Places.{own_fields, unit_here};
 ghost use Rattle.files.specs.Pieces.{PutSpan, UnitPlaced, version_in, DirectoriesIn, CompilationIn, span_record, Described};
 
+use access::access::next_before_rows;
+use buffers::numbers::Written;
+use tlv::bytes::Number;
 use tlv::tags::{COMPILATION_TAG, DIRECTORY_TAG, HEADER_TAG, UNIT_WHOLE};
 
 // Bytes of a span in a table of spans.
 pub const SPAN_RECORD: usize = 8;
 
 // A stretch of a sheet.
-#[derive(Clone, Copy)]
+#[derive(Clone, Copy, Debug)]
 pub struct Span {
     pub start: usize,
     pub len: usize,
@@ -21,7 +24,7 @@ pub struct Span {
 
 // What of a unit tells the paths of its files: its place, its line header's version, its compilation directory,
 // and a table of its directories' spans in the work slice.
-#[derive(Clone, Copy)]
+#[derive(Clone, Copy, Debug)]
 pub struct FileUnit {
     pub place: usize,
     pub version: u8,
@@ -36,8 +39,8 @@ pub fn put_span(work: &mut [u8], p: usize, a: Span)
     requires len_bound { a.start + a.len < 4294967296 }
     ensures { PutSpan work.old work.new p a }
 {
-    buffers::table::set_u32(work, p, a.start as u32);
-    buffers::table::set_u32(work, p + 4, a.len as u32);
+    (a.start as u32).write(work, p);
+    (a.len as u32).write(work, p + 4);
 }
 
 // Writes the spans of the directories of the unit whose fields follow place p, and returns their number.
@@ -49,25 +52,16 @@ fn index_directories(s: &[u8], p: usize, work: &mut [u8], base: usize) -> usize
 {
     let mut at = p;
     let mut n: usize = 0;
-    loop {
-        match access::access::next_before_rows(s, at, DIRECTORY_TAG) {
-            access::access::Own::Missing => {
-                return n;
-            }
-            access::access::Own::Field { start, len, next } => {
-                put_span(
-                    work,
-                    base + n * SPAN_RECORD,
-                    Span {
-                        start: start,
-                        len: len,
-                    },
-                );
-                n += 1;
-                at = next;
-            }
-        }
+    while let Some(field) = next_before_rows(s, at, DIRECTORY_TAG) {
+        let directory = Span {
+            start: field.start,
+            len: field.len,
+        };
+        put_span(work, base + n * SPAN_RECORD, directory);
+        n += 1;
+        at = field.next;
     }
+    n
 }
 
 // The compilation directory of the unit whose fields follow place p; an empty span where it has none.
@@ -75,16 +69,12 @@ fn compilation_span(s: &[u8], p: usize) -> Span
     requires { Placed s.now p }
     ensures { CompilationIn s.now p result }
 {
-    match access::access::next_before_rows(s, p, COMPILATION_TAG) {
-        access::access::Own::Missing => Span { start: 0, len: 0 },
-        access::access::Own::Field {
-            start,
-            len,
-            next: _,
-        } => Span {
-            start: start,
-            len: len,
-        },
+    let Some(field) = next_before_rows(s, p, COMPILATION_TAG) else {
+        return Span { start: 0, len: 0 };
+    };
+    Span {
+        start: field.start,
+        len: field.len,
     }
 }
 
@@ -93,14 +83,10 @@ fn header_version(s: &[u8], p: usize) -> u8
     requires { Placed s.now p }
     ensures { result ≡ version_in s.now p }
 {
-    match access::access::next_before_rows(s, p, HEADER_TAG) {
-        access::access::Own::Missing => 0,
-        access::access::Own::Field {
-            start,
-            len: _,
-            next: _,
-        } => tlv::bytes::read_u8(s, start + 16),
-    }
+    let Some(field) = next_before_rows(s, p, HEADER_TAG) else {
+        return 0;
+    };
+    u8::read(s, field.start + 16)
 }
 
 // Describes the unit at a place, the spans of its directories written at base.
@@ -113,12 +99,12 @@ pub fn file_unit(s: &[u8], place: usize, work: &mut [u8], base: usize) -> FileUn
     let p = place + UNIT_WHOLE;
     let version = header_version(s, p);
     let compilation = compilation_span(s, p);
-    let count = index_directories(s, p, work, base);
+    let directory_count = index_directories(s, p, work, base);
     FileUnit {
-        place: place,
-        version: version,
-        compilation: compilation,
+        place,
+        version,
+        compilation,
         directories: base,
-        directory_count: count,
+        directory_count,
     }
 }

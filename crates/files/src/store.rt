@@ -12,8 +12,12 @@ ghost use Rattle.files.specs.Store.{extent, Linked, LaidFile, LaidAt, FilesIn, f
 use crate::hash::hash_bytes;
 use crate::pieces::{FilePieces, lay_directory};
 use crate::records::{is_file, put_record};
+use crate::sheets::sheet_of;
+use buffers::numbers::Written;
+use tlv::bytes::Number;
 use tlv::grammar::STRING_LIMIT;
-use tlv::model::DebugSource;
+use tlv::model::{DebugSource, FileIndex};
+use tlv::refusal::Refusal;
 
 // Bytes of a bucket's head, of a file's record, and of both.
 const FILE_HEAD: usize = 4;
@@ -27,7 +31,7 @@ pub const JOINED_LIMIT: usize = 3 * STRING_LIMIT + 2;
 
 // The table: the number of its first file, where it stands in the work slice, how many files it has room for and has,
 // and how many bytes were written to the files tray.
-#[derive(Clone, Copy)]
+#[derive(Clone, Copy, Debug)]
 pub struct StoredFiles {
     pub first: u32,
     pub base: usize,
@@ -36,25 +40,15 @@ pub struct StoredFiles {
     pub written: usize,
 }
 
-// The place of a file in the table.
-#[derive(Clone, Copy)]
-pub enum FoundFile {
-    At(usize),
-    Missing,
-}
-
-// The table with a file in it and the file's number, or that the numbers are used up.
-#[derive(Clone, Copy)]
-pub enum AddedFile {
-    Number {
-        table: StoredFiles,
-        number: tlv::model::FileIndex,
-    },
-    Full,
+// The table with a file in it, and the file's number.
+#[derive(Clone, Copy, Debug)]
+pub struct AddedFile {
+    pub table: StoredFiles,
+    pub number: FileIndex,
 }
 
 // The length of a directory that was laid, and the hash of its file.
-#[derive(Clone, Copy)]
+#[derive(Clone, Copy, Debug)]
 pub struct LaidHash {
     pub n: usize,
     pub hash: u64,
@@ -70,7 +64,7 @@ pub fn find_file(
     at: usize,
     n: usize,
     base: &[u8],
-) -> FoundFile
+) -> Option<usize>
     requires files_in { FilesIn main.now supplementary.now work.now t }
     requires n_in_bounds { at + n ≤ length work.now }
     requires hash_value { hash ≡ hash_of (record { directory = chunk work.now at n; basename = base.now }) }
@@ -78,15 +72,16 @@ pub fn find_file(
         (entries_of main.now supplementary.now work.now t) }
 {
     let bucket = (hash % t.room as u64) as usize;
-    let mut k = tlv::bytes::read_u32(work, t.base + bucket * FILE_HEAD) as usize;
+    let mut k = u32::read(work, t.base + bucket * FILE_HEAD) as usize;
+    // Stays a loop: each record names the one before it in its chain, so nothing is counted.
     while k != 0 {
         let p = t.base + t.room * FILE_HEAD + (k - 1) * FILE_BODY;
         if is_file(main, supplementary, work, p, hash, at, n, base) {
-            return FoundFile::At(k - 1);
+            return Some(k - 1);
         }
-        k = tlv::bytes::read_u32(work, p + 37) as usize;
+        k = u32::read(work, p + 37) as usize;
     }
-    FoundFile::Missing
+    None
 }
 
 // Writes the record of a file that is not in the table, at the table's end, and makes it the first of its chain.
@@ -106,7 +101,7 @@ fn link_file(
     ensures { Linked work.old work.new t source p hash }
 {
     let head = t.base + (hash % t.room as u64) as usize * FILE_HEAD;
-    let link = tlv::bytes::read_u32(work, head);
+    let link = u32::read(work, head);
     put_record(
         s,
         work,
@@ -116,53 +111,47 @@ fn link_file(
         hash,
         link,
     );
-    buffers::table::set_u32(work, head, (t.count + 1) as u32);
+    ((t.count + 1) as u32).write(work, head);
 }
 
-// Adds a file that is not in the table; its directory is the n bytes at `at`.
+// Adds a file that is not in the table, of pieces of the source's sheet; its directory is the n bytes at the table's scratch.
 fn append_file(
     main: &[u8],
     supplementary: &[u8],
-    s: &[u8],
     source: DebugSource,
     p: FilePieces,
     work: &mut [u8],
     files: &mut [u8],
     t: StoredFiles,
-    hash: u64,
-    n: usize,
-) -> AddedFile
+    l: LaidHash,
+) -> Result<AddedFile, Refusal>
     requires files_in { FilesIn main.now supplementary.now work.old t }
-    requires s_value { s.now ≡ source_in main.now supplementary.now source }
-    requires pieces_in { PiecesIn s.now p }
-    requires possible { Possible main.now supplementary.now (file_in s.now p) }
-    requires laid_file { LaidFile work.old t n hash (file_in s.now p) }
-    requires t_value { place_of (file_in s.now p) (entries_of main.now supplementary.now work.old t) ≡ none }
+    requires pieces_in { PiecesIn (source_in main.now supplementary.now source) p }
+    requires possible { Possible main.now supplementary.now (file_in (source_in main.now supplementary.now source) p) }
+    requires laid_file { LaidFile work.old t l.n l.hash (file_in (source_in main.now supplementary.now source) p) }
+    requires t_value { place_of (file_in (source_in main.now supplementary.now source) p)
+        (entries_of main.now supplementary.now work.old t) ≡ none }
     ensures { Adds main.now supplementary.now work.old work.new files.old files.new t
-        (file_in s.now p) result }
+        (file_in (source_in main.now supplementary.now source) p) result }
 {
-    let first = t.first;
-    let count = t.count;
-    if 4294967295 < first as u64 + count as u64 {
-        return AddedFile::Full;
-    }
+    let Some(number) = t.first.checked_add(t.count as u32) else {
+        return Err(Refusal::FilesFull);
+    };
+    let s = sheet_of(main, supplementary, source);
     let at = t.base + t.room * FILE_RECORD;
-    let end = at + n;
-    let b = p.base;
-    let start = b.start;
-    let past = b.start + b.len;
+    let end = at + l.n;
+    let start = p.base.start;
+    let past = start + p.base.len;
     let written = buffers::output::put_file(files, t.written, &work[at..end], &s[start..past]);
-    link_file(s, work, t, source, p, hash);
-    AddedFile::Number {
+    link_file(s, work, t, source, p, l.hash);
+    Ok(AddedFile {
         table: StoredFiles {
-            first: first,
-            base: t.base,
-            room: t.room,
-            count: count + 1,
-            written: written,
+            count: t.count + 1,
+            written,
+            ..t
         },
-        number: tlv::model::FileIndex(first + count as u32),
-    }
+        number: FileIndex(number),
+    })
 }
 
 // Lays the directory of a file, and gives its length and the file's hash.
@@ -171,37 +160,34 @@ pub fn lay_file(s: &[u8], p: FilePieces, work: &mut [u8], at: usize) -> LaidHash
     requires joined_limit_in_bounds { at + joined_limit ≤ length work.old }
     ensures { LaidAt work.old work.new at (file_in s.now p) result }
 {
-    let b = p.base;
-    let start = b.start;
-    let past = b.start + b.len;
+    let start = p.base.start;
+    let past = start + p.base.len;
     let n = lay_directory(s, p, work, at);
     let end = at + n;
     let hash = hash_bytes(hash_bytes(0, &work[at..end]), &s[start..past]);
-    LaidHash { n: n, hash: hash }
+    LaidHash { n, hash }
 }
 
-// Adds the file of pieces of s, the sheet of the source, unless the table has it, and gives its number.
+// Adds the file of pieces of the source's sheet, unless the table has it, and gives its number.
 pub fn add_file(
     main: &[u8],
     supplementary: &[u8],
-    s: &[u8],
     source: DebugSource,
     p: FilePieces,
     work: &mut [u8],
     files: &mut [u8],
     t: StoredFiles,
-) -> AddedFile
+) -> Result<AddedFile, Refusal>
     requires files_in { FilesIn main.now supplementary.now work.old t }
-    requires s_value { s.now ≡ source_in main.now supplementary.now source }
-    requires pieces_in { PiecesIn s.now p }
-    requires possible { Possible main.now supplementary.now (file_in s.now p) }
+    requires pieces_in { PiecesIn (source_in main.now supplementary.now source) p }
+    requires possible { Possible main.now supplementary.now (file_in (source_in main.now supplementary.now source) p) }
     ensures { Adds main.now supplementary.now work.old work.new files.old files.new t
-        (file_in s.now p) result }
+        (file_in (source_in main.now supplementary.now source) p) result }
 {
+    let s = sheet_of(main, supplementary, source);
     let at = t.base + t.room * FILE_RECORD;
-    let b = p.base;
-    let start = b.start;
-    let past = b.start + b.len;
+    let start = p.base.start;
+    let past = start + p.base.len;
     let l = lay_file(s, p, work, at);
     match find_file(
         main,
@@ -213,22 +199,11 @@ pub fn add_file(
         l.n,
         &s[start..past],
     ) {
-        FoundFile::At(i) => AddedFile::Number {
+        Some(i) => Ok(AddedFile {
             table: t,
-            number: tlv::model::FileIndex(t.first + i as u32),
-        },
-        FoundFile::Missing => append_file(
-            main,
-            supplementary,
-            s,
-            source,
-            p,
-            work,
-            files,
-            t,
-            l.hash,
-            l.n,
-        ),
+            number: FileIndex(t.first + i as u32),
+        }),
+        None => append_file(main, supplementary, source, p, work, files, t, l),
     }
 }
 
@@ -251,10 +226,10 @@ pub fn new_files(
 {
     buffers::table::fill_zero(work, base, base + room * FILE_HEAD);
     StoredFiles {
-        first: first,
-        base: base,
-        room: room,
+        first,
+        base,
+        room,
         count: 0,
-        written: written,
+        written,
     }
 }

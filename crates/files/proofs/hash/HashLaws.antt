@@ -11,9 +11,6 @@ pub record Hashing (s : List ℕ) (h r i : ℕ) : Type 0 where
   pub goes : hash_from r (drop i s) ≡ hash_from h s
   pub below : r < modulus
 
-pub hash-start : (s : List ℕ) (h : ℕ) → h < modulus → Hashing s h h 0
-hash-start s h l = record { goes = refl; below = l }
-
 pub hash-step : {s : List ℕ} {h r i : ℕ} → Hashing s h r i → i < length s → Hashing s h ((r * 16777619 + get_or s i 0 + 1) % modulus) (i + 1)
 unfolding hash_from
 hash-step {s} {h} {r} {i} H l = record {

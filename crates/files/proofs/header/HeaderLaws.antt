@@ -9,6 +9,8 @@ use mathlib.Core.Option.{none}
 use lib.Dec.{leb}
 use lib.ListN.{length}
 use borrow.Author.Tests.{le-leb, lt-leb}
+use Rattle.std.specs.Prelude.{Result, Ok, Err}
+use Rattle.tlv.specs.declared.refusal.Refusal.{Refusal}
 use Rattle.tlv.specs.Outcome.{◌>>=◌}
 use Rattle.tlv.specs.Model.{CompilationUnit, LineHeader}
 use Rattle.buffers.specs.Table.{chunk, Clear}
@@ -57,11 +59,11 @@ module _ {w w₁ : List ℕ} {t : StoredFiles} {s : List ℕ} {u : FileUnit} {ba
   room_after = record { table = M.table; directories = M.directories; map = rw size M.map }
 
   module _ {main supplementary : List ℕ} (F : FilesIn main supplementary w t) where
-    grown-from : (w₂ files files₂ : List ℕ) (m : ℕ) (r : InternedFiles) → IndexedAfter main supplementary w₁ w₂ files files₂ t m r → IndexedAfter main supplementary w w₂ files files₂ t m r
-    grown-from w₂ files files₂ m (InternedFiles.Refused k) a = tt
-    grown-from w₂ files files₂ m (InternedFiles.Indices t' k) a = (grown-after F (but_one P.rest) table-clear a.0, a.1)
+    grown-from : (w₂ files files₂ : List ℕ) (m : ℕ) (r : Result InternedFiles Refusal) → IndexedAfter main supplementary w₁ w₂ files files₂ t m r → IndexedAfter main supplementary w w₂ files files₂ t m r
+    grown-from w₂ files files₂ m (Err e) a = tt
+    grown-from w₂ files files₂ m (Ok x) a = (grown-after F (but_one P.rest) table-clear a.0, a.1)
 
-    pub header-before : {w₂ files files₂ : List ℕ} {r : InternedFiles} → FileUnitIn s w u → u.version ≤ 4 → InternsFiles main supplementary w₁ w₂ files files₂ t s u base 1 r → InternsHeader main supplementary w w₂ files files₂ t s u base r
+    pub header-before : {w₂ files files₂ : List ℕ} {r : Result InternedFiles Refusal} → FileUnitIn s w u → u.version ≤ 4 → InternsFiles main supplementary w₁ w₂ files files₂ t s u base 1 r → InternsHeader main supplementary w w₂ files files₂ t s u base r
     header-before {w₂} {files} {files₂} {r} U v I = record {
       is = I.is ∙ rw (table_kept F (but_one P.rest) table-clear)
           (header_is (unit_here s u.place) (header_here s u.place) (table_of main supplementary w t) (indices_of w₁ base 1) true (rw (← U.version) (le-leb u.version 4 v)) (first-none w₁ base P.index));
@@ -69,7 +71,7 @@ module _ {w w₁ : List ℕ} {t : StoredFiles} {s : List ℕ} {u : FileUnit} {ba
       rest = but_trans (but_of P.rest (there (here (omega arith) (omega arith)))) I.rest;
     }
 
-pub header-from : {main supplementary w w₂ files files₂ : List ℕ} {t : StoredFiles} {s : List ℕ} {u : FileUnit} {base : ℕ} {r : InternedFiles} → FileUnitIn s w u → 4 < u.version
+pub header-from : {main supplementary w w₂ files files₂ : List ℕ} {t : StoredFiles} {s : List ℕ} {u : FileUnit} {base : ℕ} {r : Result InternedFiles Refusal} → FileUnitIn s w u → 4 < u.version
     → InternsFiles main supplementary w w₂ files files₂ t s u base 0 r → InternsHeader main supplementary w w₂ files files₂ t s u base r
 header-from {main} {supplementary} {w} {t = t} {s = s} {u = u} {base = base} U v I = record {
   is = I.is ∙ header_is (unit_here s u.place) (header_here s u.place) (table_of main supplementary w t) (indices_of w base 0) false (rw (← U.version) (lt-leb u.version 4 v)) (first-nothing w base);

@@ -17,7 +17,7 @@ use Rattle.buffers.proofs.RecordLaws.{records-length, records-at, records-set}
 use Rattle.lines.specs.Files.{FileIndices, file_index, get}
 use Rattle.files.specs.declared.index.StoredIndices.{StoredIndices}
 use Rattle.files.specs.declared.index.FileNumber.{FileNumber}
-use Rattle.files.specs.declared.index.FoundIndex.{FoundIndex}
+use Rattle.std.specs.Prelude.{Option, Some, None}
 use Rattle.files.specs.Indices.{index_of, indices_of, indices_in, number_of, PutIndex, Inserted}
 
 -- ---- a record
@@ -31,14 +31,14 @@ index-none : (w : List ℕ) (p : ℕ) → (le_at 1 w p ≡ 1 → ⊥) → index_
 unfolding index_of
 index-none w p not-one = rw (le_at-front 1 w p 5 (omega arith), ne_eqb (le_at 1 w p) 1 not-one)
 
-pub put-number : {w w₁ w₂ : List ℕ} {p : ℕ} {n : FileIndex} {x : FoundIndex} → x ≡ FoundIndex.Number n → Wrote w w₁ p 1 1 → Wrote w₁ w₂ (p + 1) 4 n.0
+pub put-number : {w w₁ w₂ : List ℕ} {p : ℕ} {n : FileIndex} {x : Option FileIndex} → x ≡ Some n → Wrote w w₁ p 1 1 → Wrote w₁ w₂ (p + 1) 4 n.0
     → PutIndex w w₂ p (number_of x)
 put-number {w₂ = w₂} {p = p} {n = n} e A B = rw e (record {
   index = index-some w₂ p n.0 (le_at-kept 1 p B.rest (inl (omega arith)) ∙ A.value) B.value;
   rest = kept_trans (kept-wide p 5 A.rest (omega arith) (omega arith)) (kept-wide p 5 B.rest (omega arith) (omega arith));
 })
 
-pub put-missing : {w w₁ : List ℕ} {p : ℕ} {x : FoundIndex} → x ≡ FoundIndex.Missing → Wrote w w₁ p 1 0 → PutIndex w w₁ p (number_of x)
+pub put-missing : {w w₁ : List ℕ} {p : ℕ} {x : Option FileIndex} → x ≡ None → Wrote w w₁ p 1 0 → PutIndex w w₁ p (number_of x)
 put-missing {w₁ = w₁} {p = p} e A = rw e (record {
   index = index-none w₁ p (λ one. omega (arith, A.value));
   rest = kept-wide p 5 A.rest (omega arith) (omega arith);

@@ -10,6 +10,10 @@ use lib.Dec.{leb}
 use lib.ListN.{length, drop}
 use borrow.Author.Tests.{le-leb, lt-leb}
 use Rattle.tlv.specs.declared.model.FileIndex.{FileIndex}
+use Rattle.std.specs.Prelude.{Some, None, Result, Ok, Err}
+use Rattle.std.specs.Prelude as std
+use Rattle.tlv.specs.declared.refusal.Refusal.{Refusal}
+use Rattle.tlv.specs.declared.fields.FieldSpan.{FieldSpan}
 use Rattle.tlv.specs.Outcome.{done}
 use Rattle.tlv.specs.Lists.{at, map_option}
 use Rattle.tlv.specs.Fields.{fields, payloads}
@@ -20,7 +24,6 @@ use Rattle.tlv.proofs.ListLaws.{at-image}
 use Rattle.buffers.specs.Table.{chunk}
 use Rattle.buffers.specs.Output.{FileEntry}
 use Rattle.buffers.proofs.TableLaws.{kept_refl, kept-wide}
-use Rattle.access.specs.declared.access.Own.{Own}
 use Rattle.access.specs.Places.{own_fields, unit_here}
 use Rattle.access.specs.Access.{NextOwn}
 use Rattle.access.proofs.OwnLaws.{own-placed}
@@ -28,15 +31,11 @@ use Rattle.access.proofs.UnitFacts.{unit-files}
 use Rattle.paths.specs.Paths.{file_entry}
 use Rattle.lines.specs.Files.{FileTable, FileIndices, file_index, place_of, get}
 use Rattle.files.specs.declared.index.FileNumber.{FileNumber}
-use Rattle.files.specs.declared.index.FoundIndex.{FoundIndex}
 use Rattle.files.specs.declared.pieces.FilePieces.{FilePieces}
 use Rattle.files.specs.declared.spans.FileUnit.{FileUnit}
-use Rattle.files.specs.declared.pieces.Named.{Named}
 use Rattle.files.specs.declared.store.StoredFiles.{StoredFiles}
-use Rattle.files.specs.declared.store.FoundFile.{FoundFile}
 use Rattle.files.specs.declared.store.LaidHash.{LaidHash}
 use Rattle.files.specs.Pieces.{span_in, file_in, header_here, UnitPlaced, FileUnitIn, named_of, Pieced}
-use Rattle.files.specs.Interns.{FileSpanIn}
 use Rattle.files.specs.Store.{extent, entries_of, table_of, FilesIn, LaidAt, found_of}
 use Rattle.files.specs.Indices.{number_of}
 use Rattle.files.specs.Reached.{number_in, reached_indices, own_file, NthFile, Found, nth_number, LookedUp}
@@ -62,24 +61,24 @@ unfolding at
 at_next x xs zero h = absurd (omega arith)
 at_next x xs (suc n) h = let z : suc n - 1 ≡ n = omega arith in rw z
 
-module _ {s : List ℕ} {p n q left : ℕ} {r : Own} (J : Passing s p n q left) (own : NextOwn s q 0x15 r) where
-  pub passing-over : r ≡ Own.Missing → NthFile s p n Own.Missing
+module _ {s : List ℕ} {p n q left : ℕ} (J : Passing s p n q left) where
+  pub passing-over : NextOwn s q 0x15 None → NthFile s p n None
   unfolding at
-  passing-over e = record { is = sym (J.same ∙ rw (← own.is, e)); within = tt }
+  passing-over own = record { is = sym (J.same ∙ rw (← own.is)); within = tt }
 
-  module _ {start len next : ℕ} (e : r ≡ Own.Field start len next) where
-    first-is : payloads_from s q ≡ span_in s (record { start = start; len = len }) ∷ payloads_from s next
+  module _ {f : FieldSpan} (own : NextOwn s q 0x15 (Some f)) where
+    first-is : payloads_from s q ≡ span_in s (record { start = f.start; len = f.len }) ∷ payloads_from s f.next
     unfolding chunk
-    first-is = rw (← own.is, e)
+    first-is = rw (← own.is)
 
-    pub passing-found : left ≡ 0 → NthFile s p n (Own.Field start len next)
+    pub passing-found : left ≡ 0 → NthFile s p n (Some f)
     unfolding at
-    passing-found z = record { is = sym (J.same ∙ rw (z, first-is)); within = file-span own e J.placed }
+    passing-found z = record { is = sym (J.same ∙ rw (z, first-is)); within = file-span own J.placed }
 
-    pub passing-next : (left ≡ 0 → ⊥) → Passing s p n next (left - 1)
+    pub passing-next : (left ≡ 0 → ⊥) → Passing s p n f.next (left - 1)
     passing-next ne = record {
-      placed = own-placed s q 0x15 r start len next own e J.placed;
-      same = J.same ∙ rw first-is (at_next (span_in s (record { start = start; len = len })) (payloads_from s next) left (omega arith));
+      placed = own-placed s q 0x15 f own J.placed;
+      same = J.same ∙ rw first-is (at_next (span_in s (record { start = f.start; len = f.len })) (payloads_from s f.next) left (omega arith));
     }
 
 -- ---- the place of a file
@@ -90,7 +89,7 @@ module _ {main supplementary w w₁ : List ℕ} {t : StoredFiles} {e e₁ : File
   entries-laid : entries_of main supplementary w₁ t ≡ entries_of main supplementary w t
   entries-laid = entries-apart F L.rest (inl (omega arith))
 
-  found-by : (f : FoundFile) (r : FoundIndex) → found_of f ≡ place_of e₁ (entries_of main supplementary w₁ t) → number_of r ≡ map_option (λ k. file_index (t.first + k)) (found_of f)
+  found-by : (f : std.Option ℕ) (r : std.Option FileIndex) → found_of f ≡ place_of e₁ (entries_of main supplementary w₁ t) → number_of r ≡ map_option (λ k. file_index (t.first + k)) (found_of f)
       → Found main supplementary w w₁ t (number_in (table_of main supplementary w t) (done (some e))) r
   unfolding table_of
   found-by f r is number = record {
@@ -100,20 +99,20 @@ module _ {main supplementary w w₁ : List ℕ} {t : StoredFiles} {e e₁ : File
     rest = kept-wide t.base (extent t) L.rest (omega arith) (omega arith);
   }
 
-  pub found_at : {f : FoundFile} {i : ℕ} → found_of f ≡ place_of e₁ (entries_of main supplementary w₁ t) → f ≡ FoundFile.At i
-      → Found main supplementary w w₁ t (number_in (table_of main supplementary w t) (done (some e))) (FoundIndex.Number (file_index (t.first + i)))
+  pub found_at : {i : ℕ} → found_of (Some i) ≡ place_of e₁ (entries_of main supplementary w₁ t)
+      → Found main supplementary w w₁ t (number_in (table_of main supplementary w t) (done (some e))) (Some (file_index (t.first + i)))
   unfolding map_option
-  found_at {f} {i} is z = found-by f (FoundIndex.Number (file_index (t.first + i))) is (rw z)
+  found_at {i} is = found-by (Some i) (Some (file_index (t.first + i))) is refl
 
-  pub found-missing : {f : FoundFile} → found_of f ≡ place_of e₁ (entries_of main supplementary w₁ t) → f ≡ FoundFile.Missing
-      → Found main supplementary w w₁ t (number_in (table_of main supplementary w t) (done (some e))) FoundIndex.Missing
+  pub found-missing : found_of None ≡ place_of e₁ (entries_of main supplementary w₁ t)
+      → Found main supplementary w w₁ t (number_in (table_of main supplementary w t) (done (some e))) None
   unfolding map_option
-  found-missing {f} is z = found-by f FoundIndex.Missing is (rw z)
+  found-missing is = found-by None None is refl
 
 -- ---- the number of the n-th file
 
 -- nothing is found where nothing was written
-found_none : {main supplementary w : List ℕ} {t : StoredFiles} {o : Option FileIndex} → FilesIn main supplementary w t → o ≡ none → Found main supplementary w w t o FoundIndex.Missing
+found_none : {main supplementary w : List ℕ} {t : StoredFiles} {o : Option FileIndex} → FilesIn main supplementary w t → o ≡ none → Found main supplementary w w t o None
 found_none {w = w} {t = t} F e = record { is = sym e; same = refl; holds = F; rest = kept_refl w t.base (extent t) }
 
 -- the number of a file that may not be there
@@ -130,7 +129,7 @@ nth-is u h t n = go u.files n
     go (f ∷ fs) zero = refl
     go (f ∷ fs) (suc k) = go fs k
 
-module _ {s : List ℕ} {p n : ℕ} {r : Own} (U : UnitPlaced s p) (N : NthFile s (p + 21) n r) where
+module _ {s : List ℕ} {p n : ℕ} {r : std.Option FieldSpan} (U : UnitPlaced s p) (N : NthFile s (p + 21) n r) where
   -- the unit's file by what was found
   file-is : at (unit_here s p).files n ≡ map_option file_of (own_file s r)
   file-is =
@@ -140,32 +139,30 @@ module _ {s : List ℕ} {p n : ℕ} {r : Own} (U : UnitPlaced s p) (N : NthFile 
   number_is : (t : FileTable) → nth_number (unit_here s p) (header_here s p) t n ≡ number_at (unit_here s p) (header_here s p) t (map_option file_of (own_file s r))
   number_is t = nth-is (unit_here s p) (header_here s p) t n ∙ ap (number_at (unit_here s p) (header_here s p) t) file-is
 
-  pub nth-missing : {main supplementary w : List ℕ} {t : StoredFiles} → FilesIn main supplementary w t → r ≡ Own.Missing
-      → Found main supplementary w w t (nth_number (unit_here s p) (header_here s p) (table_of main supplementary w t) n) FoundIndex.Missing
-  unfolding map_option
-  nth-missing {main} {supplementary} {w} {t} F e = found_none F (number_is (table_of main supplementary w t) ∙ rw e)
+pub nth-missing : {main supplementary w s : List ℕ} {p n : ℕ} {t : StoredFiles} → UnitPlaced s p → NthFile s (p + 21) n None → FilesIn main supplementary w t
+    → Found main supplementary w w t (nth_number (unit_here s p) (header_here s p) (table_of main supplementary w t) n) None
+unfolding map_option
+nth-missing {main} {supplementary} {w} {t = t} U N F = found_none F (number_is U N (table_of main supplementary w t))
 
-pub nth-span : {s : List ℕ} {p n : ℕ} {r : Own} {start len next : ℕ} → NthFile s p n r → r ≡ Own.Field start len next → FileSpanIn s (record { start = start; len = len })
-nth-span N e = rw e at N.within
-
-module _ {s : List ℕ} {u : FileUnit} {n : ℕ} {r : Own} {start len next : ℕ} {m : Named} (U : UnitPlaced s u.place) (N : NthFile s (u.place + 21) n r) (e : r ≡ Own.Field start len next)
-    (P : Pieced s u (record { start = start; len = len }) m) where
-  named-is : (t : FileTable) → nth_number (unit_here s u.place) (header_here s u.place) t n ≡ number_in t (named_of s m)
+module _ {s : List ℕ} {u : FileUnit} {n : ℕ} {f : FieldSpan} (U : UnitPlaced s u.place) (N : NthFile s (u.place + 21) n (Some f)) where
+  named-is : {m : Result (std.Option FilePieces) Refusal} → Pieced s u (record { start = f.start; len = f.len }) m → (t : FileTable)
+      → nth_number (unit_here s u.place) (header_here s u.place) t n ≡ number_in t (named_of s m)
   unfolding map_option
-  named-is t = number_is U N t ∙ rw (e, ← P.is)
+  named-is P t = number_is U N t ∙ rw (← P.is)
 
   module _ {main supplementary w : List ℕ} {t : StoredFiles} where
-    pub nth-failed : FilesIn main supplementary w t → m ≡ Named.Failed
-        → Found main supplementary w w t (nth_number (unit_here s u.place) (header_here s u.place) (table_of main supplementary w t) n) FoundIndex.Missing
-    nth-failed F k = found_none F (named-is (table_of main supplementary w t) ∙ rw k)
+    pub nth-failed : {x : Refusal} → Pieced s u (record { start = f.start; len = f.len }) (Err x) → FilesIn main supplementary w t
+        → Found main supplementary w w t (nth_number (unit_here s u.place) (header_here s u.place) (table_of main supplementary w t) n) None
+    nth-failed P F = found_none F (named-is P (table_of main supplementary w t))
 
-    pub nth-unnamed : FilesIn main supplementary w t → m ≡ Named.Unnamed
-        → Found main supplementary w w t (nth_number (unit_here s u.place) (header_here s u.place) (table_of main supplementary w t) n) FoundIndex.Missing
-    nth-unnamed F k = found_none F (named-is (table_of main supplementary w t) ∙ rw k)
+    pub nth-unnamed : Pieced s u (record { start = f.start; len = f.len }) (Ok None) → FilesIn main supplementary w t
+        → Found main supplementary w w t (nth_number (unit_here s u.place) (header_here s u.place) (table_of main supplementary w t) n) None
+    nth-unnamed P F = found_none F (named-is P (table_of main supplementary w t))
 
-    pub nth-pieces : {w' : List ℕ} {p : FilePieces} {x : FoundIndex} → m ≡ Named.Pieces p → Found main supplementary w w' t (number_in (table_of main supplementary w t) (done (some (file_in s p)))) x
+    pub nth-pieces : {w' : List ℕ} {p : FilePieces} {x : std.Option FileIndex} → Pieced s u (record { start = f.start; len = f.len }) (Ok (Some p))
+        → Found main supplementary w w' t (number_in (table_of main supplementary w t) (done (some (file_in s p)))) x
         → Found main supplementary w w' t (nth_number (unit_here s u.place) (header_here s u.place) (table_of main supplementary w t) n) x
-    nth-pieces k A = record { is = A.is ∙ sym (named-is (table_of main supplementary w t) ∙ rw k); same = A.same; holds = A.holds; rest = A.rest }
+    nth-pieces P A = record { is = A.is ∙ sym (named-is P (table_of main supplementary w t)); same = A.same; holds = A.holds; rest = A.rest }
 
 -- ---- the number of one of DWARF's
 
@@ -180,7 +177,7 @@ get-next is zero h = absurd (h refl)
 get-next is (suc n) h = let z : suc n - 1 ≡ n = omega arith in rw z
 
 module _ {main supplementary w : List ℕ} {t : StoredFiles} {s : List ℕ} {u : FileUnit} {number : FileNumber} (U : FileUnitIn s w u) where
-  pub looked-zero : FilesIn main supplementary w t → u.version ≤ 4 → number.0 ≡ 0 → LookedUp main supplementary w w t s u number FoundIndex.Missing
+  pub looked-zero : FilesIn main supplementary w t → u.version ≤ 4 → number.0 ≡ 0 → LookedUp main supplementary w w t s u number None
   unfolding get
   looked-zero F v z = record {
     is = sym (reached-is (unit_here s u.place) (header_here s u.place) (table_of main supplementary w t) number.0 true (rw (← U.version) (le-leb u.version 4 v)) ∙ rw z);
@@ -189,22 +186,23 @@ module _ {main supplementary w : List ℕ} {t : StoredFiles} {s : List ℕ} {u :
     rest = kept_refl w t.base (extent t);
   }
 
-  module _ {w' : List ℕ} {r : FoundIndex} where
+  -- looked up in the sheet of the unit's source
+  module _ {w' s' : List ℕ} {r : std.Option FileIndex} (e : s' ≡ s) where
     pub looked-before : u.version ≤ 4 → (number.0 ≡ 0 → ⊥)
-        → Found main supplementary w w' t (nth_number (unit_here s u.place) (header_here s u.place) (table_of main supplementary w t) (number.0 - 1)) r → LookedUp main supplementary w w' t s u number r
+        → Found main supplementary w w' t (nth_number (unit_here s' u.place) (header_here s' u.place) (table_of main supplementary w t) (number.0 - 1)) r → LookedUp main supplementary w w' t s u number r
     unfolding nth_number
     looked-before v ne A = record {
-      is = A.is ∙ sym (reached-is (unit_here s u.place) (header_here s u.place) (table_of main supplementary w t) number.0 true (rw (← U.version) (le-leb u.version 4 v)) ∙ get-next _ number.0 ne);
+      is = (rw e at A.is) ∙ sym (reached-is (unit_here s u.place) (header_here s u.place) (table_of main supplementary w t) number.0 true (rw (← U.version) (le-leb u.version 4 v)) ∙ get-next _ number.0 ne);
       same = A.same;
       holds = A.holds;
       rest = A.rest;
     }
 
-    pub looked-from : 4 < u.version → Found main supplementary w w' t (nth_number (unit_here s u.place) (header_here s u.place) (table_of main supplementary w t) number.0) r
+    pub looked-from : 4 < u.version → Found main supplementary w w' t (nth_number (unit_here s' u.place) (header_here s' u.place) (table_of main supplementary w t) number.0) r
         → LookedUp main supplementary w w' t s u number r
     unfolding nth_number
     looked-from v A = record {
-      is = A.is ∙ sym (reached-is (unit_here s u.place) (header_here s u.place) (table_of main supplementary w t) number.0 false (rw (← U.version) (lt-leb u.version 4 v)));
+      is = (rw e at A.is) ∙ sym (reached-is (unit_here s u.place) (header_here s u.place) (table_of main supplementary w t) number.0 false (rw (← U.version) (lt-leb u.version 4 v)));
       same = A.same;
       holds = A.holds;
       rest = A.rest;

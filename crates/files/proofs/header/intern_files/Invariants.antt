@@ -2,11 +2,12 @@
 -- left of the sheet.
 use Prim.Native.Nat.{◌-◌}
 use lib.ListN.{length}
+use Rattle.files.specs.Pieces.{source_in}
 use Rattle.files.proofs.InterningLaws.{Interning}
 use Rattle.files.proofs.header.intern_files.Given as goal
 
-abbrev pub invariant-loop-start : goal.invariant-loop-start
-invariant-loop-start l = Interning l.main l.supplementary l.initial.work l.work l.initial.files l.files l.initial.table l.table l.s l.unit l.base l.n l.count l.p
+abbrev pub invariant-loop-field : goal.invariant-loop-field
+invariant-loop-field l = Interning l.main l.supplementary l.initial.work l.work l.initial.files l.files l.initial.table l.table (source_in l.main l.supplementary l.source) l.unit l.base l.n l.count l.p
 
-abbrev pub decreases-loop-start : goal.decreases-loop-start
-decreases-loop-start l = length l.s - l.p
+abbrev pub decreases-loop-field : goal.decreases-loop-field
+decreases-loop-field l = length (source_in l.main l.supplementary l.source) - l.p

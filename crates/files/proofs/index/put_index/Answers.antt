@@ -2,8 +2,8 @@
 use Rattle.files.proofs.index.IndexLaws.{put-number, put-missing}
 use Rattle.files.proofs.index.put_index.Goals as goal
 
-pub returns-in-Number : goal.returns-in-Number
-returns-in-Number c = search put-number
+pub returns-in-None : goal.returns-in-None
+returns-in-None c = search put-missing
 
-pub returns-in-Missing : goal.returns-in-Missing
-returns-in-Missing c = search put-missing
+pub returns-in-Some : goal.returns-in-Some
+returns-in-Some c = search put-number

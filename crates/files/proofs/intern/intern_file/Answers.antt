@@ -1,44 +1,23 @@
--- `intern::intern_file` meets its contract, for a file of either sheet.
+-- `intern::intern_file` meets its contract.
+use native.Mathlib.Omega.{arith}
+use Rattle.tlv.proofs.AnswerLaws.{handed}
+use Rattle.files.proofs.InternLaws.{pieces-possible, interns-failed, interns-unnamed, interns_full, interns-number}
 use Rattle.files.proofs.intern.intern_file.Goals as goal
 
-pub intern_from-requires-clause-files_in : goal.intern_from-requires-clause-files_in
-intern_from-requires-clause-files_in c = c.requires.files_in
+pub returns-in_err-p : goal.returns-in_err-p
+returns-in_err-p c = rw (handed _ _ c.from_residual.ensures.1) (interns-failed (rw c.sheet_of-s.ensures at c.in_err-p.ensures))
 
-pub intern_from-requires-clause-s_value : goal.intern_from-requires-clause-s_value
-intern_from-requires-clause-s_value c = rw c.in-Main.is
+pub returns-in_default : goal.returns-in_default
+returns-in_default c = interns-unnamed (rw (c.sheet_of-s.ensures, c.in_default.is) at c.in_ok-p.ensures) c.requires.files_in (omega arith)
 
-pub intern_from-requires-clause-file_unit_in : goal.intern_from-requires-clause-file_unit_in
-intern_from-requires-clause-file_unit_in c = rw c.in-Main.is at c.requires.file_unit_in
+pub add_file-requires-clause-pieces_in : goal.add_file-requires-clause-pieces_in
+add_file-requires-clause-pieces_in c = (rw (c.sheet_of-s.ensures, c.in-Some.is) at c.in_ok-p.ensures).within
 
-pub intern_from-requires-clause-file_span_in : goal.intern_from-requires-clause-file_span_in
-intern_from-requires-clause-file_span_in c = rw c.in-Main.is at c.requires.file_span_in
+pub add_file-requires-clause-possible : goal.add_file-requires-clause-possible
+add_file-requires-clause-possible c = pieces-possible (rw (c.sheet_of-s.ensures, c.in-Some.is) at c.in_ok-p.ensures) c.requires.listed c.requires.of_unit
 
-pub intern_from-requires-clause-of_unit : goal.intern_from-requires-clause-of_unit
-intern_from-requires-clause-of_unit c = rw c.in-Main.is at c.requires.of_unit
+pub returns-in_err-added : goal.returns-in_err-added
+returns-in_err-added c = rw (handed _ _ c.from_residual-in_err-added.ensures.1) (interns_full (rw (c.sheet_of-s.ensures, c.in-Some.is) at c.in_ok-p.ensures) c.in_err-added.ensures)
 
-pub intern_from-requires-clause-listed : goal.intern_from-requires-clause-listed
-intern_from-requires-clause-listed c = rw c.in-Main.is at c.requires.listed
-
-pub returns-in-Main : goal.returns-in-Main
-returns-in-Main c = rw c.in-Main.is c.intern_from.ensures
-
-pub intern_from-requires-in-Supplementary-clause-files_in : goal.intern_from-requires-in-Supplementary-clause-files_in
-intern_from-requires-in-Supplementary-clause-files_in c = c.requires.files_in
-
-pub intern_from-requires-in-Supplementary-clause-s_value : goal.intern_from-requires-in-Supplementary-clause-s_value
-intern_from-requires-in-Supplementary-clause-s_value c = rw c.in-Supplementary.is
-
-pub intern_from-requires-in-Supplementary-clause-file_unit_in : goal.intern_from-requires-in-Supplementary-clause-file_unit_in
-intern_from-requires-in-Supplementary-clause-file_unit_in c = rw c.in-Supplementary.is at c.requires.file_unit_in
-
-pub intern_from-requires-in-Supplementary-clause-file_span_in : goal.intern_from-requires-in-Supplementary-clause-file_span_in
-intern_from-requires-in-Supplementary-clause-file_span_in c = rw c.in-Supplementary.is at c.requires.file_span_in
-
-pub intern_from-requires-in-Supplementary-clause-of_unit : goal.intern_from-requires-in-Supplementary-clause-of_unit
-intern_from-requires-in-Supplementary-clause-of_unit c = rw c.in-Supplementary.is at c.requires.of_unit
-
-pub intern_from-requires-in-Supplementary-clause-listed : goal.intern_from-requires-in-Supplementary-clause-listed
-intern_from-requires-in-Supplementary-clause-listed c = rw c.in-Supplementary.is at c.requires.listed
-
-pub returns-in-Supplementary : goal.returns-in-Supplementary
-returns-in-Supplementary c = rw c.in-Supplementary.is c.intern_from-in-Supplementary.ensures
+pub returns : goal.returns
+returns c = interns-number (rw (c.sheet_of-s.ensures, c.in-Some.is) at c.in_ok-p.ensures) c.in_ok-added.ensures

@@ -2,14 +2,14 @@
 use Rattle.files.proofs.JoinedLaws.{joined_length, joined-first, joined-second, joined-third}
 use Rattle.files.proofs.joined.is_joined.Goals as goal
 
+pub returns-else-component_at : goal.returns-else-component_at
+returns-else-component_at c = search joined-second
+
+pub returns-then-component_at : goal.returns-then-component_at
+returns-then-component_at c = search joined-third
+
 pub returns-then-n-compilation : goal.returns-then-n-compilation
 returns-then-n-compilation c = search joined_length
 
 pub returns-then-not-bytes_at : goal.returns-then-not-bytes_at
 returns-then-not-bytes_at c = search joined-first
-
-pub returns-then-not-component_at : goal.returns-then-not-component_at
-returns-then-not-component_at c = search joined-second
-
-pub returns : goal.returns
-returns c = search joined-third

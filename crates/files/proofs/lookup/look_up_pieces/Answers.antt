@@ -1,20 +1,27 @@
--- `lookup::look_up_pieces` meets its contract, for a file of either sheet.
+-- `lookup::look_up_pieces` meets its contract. The file is laid to be looked up, and is found or not.
+use native.Mathlib.Omega.{arith}
+use mathlib.Core.Path.{sym, ap, ◌∙◌}
+use Rattle.files.specs.Hash.{hash_of}
+use Rattle.files.proofs.AddedLaws.{laid-files, laid-is, found_number}
+use Rattle.files.proofs.lookup.LookupLaws.{found_at, found-missing}
 use Rattle.files.proofs.lookup.look_up_pieces.Goals as goal
 
-pub look_up_from-requires-clause-files_in : goal.look_up_from-requires-clause-files_in
-look_up_from-requires-clause-files_in c = c.requires.files_in
+pub find_file-requires-clause-files_in : goal.find_file-requires-clause-files_in
+find_file-requires-clause-files_in c = laid-files c.requires.files_in c.lay_file-l.ensures (omega arith)
 
-pub look_up_from-requires-clause-pieces_in : goal.look_up_from-requires-clause-pieces_in
-look_up_from-requires-clause-pieces_in c = rw c.in-Main.is at c.requires.pieces_in
+pub find_file-requires-clause-hash_value : goal.find_file-requires-clause-hash_value
+find_file-requires-clause-hash_value c = c.lay_file-l.ensures.hashed ∙ ap hash_of (sym (laid-is _ _ c.lay_file-l.ensures))
 
-pub look_up_from-requires-in-Supplementary-clause-files_in : goal.look_up_from-requires-in-Supplementary-clause-files_in
-look_up_from-requires-in-Supplementary-clause-files_in c = c.requires.files_in
+pub overflow_cast-result : goal.overflow_cast-result
+overflow_cast-result c = let small = found_number c.requires.files_in c.lay_file-l.ensures (laid-is _ _ c.lay_file-l.ensures) c.in-Some.ensures in
+    omega arith
 
-pub look_up_from-requires-in-Supplementary-clause-pieces_in : goal.look_up_from-requires-in-Supplementary-clause-pieces_in
-look_up_from-requires-in-Supplementary-clause-pieces_in c = rw c.in-Supplementary.is at c.requires.pieces_in
+pub overflow_add-result : goal.overflow_add-result
+overflow_add-result c = let small = found_number c.requires.files_in c.lay_file-l.ensures (laid-is _ _ c.lay_file-l.ensures) c.in-Some.ensures in
+    omega arith
 
-pub returns-in-Main : goal.returns-in-Main
-returns-in-Main c = rw c.in-Main.is c.look_up_from.ensures
+pub returns : goal.returns
+returns c = found_at c.requires.files_in c.lay_file-l.ensures (laid-is _ _ c.lay_file-l.ensures) (omega arith) c.in-Some.ensures
 
-pub returns-in-Supplementary : goal.returns-in-Supplementary
-returns-in-Supplementary c = rw c.in-Supplementary.is c.look_up_from-in-Supplementary.ensures
+pub returns-in_default : goal.returns-in_default
+returns-in_default c = found-missing c.requires.files_in c.lay_file-l.ensures (laid-is _ _ c.lay_file-l.ensures) (omega arith) c.in_default.ensures

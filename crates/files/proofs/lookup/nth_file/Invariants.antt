@@ -2,12 +2,11 @@
 -- what is left of the sheet.
 use Prim.Native.Nat.{◌-◌}
 use lib.ListN.{length}
-use Rattle.files.specs.Pieces.{source_in}
 use Rattle.files.proofs.lookup.LookupLaws.{Passing}
 use Rattle.files.proofs.lookup.nth_file.Given as goal
 
-abbrev pub invariant-loop-start : goal.invariant-loop-start
-invariant-loop-start l = Passing (source_in l.main l.supplementary l.source) l.p l.n l.at l.left
+abbrev pub invariant-loop-field : goal.invariant-loop-field
+invariant-loop-field l = Passing l.s l.p l.n l.at l.left
 
-abbrev pub decreases-loop-start : goal.decreases-loop-start
-decreases-loop-start l = length (source_in l.main l.supplementary l.source) - l.at
+abbrev pub decreases-loop-field : goal.decreases-loop-field
+decreases-loop-field l = length l.s - l.at

@@ -1,9 +1,6 @@
 -- `pieces::compilation_before` meets its contract. The compilation directory, or the empty span.
-use Rattle.files.proofs.PieceLaws.{before-needed, before-none}
+use Rattle.files.proofs.PieceLaws.{before-none}
 use Rattle.files.proofs.pieces.compilation_before.Goals as goal
-
-pub returns-then-below_compilation : goal.returns-then-below_compilation
-returns-then-below_compilation c = search before-needed
 
 pub returns : goal.returns
 returns c = search before-none

@@ -1,6 +1,6 @@
 -- `records::put_record` meets its contract.
-use Rattle.files.proofs.StoreLaws.{put_record}
+use Rattle.files.proofs.StoreLaws.{byte-is, put_record}
 use Rattle.files.proofs.records.put_record.Goals as goal
 
 pub returns : goal.returns
-returns c = search put_record
+returns c = put_record c.put_pieces.ensures (byte-is c.args.source) c.write.ensures c.write-2.ensures c.write-3.ensures

@@ -2,8 +2,8 @@
 use Rattle.files.proofs.UnitLaws.{compilation-none, compilation-found}
 use Rattle.files.proofs.spans.compilation_span.Goals as goal
 
-pub returns-in-Missing : goal.returns-in-Missing
-returns-in-Missing c = search compilation-none
+pub returns-in_default : goal.returns-in_default
+returns-in_default c = search (compilation-none, c.in_default.ensures)
 
-pub returns-in-Field : goal.returns-in-Field
-returns-in-Field c = search compilation-found
+pub returns : goal.returns
+returns c = search (compilation-found, c.in-Some.ensures)

@@ -1,19 +1,19 @@
 -- `spans::header_version` meets its contract. A byte of the first field 13 of the unit, or 0.
-use Prim.Native.Nat.{◌+◌, ◌<◌}
+use Prim.Native.Nat.{◌+◌, ◌≤◌}
 use native.Mathlib.Omega.{arith}
 use lib.ListN.{length}
 use Rattle.files.proofs.UnitLaws.{version-none, version-read, version-found}
 use Rattle.files.proofs.spans.header_version.Goals as goal
 
-pub overflow_add-start : goal.overflow_add-start
-overflow_add-start c = let read : c.in-Field.start + 16 < length c.args.s.now = search version-read in
+pub returns-in_default : goal.returns-in_default
+returns-in_default c = search (version-none, c.in_default.ensures)
+
+pub overflow_add-field : goal.overflow_add-field
+overflow_add-field c = let read : c.in-Some.field.start + 16 + 1 ≤ length c.args.s.now = search (version-read, c.in-Some.ensures) in
     omega arith
 
-pub read_u8-requires : goal.read_u8-requires
-read_u8-requires c = search version-read
+pub read-requires : goal.read-requires
+read-requires c = search (version-read, c.in-Some.ensures)
 
-pub returns-in-Missing : goal.returns-in-Missing
-returns-in-Missing c = search version-none
-
-pub returns-in-Field : goal.returns-in-Field
-returns-in-Field c = search version-found
+pub returns : goal.returns
+returns c = search (version-found, c.in-Some.ensures)

@@ -6,32 +6,32 @@ use Rattle.access.proofs.OwnLaws.{own-less}
 use Rattle.files.proofs.DirectoryLaws.{listing_start, listing-done, listing-room, listing-small, listing_step}
 use Rattle.files.proofs.spans.index_directories.Goals as goal
 
-pub loop-start-init : goal.loop-start-init
-loop-start-init c = search listing_start
-
-pub returns-in-Missing : goal.returns-in-Missing
-returns-in-Missing c = search listing-done
-
 pub overflow_mul-n : goal.overflow_mul-n
-overflow_mul-n c = let room : c.args.base + c.loop-start.n * 8 + 8 ≤ length c.loop-start.work = search listing-room in
+overflow_mul-n c = let room : c.args.base + c.loop-field.n * 8 + 8 ≤ length c.loop-field.work = search (listing-room, c.in-Some.ensures) in
     omega arith
 
 pub overflow_add-base : goal.overflow_add-base
-overflow_add-base c = let room : c.args.base + c.loop-start.n * 8 + 8 ≤ length c.loop-start.work = search listing-room in
+overflow_add-base c = let room : c.args.base + c.loop-field.n * 8 + 8 ≤ length c.loop-field.work = search (listing-room, c.in-Some.ensures) in
     omega arith
 
 pub put_span-requires-clause-p_in_bounds : goal.put_span-requires-clause-p_in_bounds
-put_span-requires-clause-p_in_bounds c = search listing-room
+put_span-requires-clause-p_in_bounds c = search (listing-room, c.in-Some.ensures)
 
 pub put_span-requires-clause-len_bound : goal.put_span-requires-clause-len_bound
-put_span-requires-clause-len_bound c = search listing-small
+put_span-requires-clause-len_bound c = search (listing-small, c.in-Some.ensures)
 
 pub overflow_add-n : goal.overflow_add-n
-overflow_add-n c = let room : c.args.base + c.loop-start.n * 8 + 8 ≤ length c.loop-start.work = search listing-room in
+overflow_add-n c = let room : c.args.base + c.loop-field.n * 8 + 8 ≤ length c.loop-field.work = search (listing-room, c.in-Some.ensures) in
     omega arith
 
-pub loop-start-smaller : goal.loop-start-smaller
-loop-start-smaller c = search own-less
+pub loop-field-smaller : goal.loop-field-smaller
+loop-field-smaller c = search (own-less, c.in-Some.ensures)
 
-pub loop-start-preserved : goal.loop-start-preserved
-loop-start-preserved c = search listing_step
+pub loop-field-preserved : goal.loop-field-preserved
+loop-field-preserved c = search (listing_step, c.in-Some.ensures)
+
+pub returns : goal.returns
+returns c = search (listing-done, c.in_default.ensures)
+
+pub loop-field-init : goal.loop-field-init
+loop-field-init c = search listing_start

@@ -4,8 +4,8 @@ use lib.ListN.{length}
 use Rattle.files.proofs.DirectoryLaws.{Listing}
 use Rattle.files.proofs.spans.index_directories.Given as goal
 
-abbrev pub invariant-loop-start : goal.invariant-loop-start
-invariant-loop-start l = Listing l.s l.initial.work l.work l.p l.base l.at l.n
+abbrev pub invariant-loop-field : goal.invariant-loop-field
+invariant-loop-field l = Listing l.s l.initial.work l.work l.p l.base l.at l.n
 
-abbrev pub decreases-loop-start : goal.decreases-loop-start
-decreases-loop-start l = length l.s - l.at
+abbrev pub decreases-loop-field : goal.decreases-loop-field
+decreases-loop-field l = length l.s - l.at

@@ -10,11 +10,11 @@ overflow_mul-head c = let h = head-before c.args.t.room c.args.hash (omega arith
 pub overflow_add-head : goal.overflow_add-head
 overflow_add-head c = let h = head-before c.args.t.room c.args.hash (omega arith) in omega arith
 
-pub read_u32-link-requires : goal.read_u32-link-requires
-read_u32-link-requires c = let h = head-before c.args.t.room c.args.hash (omega arith) in omega arith
+pub read-link-requires : goal.read-link-requires
+read-link-requires c = let h = head-before c.args.t.room c.args.hash (omega arith) in omega arith
 
-pub set_u32-requires : goal.set_u32-requires
-set_u32-requires c = let h = head-before c.args.t.room c.args.hash (omega arith) in omega arith
+pub write-requires : goal.write-requires
+write-requires c = let h = head-before c.args.t.room c.args.hash (omega arith) in omega arith
 
 pub returns : goal.returns
 returns c = let h : 0 < c.args.t.room = omega arith in search linked-file

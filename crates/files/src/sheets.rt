@@ -1,0 +1,14 @@
+// The sheet of a source.
+ghost use Rattle.std.specs.Prelude.{◌≡◌};
+ghost use Rattle.files.specs.Pieces.{source_in};
+
+use tlv::model::DebugSource;
+
+pub fn sheet_of<'a>(main: &'a [u8], supplementary: &'a [u8], source: DebugSource) -> &'a [u8]
+    ensures { result.now ≡ source_in main.now supplementary.now source }
+{
+    match source {
+        DebugSource::Main => main,
+        DebugSource::Supplementary => supplementary,
+    }
+}
