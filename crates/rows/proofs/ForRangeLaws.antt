@@ -9,6 +9,8 @@ use native.Mathlib.Omega.{arith}
 use lib.Dec.{ltb, eqb}
 use lib.ListN.{length}
 use borrow.Author.Tests.{eq-eqb, ne_eqb}
+use Rattle.std.specs.Prelude.{Option as Maybe, Some, None}
+use Rattle.std.specs.Option.{option_to_list}
 use Rattle.tlv.specs.declared.model.AddressRange.{AddressRange}
 use Rattle.tlv.specs.declared.model.LineEntry.{LineEntry}
 use Rattle.tlv.specs.Bytes.{le_at}
@@ -18,20 +20,18 @@ use Rattle.buffers.proofs.ChunkLaws.{le_at-front}
 use Rattle.buffers.proofs.TableLaws.{kept_refl, kept_trans, kept-wide}
 use Rattle.buffers.proofs.RecordLaws.{records-nil, records-rest_cons, records-add, records-kept}
 use Rattle.lines.specs.Rows.{compact_line_rows, own_rows, earlier_row, starts_late, sequence_exists, selected_sequence, rows_for, for_range}
-use Rattle.rows.specs.declared.line.StatementSequence.{StatementSequence}
 use Rattle.rows.specs.declared.unit_lines.StoredLines.{StoredLines}
-use Rattle.rows.specs.declared.earlier.Earlier.{Earlier}
 use Rattle.rows.specs.declared.unit_lines.OwnRows.{OwnRows}
 use Rattle.rows.specs.declared.unit_lines.Rows.{Rows}
 use Rattle.rows.specs.Sizes.{entry_size, line_size, range_size}
 use Rattle.rows.specs.Stored.{sequence_of, entry_of, entries_of, line_of, lines_of, range_of, ranges_of, PutEntry}
 use Rattle.rows.specs.Sorts.{Compacted}
-use Rattle.rows.specs.Selects.{unit_lines_of, RowsIn, Owned, earlier_of, Fronted, ForRange}
+use Rattle.rows.specs.Selects.{unit_lines_of, RowsIn, Owned, Fronted, ForRange}
 use Rattle.rows.proofs.FrontLaws.{same_rows}
 
 -- ---- rows that start late
 
-pub late-none : (w : List ℕ) (p start : ℕ) {count : ℕ} → count ≡ 0 → true ≡ starts_late start (entries_of w p count)
+pub late-none : (w : List ℕ) (p start : ℕ) {count : ℕ} → count ≡ 0 → eqb count 0 ≡ starts_late start (entries_of w p count)
 unfolding entries_of
 late-none w p start e = rw (e, records-nil entry_of entry_size w p)
 
@@ -48,7 +48,7 @@ only : (w : List ℕ) (p : ℕ) {x : LineEntry} → entry_of (chunk w p entry_si
 unfolding records tab
 only w p e = let z : p + 0 * entry_size ≡ p = omega arith in rw (z, e)
 
-module _ {w : List ℕ} {l : StoredLines} (r : AddressRange) (asked : StatementSequence) {count : ℕ} {t : Bool}
+module _ {w : List ℕ} {l : StoredLines} (r : AddressRange) (asked : Maybe ℕ) {count : ℕ} {t : Bool}
     (h : count ≤ l.line_count) (s : t ≡ starts_late r.start (entries_of w (l.buffer + entry_size) count)) where
   pub front_not : t ≡ false → Fronted w w l r asked count (record { rows = l.buffer + entry_size; count = count })
   front_not f = record {
@@ -58,8 +58,8 @@ module _ {w : List ℕ} {l : StoredLines} (r : AddressRange) (asked : StatementS
     rest = kept_refl w l.buffer entry_size;
   }
 
-  module _ (f : t ≡ true) (e : Earlier) (E : earlier_of e ≡ earlier_row (unit_lines_of w l) r (sequence_of asked)) where
-    pub front_none : e ≡ Earlier.Missing → Fronted w w l r asked count (record { rows = l.buffer + entry_size; count = count })
+  module _ (f : t ≡ true) (e : Maybe LineEntry) (E : option_to_list e ≡ earlier_row (unit_lines_of w l) r (sequence_of asked)) where
+    pub front_none : e ≡ None → Fronted w w l r asked count (record { rows = l.buffer + entry_size; count = count })
     front_none is = record {
       rows = rw (← s, f, ← E, is);
       from = omega arith;
@@ -67,7 +67,7 @@ module _ {w : List ℕ} {l : StoredLines} (r : AddressRange) (asked : StatementS
       rest = kept_refl w l.buffer entry_size;
     }
 
-    pub front_put : {w' : List ℕ} {x : LineEntry} → e ≡ Earlier.Row x → PutEntry w w' l.buffer x → Fronted w w' l r asked count (record { rows = l.buffer; count = count + 1 })
+    pub front_put : {w' : List ℕ} {x : LineEntry} → e ≡ Some x → PutEntry w w' l.buffer x → Fronted w w' l r asked count (record { rows = l.buffer; count = count + 1 })
     unfolding entries_of
     front_put {w'} {x} is P =
         let one : count + 1 ≡ 1 + count = omega arith in
@@ -101,7 +101,7 @@ unfolding entries_of records tab
 empty-entries w p zero = sym (eq-eqb zero 0 refl)
 empty-entries w p (suc n) = sym (ne_eqb (suc n) 0 (λ e. omega arith))
 
-module _ {w w₁ w₂ w₃ : List ℕ} {l : StoredLines} {r : AddressRange} (requested asked : StatementSequence) {exists : Bool} {own : OwnRows} {left : ℕ} {f : Rows}
+module _ {w w₁ w₂ w₃ : List ℕ} {l : StoredLines} {r : AddressRange} (requested asked : Maybe ℕ) {exists : Bool} {own : OwnRows} {left : ℕ} {f : Rows}
     (R : RowsIn w l) (E : exists ≡ sequence_exists (unit_lines_of w l) (sequence_of requested)) (S : sequence_of asked ≡ cond exists (sequence_of requested) none)
     (O : Owned w w₁ l r asked (l.buffer + entry_size) own) (F : Fronted w₁ w₂ l r asked own.count f) (C : Compacted w₂ w₃ f.rows f.count left) where
   selected : sequence_of asked ≡ selected_sequence (unit_lines_of w l) (sequence_of requested)

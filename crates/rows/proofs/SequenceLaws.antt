@@ -1,6 +1,6 @@
 -- The search of a unit's sequences from the first on: for the one that is asked for, and for the first that covers an address.
 use mathlib.Core.Path.{◌≡◌, refl, sym, ap, ◌∙◌}
-use mathlib.Core.Bool.{Bool, true, false, ◌&&◌}
+use mathlib.Core.Bool.{Bool, true, false, ◌&&◌, false≢true}
 use mathlib.Core.List.{List}
 use mathlib.Core.Option.{Option}
 use Prim.Native.Nat.{ℕ, ◌+◌, ◌*◌, ◌≤◌, ◌<◌}
@@ -8,13 +8,13 @@ use native.Mathlib.Omega.{arith}
 use lib.Dec.{ltb}
 use lib.ListN.{drop}
 use borrow.Author.Tests.{le-leb, lt-leb}
+use Rattle.std.specs.Prelude.{Option as Maybe, Some, None}
+use Rattle.std.specs.Option.{is_some}
 use Rattle.tlv.specs.Bytes.{le_at}
 use Rattle.tlv.specs.Lists.{first, exists, map_option}
 use Rattle.lines.specs.Lines.{LineSequenceRange, same_sequence}
 use Rattle.lines.specs.Rows.{contains, belongs, sequence_exists}
-use Rattle.rows.specs.declared.line.StatementSequence.{StatementSequence}
 use Rattle.rows.specs.declared.unit_lines.StoredLines.{StoredLines}
-use Rattle.rows.specs.declared.earlier.Covering.{Covering}
 use Rattle.rows.specs.Sizes.{range_sequence_at, range_size}
 use Rattle.rows.specs.Stored.{sequence_of, stored_sequence, range_at, ranges_of}
 use Rattle.rows.specs.Selects.{unit_lines_of, covering_of}
@@ -34,7 +34,7 @@ pub seek-start : (w : List ℕ) (base n : ℕ) (s : Option ℕ) → Seeking w ba
 seek-start w base n s = record { most = omega arith; left = refl }
 
 module _ {w : List ℕ} {base n i : ℕ} {s : Option ℕ} (S : Seeking w base n s i) where
-  module _ (own : StatementSequence) {t : Bool} (h : i < n) (q : sequence_of own ≡ stored_sequence w (base + i * range_size + range_sequence_at)) (e : t ≡ same_sequence s (sequence_of own)) where
+  module _ (own : Maybe ℕ) {t : Bool} (h : i < n) (q : sequence_of own ≡ stored_sequence w (base + i * range_size + range_sequence_at)) (e : t ≡ same_sequence s (sequence_of own)) where
     seek_test : t ≡ is_sequence s (range_at w (base + i * range_size))
     seek_test = e ∙ ap (same_sequence s) (q ∙ sym (range-sequence w (base + i * range_size)))
 
@@ -51,10 +51,11 @@ module _ {w : List ℕ} {base n i : ℕ} {s : Option ℕ} (S : Seeking w base n 
   seek_none h = S.left ∙ rw (ranges-rest_none w base n i h)
 
 -- the same of an answer to what was requested
-pub exists-is : (w : List ℕ) (l : StoredLines) (requested : StatementSequence) (m : ℕ) {t : Bool} → requested ≡ StatementSequence.At m
+pub exists-is : (w : List ℕ) (l : StoredLines) (requested : Maybe ℕ) {t : Bool} → is_some requested ≡ true
     → exists (is_sequence (sequence_of requested)) (ranges_of w l.sequences l.sequence_count) ≡ t → t ≡ sequence_exists (unit_lines_of w l) (sequence_of requested)
 unfolding unit_lines_of
-exists-is w l requested m is e = rw is (sym (rw is at e))
+exists-is w l None h e = absurd (false≢true h)
+exists-is w l (Some m) h e = sym e
 
 -- ---- the first sequence that covers an address
 
@@ -91,10 +92,10 @@ module _ {w : List ℕ} {base n a i : ℕ} {s : Option ℕ} (C : Covered w base 
     unfolding first
     cover_next f = record { most = omega arith; left = C.left ∙ rw (ranges-rest_cons w base n i h, ← e, f) }
 
-    pub cover-found : (own : StatementSequence) → t ≡ true → sequence_of own ≡ stored_sequence w (base + i * range_size + range_sequence_at) → covering_of (Covering.By own) (first (covers_at s a) (ranges_of w base n))
+    pub cover-found : (own : Maybe ℕ) → t ≡ true → sequence_of own ≡ stored_sequence w (base + i * range_size + range_sequence_at) → covering_of (Some own) (first (covers_at s a) (ranges_of w base n))
     unfolding first map_option
     cover-found own f q = rw (C.left, ranges-rest_cons w base n i h, ← e, f, range-sequence w (base + i * range_size), q)
 
-  pub cover_none : n ≤ i → covering_of Covering.Missing (first (covers_at s a) (ranges_of w base n))
+  pub cover_none : n ≤ i → covering_of None (first (covers_at s a) (ranges_of w base n))
   unfolding first
   cover_none h = C.left ∙ rw (ranges-rest_none w base n i h)

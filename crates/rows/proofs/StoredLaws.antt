@@ -9,6 +9,8 @@ use native.Mathlib.Omega.{arith}
 use lib.Dec.{eqb}
 use lib.ListN.{length, take, drop, get_or}
 use borrow.Author.Tests.{eq-eqb, ne_eqb}
+use Rattle.std.specs.Prelude.{Option as Maybe, Some, None}
+use Rattle.std.specs.Option.{option_eq}
 use Rattle.tlv.specs.declared.model.AddressRange.{AddressRange}
 use Rattle.tlv.specs.declared.model.LineEntry.{LineEntry}
 use Rattle.tlv.specs.Bytes.{le_at}
@@ -16,12 +18,18 @@ use Rattle.buffers.specs.Table.{chunk, records, Apart, Kept, Clear, KeptBut, Wro
 use Rattle.buffers.proofs.ChunkLaws.{le_at-chunk, le_at-front}
 use Rattle.buffers.proofs.TableLaws.{le_at-kept, kept-wide, kept_trans}
 use Rattle.buffers.proofs.RecordLaws.{records-length, records-nil, records-at, records-suc, records-add, records-part, records-rest_none, records-rest_cons, records-kept, records-but, records-push, records-copy_push, tab-take}
-use Rattle.lines.specs.Lines.{LineSequenceRange}
-use Rattle.rows.specs.declared.line.StatementSequence.{StatementSequence}
+use Rattle.lines.specs.Lines.{LineSequenceRange, same_sequence}
 use Rattle.rows.specs.Sizes.{column_at, entry_size, line_size, range_sequence_at, range_size, sequence_size}
 use Rattle.rows.specs.Stored.{sequence_of, stored_sequence, entry_of, entries_of, line_of, line_at, lines_of, range_of, range_at, ranges_of, PutEntry, PutSequence, PutLine, PutSequenceRange}
 
 -- ---- a sequence
+
+-- the code's `==`
+pub same-is : (a b : Maybe ℕ) → option_eq eqb a b ≡ same_sequence (sequence_of a) (sequence_of b)
+same-is None None = refl
+same-is None (Some n) = refl
+same-is (Some m) None = refl
+same-is (Some m) (Some n) = refl
 
 pub stored_some : (w : List ℕ) (p : ℕ) {r n : ℕ} → r ≡ le_at 1 w p → r ≡ 1 → n ≡ le_at 8 w (p + 1) → some n ≡ stored_sequence w p
 unfolding stored_sequence
@@ -129,26 +137,26 @@ put-entry {w} {w₁} {w₂} {w₃} {w₄} {p} {l} A F L C =
           (kept_trans (kept-wide p entry_size L.rest (omega arith) (omega arith)) (kept-wide p entry_size C.rest (omega arith) (omega arith))));
     }
 
-pub put_some : {w w₁ w₂ : List ℕ} {p n : ℕ} → Wrote w w₁ p 1 1 → Wrote w₁ w₂ (p + 1) 8 n → PutSequence w w₂ p (StatementSequence.At n)
+pub put_some : {w w₁ w₂ : List ℕ} {p n : ℕ} → Wrote w w₁ p 1 1 → Wrote w₁ w₂ (p + 1) 8 n → PutSequence w w₂ p (Some n)
 put_some {w} {w₁} {w₂} {p} {n} T N = record {
   sequence = sym (stored_some w₂ p (sym (le_at-kept 1 p N.rest (inl (omega arith)) ∙ T.value)) refl (sym N.value));
   rest = kept_trans (kept-wide p sequence_size T.rest (omega arith) (omega arith)) (kept-wide p sequence_size N.rest (omega arith) (omega arith));
 }
 
-pub put-none : {w w₁ : List ℕ} {p : ℕ} → Wrote w w₁ p 1 0 → PutSequence w w₁ p StatementSequence.Unknown
+pub put-none : {w w₁ : List ℕ} {p : ℕ} → Wrote w w₁ p 1 0 → PutSequence w w₁ p None
 put-none {w} {w₁} {p} T = record {
   sequence = sym (stored_none w₁ p (sym T.value) (λ e. (omega arith)));
   rest = kept-wide p sequence_size T.rest (omega arith) (omega arith);
 }
 
-pub put-line : {w w₁ w₂ : List ℕ} {p : ℕ} {l : LineEntry} {s : StatementSequence} → PutEntry w w₁ p l → PutSequence w₁ w₂ (p + entry_size) s
+pub put-line : {w w₁ w₂ : List ℕ} {p : ℕ} {l : LineEntry} {s : Maybe ℕ} → PutEntry w w₁ p l → PutSequence w₁ w₂ (p + entry_size) s
     → PutLine w w₂ p l s
 put-line {w} {w₁} {w₂} {p} {l} {s} E S = record {
   line = line-is w₂ p ∙ (λ i. record { entry = (ap entry_of (S.rest.same p entry_size (inl (omega arith))) ∙ E.entry) i; statement_sequence = S.sequence i });
   rest = kept_trans (kept-wide p line_size E.rest (omega arith) (omega arith)) (kept-wide p line_size S.rest (omega arith) (omega arith));
 }
 
-pub put-range : {w w₁ w₂ w₃ : List ℕ} {p : ℕ} {r : AddressRange} {s : StatementSequence} → Wrote w w₁ p 8 r.start → Wrote w₁ w₂ (p + 8) 8 r.end → PutSequence w₂ w₃ (p + range_sequence_at) s → PutSequenceRange w w₃ p r s
+pub put-range : {w w₁ w₂ w₃ : List ℕ} {p : ℕ} {r : AddressRange} {s : Maybe ℕ} → Wrote w w₁ p 8 r.start → Wrote w₁ w₂ (p + 8) 8 r.end → PutSequence w₂ w₃ (p + range_sequence_at) s → PutSequenceRange w w₃ p r s
 put-range {w} {w₁} {w₂} {w₃} {p} {r} {s} A B S =
     let ea : le_at 8 w₃ p ≡ r.start = le_at-kept 8 p S.rest (inl (omega arith)) ∙ le_at-kept 8 p B.rest (inl (omega arith)) ∙ A.value in
     let eb : le_at 8 w₃ (p + 8) ≡ r.end = le_at-kept 8 (p + 8) S.rest (inl (omega arith)) ∙ B.value in
@@ -205,7 +213,7 @@ pub line_kept : {w w' : List ℕ} {p m : ℕ} (q : ℕ) → Kept w w' p m → Ap
 unfolding line_at
 line_kept q K a = ap line_of (K.same q line_size a)
 
-pub lines-push : {w w' : List ℕ} {l : LineEntry} {s : StatementSequence} (b n : ℕ) → PutLine w w' (b + n * line_size) l s → lines_of w' b (n + 1) ≡ lines_of w b n ++ (record { entry = l; statement_sequence = sequence_of s } ∷ [])
+pub lines-push : {w w' : List ℕ} {l : LineEntry} {s : Maybe ℕ} (b n : ℕ) → PutLine w w' (b + n * line_size) l s → lines_of w' b (n + 1) ≡ lines_of w b n ++ (record { entry = l; statement_sequence = sequence_of s } ∷ [])
 unfolding lines_of line_at
 lines-push {w} {w'} {l} {s} b n P = records-push line_of line_size b n (record { entry = l; statement_sequence = sequence_of s }) P.rest P.line
 
@@ -262,6 +270,6 @@ pub ranges-kept : {w w' : List ℕ} {p m : ℕ} (b n : ℕ) → Kept w w' p m �
 unfolding ranges_of
 ranges-kept = records-kept range_of range_size
 
-pub ranges-push : {w w' : List ℕ} {r : AddressRange} {s : StatementSequence} (b n : ℕ) → PutSequenceRange w w' (b + n * range_size) r s → ranges_of w' b (n + 1) ≡ ranges_of w b n ++ (record { range = r; statement_sequence = sequence_of s } ∷ [])
+pub ranges-push : {w w' : List ℕ} {r : AddressRange} {s : Maybe ℕ} (b n : ℕ) → PutSequenceRange w w' (b + n * range_size) r s → ranges_of w' b (n + 1) ≡ ranges_of w b n ++ (record { range = r; statement_sequence = sequence_of s } ∷ [])
 unfolding ranges_of range_at
 ranges-push {w} {w'} {r} {s} b n P = records-push range_of range_size b n (record { range = r; statement_sequence = sequence_of s }) P.rest P.range

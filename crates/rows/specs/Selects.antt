@@ -1,16 +1,12 @@
 -- Contract. A unit's lines in the work slice, and what the functions that select a function's rows promise.
-use Rattle.std.specs.Prelude.{ℕ, suc, ◌+◌, ◌*◌, ◌≤◌, ◌<◌, ◌≡◌, cond, List, [], ◌∷◌, ◌++◌, length, take}
+use Rattle.std.specs.Prelude.{ℕ, suc, ◌+◌, ◌*◌, ◌≤◌, ◌<◌, ◌≡◌, cond, List, [], ◌++◌, length, take, Option as Maybe, Some, None}
 use Rattle.std.proofs.Math.Option.{Option, none, some}
 use Rattle.tlv.specs.declared.model.AddressRange.{AddressRange}
-use Rattle.tlv.specs.declared.model.LineEntry.{LineEntry}
 use Rattle.tlv.specs.Lists.{map_option}
 use Rattle.buffers.specs.Table.{Kept}
 use Rattle.lines.specs.Lines.{LineSequenceRange, UnitLines}
 use Rattle.lines.specs.Rows.{earlier_row, starts_late, for_range}
-use Rattle.rows.specs.declared.line.StatementSequence.{StatementSequence}
 use Rattle.rows.specs.declared.unit_lines.StoredLines.{StoredLines}
-use Rattle.rows.specs.declared.earlier.Covering.{Covering}
-use Rattle.rows.specs.declared.earlier.Earlier.{Earlier}
 use Rattle.rows.specs.declared.unit_lines.OwnRows.{OwnRows}
 use Rattle.rows.specs.declared.unit_lines.Rows.{Rows}
 use Rattle.rows.specs.declared.unit_lines.FunctionRows.{FunctionRows}
@@ -40,7 +36,7 @@ pub record RowsBelow (w : List ℕ) (l : StoredLines) (range : AddressRange) (be
   pub end : below ≤ leading range.end (lines_of w l.lines l.line_count)
 
 -- the rows that the loop from the front of the table gives stand at `to`, and its place was handed back
-pub record Owned (w w' : List ℕ) (l : StoredLines) (range : AddressRange) (asked : StatementSequence) (to : ℕ) (r : OwnRows) : Type 0 where
+pub record Owned (w w' : List ℕ) (l : StoredLines) (range : AddressRange) (asked : Maybe ℕ) (to : ℕ) (r : OwnRows) : Type 0 where
   pub rows : entries_of w' to r.count ≡ (front_rows range (sequence_of asked) (lines_of w l.lines l.line_count)).rows
   pub past : r.past ≡ (front_rows range (sequence_of asked) (lines_of w l.lines l.line_count)).past
   pub within : r.count ≤ l.line_count
@@ -48,22 +44,18 @@ pub record Owned (w w' : List ℕ) (l : StoredLines) (range : AddressRange) (ask
 
 -- two answers of the loop: where the first ended at a row, and the other's table is alike through that row, they are the same (document 02, E5)
 abbrev pub OwnedAlike : Type 0
-OwnedAlike = (w w' v v' : List ℕ) (l m : StoredLines) (range : AddressRange) (asked : StatementSequence) (to at : ℕ) (r q : OwnRows)
+OwnedAlike = (w w' v v' : List ℕ) (l m : StoredLines) (range : AddressRange) (asked : Maybe ℕ) (to at : ℕ) (r q : OwnRows)
     → Owned w w' l range asked to r → Owned v v' m range asked at q → r.past < l.line_count
     → take (suc r.past) (lines_of v m.lines m.line_count) ≡ take (suc r.past) (lines_of w l.lines l.line_count)
     → (q.past ≡ r.past) × (q.count ≡ r.count) × (entries_of v' at q.count ≡ entries_of w' to r.count)
 
 -- an answer's sequence is that of the sequence q
-abbrev pub covering_of : Covering → Option LineSequenceRange → Type 0
-covering_of (Covering.By s) q = map_option (λ x. x.statement_sequence) q ≡ some (sequence_of s)
-covering_of Covering.Missing q = q ≡ none
-
-abbrev pub earlier_of : Earlier → List LineEntry
-earlier_of (Earlier.Row x) = x ∷ []
-earlier_of Earlier.Missing = []
+abbrev pub covering_of : Maybe (Maybe ℕ) → Option LineSequenceRange → Type 0
+covering_of (Some s) q = map_option (λ x. x.statement_sequence) q ≡ some (sequence_of s)
+covering_of None q = q ≡ none
 
 -- of the `count` rows that stand a row past the buffer's begin, with the row in force before them where they start late
-pub record Fronted (w w' : List ℕ) (l : StoredLines) (range : AddressRange) (asked : StatementSequence) (count : ℕ) (r : Rows) : Type 0 where
+pub record Fronted (w w' : List ℕ) (l : StoredLines) (range : AddressRange) (asked : Maybe ℕ) (count : ℕ) (r : Rows) : Type 0 where
   pub rows : entries_of w' r.rows r.count
       ≡ cond (starts_late range.start (entries_of w (l.buffer + entry_size) count))
       (earlier_row (unit_lines_of w l) range (sequence_of asked) ++ entries_of w (l.buffer + entry_size) count)
@@ -73,7 +65,7 @@ pub record Fronted (w w' : List ℕ) (l : StoredLines) (range : AddressRange) (a
   pub rest : Kept w w' l.buffer entry_size
 
 -- for_range: the rows stand in the buffer, and nothing else was written
-pub record ForRange (w w' : List ℕ) (l : StoredLines) (range : AddressRange) (requested : StatementSequence) (r : FunctionRows) : Type 0 where
+pub record ForRange (w w' : List ℕ) (l : StoredLines) (range : AddressRange) (requested : Maybe ℕ) (r : FunctionRows) : Type 0 where
   pub rows : entries_of w' r.rows r.count ≡ (for_range (unit_lines_of w l) range (sequence_of requested)).rows
   pub invalid : r.invalid ≡ (for_range (unit_lines_of w l) range (sequence_of requested)).invalid
   pub from : l.buffer ≤ r.rows

@@ -1,17 +1,17 @@
 -- Contract. Rows and sequences as records in a list of bytes (document 01: the work slice), and what the functions that read and write one promise.
-use Rattle.std.specs.Prelude.{ℕ, ◌+◌, ◌≡◌, cond, List, eqb}
+use Rattle.std.specs.Prelude.{ℕ, ◌+◌, ◌≡◌, cond, List, eqb, Option as Maybe, Some, None}
 use Rattle.std.proofs.Math.Option.{Option, none, some}
 use Rattle.tlv.specs.declared.model.AddressRange.{AddressRange}
 use Rattle.tlv.specs.declared.model.LineEntry.{LineEntry}
 use Rattle.tlv.specs.Bytes.{le_at}
 use Rattle.buffers.specs.Table.{chunk, records, Kept}
 use Rattle.lines.specs.Lines.{SequencedLine, LineSequenceRange}
-use Rattle.rows.specs.declared.line.StatementSequence.{StatementSequence}
 use Rattle.rows.specs.Sizes.{column_at, entry_size, line_size, range_sequence_at, range_size, sequence_size}
 
-abbrev pub sequence_of : StatementSequence → Option ℕ
-sequence_of (StatementSequence.At n) = some n
-sequence_of StatementSequence.Unknown = none
+-- what the code's Option says, in the definitions' own
+abbrev pub sequence_of : Maybe ℕ → Option ℕ
+sequence_of (Some n) = some n
+sequence_of None = none
 
 -- whether there is an offset, and the offset
 unfoldable pub stored_sequence : List ℕ → ℕ → Option ℕ
@@ -53,14 +53,14 @@ pub record PutEntry (w w' : List ℕ) (p : ℕ) (l : LineEntry) : Type 0 where
   pub entry : entry_of (chunk w' p entry_size) ≡ l
   pub rest : Kept w w' p entry_size
 
-pub record PutSequence (w w' : List ℕ) (p : ℕ) (s : StatementSequence) : Type 0 where
+pub record PutSequence (w w' : List ℕ) (p : ℕ) (s : Maybe ℕ) : Type 0 where
   pub sequence : stored_sequence w' p ≡ sequence_of s
   pub rest : Kept w w' p sequence_size
 
-pub record PutLine (w w' : List ℕ) (p : ℕ) (l : LineEntry) (s : StatementSequence) : Type 0 where
+pub record PutLine (w w' : List ℕ) (p : ℕ) (l : LineEntry) (s : Maybe ℕ) : Type 0 where
   pub line : line_at w' p ≡ record { entry = l; statement_sequence = sequence_of s }
   pub rest : Kept w w' p line_size
 
-pub record PutSequenceRange (w w' : List ℕ) (p : ℕ) (r : AddressRange) (s : StatementSequence) : Type 0 where
+pub record PutSequenceRange (w w' : List ℕ) (p : ℕ) (r : AddressRange) (s : Maybe ℕ) : Type 0 where
   pub range : range_at w' p ≡ record { range = r; statement_sequence = sequence_of s }
   pub rest : Kept w w' p range_size

@@ -1,12 +1,14 @@
 // Neighbours that repeat one another dropped in place: of a unit's sorted rows, and of a function's rows (the Rust's normalize.rs).
-ghost use Rattle.std.specs.Prelude.{◌≡◌, ◌+◌, ◌*◌, ◌≤◌, length};
+ghost use Rattle.std.specs.Prelude.{◌≡◌, ℕ, Bool, List, ◌+◌, ◌*◌, ◌≤◌, length};
 ghost use Rattle.buffers.specs.Table.{chunk};
 ghost use Rattle.lines.specs.Lines.{same_row, same_line};
 ghost use Rattle.rows.specs.Sizes.{entry_size, line_size};
 ghost use Rattle.rows.specs.Stored.{entry_of, line_at};
 ghost use Rattle.rows.specs.Sorts.{Deduped, Compacted};
+ghost use Rattle.rows.specs.Repeats.{MayTest, TestsBy, Dropped};
 
-use crate::line::{ENTRY_SIZE, LINE_SIZE, address_at, same_sequence, sequence_at};
+use crate::line::{ENTRY_SIZE, LINE_SIZE, address_at, sequence_at};
+use tlv::bytes::Number;
 
 // Whether the rows at p and q have the same file and line.
 fn same_line(work: &[u8], p: usize, q: usize) -> bool
@@ -14,10 +16,8 @@ fn same_line(work: &[u8], p: usize, q: usize) -> bool
     requires entry_size_in_bounds_2 { q + entry_size ≤ length work.now }
     ensures { result ≡ same_line (entry_of (chunk work.now p entry_size)) (entry_of (chunk work.now q entry_size)) }
 {
-    if tlv::bytes::read_u32(work, p + 8) != tlv::bytes::read_u32(work, q + 8) {
-        return false;
-    }
-    tlv::bytes::read_u32(work, p + 12) == tlv::bytes::read_u32(work, q + 12)
+    u32::read(work, p + 8) == u32::read(work, q + 8)
+        && u32::read(work, p + 12) == u32::read(work, q + 12)
 }
 
 // Whether the unit's rows at p and q are the same in each field.
@@ -26,16 +26,35 @@ fn same_row(work: &[u8], p: usize, q: usize) -> bool
     requires line_size_in_bounds_2 { q + line_size ≤ length work.now }
     ensures { result ≡ same_row (line_at work.now p) (line_at work.now q) }
 {
-    if address_at(work, p) != address_at(work, q) {
-        return false;
+    address_at(work, p) == address_at(work, q)
+        && same_line(work, p, q)
+        && sequence_at(work, p + ENTRY_SIZE) == sequence_at(work, q + ENTRY_SIZE)
+}
+
+// Of the n records of `size` bytes at base, those that repeat the one kept before them are dropped. Returns how many are left.
+fn drop_repeats<F: Fn(&[u8], usize, usize) -> bool>(
+    work: &mut [u8],
+    base: usize,
+    n: usize,
+    size: usize,
+    repeats: F,
+) -> usize
+    requires size_in_bounds { base + n * size ≤ length work.old }
+    requires may_test { MayTest size (F.pre repeats) }
+    ensures few { result ≤ n }
+    ensures dropped { (equal : List ℕ → List ℕ → Bool) → TestsBy size equal (F.post repeats) → Dropped (λ b. b) size equal work.old work.new base n result }
+{
+    if n == 0 {
+        return 0;
     }
-    if !same_line(work, p, q) {
-        return false;
+    let mut last = 0;
+    for i in 1..n {
+        if !repeats(work, base + last * size, base + i * size) {
+            last += 1;
+            buffers::table::copy_record(work, base + i * size, base + last * size, size);
+        }
     }
-    same_sequence(
-        sequence_at(work, p + ENTRY_SIZE),
-        sequence_at(work, q + ENTRY_SIZE),
-    )
+    last + 1
 }
 
 // Of each run of equal neighbours of the n rows at base the first is kept. Returns how many are left.
@@ -43,26 +62,7 @@ pub fn dedup_rows(work: &mut [u8], base: usize, n: usize) -> usize
     requires { base + n * line_size ≤ length work.old }
     ensures { Deduped work.old work.new base n result }
 {
-    if n == 0 {
-        return 0;
-    }
-    let mut last = 0;
-    let mut i = 1;
-    while i < n {
-        if same_row(work, base + last * LINE_SIZE, base + i * LINE_SIZE) {
-            i += 1;
-        } else {
-            last += 1;
-            buffers::table::copy_record(
-                work,
-                base + i * LINE_SIZE,
-                base + last * LINE_SIZE,
-                LINE_SIZE,
-            );
-            i += 1;
-        }
-    }
-    last + 1
+    drop_repeats(work, base, n, LINE_SIZE, same_row)
 }
 
 // Of each run of rows with one file and line, of the n rows of a function at base, the first is kept. Returns how many are left.
@@ -70,24 +70,5 @@ pub fn compact_line_rows(work: &mut [u8], base: usize, n: usize) -> usize
     requires { base + n * entry_size ≤ length work.old }
     ensures { Compacted work.old work.new base n result }
 {
-    if n == 0 {
-        return 0;
-    }
-    let mut last = 0;
-    let mut i = 1;
-    while i < n {
-        if same_line(work, base + last * ENTRY_SIZE, base + i * ENTRY_SIZE) {
-            i += 1;
-        } else {
-            last += 1;
-            buffers::table::copy_record(
-                work,
-                base + i * ENTRY_SIZE,
-                base + last * ENTRY_SIZE,
-                ENTRY_SIZE,
-            );
-            i += 1;
-        }
-    }
-    last + 1
+    drop_repeats(work, base, n, ENTRY_SIZE, same_line)
 }

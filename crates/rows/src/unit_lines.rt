@@ -8,14 +8,14 @@ ghost use Rattle.rows.specs.Selects.{unit_lines_of, RowsIn, RowsBelow, Owned, Fo
 
 use crate::earlier::put_earlier;
 use crate::line::{
-    ENTRY_SIZE, LINE_SIZE, RANGE_SEQUENCE, RANGE_SIZE, StatementSequence, address_at, belongs_to,
-    same_sequence, sequence_at,
+    ENTRY_SIZE, LINE_SIZE, RANGE_SEQUENCE, RANGE_SIZE, address_at, belongs_to, sequence_at,
 };
 use crate::normalize::compact_line_rows;
 use crate::search::lower_bound;
+use tlv::model::AddressRange;
 
 // Where a unit's sorted rows and its sequences stand in the work slice, and where the rows of a function are put.
-#[derive(Clone, Copy)]
+#[derive(Clone, Copy, Debug)]
 pub struct StoredLines {
     pub lines: usize,
     pub line_count: usize,
@@ -25,7 +25,7 @@ pub struct StoredLines {
 }
 
 // The rows of a function in the work slice; `invalid`: it asked for a sequence that does not exist, and has rows all the same.
-#[derive(Clone, Copy)]
+#[derive(Clone, Copy, Debug)]
 pub struct FunctionRows {
     pub rows: usize,
     pub count: usize,
@@ -33,28 +33,25 @@ pub struct FunctionRows {
 }
 
 // How many own rows a range has, and the place in the table of the first row at or past its end, or the table's length.
-#[derive(Clone, Copy)]
+#[derive(Clone, Copy, Debug)]
 pub struct OwnRows {
     pub count: usize,
     pub past: usize,
 }
 
 // Rows in the work slice.
-#[derive(Clone, Copy)]
+#[derive(Clone, Copy, Debug)]
 pub struct Rows {
     pub rows: usize,
     pub count: usize,
 }
 
 // Whether the row at p, which has an address, is at or past a start and belongs to the sequence that is asked for.
-fn takes_row(work: &[u8], p: usize, address: u64, start: u64, asked: StatementSequence) -> bool
+fn takes_row(work: &[u8], p: usize, address: u64, start: u64, asked: Option<u64>) -> bool
     requires { p + line_size ≤ length work.now }
     ensures { result ≡ (leb start address && belongs (sequence_of asked) (stored_sequence work.now (p + entry_size))) }
 {
-    if address < start {
-        return false;
-    }
-    belongs_to(asked, sequence_at(work, p + ENTRY_SIZE))
+    start <= address && belongs_to(asked, sequence_at(work, p + ENTRY_SIZE))
 }
 
 // Copies the rows of a range, of the sequence that is asked for, to `to`: a loop from the front of the table that ends at the first row at or past the
@@ -62,8 +59,8 @@ fn takes_row(work: &[u8], p: usize, address: u64, start: u64, asked: StatementSe
 pub fn own_rows(
     work: &mut [u8],
     l: StoredLines,
-    range: tlv::model::AddressRange,
-    asked: StatementSequence,
+    range: AddressRange,
+    asked: Option<u64>,
     to: usize,
     below: usize,
 ) -> OwnRows
@@ -72,33 +69,26 @@ pub fn own_rows(
     requires rows_below { RowsBelow work.old l range below }
     ensures { Owned work.old work.new l range asked to result }
 {
-    let mut i = below;
     let mut count = 0;
-    while i < l.line_count {
+    for i in below..l.line_count {
         let p = l.lines + i * LINE_SIZE;
         let address = address_at(work, p);
         if range.end <= address {
-            return OwnRows {
-                count: count,
-                past: i,
-            };
+            return OwnRows { count, past: i };
         }
         if takes_row(work, p, address, range.start, asked) {
             buffers::table::copy_record(work, p, to + count * ENTRY_SIZE, ENTRY_SIZE);
             count += 1;
-            i += 1;
-        } else {
-            i += 1;
         }
     }
     OwnRows {
-        count: count,
-        past: i,
+        count,
+        past: l.line_count,
     }
 }
 
 // How many rows at the front of a unit's sorted table lie below a range.
-fn rows_below(work: &[u8], l: StoredLines, range: tlv::model::AddressRange) -> usize
+fn rows_below(work: &[u8], l: StoredLines, range: AddressRange) -> usize
     requires { RowsIn work.now l }
     ensures { RowsBelow work.now l range result }
 {
@@ -109,45 +99,35 @@ fn rows_below(work: &[u8], l: StoredLines, range: tlv::model::AddressRange) -> u
 }
 
 // Whether a sequence that is asked for exists.
-pub fn sequence_exists(work: &[u8], l: StoredLines, requested: StatementSequence) -> bool
+pub fn sequence_exists(work: &[u8], l: StoredLines, requested: Option<u64>) -> bool
     requires { RowsIn work.now l }
     ensures { result ≡ sequence_exists (unit_lines_of work.now l) (sequence_of requested) }
 {
-    match requested {
-        StatementSequence::Unknown => {
-            return true;
-        }
-        StatementSequence::At(_) => {}
+    if requested.is_none() {
+        return true;
     }
-    let mut i = 0;
-    while i < l.sequence_count {
-        if same_sequence(
-            requested,
-            sequence_at(work, l.sequences + i * RANGE_SIZE + RANGE_SEQUENCE),
-        ) {
+    for i in 0..l.sequence_count {
+        let p = l.sequences + i * RANGE_SIZE;
+        if requested == sequence_at(work, p + RANGE_SEQUENCE) {
             return true;
         }
-        i += 1;
     }
     false
 }
 
 // The sequence that is asked for, where it exists.
-fn selected_sequence(exists: bool, requested: StatementSequence) -> StatementSequence
+fn selected_sequence(exists: bool, requested: Option<u64>) -> Option<u64>
     ensures { sequence_of result ≡ cond exists (sequence_of requested) none }
 {
-    if exists {
-        return requested;
-    }
-    StatementSequence::Unknown
+    if exists { requested } else { None }
 }
 
 // The rows that a function takes.
 pub fn for_range(
     work: &mut [u8],
     l: StoredLines,
-    range: tlv::model::AddressRange,
-    requested: StatementSequence,
+    range: AddressRange,
+    requested: Option<u64>,
 ) -> FunctionRows
     requires { RowsIn work.old l }
     ensures { ForRange work.old work.new l range requested result }
@@ -158,10 +138,9 @@ pub fn for_range(
     let own = own_rows(work, l, range, asked, l.buffer + ENTRY_SIZE, below);
     let fronted = put_earlier(work, l, range, asked, own.count);
     let left = compact_line_rows(work, fronted.rows, fronted.count);
-    let invalid = !exists && left != 0;
     FunctionRows {
         rows: fronted.rows,
         count: left,
-        invalid: invalid,
+        invalid: !exists && left != 0,
     }
 }

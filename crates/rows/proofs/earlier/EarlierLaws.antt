@@ -1,5 +1,5 @@
 -- The row in force at an address: the search backwards for it, and the sequence in which it is looked for.
-use mathlib.Core.Path.{◌≡◌, sym, ap, ◌∙◌}
+use mathlib.Core.Path.{◌≡◌, refl, sym, ap, ◌∙◌}
 use mathlib.Core.Bool.{Bool, true, false, cond, ◌&&◌}
 use mathlib.Core.List.{List, [], ◌∷◌}
 use mathlib.Core.Option.{Option, none, some}
@@ -8,6 +8,8 @@ use native.Mathlib.Omega.{arith}
 use lib.Dec.{ltb}
 use lib.ListN.{drop}
 use borrow.Author.Tests.{lt-ltb, le-ltb}
+use Rattle.std.specs.Prelude.{Option as Maybe, Some, None}
+use Rattle.std.specs.Option.{option_or, option_to_list}
 use Rattle.tlv.specs.declared.model.AddressRange.{AddressRange}
 use Rattle.tlv.specs.declared.model.LineEntry.{LineEntry}
 use Rattle.tlv.specs.Lists.{first, last, or_else}
@@ -15,14 +17,11 @@ use Rattle.tlv.proofs.ListLaws.{all_map, mapped}
 use Rattle.buffers.specs.Table.{chunk, tab, records}
 use Rattle.lines.specs.Lines.{SequencedLine}
 use Rattle.lines.specs.Rows.{belongs, moved_to, earlier_row}
-use Rattle.rows.specs.declared.line.StatementSequence.{StatementSequence}
 use Rattle.rows.specs.declared.unit_lines.StoredLines.{StoredLines}
-use Rattle.rows.specs.declared.earlier.Covering.{Covering}
-use Rattle.rows.specs.declared.earlier.Earlier.{Earlier}
 use Rattle.rows.specs.Sizes.{entry_size, line_size}
 use Rattle.rows.specs.Stored.{sequence_of, stored_sequence, entry_of, line_at, lines_of, ranges_of}
 use Rattle.rows.specs.Sorts.{leading}
-use Rattle.rows.specs.Selects.{unit_lines_of, RowsIn, covering_of, earlier_of}
+use Rattle.rows.specs.Selects.{unit_lines_of, RowsIn, covering_of}
 use Rattle.rows.proofs.LeadingLaws.{leading-most, all_from, row_below}
 use Rattle.rows.proofs.FilterLaws.{last-append, last-take}
 use Rattle.rows.proofs.StoredLaws.{line-sequence, line-entry, lines-take, lines-suc}
@@ -53,7 +52,7 @@ back_start {w} {l} {a} {i} s R e =
     }
 
 module _ {w : List ℕ} {base n a i : ℕ} {s : Option ℕ} (B : Backwards w base n a s i) where
-  module _ (own : StatementSequence) {t : Bool} (h : 0 < i) (q : sequence_of own ≡ stored_sequence w (base + (i - 1) * line_size + entry_size)) (e : t ≡ belongs s (sequence_of own)) where
+  module _ (own : Maybe ℕ) {t : Bool} (h : 0 < i) (q : sequence_of own ≡ stored_sequence w (base + (i - 1) * line_size + entry_size)) (e : t ≡ belongs s (sequence_of own)) where
     back-test : earlier_than a s (line_at w (base + (i - 1) * line_size)) ≡ t
     back-test =
         rw (lt-ltb (line_at w (base + (i - 1) * line_size)).entry.address a (row_below w base n a (i - 1) (omega (arith, B.most)) (omega (arith, B.few))))
@@ -74,30 +73,34 @@ module _ {w : List ℕ} {base n a i : ℕ} {s : Option ℕ} (B : Backwards w bas
     back-next f = record { few = omega (arith, B.few); most = omega (arith, B.most); left = B.left ∙ last_row ∙ rw f }
 
     pub back_found : {x : LineEntry} → t ≡ true → x ≡ entry_of (chunk w (base + (i - 1) * line_size) entry_size)
-        → earlier_of (Earlier.Row (record { address = a; file = x.file; line = x.line; column = x.column })) ≡ moved_to a (last (earlier_than a s) (lines_of w base n))
+        → option_to_list (Some (record { address = a; file = x.file; line = x.line; column = x.column })) ≡ moved_to a (last (earlier_than a s) (lines_of w base n))
     unfolding or_else
     back_found {x} f is =
         let same : x ≡ (line_at w (base + (i - 1) * line_size)).entry = is ∙ sym (line-entry w (base + (i - 1) * line_size)) in
         rw (B.left, last_row, f, same)
 
-  pub back_none : i ≤ 0 → earlier_of Earlier.Missing ≡ moved_to a (last (earlier_than a s) (lines_of w base n))
+  pub back_none : i ≤ 0 → option_to_list {X = LineEntry} None ≡ moved_to a (last (earlier_than a s) (lines_of w base n))
   unfolding last lines_of records tab
   back_none h = let z : i ≡ 0 = omega arith in rw (B.left, z)
 
 -- ---- in the sequence that is asked for, or else the first that covers the start
 
-module _ (w : List ℕ) (l : StoredLines) (r : AddressRange) (asked : StatementSequence) where
-  pub earlier-none : {c : Covering} → c ≡ Covering.Missing → covering_of c (first (covers_at (sequence_of asked) r.start) (ranges_of w l.sequences l.sequence_count))
-      → earlier_of Earlier.Missing ≡ earlier_row (unit_lines_of w l) r (sequence_of asked)
-  unfolding earlier_row unit_lines_of
-  earlier-none is C = rw (rw is at C)
+or-is : (a b : Maybe ℕ) → sequence_of (option_or a b) ≡ or_else (sequence_of a) (sequence_of b)
+unfolding or_else
+or-is None b = refl
+or-is (Some m) b = refl
 
-  pub earlier-some : (own within : StatementSequence) (e : Earlier) {c : Covering} → c ≡ Covering.By own
-      → covering_of c (first (covers_at (sequence_of asked) r.start) (ranges_of w l.sequences l.sequence_count))
-      → sequence_of within ≡ or_else (sequence_of asked) (sequence_of own)
-      → earlier_of e ≡ moved_to r.start (last (earlier_than r.start (sequence_of within)) (lines_of w l.lines l.line_count))
-      → earlier_of e ≡ earlier_row (unit_lines_of w l) r (sequence_of asked)
+module _ (w : List ℕ) (l : StoredLines) (r : AddressRange) (asked : Maybe ℕ) where
+  pub earlier-none : covering_of None (first (covers_at (sequence_of asked) r.start) (ranges_of w l.sequences l.sequence_count))
+      → option_to_list {X = LineEntry} None ≡ earlier_row (unit_lines_of w l) r (sequence_of asked)
   unfolding earlier_row unit_lines_of
-  earlier-some own within e is C o h =
-      let m = mapped (λ x. x.statement_sequence) (first (covers_at (sequence_of asked) r.start) (ranges_of w l.sequences l.sequence_count)) (sequence_of own) (rw is at C) in
-      rw (m.1, m.2, ← o) h
+  earlier-none C = rw C
+
+  pub earlier-some : (own : Maybe ℕ) (e : Maybe LineEntry)
+      → covering_of (Some own) (first (covers_at (sequence_of asked) r.start) (ranges_of w l.sequences l.sequence_count))
+      → option_to_list e ≡ moved_to r.start (last (earlier_than r.start (sequence_of (option_or asked own))) (lines_of w l.lines l.line_count))
+      → option_to_list e ≡ earlier_row (unit_lines_of w l) r (sequence_of asked)
+  unfolding earlier_row unit_lines_of
+  earlier-some own e C h =
+      let m = mapped (λ x. x.statement_sequence) (first (covers_at (sequence_of asked) r.start) (ranges_of w l.sequences l.sequence_count)) (sequence_of own) C in
+      rw (m.1, m.2, ← or-is asked own) h

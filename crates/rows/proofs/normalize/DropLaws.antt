@@ -1,13 +1,13 @@
 -- Neighbours that repeat dropped in place, of any table: what the loop keeps, over the reader, the size and the test.
 use mathlib.Core.Path.{◌≡◌, refl, sym, ap, ◌∙◌}
 use mathlib.Core.Logic.{inr}
-use mathlib.Core.Bool.{Bool, true, false}
-use mathlib.Core.List.{List, [], ◌∷◌, ◌++◌, append_assoc, append-nil}
-use Prim.Native.Nat.{ℕ, ◌+◌, ◌*◌, ◌≤◌, ◌<◌}
+use mathlib.Core.Bool.{Bool, true, false, cond}
+use mathlib.Core.List.{List, [], ◌∷◌, ◌++◌, map, append_assoc, append-nil}
+use Prim.Native.Nat.{ℕ, zero, suc, ◌+◌, ◌*◌, ◌≤◌, ◌<◌}
 use native.Mathlib.Omega.{arith}
 use native.Mathlib.Nat.{mul-le-mul_right}
 use lib.ListN.{length, drop}
-use Rattle.buffers.specs.Table.{chunk, records, Kept, CopiedBytes}
+use Rattle.buffers.specs.Table.{chunk, tab, records, Kept, CopiedBytes}
 use Rattle.buffers.proofs.TableLaws.{inside, kept_refl, kept-wide, kept_trans}
 use Rattle.buffers.proofs.RecordLaws.{records-nil, records-suc, records-rest_none, records-rest_cons, records-copy_push}
 use Rattle.lines.specs.Lines.{same_line, same_row, drop_after, drop_neighbours}
@@ -15,6 +15,7 @@ use Rattle.lines.specs.Rows.{compact_line_rows}
 use Rattle.rows.specs.Sizes.{entry_size, line_size}
 use Rattle.rows.specs.Stored.{entry_of, entries_of, line_of, lines_of}
 use Rattle.rows.specs.Sorts.{Deduped, Compacted}
+use Rattle.rows.specs.Repeats.{Dropped}
 
 -- ---- the list
 
@@ -48,12 +49,6 @@ pub record Dropping {A : Type 0} (f : List ℕ → A) (s : ℕ) (equal : A → A
   pub rows : records f s w base (last + 1) ++ drop_after equal (f (chunk w (base + last * s) s)) (drop i (records f s w₀ base n)) ≡ drop_neighbours equal (records f s w₀ base n)
   pub rest : Kept w₀ w base (i * s)
   pub size : length w ≡ length w₀
-
--- what the loop leaves, r records
-pub record Dropped {A : Type 0} (f : List ℕ → A) (s : ℕ) (equal : A → A → Bool) (w₀ w : List ℕ) (base n r : ℕ) : Type 0 where
-  pub within : r ≤ n
-  pub rows : records f s w base r ≡ drop_neighbours equal (records f s w₀ base n)
-  pub rest : Kept w₀ w base (n * s)
 
 module _ {A : Type 0} (f : List ℕ → A) (s : ℕ) (equal : A → A → Bool) where
   pub dropping-start : (w : List ℕ) (base n : ℕ) → 0 < n → Dropping f s equal w w base n 0 1
@@ -131,10 +126,46 @@ module _ {A : Type 0} {f : List ℕ → A} {s : ℕ} {equal : A → A → Bool} 
 
 -- ---- of a unit's rows, and of a function's
 
-pub deduped : {w₀ w : List ℕ} {base n r : ℕ} → Dropped line_of line_size same_row w₀ w base n r → Deduped w₀ w base n r
-unfolding lines_of
-deduped d = record { within = d.within; rows = d.rows; rest = d.rest }
+-- records that a test reads by f, as it finds their bytes
+module _ {A : Type 0} (f : List ℕ → A) (equal : A → A → Bool) where
+  abbrev pub by : List ℕ → List ℕ → Bool
+  by = λ a b. equal (f a) (f b)
 
-pub compacted : {w₀ w : List ℕ} {base n r : ℕ} → Dropped entry_of entry_size same_line w₀ w base n r → Compacted w₀ w base n r
+  map-after : (x : List ℕ) (l : List (List ℕ)) → map f (drop_after by x l) ≡ drop_after equal (f x) (map f l)
+  unfolding drop_after
+  map-after x [] = refl
+  map-after x (y ∷ ys) = either (equal (f x) (f y)) (map-after x ys) (map-after y ys)
+    where
+      either : (t : Bool) → map f (drop_after by x ys) ≡ drop_after equal (f x) (map f ys) → map f (drop_after by y ys) ≡ drop_after equal (f y) (map f ys)
+          → map f (cond t (drop_after by x ys) (y ∷ drop_after by y ys)) ≡ cond t (drop_after equal (f x) (map f ys)) (f y ∷ drop_after equal (f y) (map f ys))
+      either true h g = h
+      either false h g = ap (λ (l : List A). f y ∷ l) g
+
+  map-neighbours : (l : List (List ℕ)) → map f (drop_neighbours by l) ≡ drop_neighbours equal (map f l)
+  unfolding drop_neighbours
+  map-neighbours [] = refl
+  map-neighbours (x ∷ xs) = ap (λ (l : List A). f x ∷ l) (map-after x xs)
+
+  map-tab : (n : ℕ) (g : ℕ → List ℕ) → map f (tab n g) ≡ tab n (λ i. f (g i))
+  unfolding tab
+  map-tab zero g = refl
+  map-tab (suc n) g = ap (λ (l : List A). f (g zero) ∷ l) (map-tab n (λ i. g (suc i)))
+
+  read : (s : ℕ) (w : List ℕ) (base n : ℕ) → map f (records (λ b. b) s w base n) ≡ records f s w base n
+  unfolding records
+  read s w base n = map-tab n (λ i. chunk w (base + i * s) s)
+
+  pub dropped-by : {s : ℕ} {w₀ w : List ℕ} {base n r : ℕ} → Dropped (λ b. b) s by w₀ w base n r → Dropped f s equal w₀ w base n r
+  dropped-by {s} {w₀} {w} {base} {n} {r} d = record {
+    within = d.within;
+    rows = sym (read s w base r) ∙ ap (map f) d.rows ∙ map-neighbours (records (λ b. b) s w₀ base n) ∙ ap (drop_neighbours equal) (read s w₀ base n);
+    rest = d.rest;
+  }
+
+pub deduped : {w₀ w : List ℕ} {base n r : ℕ} → Dropped (λ b. b) line_size (by line_of same_row) w₀ w base n r → Deduped w₀ w base n r
+unfolding lines_of
+deduped d = let e = dropped-by line_of same_row d in record { within = e.within; rows = e.rows; rest = e.rest }
+
+pub compacted : {w₀ w : List ℕ} {base n r : ℕ} → Dropped (λ b. b) entry_size (by entry_of same_line) w₀ w base n r → Compacted w₀ w base n r
 unfolding entries_of compact_line_rows
-compacted d = record { within = d.within; rows = d.rows; rest = d.rest }
+compacted d = let e = dropped-by entry_of same_line d in record { within = e.within; rows = e.rows; rest = e.rest }

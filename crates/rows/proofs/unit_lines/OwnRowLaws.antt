@@ -9,13 +9,13 @@ use native.Mathlib.Omega.{arith}
 use lib.ListN.{length, drop}
 use lib.Dec.{leb}
 use borrow.Author.Tests.{lt-leb, le-leb}
+use Rattle.std.specs.Prelude.{Option as Maybe}
 use Rattle.tlv.specs.declared.model.AddressRange.{AddressRange}
 use Rattle.buffers.specs.Table.{chunk, Kept, CopiedBytes}
 use Rattle.buffers.proofs.TableLaws.{kept_refl, kept_trans, kept-wide}
 use Rattle.buffers.proofs.RecordLaws.{records-nil, records-copy_push}
 use Rattle.lines.specs.Lines.{SequencedLine}
 use Rattle.lines.specs.Rows.{belongs}
-use Rattle.rows.specs.declared.line.StatementSequence.{StatementSequence}
 use Rattle.rows.specs.declared.unit_lines.StoredLines.{StoredLines}
 use Rattle.rows.specs.Sizes.{entry_size, line_size}
 use Rattle.rows.specs.Stored.{sequence_of, stored_sequence, entry_of, entries_of, line_at, lines_of}
@@ -37,7 +37,7 @@ takes-by asked w p {address} {start} h q e = rw (le-leb start address h) (e ∙ 
 -- ---- the loop
 
 -- what the loop gives from row i on, behind the `count` rows copied so far, is what it gives from the front
-pub record Owning (w₀ w : List ℕ) (l : StoredLines) (range : AddressRange) (asked : StatementSequence) (to i count : ℕ) : Type 0 where
+pub record Owning (w₀ w : List ℕ) (l : StoredLines) (range : AddressRange) (asked : Maybe ℕ) (to i count : ℕ) : Type 0 where
   pub most : i ≤ l.line_count
   pub few : count ≤ i
   pub rows : entries_of w to count ++ (front_rows range (sequence_of asked) (drop i (lines_of w₀ l.lines l.line_count))).rows
@@ -47,7 +47,7 @@ pub record Owning (w₀ w : List ℕ) (l : StoredLines) (range : AddressRange) (
   pub rest : Kept w₀ w to (l.line_count * entry_size)
   pub size : length w ≡ length w₀
 
-pub own-start : {w₀ : List ℕ} {l : StoredLines} {range : AddressRange} {asked : StatementSequence} {to below : ℕ}
+pub own-start : {w₀ : List ℕ} {l : StoredLines} {range : AddressRange} {asked : Maybe ℕ} {to below : ℕ}
     → RowsBelow w₀ l range below → Owning w₀ w₀ l range asked to below 0
 unfolding entries_of
 own-start {w₀} {l} {range} {asked} {to} {below} B =
@@ -61,7 +61,7 @@ own-start {w₀} {l} {range} {asked} {to} {below} B =
       size = refl;
     }
 
-module _ {w₀ w : List ℕ} {l : StoredLines} {range : AddressRange} {asked : StatementSequence} {to i count : ℕ}
+module _ {w₀ w : List ℕ} {l : StoredLines} {range : AddressRange} {asked : Maybe ℕ} {to i count : ℕ}
     (O : Owning w₀ w l range asked to i count) where
   -- what the loop gives from row n on
   abbrev from : ℕ → FrontRows
@@ -76,9 +76,11 @@ module _ {w₀ w : List ℕ} {l : StoredLines} {range : AddressRange} {asked : S
     rest = O.rest;
   }
 
-  pub own-done : l.line_count ≤ i → Owned w₀ w l range asked to (record { count = count; past = i })
+  pub own-done : l.line_count ≤ i → Owned w₀ w l range asked to (record { count = count; past = l.line_count })
   unfolding front_rows
-  own-done h = ends (rw (lines-rest_none w₀ l.lines l.line_count i h))
+  own-done h =
+      let last : i ≡ l.line_count = omega (arith, O.most) in
+      rw last at (ends (rw (lines-rest_none w₀ l.lines l.line_count i h)))
 
   module _ (b : l.lines + l.line_count * line_size ≤ to) (h : i < l.line_count) {address : ℕ} (a : address ≡ (line_at w (l.lines + i * line_size)).entry.address) where
     abbrev x : SequencedLine

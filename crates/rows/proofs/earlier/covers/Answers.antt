@@ -1,16 +1,21 @@
 -- `earlier::covers` meets its contract.
-use mathlib.Core.Path.{ap}
-use mathlib.Core.Bool.{not}
-use borrow.Author.Tests.{not-true, not-false}
+use mathlib.Core.Path.{sym, ◌∙◌}
+use borrow.Author.Tests.{leb-true, leb-false, both_ways}
 use Rattle.rows.specs.Stored.{sequence_of}
 use Rattle.rows.proofs.SequenceLaws.{covers-other, covers-above, covers-within}
 use Rattle.rows.proofs.earlier.covers.Goals as goal
+use Rattle.rows.proofs.earlier.covers.Goals.{then-belongs_to, else-belongs_to}
 
-pub returns-then-not-belongs_to : goal.returns-then-not-belongs_to
-returns-then-not-belongs_to c = covers-other _ _ c.args.address (sequence_of c.args.asked) c.sequence_at.ensures c.belongs_to.ensures (not-true _ (ap not c.if-not-belongs_to.true))
+pub returns-then-read-address : goal.returns-then-read-address
+returns-then-read-address c = elim c.if-belongs_to.branch [
+  | then-belongs_to w ↦ covers-within _ _ _ (sequence_of c.args.asked) c.sequence_at.ensures c.belongs_to.ensures w.if-belongs_to.true w.read.ensures
+      (leb-true _ _ (sym w.value-is ∙ c.if-read-address.true)) c.read-then-read-address.ensures
+  | else-belongs_to w ↦ absurd (both_ways _ w.if-belongs_to.false (sym w.value-is ∙ c.if-read-address.true))
+]
 
-pub returns-then-address-read_u64 : goal.returns-then-address-read_u64
-returns-then-address-read_u64 c = covers-above _ _ _ (sequence_of c.args.asked) c.sequence_at.ensures c.belongs_to.ensures (not-false _ (ap not c.if-not-belongs_to.false)) c.read_u64.ensures c.if-address-read_u64.true
-
-pub returns : goal.returns
-returns c = covers-within _ _ _ (sequence_of c.args.asked) c.sequence_at.ensures c.belongs_to.ensures (not-false _ (ap not c.if-not-belongs_to.false)) c.read_u64.ensures c.if-address-read_u64.false c.read_u64-2.ensures
+pub returns-else-read-address : goal.returns-else-read-address
+returns-else-read-address c = elim c.if-belongs_to.branch [
+  | then-belongs_to w ↦ c.if-read-address.false ∙ covers-above _ _ _ (sequence_of c.args.asked) c.sequence_at.ensures c.belongs_to.ensures w.if-belongs_to.true w.read.ensures
+      (leb-false _ _ (sym w.value-is ∙ c.if-read-address.false))
+  | else-belongs_to w ↦ c.if-read-address.false ∙ covers-other _ _ c.args.address (sequence_of c.args.asked) c.sequence_at.ensures c.belongs_to.ensures w.if-belongs_to.false
+]

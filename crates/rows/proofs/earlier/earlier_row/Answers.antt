@@ -2,8 +2,8 @@
 use Rattle.rows.proofs.earlier.EarlierLaws.{earlier-some, earlier-none}
 use Rattle.rows.proofs.earlier.earlier_row.Goals as goal
 
-pub returns-in-By : goal.returns-in-By
-returns-in-By c = earlier-some _ _ _ c.args.asked c.in-By.own c.or_else.result c.last_before.result c.in-By.is c.covering_sequence.ensures c.or_else.ensures c.last_before.ensures
+pub returns : goal.returns
+returns c = earlier-some _ _ _ c.args.asked c.in-Some.own c.last_before.result c.in-Some.ensures (rw c.or.ensures at c.last_before.ensures)
 
-pub returns-in-Missing : goal.returns-in-Missing
-returns-in-Missing c = search earlier-none
+pub returns-in_default : goal.returns-in_default
+returns-in_default c = earlier-none _ _ _ _ c.in_default.ensures

@@ -5,6 +5,3 @@ use Rattle.rows.proofs.earlier.last_before.Given as goal
 
 abbrev pub invariant-loop-i : goal.invariant-loop-i
 invariant-loop-i l = Backwards l.work l.l.lines l.l.line_count l.address (sequence_of l.asked) l.i
-
-abbrev pub decreases-loop-i : goal.decreases-loop-i
-decreases-loop-i l = l.i

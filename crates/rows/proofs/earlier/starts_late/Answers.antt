@@ -5,5 +5,5 @@ use Rattle.rows.proofs.earlier.starts_late.Goals as goal
 pub returns-then-count-eq0 : goal.returns-then-count-eq0
 returns-then-count-eq0 c = search late-none
 
-pub returns : goal.returns
-returns c = search late-some
+pub returns-else-count-eq0 : goal.returns-else-count-eq0
+returns-else-count-eq0 c = search late-some

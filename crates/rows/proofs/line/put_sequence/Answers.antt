@@ -2,8 +2,8 @@
 use Rattle.rows.proofs.StoredLaws.{put_some, put-none}
 use Rattle.rows.proofs.line.put_sequence.Goals as goal
 
-pub returns-in-At : goal.returns-in-At
-returns-in-At c = rw c.in-At.is (search put_some)
+pub returns-in-Some : goal.returns-in-Some
+returns-in-Some c = rw c.in-Some.is (search put_some)
 
-pub returns-in-Unknown : goal.returns-in-Unknown
-returns-in-Unknown c = rw c.in-Unknown.is (search put-none)
+pub returns-in-None : goal.returns-in-None
+returns-in-None c = rw c.in-None.is (search put-none)

@@ -2,8 +2,8 @@
 use Rattle.rows.proofs.normalize.SameLaws.{files-differ, lines-decide}
 use Rattle.rows.proofs.normalize.same_line.Goals as goal
 
-pub returns-then-read_u32 : goal.returns-then-read_u32
-returns-then-read_u32 c = search files-differ
+pub returns-then-read : goal.returns-then-read
+returns-then-read c = search lines-decide
 
-pub returns : goal.returns
-returns c = search lines-decide
+pub returns-else-read : goal.returns-else-read
+returns-else-read c = search files-differ

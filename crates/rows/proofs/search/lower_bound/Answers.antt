@@ -6,35 +6,8 @@ use Rattle.rows.proofs.search.lower_bound.Goals as goal
 pub loop-lo-init : goal.loop-lo-init
 loop-lo-init c = (omega arith, leading-most _ _ _ _, omega arith)
 
-pub overflow_sub-mid : goal.overflow_sub-mid
-overflow_sub-mid c = omega arith
-
-pub overflow_add-mid : goal.overflow_add-mid
-overflow_add-mid c = omega arith
-
-pub overflow_mul-mid : goal.overflow_mul-mid
-overflow_mul-mid c = omega arith
-
-pub overflow_add-base : goal.overflow_add-base
-overflow_add-base c = omega arith
-
-pub address_at-requires : goal.address_at-requires
-address_at-requires c = omega arith
-
-pub overflow_add-lo : goal.overflow_add-lo
-overflow_add-lo c = omega arith
-
-pub loop-lo-smaller-then-address_at-address : goal.loop-lo-smaller-then-address_at-address
-loop-lo-smaller-then-address_at-address c = omega arith
-
 pub loop-lo-preserved-then-address_at-address : goal.loop-lo-preserved-then-address_at-address
 loop-lo-preserved-then-address_at-address c = (go_up _ _ _ _ _ (omega arith) _ c.address_at.ensures c.requires.sorted c.if-address_at-address.true, omega arith, omega arith)
 
-pub loop-lo-smaller : goal.loop-lo-smaller
-loop-lo-smaller c = omega arith
-
 pub loop-lo-preserved : goal.loop-lo-preserved
 loop-lo-preserved c = (omega arith, go_down _ _ _ _ _ (omega arith) _ c.address_at.ensures c.if-address_at-address.false, omega arith)
-
-pub returns : goal.returns
-returns c = omega arith

@@ -18,9 +18,6 @@ own_rows-own-requires-clause-rows_below c = search (rules, none_below)
 pub put_earlier-fronted-requires-clause-rows_in : goal.put_earlier-fronted-requires-clause-rows_in
 put_earlier-fronted-requires-clause-rows_in c = rows-in_kept c.own_rows-own.ensures.rest c.requires c.own_rows-own.auto.work
 
-pub put_earlier-fronted-requires-clause-count_bound : goal.put_earlier-fronted-requires-clause-count_bound
-put_earlier-fronted-requires-clause-count_bound c = c.own_rows-own.ensures.within
-
 pub returns-then-not-exists : goal.returns-then-not-exists
 returns-then-not-exists c = for-missing c.args.requested c.selected_sequence-asked.result c.requires c.sequence_exists-exists.ensures c.selected_sequence-asked.ensures c.own_rows-own.ensures c.put_earlier-fronted.ensures c.compact_line_rows-left.ensures (ap not c.if-not-exists.true)
 
