@@ -1,7 +1,6 @@
 -- The loop of address_operand: the bytes from p on, highest first.
-use Rattle.std.proofs.Common.{◌≡◌, ℕ, zero, suc, ◌+◌, ◌-◌, ◌*◌, ◌^◌, ◌<◌, ◌≤◌, List, length, get_or, take, drop, sym, ap, ◌∙◌, subst, arith, drop-cons}
+use Rattle.std.proofs.Common.{Some, ◌≡◌, ℕ, zero, suc, ◌+◌, ◌-◌, ◌*◌, ◌^◌, ◌<◌, ◌≤◌, List, length, get_or, take, drop, sym, ap, ◌∙◌, subst, arith, drop-cons}
 use Rattle.tlv.specs.Bytes.{le}
-use Rattle.line_program.specs.declared.lines.Offset.{Offset}
 use Rattle.line_program.specs.Scan.{OffsetIs}
 
 -- the number of the bytes from one place to below another
@@ -51,7 +50,7 @@ module _ {s : List ℕ} {from to p value : ℕ} (G : Gathering s from to p value
       (span-grows s (p - suc from) (suc from) to (omega arith) G.within) in
       omega (arith, span_more s from to (omega arith) G.within, G.is)
 
-  pub gather_done : p ≤ from → OffsetIs (Offset.At value) (span s from to)
+  pub gather_done : p ≤ from → OffsetIs (Some value) (span s from to)
   gather_done h =
       let z : p ≡ from = omega (arith, G.low) in
       let e : value ≡ span s from to = subst (λ (q : ℕ). value ≡ span s q to) z G.is in

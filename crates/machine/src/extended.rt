@@ -4,66 +4,63 @@ ghost use Rattle.machine.specs.Machine.{read_extended_body, read_extended};
 ghost use Rattle.machine.specs.Steps.{read_address, Turns};
 
 use crate::operands::address_operand;
-use crate::registers::{Encoding, LINE_ADDRESS, Registers, move_to};
-use crate::steps::{Stepped, quiet};
-use line_program::lines::Offset;
-use line_program::operand::{Operand, Skipped, read_line_uleb, take_line_bytes};
+use crate::registers::{Encoding, Registers, move_to};
+use crate::steps::Stepped;
+use line_program::operand::{read_line_uleb, take_line_bytes};
+use tlv::refusal::Refusal;
 
 // DW_LNE_set_address, whose operand stands from one place to below another.
-fn step_set_address(program: &[u8], e: Encoding, r: Registers, from: usize, next: usize) -> Stepped
+fn step_set_address(
+    program: &[u8],
+    e: Encoding,
+    r: Registers,
+    from: usize,
+    next: usize,
+) -> Result<Stepped, Refusal>
     requires { (from ≤ next) × (next ≤ length program.now) }
     ensures { Turns e r program.now from result (read_address program.now from next) }
 {
-    match address_operand(program, from, next) {
-        Offset::At(address) => quiet(move_to(r, address), next),
-        Offset::Past => Stepped::Fault(LINE_ADDRESS),
-    }
+    let Some(address) = address_operand(program, from, next) else {
+        return Err(Refusal::LineAddress);
+    };
+    let registers = move_to(r, address)?;
+    Ok(Stepped::Quiet { registers, next })
 }
 
 // The n bytes of an extended instruction, of which the first is its opcode, at `at`.
-fn step_body(program: &[u8], e: Encoding, r: Registers, n: u64, at: usize) -> Stepped
+fn step_body(
+    program: &[u8],
+    e: Encoding,
+    r: Registers,
+    n: u64,
+    at: usize,
+) -> Result<Stepped, Refusal>
     requires { (0 < n) × (at ≤ length program.now) }
     ensures { Turns e r program.now at result (read_extended_body (length program.now) n (drop at program.now)) }
 {
     if program.len() <= at {
-        return Stepped::Fault(8);
+        return Err(Refusal::CutExtended);
     }
-    let opcode = program[at];
-    match take_line_bytes(program, n - 1, at + 1) {
-        Skipped::Fault(fault) => Stepped::Fault(fault),
-        Skipped::Ended(next) => Stepped::Quiet {
-            registers: r,
-            next: next,
-        },
-        Skipped::To(next) => {
-            if opcode == 1 {
-                return Stepped::Ended {
-                    registers: r,
-                    next: next,
-                };
-            }
-            if opcode == 2 {
-                return step_set_address(program, e, r, at + 1, next);
-            }
-            Stepped::Quiet {
-                registers: r,
-                next: next,
-            }
-        }
+    let next = take_line_bytes(program, n - 1, at + 1)?;
+    match program[at] {
+        1 => Ok(Stepped::Ended { registers: r, next }),
+        2 => step_set_address(program, e, r, at + 1, next),
+        _ => Ok(Stepped::Quiet { registers: r, next }),
     }
 }
 
 // What follows the zero byte of an extended instruction.
-pub fn step_extended(program: &[u8], e: Encoding, r: Registers, at: usize) -> Stepped
+pub fn step_extended(
+    program: &[u8],
+    e: Encoding,
+    r: Registers,
+    at: usize,
+) -> Result<Stepped, Refusal>
     ensures { Turns e r program.now at result (read_extended (length program.now) (drop at program.now)) }
 {
-    match read_line_uleb(program, at) {
-        Operand::Value { value, next } => {
-            if value == 0 {
-                return Stepped::Fault(9);
-            }
-            step_body(program, e, r, value, next)
-        }
-        Operand::Fault(fault) => Stepped::Fault(fault),
+    let length = read_line_uleb(program, at)?;
+    if length.value == 0 {
+        return Err(Refusal::ZeroExtended);
     }
+    step_body(program, e, r, length.value, length.next)
 }

@@ -6,9 +6,16 @@ ghost use Rattle.machine.specs.Steps.{machine_of, read_at, Turns, Emits};
 use crate::extended::step_extended;
 use crate::registers::{Encoding, Registers};
 use crate::steps::{Stepped, step_special, step_standard};
+use tlv::refusal::Refusal;
 
 // The instruction at a place.
-fn step(program: &[u8], lengths: &[u8], e: Encoding, r: Registers, at: usize) -> Stepped
+fn step(
+    program: &[u8],
+    lengths: &[u8],
+    e: Encoding,
+    r: Registers,
+    at: usize,
+) -> Result<Stepped, Refusal>
     requires { (0 < e.line_range) × (at < length program.now) }
     ensures { Turns e r program.now (at + 1) result (read_at e lengths.now program.now at) }
 {
@@ -23,14 +30,11 @@ fn step(program: &[u8], lengths: &[u8], e: Encoding, r: Registers, at: usize) ->
     step_special(e, r, opcode, next)
 }
 
-// The next row of a program, plain or an end of sequence, with the registers that it shows and the place after its instruction; or the program's end, or
-// its fault.
-#[derive(Clone, Copy)]
+// A row of a program, plain or an end of sequence, with the registers that it shows and the place after its instruction.
+#[derive(Clone, Copy, Debug)]
 pub enum Emitted {
     Plain { registers: Registers, next: usize },
     Ended { registers: Registers, next: usize },
-    End,
-    Fault(u8),
 }
 
 // The registers at the beginning of a sequence.
@@ -45,15 +49,22 @@ pub fn initial() -> Registers
     }
 }
 
-// The next row of a program, from a place on.
-pub fn next_row(program: &[u8], lengths: &[u8], e: Encoding, r: Registers, at: usize) -> Emitted
+// The next row of a program, from a place on; none at the program's end.
+pub fn next_row(
+    program: &[u8],
+    lengths: &[u8],
+    e: Encoding,
+    r: Registers,
+    at: usize,
+) -> Result<Option<Emitted>, Refusal>
     requires { (0 < e.line_range) × (at ≤ length program.now) }
     ensures { Emits (machine_of e lengths.now (length program.now)) program.now r at result }
 {
     let mut registers = r;
     let mut p = at;
+    // Stays a loop: each instruction's own length moves the place.
     while p < program.len() {
-        match step(program, lengths, e, registers, p) {
+        match step(program, lengths, e, registers, p)? {
             Stepped::Quiet {
                 registers: moved,
                 next,
@@ -61,28 +72,13 @@ pub fn next_row(program: &[u8], lengths: &[u8], e: Encoding, r: Registers, at: u
                 registers = moved;
                 p = next;
             }
-            Stepped::Plain {
-                registers: shown,
-                next,
-            } => {
-                return Emitted::Plain {
-                    registers: shown,
-                    next: next,
-                };
+            Stepped::Plain { registers, next } => {
+                return Ok(Some(Emitted::Plain { registers, next }));
             }
-            Stepped::Ended {
-                registers: shown,
-                next,
-            } => {
-                return Emitted::Ended {
-                    registers: shown,
-                    next: next,
-                };
-            }
-            Stepped::Fault(fault) => {
-                return Emitted::Fault(fault);
+            Stepped::Ended { registers, next } => {
+                return Ok(Some(Emitted::Ended { registers, next }));
             }
         }
     }
-    Emitted::End
+    Ok(None)
 }

@@ -4,15 +4,8 @@ ghost use Rattle.tlv.specs.Bytes.{le};
 ghost use Rattle.line_program.specs.Scan.{OffsetIs};
 ghost use Rattle.machine.specs.Steps.{ReadsSigned};
 
-use crate::registers::wide;
-use line_program::lines::Offset;
 use line_program::operand::Operand;
-
-// 2^64 - 1.
-const LAST: u64 = 18446744073709551615;
-
-// 2^56: eight bits more are past 2^64 - 1.
-const TOP_BYTE: u64 = 72057594037927936;
+use tlv::refusal::Refusal;
 
 // The signed number, modulo 2^64, whose last byte adds to `value` by the scale.
 fn signed_value(value: u64, scale: u64, byte: u64) -> u64
@@ -23,49 +16,40 @@ fn signed_value(value: u64, scale: u64, byte: u64) -> u64
     if byte < 64 {
         return low;
     }
-    LAST - (scale * 128 - low - 1)
+    u64::MAX - (scale * 128 - low - 1)
 }
 
 // The signed operand at a place, modulo 2^64.
-pub fn read_line_sleb(program: &[u8], at: usize) -> Operand
+pub fn read_line_sleb(program: &[u8], at: usize) -> Result<Operand, Refusal>
     ensures { ReadsSigned program.now at result }
 {
     let mut value: u64 = 0;
     let mut scale: u64 = 1;
     let mut left: u64 = 9;
     let mut p = at;
+    // Stays a loop: each byte says whether another one follows.
     loop {
         if program.len() <= p {
-            return Operand::Fault(7);
+            return Err(Refusal::Cut);
         }
-        let byte = wide(program[p]);
+        let byte = u64::from(program[p]);
         p += 1;
         if left == 0 {
-            if byte == 0 {
-                return Operand::Value {
-                    value: value,
-                    next: p,
-                };
-            }
-            if byte == 127 {
-                return Operand::Value {
+            return match byte {
+                0 => Ok(Operand { value, next: p }),
+                127 => Ok(Operand {
                     value: value + scale,
                     next: p,
-                };
-            }
-            if byte == 128 {
-                return Operand::Fault(11);
-            }
-            if byte == 255 {
-                return Operand::Fault(11);
-            }
-            return Operand::Fault(10);
+                }),
+                128 | 255 => Err(Refusal::Overlong),
+                _ => Err(Refusal::Overflowing),
+            };
         }
         if byte < 128 {
-            return Operand::Value {
+            return Ok(Operand {
                 value: signed_value(value, scale, byte),
                 next: p,
-            };
+            });
         }
         value += byte % 128 * scale;
         scale *= 128;
@@ -74,18 +58,13 @@ pub fn read_line_sleb(program: &[u8], at: usize) -> Operand
 }
 
 // The number whose bytes stand from one place to below another, lowest first.
-pub fn address_operand(program: &[u8], from: usize, to: usize) -> Offset
+pub fn address_operand(program: &[u8], from: usize, to: usize) -> Option<u64>
     requires { (from ≤ to) × (to ≤ length program.now) }
     ensures { OffsetIs result (le (take (to - from) (drop from program.now))) }
 {
-    let mut p = to;
     let mut value: u64 = 0;
-    while from < p {
-        if TOP_BYTE <= value {
-            return Offset::Past;
-        }
-        p -= 1;
-        value = value * 256 + wide(program[p]);
+    for p in (from..to).rev() {
+        value = value.checked_mul(256)? + u64::from(program[p]);
     }
-    Offset::At(value)
+    Some(value)
 }

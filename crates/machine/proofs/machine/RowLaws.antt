@@ -1,8 +1,9 @@
 -- The rows of a program, one after the other: the bound on instructions does not matter, and one instruction after the other gives them.
-use Rattle.std.proofs.Common.{◌≡◌, ℕ, zero, suc, ◌+◌, ◌-◌, ◌^◌, ◌<◌, ◌≤◌, eqb, ltb, leb, List, [], ◌∷◌, ◌++◌, length, get_or, take, drop, sym, refl, ap, ◌∙◌, arith, length-drop, drop_of_length-le}
+use Rattle.std.proofs.Common.{Result, Ok, Err, Some, None, ◌≡◌, ℕ, zero, suc, ◌+◌, ◌-◌, ◌^◌, ◌<◌, ◌≤◌, eqb, ltb, leb, List, [], ◌∷◌, ◌++◌, length, get_or, take, drop, sym, refl, ap, ◌∙◌, arith, length-drop, drop_of_length-le}
 use Rattle.tlv.specs.Bytes.{le}
 use Rattle.tlv.specs.Outcome.{Outcome, refused, done, ◌>>=◌}
 use Rattle.tlv.specs.Model.{LineRow}
+use Rattle.tlv.specs.declared.refusal.Refusal.{Refusal}
 use Rattle.tlv.proofs.OutcomeLaws.{Gives, gives, gives_none, gives-cond, gives_of, gives-map, gives-bind}
 use Rattle.line_program.specs.Standard.{OperandKind, unsigned, signed, half, Opcodes, operands_of}
 use Rattle.line_program.specs.Program.{uleb, sleb, skip_operand, skip_operands, place_of, take_line_bytes}
@@ -146,46 +147,41 @@ none_before (refused n) = refl
 none_before (done l) = refl
 
 module _ {e : Encoding} {ls s : List ℕ} {r : Registers} {at : ℕ} {q : Registers} {p : ℕ} (R : Running (machine_of e ls (length s)) s r at q p) where
-  pub running-end : length s ≤ p → Emits (machine_of e ls (length s)) s r at Emitted.End
+  pub running-end : length s ≤ p → Emits (machine_of e ls (length s)) s r at (Ok None)
   unfolding rest_rows rows_within
   running-end h = record { is = (rw (drop_of_length-le s {i = p} h) at R.same); within = tt }
 
-  module _ (h : p < length s) {k : Stepped} (T : Turns e q s (p + 1) k (read_instruction (machine_of e ls (length s)) (get_or s p 0) (drop (p + 1) s))) where
-    turned : (turn_of s k >>= onward (machine_of e ls (length s))) ≡ rest_rows (machine_of e ls (length s)) r (drop at s)
-    turned =
+  module _ (h : p < length s) where
+    -- what the instruction at p does
+    abbrev Does : Result Stepped Refusal → Type 0
+    Does k = Turns e q s (p + 1) k (read_instruction (machine_of e ls (length s)) (get_or s p 0) (drop (p + 1) s))
+
+    turned : {k : Result Stepped Refusal} → Does k → (turn_of s k >>= onward (machine_of e ls (length s))) ≡ rest_rows (machine_of e ls (length s)) r (drop at s)
+    turned T =
         ap (λ (y : Outcome Turn). y >>= onward (machine_of e ls (length s))) T.is
         ∙ sym (rows-turn e ls (length s) q (get_or s p 0) (drop (p + 1) s))
         ∙ ap (rest_rows (machine_of e ls (length s)) q) (sym (drop_at s p (get_or s p 0) h refl))
         ∙ R.same
 
-    pub running-quiet : {v : Registers} {next : ℕ} → k ≡ Stepped.Quiet v next → Running (machine_of e ls (length s)) s r at v next
+    pub running-quiet : {v : Registers} {next : ℕ} → Does (Ok (Stepped.Quiet v next)) → Running (machine_of e ls (length s)) s r at v next
     unfolding ◌>>=◌
-    running-quiet {v} {next} is =
-        let Q : Turns e q s (p + 1) (Stepped.Quiet v next) (read_instruction (machine_of e ls (length s)) (get_or s p 0) (drop (p + 1) s)) = rw is at T in
-        record {
-          same = sym (none_before (rest_rows (machine_of e ls (length s)) v (drop next s))) ∙ (rw is at turned);
-          from =
-              omega (arith, R.from, Q.within.0);
-          within = Q.within.1;
-        }
+    running-quiet {v} {next} T = record {
+      same = sym (none_before (rest_rows (machine_of e ls (length s)) v (drop next s))) ∙ turned T;
+      from = omega (arith, R.from, T.within.0);
+      within = T.within.1;
+    }
 
-    pub running-less : {v : Registers} {next : ℕ} → k ≡ Stepped.Quiet v next → length s - next < length s - p
-    running-less {v} {next} is =
-        let Q : Turns e q s (p + 1) (Stepped.Quiet v next) (read_instruction (machine_of e ls (length s)) (get_or s p 0) (drop (p + 1) s)) = rw is at T in
-        omega (arith, Q.within.0)
+    pub running-less : {v : Registers} {next : ℕ} → Does (Ok (Stepped.Quiet v next)) → length s - next < length s - p
+    running-less T = omega (arith, T.within.0)
 
-    pub running-plain : {v : Registers} {next : ℕ} → k ≡ Stepped.Plain v next → Emits (machine_of e ls (length s)) s r at (Emitted.Plain v next)
+    pub running-plain : {v : Registers} {next : ℕ} → Does (Ok (Stepped.Plain v next)) → Emits (machine_of e ls (length s)) s r at (Ok (Some (Emitted.Plain v next)))
     unfolding ◌>>=◌
-    running-plain {v} {next} is =
-        let Q : Turns e q s (p + 1) (Stepped.Plain v next) (read_instruction (machine_of e ls (length s)) (get_or s p 0) (drop (p + 1) s)) = rw is at T in
-        record { is = rw is at turned; within = (omega (arith, R.from, Q.within.0), Q.within.1) }
+    running-plain T = record { is = turned T; within = (omega (arith, R.from, T.within.0), T.within.1) }
 
-    pub running-ended : {v : Registers} {next : ℕ} → k ≡ Stepped.Ended v next → Emits (machine_of e ls (length s)) s r at (Emitted.Ended v next)
+    pub running-ended : {v : Registers} {next : ℕ} → Does (Ok (Stepped.Ended v next)) → Emits (machine_of e ls (length s)) s r at (Ok (Some (Emitted.Ended v next)))
     unfolding ◌>>=◌
-    running-ended {v} {next} is =
-        let Q : Turns e q s (p + 1) (Stepped.Ended v next) (read_instruction (machine_of e ls (length s)) (get_or s p 0) (drop (p + 1) s)) = rw is at T in
-        record { is = rw is at turned; within = (omega (arith, R.from, Q.within.0), Q.within.1) }
+    running-ended T = record { is = turned T; within = (omega (arith, R.from, T.within.0), T.within.1) }
 
-    pub running-fault : {f : ℕ} → k ≡ Stepped.Fault f → Emits (machine_of e ls (length s)) s r at (Emitted.Fault f)
+    pub running-fault : {f : Refusal} → Does (Err f) → Emits (machine_of e ls (length s)) s r at (Err f)
     unfolding ◌>>=◌
-    running-fault is = record { is = rw is at turned; within = tt }
+    running-fault T = record { is = turned T; within = tt }

@@ -1,9 +1,9 @@
 -- The loop of read_line_sleb: what is read so far, and what is left.
-use Rattle.std.proofs.Common.{◌≡◌, ℕ, zero, suc, ◌+◌, ◌-◌, ◌*◌, ◌%◌, ◌^◌, ◌<◌, ◌≤◌, cond, leb, List, [], ◌∷◌, length, get_or, drop, sym, refl, ap, ◌∙◌, mul-le-mul_right, mod-eq_of_lt, mul_assoc, mul_comm, pow-suc, mul-add, arith, drop_of_length-le, le-ltb, lt-ltb, ne_eqb, le-leb}
+use Rattle.std.proofs.Common.{Ok, Err, ◌⊎◌, inl, inr, ◌≡◌, ℕ, zero, suc, ◌+◌, ◌-◌, ◌*◌, ◌%◌, ◌^◌, ◌<◌, ◌≤◌, cond, leb, List, [], ◌∷◌, length, get_or, drop, sym, refl, ap, ◌∙◌, mul-le-mul_right, mod-eq_of_lt, mul_assoc, mul_comm, pow-suc, mul-add, arith, drop_of_length-le, le-ltb, lt-ltb, ne_eqb, le-leb}
 use native.Mathlib.Nat.{add-mul-mod_self_left}
 use borrow.Author.Tests.{lt-leb}
 use Rattle.tlv.specs.Outcome.{Outcome, refused, done, ◌>>=◌}
-use Rattle.line_program.specs.declared.operand.Operand.{Operand}
+use Rattle.tlv.specs.declared.refusal.Refusal.{Refusal}
 use Rattle.line_program.specs.Standard.{Operand as Number, SignedOperand}
 use Rattle.line_program.specs.Program.{sleb_within, sleb}
 use Rattle.line_program.proofs.UlebLaws.{drop_at, roomy}
@@ -46,16 +46,13 @@ unfolding sleb_within
 cut-any zero = refl
 cut-any (suc k) = refl
 
-pub signed_cut : {s : List ℕ} {at v m k p : ℕ} → ReadingSigned s at v m k p → length s ≤ p → ReadsSigned s at (Operand.Fault 7)
+pub signed_cut : {s : List ℕ} {at v m k p : ℕ} → ReadingSigned s at v m k p → length s ≤ p → ReadsSigned s at (Err Refusal.Cut)
 signed_cut {s} {at} {v} {m} {k} {p} R h = record {
   is = sym (R.goes ∙ ap (λ (l : List ℕ). shifted v m (sleb_within k l)) (drop_of_length-le s {i = p} h) ∙ ap (shifted v m) (cut-any k));
   within = tt;
 }
 
 -- the value of a last byte
-pub value_low : (v m b : ℕ) → b < 64 → v + b * m < 2 ^ 63 → v + b * m ≡ (v + m * b + (2 ^ 70 - m * cond (leb 64 b) 128 0)) % 2 ^ 64
-value_low v m b h f = rw (lt-leb 64 b h) (omega (arith, mul_comm b m))
-
 pub value-high : (v m b : ℕ) → 64 ≤ b → v + b * m < m * 128 → m * 128 ≤ 2 ^ 63 → 18446744073709551615 - (m * 128 - (v + b * m) - 1)
     ≡ (v + m * b + (2 ^ 70 - m * cond (leb 64 b) 128 0)) % 2 ^ 64
 value-high v m b h f g = rw (le-leb 64 b h) (omega (arith, mul_comm b m))
@@ -74,7 +71,7 @@ module _ (s : List ℕ) (at v m k p b : ℕ) (R : ReadingSigned s at v m k p) (h
   signed-room n = roomy m k R.scaled n
 
   pub signed-end : (r : ℕ) → (k ≡ 0 → ⊥) → b < 128 → r ≡ (v + m * b + (2 ^ 70 - m * cond (leb 64 b) 128 0)) % 2 ^ 64
-      → ReadsSigned s at (Operand.Value r (p + 1))
+      → ReadsSigned s at (Ok (record { value = r; next = p + 1 }))
   unfolding sleb_within
   signed-end r n l is =
       let z : k ≡ suc (k - 1) = omega arith in
@@ -106,7 +103,7 @@ module _ (s : List ℕ) (at v m k p b : ℕ) (R : ReadingSigned s at v m k p) (h
     pub signed-tenth-fits : v + m < 2 ^ 64
     signed-tenth-fits = omega (arith, scale-is, R.below)
 
-    pub signed-zero : b ≡ 0 → ReadsSigned s at (Operand.Value v (p + 1))
+    pub signed-zero : b ≡ 0 → ReadsSigned s at (Ok (record { value = v; next = p + 1 }))
     unfolding sleb_within
     signed-zero y =
         let q : v ≡ (v + m * 0 + (2 ^ 70 - m * 0)) % 2 ^ 64 = omega (arith, scale-is, R.below) in
@@ -115,7 +112,7 @@ module _ (s : List ℕ) (at v m k p b : ℕ) (R : ReadingSigned s at v m k p) (h
           within = (omega (arith, R.from), omega arith);
         }
 
-    pub signed-minus : b ≡ 127 → ReadsSigned s at (Operand.Value (v + m) (p + 1))
+    pub signed-minus : b ≡ 127 → ReadsSigned s at (Ok (record { value = v + m; next = p + 1 }))
     unfolding sleb_within
     signed-minus y =
         let x : v + m * 127 + (2 ^ 70 - m * 128) ≡ v + m + 2 ^ 64 * 63 = omega (arith, scale-is) in
@@ -126,15 +123,12 @@ module _ (s : List ℕ) (at v m k p b : ℕ) (R : ReadingSigned s at v m k p) (h
           within = (omega (arith, R.from), omega arith);
         }
 
-    pub signed-long-zero : b ≡ 128 → ReadsSigned s at (Operand.Fault 11)
+    pub signed-long : (b ≡ 128) ⊎ (b ≡ 255) → ReadsSigned s at (Err Refusal.Overlong)
     unfolding sleb_within
-    signed-long-zero y = record { is = sym (rw y at (here 0 z)); within = tt }
+    signed-long (inl y) = record { is = sym (rw y at (here 0 z)); within = tt }
+    signed-long (inr y) = record { is = sym (rw y at (here 0 z)); within = tt }
 
-    pub signed-long-minus : b ≡ 255 → ReadsSigned s at (Operand.Fault 11)
-    unfolding sleb_within
-    signed-long-minus y = record { is = sym (rw y at (here 0 z)); within = tt }
-
-    pub signed-overflow : b < 256 → (b ≡ 0 → ⊥) → (b ≡ 127 → ⊥) → (b ≡ 128 → ⊥) → (b ≡ 255 → ⊥) → ReadsSigned s at (Operand.Fault 10)
+    pub signed-overflow : b < 256 → (b ≡ 0 → ⊥) → (b ≡ 127 → ⊥) → (b ≡ 128 → ⊥) → (b ≡ 255 → ⊥) → ReadsSigned s at (Err Refusal.Overflowing)
     unfolding sleb_within
     signed-overflow small n0 n127 n128 n255 =
         record { is = sym (rw (ne_eqb (b % 128) 0 (λ q. go q), ne_eqb (b % 128) 127 (λ q. gone q)) at (here 0 z)); within = tt }

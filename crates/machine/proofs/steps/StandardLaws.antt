@@ -1,7 +1,8 @@
 -- A standard opcode, by its number.
-use Rattle.std.proofs.Common.{◌≡◌, ℕ, suc, ◌-◌, ◌<◌, ◌≤◌, Bool, true, false, eqb, List, length, get_or, drop, refl, arith, ne_eqb, eqb-true}
+use Rattle.std.proofs.Common.{Result, Ok, ◌≡◌, ℕ, suc, ◌-◌, ◌<◌, ◌≤◌, Bool, true, false, eqb, List, length, get_or, drop, refl, arith, ne_eqb, eqb-true}
 use borrow.Author.Tests.{eqb-false}
 use Rattle.tlv.specs.Outcome.{◌>>=◌}
+use Rattle.tlv.specs.declared.refusal.Refusal.{Refusal}
 use Rattle.line_program.specs.Standard.{standard_operands, operands_of}
 use Rattle.machine.specs.declared.registers.Encoding.{Encoding}
 use Rattle.machine.specs.declared.registers.Registers.{Registers}
@@ -12,7 +13,7 @@ use Rattle.machine.specs.Steps.{opcodes_with, turn, Turns, Executes, read_over}
 pub above : (k o : ℕ) → k ≤ o → (o ≡ k → ⊥) → suc k ≤ o
 above k o h n = omega arith
 
-module _ (e : Encoding) (r : Registers) (s ls : List ℕ) (o at : ℕ) (q : Stepped) where
+module _ (e : Encoding) (r : Registers) (s ls : List ℕ) (o at : ℕ) (q : Result Stepped Refusal) where
   abbrev pub Standard : Type 0
   Standard = Turns e r s at q (read_standard (opcodes_with e ls) o (drop at s))
 
@@ -99,6 +100,6 @@ module _ (e : Encoding) (r : Registers) (s ls : List ℕ) (o at : ℕ) (q : Step
       )
       (rw is at T))
 
-pub standard-copy : (e : Encoding) (r : Registers) (s ls : List ℕ) (o at : ℕ) → o ≡ 1 → at ≤ length s → Standard e r s ls o at (Stepped.Plain r at)
+pub standard-copy : (e : Encoding) (r : Registers) (s ls : List ℕ) (o at : ℕ) → o ≡ 1 → at ≤ length s → Standard e r s ls o at (Ok (Stepped.Plain r at))
 unfolding read_standard turn execute ◌>>=◌
 standard-copy e r s ls o at is h = rw is (record { is = refl; within = (omega arith, h) })

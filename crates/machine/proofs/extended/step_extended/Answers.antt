@@ -1,16 +1,17 @@
 -- `extended::step_extended` meets its contract: a length, then as many bytes.
-use Rattle.std.proofs.Common.{arith}
-use Rattle.machine.proofs.ExtendedLaws.{extended-zero, extended-body, extended-fault, extended-within}
+use Rattle.std.proofs.Common.{rules, arith}
+use Rattle.tlv.proofs.AnswerLaws.{handed}
+use Rattle.machine.proofs.ExtendedLaws.{extended-zero, extended-body, extended-fault}
 use Rattle.machine.proofs.extended.step_extended.Goals as goal
 
-pub returns-then-value-eq0 : goal.returns-then-value-eq0
-returns-then-value-eq0 c = search extended-zero
+pub returns-then-length-eq0 : goal.returns-then-length-eq0
+returns-then-length-eq0 c = extended-zero c.in_ok-length.ensures (omega arith)
 
 pub step_body-requires : goal.step_body-requires
-step_body-requires c = (omega arith, search extended-within)
+step_body-requires c = (omega arith, c.in_ok-length.ensures.within.1)
 
-pub returns-else-value-eq0 : goal.returns-else-value-eq0
-returns-else-value-eq0 c = search extended-body
+pub returns : goal.returns
+returns c = extended-body c.in_ok-length.ensures (search rules) c.step_body.ensures
 
-pub returns-in-Fault : goal.returns-in-Fault
-returns-in-Fault c = search extended-fault
+pub returns-in_err-length : goal.returns-in_err-length
+returns-in_err-length c = rw (handed _ _ c.from_residual.ensures.1) (extended-fault c.in_err-length.ensures)

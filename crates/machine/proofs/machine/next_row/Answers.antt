@@ -1,24 +1,22 @@
 -- `machine::next_row` meets its contract: the loop's invariant: the rows from here on are those that were asked for.
+use Rattle.tlv.proofs.AnswerLaws.{handed}
 use Rattle.machine.proofs.machine.RowLaws.{running-start, running-less, running-quiet, running-plain, running-ended, running-fault, running-end}
 use Rattle.machine.proofs.machine.next_row.Goals as goal
 
-pub loop-p-init : goal.loop-p-init
-loop-p-init c = search running-start
-
 pub loop-p-smaller : goal.loop-p-smaller
-loop-p-smaller c = search running-less
+loop-p-smaller c = running-less c.loop-p.invariant c.loop-p-test.true (rw c.in-Quiet.is at c.in_ok-moved.ensures)
 
 pub loop-p-preserved : goal.loop-p-preserved
-loop-p-preserved c = search running-quiet
+loop-p-preserved c = running-quiet c.loop-p.invariant c.loop-p-test.true (rw c.in-Quiet.is at c.in_ok-moved.ensures)
 
 pub returns-in-Plain : goal.returns-in-Plain
-returns-in-Plain c = search running-plain
+returns-in-Plain c = running-plain c.loop-p.invariant c.loop-p-test.true (rw c.in-Plain.is at c.in_ok-moved.ensures)
 
 pub returns-in-Ended : goal.returns-in-Ended
-returns-in-Ended c = search running-ended
+returns-in-Ended c = running-ended c.loop-p.invariant c.loop-p-test.true (rw c.in-Ended.is at c.in_ok-moved.ensures)
 
-pub returns-in-Fault : goal.returns-in-Fault
-returns-in-Fault c = search running-fault
+pub returns-in_err-moved : goal.returns-in_err-moved
+returns-in_err-moved c = rw (handed _ _ c.from_residual.ensures.1) (running-fault c.loop-p.invariant c.loop-p-test.true c.in_err-moved.ensures)
 
 pub returns : goal.returns
 returns c = search running-end

@@ -3,11 +3,11 @@ use Rattle.std.proofs.Common.{arith}
 use Rattle.machine.proofs.ExtendedLaws.{step-extended, step-standard, step-special}
 use Rattle.machine.proofs.machine.step.Goals as goal
 
-pub returns-then-opcode-eq0 : goal.returns-then-opcode-eq0
-returns-then-opcode-eq0 c = search step-extended
+pub returns : goal.returns
+returns c = step-special _ _ _ _ _ _ _ _ c.if-opcode-eq0.false c.if-opcode-e.false (omega arith) c.step_special.ensures
 
 pub returns-then-opcode-e : goal.returns-then-opcode-e
 returns-then-opcode-e c = search step-standard
 
-pub returns : goal.returns
-returns c = step-special _ _ _ _ _ _ _ _ c.if-opcode-eq0.false c.if-opcode-e.false (omega arith) c.step_special.ensures
+pub returns-then-opcode-eq0 : goal.returns-then-opcode-eq0
+returns-then-opcode-eq0 c = search step-extended

@@ -1,6 +1,6 @@
 -- `operands::signed_value` meets its contract: the last byte, with its sign.
 use Rattle.std.proofs.Common.{arith}
-use Rattle.machine.proofs.operands.SlebLaws.{byte-below, value_low, value-high}
+use Rattle.machine.proofs.operands.SlebLaws.{byte-below, value-high}
 use Rattle.machine.proofs.operands.signed_value.Goals as goal
 
 pub overflow_mul-low : goal.overflow_mul-low
@@ -8,10 +8,6 @@ overflow_mul-low c = let S = c in let f = byte-below S.args.value S.args.scale S
 
 pub overflow_add-low : goal.overflow_add-low
 overflow_add-low c = let S = c in let f = byte-below S.args.value S.args.scale S.args.byte S.requires.1 S.requires.0 in omega (arith, S.requires.2)
-
-pub returns-then-byte-lt64 : goal.returns-then-byte-lt64
-returns-then-byte-lt64 c = let f = byte-below c.args.value c.args.scale c.args.byte c.requires.1 c.requires.0 in
-    value_low c.args.value c.args.scale c.args.byte (omega arith) (omega (arith, c.requires.2))
 
 pub overflow_sub-result : goal.overflow_sub-result
 overflow_sub-result c = let f = byte-below c.args.value c.args.scale c.args.byte c.requires.1 c.requires.0 in omega arith

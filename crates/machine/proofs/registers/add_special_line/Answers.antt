@@ -4,11 +4,11 @@ use Rattle.machine.proofs.RegisterLaws.{special-up, special-down}
 use Rattle.machine.proofs.registers.add_special_line.Goals as goal
 
 pub returns-then-e-ge-NEGATIVE : goal.returns-then-e-ge-NEGATIVE
-returns-then-e-ge-NEGATIVE c = let up = c.wide.result + c.wide-2.result in
+returns-then-e-ge-NEGATIVE c = let up = c.from.result + c.from-2.result in
     let is : up ≡ c.args.e.line_base + c.args.adjusted % c.args.e.line_range = omega arith in
     c.add_line-then-e-ge-NEGATIVE.ensures ∙ rw c.add_line.ensures (special-down c.args.e c.args.r c.args.adjusted up is (omega arith))
 
 pub returns : goal.returns
-returns c = let up = c.wide.result + c.wide-2.result in
+returns c = let up = c.from.result + c.from-2.result in
     let is : up ≡ c.args.e.line_base + c.args.adjusted % c.args.e.line_range = omega arith in
     c.add_line-2.ensures ∙ special-up c.args.e c.args.r c.args.adjusted up is (omega arith)

@@ -1,9 +1,10 @@
 -- `steps::step_advance_line` meets its contract: a signed operand, added.
+use Rattle.tlv.proofs.AnswerLaws.{handed}
 use Rattle.machine.proofs.StepLaws.{line-steps, line-fault}
 use Rattle.machine.proofs.steps.step_advance_line.Goals as goal
 
-pub returns-in-Value : goal.returns-in-Value
-returns-in-Value c = search line-steps
+pub returns : goal.returns
+returns c = line-steps c.in_ok-lines.ensures c.add_line.ensures
 
-pub returns-in-Fault : goal.returns-in-Fault
-returns-in-Fault c = search line-fault
+pub returns-in_err-lines : goal.returns-in_err-lines
+returns-in_err-lines c = rw (handed _ _ c.from_residual.ensures.1) (line-fault c.in_err-lines.ensures)

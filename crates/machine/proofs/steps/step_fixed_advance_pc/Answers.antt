@@ -1,13 +1,14 @@
 -- `steps::step_fixed_advance_pc` meets its contract: two bytes, then a move.
-use Rattle.std.proofs.Common.{◌≡◌, ◌+◌, ◌*◌, get_or, arith}
+use Rattle.std.proofs.Common.{◌∙◌, arith, Ok, Err}
+use Rattle.tlv.proofs.AnswerLaws.{handed}
 use Rattle.machine.proofs.StepLaws.{half_cut, half_steps}
 use Rattle.machine.proofs.steps.step_fixed_advance_pc.Goals as goal
 
+pub returns : goal.returns
+returns c = half_steps (Ok _) c.requires (omega arith) (c.from.ensures ∙ c.read.ensures) c.in_ok-registers.ensures
+
+pub returns-in_err-registers : goal.returns-in_err-registers
+returns-in_err-registers c = rw (handed _ _ c.from_residual.ensures.1) (half_steps (Err _) c.requires (omega arith) (c.from.ensures ∙ c.read.ensures) c.in_err-registers.ensures)
+
 pub returns-then-program-at-lt2 : goal.returns-then-program-at-lt2
 returns-then-program-at-lt2 c = search half_cut
-
-pub returns : goal.returns
-returns c = let value : c.wide.result + 256 * c.wide-2.result ≡ get_or c.args.program.now c.args.at 0 + 256 * get_or c.args.program.now (c.args.at + 1) 0 =
-    omega arith in
-    half_steps c.args.e c.args.r c.args.program.now c.args.at _ c.move_by.result c.quiet.result c.requires (omega arith) value c.move_by.ensures
-    c.quiet.ensures

@@ -1,12 +1,10 @@
 -- `steps::step_over` meets its contract: operands that are passed over.
-use Rattle.machine.proofs.StepLaws.{over-steps, over-ended, over-fault}
+use Rattle.tlv.proofs.AnswerLaws.{handed}
+use Rattle.machine.proofs.StepLaws.{over-steps, over-fault}
 use Rattle.machine.proofs.steps.step_over.Goals as goal
 
-pub returns-in-To : goal.returns-in-To
-returns-in-To c = search over-steps
+pub returns : goal.returns
+returns c = over-steps _ c.in_ok-next.ensures
 
-pub returns-in-Ended : goal.returns-in-Ended
-returns-in-Ended c = search over-ended
-
-pub returns-in-Fault : goal.returns-in-Fault
-returns-in-Fault c = search over-fault
+pub returns-in_err-next : goal.returns-in_err-next
+returns-in_err-next c = rw (handed _ _ c.from_residual.ensures.1) (over-fault _ c.in_err-next.ensures)

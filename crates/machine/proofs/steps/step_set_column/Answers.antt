@@ -1,9 +1,10 @@
 -- `steps::step_set_column` meets its contract: an operand, kept.
+use Rattle.tlv.proofs.AnswerLaws.{handed}
 use Rattle.machine.proofs.StepLaws.{column-steps, unsigned-fault}
 use Rattle.machine.proofs.steps.step_set_column.Goals as goal
 
-pub returns-in-Value : goal.returns-in-Value
-returns-in-Value c = search column-steps
+pub returns : goal.returns
+returns c = column-steps c.in_ok-column.ensures
 
-pub returns-in-Fault : goal.returns-in-Fault
-returns-in-Fault c = search unsigned-fault
+pub returns-in_err-column : goal.returns-in_err-column
+returns-in_err-column c = rw (handed _ _ c.from_residual.ensures.1) (unsigned-fault _ c.in_err-column.ensures)

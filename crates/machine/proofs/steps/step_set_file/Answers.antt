@@ -1,9 +1,10 @@
 -- `steps::step_set_file` meets its contract: an operand, kept.
+use Rattle.tlv.proofs.AnswerLaws.{handed}
 use Rattle.machine.proofs.StepLaws.{file-steps, unsigned-fault}
 use Rattle.machine.proofs.steps.step_set_file.Goals as goal
 
-pub returns-in-Value : goal.returns-in-Value
-returns-in-Value c = search file-steps
+pub returns : goal.returns
+returns c = file-steps c.in_ok-file.ensures
 
-pub returns-in-Fault : goal.returns-in-Fault
-returns-in-Fault c = search unsigned-fault
+pub returns-in_err-file : goal.returns-in_err-file
+returns-in_err-file c = rw (handed _ _ c.from_residual.ensures.1) (unsigned-fault _ c.in_err-file.ensures)

@@ -8,6 +8,19 @@ use Rattle.machine.proofs.steps.step_standard.Goals.{in_default-via-then-opcode-
 pub returns-in-1 : goal.returns-in-1
 returns-in-1 c = standard-copy _ _ _ _ _ _ c.in-1.is c.requires.2
 
+pub returns-in-6 : goal.returns-in-6
+returns-in-6 c = let low = above 5 c.args.opcode (above 4 c.args.opcode (above 3 c.args.opcode (above 2 c.args.opcode (above 1 c.args.opcode c.in-6.if-opcode-lt1-own.false c.in-6.in_default-own.rest.0.0.0.0.0.0.0.1) c.in-6.in_default-own.rest.0.0.0.0.0.0.1)
+    c.in-6.in_default-own.rest.0.0.0.0.0.1) c.in-6.in_default-own.rest.0.0.0.0.1) c.in-6.in_default-own.rest.0.0.0.1 in
+    standard-none _ _ _ _ _ _ _ c.in-6.in_default-own.rest.0.0.1 c.in-6.in_default-own.rest.0.1 low c.in-6.if-opcode-lt12-own.true c.step_over-in-6.ensures
+
+pub returns-in_default : goal.returns-in_default
+returns-in_default c = let rest = c.in_default-1.rest.1 in
+    let high : 12 < c.args.opcode = elim c.in_default.branch [ in_default-via-then-opcode-lt1 w ↦ absurd (omega (arith, c.requires.1)) | in_default-via-else-opcode-lt1+else-opcode-lt12 w ↦ above 12 _ (omega arith) rest ] in
+    standard-unknown _ _ _ _ _ _ _ _ c.operand_count.ensures high c.step_over-in_default.ensures
+
+pub returns-in-12 : goal.returns-in-12
+returns-in-12 c = search standard-isa
+
 pub returns-in-2 : goal.returns-in-2
 returns-in-2 c = search standard-advance
 
@@ -25,16 +38,3 @@ returns-in-8 c = search standard-const
 
 pub returns-in-9 : goal.returns-in-9
 returns-in-9 c = search standard-half
-
-pub returns-in-12 : goal.returns-in-12
-returns-in-12 c = search standard-isa
-
-pub returns-in-6 : goal.returns-in-6
-returns-in-6 c = let low = above 5 c.args.opcode (above 4 c.args.opcode (above 3 c.args.opcode (above 2 c.args.opcode (above 1 c.args.opcode c.in-6.if-opcode-lt1-own.false c.in-6.in_default-own.rest.0.0.0.0.0.0.0.1) c.in-6.in_default-own.rest.0.0.0.0.0.0.1)
-    c.in-6.in_default-own.rest.0.0.0.0.0.1) c.in-6.in_default-own.rest.0.0.0.0.1) c.in-6.in_default-own.rest.0.0.0.1 in
-    standard-none _ _ _ _ _ _ _ c.in-6.in_default-own.rest.0.0.1 c.in-6.in_default-own.rest.0.1 low c.in-6.if-opcode-lt12-own.true c.step_over-in-6.ensures
-
-pub returns-in_default : goal.returns-in_default
-returns-in_default c = let rest = c.in_default-1.rest.1 in
-    let high : 12 < c.args.opcode = elim c.in_default.branch [ in_default-via-then-opcode-lt1 w ↦ absurd (omega (arith, c.requires.1)) | in_default-via-else-opcode-lt1+else-opcode-lt12 w ↦ above 12 _ (omega arith) rest ] in
-    standard-unknown _ _ _ _ _ _ _ _ c.operand_count-n.ensures high c.step_over-in_default.ensures
