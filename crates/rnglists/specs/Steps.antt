@@ -1,25 +1,26 @@
 -- Contract. What the functions of range lists promise: a place stands for the bytes from there on.
-use Rattle.std.specs.Prelude.{ℕ, ◌+◌, ◌≤◌, ◌<◌, ◌≡◌, cond, ◌||◌, List, [], length, drop, ltb, eqb}
+use Rattle.std.specs.Prelude.{Result, Ok, Err, Option, Some, None, ℕ, ◌+◌, ◌≤◌, ◌<◌, ◌≡◌, cond, ◌||◌, List, [], length, drop, ltb, eqb}
 use Rattle.tlv.specs.Outcome.{Outcome, refused, done}
 use Rattle.tlv.specs.Model.{EntryRange}
+use Rattle.tlv.specs.declared.refusal.Refusal.{Refusal}
+use Rattle.tlv.specs.Refusals.{number_of, outcome_of}
 use Rattle.line_program.specs.declared.operand.Operand.{Operand}
 use Rattle.line_program.specs.Scan.{operand_of}
 use Rattle.rnglists.specs.declared.entries.ListEntry.{ListEntry}
-use Rattle.rnglists.specs.declared.lists.Found.{Found}
 use Rattle.rnglists.specs.declared.lists.Meant.{Meant}
-use Rattle.rnglists.specs.declared.lists.NextRange.{NextRange}
+use Rattle.rnglists.specs.declared.lists.ListRange.{ListRange}
 use Rattle.rnglists.specs.Standard.{Slot, nothing, number, address, RawEntry, Meaning, ends, base, bounded}
 use Rattle.rnglists.specs.RangeLists.{read_operand, read_entry, address_at, largest, bounded_by, offset_pair, meaning_of, ListRanges, faulty, and_before}
 use Rattle.rnglists.specs.RangeLists.{ranges_in}
 
 -- ---- operands and entries
 
-abbrev pub OperandWithin : List ℕ → ℕ → Operand → Type 0
-OperandWithin s at (Operand.Value v next) = (at ≤ next) × (next ≤ length s)
-OperandWithin s at (Operand.Fault n) = Unit
+abbrev pub OperandWithin : List ℕ → ℕ → Result Operand Refusal → Type 0
+OperandWithin s at (Ok o) = (at ≤ o.next) × (o.next ≤ length s)
+OperandWithin s at (Err e) = Unit
 
 -- r is the operand of a slot at a place
-pub record ReadsOperand (s : List ℕ) (at size : ℕ) (x : Slot) (r : Operand) : Type 0 where
+pub record ReadsOperand (s : List ℕ) (at size : ℕ) (x : Slot) (r : Result Operand Refusal) : Type 0 where
   pub is : operand_of s r ≡ read_operand size x (drop at s)
   pub within : OperandWithin s at r
 
@@ -30,64 +31,59 @@ first_slot k = cond (eqb k 0) nothing (cond (ltb k 5) number address)
 unfoldable pub second_slot : ℕ → Slot
 second_slot k = cond (eqb k 0 || eqb k 1 || eqb k 5) nothing (cond (eqb k 6) address number)
 
-abbrev pub entry_of : List ℕ → ListEntry → Outcome RawEntry
-entry_of s (ListEntry.Entry k a b next) = done (record { kind = k; first = a; second = b; rest = drop next s })
-entry_of s (ListEntry.Fault n) = refused n
+-- an entry, before the bytes that follow it
+abbrev pub raw_entry : ListEntry → List ℕ → RawEntry
+raw_entry e rest = record { kind = e.kind; first = e.first; second = e.second; rest = rest }
 
-abbrev pub EntryWithin : List ℕ → ℕ → ListEntry → Type 0
-EntryWithin s at (ListEntry.Entry k a b next) = (at < next) × (next ≤ length s)
-EntryWithin s at (ListEntry.Fault n) = Unit
+abbrev pub entry_of : List ℕ → Result ListEntry Refusal → Outcome RawEntry
+entry_of s (Ok e) = done (raw_entry e (drop e.next s))
+entry_of s (Err e) = refused (number_of e)
 
-pub record ReadsEntry (s : List ℕ) (at size : ℕ) (r : ListEntry) : Type 0 where
+abbrev pub EntryWithin : List ℕ → ℕ → Result ListEntry Refusal → Type 0
+EntryWithin s at (Ok e) = (at < e.next) × (e.next ≤ length s)
+EntryWithin s at (Err e) = Unit
+
+pub record ReadsEntry (s : List ℕ) (at size : ℕ) (r : Result ListEntry Refusal) : Type 0 where
   pub is : entry_of s r ≡ read_entry size (drop at s)
   pub within : EntryWithin s at r
 
 -- ---- meanings
 
-abbrev pub address_given : Found → Outcome ℕ
-address_given (Found.At a) = done a
-address_given Found.Past = refused 24
-
-abbrev pub meaning_given : Meant → Outcome (Meaning EntryRange)
-meaning_given Meant.End = done ends
-meaning_given (Meant.Base b) = done (base b)
-meaning_given (Meant.Range a b dead) = done (bounded (record { range = record { start = a; end = b }; tombstone = dead }))
-meaning_given (Meant.Fault n) = refused n
+abbrev pub meaning_given : Result Meant Refusal → Outcome (Meaning EntryRange)
+meaning_given (Ok Meant.End) = done ends
+meaning_given (Ok (Meant.Base b)) = done (base b)
+meaning_given (Ok (Meant.Range r dead)) = done (bounded (record { range = r; tombstone = dead }))
+meaning_given (Err e) = refused (number_of e)
 
 -- r is a range from a to b, where `top` is the largest address of the size
-pub record SaysBounded (top a b : ℕ) (r : Meant) : Type 0 where
+pub record SaysBounded (top a b : ℕ) (r : Result Meant Refusal) : Type 0 where
   pub is : (size : ℕ) → top ≡ largest size → meaning_given r ≡ bounded_by size a b
 
 -- r is the offset pair of a and b from a base address
-pub record SaysPair (top from a b : ℕ) (r : Meant) : Type 0 where
+pub record SaysPair (top from a b : ℕ) (r : Result Meant Refusal) : Type 0 where
   pub is : (size : ℕ) → top ≡ largest size → meaning_given r ≡ offset_pair size from a b
 
 -- r is the address of an index of the table, from a place on
-pub record FindsAddress (table : List ℕ) (place size i : ℕ) (r : Found) : Type 0 where
-  pub is : address_given r ≡ address_at size (drop place table) i
+pub record FindsAddress (table : List ℕ) (place size i : ℕ) (r : Result ℕ Refusal) : Type 0 where
+  pub is : outcome_of r ≡ address_at size (drop place table) i
 
--- an entry without what follows it
-abbrev pub raw_entry : ℕ → ℕ → ℕ → RawEntry
-raw_entry k a b = record { kind = k; first = a; second = b; rest = [] }
-
--- r is what an entry says
-pub record Says (table : List ℕ) (place size from k a b : ℕ) (r : Meant) : Type 0 where
-  pub is : meaning_given r ≡ meaning_of size (drop place table) from (raw_entry k a b)
+-- r is what an entry says, whatever follows it
+pub record Says (table : List ℕ) (place size from : ℕ) (e : ListEntry) (r : Result Meant Refusal) : Type 0 where
+  pub is : meaning_given r ≡ meaning_of size (drop place table) from (raw_entry e [])
 
 -- ---- a list, a range at a time
 
 -- what the next range and the list behind it give
-abbrev pub ranges_of : List ℕ → List ℕ → ℕ → NextRange → ListRanges
-ranges_of s table size NextRange.End = faulty 0
-ranges_of s table size (NextRange.Range a b dead next from) =
-    and_before (record { range = record { start = a; end = b }; tombstone = dead }) (ranges_in size table from (drop next s))
-ranges_of s table size (NextRange.Fault n) = faulty n
+abbrev pub ranges_of : List ℕ → List ℕ → ℕ → Result (Option ListRange) Refusal → ListRanges
+ranges_of s table size (Ok None) = faulty 0
+ranges_of s table size (Ok (Some r)) = and_before (record { range = r.range; tombstone = r.dead }) (ranges_in size table r.base (drop r.next s))
+ranges_of s table size (Err e) = faulty (number_of e)
 
-abbrev pub NextWithin : List ℕ → ℕ → NextRange → Type 0
-NextWithin s at NextRange.End = Unit
-NextWithin s at (NextRange.Range a b dead next from) = (at + 3 ≤ next) × (next ≤ length s)
-NextWithin s at (NextRange.Fault n) = 7 ≤ n
+abbrev pub NextWithin : List ℕ → ℕ → Result (Option ListRange) Refusal → Type 0
+NextWithin s at (Ok None) = Unit
+NextWithin s at (Ok (Some r)) = (at + 3 ≤ r.next) × (r.next ≤ length s)
+NextWithin s at (Err e) = 7 ≤ number_of e
 
-pub record NextIs (s addresses : List ℕ) (place size at from : ℕ) (r : NextRange) : Type 0 where
+pub record NextIs (s addresses : List ℕ) (place size at from : ℕ) (r : Result (Option ListRange) Refusal) : Type 0 where
   pub is : ranges_of s (drop place addresses) size r ≡ ranges_in size (drop place addresses) from (drop at s)
   pub within : NextWithin s at r

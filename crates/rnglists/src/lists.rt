@@ -1,139 +1,102 @@
 // A range list, a range at a time (DWARF 5, 2.17.3).
 ghost use Rattle.std.specs.Prelude.{◌≡◌, ◌⊎◌, ◌+◌};
-ghost use Rattle.rnglists.specs.RangeLists.{largest};
+ghost use Rattle.rnglists.specs.Sizes.{width_of};
 ghost use Rattle.rnglists.specs.Steps.{SaysBounded, SaysPair, FindsAddress, Says, NextIs};
 
-use crate::entries::ListEntry;
+use crate::entries::{ListEntry, read_entry};
+use crate::sizes::AddressSize;
+use tlv::model::AddressRange;
+use tlv::refusal::Refusal;
 
 // The fewest bytes of a list that give a range.
 pub const RANGE_LEAST: usize = 3;
 
-// An address of the table, or 24.
-#[derive(Clone, Copy)]
-pub enum Found {
-    At(u64),
-    Past,
-}
-
-// What an entry says: the list ends; the base address changes; a range, and whether it is dead; or the fault, 24 or 25.
+// What an entry says: the list ends; the base address changes; a range, and whether it is dead.
 #[derive(Clone, Copy)]
 pub enum Meant {
     End,
     Base(u64),
-    Range { start: u64, end: u64, dead: bool },
-    Fault(u8),
+    Range { range: AddressRange, dead: bool },
 }
 
-// The next range of a list, with the place and the base address behind it; the list's end; or the fault.
+// A range of a list, and whether it is dead, with the place and the base address behind it.
 #[derive(Clone, Copy)]
-pub enum NextRange {
-    End,
-    Range {
-        start: u64,
-        end: u64,
-        dead: bool,
-        next: usize,
-        base: u64,
-    },
-    Fault(u8),
-}
-
-// The largest address of a size: all ones.
-fn largest_of(size: u8) -> u64
-    requires { (size ≡ 4) ⊎ (size ≡ 8) }
-    ensures { result ≡ largest size }
-{
-    if size == 4 {
-        return 4294967295;
-    }
-    18446744073709551615
+pub struct ListRange {
+    pub range: AddressRange,
+    pub dead: bool,
+    pub next: usize,
+    pub base: u64,
 }
 
 // The address of an index, counted from a byte place of the table on.
-fn address_at(table: &[u8], place: u64, index: u64, size: u8) -> Found
-    requires { (size ≡ 4) ⊎ (size ≡ 8) }
-    ensures { FindsAddress table.now place size index result }
+fn address_at(table: &[u8], place: u64, index: u64, size: AddressSize) -> Result<u64, Refusal>
+    ensures { FindsAddress table.now place (width_of size) index result }
 {
     let len = table.len() as u64;
     if len < place {
-        return Found::Past;
+        return Err(Refusal::NoAddress);
     }
     let room = len - place;
-    if size == 4 {
-        if room / 4 <= index {
-            return Found::Past;
-        }
-        let p = (place + index * 4) as usize;
-        return Found::At(tlv::bytes::read_u32(table, p) as u64);
+    let width = size.width() as u64;
+    if room / width <= index {
+        return Err(Refusal::NoAddress);
     }
-    if room / 8 <= index {
-        return Found::Past;
-    }
-    let p = (place + index * 8) as usize;
-    Found::At(tlv::bytes::read_u64(table, p))
+    Ok(size.read(table, (place + index * width) as usize))
 }
 
 // A range between two addresses of a size whose largest one is `top`.
-fn bounded(top: u64, start: u64, end: u64) -> Meant
+fn bounded(top: u64, start: u64, end: u64) -> Result<Meant, Refusal>
     ensures { SaysBounded top start end result }
 {
     if start == top {
-        return Meant::Range {
-            start: top,
-            end: top,
+        return Ok(Meant::Range {
+            range: AddressRange { start, end: top },
             dead: true,
-        };
+        });
     }
-    if top < start {
-        return Meant::Fault(25);
+    if top < start || top < end {
+        return Err(Refusal::WideAddress);
     }
-    if top < end {
-        return Meant::Fault(25);
-    }
-    Meant::Range {
-        start: start,
-        end: end,
+    Ok(Meant::Range {
+        range: AddressRange { start, end },
         dead: false,
-    }
+    })
 }
 
 // A range by its start and its length.
-fn bounded_length(top: u64, start: u64, size: u64) -> Meant
+fn bounded_length(top: u64, start: u64, size: u64) -> Result<Meant, Refusal>
     ensures { SaysBounded top start (start + size) result }
 {
     if start == top {
         return bounded(top, start, start);
     }
-    if top < start {
-        return Meant::Fault(25);
-    }
-    if top - start < size {
-        return Meant::Fault(25);
+    if top < start || top - start < size {
+        return Err(Refusal::WideAddress);
     }
     bounded(top, start, start + size)
 }
 
 // An offset pair from a base address.
 #[tactic(auto, using(crate::proofs::lists::MeaningLaws::pairs))]
-fn offset_pair(top: u64, base: u64, first: u64, second: u64) -> Meant
+fn offset_pair(top: u64, base: u64, first: u64, second: u64) -> Result<Meant, Refusal>
     ensures { SaysPair top base first second result }
 {
     if base == top {
         return bounded(top, top, top);
     }
     if top < base {
-        return Meant::Fault(25);
+        return Err(Refusal::WideAddress);
     }
     let room = top - base;
     if room < first {
-        return Meant::Fault(25);
+        return Err(Refusal::WideAddress);
     }
     let start = base + first;
     if start == top {
         return bounded(top, start, start);
     }
     if room < second {
-        return Meant::Fault(25);
+        return Err(Refusal::WideAddress);
     }
     bounded(top, start, base + second)
 }
@@ -142,41 +105,36 @@ fn offset_pair(top: u64, base: u64, first: u64, second: u64) -> Meant
 fn meaning_of(
     addresses: &[u8],
     place: u64,
-    size: u8,
+    size: AddressSize,
     base: u64,
-    kind: u8,
-    first: u64,
-    second: u64,
-) -> Meant
-    requires { (size ≡ 4) ⊎ (size ≡ 8) }
-    ensures { Says addresses.now place size base kind first second result }
+    entry: ListEntry,
+) -> Result<Meant, Refusal>
+    ensures { Says addresses.now place (width_of size) base entry result }
 {
-    let top = largest_of(size);
-    match kind {
-        0 => Meant::End,
-        1 => match address_at(addresses, place, first, size) {
-            Found::Past => Meant::Fault(24),
-            Found::At(a) => Meant::Base(a),
-        },
-        2 => match address_at(addresses, place, first, size) {
-            Found::Past => Meant::Fault(24),
-            Found::At(a) => match address_at(addresses, place, second, size) {
-                Found::Past => Meant::Fault(24),
-                Found::At(b) => bounded(top, a, b),
-            },
-        },
-        3 => match address_at(addresses, place, first, size) {
-            Found::Past => Meant::Fault(24),
-            Found::At(a) => bounded_length(top, a, second),
-        },
-        4 => offset_pair(top, base, first, second),
-        5 => Meant::Base(first),
-        6 => bounded(top, first, second),
-        _ => bounded_length(top, first, second),
+    let top = size.largest();
+    match entry.kind {
+        0 => Ok(Meant::End),
+        1 => {
+            let base = address_at(addresses, place, entry.first, size)?;
+            Ok(Meant::Base(base))
+        }
+        2 => {
+            let start = address_at(addresses, place, entry.first, size)?;
+            let end = address_at(addresses, place, entry.second, size)?;
+            bounded(top, start, end)
+        }
+        3 => {
+            let start = address_at(addresses, place, entry.first, size)?;
+            bounded_length(top, start, entry.second)
+        }
+        4 => offset_pair(top, base, entry.first, entry.second),
+        5 => Ok(Meant::Base(entry.first)),
+        6 => bounded(top, entry.first, entry.second),
+        _ => bounded_length(top, entry.first, entry.second),
     }
 }
 
-// The next range of the list at a place, from a base address.
+// The next range of the list at a place, from a base address; none at the list's end.
 pub fn next_range(
     lists: &[u8],
     addresses: &[u8],
@@ -184,43 +142,32 @@ pub fn next_range(
     size: u8,
     at: usize,
     base: u64,
-) -> NextRange
+) -> Result<Option<ListRange>, Refusal>
     requires { (size ≡ 4) ⊎ (size ≡ 8) }
     ensures { NextIs lists.now addresses.now place size at base result }
 {
+    let width = AddressSize::of(size);
     let mut p = at;
-    let mut from = base;
+    let mut base = base;
+    // Stays a loop: each entry's own length moves the place.
     loop {
-        match crate::entries::read_entry(lists, p, size) {
-            ListEntry::Fault(n) => {
-                return NextRange::Fault(n);
+        let entry = read_entry(lists, p, width)?;
+        match meaning_of(addresses, place, width, base, entry)? {
+            Meant::End => {
+                return Ok(None);
             }
-            ListEntry::Entry {
-                kind,
-                first,
-                second,
-                next,
-            } => match meaning_of(addresses, place, size, from, kind, first, second) {
-                Meant::Fault(n) => {
-                    return NextRange::Fault(n);
-                }
-                Meant::End => {
-                    return NextRange::End;
-                }
-                Meant::Base(b) => {
-                    from = b;
-                    p = next;
-                }
-                Meant::Range { start, end, dead } => {
-                    return NextRange::Range {
-                        start: start,
-                        end: end,
-                        dead: dead,
-                        next: next,
-                        base: from,
-                    };
-                }
-            },
+            Meant::Base(next) => {
+                base = next;
+                p = entry.next;
+            }
+            Meant::Range { range, dead } => {
+                return Ok(Some(ListRange {
+                    range,
+                    dead,
+                    next: entry.next,
+                    base,
+                }));
+            }
         }
     }
 }

@@ -10,12 +10,13 @@ use borrow.Author.Tests.{eq-eqb, ne_eqb, eqb-false, lt-ltb, le-ltb, le-leb, lt-l
 use lib.Dec.{eqb}
 use lib.ListN.{length, get_or, drop, length-drop, drop_of_length-le}
 use lib.Seq.{drop-drop}
+use Rattle.std.specs.Prelude.{Result, Ok, Err}
 use Rattle.tlv.specs.Outcome.{◌>>=◌}
+use Rattle.tlv.specs.declared.refusal.Refusal.{Refusal}
 use Rattle.tlv.specs.Bytes.{le_at}
 use Rattle.line_program.specs.declared.operand.Operand.{Operand}
 use Rattle.line_program.specs.Scan.{Reads, OperandWithin as OperandRead}
 use Rattle.line_program.proofs.UlebLaws.{drop_at}
-use Rattle.rnglists.specs.declared.entries.ListEntry.{ListEntry}
 use Rattle.rnglists.specs.Standard.{Slot, nothing, number, address, Slots, slots, slots_of}
 use Rattle.rnglists.specs.RangeLists.{read_operand, read_operands, read_entry}
 use Rattle.rnglists.specs.Steps.{OperandWithin, ReadsOperand, first_slot, second_slot, ReadsEntry}
@@ -23,32 +24,15 @@ use Rattle.rnglists.proofs.EntryLaws.{KindIs, kind0, kind1, kind2, kind3, kind4,
 
 -- ---- an address
 
-eight : {size : ℕ} → (size ≡ 4) ⊎ (size ≡ 8) → (size ≡ 4 → ⊥) → size ≡ 8
-eight (inl e) h = absurd (h e)
-eight (inr e) h = e
-
 module _ {s : List ℕ} {at size : ℕ} where
-  address-cut : length s - at < size → ReadsOperand s at size address (Operand.Fault 23)
+  pub address-cut : length s - at < size → ReadsOperand s at size address (Err Refusal.CutList)
   unfolding read_operand
   address-cut h = record { is = sym (rw (length-drop at s, lt-leb size (length s - at) h)); within = tt }
 
-  address_is : {v : ℕ} → at ≤ length s → size ≤ length s - at → v ≡ le_at size s at → ReadsOperand s at size address (Operand.Value v (at + size))
+  pub address_is : {v : ℕ} → at ≤ length s → size ≤ length s - at → v ≡ le_at size s at
+      → ReadsOperand s at size address (Ok (record { value = v; next = at + size }))
   unfolding read_operand le_at
   address_is l h e = record { is = sym (rw (length-drop at s, le-leb size (length s - at) h, e, drop-drop size at s)); within = (omega arith, omega arith) }
-
-  pub cut-four : size ≡ 4 → length s - at < 4 → ReadsOperand s at size address (Operand.Fault 23)
-  cut-four e h = address-cut (omega arith)
-
-  pub read-four : {v : ℕ} → size ≡ 4 → at ≤ length s → 4 ≤ length s - at → v ≡ le_at 4 s at → ReadsOperand s at size address (Operand.Value v (at + 4))
-  read-four {v} e l h f = let q : ReadsOperand s at size address (Operand.Value v (at + size)) = address_is l (omega arith) (f ∙ ap (λ (k : ℕ). le_at k s at) (sym e)) in subst (λ (k : ℕ). ReadsOperand s at size address (Operand.Value v (at + k))) e q
-
-  pub cut-eight : (size ≡ 4) ⊎ (size ≡ 8) → (size ≡ 4 → ⊥) → length s - at < 8 → ReadsOperand s at size address (Operand.Fault 23)
-  cut-eight w n h = address-cut (omega (arith, eight w n))
-
-  pub read-eight : {v : ℕ} → (size ≡ 4) ⊎ (size ≡ 8) → (size ≡ 4 → ⊥) → at ≤ length s → 8 ≤ length s - at → v ≡ le_at 8 s at → ReadsOperand s at size address (Operand.Value v (at + 8))
-  read-eight {v} w n l h f =
-      let e = eight w n in
-      let q : ReadsOperand s at size address (Operand.Value v (at + size)) = address_is l (omega arith) (f ∙ ap (λ (k : ℕ). le_at k s at) (sym e)) in subst (λ (k : ℕ). ReadsOperand s at size address (Operand.Value v (at + k))) e q
 
 -- ---- the operands of a kind
 
@@ -82,48 +66,45 @@ unknown-slots k h = go (slots_of k) (kind-is k)
     go o (other l) = refl
 
 module _ {s : List ℕ} {at size : ℕ} where
-  nothing_read : at ≤ length s → ReadsOperand s at size nothing (Operand.Value 0 at)
+  nothing_read : at ≤ length s → ReadsOperand s at size nothing (Ok (record { value = 0; next = at }))
   unfolding read_operand
   nothing_read h = record { is = refl; within = (omega arith, h) }
 
-  number_read : {r : Operand} → Reads s at r → ReadsOperand s at size number r
+  number_read : {r : Result Operand Refusal} → Reads s at r → ReadsOperand s at size number r
   unfolding read_operand
   number_read {r} R = record { is = R.is; within = go r R.within }
     where
-      go : (r : Operand) → OperandRead s at r → OperandWithin s at r
-      go (Operand.Value v next) w = (omega (arith, w.0), w.1)
-      go (Operand.Fault n) w = tt
+      go : (r : Result Operand Refusal) → OperandRead s at r → OperandWithin s at r
+      go (Ok o) w = (omega (arith, w.0), w.1)
+      go (Err f) w = tt
 
   module _ {k : ℕ} where
-    pub first-none : k ≡ 0 → at ≤ length s → ReadsOperand s at size (first_slot k) (Operand.Value 0 at)
+    pub first-none : k ≡ 0 → at ≤ length s → ReadsOperand s at size (first_slot k) (Ok (record { value = 0; next = at }))
     unfolding first_slot
     first-none e h = rw e (nothing_read h)
 
-    pub first-number : {r : Operand} → (k ≡ 0 → ⊥) → k < 5 → Reads s at r → ReadsOperand s at size (first_slot k) r
+    pub first-number : {r : Result Operand Refusal} → (k ≡ 0 → ⊥) → k < 5 → Reads s at r → ReadsOperand s at size (first_slot k) r
     unfolding first_slot
     first-number n h R = rw (ne_eqb k 0 n, lt-ltb k 5 h) (number_read R)
 
-    pub first-address : {r : Operand} → (k ≡ 0 → ⊥) → 5 ≤ k → ReadsOperand s at size address r → ReadsOperand s at size (first_slot k) r
+    pub first-address : {r : Result Operand Refusal} → (k ≡ 0 → ⊥) → 5 ≤ k → ReadsOperand s at size address r → ReadsOperand s at size (first_slot k) r
     unfolding first_slot
     first-address n h R = rw (ne_eqb k 0 n, le-ltb k 5 h) R
 
-    pub second_none : k ≤ 1 → at ≤ length s → ReadsOperand s at size (second_slot k) (Operand.Value 0 at)
+    pub second_none : (k ≤ 1) ⊎ ((1 < k) × (k ≡ 5)) → at ≤ length s → ReadsOperand s at size (second_slot k) (Ok (record { value = 0; next = at }))
     unfolding second_slot
-    second_none l h = go (eqb k 0) refl
+    second_none (inl l) h = go (eqb k 0) refl
       where
-        go : (b : Bool) → eqb k 0 ≡ b → ReadsOperand s at size (cond (b || eqb k 1 || eqb k 5) nothing (cond (eqb k 6) address number)) (Operand.Value 0 at)
+        go : (b : Bool) → eqb k 0 ≡ b → ReadsOperand s at size (cond (b || eqb k 1 || eqb k 5) nothing (cond (eqb k 6) address number)) (Ok (record { value = 0; next = at }))
         go true e = nothing_read h
         go false e = rw (eq-eqb k 1 (omega (arith, eqb-false k 0 e))) (nothing_read h)
+    second_none (inr e) h = rw e.1 (nothing_read h)
 
-    pub second-none-five : k ≡ 5 → at ≤ length s → ReadsOperand s at size (second_slot k) (Operand.Value 0 at)
-    unfolding second_slot
-    second-none-five e h = rw e (nothing_read h)
-
-    pub second-address : {r : Operand} → k ≡ 6 → ReadsOperand s at size address r → ReadsOperand s at size (second_slot k) r
+    pub second-address : {r : Result Operand Refusal} → k ≡ 6 → ReadsOperand s at size address r → ReadsOperand s at size (second_slot k) r
     unfolding second_slot
     second-address e R = rw e R
 
-    pub second-number : {r : Operand} → 1 < k → (k ≡ 5 → ⊥) → (k ≡ 6 → ⊥) → Reads s at r → ReadsOperand s at size (second_slot k) r
+    pub second-number : {r : Result Operand Refusal} → 1 < k → (k ≡ 5 → ⊥) → (k ≡ 6 → ⊥) → Reads s at r → ReadsOperand s at size (second_slot k) r
     unfolding second_slot
     second-number a c d R = rw (ne_eqb k 0 (λ e. omega arith), ne_eqb k 1 (λ e. omega arith), ne_eqb k 5 c, ne_eqb k 6 d) (number_read R)
 
@@ -134,38 +115,29 @@ unfolding read_entry
 entry-by s at size k l g h = rw (drop_at s at k l g, known-slots k h)
 
 module _ {s : List ℕ} {at size : ℕ} where
-  pub entry-none : length s ≤ at → ReadsEntry s at size (ListEntry.Fault 23)
+  pub entry-none : length s ≤ at → ReadsEntry s at size (Err Refusal.CutList)
   unfolding read_entry
   entry-none h = record { is = sym (rw (drop_of_length-le s {i = at} h)); within = tt }
 
   module _ {k : ℕ} (l : at < length s) (g : k ≡ get_or s at 0) where
-    pub entry-unknown : 7 < k → ReadsEntry s at size (ListEntry.Fault 23)
+    pub entry-unknown : 7 < k → ReadsEntry s at size (Err Refusal.CutList)
     unfolding read_entry
     entry-unknown h = record { is = sym (rw (drop_at s at k l g, unknown-slots k h)); within = tt }
 
     module _ (h : k ≤ 7) where
-      pub entry_first : {r : Operand} {n : ℕ} → r ≡ Operand.Fault n → ReadsOperand s (at + 1) size (first_slot k) r → ReadsEntry s at size (ListEntry.Fault n)
+      pub entry_first : {f : Refusal} → ReadsOperand s (at + 1) size (first_slot k) (Err f) → ReadsEntry s at size (Err f)
       unfolding ◌>>=◌
-      entry_first {r} {n} e R = let Q : ReadsOperand s (at + 1) size (first_slot k) (Operand.Fault n) = rw e at R in
-          record { is = sym (entry-by s at size k l g h ∙ rw (← Q.is)); within = tt }
+      entry_first P = record { is = sym (entry-by s at size k l g h ∙ rw (← P.is)); within = tt }
 
-      module _ {r : Operand} {v next : ℕ} (e : r ≡ Operand.Value v next) (R : ReadsOperand s (at + 1) size (first_slot k) r) where
-        first_read : ReadsOperand s (at + 1) size (first_slot k) (Operand.Value v next)
-        first_read = rw e at R
-
-        pub entry-second : {q : Operand} {n : ℕ} → q ≡ Operand.Fault n → ReadsOperand s next size (second_slot k) q → ReadsEntry s at size (ListEntry.Fault n)
+      module _ {o : Operand} (P : ReadsOperand s (at + 1) size (first_slot k) (Ok o)) where
+        pub entry-second : {f : Refusal} → ReadsOperand s o.next size (second_slot k) (Err f) → ReadsEntry s at size (Err f)
         unfolding ◌>>=◌
-        entry-second {q} {n} f Q = let P : ReadsOperand s next size (second_slot k) (Operand.Fault n) = rw f at Q in
-            record { is = sym (entry-by s at size k l g h ∙ rw (← first_read.is, ← P.is)); within = tt }
+        entry-second Q = record { is = sym (entry-by s at size k l g h ∙ rw (← P.is, ← Q.is)); within = tt }
 
-        pub entry_read : {q : Operand} {w past : ℕ} → q ≡ Operand.Value w past → ReadsOperand s next size (second_slot k) q → ReadsEntry s at size (ListEntry.Entry k v w past)
+        pub entry_read : {q : Operand} → ReadsOperand s o.next size (second_slot k) (Ok q)
+            → ReadsEntry s at size (Ok (record { kind = k; first = o.value; second = q.value; next = q.next }))
         unfolding ◌>>=◌
-        entry_read {q} {w} {past} f Q = let P : ReadsOperand s next size (second_slot k) (Operand.Value w past) = rw f at Q in
-            record { is = sym (entry-by s at size k l g h ∙ rw (← first_read.is, ← P.is)); within = (omega (arith, first_read.within, P.within), P.within.1) }
-
--- the second operand begins within the bytes
-pub second-within : {s : List ℕ} {at size v next : ℕ} {x : Slot} {r : Operand} → r ≡ Operand.Value v next → ReadsOperand s at size x r → next ≤ length s
-second-within {s} {at} {size} {v} {next} {x} e R = let Q : ReadsOperand s at size x (Operand.Value v next) = rw e at R in Q.within.1
+        entry_read Q = record { is = sym (entry-by s at size k l g h ∙ rw (← P.is, ← Q.is)); within = (omega (arith, P.within, Q.within), Q.within.1) }
 
 -- for the goals that a test names: found, not named
 pub ruleset first_operands = (first-number, first-address)

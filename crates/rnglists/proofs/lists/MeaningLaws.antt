@@ -8,168 +8,165 @@ use native.Mathlib.Omega.{arith}
 use borrow.Author.Tests.{eq-eqb, ne_eqb, le-leb, lt-leb}
 use lib.ListN.{length, length-drop}
 use lib.Seq.{drop-drop}
+use Rattle.std.specs.Prelude.{Result, Ok, Err}
 use Rattle.tlv.specs.Outcome.{◌>>=◌}
+use Rattle.tlv.specs.declared.refusal.Refusal.{Refusal}
+use Rattle.rnglists.specs.declared.entries.ListEntry.{ListEntry}
+use Rattle.rnglists.specs.declared.sizes.AddressSize.{AddressSize}
+use Rattle.rnglists.specs.Sizes.{width_of}
 use Rattle.tlv.specs.Bytes.{le_at}
-use Rattle.rnglists.specs.declared.lists.Found.{Found}
 use Rattle.rnglists.specs.declared.lists.Meant.{Meant}
 use Rattle.rnglists.specs.RangeLists.{address_at, largest, bounded_by, offset_pair, meaning_of}
 use Rattle.rnglists.specs.Steps.{SaysBounded, SaysPair, FindsAddress, Says}
 
-pub largest-four : {size : ℕ} → size ≡ 4 → 4294967295 ≡ largest size
-unfolding largest
-largest-four e = rw e
-
-pub largest-eight : {size : ℕ} → (size ≡ 4) ⊎ (size ≡ 8) → (size ≡ 4 → ⊥) → 18446744073709551615 ≡ largest size
-unfolding largest
-largest-eight (inl e) h = absurd (h e)
-largest-eight (inr e) h = rw e
-
 -- ---- a range between two addresses
 
 module _ {top a b : ℕ} where
-  pub bounded-dead : a ≡ top → SaysBounded top a b (Meant.Range top top true)
+  pub bounded-dead : a ≡ top → SaysBounded top a b (Ok (Meant.Range (record { start = a; end = top }) true))
   unfolding bounded_by
-  bounded-dead e = record { is = λ size t. rw (← t, eq-eqb a top e) }
+  bounded-dead e = record { is = λ size t. rw (← t, eq-eqb a top e, e) }
 
   module _ (n : a ≡ top → ⊥) where
-    pub bounded-start : top < a → SaysBounded top a b (Meant.Fault 25)
+    pub bounded-start : top < a → SaysBounded top a b (Err Refusal.WideAddress)
     unfolding bounded_by
     bounded-start h = record { is = λ size t. rw (← t, ne_eqb a top n, lt-leb a top h) }
 
-    pub bounded-end : a ≤ top → top < b → SaysBounded top a b (Meant.Fault 25)
+    pub bounded-end : a ≤ top → top < b → SaysBounded top a b (Err Refusal.WideAddress)
     unfolding bounded_by
     bounded-end l h = record { is = λ size t. rw (← t, ne_eqb a top n, le-leb a top l, lt-leb b top h) }
 
-    pub bounded-live : a ≤ top → b ≤ top → SaysBounded top a b (Meant.Range a b false)
+    pub bounded-wide : (top < a) ⊎ ((a ≤ top) × (top < b)) → SaysBounded top a b (Err Refusal.WideAddress)
+    bounded-wide (inl h) = bounded-start h
+    bounded-wide (inr h) = bounded-end h.0 h.1
+
+    pub bounded-live : a ≤ top → b ≤ top → SaysBounded top a b (Ok (Meant.Range (record { start = a; end = b }) false))
     unfolding bounded_by
     bounded-live l h = record { is = λ size t. rw (← t, ne_eqb a top n, le-leb a top l, le-leb b top h) }
 
 -- a dead range is dead whatever its end
-pub bounded-any : {r : Meant} {top a b c : ℕ} → a ≡ top → SaysBounded top a b r → SaysBounded top a c r
+pub bounded-any : {r : Result Meant Refusal} {top a b c : ℕ} → a ≡ top → SaysBounded top a b r → SaysBounded top a c r
 unfolding bounded_by
 bounded-any {top = top} {a = a} e s = record { is = λ size t. s.is size t ∙ rw (← t, eq-eqb a top e) }
 
 -- ---- an offset pair
 
 module _ {top from a b : ℕ} where
-  pub pair-dead : {r : Meant} {c d : ℕ} → from ≡ top → c ≡ top → SaysBounded top c d r → SaysPair top from a b r
+  pub pair-dead : {r : Result Meant Refusal} {c d : ℕ} → from ≡ top → c ≡ top → SaysBounded top c d r → SaysPair top from a b r
   unfolding offset_pair bounded_by
   pair-dead {c = c} e g s = record { is = λ size t. s.is size t ∙ rw (← t, eq-eqb from top e, eq-eqb c top g) }
 
   module _ (n : from ≡ top → ⊥) where
-    pub pair-by : {r : Meant} → SaysBounded top (from + a) (from + b) r → SaysPair top from a b r
+    pub pair-by : {r : Result Meant Refusal} → SaysBounded top (from + a) (from + b) r → SaysPair top from a b r
     unfolding offset_pair
     pair-by s = record { is = λ size t. s.is size t ∙ rw (← t, ne_eqb from top n) }
 
-    pub pair-base : top < from → SaysPair top from a b (Meant.Fault 25)
+    pub pair-base : top < from → SaysPair top from a b (Err Refusal.WideAddress)
     pair-base h = pair-by (bounded-start {top = top} {a = from + a} {b = from + b} (λ e. omega arith) (omega arith))
 
-    pub pair-start : from ≤ top → top - from < a → SaysPair top from a b (Meant.Fault 25)
+    pub pair-start : from ≤ top → top - from < a → SaysPair top from a b (Err Refusal.WideAddress)
     pair-start l h = pair-by (bounded-start {top = top} {a = from + a} {b = from + b} (λ e. omega arith) (omega arith))
 
-    pub pair_end : (from + a ≡ top → ⊥) → from ≤ top → a ≤ top - from → top - from < b → SaysPair top from a b (Meant.Fault 25)
+    pub pair_end : (from + a ≡ top → ⊥) → from ≤ top → a ≤ top - from → top - from < b → SaysPair top from a b (Err Refusal.WideAddress)
     pair_end g l k h = pair-by (bounded-end {top = top} {a = from + a} {b = from + b} g (omega arith) (omega arith))
 
     -- a start that is dead
-    pub pair-dies : {r : Meant} {d : ℕ} → from + a ≡ top → SaysBounded top (from + a) d r → SaysPair top from a b r
+    pub pair-dies : {r : Result Meant Refusal} {d : ℕ} → from + a ≡ top → SaysBounded top (from + a) d r → SaysPair top from a b r
     pair-dies e s = pair-by (bounded-any e s)
 
 -- a length that does not fit
-pub length-past : {top a n : ℕ} → (a ≡ top → ⊥) → a ≤ top → top - a < n → SaysBounded top a (a + n) (Meant.Fault 25)
-length-past {top} {a} {n} g l h = bounded-end {top = top} {a = a} {b = a + n} g l (omega arith)
+pub length-wide : {top a n : ℕ} → (a ≡ top → ⊥) → (top < a) ⊎ ((a ≤ top) × (top - a < n)) → SaysBounded top a (a + n) (Err Refusal.WideAddress)
+length-wide {top} {a} {n} g (inl h) = bounded-start {top = top} {a = a} {b = a + n} g h
+length-wide {top} {a} {n} g (inr h) = bounded-end {top = top} {a = a} {b = a + n} g h.0 (omega arith)
 
 -- ---- an address of the table
 
-module _ {table : List ℕ} {place size i : ℕ} where
-  past : length table - place < i * size + size → FindsAddress table place size i Found.Past
+some_width : (a : AddressSize) → 0 < width_of a
+some_width AddressSize.Four = omega arith
+some_width AddressSize.Eight = omega arith
+
+-- an index that the bytes of a table have room for
+pub index-room : (a : AddressSize) (room i : ℕ) → i < room / width_of a → i * width_of a + width_of a ≤ room
+index-room AddressSize.Four room i h = omega arith
+index-room AddressSize.Eight room i h = omega arith
+
+index-over : (a : AddressSize) (room i : ℕ) → room / width_of a ≤ i → room < i * width_of a + width_of a
+index-over AddressSize.Four room i h = omega arith
+index-over AddressSize.Eight room i h = omega arith
+
+module _ {table : List ℕ} {place i : ℕ} (a : AddressSize) where
+  past : length table - place < i * width_of a + width_of a → FindsAddress table place (width_of a) i (Err Refusal.NoAddress)
   unfolding address_at
-  past h = record { is = sym (rw (length-drop place table, lt-leb (i * size + size) (length table - place) h)) }
+  past h = record { is = sym (rw (length-drop place table, lt-leb (i * width_of a + width_of a) (length table - place) h)) }
 
-  found : {v : ℕ} → i * size + size ≤ length table - place → v ≡ le_at size table (place + i * size) → FindsAddress table place size i (Found.At v)
+  pub address-none : length table < place → FindsAddress table place (width_of a) i (Err Refusal.NoAddress)
+  address-none h = past (omega (arith, some_width a))
+
+  pub index-past : (length table - place) / width_of a ≤ i → FindsAddress table place (width_of a) i (Err Refusal.NoAddress)
+  index-past h = past (index-over a (length table - place) i h)
+
+  pub index-found : {v : ℕ} → i < (length table - place) / width_of a → v ≡ le_at (width_of a) table (place + i * width_of a)
+      → FindsAddress table place (width_of a) i (Ok v)
   unfolding address_at le_at
-  found h e = record { is = sym (rw (length-drop place table, le-leb (i * size + size) (length table - place) h, e, drop-drop (i * size) place table)) }
-
-  pub address-none : (size ≡ 4) ⊎ (size ≡ 8) → length table < place → FindsAddress table place size i Found.Past
-  address-none (inl e) h = past (omega arith)
-  address-none (inr e) h = past (omega arith)
-
-  pub past-four : size ≡ 4 → (length table - place) / 4 ≤ i → FindsAddress table place size i Found.Past
-  past-four e h = past (let m : i * size ≡ i * 4 = ap (λ (k : ℕ). i * k) e in omega arith)
-
-  pub found-four : {v : ℕ} → size ≡ 4 → i < (length table - place) / 4 → v ≡ le_at 4 table (place + i * 4) → FindsAddress table place size i (Found.At v)
-  found-four {v} e h f =
-      let m : i * size ≡ i * 4 = ap (λ (k : ℕ). i * k) e in
-      found {v = v} (omega arith) (f ∙ (λ j. le_at (sym e j) table (place + sym m j)))
-
-  pub past-eight : (size ≡ 4) ⊎ (size ≡ 8) → (size ≡ 4 → ⊥) → (length table - place) / 8 ≤ i → FindsAddress table place size i Found.Past
-  past-eight (inl e) n h = absurd (n e)
-  past-eight (inr e) n h = past (let m : i * size ≡ i * 8 = ap (λ (k : ℕ). i * k) e in omega arith)
-
-  pub found-eight : {v : ℕ} → (size ≡ 4) ⊎ (size ≡ 8) → (size ≡ 4 → ⊥) → i < (length table - place) / 8 → v ≡ le_at 8 table (place + i * 8) → FindsAddress table place size i (Found.At v)
-  found-eight {v} (inl e) n h f = absurd (n e)
-  found-eight {v} (inr e) n h f =
-      let m : i * size ≡ i * 8 = ap (λ (k : ℕ). i * k) e in
-      found {v = v} (omega arith) (f ∙ (λ j. le_at (sym e j) table (place + sym m j)))
-
-found_at : {table : List ℕ} {place size i x : ℕ} {f : Found} → f ≡ Found.At x → FindsAddress table place size i f → FindsAddress table place size i (Found.At x)
-found_at g F = rw g at F
+  index-found h e = record
+      { is = sym (rw (length-drop place table, le-leb (i * width_of a + width_of a) (length table - place) (index-room a (length table - place) i h), e, drop-drop (i * width_of a) place table)) }
 
 -- ---- what an entry says, by its kind
 
-module _ {table : List ℕ} {place size from k a b : ℕ} where
-  pub says-end : k ≡ 0 → Says table place size from k a b Meant.End
+module _ {table : List ℕ} {place size from : ℕ} {e : ListEntry} where
+  pub says-end : e.kind ≡ 0 → Says table place size from e (Ok Meant.End)
   unfolding meaning_of
-  says-end e = record { is = sym (rw e) }
+  says-end k = record { is = sym (rw k) }
 
-  pub says-base : k ≡ 5 → Says table place size from k a b (Meant.Base a)
+  pub says-base : e.kind ≡ 5 → Says table place size from e (Ok (Meant.Base e.first))
   unfolding meaning_of
-  says-base e = record { is = sym (rw e) }
+  says-base k = record { is = sym (rw k) }
 
-  pub says-pair : {r : Meant} {top : ℕ} → k ≡ 4 → top ≡ largest size → SaysPair top from a b r → Says table place size from k a b r
+  pub says-pair : {r : Result Meant Refusal} {top : ℕ} → e.kind ≡ 4 → top ≡ largest size → SaysPair top from e.first e.second r → Says table place size from e r
   unfolding meaning_of
-  says-pair e t S = record { is = S.is size t ∙ sym (rw e) }
+  says-pair k t S = record { is = S.is size t ∙ sym (rw k) }
 
-  pub says-between : {r : Meant} {top : ℕ} → k ≡ 6 → top ≡ largest size → SaysBounded top a b r → Says table place size from k a b r
+  pub says-between : {r : Result Meant Refusal} {top : ℕ} → e.kind ≡ 6 → top ≡ largest size → SaysBounded top e.first e.second r → Says table place size from e r
   unfolding meaning_of
-  says-between e t S = record { is = S.is size t ∙ sym (rw e) }
+  says-between k t S = record { is = S.is size t ∙ sym (rw k) }
 
-  pub says-length : {r : Meant} {top : ℕ} → (k ≡ 0 → ⊥) → (k ≡ 1 → ⊥) → (k ≡ 2 → ⊥) → (k ≡ 3 → ⊥) → (k ≡ 4 → ⊥) → (k ≡ 5 → ⊥) → (k ≡ 6 → ⊥) → top ≡ largest size → SaysBounded top a (a + b) r
-      → Says table place size from k a b r
+  pub says-length : {r : Result Meant Refusal} {top : ℕ} → (e.kind ≡ 0 → ⊥) → (e.kind ≡ 1 → ⊥) → (e.kind ≡ 2 → ⊥) → (e.kind ≡ 3 → ⊥) → (e.kind ≡ 4 → ⊥) → (e.kind ≡ 5 → ⊥) → (e.kind ≡ 6 → ⊥)
+      → top ≡ largest size → SaysBounded top e.first (e.first + e.second) r → Says table place size from e r
   unfolding meaning_of
   says-length n0 n1 n2 n3 n4 n5 n6 t S =
-      record { is = S.is size t ∙ sym (rw (ne_eqb k 0 n0, ne_eqb k 1 n1, ne_eqb k 2 n2, ne_eqb k 3 n3, ne_eqb k 4 n4, ne_eqb k 5 n5, ne_eqb k 6 n6)) }
+      record { is = S.is size t ∙ sym (rw (ne_eqb e.kind 0 n0, ne_eqb e.kind 1 n1, ne_eqb e.kind 2 n2, ne_eqb e.kind 3 n3, ne_eqb e.kind 4 n4, ne_eqb e.kind 5 n5, ne_eqb e.kind 6 n6)) }
 
-  module _ {f : Found} (F : FindsAddress table place size a f) where
-    pub past-base : k ≡ 1 → f ≡ Found.Past → Says table place size from k a b (Meant.Fault 24)
+  module _ {f : Refusal} (F : FindsAddress table place size e.first (Err f)) where
+    pub past-base : e.kind ≡ 1 → Says table place size from e (Err f)
     unfolding meaning_of ◌>>=◌
-    past-base e g = let Q : FindsAddress table place size a Found.Past = rw g at F in record { is = sym (rw (e, ← Q.is)) }
+    past-base k = record { is = sym (rw (k, ← F.is)) }
 
-    pub past-start : k ≡ 2 → f ≡ Found.Past → Says table place size from k a b (Meant.Fault 24)
+    pub past-start : e.kind ≡ 2 → Says table place size from e (Err f)
     unfolding meaning_of ◌>>=◌
-    past-start e g = let Q : FindsAddress table place size a Found.Past = rw g at F in record { is = sym (rw (e, ← Q.is)) }
+    past-start k = record { is = sym (rw (k, ← F.is)) }
 
-    pub past-length : k ≡ 3 → f ≡ Found.Past → Says table place size from k a b (Meant.Fault 24)
+    pub past-length : e.kind ≡ 3 → Says table place size from e (Err f)
     unfolding meaning_of ◌>>=◌
-    past-length e g = let Q : FindsAddress table place size a Found.Past = rw g at F in record { is = sym (rw (e, ← Q.is)) }
+    past-length k = record { is = sym (rw (k, ← F.is)) }
 
-    module _ {x : ℕ} (g : f ≡ Found.At x) where
-      pub found-base : k ≡ 1 → Says table place size from k a b (Meant.Base x)
-      unfolding meaning_of ◌>>=◌
-      found-base e = record { is = sym (rw (e, ← (found_at g F).is)) }
+  module _ {x : ℕ} (F : FindsAddress table place size e.first (Ok x)) where
+    pub found-base : e.kind ≡ 1 → Says table place size from e (Ok (Meant.Base x))
+    unfolding meaning_of ◌>>=◌
+    found-base k = record { is = sym (rw (k, ← F.is)) }
 
-      pub found-length : {r : Meant} {top : ℕ} → k ≡ 3 → top ≡ largest size → SaysBounded top x (x + b) r → Says table place size from k a b r
-      unfolding meaning_of ◌>>=◌
-      found-length e t S = record { is = S.is size t ∙ sym (rw (e, ← (found_at g F).is)) }
+    pub found-length : {r : Result Meant Refusal} {top : ℕ} → e.kind ≡ 3 → top ≡ largest size → SaysBounded top x (x + e.second) r → Says table place size from e r
+    unfolding meaning_of ◌>>=◌
+    found-length k t S = record { is = S.is size t ∙ sym (rw (k, ← F.is)) }
 
-      pub past_end : {h : Found} → k ≡ 2 → h ≡ Found.Past → FindsAddress table place size b h → Says table place size from k a b (Meant.Fault 24)
-      unfolding meaning_of ◌>>=◌
-      past_end e z H = let Q : FindsAddress table place size b Found.Past = rw z at H in record { is = sym (rw (e, ← (found_at g F).is, ← Q.is)) }
+    pub past_end : {f : Refusal} → e.kind ≡ 2 → FindsAddress table place size e.second (Err f) → Says table place size from e (Err f)
+    unfolding meaning_of ◌>>=◌
+    past_end k H = record { is = sym (rw (k, ← F.is, ← H.is)) }
 
-      pub found-end : {h : Found} {y : ℕ} {r : Meant} {top : ℕ} → k ≡ 2 → h ≡ Found.At y → FindsAddress table place size b h → top ≡ largest size → SaysBounded top x y r → Says table place size from k a b r
-      unfolding meaning_of ◌>>=◌
-      found-end {y = y} e z H t S = let Q : FindsAddress table place size b (Found.At y) = rw z at H in record { is = S.is size t ∙ sym (rw (e, ← (found_at g F).is, ← Q.is)) }
+    pub found-end : {y : ℕ} {r : Result Meant Refusal} {top : ℕ} → e.kind ≡ 2 → FindsAddress table place size e.second (Ok y) → top ≡ largest size
+        → SaysBounded top x y r → Says table place size from e r
+    unfolding meaning_of ◌>>=◌
+    found-end k H t S = record { is = S.is size t ∙ sym (rw (k, ← F.is, ← H.is)) }
 
 -- the laws by which `search` follows the kinds
-pub ruleset saying = (says-end, says-base, says-pair, says-between, says-length, past-base, past-start, past-length, found-base, found-length, past_end, found-end)
+pub ruleset saying = (says-end, says-base, says-pair, says-between, says-length)
 
 pub ruleset pairs = (pair-dead, pair-start)

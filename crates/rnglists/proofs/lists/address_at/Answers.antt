@@ -1,18 +1,13 @@
 -- `lists::address_at` meets its contract.
-use Rattle.rnglists.proofs.lists.MeaningLaws.{address-none, past-four, found-four, past-eight, found-eight}
+use Rattle.std.proofs.Common.{arith}
+use Rattle.rnglists.proofs.lists.MeaningLaws.{address-none, index-past, index-room, index-found}
 use Rattle.rnglists.proofs.lists.address_at.Goals as goal
 
 pub returns-then-len-place : goal.returns-then-len-place
-returns-then-len-place c = search address-none
+returns-then-len-place c = address-none c.args.size (omega arith)
 
-pub returns-then-room-index : goal.returns-then-room-index
-returns-then-room-index c = search past-four
-
-pub returns-then-size-eq4 : goal.returns-then-size-eq4
-returns-then-size-eq4 c = search found-four
-
-pub returns-then-room-index-2 : goal.returns-then-room-index-2
-returns-then-room-index-2 c = search past-eight
+pub returns-then-room-width : goal.returns-then-room-width
+returns-then-room-width c = index-past c.args.size (rw c.width-width.ensures at c.if-room-width.true)
 
 pub returns : goal.returns
-returns c = search found-eight
+returns c = index-found c.args.size (rw c.width-width.ensures at c.if-room-width.false) (rw c.width-width.ensures at c.read.ensures)

@@ -1,24 +1,19 @@
 -- `lists::next_range` meets its contract. The loop's invariant: what is left of the list gives what was asked for.
+use Rattle.tlv.proofs.AnswerLaws.{handed}
 use Rattle.rnglists.proofs.lists.NextLaws.{left-start, next-fault, meant-fault, meant-end, meant-base, meant-range, turn-less}
 use Rattle.rnglists.proofs.lists.next_range.Goals as goal
 
-pub loop-n-init : goal.loop-n-init
-loop-n-init c = left-start _ _ _ _ _ _
+pub returns-in_err-entry : goal.returns-in_err-entry
+returns-in_err-entry c = rw (handed _ _ c.from_residual.ensures.1) (next-fault c.loop-entry.invariant (rw c.of-width.ensures at c.in_err-entry.ensures))
 
-pub returns-in-Fault : goal.returns-in-Fault
-returns-in-Fault c = search next-fault
-
-pub returns-in-Fault-meaning_of : goal.returns-in-Fault-meaning_of
-returns-in-Fault-meaning_of c = search meant-fault
+pub returns-in_err-meaning_of : goal.returns-in_err-meaning_of
+returns-in_err-meaning_of c = rw (handed _ _ c.from_residual-in_err-meaning_of.ensures.1) (meant-fault c.loop-entry.invariant (rw c.of-width.ensures at c.in_ok-entry.ensures) (rw c.of-width.ensures at c.in_err-meaning_of.ensures))
 
 pub returns-in-End : goal.returns-in-End
-returns-in-End c = search meant-end
+returns-in-End c = meant-end c.loop-entry.invariant (rw c.of-width.ensures at c.in_ok-entry.ensures) (rw (c.in-End.is, c.of-width.ensures) at c.in_ok-meaning_of.ensures)
 
-pub loop-n-smaller : goal.loop-n-smaller
-loop-n-smaller c = search turn-less
-
-pub loop-n-preserved : goal.loop-n-preserved
-loop-n-preserved c = search meant-base
+pub loop-entry-preserved : goal.loop-entry-preserved
+loop-entry-preserved c = meant-base c.loop-entry.invariant (rw c.of-width.ensures at c.in_ok-entry.ensures) (rw (c.in-Base.is, c.of-width.ensures) at c.in_ok-meaning_of.ensures)
 
 pub returns-in-Range : goal.returns-in-Range
-returns-in-Range c = search meant-range
+returns-in-Range c = meant-range c.loop-entry.invariant (rw c.of-width.ensures at c.in_ok-entry.ensures) c.requires (rw (c.in-Range.is, c.of-width.ensures) at c.in_ok-meaning_of.ensures)

@@ -4,8 +4,8 @@ use lib.ListN.{length}
 use Rattle.rnglists.proofs.lists.NextLaws.{Left}
 use Rattle.rnglists.proofs.lists.next_range.Given as goal
 
-abbrev pub invariant-loop-n : goal.invariant-loop-n
-invariant-loop-n l = Left l.lists l.addresses l.place l.size l.at l.base l.p l.from
+abbrev pub invariant-loop-entry : goal.invariant-loop-entry
+invariant-loop-entry l = Left l.lists l.addresses l.place l.size l.at l.fn.base l.p l.base
 
-abbrev pub decreases-loop-n : goal.decreases-loop-n
-decreases-loop-n l = length l.lists - l.p
+abbrev pub decreases-loop-entry : goal.decreases-loop-entry
+decreases-loop-entry l = length l.lists - l.p
