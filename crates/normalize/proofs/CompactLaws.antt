@@ -18,7 +18,7 @@ use Rattle.normalize.specs.Compacts.{CompactsRows}
 -- ---- the test
 
 module _ (a b : LineEntry) where
-  pub files-differ : a.file.0 ≢ b.file.0 → false ≡ same_line a b
+  pub files-differ : a.file.0 ≢ b.file.0 → eqb a.file.0 b.file.0 ≡ same_line a b
   files-differ h = rw (ne_eqb a.file.0 b.file.0 h)
 
   pub lines-decide : a.file.0 ≡ b.file.0 → eqb a.line b.line ≡ same_line a b

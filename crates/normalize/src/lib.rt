@@ -11,29 +11,21 @@ use tlv::model::LineEntry;
 fn same_line(a: LineEntry, b: LineEntry) -> bool
     ensures { result ≡ same_line a b }
 {
-    if a.file.0 != b.file.0 {
-        return false;
-    }
-    a.line == b.line
+    a.file.0 == b.file.0 && a.line == b.line
 }
 
 // Of each run of rows with one file and line the first is kept, moved down in place. Returns how many are left.
 pub fn compact_line_rows(lines: &mut [LineEntry]) -> usize
     ensures { CompactsRows lines.old lines.new result }
 {
-    if lines.len() == 0 {
+    if lines.is_empty() {
         return 0;
     }
     let mut last = 0;
-    let mut i = 1;
-    while i < lines.len() {
-        let row = lines[i];
-        if same_line(lines[last], row) {
-            i += 1;
-        } else {
+    for i in 1..lines.len() {
+        if !same_line(lines[last], lines[i]) {
             last += 1;
-            lines[last] = row;
-            i += 1;
+            lines[last] = lines[i];
         }
     }
     last + 1
