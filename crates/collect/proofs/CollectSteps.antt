@@ -5,13 +5,13 @@ use mathlib.Core.Option.{none, some}
 use Prim.Native.Nat.{ℕ, ◌+◌, ◌≤◌, ◌<◌}
 use native.Mathlib.Omega.{arith}
 use lib.ListN.{length}
+use Rattle.std.specs.Prelude.{None, Ok}
 use Rattle.tlv.specs.Outcome.{Outcome, refused, done, ◌>>=◌}
 use Rattle.tlv.specs.Checked.{Placed}
 use Rattle.tlv.specs.Model.{CompilationUnit, LineHeader, LineRow}
 use Rattle.buffers.specs.Buffer.{top}
 use Rattle.buffers.proofs.TableLaws.{but_refl}
 use Rattle.buffers.proofs.RecordLaws.{records-nil}
-use Rattle.access.specs.declared.access.Own.{Own}
 use Rattle.access.specs.Access.{NextOwn}
 use Rattle.access.specs.Places.{unit_here}
 use Rattle.line_program.specs.Program.{line_sequence_offsets}
@@ -25,7 +25,6 @@ use Rattle.files.proofs.UnitLaws.{unit-next, unit-within}
 use Rattle.files.proofs.GrownLaws.{grown-none}
 use Rattle.rows.proofs.StoredLaws.{lines-nil, ranges-nil}
 use Rattle.machine.specs.LineRows.{line_rows, rows_most, collect_from, collect_lines}
-use Rattle.collect.specs.declared.collect.CollectedLines.{CollectedLines}
 use Rattle.collect.specs.declared.source.RowSource.{RowSource}
 use Rattle.collect.specs.Passes.{Counted, count_rows, count_all}
 use Rattle.collect.specs.Sources.{source_rows, most_rows, SourceFound, first_fault}
@@ -91,18 +90,23 @@ module _ (u : CompilationUnit) (program : List ℕ) (t : FileTable) where
 -- ---- a unit without a header
 
 module _ {main supplementary program w files warnings : List ℕ} {p warned free : ℕ} {t : StoredFiles} (h : Placed main 0) (U : UnitIn main p) (F : FilesIn main supplementary w t) (R : LinesRoom main w program t p free)
-    {r : Own} (own : NextOwn main (p + 21) 0x13 r) where
-  pub collected-nothing : r ≡ Own.Missing → length files < top → length warnings < top → warned ≤ top
+    (own : NextOwn main (p + 21) 0x13 None) where
+  pub collected-nothing : length files < top → length warnings < top → warned ≤ top
       → CollectsLines main supplementary program w w files files warnings warnings p t warned free
-      (CollectedLines.Lines (record { lines = free; line_count = 0; sequences = free; sequence_count = 0; buffer = free }) (record { base = free; count = 0 }) t warned)
+      (Ok (record {
+        lines = record { lines = free; line_count = 0; sequences = free; sequence_count = 0; buffer = free };
+        indices = record { base = free; count = 0 };
+        table = t;
+        warned = warned;
+      }))
   unfolding lines_in indices_of lines_extent
-  collected-nothing e small-files small-warnings most =
+  collected-nothing small-files small-warnings most =
       let room = R.room in
       record {
         is = record {
           new = [];
           collected =
-              collects_none (unit_here main p) program (table_of main supplementary w t) (header-none (unit-stands h U) own e)
+              collects_none (unit_here main p) program (table_of main supplementary w t) (header-none (unit-stands h U) own)
               ∙ (λ i. done (record {
                 table = table_of main supplementary w t;
                 lines = record { entries = sym (lines-nil w free) i; files = sym (records-nil index_of 5 w free) i; sequences = sym (ranges-nil w free) i };

@@ -6,6 +6,7 @@ use mathlib.Core.Option.{none}
 use Prim.Native.Nat.{ℕ, ◌+◌, ◌*◌, ◌≤◌, ◌<◌}
 use native.Mathlib.Omega.{arith}
 use lib.ListN.{length}
+use Rattle.std.specs.Prelude.{Some, Ok}
 use Rattle.tlv.specs.declared.model.FileIndex.{FileIndex}
 use Rattle.tlv.specs.Outcome.{done, ◌>>=◌}
 use Rattle.tlv.specs.Bytes.{le, bytes_of}
@@ -17,7 +18,6 @@ use Rattle.buffers.proofs.TableLaws.{here, there, but_of, but_one, but_refl, but
 use Rattle.buffers.proofs.RecordLaws.{records-but}
 use Rattle.lines.specs.Files.{intern_file, get}
 use Rattle.lines.specs.Lines.{convert_line, convert_row}
-use Rattle.files.specs.declared.index.FoundIndex.{FoundIndex}
 use Rattle.files.specs.declared.store.StoredFiles.{StoredFiles}
 use Rattle.files.specs.Store.{extent, table_of, Grown}
 use Rattle.files.specs.Indices.{index_of, indices_of, indices_in, number_of}
@@ -27,7 +27,6 @@ use Rattle.rows.specs.Stored.{lines_of}
 use Rattle.rows.proofs.StoredLaws.{lines-but}
 use Rattle.collect.specs.declared.convert.Conversion.{Conversion}
 use Rattle.collect.specs.declared.convert.Converting.{Converting}
-use Rattle.collect.specs.declared.convert.ConvertedRow.{ConvertedRow}
 use Rattle.collect.specs.declared.convert.Row.{Row}
 use Rattle.collect.specs.declared.sought.SoughtFile.{SoughtFile}
 use Rattle.collect.specs.Converts.{unit_at, header_in, offsets_of, Unnamed, converted_in, ConversionIn, raw_of, sought_of, lined_in, LineConverted, KnownConverted, RowConverts}
@@ -91,7 +90,7 @@ module _ {main supplementary w : List ℕ} {c : Conversion} {st : Converting} (C
       → convert_row (unit_at main c) (header_in main c) (offsets_of w c) (raw_of r) (converted_in main supplementary w c st [])
       ≡ done (convert_line (offsets_of w c) (raw_of r) file (lined_in w c st.count (table_of main supplementary w₁ t) (indices_in w₁ c.indices) []))
       → LineConverted w₁ w₂ warnings warnings' c (record { table = t; count = st.count; warned = st.warned }) r file st' → length w₂ ≡ length w₁
-      → RowConverts main supplementary w w₂ files files' warnings warnings' c st r (ConvertedRow.Next st')
+      → RowConverts main supplementary w w₂ files files' warnings warnings' c st r (Ok st')
   unfolding converted_in indices_of
   line_row {w₁} {w₂} {files} {files'} {t = t} {file = file} {st' = st'} room K size G named is L size₂ =
       let a = C.table in
@@ -121,18 +120,18 @@ module _ {main supplementary w : List ℕ} {c : Conversion} {st : Converting} (C
       }
 
   -- it has one in the map
-  pub row-known : {w₂ files warnings warnings' : List ℕ} {q : FoundIndex} {file : FileIndex} {st' : Converting} → c.lines + st.count * line_size + line_size ≤ length w → length files < top
-      → number_of q ≡ get (indices_in w c.indices) r.file.0 → q ≡ FoundIndex.Number file
-      → LineConverted w w₂ warnings warnings' c st r file st' → length w₂ ≡ length w → RowConverts main supplementary w w₂ files files warnings warnings' c st r (ConvertedRow.Next st')
+  pub row-known : {w₂ files warnings warnings' : List ℕ} {file : FileIndex} {st' : Converting} → c.lines + st.count * line_size + line_size ≤ length w → length files < top
+      → number_of (Some file) ≡ get (indices_in w c.indices) r.file.0
+      → LineConverted w w₂ warnings warnings' c st r file st' → length w₂ ≡ length w → RowConverts main supplementary w w₂ files files warnings warnings' c st r (Ok st')
   unfolding convert_row converted_in
-  row-known room small found e L size = line_row room (but_refl w _) refl (grown-none C.files small) C.unnamed (rw (sym found ∙ ap number_of e)) L size
+  row-known room small found L size = line_row room (but_refl w _) refl (grown-none C.files small) C.unnamed (rw (sym found)) L size
 
   -- its line is appended
   pub row_appended : {w₂ files warnings : List ℕ} → c.lines + st.count * line_size + line_size ≤ length w → length files < top → st.warned ≤ top
       → length warnings < top
       → KnownConverted w w₂ c r st.count → length w₂ ≡ length w
-      → RowConverts main supplementary w w₂ files files warnings warnings c st r (ConvertedRow.Next (record { table = st.table; count = st.count + 1; warned = st.warned }))
-  row_appended room small fits small' K size = row-known {q = FoundIndex.Number K.file} room small (sym K.known) refl (line-put K.line fits small') size
+      → RowConverts main supplementary w w₂ files files warnings warnings c st r (Ok (record { table = st.table; count = st.count + 1; warned = st.warned }))
+  row_appended room small fits small' K size = row-known room small (sym K.known) (line-put K.line fits small') size
 
   -- ---- a row whose file has none
 
@@ -142,7 +141,7 @@ module _ {main supplementary w : List ℕ} {c : Conversion} {st : Converting} (C
       → convert_row (unit_at main c) (header_in main c) (offsets_of w c) (raw_of r) (converted_in main supplementary w c st [])
       ≡ done (lined_in w c st.count (table_of main supplementary w₁ st.table) (indices_in w c.indices) new)
       → Put st.warned (warnings_bytes new) warnings warnings' n
-      → RowConverts main supplementary w w₁ files files' warnings warnings' c st r (ConvertedRow.Next (record { table = st.table; count = st.count; warned = n }))
+      → RowConverts main supplementary w w₁ files files' warnings warnings' c st r (Ok (record { table = st.table; count = st.count; warned = n }))
   unfolding converted_in
   still {w₁} new K size G maps is P = record {
     is = record {
@@ -160,7 +159,7 @@ module _ {main supplementary w : List ℕ} {c : Conversion} {st : Converting} (C
     -- nor a file in the header
     pub row-missing : {files warnings warnings' : List ℕ} {n : ℕ} {q : SoughtFile} → length files < top → q ≡ sought_of c r.file.0 → q ≡ SoughtFile.Missing
         → Put st.warned (encode 0x46 ((6 ∷ []) ++ bytes_of 8 r.address ++ bytes_of 8 r.file.0)) warnings warnings' n
-        → RowConverts main supplementary w w files files warnings warnings' c st r (ConvertedRow.Next (record { table = st.table; count = st.count; warned = n }))
+        → RowConverts main supplementary w w files files warnings warnings' c st r (Ok (record { table = st.table; count = st.count; warned = n }))
     unfolding convert_row converted_in kind_number
     row-missing small found e P =
         still (about missing_line_file r.address r.file.0 ∷ []) (but_refl w _) refl (grown-none C.files small) refl (rw (unknown, is-missing C r.file.0 found e))
@@ -168,7 +167,7 @@ module _ {main supplementary w : List ℕ} {c : Conversion} {st : Converting} (C
 
     -- a file with no path
     pub row-unnamed : {files warnings : List ℕ} {q : SoughtFile} → length files < top → st.warned ≤ top → length warnings < top → q ≡ sought_of c r.file.0 → q ≡ SoughtFile.Unnamed
-        → RowConverts main supplementary w w files files warnings warnings c st r (ConvertedRow.Next st)
+        → RowConverts main supplementary w w files files warnings warnings c st r (Ok st)
     unfolding convert_row converted_in intern_file ◌>>=◌
     row-unnamed small fits small' found e =
         let N = is-unnamed C r.file.0 found e unknown in

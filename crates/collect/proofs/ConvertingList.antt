@@ -8,6 +8,9 @@ use native.Mathlib.Omega.{arith}
 use lib.Dec.{eqb}
 use lib.ListN.{length}
 use borrow.Author.Tests.{eq-eqb, ne_eqb}
+use Rattle.std.specs.Prelude.{Result, Ok, Err}
+use Rattle.tlv.specs.declared.refusal.Refusal.{Refusal}
+use Rattle.tlv.specs.Refusals.{number_of}
 use Rattle.tlv.specs.Outcome.{refused, done, ◌>>=◌}
 use Rattle.tlv.specs.Model.{CompilationUnit, LineHeader, LineRow}
 use Rattle.buffers.specs.Buffer.{top, Put}
@@ -21,7 +24,6 @@ use Rattle.files.proofs.GrownLaws.{grown-none, grown-trans}
 use Rattle.rows.specs.Sizes.{line_size}
 use Rattle.collect.specs.declared.convert.Conversion.{Conversion}
 use Rattle.collect.specs.declared.convert.Converting.{Converting}
-use Rattle.collect.specs.declared.convert.ConvertedRow.{ConvertedRow}
 use Rattle.collect.specs.declared.convert.Row.{Row}
 use Rattle.collect.specs.Passes.{convert_from}
 use Rattle.collect.specs.Converts.{unit_at, header_in, offsets_of, converted_in, ConversionIn, raw_of, KnownConverted, RowConverted, RowConverts, RowsConvert}
@@ -91,18 +93,18 @@ module _ {main supplementary w₀ w files₀ files warnings₀ warnings : List �
 
   finished : convert_from (unit_at main c) (header_in main c) (offsets_of w₀ c) rest n more (converted_in main supplementary w c st J.new)
       ≡ done (converted_in main supplementary w c st J.new)
-      → RowsConvert all main supplementary w₀ w files₀ files warnings₀ warnings c st₀ left (ConvertedRow.Next st)
+      → RowsConvert all main supplementary w₀ w files₀ files warnings₀ warnings c st₀ left (Ok st)
   finished e =
       let most = J.most in
       record { is = record { new = J.new; is = J.same ∙ e; grown = J.grown; put = J.put; holds = J.holds; more = omega arith }; rest = J.kept }
 
   -- enough rows
-  pub list_full : more ≡ 0 → RowsConvert all main supplementary w₀ w files₀ files warnings₀ warnings c st₀ left (ConvertedRow.Next st)
+  pub list_full : more ≡ 0 → RowsConvert all main supplementary w₀ w files₀ files warnings₀ warnings c st₀ left (Ok st)
   unfolding convert_from
   list_full e = finished (rw e)
 
   -- no more rows
-  pub list_over : rest ≡ [] → RowsConvert all main supplementary w₀ w files₀ files warnings₀ warnings c st₀ left (ConvertedRow.Next st)
+  pub list_over : rest ≡ [] → RowsConvert all main supplementary w₀ w files₀ files warnings₀ warnings c st₀ left (Ok st)
   list_over e =
       finished (rw e (from-none (unit_at main c) (header_in main c) (offsets_of w₀ c) n (converted_in main supplementary w c st J.new) more))
 
@@ -139,7 +141,7 @@ module _ {main supplementary w₀ w files₀ files warnings₀ warnings : List �
           >>= convert_from (unit_at main c) (header_in main c) (offsets_of w₀ c) rs n (more - 1))
       converted_row = turn ∙ rw (ne_eqb r.kind 1 plain, is_row, offsets-kept J.start (left * line_size) J.kept)
 
-      module _ {w' files' warnings' : List ℕ} {q : ConvertedRow} (A : RowConverts main supplementary w w' files files' warnings warnings' c st row q) where
+      module _ {w' files' warnings' : List ℕ} {q : Result Converting Refusal} (A : RowConverts main supplementary w w' files files' warnings warnings' c st row q) where
         -- what the row may write, the rows may
         rows-rest : KeptBut w₀ w' (written c st₀ (left * line_size))
         rows-rest =
@@ -152,22 +154,20 @@ module _ {main supplementary w₀ w files₀ files warnings₀ warnings : List �
                   A.rest.same a k (rw (gb, gr) z.0, (z.1.0, (⊎_elim (λ l. inl (omega arith)) (λ l. inr (omega arith)) z.1.1.0, tt)));
             })
 
-        pub list-refused : {k : ℕ} → q ≡ ConvertedRow.Refused k
-            → RowsConvert all main supplementary w₀ w' files₀ files' warnings₀ warnings' c st₀ left (ConvertedRow.Refused k)
+      module _ {w' files' warnings' : List ℕ} {k : Refusal} (A : RowConverts main supplementary w w' files files' warnings warnings' c st row (Err k)) where
+        pub list-refused : RowsConvert all main supplementary w₀ w' files₀ files' warnings₀ warnings' c st₀ left (Err k)
         unfolding converted_in ◌>>=◌
-        list-refused {k} eq =
-            let no : convert_row (unit_at main c) (header_in main c) (offsets_of w c) (raw_of row) (converted_in main supplementary w c st []) ≡ refused k
-            = rw eq at A.is in
+        list-refused =
             let whole = rw append-nil at (convert_row-prefix-refused (unit_at main c) (header_in main c) (offsets_of w c) (raw_of row) J.new
-            (converted_in main supplementary w c st []) k no) in
-            record { is = J.same ∙ converted_row ∙ rw whole; rest = rows-rest }
+            (converted_in main supplementary w c st []) (number_of k) A.is) in
+            record { is = J.same ∙ converted_row ∙ rw whole; rest = rows-rest A }
 
-        pub list-more : {st' : Converting} → q ≡ ConvertedRow.Next st' → length w' ≡ length w → length files' ≡ length files
-            → length warnings' ≡ length warnings
+      module _ {w' files' warnings' : List ℕ} {st' : Converting} (R' : RowConverts main supplementary w w' files files' warnings warnings' c st row (Ok st')) where
+        pub list-more : length w' ≡ length w → length files' ≡ length files → length warnings' ≡ length warnings
             → ConvertingList main supplementary w₀ w' files₀ files' warnings₀ warnings' c st₀ st' all rs left n (more - 1)
         unfolding converted_in ◌>>=◌
-        list-more {st'} eq size files-size warnings-size =
-            let R : RowConverted main supplementary w w' files files' warnings warnings' c st row st' = rw eq at A.is in
+        list-more size files-size warnings-size =
+            let R : RowConverted main supplementary w w' files files' warnings warnings' c st row st' = R'.is in
             let whole = rw append-nil at (convert_row-prefix (unit_at main c) (header_in main c) (offsets_of w c) (raw_of row) J.new
             (converted_in main supplementary w c st []) (converted_in main supplementary w' c st' R.new) R.is) in
             let least = J.least in
@@ -184,7 +184,7 @@ module _ {main supplementary w₀ w files₀ files warnings₀ warnings : List �
               holds = R.holds;
               least = omega arith;
               most = omega arith;
-              kept = rows-rest;
+              kept = rows-rest R';
               room = rw size J.room;
               size = size ∙ J.size;
               files-size = files-size ∙ J.files-size;
@@ -203,4 +203,4 @@ module _ {main supplementary w₀ w files₀ files warnings₀ warnings : List �
           let same = J.warnings-size in
           let files-small = J.grown.put.small in
           let files-same = J.files-size in
-          list-more (row_appended J.holds row (omega arith) (omega arith) (omega arith) (omega arith) K size) refl size refl refl
+          list-more (row_appended J.holds row (omega arith) (omega arith) (omega arith) (omega arith) K size) size refl refl

@@ -5,7 +5,9 @@ use mathlib.Core.Option.{none, some}
 use Prim.Native.Nat.{ℕ, ◌+◌, ◌-◌, ◌≤◌}
 use native.Mathlib.Omega.{arith}
 use lib.ListN.{take, drop}
+use Rattle.std.specs.Prelude.{Some, None}
 use Rattle.tlv.specs.declared.fields.Step.{Step}
+use Rattle.tlv.specs.declared.fields.FieldSpan.{FieldSpan}
 use Rattle.tlv.specs.Bytes.{le_at}
 use Rattle.tlv.specs.Lists.{at, map_option}
 use Rattle.tlv.specs.Fields.{payload_of, fields}
@@ -17,8 +19,6 @@ use Rattle.tlv.proofs.CursorLaws.{field-within}
 use Rattle.tlv.proofs.ShapeLaws.{number_at, number-first}
 use Rattle.tlv.proofs.WidthLaws.{drop_part}
 use Rattle.tlv.proofs.PlacePromises.{placed-unit, placed-header}
-use Rattle.access.specs.declared.access.Own.{Own}
-use Rattle.access.specs.declared.access.Place.{Place}
 use Rattle.access.specs.Places.{unit_here, own_fields}
 use Rattle.access.specs.Access.{NextOwn}
 use Rattle.access.proofs.OwnLaws.{own-within, own-field}
@@ -45,7 +45,7 @@ module _ {s : List ℕ} {p : ℕ} (h : Placed s 0) (U : UnitIn s p) where
   pub unit-stands : UnitPlaced s p
   unit-stands =
       let k = U.number in
-      let a = unit-placed s k (Place.At p) (sym U.is) p refl h in
+      let a = unit-placed s k p (sym U.is) h in
       let w = field-within s p (step_at s p) 0x10 a.start a.len a.next refl a.is in
       let l = placed-unit s p (step_at s p) 0x10 a.start a.len a.next a.placed refl a.is refl in
       let e₁ : a.start ≡ p + 3 = w.0 in
@@ -72,22 +72,22 @@ encoding-here {s} {p} U = unit-encoding s p (step_at s p) 0x10 (p + 3) 18 (p + 2
 
 -- ---- its header
 
-module _ {s : List ℕ} {p : ℕ} {r : Own} (U : UnitPlaced s p) (own : NextOwn s (p + 21) 0x13 r) where
+module _ {s : List ℕ} {p : ℕ} (U : UnitPlaced s p) where
   header-first : (unit_here s p).header ≡ map_option header_of (payload_of 0x13 (own_fields (fields (drop (p + 21) s))))
   header-first = unit-header s p (step_at s p) 0x10 (p + 3) 18 (p + 21) refl U.is
 
-  pub header-none : r ≡ Own.Missing → (unit_here s p).header ≡ none
+  pub header-none : NextOwn s (p + 21) 0x13 None → (unit_here s p).header ≡ none
   unfolding map_option
-  header-none e = header-first ∙ ap (map_option header_of) (first-none s (p + 21) 0x13 r own e)
+  header-none own = header-first ∙ ap (map_option header_of) (first-none s (p + 21) 0x13 own)
 
-  pub header-found : {start len next : ℕ} → r ≡ Own.Field start len next → HeaderIn s p start len
+  pub header-found : {f : FieldSpan} → NextOwn s (p + 21) 0x13 (Some f) → HeaderIn s p f.start f.len
   unfolding map_option
-  header-found {start} {len} {next} e =
-      let f = own-field s (p + 21) 0x13 r start len next own e (unit-next U) in
+  header-found {f} own =
+      let x = own-field s (p + 21) 0x13 f own (unit-next U) in
       record {
-        is = header-first ∙ ap (map_option header_of) (first_found s (p + 21) 0x13 r own start len next e);
-        long = placed-header s f.place f.step 0x13 start len next f.here f.reads f.is refl;
-        within = (own-within s (p + 21) 0x13 r start len next own e).0;
+        is = header-first ∙ ap (map_option header_of) (first_found s (p + 21) 0x13 f own);
+        long = placed-header s x.place (step_at s x.place) 0x13 f.start f.len f.next x.here refl x.is refl;
+        within = (own-within s (p + 21) 0x13 f own).0;
       }
 
 -- what was read of a header, with its opcode lengths, is the header

@@ -5,6 +5,7 @@ use Prim.Native.Nat.{ℕ, ◌+◌, ◌*◌, ◌≤◌, ◌<◌, ◌^◌}
 use native.Mathlib.Omega.{arith}
 use lib.ListN.{length}
 use borrow.Author.Tests.{lt-ltb, le-ltb}
+use Rattle.std.specs.Prelude.{Option as Maybe, Some}
 use Rattle.tlv.specs.declared.model.FileIndex.{FileIndex}
 use Rattle.tlv.specs.Grammar.{row_field_size, row_line_at, row_column_at}
 use Rattle.tlv.specs.Lists.{at}
@@ -20,9 +21,7 @@ use Rattle.buffers.proofs.OutputLaws.{put-about}
 use Rattle.buffers.proofs.TableLaws.{kept_refl}
 use Rattle.lines.specs.Files.{get}
 use Rattle.lines.specs.Lines.{raw_line, convert_line}
-use Rattle.files.specs.declared.index.FoundIndex.{FoundIndex}
 use Rattle.files.specs.Indices.{indices_in, number_of}
-use Rattle.rows.specs.declared.line.StatementSequence.{StatementSequence}
 use Rattle.rows.specs.Sizes.{line_size}
 use Rattle.rows.specs.Stored.{sequence_of, PutLine}
 use Rattle.rows.proofs.StoredLaws.{lines-push}
@@ -50,7 +49,7 @@ warnings-append (x ∷ a) b = rw (warnings-append a b) (sym (append_assoc (encod
 -- ---- the line
 
 module _ {w : List ℕ} {c : Conversion} {r : Row} {file : FileIndex} where
-  pub line-appended : {w' : List ℕ} {count : ℕ} {o : StatementSequence} → r.line < 4294967296 → sequence_of o ≡ at (offsets_of w c) r.sequence
+  pub line-appended : {w' : List ℕ} {count : ℕ} {o : Maybe ℕ} → r.line < 4294967296 → sequence_of o ≡ at (offsets_of w c) r.sequence
       → PutLine w w' (c.lines + count * line_size) (record { address = r.address; file = file; line = r.line; column = r.column }) o → LineAppended w w' c r file count
   unfolding convert_line
   line-appended {count = count} h e P = record {
@@ -59,8 +58,8 @@ module _ {w : List ℕ} {c : Conversion} {r : Row} {file : FileIndex} where
   }
 
   -- the file's number is the map's
-  pub line_known : {w' : List ℕ} {count : ℕ} {q : FoundIndex} → number_of q ≡ get (indices_in w c.indices) r.file.0 → q ≡ FoundIndex.Number file → LineAppended w w' c r file count → KnownConverted w w' c r count
-  line_known found e A = record { file = file; known = sym found ∙ ap number_of e; line = A }
+  pub line_known : {w' : List ℕ} {count : ℕ} → number_of (Some file) ≡ get (indices_in w c.indices) r.file.0 → LineAppended w w' c r file count → KnownConverted w w' c r count
+  line_known found A = record { file = file; known = sym found; line = A }
 
   pub line-put : {w' warnings : List ℕ} {st : Converting} → LineAppended w w' c r file st.count → st.warned ≤ top → length warnings < top
       → LineConverted w w' warnings warnings c st r file (record { table = st.table; count = st.count + 1; warned = st.warned })

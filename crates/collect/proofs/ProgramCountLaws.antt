@@ -5,6 +5,9 @@ use Prim.Native.Nat.{ℕ, ◌+◌, ◌-◌, ◌≤◌, ◌<◌}
 use native.Mathlib.Omega.{arith}
 use borrow.Author.Tests.{eq-eqb, ne_eqb}
 use lib.ListN.{length, drop}
+use Rattle.std.specs.Prelude.{Some, None, Ok, Err}
+use Rattle.tlv.specs.declared.refusal.Refusal.{Refusal}
+use Rattle.tlv.specs.Refusals.{number_of}
 use Rattle.tlv.specs.Outcome.{Outcome, refused, done, ◌>>=◌}
 use Rattle.tlv.specs.Model.{LineRow}
 use Rattle.machine.specs.declared.registers.Encoding.{Encoding}
@@ -49,20 +52,16 @@ unfolding ◌>>=◌
 row_first (refused k) row lines opened n = refl
 row_first (done l) row lines opened n = refl
 
-module _ {e : Encoding} {ls s : List ℕ} {r : Registers} {at lines opened n : ℕ} (C : CountingProgram e ls s r at lines opened n) {q : Emitted}
-    (E : Emits (machine_of e ls (length s)) s r at q) where
-  pub program-done : q ≡ Emitted.End → done (record { lines = lines; sequences = n }) ≡ asked e ls s
+module _ {e : Encoding} {ls s : List ℕ} {r : Registers} {at lines opened n : ℕ} (C : CountingProgram e ls s r at lines opened n) where
+  pub program-done : Emits (machine_of e ls (length s)) s r at (Ok None) → done (record { lines = lines; sequences = n }) ≡ asked e ls s
   unfolding count_rows ◌>>=◌
-  program-done is = let Q : Emits (machine_of e ls (length s)) s r at Emitted.End = rw is at E in (rw (← Q.is) at C.same)
+  program-done E = rw (← E.is) at C.same
 
-  pub program-fault : {f : ℕ} → q ≡ Emitted.Fault f → refused f ≡ asked e ls s
+  pub program-fault : {f : Refusal} → Emits (machine_of e ls (length s)) s r at (Err f) → refused (number_of f) ≡ asked e ls s
   unfolding ◌>>=◌
-  program-fault {f} is = let Q : Emits (machine_of e ls (length s)) s r at (Emitted.Fault f) = rw is at E in (rw (← Q.is) at C.same)
+  program-fault E = rw (← E.is) at C.same
 
-  module _ {v : Registers} {next : ℕ} (is : q ≡ Emitted.Plain v next) where
-    plain : Emits (machine_of e ls (length s)) s r at (Emitted.Plain v next)
-    plain = rw is at E
-
+  module _ {v : Registers} {next : ℕ} (plain : Emits (machine_of e ls (length s)) s r at (Ok (Some (Emitted.Plain v next)))) where
     pub program-plain : CountingProgram e ls s v next lines (opened + 1) n
     unfolding count_rows
     program-plain = record {
@@ -80,10 +79,7 @@ module _ {e : Encoding} {ls s : List ℕ} {r : Registers} {at lines opened n : �
     pub program-plain-small : (opened + 1 ≤ length s) × (at < next)
     program-plain-small = (omega (arith, C.small, plain.within.0, plain.within.1), plain.within.0)
 
-  module _ {v : Registers} {next : ℕ} (is : q ≡ Emitted.Ended v next) where
-    ended : Emits (machine_of e ls (length s)) s r at (Emitted.Ended v next)
-    ended = rw is at E
-
+  module _ {v : Registers} {next : ℕ} (ended : Emits (machine_of e ls (length s)) s r at (Ok (Some (Emitted.Ended v next)))) where
     pub program-ended : (i : Registers) → i ≡ initial → CountingProgram e ls s i next (lines + opened) 0 (n + 1)
     unfolding count_rows
     program-ended i z = record {

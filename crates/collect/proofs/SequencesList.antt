@@ -10,6 +10,7 @@ use native.Mathlib.Omega.{arith}
 use lib.Dec.{ltb, eqb}
 use lib.ListN.{length}
 use borrow.Author.Tests.{eq-eqb, ne_eqb, lt-ltb, le-ltb}
+use Rattle.std.specs.Prelude.{Option as Maybe, Some, None}
 use Rattle.tlv.specs.declared.model.AddressRange.{AddressRange}
 use Rattle.tlv.specs.Lists.{at}
 use Rattle.tlv.specs.Bytes.{le, le_at}
@@ -20,7 +21,6 @@ use Rattle.buffers.proofs.RecordLaws.{records-length, records-kept, records-push
 use Rattle.line_program.specs.Scan.{offsets_at}
 use Rattle.lines.specs.Lines.{RawSequence}
 use Rattle.files.proofs.PieceLaws.{at_some, at_none}
-use Rattle.rows.specs.declared.line.StatementSequence.{StatementSequence}
 use Rattle.rows.specs.Sizes.{range_size}
 use Rattle.rows.specs.Stored.{sequence_of, range_of, range_at, ranges_of, PutSequenceRange}
 use Rattle.rows.proofs.StoredLaws.{ranges-nil}
@@ -29,15 +29,15 @@ use Rattle.collect.specs.Passes.{start_or, sequences_from, with_offset, Sequence
 -- ---- the offset of a sequence
 
 module _ (w : List ℕ) (b n i : ℕ) where
-  pub offset-known : {v : ℕ} → i < n → v ≡ le_at 8 w (b + i * 8) → sequence_of (StatementSequence.At v) ≡ at (offsets_at w b n) i
+  pub offset-known : {v : ℕ} → i < n → v ≡ le_at 8 w (b + i * 8) → sequence_of (Some v) ≡ at (offsets_at w b n) i
   offset-known h e = ap some (e ∙ sym (numbers-at 8 w b n i 0 h)) ∙ sym (at_some (offsets_at w b n) i 0 (omega (arith, records-length le 8 w b n)))
 
-  pub offset-unknown : n ≤ i → sequence_of StatementSequence.Unknown ≡ at (offsets_at w b n) i
+  pub offset-unknown : n ≤ i → sequence_of None ≡ at (offsets_at w b n) i
   offset-unknown h = sym (at_none (offsets_at w b n) i (omega (arith, records-length le 8 w b n)))
 
 -- ---- one record
 
-pub sequence-put : {w w' : List ℕ} {p offsets n k : ℕ} {r : AddressRange} {o : StatementSequence} → sequence_of o ≡ at (offsets_at w offsets n) k
+pub sequence-put : {w w' : List ℕ} {p offsets n k : ℕ} {r : AddressRange} {o : Maybe ℕ} → sequence_of o ≡ at (offsets_at w offsets n) k
     → PutSequenceRange w w' p r o → SequencePut w w' p offsets n (record { range = r; sequence = k })
 sequence-put {r = r} e P = record { is = P.range ∙ (λ i. record { range = r; statement_sequence = e i }); rest = P.rest }
 

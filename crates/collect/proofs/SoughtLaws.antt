@@ -9,6 +9,8 @@ use native.Mathlib.Omega.{arith}
 use lib.Dec.{leb}
 use lib.ListN.{length, drop, get_or}
 use borrow.Author.Tests.{eq-eqb, ne_eqb, le-leb, lt-leb, lt-ltb, le-ltb}
+use Rattle.std.specs.Prelude.{Option as Maybe, Some, None}
+use Rattle.tlv.specs.declared.fields.FieldSpan.{FieldSpan}
 use Rattle.tlv.specs.Outcome.{done}
 use Rattle.tlv.specs.Lists.{at, map_option}
 use Rattle.tlv.specs.Fields.{fields, payload_of}
@@ -17,7 +19,6 @@ use Rattle.tlv.specs.Model.{HeaderFile, file_of}
 use Rattle.tlv.proofs.PlacePromises.{placed-file_zero, placed-file_zero-string}
 use Rattle.buffers.specs.Table.{chunk}
 use Rattle.buffers.proofs.TableLaws.{le-or_lt}
-use Rattle.access.specs.declared.access.Own.{Own}
 use Rattle.access.specs.Places.{own_fields}
 use Rattle.access.specs.Access.{NextOwn}
 use Rattle.access.proofs.OwnLaws.{own-within, own-field}
@@ -36,9 +37,6 @@ use Rattle.collect.specs.declared.sought.SoughtFile.{SoughtFile}
 use Rattle.collect.specs.Converts.{unit_at, header_in, ConversionIn, zero_of, listed_of, sought_of}
 
 -- ---- what the code finds
-
-pub zero-found : {o : Own} {start len next : ℕ} → o ≡ Own.Field start len next → SoughtFile.Zero (record { start = start; len = len }) ≡ zero_of o
-zero-found e = rw e
 
 pub is-listed : {count n : ℕ} → n < count → SoughtFile.Unnamed ≡ listed_of count n
 is-listed {count} {n} h = rw (lt-ltb n count h)
@@ -83,20 +81,20 @@ module _ {main supplementary w : List ℕ} {c : Conversion} {st : Converting} (C
   zero_field : (unit_at main c).file_zero ≡ map_option file_of (payload_of 0x1c (own_fields (fields (drop (c.unit.place + 21) main))))
   zero_field = let p = c.unit.place in unit-file_zero main p (step_at main p) 0x10 (p + 3) 18 (p + 21) refl C.placed.is
 
-  zero-means : header_file (unit_at main c) (header_in main c) n ≡ (unit_at main c).file_zero → (o : Own) → NextOwn main (c.unit.place + 21) 0x1c o → Means main w c n (zero_of o)
+  zero-means : header_file (unit_at main c) (header_in main c) n ≡ (unit_at main c).file_zero → (o : Maybe FieldSpan) → NextOwn main (c.unit.place + 21) 0x1c o
+      → Means main w c n (zero_of o)
   unfolding map_option chunk
-  zero-means e Own.Missing own = e ∙ rw (zero_field, first-none main (c.unit.place + 21) 0x1c Own.Missing own refl)
-  zero-means e (Own.Field start len next) own =
+  zero-means e None own = e ∙ rw (zero_field, first-none main (c.unit.place + 21) 0x1c own)
+  zero-means e (Some f) own =
       let p = c.unit.place + 21 in
-      let r = Own.Field start len next in
-      let f = own-field main p 0x1c r start len next own refl (unit-next C.placed) in
-      let a : Span = record { start = start; len = len } in
-      let found : (unit_at main c).file_zero ≡ some (file_of (span_in main a)) = zero_field ∙ rw (first_found main p 0x1c r own start len next refl) in
-      let long = placed-file_zero main f.place f.step 0x1c start len next f.here f.reads f.is refl in
-      let short = placed-file_zero-string main f.place f.step 0x1c start len next f.here f.reads f.is refl in
+      let x = own-field main p 0x1c f own (unit-next C.placed) in
+      let a : Span = record { start = f.start; len = f.len } in
+      let found : (unit_at main c).file_zero ≡ some (file_of (span_in main a)) = zero_field ∙ rw (first_found main p 0x1c f own) in
+      let long = placed-file_zero main x.place (step_at main x.place) 0x1c f.start f.len f.next x.here refl x.is refl in
+      let short = placed-file_zero-string main x.place (step_at main x.place) 0x1c f.start f.len f.next x.here refl x.is refl in
       record {
         is = e ∙ found;
-        span = record { within = (own-within main p 0x1c r start len next own refl).0; numbered = long; short = omega arith };
+        span = record { within = (own-within main p 0x1c f own).0; numbered = long; short = omega arith };
         listed = record { listed = rw found (inl refl) };
       }
 

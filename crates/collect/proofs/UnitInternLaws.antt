@@ -8,6 +8,8 @@ use Prim.Native.Nat.{ℕ, suc, ◌+◌, ◌*◌, ◌≤◌}
 use native.Mathlib.Omega.{arith}
 use lib.Dec.{leb}
 use lib.ListN.{length}
+use Rattle.std.specs.Prelude.{Result, Ok, Err}
+use Rattle.tlv.specs.declared.refusal.Refusal.{Refusal}
 use Rattle.tlv.specs.Outcome.{done, ◌>>=◌}
 use Rattle.tlv.specs.Model.{CompilationUnit, LineHeader, HeaderFile}
 use Rattle.tlv.proofs.OutcomeLaws.{done-is, with_done}
@@ -22,7 +24,6 @@ use Rattle.files.specs.Pieces.{header_here, UnitPlaced, Described}
 use Rattle.files.specs.Store.{extent, table_of, FilesIn, Grown}
 use Rattle.files.specs.Interns.{Listed, MapRoom, InternsHeader, indexed_of, map_extent}
 use Rattle.files.proofs.GrownLaws.{unit_kept, files-kept, table_kept, grown-after}
-use Rattle.collect.specs.declared.interned.InternedUnit.{InternedUnit}
 use Rattle.collect.specs.Stages.{UnitRoom, InternsUnit}
 use Rattle.collect.proofs.FrameLaws.{but_wide}
 
@@ -73,7 +74,7 @@ module _ {main supplementary w w₁ : List ℕ} {p : ℕ} {t : StoredFiles} {bas
         map = rw D.place (omega arith);
       }
 
-  module _ {w₂ files files₂ : List ℕ} {r : InternedFiles} (I : InternsHeader main supplementary w₁ w₂ files files₂ t main u (base + u.directory_count * 8) r) where
+  module _ {w₂ files files₂ : List ℕ} {r : Result InternedFiles Refusal} (I : InternsHeader main supplementary w₁ w₂ files files₂ t main u (base + u.directory_count * 8) r) where
     interned_is : indexed_of main supplementary w₂ (base + u.directory_count * 8) r ≡ intern_header_files (unit_here main p) (header_here main p) (table_of main supplementary w t)
     interned_is = rw (D.place, table_kept F (but_one D.rest) (inl R.table, tt)) at I.is
 
@@ -84,17 +85,20 @@ module _ {main supplementary w w₁ : List ℕ} {p : ℕ} {t : StoredFiles} {bas
         but_trans (but_of D.rest (there (here (omega arith) (omega arith))))
         (but_wide ((t.base, extent t) ∷ (base, map_extent main p) ∷ []) I.rest (here (omega arith) (omega arith), (there (here (omega arith) (omega arith)), tt)))
 
-    pub interned-refused : {n : ℕ} → r ≡ InternedFiles.Refused n → InternsUnit main supplementary w w₂ files files₂ p t base (InternedUnit.Refused n)
-    interned-refused e = record { is = rw e at interned_is; after = tt; rest = interned_rest }
+  module _ {w₂ files files₂ : List ℕ} {e : Refusal} (I : InternsHeader main supplementary w₁ w₂ files files₂ t main u (base + u.directory_count * 8) (Err e)) where
+    pub interned-refused : InternsUnit main supplementary w w₂ files files₂ p t base (Err e)
+    interned-refused = record { is = interned_is I; after = tt; rest = interned_rest I }
 
-    pub interned_done : {t' : StoredFiles} {n : ℕ} → r ≡ InternedFiles.Indices t' n → length w₂ ≡ length w
-        → InternsUnit main supplementary w w₂ files files₂ p t base (InternedUnit.Unit u (record { base = base + u.directory_count * 8; count = n }) t')
-    interned_done {t'} {n} e last =
-        let after : Grown main supplementary w₁ w₂ files files₂ t t' × (n ≤ 1 + length (unit_here main u.place).files) = rw e at I.after in
+  module _ {w₂ files files₂ : List ℕ} {r : InternedFiles} (I : InternsHeader main supplementary w₁ w₂ files files₂ t main u (base + u.directory_count * 8) (Ok r)) where
+    pub interned_done : length w₂ ≡ length w
+        → InternsUnit main supplementary w w₂ files files₂ p t base
+        (Ok (record { unit = u; indices = record { base = base + u.directory_count * 8; count = r.count }; table = r.table }))
+    interned_done last =
+        let after = I.after in
         let a = R.table in
         let d = D.directories in
         record {
-          is = rw e at interned_is;
+          is = interned_is I;
           after = record {
             grown = grown-after F (but_one D.rest) (inl R.table, tt) after.0;
             described = unit_kept D.unit I.rest (inr (omega arith), (inl (omega arith), tt)) (omega arith);
@@ -104,5 +108,5 @@ module _ {main supplementary w w₁ : List ℕ} {p : ℕ} {t : StoredFiles} {bas
             map = refl;
             few = rw D.place at after.1;
           };
-          rest = interned_rest;
+          rest = interned_rest I;
         }

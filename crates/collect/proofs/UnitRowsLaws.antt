@@ -4,6 +4,9 @@ use mathlib.Core.List.{List}
 use Prim.Native.Nat.{ℕ, ◌+◌, ◌-◌, ◌*◌, ◌≤◌}
 use native.Mathlib.Omega.{arith}
 use lib.ListN.{length, take, drop}
+use Rattle.std.specs.Prelude.{Ok, Err}
+use Rattle.tlv.specs.declared.refusal.Refusal.{Refusal}
+use Rattle.tlv.specs.Refusals.{number_of}
 use Rattle.tlv.specs.Outcome.{Outcome, refused, ◌>>=◌}
 use Rattle.tlv.specs.Grammar.{row_field_size}
 use Rattle.tlv.specs.Checked.{Placed}
@@ -24,19 +27,19 @@ use Rattle.collect.specs.Sources.{program_in, source_rows, most_rows, SourceWith
 
 -- ---- from the row fields
 
-module _ (main program w : List ℕ) (p lines : ℕ) (source : RowSource) (is : source ≡ RowSource.Fields) {r : CountedRows}
-    (counted : counted_of r ≡ count_rows (rows_from main p) 0 0 0) where
-  pub fields-fault : {f : ℕ} → r ≡ CountedRows.Fault f
-      → GathersUnit (source_rows main program p source) main w w p lines (most_rows main program p source) (GatheredRows.Fault f)
+module _ (main program w : List ℕ) (p lines : ℕ) (source : RowSource) (is : source ≡ RowSource.Fields) where
+  pub fields-fault : {e : Refusal} → counted_of (Err e) ≡ count_rows (rows_from main p) 0 0 0
+      → GathersUnit (source_rows main program p source) main w w p lines (most_rows main program p source) (Err e)
   unfolding ◌>>=◌
-  fields-fault e = record { is = rw is (sym (rw e at counted)); rest = kept_refl w lines _ }
+  fields-fault counted = record { is = rw is (sym counted); rest = kept_refl w lines _ }
 
-  pub fields-rows : {n m : ℕ} → Placed main p → r ≡ CountedRows.Rows n m
-      → GathersUnit (source_rows main program p source) main w w p lines (most_rows main program p source) (GatheredRows.Rows n m UnitRows.Fields)
-  fields-rows h e = record {
+  pub fields-rows : {k : CountedRows} → Placed main p → counted_of (Ok k) ≡ count_rows (rows_from main p) 0 0 0
+      → GathersUnit (source_rows main program p source) main w w p lines (most_rows main program p source)
+      (Ok (record { lines = k.lines; sequences = k.sequences; rows = UnitRows.Fields }))
+  fields-rows h counted = record {
     is = record {
       is = rw is;
-      counted = record { is = sym (rw e at counted) };
+      counted = record { is = sym counted };
       few = rw is (omega arith);
       ready = record { placed = h; above = tt };
     };
@@ -53,47 +56,39 @@ module _ (main program w : List ℕ) (p lines : ℕ) (source : RowSource) {e : E
   pub most-program : most_rows main program p source ≡ length program
   most-program = rw is
 
-  module _ {w' : List ℕ} {r : ProgramRows}
-      (G : GathersRows (program_in e (take (to - from) (drop from main)) program) w w' (lines + length program * line_size) (length program) r) where
-    program-rest : Kept w w' lines (row_room * most_rows main program p source)
-    program-rest = rw most-program (kept-wide lines (row_room * length program) G.rest (omega arith) (omega arith))
+  pub program-fault : {w' : List ℕ} {e' : Refusal}
+      → GathersRows (program_in e (take (to - from) (drop from main)) program) w w' (lines + length program * line_size) (length program) (Err e')
+      → GathersUnit (source_rows main program p source) main w w' p lines (most_rows main program p source) (Err e')
+  program-fault G = record { is = rw is G.is; rest = rw most-program (kept-wide lines (row_room * length program) G.rest (omega arith) (omega arith)) }
 
-    pub program-fault : {f : ℕ} → r ≡ ProgramRows.Fault f
-        → GathersUnit (source_rows main program p source) main w w' p lines (most_rows main program p source) (GatheredRows.Fault f)
-    program-fault z = record { is = rw is (rw z at G.is); rest = program-rest }
-
-    pub program-rows : {n m count : ℕ} → Placed main p → lines + row_room * most_rows main program p source ≤ length w → length w' ≡ length w
-        → r ≡ ProgramRows.Rows n m count
-        → GathersUnit (source_rows main program p source) main w w' p lines (most_rows main program p source)
-        (GatheredRows.Rows n m (UnitRows.Table (lines + length program * line_size) count))
-    program-rows {n} {m} {count} h room size z =
-        let at = lines + length program * line_size in
-        let T : TableGathered (program_in e (take (to - from) (drop from main)) program) w' at n m count (length program) = rw z at G.is in
-        let k : length (table_rows w' at count) ≡ count = records-length row_of row_field_size w' at count in
-        let few = T.few in
-        let most = most-program in
-        record {
-          is = record {
-            is = rw is T.is;
-            counted = T.counted;
-            few = omega arith;
-            ready = record { placed = h; above = (omega arith, omega arith) };
-          };
-          rest = program-rest;
-        }
+  pub program-rows : {w' : List ℕ} {r : ProgramRows} → Placed main p → lines + row_room * most_rows main program p source ≤ length w → length w' ≡ length w
+      → GathersRows (program_in e (take (to - from) (drop from main)) program) w w' (lines + length program * line_size) (length program) (Ok r)
+      → GathersUnit (source_rows main program p source) main w w' p lines (most_rows main program p source)
+      (Ok (record { lines = r.lines; sequences = r.sequences; rows = UnitRows.Table (lines + length program * line_size) r.count }))
+  program-rows {w'} {r} h room size G =
+      let at = lines + length program * line_size in
+      let k : length (table_rows w' at r.count) ≡ r.count = records-length row_of row_field_size w' at r.count in
+      let few = G.is.few in
+      let most = most-program in
+      record {
+        is = record {
+          is = rw is G.is.is;
+          counted = G.is.counted;
+          few = omega arith;
+          ready = record { placed = h; above = (omega arith, omega arith) };
+        };
+        rest = rw most-program (kept-wide lines (row_room * length program) G.rest (omega arith) (omega arith));
+      }
 
 -- ---- the fault of rows comes first
 
-module _ {x : Outcome (List LineRow)} {main w w' : List ℕ} {p free most : ℕ} {r : GatheredRows} (later : ℕ)
-    (G : GathersUnit x main w w' p free most r) where
-  pub fault-found : {f : ℕ} → r ≡ GatheredRows.Fault f → FindsFault x w w' free most later f
-  fault-found {f} is = let k : count_all x ≡ refused f = rw is at G.is in record { is = rw k; rest = G.rest }
+module _ {x : Outcome (List LineRow)} {main w w' : List ℕ} {p free most : ℕ} (later : ℕ) where
+  pub fault-found : {e : Refusal} → GathersUnit x main w w' p free most (Err e) → FindsFault x w w' free most later (number_of e)
+  fault-found {e} G = let k : count_all x ≡ refused (number_of e) = G.is in record { is = rw k; rest = G.rest }
 
-  pub fault-later : {n m : ℕ} {rows : UnitRows} → r ≡ GatheredRows.Rows n m rows → FindsFault x w w' free most later later
+  pub fault-later : {r : GatheredRows} → GathersUnit x main w w' p free most (Ok r) → FindsFault x w w' free most later later
   unfolding ◌>>=◌
-  fault-later {n} {m} {rows} is =
-      let K : UnitGathered x main w' p free most n m rows = rw is at G.is in
-      record { is = rw (K.is, K.counted.is); rest = G.rest }
+  fault-later G = record { is = rw (G.is.is, G.is.counted.is); rest = G.rest }
 
 -- ---- each walk
 

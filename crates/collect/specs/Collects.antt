@@ -1,6 +1,8 @@
 -- Contract. What collect_lines promises: the unit's lines, map and sequences in the work slice, its files and warnings in their trays.
-use Rattle.std.specs.Prelude.{ℕ, ◌+◌, ◌*◌, ◌/◌, ◌≤◌, ◌≡◌, List, [], ◌∷◌, length}
+use Rattle.std.specs.Prelude.{ℕ, ◌+◌, ◌*◌, ◌/◌, ◌≤◌, ◌≡◌, List, [], ◌∷◌, length, Result, Ok, Err}
 use Rattle.std.proofs.Math.Option.{some}
+use Rattle.tlv.specs.declared.refusal.Refusal.{Refusal}
+use Rattle.tlv.specs.Refusals.{number_of}
 use Rattle.tlv.specs.Outcome.{refused, done}
 use Rattle.tlv.specs.Lists.{at}
 use Rattle.tlv.specs.Fields.{fields}
@@ -61,14 +63,14 @@ pub record CollectedIn (main supplementary program w w' files files' warnings wa
   pub rest : KeptBut w w' ((t.base, extent t) ∷ (free, lines_extent main p program) ∷ [])
 
 abbrev pub CollectsBy : List ℕ → List ℕ → List ℕ → List ℕ → List ℕ → List ℕ → List ℕ → List ℕ → List ℕ → ℕ → StoredFiles
-    → ℕ → ℕ → CollectedLines → Type 0
-CollectsBy main supplementary program w w' files files' warnings warnings' p t warned free (CollectedLines.Refused n) =
-    collect_lines (unit_here main p) program (table_of main supplementary w t) ≡ refused n
-CollectsBy main supplementary program w w' files files' warnings warnings' p t warned free (CollectedLines.Lines l is t' warned') =
-    CollectedIn main supplementary program w w' files files' warnings warnings' p t warned free l is t' warned'
+    → ℕ → ℕ → Result CollectedLines Refusal → Type 0
+CollectsBy main supplementary program w w' files files' warnings warnings' p t warned free (Err e) =
+    collect_lines (unit_here main p) program (table_of main supplementary w t) ≡ refused (number_of e)
+CollectsBy main supplementary program w w' files files' warnings warnings' p t warned free (Ok r) =
+    CollectedIn main supplementary program w w' files files' warnings warnings' p t warned free r.lines r.indices r.table r.warned
 
 -- a refusal too keeps what lies outside the file table and the lines' room
 pub record CollectsLines (main supplementary program w w' files files' warnings warnings' : List ℕ) (p : ℕ) (t : StoredFiles) (warned free : ℕ)
-    (r : CollectedLines) : Type 0 where
+    (r : Result CollectedLines Refusal) : Type 0 where
   pub is : CollectsBy main supplementary program w w' files files' warnings warnings' p t warned free r
   pub rest : KeptBut w w' ((t.base, extent t) ∷ (free, lines_extent main p program) ∷ [])

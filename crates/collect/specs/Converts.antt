@@ -1,14 +1,16 @@
 -- Contract. What the conversion of a row promises: the file of a row, its line and its sequence.
-use Rattle.std.specs.Prelude.{ℕ, ◌+◌, ◌*◌, ◌≤◌, ◌≡◌, Bool, true, false, cond, ◌⊎◌, List, [], ◌∷◌, leb, ltb, eqb, length}
+use Rattle.std.specs.Prelude.{ℕ, ◌+◌, ◌*◌, ◌≤◌, ◌≡◌, Bool, true, false, cond, ◌⊎◌, List, [], ◌∷◌, leb, ltb, eqb, length, Option as Maybe, Some, None, Result, Ok, Err}
 use Rattle.std.proofs.Math.Option.{none, some}
 use Rattle.tlv.specs.Tags.{file_zero_tag, unit_whole}
 use Rattle.tlv.specs.declared.model.FileIndex.{FileIndex}
+use Rattle.tlv.specs.declared.refusal.Refusal.{Refusal}
+use Rattle.tlv.specs.Refusals.{number_of}
 use Rattle.tlv.specs.Outcome.{refused, done}
 use Rattle.tlv.specs.Model.{CompilationUnit, LineHeader, HeaderFile, LineRow}
 use Rattle.buffers.specs.Buffer.{Put}
 use Rattle.buffers.specs.Table.{Kept, KeptBut}
 use Rattle.buffers.specs.Output.{Warning, warnings_bytes}
-use Rattle.access.specs.declared.access.Own.{Own}
+use Rattle.tlv.specs.declared.fields.FieldSpan.{FieldSpan}
 use Rattle.access.specs.Access.{NextOwn}
 use Rattle.access.specs.Places.{unit_here}
 use Rattle.line_program.specs.Scan.{offset_record, offsets_at}
@@ -23,7 +25,6 @@ use Rattle.rows.specs.Sizes.{line_size}
 use Rattle.rows.specs.Stored.{lines_of}
 use Rattle.collect.specs.declared.convert.Conversion.{Conversion}
 use Rattle.collect.specs.declared.convert.Converting.{Converting}
-use Rattle.collect.specs.declared.convert.ConvertedRow.{ConvertedRow}
 use Rattle.collect.specs.declared.convert.Row.{Row}
 use Rattle.collect.specs.declared.sought.SoughtFile.{SoughtFile}
 use Rattle.collect.specs.Passes.{convert_from}
@@ -74,9 +75,9 @@ raw_of r = record { address = r.address; file = r.file.0; line = r.line; column 
 -- ---- the file of a row that the unit's map has no number for
 
 -- what the field of file 0 before version 5 says
-abbrev pub zero_of : Own → SoughtFile
-zero_of (Own.Field start len next) = SoughtFile.Zero (record { start = start; len = len })
-zero_of Own.Missing = SoughtFile.Missing
+abbrev pub zero_of : Maybe FieldSpan → SoughtFile
+zero_of (Some f) = SoughtFile.Zero (record { start = f.start; len = f.len })
+zero_of None = SoughtFile.Missing
 
 -- a number of the map is one that the header lists
 abbrev pub listed_of : ℕ → ℕ → SoughtFile
@@ -132,15 +133,15 @@ pub record RowConverted (main supplementary w w' files files' warnings warnings'
   pub more : (st.count ≤ st'.count) × (st'.count ≤ st.count + 1)
 
 abbrev pub ConvertsRow : List ℕ → List ℕ → List ℕ → List ℕ → List ℕ → List ℕ → List ℕ → List ℕ → Conversion → Converting
-    → Row → ConvertedRow → Type 0
-ConvertsRow main supplementary w w' files files' warnings warnings' c st r (ConvertedRow.Refused n) =
-    convert_row (unit_at main c) (header_in main c) (offsets_of w c) (raw_of r) (converted_in main supplementary w c st []) ≡ refused n
-ConvertsRow main supplementary w w' files files' warnings warnings' c st r (ConvertedRow.Next st') =
+    → Row → Result Converting Refusal → Type 0
+ConvertsRow main supplementary w w' files files' warnings warnings' c st r (Err e) =
+    convert_row (unit_at main c) (header_in main c) (offsets_of w c) (raw_of r) (converted_in main supplementary w c st []) ≡ refused (number_of e)
+ConvertsRow main supplementary w w' files files' warnings warnings' c st r (Ok st') =
     RowConverted main supplementary w w' files files' warnings warnings' c st r st'
 
 -- a refusal too keeps what lies outside the file table, the unit's map and the place of the next line
 pub record RowConverts (main supplementary w w' files files' warnings warnings' : List ℕ) (c : Conversion) (st : Converting) (row : Row)
-    (r : ConvertedRow) : Type 0 where
+    (r : Result Converting Refusal) : Type 0 where
   pub is : ConvertsRow main supplementary w w' files files' warnings warnings' c st row r
   pub rest : KeptBut w w' ((st.table.base, extent st.table) ∷ (c.indices.base, c.indices.count * index_record)
       ∷ (c.lines + st.count * line_size, line_size) ∷ [])
@@ -157,15 +158,15 @@ pub record RowsConverted (rows : List LineRow) (main supplementary w w' files fi
   pub more : st'.count ≤ st.count + left
 
 abbrev pub ConvertsRows : List LineRow → List ℕ → List ℕ → List ℕ → List ℕ → List ℕ → List ℕ → List ℕ → List ℕ → Conversion
-    → Converting → ℕ → ConvertedRow → Type 0
-ConvertsRows rows main supplementary w w' files files' warnings warnings' c st left (ConvertedRow.Refused n) =
-    convert_from (unit_at main c) (header_in main c) (offsets_of w c) rows 0 left (converted_in main supplementary w c st []) ≡ refused n
-ConvertsRows rows main supplementary w w' files files' warnings warnings' c st left (ConvertedRow.Next st') =
+    → Converting → ℕ → Result Converting Refusal → Type 0
+ConvertsRows rows main supplementary w w' files files' warnings warnings' c st left (Err e) =
+    convert_from (unit_at main c) (header_in main c) (offsets_of w c) rows 0 left (converted_in main supplementary w c st []) ≡ refused (number_of e)
+ConvertsRows rows main supplementary w w' files files' warnings warnings' c st left (Ok st') =
     RowsConverted rows main supplementary w w' files files' warnings warnings' c st left st'
 
 -- a refusal too keeps what lies outside the file table, the unit's map and the places of the next lines
 pub record RowsConvert (rows : List LineRow) (main supplementary w w' files files' warnings warnings' : List ℕ) (c : Conversion) (st : Converting)
-    (left : ℕ) (r : ConvertedRow) : Type 0 where
+    (left : ℕ) (r : Result Converting Refusal) : Type 0 where
   pub is : ConvertsRows rows main supplementary w w' files files' warnings warnings' c st left r
   pub rest : KeptBut w w' ((st.table.base, extent st.table) ∷ (c.indices.base, c.indices.count * index_record)
       ∷ (c.lines + st.count * line_size, left * line_size) ∷ [])

@@ -1,7 +1,9 @@
 -- Contract. The walks over a unit's rows that the code makes: how many rows and sequences are finished, and where the sequences lie.
-use Rattle.std.specs.Prelude.{ℕ, zero, suc, ◌+◌, ◌*◌, ◌≡◌, cond, List, [], ◌∷◌, map, ltb, eqb, drop}
+use Rattle.std.specs.Prelude.{ℕ, zero, suc, ◌+◌, ◌*◌, ◌≡◌, cond, List, [], ◌∷◌, map, ltb, eqb, drop, Result, Ok, Err}
 use Rattle.std.proofs.Math.Option.{Option, none, some}
 use Rattle.tlv.specs.Tags.{row_tag}
+use Rattle.tlv.specs.declared.refusal.Refusal.{Refusal}
+use Rattle.tlv.specs.Refusals.{number_of}
 use Rattle.tlv.specs.Outcome.{Outcome, refused, done, ◌>>=◌}
 use Rattle.tlv.specs.Lists.{at}
 use Rattle.tlv.specs.Fields.{fields, payloads}
@@ -41,9 +43,9 @@ count_all x = x >>= count_from 0 0 0
 pub record RowsCounted (rows : List LineRow) (n m : ℕ) : Type 0 where
   pub is : count_rows rows 0 0 0 ≡ done (record { lines = n; sequences = m })
 
-abbrev pub counted_of : CountedRows → Outcome Counted
-counted_of (CountedRows.Fault n) = refused n
-counted_of (CountedRows.Rows lines sequences) = done (record { lines = lines; sequences = sequences })
+abbrev pub counted_of : Result CountedRows Refusal → Outcome Counted
+counted_of (Ok c) = done (record { lines = c.lines; sequences = c.sequences })
+counted_of (Err e) = refused (number_of e)
 
 abbrev pub start_or : Option ℕ → ℕ → ℕ
 start_or none a = a

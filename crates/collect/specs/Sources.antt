@@ -1,5 +1,7 @@
 -- Contract. Where the rows of a unit come from: its row fields, or the line program (document 02, E8).
-use Rattle.std.specs.Prelude.{ℕ, ◌+◌, ◌-◌, ◌*◌, ◌≤◌, ◌≡◌, List, length, take, drop, eqb}
+use Rattle.std.specs.Prelude.{ℕ, ◌+◌, ◌-◌, ◌*◌, ◌≤◌, ◌≡◌, List, length, take, drop, eqb, Result, Ok, Err}
+use Rattle.tlv.specs.declared.refusal.Refusal.{Refusal}
+use Rattle.tlv.specs.Refusals.{number_of}
 use Rattle.tlv.specs.Outcome.{Outcome, refused, done}
 use Rattle.tlv.specs.Lists.{map_option}
 use Rattle.tlv.specs.Bytes.{le_at}
@@ -83,12 +85,12 @@ pub record UnitGathered (x : Outcome (List LineRow)) (main w : List ℕ) (p line
   pub few : length (rows_here main w p rows) ≤ most
   pub ready : RowsReady main w p (lines + line_size * length (rows_here main w p rows)) rows
 
-abbrev pub GathersUnitBy : Outcome (List LineRow) → List ℕ → List ℕ → ℕ → ℕ → ℕ → GatheredRows → Type 0
-GathersUnitBy x main w p lines most (GatheredRows.Fault f) = count_all x ≡ refused f
-GathersUnitBy x main w p lines most (GatheredRows.Rows n m rows) = UnitGathered x main w p lines most n m rows
+abbrev pub GathersUnitBy : Outcome (List LineRow) → List ℕ → List ℕ → ℕ → ℕ → ℕ → Result GatheredRows Refusal → Type 0
+GathersUnitBy x main w p lines most (Ok r) = UnitGathered x main w p lines most r.lines r.sequences r.rows
+GathersUnitBy x main w p lines most (Err e) = count_all x ≡ refused (number_of e)
 
 -- there are `most` of them at most; a fault too keeps what lies outside the room of the lines
-pub record GathersUnit (x : Outcome (List LineRow)) (main w w' : List ℕ) (p lines most : ℕ) (r : GatheredRows) : Type 0 where
+pub record GathersUnit (x : Outcome (List LineRow)) (main w w' : List ℕ) (p lines most : ℕ) (r : Result GatheredRows Refusal) : Type 0 where
   pub is : GathersUnitBy x main w' p lines most r
   pub rest : Kept w w' lines (row_room * most)
 

@@ -1,7 +1,9 @@
 -- Contract. What the steps of collect_lines promise, each of what stands in the work slice before and after it.
-use Rattle.std.specs.Prelude.{ℕ, ◌+◌, ◌*◌, ◌≤◌, ◌≡◌, List, [], ◌∷◌, map, length, take, drop}
+use Rattle.std.specs.Prelude.{ℕ, ◌+◌, ◌*◌, ◌≤◌, ◌≡◌, List, [], ◌∷◌, map, length, take, drop, Result, Ok, Err}
 use Rattle.std.proofs.Math.Option.{none, some}
 use Rattle.tlv.specs.Tags.{file_zero_tag, unit_whole}
+use Rattle.tlv.specs.declared.refusal.Refusal.{Refusal}
+use Rattle.tlv.specs.Refusals.{number_of}
 use Rattle.tlv.specs.Outcome.{Outcome, refused, done, ◌>>=◌}
 use Rattle.tlv.specs.Bytes.{le_at}
 use Rattle.tlv.specs.Checked.{Placed}
@@ -70,9 +72,9 @@ pub record UnitRoom (main w : List ℕ) (t : StoredFiles) (p base : ℕ) : Type 
   pub table : t.base + extent t ≤ base
   pub room : base + map_extent main p ≤ length w
 
-abbrev pub interned_of : List ℕ → List ℕ → List ℕ → InternedUnit → Outcome Indexed
-interned_of main supplementary w (InternedUnit.Refused n) = refused n
-interned_of main supplementary w (InternedUnit.Unit unit indices t) = done (record { table = table_of main supplementary w t; indices = indices_in w indices })
+abbrev pub interned_of : List ℕ → List ℕ → List ℕ → Result InternedUnit Refusal → Outcome Indexed
+interned_of main supplementary w (Ok r) = done (record { table = table_of main supplementary w r.table; indices = indices_in w r.indices })
+interned_of main supplementary w (Err e) = refused (number_of e)
 
 -- the unit at p is described at base, and its map stands behind its directories
 pub record UnitInterned (main supplementary w w' files files' : List ℕ) (p : ℕ) (t : StoredFiles) (base : ℕ) (unit : FileUnit)
@@ -85,12 +87,12 @@ pub record UnitInterned (main supplementary w w' files files' : List ℕ) (p : �
   pub map : indices.base ≡ base + unit.directory_count * 8
   pub few : indices.count ≤ 1 + length (unit_here main p).files
 
-abbrev pub InternedAfter : List ℕ → List ℕ → List ℕ → List ℕ → List ℕ → List ℕ → ℕ → StoredFiles → ℕ → InternedUnit → Type 0
-InternedAfter main supplementary w w' files files' p t base (InternedUnit.Refused n) = Unit
-InternedAfter main supplementary w w' files files' p t base (InternedUnit.Unit unit indices t') =
-    UnitInterned main supplementary w w' files files' p t base unit indices t'
+abbrev pub InternedAfter : List ℕ → List ℕ → List ℕ → List ℕ → List ℕ → List ℕ → ℕ → StoredFiles → ℕ → Result InternedUnit Refusal → Type 0
+InternedAfter main supplementary w w' files files' p t base (Ok r) =
+    UnitInterned main supplementary w w' files files' p t base r.unit r.indices r.table
+InternedAfter main supplementary w w' files files' p t base (Err e) = Unit
 
-pub record InternsUnit (main supplementary w w' files files' : List ℕ) (p : ℕ) (t : StoredFiles) (base : ℕ) (r : InternedUnit) : Type 0 where
+pub record InternsUnit (main supplementary w w' files files' : List ℕ) (p : ℕ) (t : StoredFiles) (base : ℕ) (r : Result InternedUnit Refusal) : Type 0 where
   pub is : interned_of main supplementary w' r ≡ intern_header_files (unit_here main p) (header_here main p) (table_of main supplementary w t)
   pub after : InternedAfter main supplementary w w' files files' p t base r
   pub rest : KeptBut w w' ((t.base, extent t) ∷ (base, map_extent main p) ∷ [])
@@ -148,15 +150,15 @@ pub record Finished (x : Outcome (List LineRow)) (most : ℕ) (main supplementar
   pub within : l.buffer + entry_size + l.line_count * entry_size ≤ c.lines + row_room * most + entry_size
 
 abbrev pub FinishesBy : Outcome (List LineRow) → ℕ → List ℕ → List ℕ → List ℕ → List ℕ → List ℕ → List ℕ → List ℕ → List ℕ
-    → Conversion → StoredFiles → ℕ → CollectedLines → Type 0
-FinishesBy x most main supplementary w w' files files' warnings warnings' c t warned (CollectedLines.Refused n) =
-    finish_rows x main supplementary w c t ≡ refused n
-FinishesBy x most main supplementary w w' files files' warnings warnings' c t warned (CollectedLines.Lines l is t' warned') =
-    Finished x most main supplementary w w' files files' warnings warnings' c t warned l is t' warned'
+    → Conversion → StoredFiles → ℕ → Result CollectedLines Refusal → Type 0
+FinishesBy x most main supplementary w w' files files' warnings warnings' c t warned (Err e) =
+    finish_rows x main supplementary w c t ≡ refused (number_of e)
+FinishesBy x most main supplementary w w' files files' warnings warnings' c t warned (Ok r) =
+    Finished x most main supplementary w w' files files' warnings warnings' c t warned r.lines r.indices r.table r.warned
 
 -- the unit's rows, `most` of them at most, were converted, and its lines and sequences stored; a refusal too keeps what lies outside the file table, the
 -- unit's map and the room behind it
 pub record FinishesLines (x : Outcome (List LineRow)) (most : ℕ) (main supplementary w w' files files' warnings warnings' : List ℕ) (c : Conversion)
-    (t : StoredFiles) (warned : ℕ) (r : CollectedLines) : Type 0 where
+    (t : StoredFiles) (warned : ℕ) (r : Result CollectedLines Refusal) : Type 0 where
   pub is : FinishesBy x most main supplementary w w' files files' warnings warnings' c t warned r
   pub rest : KeptBut w w' ((t.base, extent t) ∷ (c.indices.base, c.indices.count * index_record) ∷ (c.lines, row_room * most + entry_size) ∷ [])

@@ -1,5 +1,7 @@
 -- Contract. The rows of a line program as a table in the work slice: each stands there as the payload of a row field does.
-use Rattle.std.specs.Prelude.{ℕ, ◌*◌, ◌≤◌, ◌≡◌, List}
+use Rattle.std.specs.Prelude.{ℕ, ◌*◌, ◌≤◌, ◌≡◌, List, Result, Ok, Err}
+use Rattle.tlv.specs.declared.refusal.Refusal.{Refusal}
+use Rattle.tlv.specs.Refusals.{number_of}
 use Rattle.tlv.specs.Outcome.{Outcome, refused, done}
 use Rattle.tlv.specs.Grammar.{row_field_size}
 use Rattle.tlv.specs.Model.{LineRow, row_of}
@@ -22,11 +24,11 @@ pub record TableGathered (x : Outcome (List LineRow)) (w : List ℕ) (at n m cou
   pub counted : RowsCounted (table_rows w at count) n m
   pub few : count ≤ most
 
-abbrev pub GathersBy : Outcome (List LineRow) → List ℕ → ℕ → ℕ → ProgramRows → Type 0
-GathersBy x w at most (ProgramRows.Fault f) = count_all x ≡ refused f
-GathersBy x w at most (ProgramRows.Rows n m count) = TableGathered x w at n m count most
+abbrev pub GathersBy : Outcome (List LineRow) → List ℕ → ℕ → ℕ → Result ProgramRows Refusal → Type 0
+GathersBy x w at most (Ok r) = TableGathered x w at r.lines r.sequences r.count most
+GathersBy x w at most (Err e) = count_all x ≡ refused (number_of e)
 
 -- the rows x, `most` of them at most, were written from a place on, up to their fault
-pub record GathersRows (x : Outcome (List LineRow)) (w w' : List ℕ) (at most : ℕ) (r : ProgramRows) : Type 0 where
+pub record GathersRows (x : Outcome (List LineRow)) (w w' : List ℕ) (at most : ℕ) (r : Result ProgramRows Refusal) : Type 0 where
   pub is : GathersBy x w' at most r
   pub rest : Kept w w' at (most * row_field_size)

@@ -11,25 +11,22 @@ ghost use Rattle.collect.specs.Collects.{UnitIn, LinesRoom, CollectsLines};
 
 use crate::convert::Conversion;
 use crate::finish::finish_lines;
-use crate::interned::{InternedUnit, conversion, intern_unit, scan_program};
-use crate::source::{GatheredRows, RowSource, gather_unit_rows, row_fault, row_source};
-use access::access::Own;
+use crate::interned::{conversion, intern_unit, scan_program};
+use crate::source::{RowSource, gather_unit_rows, row_fault, row_source};
 use files::index::StoredIndices;
 use files::store::StoredFiles;
-use line_program::lines::{OFFSET_RECORD, Scan};
+use line_program::lines::OFFSET_RECORD;
 use rows::unit_lines::StoredLines;
+use tlv::refusal::Refusal;
 use tlv::tags::{HEADER_TAG, UNIT_WHOLE};
 
-// The unit's lines and its map of file numbers in the work slice, the file table, and how many bytes of warnings were written; or the refusal.
+// The unit's lines and its map of file numbers in the work slice, the file table, and how many bytes of warnings were written.
 #[derive(Clone, Copy)]
-pub enum CollectedLines {
-    Refused(u8),
-    Lines {
-        lines: StoredLines,
-        indices: StoredIndices,
-        table: StoredFiles,
-        warned: usize,
-    },
+pub struct CollectedLines {
+    pub lines: StoredLines,
+    pub indices: StoredIndices,
+    pub table: StoredFiles,
+    pub warned: usize,
 }
 
 // Gathers the unit's rows, which go above its lines, and makes these of them.
@@ -44,7 +41,7 @@ fn collect_rows(
     warnings: &mut [u8],
     t: StoredFiles,
     warned: usize,
-) -> CollectedLines
+) -> Result<CollectedLines, Refusal>
     requires conversion_in { ConversionIn main.now supplementary.now work.old c (record { table = t; count = 0; warned = warned }) }
     requires source_within { SourceWithin main.now source }
     requires entry_size_in_bounds { c.lines + row_room * most_rows main.now program.now (c.unit.place + unit_whole) source + entry_size ≤ length work.old }
@@ -54,30 +51,20 @@ fn collect_rows(
         warnings.new c t warned result }
 {
     let p = c.unit.place + UNIT_WHOLE;
-    match gather_unit_rows(main, program, p, source, work, c.lines) {
-        GatheredRows::Fault(fault) => {
-            return CollectedLines::Refused(fault);
-        }
-        GatheredRows::Rows {
-            lines: n,
-            sequences: m,
-            rows,
-        } => {
-            return finish_lines(
-                main,
-                supplementary,
-                rows,
-                c,
-                n,
-                m,
-                work,
-                files,
-                warnings,
-                t,
-                warned,
-            );
-        }
-    }
+    let gathered = gather_unit_rows(main, program, p, source, work, c.lines)?;
+    finish_lines(
+        main,
+        supplementary,
+        gathered.rows,
+        c,
+        gathered.lines,
+        gathered.sequences,
+        work,
+        files,
+        warnings,
+        t,
+        warned,
+    )
 }
 
 // Collects the lines of a unit with a header. Its rows are read last, since their table goes behind its map; their fault comes first all the same.
@@ -95,53 +82,38 @@ fn collect_header(
     t: StoredFiles,
     warned: usize,
     free: usize,
-) -> CollectedLines
+) -> Result<CollectedLines, Refusal>
     requires { UnitFound main.now supplementary.now program.now work.old t place start len source free }
     ensures { CollectsLines main.now supplementary.now program.now work.old work.new
         files.old files.new warnings.old warnings.new place t warned free result }
 {
     let p = place + UNIT_WHOLE;
-    match scan_program(main, program, start, len, work, free) {
-        Scan::Fault(f) => {
-            return CollectedLines::Refused(row_fault(main, program, p, source, work, free, f));
+    let k = match scan_program(main, program, start, len, work, free) {
+        Ok(k) => k,
+        Err(later) => {
+            return Err(row_fault(main, program, p, source, work, free, later));
         }
-        Scan::Count(k) => {
-            match intern_unit(
-                main,
-                supplementary,
-                place,
-                work,
-                files,
-                t,
-                free + k * OFFSET_RECORD,
-            ) {
-                InternedUnit::Refused(r) => {
-                    return CollectedLines::Refused(row_fault(
-                        main, program, p, source, work, free, r,
-                    ));
-                }
-                InternedUnit::Unit {
-                    unit,
-                    indices,
-                    table,
-                } => {
-                    let c = conversion(main, unit, indices, free, k);
-                    return collect_rows(
-                        main,
-                        supplementary,
-                        program,
-                        source,
-                        c,
-                        work,
-                        files,
-                        warnings,
-                        table,
-                        warned,
-                    );
-                }
-            }
+    };
+    let base = free + k * OFFSET_RECORD;
+    let interned = match intern_unit(main, supplementary, place, work, files, t, base) {
+        Ok(interned) => interned,
+        Err(later) => {
+            return Err(row_fault(main, program, p, source, work, free, later));
         }
-    }
+    };
+    let c = conversion(main, interned.unit, interned.indices, free, k);
+    collect_rows(
+        main,
+        supplementary,
+        program,
+        source,
+        c,
+        work,
+        files,
+        warnings,
+        interned.table,
+        warned,
+    )
 }
 
 // Collects the lines of the unit at a place, from the first free place of the work slice on.
@@ -156,7 +128,7 @@ pub fn collect_lines(
     t: StoredFiles,
     warned: usize,
     free: usize,
-) -> CollectedLines
+) -> Result<CollectedLines, Refusal>
     requires placed { Placed main.now 0 }
     requires unit_in { UnitIn main.now place }
     requires files_in { FilesIn main.now supplementary.now work.old t }
@@ -165,45 +137,37 @@ pub fn collect_lines(
         files.old files.new warnings.old warnings.new place t warned free result }
 {
     let p = place + UNIT_WHOLE;
-    match access::access::next_own(main, p, HEADER_TAG) {
-        Own::Missing => {
-            return CollectedLines::Lines {
-                lines: StoredLines {
-                    lines: free,
-                    line_count: 0,
-                    sequences: free,
-                    sequence_count: 0,
-                    buffer: free,
-                },
-                indices: StoredIndices {
-                    base: free,
-                    count: 0,
-                },
-                table: t,
-                warned: warned,
-            };
-        }
-        Own::Field {
-            start,
-            len,
-            next: _,
-        } => {
-            let source = row_source(main, p, start, len);
-            return collect_header(
-                main,
-                supplementary,
-                program,
-                place,
-                start,
-                len,
-                source,
-                work,
-                files,
-                warnings,
-                t,
-                warned,
-                free,
-            );
-        }
-    }
+    let Some(field) = access::access::next_own(main, p, HEADER_TAG) else {
+        return Ok(CollectedLines {
+            lines: StoredLines {
+                lines: free,
+                line_count: 0,
+                sequences: free,
+                sequence_count: 0,
+                buffer: free,
+            },
+            indices: StoredIndices {
+                base: free,
+                count: 0,
+            },
+            table: t,
+            warned,
+        });
+    };
+    let source = row_source(main, p, field.start, field.len);
+    collect_header(
+        main,
+        supplementary,
+        program,
+        place,
+        field.start,
+        field.len,
+        source,
+        work,
+        files,
+        warnings,
+        t,
+        warned,
+        free,
+    )
 }

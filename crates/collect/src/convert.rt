@@ -8,19 +8,19 @@ ghost use Rattle.rows.specs.Sizes.{line_size};
 ghost use Rattle.collect.specs.Converts.{ConversionIn, sought_of, LineAppended, LineConverted, ConvertsKnown, RowConverts};
 
 use crate::sought::{SoughtFile, sought_file};
-use access::access::Own;
-use files::index::{FileNumber, FoundIndex, StoredIndices};
-use files::intern::InternedFile;
+use files::index::{FileNumber, StoredIndices};
 use files::spans::{FileUnit, Span};
 use files::store::StoredFiles;
 use rows::line::LINE_SIZE;
-use tlv::model::DebugSource;
+use tlv::fields::FieldSpan;
+use tlv::model::{DebugSource, FileIndex, LineEntry};
+use tlv::refusal::Refusal;
 
 // The unit, its file 0 before version 5, its map of file numbers, the table of its sequences' offsets, and where its lines go.
 #[derive(Clone, Copy)]
 pub struct Conversion {
     pub unit: FileUnit,
-    pub zero: Own,
+    pub zero: Option<FieldSpan>,
     pub indices: StoredIndices,
     pub offsets: usize,
     pub offset_count: usize,
@@ -45,22 +45,15 @@ pub struct Row {
     pub sequence: usize,
 }
 
-// The state after a row, or why it was refused.
-#[derive(Clone, Copy)]
-pub enum ConvertedRow {
-    Refused(u8),
-    Next(Converting),
-}
-
 // Appends the line of a row whose file has a number and whose line fits 32 bits.
-fn append_line(c: Conversion, row: Row, index: tlv::model::FileIndex, work: &mut [u8], count: usize)
+fn append_line(c: Conversion, row: Row, index: FileIndex, work: &mut [u8], count: usize)
     requires offset_record_in_bounds { c.offsets + c.offset_count * offset_record ≤ length work.old }
     requires line_size_in_bounds { c.lines + count * line_size + line_size ≤ length work.old }
     requires line_bound { row.line < 4294967296 }
     ensures { LineAppended work.old work.new c row index count }
 {
     let offset = crate::passes::sequence_offset(work, c.offsets, c.offset_count, row.sequence);
-    let entry = tlv::model::LineEntry {
+    let entry = LineEntry {
         address: row.address,
         file: index,
         line: row.line as u32,
@@ -73,7 +66,7 @@ fn append_line(c: Conversion, row: Row, index: tlv::model::FileIndex, work: &mut
 fn convert_line(
     c: Conversion,
     row: Row,
-    index: tlv::model::FileIndex,
+    index: FileIndex,
     work: &mut [u8],
     warnings: &mut [u8],
     st: Converting,
@@ -82,23 +75,16 @@ fn convert_line(
     requires line_size_in_bounds { c.lines + st.count * line_size + line_size ≤ length work.old }
     ensures { LineConverted work.old work.new warnings.old warnings.new c st row index result }
 {
-    let table = st.table;
-    let count = st.count;
-    let address = row.address;
-    let line = row.line;
-    if line < 4294967296 {
-        append_line(c, row, index, work, count);
+    if row.line < 4294967296 {
+        append_line(c, row, index, work, st.count);
         return Converting {
-            table: table,
-            count: count + 1,
-            warned: st.warned,
+            count: st.count + 1,
+            ..st
         };
     }
-    let warned = buffers::output::put_warning(warnings, st.warned, 7, address, line);
     Converting {
-        table: table,
-        count: count,
-        warned: warned,
+        warned: buffers::output::put_warning(warnings, st.warned, 7, row.address, row.line),
+        ..st
     }
 }
 
@@ -113,7 +99,7 @@ fn convert_zero(
     files: &mut [u8],
     warnings: &mut [u8],
     st: Converting,
-) -> ConvertedRow
+) -> Result<Converting, Refusal>
     requires conversion_in { ConversionIn main.now supplementary.now work.old c st }
     requires line_size_in_bounds { c.lines + st.count * line_size + line_size ≤ length work.old }
     requires file_value { get (indices_in work.old c.indices) row.file.0 ≡ none }
@@ -121,39 +107,25 @@ fn convert_zero(
     ensures { RowConverts main.now supplementary.now work.old work.new files.old
         files.new warnings.old warnings.new c st row result }
 {
-    let unit = c.unit;
-    let indices = c.indices;
-    let old = st.table;
-    let number = row.file;
-    match files::intern::intern_file(
+    let Some(added) = files::intern::intern_file(
         main,
         supplementary,
         DebugSource::Main,
-        unit,
+        c.unit,
         file,
         work,
         files,
-        old,
-    ) {
-        InternedFile::Refused(n) => {
-            return ConvertedRow::Refused(n);
-        }
-        InternedFile::Unnamed => {
-            return ConvertedRow::Next(st);
-        }
-        InternedFile::Number {
-            table,
-            number: index,
-        } => {
-            files::index::insert_index(work, indices, number, index);
-            let grown = Converting {
-                table: table,
-                count: st.count,
-                warned: st.warned,
-            };
-            return ConvertedRow::Next(convert_line(c, row, index, work, warnings, grown));
-        }
-    }
+        st.table,
+    )?
+    else {
+        return Ok(st);
+    };
+    files::index::insert_index(work, c.indices, row.file, added.number);
+    let grown = Converting {
+        table: added.table,
+        ..st
+    };
+    Ok(convert_line(c, row, added.number, work, warnings, grown))
 }
 
 // Converts a row whose file has no number in the unit's map.
@@ -166,35 +138,21 @@ fn convert_unknown(
     files: &mut [u8],
     warnings: &mut [u8],
     st: Converting,
-) -> ConvertedRow
+) -> Result<Converting, Refusal>
     requires conversion_in { ConversionIn main.now supplementary.now work.old c st }
     requires line_size_in_bounds { c.lines + st.count * line_size + line_size ≤ length work.old }
     requires file_value { get (indices_in work.old c.indices) row.file.0 ≡ none }
     ensures { RowConverts main.now supplementary.now work.old work.new files.old
         files.new warnings.old warnings.new c st row result }
 {
-    let number = row.file;
-    match sought_file(c, number) {
-        SoughtFile::Missing => {
-            let table = st.table;
-            let warned = buffers::output::put_warning(
-                warnings,
-                st.warned,
-                6,
-                row.address,
-                number.0,
-            );
-            return ConvertedRow::Next(Converting {
-                table: table,
-                count: st.count,
-                warned: warned,
-            });
-        }
-        SoughtFile::Unnamed => {
-            return ConvertedRow::Next(st);
-        }
+    match sought_file(c, row.file) {
+        SoughtFile::Missing => Ok(Converting {
+            warned: buffers::output::put_warning(warnings, st.warned, 6, row.address, row.file.0),
+            ..st
+        }),
+        SoughtFile::Unnamed => Ok(st),
         SoughtFile::Zero(file) => {
-            return convert_zero(main, supplementary, c, row, file, work, files, warnings, st);
+            convert_zero(main, supplementary, c, row, file, work, files, warnings, st)
         }
     }
 }
@@ -209,18 +167,16 @@ pub fn convert_row(
     files: &mut [u8],
     warnings: &mut [u8],
     st: Converting,
-) -> ConvertedRow
+) -> Result<Converting, Refusal>
     requires conversion_in { ConversionIn main.now supplementary.now work.old c st }
     requires line_size_in_bounds { c.lines + st.count * line_size + line_size ≤ length work.old }
     ensures { RowConverts main.now supplementary.now work.old work.new files.old
         files.new warnings.old warnings.new c st row result }
 {
-    let indices = c.indices;
-    let number = row.file;
-    let FoundIndex::Number(index) = files::index::get_index(work, indices, number) else {
+    let Some(index) = files::index::get_index(work, c.indices, row.file) else {
         return convert_unknown(main, supplementary, c, row, work, files, warnings, st);
     };
-    ConvertedRow::Next(convert_line(c, row, index, work, warnings, st))
+    Ok(convert_line(c, row, index, work, warnings, st))
 }
 
 // Appends the line of a row whose file has a number in the unit's map and whose line fits 32 bits; whether it did.
@@ -230,9 +186,7 @@ pub fn convert_known(c: Conversion, row: Row, work: &mut [u8], count: usize) -> 
     requires line_size_in_bounds { c.lines + count * line_size + line_size ≤ length work.old }
     ensures { ConvertsKnown work.old work.new c row count result }
 {
-    let indices = c.indices;
-    let number = row.file;
-    let FoundIndex::Number(index) = files::index::get_index(work, indices, number) else {
+    let Some(index) = files::index::get_index(work, c.indices, row.file) else {
         return false;
     };
     if row.line < 4294967296 {

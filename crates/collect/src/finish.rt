@@ -14,11 +14,12 @@ ghost use Rattle.collect.specs.Converts.{ConversionIn};
 ghost use Rattle.collect.specs.Stages.{StoresLines, FinishesLines};
 
 use crate::collect::CollectedLines;
-use crate::convert::{Conversion, ConvertedRow, Converting};
+use crate::convert::{Conversion, Converting};
 use crate::source::{UnitRows, collect_unit_sequences, convert_unit_rows};
 use files::store::StoredFiles;
 use rows::line::{LINE_SIZE, RANGE_SIZE};
 use rows::unit_lines::StoredLines;
+use tlv::refusal::Refusal;
 use tlv::tags::UNIT_WHOLE;
 
 // Warns where the program and the rows differ in how many sequences they have.
@@ -56,11 +57,11 @@ fn store_lines(
     rows::sort::sort_rows(work, lines, buffer, count);
     let line_count = rows::normalize::dedup_rows(work, lines, count);
     StoredLines {
-        lines: lines,
-        line_count: line_count,
-        sequences: sequences,
-        sequence_count: sequence_count,
-        buffer: buffer,
+        lines,
+        line_count,
+        sequences,
+        sequence_count,
+        buffer,
     }
 }
 
@@ -77,7 +78,7 @@ pub fn finish_lines(
     warnings: &mut [u8],
     t: StoredFiles,
     warned: usize,
-) -> CollectedLines
+) -> Result<CollectedLines, Refusal>
     requires conversion_in { ConversionIn main.now supplementary.now work.old c (record { table = t; count = 0; warned = warned }) }
     requires rows_ready { RowsReady main.now work.old (c.unit.place + unit_whole)
         (c.lines + line_size * length (rows_here main.now work.old (c.unit.place + unit_whole) rows)) rows }
@@ -88,13 +89,12 @@ pub fn finish_lines(
         supplementary.now work.old work.new files.old files.new warnings.old
         warnings.new c t warned result }
 {
-    let noted = warn_mismatch(warnings, warned, m, c.offset_count);
     let begun = Converting {
         table: t,
         count: 0,
-        warned: noted,
+        warned: warn_mismatch(warnings, warned, m, c.offset_count),
     };
-    match convert_unit_rows(
+    let st = convert_unit_rows(
         main,
         supplementary,
         rows,
@@ -104,30 +104,22 @@ pub fn finish_lines(
         files,
         warnings,
         begun,
-    ) {
-        ConvertedRow::Refused(r) => {
-            return CollectedLines::Refused(r);
-        }
-        ConvertedRow::Next(st) => {
-            let p = c.unit.place + UNIT_WHOLE;
-            let stored = store_lines(
-                main,
-                p,
-                rows,
-                work,
-                c.offsets,
-                c.offset_count,
-                c.lines,
-                st.count,
-            );
-            let indices = c.indices;
-            let table = st.table;
-            return CollectedLines::Lines {
-                lines: stored,
-                indices: indices,
-                table: table,
-                warned: st.warned,
-            };
-        }
-    }
+    )?;
+    let p = c.unit.place + UNIT_WHOLE;
+    let lines = store_lines(
+        main,
+        p,
+        rows,
+        work,
+        c.offsets,
+        c.offset_count,
+        c.lines,
+        st.count,
+    );
+    Ok(CollectedLines {
+        lines,
+        indices: c.indices,
+        table: st.table,
+        warned: st.warned,
+    })
 }

@@ -13,22 +13,21 @@ ghost use Rattle.files.specs.Indices.{index_record};
 ghost use Rattle.collect.specs.Stages.{HeaderRead, UnitRoom, InternsUnit, ConversionOf};
 
 use crate::convert::Conversion;
-use files::header::InternedFiles;
 use files::index::{INDEX_RECORD, StoredIndices};
 use files::spans::{FileUnit, SPAN_RECORD};
 use files::store::StoredFiles;
-use line_program::lines::{Header, Scan};
+use line_program::lines::Header;
+use tlv::bytes::Number;
+use tlv::model::DebugSource;
+use tlv::refusal::Refusal;
 use tlv::tags::{FILE_ZERO_TAG, UNIT_WHOLE};
 
-// What tells the paths of the unit's files, the unit's map, and the file table; or the refusal.
+// What tells the paths of the unit's files, the unit's map, and the file table.
 #[derive(Clone, Copy)]
-pub enum InternedUnit {
-    Refused(u8),
-    Unit {
-        unit: FileUnit,
-        indices: StoredIndices,
-        table: StoredFiles,
-    },
+pub struct InternedUnit {
+    pub unit: FileUnit,
+    pub indices: StoredIndices,
+    pub table: StoredFiles,
 }
 
 // The header whose payload starts at a place, without the opcode lengths.
@@ -37,11 +36,11 @@ fn read_header(main: &[u8], start: usize) -> Header
     ensures { HeaderRead main.now start result }
 {
     Header {
-        offset: tlv::bytes::read_u64(main, start),
-        header_length: tlv::bytes::read_u64(main, start + 8),
-        version: tlv::bytes::read_u8(main, start + 16),
-        word_size: tlv::bytes::read_u8(main, start + 17),
-        opcode_base: tlv::bytes::read_u8(main, start + 18),
+        offset: u64::read(main, start),
+        header_length: u64::read(main, start + 8),
+        version: u8::read(main, start + 16),
+        word_size: u8::read(main, start + 17),
+        opcode_base: u8::read(main, start + 18),
     }
 }
 
@@ -53,7 +52,7 @@ pub fn scan_program(
     len: usize,
     work: &mut [u8],
     free: usize,
-) -> Scan
+) -> Result<usize, Refusal>
     requires le_len { 19 ≤ len }
     requires len_in_bounds { start + len ≤ length main.now }
     requires offset_record_in_bounds { free + length program.now / sequence_least * offset_record ≤ length work.old }
@@ -61,9 +60,8 @@ pub fn scan_program(
         (line_sequence_offsets (header_of (take len (drop start main.now))) program.now) }
 {
     let header = read_header(main, start);
-    let from = start + 19;
-    let to = start + len;
-    line_program::lines::line_sequence_offsets(program, &main[from..to], header, work, free)
+    let lengths = &main[start + 19..start + len];
+    line_program::lines::line_sequence_offsets(program, lengths, header, work, free)
 }
 
 // Writes the spans of the unit's directories at base, and the unit's map behind them.
@@ -75,7 +73,7 @@ pub fn intern_unit(
     files: &mut [u8],
     t: StoredFiles,
     base: usize,
-) -> InternedUnit
+) -> Result<InternedUnit, Refusal>
     requires unit_placed { UnitPlaced main.now place }
     requires files_in { FilesIn main.now supplementary.now work.old t }
     requires listed { Listed main.now supplementary.now (unit_here main.now place) (header_here main.now place) }
@@ -85,30 +83,24 @@ pub fn intern_unit(
 {
     let unit = files::spans::file_unit(main, place, work, base);
     let at = base + unit.directory_count * SPAN_RECORD;
-    match files::header::intern_header_files(
+    let interned = files::header::intern_header_files(
         main,
         supplementary,
-        tlv::model::DebugSource::Main,
+        DebugSource::Main,
         unit,
         work,
         files,
         t,
         at,
-    ) {
-        InternedFiles::Refused(n) => {
-            return InternedUnit::Refused(n);
-        }
-        InternedFiles::Indices { table, count } => {
-            return InternedUnit::Unit {
-                unit: unit,
-                indices: StoredIndices {
-                    base: at,
-                    count: count,
-                },
-                table: table,
-            };
-        }
-    }
+    )?;
+    Ok(InternedUnit {
+        unit,
+        indices: StoredIndices {
+            base: at,
+            count: interned.count,
+        },
+        table: interned.table,
+    })
 }
 
 // The unit's conversion: its lines go behind its map.
@@ -124,10 +116,10 @@ pub fn conversion(
     ensures { ConversionOf main.now unit indices offsets n result }
 {
     Conversion {
-        unit: unit,
+        unit,
         zero: access::access::next_before_rows(main, unit.place + UNIT_WHOLE, FILE_ZERO_TAG),
-        indices: indices,
-        offsets: offsets,
+        indices,
+        offsets,
         offset_count: n,
         lines: indices.base + indices.count * INDEX_RECORD,
     }

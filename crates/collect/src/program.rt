@@ -5,8 +5,10 @@ ghost use Rattle.machine.specs.Machine.{appended_row};
 ghost use Rattle.collect.specs.Tables.{RowPut, GathersRows};
 ghost use Rattle.collect.specs.Sources.{program_in};
 
+use buffers::numbers::Written;
 use machine::machine::{Emitted, initial, next_row};
-use machine::registers::{Encoding, LINE_ENCODING, Registers};
+use machine::registers::{Encoding, Registers};
+use tlv::refusal::Refusal;
 use tlv::shapes::{ROW_COLUMN, ROW_FIELD, ROW_KIND, ROW_LINE};
 
 // The largest column that a row has: a larger one is written so.
@@ -17,25 +19,19 @@ const PLAIN_ROW: u8 = 0;
 
 const END_ROW: u8 = 1;
 
-// How many rows stand in finished sequences, how many sequences are finished, and how many rows there are in all; or the program's fault.
-#[derive(Clone, Copy)]
-pub enum ProgramRows {
-    Fault(u8),
-    Rows {
-        lines: usize,
-        sequences: usize,
-        count: usize,
-    },
+// How many rows stand in finished sequences, how many sequences are finished, and how many rows there are in all.
+#[derive(Clone, Copy, Debug)]
+pub struct ProgramRows {
+    pub lines: usize,
+    pub sequences: usize,
+    pub count: usize,
 }
 
 // The column that a row shows.
 fn shown_column(column: u64) -> u16
     ensures { result ≡ min column 65535 }
 {
-    if LAST_COLUMN < column {
-        return LAST_COLUMN as u16;
-    }
-    column as u16
+    column.min(LAST_COLUMN) as u16
 }
 
 // Writes at p the row that registers show.
@@ -44,11 +40,11 @@ fn put_row(work: &mut [u8], p: usize, r: Registers, kind: u8)
     ensures { RowPut work.old work.new p (appended_row r kind) }
 {
     let column = shown_column(r.column);
-    buffers::table::set_u64(work, p, r.address);
-    buffers::table::set_u64(work, p + 8, r.file);
-    buffers::table::set_u64(work, p + ROW_LINE, r.line);
-    buffers::table::set_u16(work, p + ROW_COLUMN, column);
-    buffers::table::set_u8(work, p + ROW_KIND, kind);
+    r.address.write(work, p);
+    r.file.write(work, p + 8);
+    r.line.write(work, p + ROW_LINE);
+    column.write(work, p + ROW_COLUMN);
+    kind.write(work, p + ROW_KIND);
 }
 
 // Writes the rows of a program from base on; 21 before any instruction.
@@ -58,41 +54,29 @@ pub fn gather_program_rows(
     e: Encoding,
     work: &mut [u8],
     base: usize,
-) -> ProgramRows
+) -> Result<ProgramRows, Refusal>
     requires { base + length program.now * row_field_size ≤ length work.old }
     ensures { GathersRows (program_in e lengths.now program.now) work.old work.new base
         (length program.now) result }
 {
-    if e.line_range == 0 {
-        return ProgramRows::Fault(LINE_ENCODING);
-    }
-    if e.maximum_operations != 1 {
-        return ProgramRows::Fault(LINE_ENCODING);
+    if e.line_range == 0 || e.maximum_operations != 1 {
+        return Err(Refusal::LineEncoding);
     }
     let mut registers = initial();
-    let mut at: usize = 0;
-    let mut lines: usize = 0;
-    let mut opened: usize = 0;
-    let mut n: usize = 0;
-    let mut count: usize = 0;
-    loop {
-        match next_row(program, lengths, e, registers, at) {
-            Emitted::End => {
-                return ProgramRows::Rows {
-                    lines: lines,
-                    sequences: n,
-                    count: count,
-                };
-            }
-            Emitted::Fault(fault) => {
-                return ProgramRows::Fault(fault);
-            }
+    let mut at = 0;
+    let mut lines = 0;
+    let mut opened = 0;
+    let mut sequences = 0;
+    let mut count = 0;
+    while let Some(emitted) = next_row(program, lengths, e, registers, at)? {
+        let to = base + count * ROW_FIELD;
+        count += 1;
+        match emitted {
             Emitted::Plain {
                 registers: shown,
                 next,
             } => {
-                put_row(work, base + count * ROW_FIELD, shown, PLAIN_ROW);
-                count += 1;
+                put_row(work, to, shown, PLAIN_ROW);
                 opened += 1;
                 registers = shown;
                 at = next;
@@ -101,14 +85,18 @@ pub fn gather_program_rows(
                 registers: shown,
                 next,
             } => {
-                put_row(work, base + count * ROW_FIELD, shown, END_ROW);
-                count += 1;
+                put_row(work, to, shown, END_ROW);
                 lines += opened;
                 opened = 0;
-                n += 1;
+                sequences += 1;
                 registers = initial();
                 at = next;
             }
         }
     }
+    Ok(ProgramRows {
+        lines,
+        sequences,
+        count,
+    })
 }

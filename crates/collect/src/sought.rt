@@ -3,9 +3,9 @@ ghost use Rattle.std.specs.Prelude.{◌≡◌, ◌<◌};
 ghost use Rattle.collect.specs.Converts.{zero_of, listed_of, sought_of};
 
 use crate::convert::Conversion;
-use access::access::Own;
 use files::index::{FileNumber, StoredIndices};
 use files::spans::Span;
+use tlv::fields::FieldSpan;
 
 // What a header has at a file number that the unit's map has no number for: nothing, a file with no path, or file 0 before version 5.
 #[derive(Clone, Copy)]
@@ -15,24 +15,16 @@ pub enum SoughtFile {
     Zero(Span),
 }
 
-fn zero_file(zero: Own) -> SoughtFile
+fn zero_file(zero: Option<FieldSpan>) -> SoughtFile
     ensures { result ≡ zero_of zero }
 {
-    match zero {
-        Own::Missing => {
-            return SoughtFile::Missing;
-        }
-        Own::Field {
-            start,
-            len,
-            next: _,
-        } => {
-            return SoughtFile::Zero(Span {
-                start: start,
-                len: len,
-            });
-        }
-    }
+    let Some(field) = zero else {
+        return SoughtFile::Missing;
+    };
+    SoughtFile::Zero(Span {
+        start: field.start,
+        len: field.len,
+    })
 }
 
 fn listed_file(indices: StoredIndices, file: FileNumber) -> SoughtFile
@@ -48,14 +40,8 @@ fn listed_file(indices: StoredIndices, file: FileNumber) -> SoughtFile
 pub fn sought_file(c: Conversion, file: FileNumber) -> SoughtFile
     ensures { result ≡ sought_of c file.0 }
 {
-    let unit = c.unit;
-    let zero = c.zero;
-    let indices = c.indices;
-    if unit.version <= 4 {
-        if file.0 == 0 {
-            return zero_file(zero);
-        }
-        return listed_file(indices, file);
+    if c.unit.version <= 4 && file.0 == 0 {
+        return zero_file(c.zero);
     }
-    listed_file(indices, file)
+    listed_file(c.indices, file)
 }

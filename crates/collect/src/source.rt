@@ -2,6 +2,7 @@
 ghost use Rattle.std.proofs.Math.Option.{none};
 ghost use Rattle.std.specs.Prelude.{◌+◌, ◌*◌, ◌≤◌, length};
 ghost use Rattle.tlv.specs.Checked.{Placed};
+ghost use Rattle.tlv.specs.Refusals.{number_of};
 ghost use Rattle.tlv.specs.Grammar.{encoding_field_size};
 ghost use Rattle.tlv.specs.Tags.{unit_whole};
 ghost use Rattle.line_program.specs.Scan.{offset_record};
@@ -10,19 +11,19 @@ ghost use Rattle.collect.specs.Passes.{sequences_from, SequencesIn};
 ghost use Rattle.collect.specs.Sources.{EncodingRead, source_rows, most_rows, SourceWithin, SourceFound, rows_here, RowsReady, GathersUnit, FindsFault};
 ghost use Rattle.collect.specs.Converts.{ConversionIn, RowsConvert};
 
-use crate::convert::{Conversion, ConvertedRow, Converting};
-use crate::passes::{CountedRows, collect_sequences, count_rows};
-use crate::program::{ProgramRows, gather_program_rows};
+use crate::convert::{Conversion, Converting};
+use crate::passes::{collect_sequences, count_rows};
+use crate::program::gather_program_rows;
 use crate::row_fields::convert_rows;
 use crate::table::{collect_table_sequences, convert_table_rows};
-use access::access::Own;
 use machine::registers::Encoding;
 use rows::line::LINE_SIZE;
-use tlv::bytes::read_u8;
+use tlv::bytes::Number;
+use tlv::refusal::Refusal;
 use tlv::tags::ENCODING_TAG;
 
 // The unit's row fields, or the line program; its opcode lengths are the bytes of the main input from one place to below another.
-#[derive(Clone, Copy)]
+#[derive(Clone, Copy, Debug)]
 pub enum RowSource {
     Fields,
     Program {
@@ -33,21 +34,18 @@ pub enum RowSource {
 }
 
 // The rows that can be walked over: the unit's row fields, or a table of `count` rows in the work slice.
-#[derive(Clone, Copy)]
+#[derive(Clone, Copy, Debug)]
 pub enum UnitRows {
     Fields,
     Table { at: usize, count: usize },
 }
 
-// How many rows stand in finished sequences, how many sequences are finished, and where the rows are; or their fault.
-#[derive(Clone, Copy)]
-pub enum GatheredRows {
-    Fault(u8),
-    Rows {
-        lines: usize,
-        sequences: usize,
-        rows: UnitRows,
-    },
+// How many rows stand in finished sequences, how many sequences are finished, and where the rows are.
+#[derive(Clone, Copy, Debug)]
+pub struct GatheredRows {
+    pub lines: usize,
+    pub sequences: usize,
+    pub rows: UnitRows,
 }
 
 // The encoding whose payload starts at a place, with an opcode base.
@@ -56,12 +54,12 @@ fn read_encoding(main: &[u8], start: usize, opcode_base: u8) -> Encoding
     ensures { EncodingRead main.now start opcode_base result }
 {
     Encoding {
-        minimum_instruction_length: read_u8(main, start),
-        maximum_operations: read_u8(main, start + 1),
-        default_is_stmt: read_u8(main, start + 2) == 1,
-        line_base: read_u8(main, start + 3),
-        line_range: read_u8(main, start + 4),
-        opcode_base: opcode_base,
+        minimum_instruction_length: u8::read(main, start),
+        maximum_operations: u8::read(main, start + 1),
+        default_is_stmt: u8::read(main, start + 2) == 1,
+        line_base: u8::read(main, start + 3),
+        line_range: u8::read(main, start + 4),
+        opcode_base,
     }
 }
 
@@ -72,21 +70,14 @@ pub fn row_source(main: &[u8], p: usize, start: usize, len: usize) -> RowSource
     requires len_in_bounds { start + len ≤ length main.now }
     ensures { SourceFound main.now p start len result }
 {
-    match access::access::next_before_rows(main, p, ENCODING_TAG) {
-        Own::Missing => RowSource::Fields,
-        Own::Field {
-            start: at,
-            len: _,
-            next: _,
-        } => {
-            let opcode_base = read_u8(main, start + 18);
-            let encoding = read_encoding(main, at, opcode_base);
-            RowSource::Program {
-                encoding: encoding,
-                from: start + 19,
-                to: start + len,
-            }
-        }
+    let Some(field) = access::access::next_before_rows(main, p, ENCODING_TAG) else {
+        return RowSource::Fields;
+    };
+    let opcode_base = u8::read(main, start + 18);
+    RowSource::Program {
+        encoding: read_encoding(main, field.start, opcode_base),
+        from: start + 19,
+        to: start + len,
     }
 }
 
@@ -98,7 +89,7 @@ pub fn gather_unit_rows(
     source: RowSource,
     work: &mut [u8],
     lines: usize,
-) -> GatheredRows
+) -> Result<GatheredRows, Refusal>
     requires placed { Placed main.now p }
     requires source_within { SourceWithin main.now source }
     requires source_in_bounds { lines + row_room * most_rows main.now program.now p source ≤ length work.old }
@@ -106,42 +97,25 @@ pub fn gather_unit_rows(
         work.new p lines (most_rows main.now program.now p source) result }
 {
     match source {
-        RowSource::Fields => match count_rows(main, p) {
-            CountedRows::Fault(fault) => {
-                return GatheredRows::Fault(fault);
-            }
-            CountedRows::Rows {
-                lines: n,
-                sequences,
-            } => {
-                return GatheredRows::Rows {
-                    lines: n,
-                    sequences: sequences,
-                    rows: UnitRows::Fields,
-                };
-            }
-        },
+        RowSource::Fields => {
+            let counted = count_rows(main, p)?;
+            Ok(GatheredRows {
+                lines: counted.lines,
+                sequences: counted.sequences,
+                rows: UnitRows::Fields,
+            })
+        }
         RowSource::Program { encoding, from, to } => {
             let at = lines + program.len() * LINE_SIZE;
-            match gather_program_rows(program, &main[from..to], encoding, work, at) {
-                ProgramRows::Fault(fault) => {
-                    return GatheredRows::Fault(fault);
-                }
-                ProgramRows::Rows {
-                    lines: n,
-                    sequences,
-                    count,
-                } => {
-                    return GatheredRows::Rows {
-                        lines: n,
-                        sequences: sequences,
-                        rows: UnitRows::Table {
-                            at: at,
-                            count: count,
-                        },
-                    };
-                }
-            }
+            let gathered = gather_program_rows(program, &main[from..to], encoding, work, at)?;
+            Ok(GatheredRows {
+                lines: gathered.lines,
+                sequences: gathered.sequences,
+                rows: UnitRows::Table {
+                    at,
+                    count: gathered.count,
+                },
+            })
         }
     }
 }
@@ -154,25 +128,17 @@ pub fn row_fault(
     source: RowSource,
     work: &mut [u8],
     free: usize,
-    later: u8,
-) -> u8
+    later: Refusal,
+) -> Refusal
     requires placed { Placed main.now p }
     requires source_within { SourceWithin main.now source }
     requires source_in_bounds { free + row_room * most_rows main.now program.now p source ≤ length work.old }
     ensures { FindsFault (source_rows main.now program.now p source) work.old work.new free
-        (most_rows main.now program.now p source) later result }
+        (most_rows main.now program.now p source) (number_of later) (number_of result) }
 {
     match gather_unit_rows(main, program, p, source, work, free) {
-        GatheredRows::Fault(fault) => {
-            return fault;
-        }
-        GatheredRows::Rows {
-            lines: _,
-            sequences: _,
-            rows: _,
-        } => {
-            return later;
-        }
+        Err(fault) => fault,
+        Ok(_) => later,
     }
 }
 
@@ -187,7 +153,7 @@ pub fn convert_unit_rows(
     files: &mut [u8],
     warnings: &mut [u8],
     st: Converting,
-) -> ConvertedRow
+) -> Result<Converting, Refusal>
     requires rows_ready { RowsReady main.now work.old (c.unit.place + unit_whole) (c.lines + st.count * line_size + left * line_size) rows }
     requires conversion_in { ConversionIn main.now supplementary.now work.old c st }
     requires line_size_in_bounds { c.lines + st.count * line_size + left * line_size ≤ length work.old }

@@ -8,11 +8,12 @@ ghost use Rattle.collect.specs.Passes.{sequences_from, SequencesIn};
 ghost use Rattle.collect.specs.Tables.{table_rows};
 ghost use Rattle.collect.specs.Converts.{ConversionIn, RowsConvert};
 
-use crate::convert::{Conversion, ConvertedRow, Converting, convert_known, convert_row};
+use crate::convert::{Conversion, Converting, convert_known, convert_row};
 use crate::passes::put_sequence_record;
 use crate::row_fields::read_row;
 use rows::line::RANGE_SIZE;
-use tlv::bytes::{read_u8, read_u64};
+use tlv::bytes::Number;
+use tlv::refusal::Refusal;
 use tlv::shapes::{ROW_FIELD, ROW_KIND};
 
 // Converts `left` of the `count` rows at `at`, from the first on.
@@ -27,46 +28,33 @@ pub fn convert_table_rows(
     files: &mut [u8],
     warnings: &mut [u8],
     st: Converting,
-) -> ConvertedRow
+) -> Result<Converting, Refusal>
     requires row_field_size_in_bounds { at + count * row_field_size ≤ length work.old }
     requires conversion_in { ConversionIn main.now supplementary.now work.old c st }
     requires line_size_bound { c.lines + st.count * line_size + left * line_size ≤ at }
     ensures { RowsConvert (table_rows work.old at count) main.now supplementary.now
         work.old work.new files.old files.new warnings.old warnings.new c st left result }
 {
-    let mut i: usize = 0;
-    let mut sequence: usize = 0;
+    let mut sequence = 0;
     let mut more = left;
     let mut state = st;
-    loop {
+    for i in 0..count {
         if more == 0 {
-            return ConvertedRow::Next(state);
-        }
-        if count <= i {
-            return ConvertedRow::Next(state);
+            return Ok(state);
         }
         let start = at + i * ROW_FIELD;
         let row = read_row(work, start, sequence);
-        if read_u8(work, start + ROW_KIND) == 1 {
+        if u8::read(work, start + ROW_KIND) == 1 {
             sequence += 1;
-            i += 1;
         } else if convert_known(c, row, work, state.count) {
             state.count += 1;
             more -= 1;
-            i += 1;
         } else {
-            match convert_row(main, supplementary, c, row, work, files, warnings, state) {
-                ConvertedRow::Refused(n) => {
-                    return ConvertedRow::Refused(n);
-                }
-                ConvertedRow::Next(converted) => {
-                    state = converted;
-                    more -= 1;
-                    i += 1;
-                }
-            }
+            state = convert_row(main, supplementary, c, row, work, files, warnings, state)?;
+            more -= 1;
         }
     }
+    Ok(state)
 }
 
 // Writes a record for each sequence of the `rows` rows at `at`, and returns their number.
@@ -83,46 +71,27 @@ pub fn collect_table_sequences(
     requires none_bound { base + range_size * length (sequences_from (table_rows work.old at rows) 0 none) ≤ at }
     ensures { SequencesIn (table_rows work.old at rows) work.old work.new offsets n base result }
 {
-    let mut i: usize = 0;
-    let mut k: usize = 0;
+    let mut k = 0;
     let mut opened = false;
-    let mut start: u64 = 0;
-    let mut count: usize = 0;
-    loop {
-        if rows <= i {
-            return count;
-        }
+    let mut start = 0;
+    let mut count = 0;
+    for i in 0..rows {
         let row = at + i * ROW_FIELD;
-        let kind = read_u8(work, row + ROW_KIND);
-        let address = read_u64(work, row);
+        let kind = u8::read(work, row + ROW_KIND);
+        let address = u64::read(work, row);
         if kind == 1 {
             if start < address {
-                put_sequence_record(
-                    work,
-                    offsets,
-                    n,
-                    k,
-                    base + count * RANGE_SIZE,
-                    start,
-                    address,
-                );
+                let to = base + count * RANGE_SIZE;
+                put_sequence_record(work, offsets, n, k, to, start, address);
                 count += 1;
-                k += 1;
-                opened = false;
-                start = 0;
-                i += 1;
-            } else {
-                k += 1;
-                opened = false;
-                start = 0;
-                i += 1;
             }
-        } else if opened {
-            i += 1;
-        } else {
+            k += 1;
+            opened = false;
+            start = 0;
+        } else if !opened {
             start = address;
             opened = true;
-            i += 1;
         }
     }
+    count
 }

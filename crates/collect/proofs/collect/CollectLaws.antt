@@ -5,6 +5,9 @@ use mathlib.Core.List.{List, [], ◌∷◌}
 use Prim.Native.Nat.{ℕ, ◌+◌, ◌*◌, ◌/◌, ◌≤◌}
 use native.Mathlib.Omega.{arith}
 use lib.ListN.{length, take, drop}
+use Rattle.std.specs.Prelude.{Result, Ok, Err}
+use Rattle.tlv.specs.declared.refusal.Refusal.{Refusal}
+use Rattle.tlv.specs.Refusals.{number_of}
 use Rattle.tlv.specs.Outcome.{Outcome, refused, done}
 use Rattle.tlv.specs.Bytes.{le}
 use Rattle.tlv.specs.Checked.{Placed}
@@ -13,7 +16,6 @@ use Rattle.buffers.specs.Table.{KeptBut}
 use Rattle.buffers.proofs.TableLaws.{here, there, but_of, but_one, but_trans}
 use Rattle.buffers.proofs.RecordLaws.{records-length, records-but}
 use Rattle.access.specs.Places.{unit_here}
-use Rattle.line_program.specs.declared.lines.Scan.{Scan}
 use Rattle.line_program.specs.Program.{line_sequence_offsets}
 use Rattle.line_program.specs.Scan.{CountWithin, Scanned, offsets_at}
 use Rattle.lines.specs.Files.{Indexed, intern_header_files}
@@ -82,208 +84,211 @@ module _ {main supplementary program w : List ℕ} {p start len : ℕ} {source :
   unfolding lines_extent
   scan-room = let a = B.room.room in omega arith
 
-  module _ {w₁ : List ℕ} {r : Scan}
-      (S : Scanned program w w₁ free r (line_sequence_offsets (header_of (take len (drop start main))) program)) where
-    scanned-fits : free + length program / 3 * 8 ≤ free + lines_extent main p program
+  scanned-fits : free + length program / 3 * 8 ≤ free + lines_extent main p program
+  unfolding lines_extent
+  scanned-fits = omega arith
+
+  scanned-rest : {w₁ : List ℕ} {r : Result ℕ Refusal} → Scanned program w w₁ free r (line_sequence_offsets (header_of (take len (drop start main))) program)
+      → KeptBut w w₁ ((t.base, extent t) ∷ (free, lines_extent main p program) ∷ [])
+  scanned-rest S = but_of S.rest (there (here (omega arith) scanned-fits))
+
+  -- its program is at fault, or its rows
+  pub collected-fault : {w₁ w₂ files files' warnings warnings' : List ℕ} {warned : ℕ} {e f : Refusal}
+      → Scanned program w w₁ free (Err e) (line_sequence_offsets (header_of (take len (drop start main))) program)
+      → FindsFault (source_rows main program (p + 21) source) w₁ w₂ free most (number_of e) (number_of f)
+      → CollectsLines main supplementary program w w₂ files files' warnings warnings' p t warned free (Err f)
+  collected-fault {e = e} S F =
+      let o : line_sequence_offsets (header_here main p) program ≡ refused (number_of e) = rw (header_is B.header) (sym S.is) in
+      record {
+        is = fault-is F (λ rows l run ran. collects_program-refused (unit_here main p) program (table_of main supplementary w t) (header_here main p)
+            (header-there B.header) rows l run ran (number_of e) o);
+        rest = fault-rest F (scanned-rest S);
+      }
+
+  module _ {w₁ : List ℕ} {k : ℕ}
+      (S : Scanned program w w₁ free (Ok k) (line_sequence_offsets (header_of (take len (drop start main))) program)) (size : length w₁ ≡ length w) where
+    offsets-few : k * 8 ≤ length program / 3 * 8
+    offsets-few = let few : CountWithin program (Ok k) = S.within in omega arith
+
+    pub scanned-small : free + k * 8 ≤ length w
     unfolding lines_extent
-    scanned-fits = omega arith
+    scanned-small = let a = offsets-few in let b = B.room.room in omega arith
 
-    scanned-rest : KeptBut w w₁ ((t.base, extent t) ∷ (free, lines_extent main p program) ∷ [])
-    scanned-rest = but_of S.rest (there (here (omega arith) scanned-fits))
+    offsets_are : line_sequence_offsets (header_here main p) program ≡ done (offsets_at w₁ free k)
+    offsets_are = rw (header_is B.header) (sym S.is)
 
-    -- its program is at fault, or its rows
-    pub collected-fault : {w₂ files files' warnings warnings' : List ℕ} {warned n f : ℕ} → r ≡ Scan.Fault n
-        → FindsFault (source_rows main program (p + 21) source) w₁ w₂ free most n f
-        → CollectsLines main supplementary program w w₂ files files' warnings warnings' p t warned free (CollectedLines.Refused f)
-    collected-fault {n = n} e F =
-        let o : line_sequence_offsets (header_here main p) program ≡ refused n = rw (header_is B.header) (sym (rw e at S.is)) in
+    pub scanned-files : FilesIn main supplementary w₁ t
+    scanned-files = files-kept B.files (but_one S.rest) (inl B.room.table, tt) size
+
+    pub scanned-room : UnitRoom main w₁ t p (free + k * 8)
+    unfolding lines_extent
+    scanned-room =
+        let a = offsets-few in
+        let b = B.room.room in
+        let c = B.room.table in
+        record { table = omega arith; room = omega arith }
+
+    unit-fits : free + k * 8 + map_extent main p ≤ free + lines_extent main p program
+    unfolding lines_extent
+    unit-fits = let a = offsets-few in omega arith
+
+    table-scanned : table_of main supplementary w₁ t ≡ table_of main supplementary w t
+    table-scanned = table_kept B.files (but_one S.rest) (inl B.room.table, tt)
+
+    interned_rest : {w₂ files files₁ : List ℕ} {r : Result InternedUnit Refusal} → InternsUnit main supplementary w₁ w₂ files files₁ p t (free + k * 8) r
+        → KeptBut w w₂ ((t.base, extent t) ∷ (free, lines_extent main p program) ∷ [])
+    interned_rest I =
+        let unit : free + k * 8 + map_extent main p ≤ free + lines_extent main p program = unit-fits in
+        but_trans (scanned-rest S) (but_wide _ I.rest (here (omega arith) (omega arith), (there (here (omega arith) (omega arith)), tt)))
+
+    -- a file of its header has no number, or its rows are at fault
+    pub collected-unnumbered : {w₂ w₃ files files₀ files₁ files' warnings warnings' : List ℕ} {warned : ℕ} {e f : Refusal}
+        → InternsUnit main supplementary w₁ w₂ files files₁ p t (free + k * 8) (Err e)
+        → FindsFault (source_rows main program (p + 21) source) w₂ w₃ free most (number_of e) (number_of f)
+        → CollectsLines main supplementary program w w₃ files₀ files' warnings warnings' p t warned free (Err f)
+    collected-unnumbered {e = e} I F =
+        let i : intern_header_files (unit_here main p) (header_here main p) (table_of main supplementary w t) ≡ refused (number_of e)
+        = rw (← table-scanned) (sym I.is) in
         record {
-          is = fault-is F (λ rows l run ran. collects_program-refused (unit_here main p) program (table_of main supplementary w t) (header_here main p)
-              (header-there B.header) rows l run ran n o);
-          rest = fault-rest F scanned-rest;
+          is = fault-is F (λ rows l run ran. collects_files-refused (unit_here main p) program (table_of main supplementary w t) (header_here main p)
+              (header-there B.header) rows l run ran (offsets_at w₁ free k) offsets_are (number_of e) i);
+          rest = fault-rest F (interned_rest I);
         }
 
-    module _ {k : ℕ} (e : r ≡ Scan.Count k) (size : length w₁ ≡ length w) where
-      offsets-few : k * 8 ≤ length program / 3 * 8
-      offsets-few = let few : CountWithin program (Scan.Count k) = rw e at S.within in omega arith
+    module _ {w₂ files files₁ : List ℕ} {u : FileUnit} {is : StoredIndices} {t' : StoredFiles}
+        (I : InternsUnit main supplementary w₁ w₂ files files₁ p t (free + k * 8) (Ok (record { unit = u; indices = is; table = t' }))) where
+      interned : UnitInterned main supplementary w₁ w₂ files files₁ p t (free + k * 8) u is t'
+      interned = I.after
 
-      pub scanned-small : free + k * 8 ≤ length w
+      files-are : intern_header_files (unit_here main p) (header_here main p) (table_of main supplementary w t) ≡ done (record { table = table_of main supplementary w₂ t'; indices = indices_in w₂ is })
+      files-are = rw (← table-scanned) (sym I.is)
+
+      pub interned-placed : Placed main (u.place + 21)
+      interned-placed = rw interned.place (unit-next stands)
+
+      interned-room : is.base + is.count * 5 + row_room * most + entry_size ≤ free + lines_extent main p program
       unfolding lines_extent
-      scanned-small = let a = offsets-few in let b = B.room.room in omega arith
-
-      offsets_are : line_sequence_offsets (header_here main p) program ≡ done (offsets_at w₁ free k)
-      offsets_are = rw (header_is B.header) (sym (rw e at S.is))
-
-      pub scanned-files : FilesIn main supplementary w₁ t
-      scanned-files = files-kept B.files (but_one S.rest) (inl B.room.table, tt) size
-
-      pub scanned-room : UnitRoom main w₁ t p (free + k * 8)
-      unfolding lines_extent
-      scanned-room =
+      interned-room =
           let a = offsets-few in
-          let b = B.room.room in
-          let c = B.room.table in
-          record { table = omega arith; room = omega arith }
+          let b = interned.map in
+          let c = interned.count in
+          let d = interned.few in
+          let g = B.most in
+          omega arith
 
-      unit-fits : free + k * 8 + map_extent main p ≤ free + lines_extent main p program
-      unfolding lines_extent
-      unit-fits = let a = offsets-few in omega arith
+      pub interned-fits : is.base + is.count * 5 ≤ length w
+      interned-fits = let a = interned-room in let b = B.room.room in omega arith
 
-      table-scanned : table_of main supplementary w₁ t ≡ table_of main supplementary w t
-      table-scanned = table_kept B.files (but_one S.rest) (inl B.room.table, tt)
+      map-length : is.count ≡ length (indices_in w₂ is)
+      unfolding indices_of
+      map-length = sym (records-length index_of 5 w₂ is.base is.count)
 
-      module _ {w₂ files files₁ : List ℕ} {r₂ : InternedUnit} (I : InternsUnit main supplementary w₁ w₂ files files₁ p t (free + k * 8) r₂) where
-        interned_rest : KeptBut w w₂ ((t.base, extent t) ∷ (free, lines_extent main p program) ∷ [])
-        interned_rest =
-            let unit : free + k * 8 + map_extent main p ≤ free + lines_extent main p program = unit-fits in
-            but_trans scanned-rest (but_wide _ I.rest (here (omega arith) (omega arith), (there (here (omega arith) (omega arith)), tt)))
+      module _ {cv : Conversion} (M : ConversionOf main u is free k cv) where
+        made : Conversion
+        made = record { unit = u; zero = cv.zero; indices = is; offsets = free; offset_count = k; lines = is.base + is.count * 5 }
 
-        -- a file of its header has no number, or its rows are at fault
-        pub collected-unnumbered : {w₃ files₀ files' warnings warnings' : List ℕ} {warned n f : ℕ} → r₂ ≡ InternedUnit.Refused n
-            → FindsFault (source_rows main program (p + 21) source) w₂ w₃ free most n f
-            → CollectsLines main supplementary program w w₃ files₀ files' warnings warnings' p t warned free (CollectedLines.Refused f)
-        collected-unnumbered {n = n} is F =
-            let i : intern_header_files (unit_here main p) (header_here main p) (table_of main supplementary w t) ≡ refused n
-            = rw (← table-scanned) (sym (rw is at I.is)) in
+        place_is : cv.unit.place ≡ p
+        place_is = ap (λ (x : Conversion). x.unit.place) M.is ∙ interned.place
+
+        conversion-made : (warned : ℕ) → length w₂ ≡ length w → ConversionIn main supplementary w₂ made (record { table = t'; count = 0; warned = warned })
+        unfolding made
+        conversion-made warned last =
+            let i : Indexed = record { table = table_of main supplementary w₂ t'; indices = indices_in w₂ is } in
+            let base = interned.grown.base in
+            let room = interned.grown.room in
+            let below = B.room.table in
+            let d = interned.directories in
+            let m = interned.map in
+            let all = interned-room in
+            let most = B.room.room in
             record {
-              is = fault-is F (λ rows l run ran. collects_files-refused (unit_here main p) program (table_of main supplementary w t) (header_here main p)
-                  (header-there B.header) rows l run ran (offsets_at w₁ free k) offsets_are n i);
-              rest = fault-rest F interned_rest;
+              placed = rw interned.place stands;
+              files = interned.grown.holds;
+              unit = interned.described;
+              listed = rw interned.place (unit-listed B.placed B.unit supplementary B.header);
+              zero = M.zero;
+              unnamed = rw interned.place (record { unnamed = unnamed (unit_here main p) (header_here main p) (table_of main supplementary w t) i files-are });
+              all = rw interned.place (map-length ∙ indices-length (unit_here main p) (header_here main p) (table_of main supplementary w t) i files-are);
+              table = omega arith;
+              offsets = omega arith;
+              directories = omega arith;
+              indices = omega arith;
+              lines = omega arith;
             }
 
-        module _ {u : FileUnit} {is : StoredIndices} {t' : StoredFiles} (found : r₂ ≡ InternedUnit.Unit u is t') where
-          interned : UnitInterned main supplementary w₁ w₂ files files₁ p t (free + k * 8) u is t'
-          interned = rw found at I.after
+        pub conversion-in : (warned : ℕ) → length w₂ ≡ length w → ConversionIn main supplementary w₂ cv (record { table = t'; count = 0; warned = warned })
+        unfolding made
+        conversion-in warned last = subst (λ (x : Conversion). ConversionIn main supplementary w₂ x (record { table = t'; count = 0; warned = warned })) (sym M.is) (conversion-made warned last)
 
-          files-are : intern_header_files (unit_here main p) (header_here main p) (table_of main supplementary w t) ≡ done (record { table = table_of main supplementary w₂ t'; indices = indices_in w₂ is })
-          files-are = rw (← table-scanned) (sym (rw found at I.is))
+        pub conversion-fits : length w₂ ≡ length w → cv.lines + row_room * most_rows main program (cv.unit.place + 21) source + entry_size ≤ length w₂
+        conversion-fits last =
+            let l : cv.lines ≡ is.base + is.count * 5 = ap (λ (x : Conversion). x.lines) M.is in
+            let all = interned-room in
+            let room = B.room.room in
+            rw place_is (omega arith)
 
-          pub interned-placed : Placed main (u.place + 21)
-          interned-placed = rw interned.place (unit-next stands)
+        offsets-kept : offsets_at w₂ free k ≡ offsets_at w₁ free k
+        offsets-kept = let below = B.room.table in records-but le 8 free k I.rest (inr (omega arith), (inl (omega arith), tt))
 
-          interned-room : is.base + is.count * 5 + row_room * most + entry_size ≤ free + lines_extent main p program
-          unfolding lines_extent
-          interned-room =
-              let a = offsets-few in
-              let b = interned.map in
-              let c = interned.count in
-              let d = interned.few in
-              let g = B.most in
-              omega arith
+        end_is : (y : Outcome Collected) → finish_rows (source_rows main program (u.place + 21) source) main supplementary w₂ made t' ≡ y
+            → collect_lines (unit_here main p) program (table_of main supplementary w t) ≡ y
+        unfolding made
+        end_is y f =
+            collects_end (unit_here main p) program (table_of main supplementary w t) (header_here main p) (header-there B.header) (offsets_at w₁ free k)
+            offsets_are (record { table = table_of main supplementary w₂ t'; indices = indices_in w₂ is }) files-are y
+            (rw (interned.place, offsets-kept, B.source_is) at f)
 
-          pub interned-fits : is.base + is.count * 5 ≤ length w
-          interned-fits = let a = interned-room in let b = B.room.room in omega arith
+        abbrev end-rows : Outcome (List LineRow)
+        end-rows = source_rows main program (u.place + 21) source
 
-          map-length : is.count ≡ length (indices_in w₂ is)
-          unfolding indices_of
-          map-length = sym (records-length index_of 5 w₂ is.base is.count)
+        abbrev end-most : ℕ
+        end-most = most_rows main program (u.place + 21) source
 
-          module _ {cv : Conversion} (M : ConversionOf main u is free k cv) where
-            made : Conversion
-            made = record { unit = u; zero = cv.zero; indices = is; offsets = free; offset_count = k; lines = is.base + is.count * 5 }
+        end_rest : {w₃ files₂ warnings warnings' : List ℕ} {warned : ℕ} {r₃ : Result CollectedLines Refusal}
+            → FinishesLines end-rows end-most main supplementary w₂ w₃ files₁ files₂ warnings warnings' made t' warned r₃
+            → KeptBut w w₃ ((t.base, extent t) ∷ (free, lines_extent main p program) ∷ [])
+        unfolding made
+        end_rest E =
+            let base = interned.grown.base in
+            let room = interned.grown.room in
+            let fits = interned-room in
+            let map = interned.map in
+            but_trans (interned_rest I) (but_wide _ (rw interned.place at E.rest)
+            (here (omega arith) (omega arith), (there (here (omega arith) (omega arith)), (there (here (omega arith) (omega arith)), tt))))
 
-            place_is : cv.unit.place ≡ p
-            place_is = ap (λ (x : Conversion). x.unit.place) M.is ∙ interned.place
+        by_end : (w₃ files₂ warnings warnings' : List ℕ) (warned : ℕ) (r₃ : Result CollectedLines Refusal)
+            → FinishesBy end-rows end-most main supplementary w₂ w₃ files₁ files₂ warnings warnings' made t' warned r₃
+            → KeptBut w w₃ ((t.base, extent t) ∷ (free, lines_extent main p program) ∷ [])
+            → CollectsBy main supplementary program w w₃ files files₂ warnings warnings' p t warned free r₃
+        unfolding made
+        by_end w₃ files₂ warnings warnings' warned (Err e) E K = end_is (refused (number_of e)) E
+        by_end w₃ files₂ warnings warnings' warned (Ok r) E K =
+            let fits = interned-room in
+            let map : is.base ≡ free + k * 8 + u.directory_count * 8 = interned.map in
+            let eb : r.indices.base ≡ is.base = ap (λ (x : StoredIndices). x.base) E.map in
+            let ec : r.indices.count ≡ is.count = ap (λ (x : StoredIndices). x.count) E.map in
+            let from = E.from in
+            let within = rw interned.place at E.within in
+            record {
+              new = E.new;
+              collected = end_is _ E.finished;
+              grown = grown-after B.files (but_one S.rest) (inl B.room.table, tt) (grown-trans interned.grown E.grown);
+              put = E.put;
+              rows = E.rows;
+              from = omega arith;
+              indices = omega arith;
+              sequences = E.sequences;
+              within = omega arith;
+              rest = K;
+            }
 
-            conversion-made : (warned : ℕ) → length w₂ ≡ length w → ConversionIn main supplementary w₂ made (record { table = t'; count = 0; warned = warned })
-            unfolding made
-            conversion-made warned last =
-                let i : Indexed = record { table = table_of main supplementary w₂ t'; indices = indices_in w₂ is } in
-                let base = interned.grown.base in
-                let room = interned.grown.room in
-                let below = B.room.table in
-                let d = interned.directories in
-                let m = interned.map in
-                let all = interned-room in
-                let most = B.room.room in
-                record {
-                  placed = rw interned.place stands;
-                  files = interned.grown.holds;
-                  unit = interned.described;
-                  listed = rw interned.place (unit-listed B.placed B.unit supplementary B.header);
-                  zero = M.zero;
-                  unnamed = rw interned.place (record { unnamed = unnamed (unit_here main p) (header_here main p) (table_of main supplementary w t) i files-are });
-                  all = rw interned.place (map-length ∙ indices-length (unit_here main p) (header_here main p) (table_of main supplementary w t) i files-are);
-                  table = omega arith;
-                  offsets = omega arith;
-                  directories = omega arith;
-                  indices = omega arith;
-                  lines = omega arith;
-                }
-
-            pub conversion-in : (warned : ℕ) → length w₂ ≡ length w → ConversionIn main supplementary w₂ cv (record { table = t'; count = 0; warned = warned })
-            unfolding made
-            conversion-in warned last = subst (λ (x : Conversion). ConversionIn main supplementary w₂ x (record { table = t'; count = 0; warned = warned })) (sym M.is) (conversion-made warned last)
-
-            pub conversion-fits : length w₂ ≡ length w → cv.lines + row_room * most_rows main program (cv.unit.place + 21) source + entry_size ≤ length w₂
-            conversion-fits last =
-                let l : cv.lines ≡ is.base + is.count * 5 = ap (λ (x : Conversion). x.lines) M.is in
-                let all = interned-room in
-                let room = B.room.room in
-                rw place_is (omega arith)
-
-            offsets-kept : offsets_at w₂ free k ≡ offsets_at w₁ free k
-            offsets-kept = let below = B.room.table in records-but le 8 free k I.rest (inr (omega arith), (inl (omega arith), tt))
-
-            end_is : (y : Outcome Collected) → finish_rows (source_rows main program (u.place + 21) source) main supplementary w₂ made t' ≡ y
-                → collect_lines (unit_here main p) program (table_of main supplementary w t) ≡ y
-            unfolding made
-            end_is y f =
-                collects_end (unit_here main p) program (table_of main supplementary w t) (header_here main p) (header-there B.header) (offsets_at w₁ free k)
-                offsets_are (record { table = table_of main supplementary w₂ t'; indices = indices_in w₂ is }) files-are y
-                (rw (interned.place, offsets-kept, B.source_is) at f)
-
-            abbrev end-rows : Outcome (List LineRow)
-            end-rows = source_rows main program (u.place + 21) source
-
-            abbrev end-most : ℕ
-            end-most = most_rows main program (u.place + 21) source
-
-            end_rest : {w₃ files₂ warnings warnings' : List ℕ} {warned : ℕ} {r₃ : CollectedLines}
-                → FinishesLines end-rows end-most main supplementary w₂ w₃ files₁ files₂ warnings warnings' made t' warned r₃
-                → KeptBut w w₃ ((t.base, extent t) ∷ (free, lines_extent main p program) ∷ [])
-            unfolding made
-            end_rest E =
-                let base = interned.grown.base in
-                let room = interned.grown.room in
-                let fits = interned-room in
-                let map = interned.map in
-                but_trans interned_rest (but_wide _ (rw interned.place at E.rest)
-                (here (omega arith) (omega arith), (there (here (omega arith) (omega arith)), (there (here (omega arith) (omega arith)), tt))))
-
-            by_end : (w₃ files₂ warnings warnings' : List ℕ) (warned : ℕ) (r₃ : CollectedLines)
-                → FinishesBy end-rows end-most main supplementary w₂ w₃ files₁ files₂ warnings warnings' made t' warned r₃
-                → KeptBut w w₃ ((t.base, extent t) ∷ (free, lines_extent main p program) ∷ [])
-                → CollectsBy main supplementary program w w₃ files files₂ warnings warnings' p t warned free r₃
-            unfolding made
-            by_end w₃ files₂ warnings warnings' warned (CollectedLines.Refused f) E K = end_is (refused f) E
-            by_end w₃ files₂ warnings warnings' warned (CollectedLines.Lines l is' t'' warned') E K =
-                let fits = interned-room in
-                let map : is.base ≡ free + k * 8 + u.directory_count * 8 = interned.map in
-                let eb : is'.base ≡ is.base = ap (λ (x : StoredIndices). x.base) E.map in
-                let ec : is'.count ≡ is.count = ap (λ (x : StoredIndices). x.count) E.map in
-                let from = E.from in
-                let within = rw interned.place at E.within in
-                record {
-                  new = E.new;
-                  collected = end_is _ E.finished;
-                  grown = grown-after B.files (but_one S.rest) (inl B.room.table, tt) (grown-trans interned.grown E.grown);
-                  put = E.put;
-                  rows = E.rows;
-                  from = omega arith;
-                  indices = omega arith;
-                  sequences = E.sequences;
-                  within = omega arith;
-                  rest = K;
-                }
-
-            pub collected-end : {w₃ files₂ warnings warnings' : List ℕ} {warned : ℕ} {r₃ : CollectedLines}
-                → FinishesLines (source_rows main program (cv.unit.place + 21) source) (most_rows main program (cv.unit.place + 21) source) main supplementary
-                w₂ w₃ files₁ files₂ warnings warnings' cv t' warned r₃
-                → CollectsLines main supplementary program w w₃ files files₂ warnings warnings' p t warned free r₃
-            unfolding made
-            collected-end {w₃} {files₂} {warnings} {warnings'} {warned} {r₃} E =
-                let L = subst (λ (x : Conversion). FinishesLines (source_rows main program (x.unit.place + 21) source)
-                (most_rows main program (x.unit.place + 21) source) main supplementary w₂ w₃ files₁ files₂ warnings warnings' x t' warned r₃) M.is E in
-                let K = end_rest L in
-                record { is = by_end w₃ files₂ warnings warnings' warned r₃ L.is K; rest = K }
+        pub collected-end : {w₃ files₂ warnings warnings' : List ℕ} {warned : ℕ} {r₃ : Result CollectedLines Refusal}
+            → FinishesLines (source_rows main program (cv.unit.place + 21) source) (most_rows main program (cv.unit.place + 21) source) main supplementary
+            w₂ w₃ files₁ files₂ warnings warnings' cv t' warned r₃
+            → CollectsLines main supplementary program w w₃ files files₂ warnings warnings' p t warned free r₃
+        unfolding made
+        collected-end {w₃} {files₂} {warnings} {warnings'} {warned} {r₃} E =
+            let L = subst (λ (x : Conversion). FinishesLines (source_rows main program (x.unit.place + 21) source)
+            (most_rows main program (x.unit.place + 21) source) main supplementary w₂ w₃ files₁ files₂ warnings warnings' x t' warned r₃) M.is E in
+            let K = end_rest L in
+            record { is = by_end w₃ files₂ warnings warnings' warned r₃ L.is K; rest = K }

@@ -5,6 +5,9 @@ use mathlib.Core.List.{List, [], ◌∷◌}
 use Prim.Native.Nat.{ℕ, ◌+◌, ◌*◌, ◌≤◌}
 use native.Mathlib.Omega.{arith}
 use lib.ListN.{length}
+use Rattle.std.specs.Prelude.{Result, Ok, Err}
+use Rattle.tlv.specs.declared.refusal.Refusal.{Refusal}
+use Rattle.tlv.specs.Refusals.{number_of}
 use Rattle.tlv.specs.Outcome.{Outcome, refused, done, ◌>>=◌}
 use Rattle.tlv.specs.Bytes.{le}
 use Rattle.tlv.specs.Model.{LineRow}
@@ -36,7 +39,7 @@ finish-fault (refused g) f k main supplementary w c t = cc
 finish-fault (done rows) f k main supplementary w c t = rw (count-refused rows f k)
 
 module _ {x : Outcome (List LineRow)} {most : ℕ} {main supplementary w w₁ : List ℕ} {c : Conversion} {t : StoredFiles} {warned : ℕ}
-    (C : ConversionIn main supplementary w c (record { table = t; count = 0; warned = warned })) {r : GatheredRows}
+    (C : ConversionIn main supplementary w c (record { table = t; count = 0; warned = warned })) {r : Result GatheredRows Refusal}
     (G : GathersUnit x main w w₁ (c.unit.place + 21) c.lines most r) where
   table_below : t.base + extent t ≤ c.lines
   table_below =
@@ -82,16 +85,18 @@ module _ {x : Outcome (List LineRow)} {most : ℕ} {main supplementary w w₁ : 
   gathered-rest : KeptBut w w₁ stretches
   gathered-rest = but_of G.rest (there (there (here (omega arith) (omega arith))))
 
-  pub gathered-fault : {files files' warnings warnings' : List ℕ} {f : ℕ} → r ≡ GatheredRows.Fault f
-      → FinishesLines x most main supplementary w w₁ files files' warnings warnings' c t warned (CollectedLines.Refused f)
-  gathered-fault {f = f} is = record { is = finish-fault x f (rw is at G.is) main supplementary w c t; rest = gathered-rest }
+module _ {x : Outcome (List LineRow)} {most : ℕ} {main supplementary w w₁ : List ℕ} {c : Conversion} {t : StoredFiles} {warned : ℕ}
+    (C : ConversionIn main supplementary w c (record { table = t; count = 0; warned = warned })) where
+  pub gathered-fault : {files files' warnings warnings' : List ℕ} {e : Refusal} → GathersUnit x main w w₁ (c.unit.place + 21) c.lines most (Err e)
+      → FinishesLines x most main supplementary w w₁ files files' warnings warnings' c t warned (Err e)
+  gathered-fault {e = e} G = record { is = finish-fault x (number_of e) G.is main supplementary w c t; rest = gathered-rest C G }
 
-  module _ {n m : ℕ} {rows : UnitRows} (is : r ≡ GatheredRows.Rows n m rows) where
-    pub gathered : UnitGathered x main w₁ (c.unit.place + 21) c.lines most n m rows
-    gathered = rw is at G.is
+  module _ {k : GatheredRows} (G : GathersUnit x main w w₁ (c.unit.place + 21) c.lines most (Ok k)) where
+    pub gathered : UnitGathered x main w₁ (c.unit.place + 21) c.lines most k.lines k.sequences k.rows
+    gathered = G.is
 
     abbrev given : List LineRow
-    given = rows_here main w₁ (c.unit.place + 21) rows
+    given = rows_here main w₁ (c.unit.place + 21) k.rows
 
     pub gathered-room : c.lines + row_room * most + entry_size ≤ length w → length w₁ ≡ length w → c.lines + row_room * length given + entry_size ≤ length w₁
     gathered-room room size = omega (arith, gathered.few)
@@ -99,17 +104,17 @@ module _ {x : Outcome (List LineRow)} {most : ℕ} {main supplementary w w₁ : 
     finish-same : (y : Outcome Collected) → finish_rows (done given) main supplementary w₁ c t ≡ y → finish_rows x main supplementary w c t ≡ y
     unfolding ◌>>=◌
     finish-same y e =
-        let tables : table_of main supplementary w₁ t ≡ table_of main supplementary w t = table_kept C.files (but_one G.rest) (inl table_below, tt) in
-        rw gathered.is (rw (tables, maps-same, offsets-same) at e)
+        let tables : table_of main supplementary w₁ t ≡ table_of main supplementary w t = table_kept C.files (but_one G.rest) (inl (table_below C G), tt) in
+        rw gathered.is (rw (tables, maps-same C G, offsets-same C G) at e)
 
-    finishes-by : (w₂ files files₁ warnings warnings₁ : List ℕ) (r₂ : CollectedLines)
+    finishes-by : (w₂ files files₁ warnings warnings₁ : List ℕ) (r₂ : Result CollectedLines Refusal)
         → FinishesBy (done given) (length given) main supplementary w₁ w₂ files files₁ warnings warnings₁ c t warned r₂
         → FinishesBy x most main supplementary w w₂ files files₁ warnings warnings₁ c t warned r₂
-    finishes-by w₂ files files₁ warnings warnings₁ (CollectedLines.Refused f) F = finish-same (refused f) F
-    finishes-by w₂ files files₁ warnings warnings₁ (CollectedLines.Lines l is' t' warned') F = record {
+    finishes-by w₂ files files₁ warnings warnings₁ (Err e) F = finish-same (refused (number_of e)) F
+    finishes-by w₂ files files₁ warnings warnings₁ (Ok r) F = record {
       new = F.new;
       finished = finish-same _ F.finished;
-      grown = grown-after C.files (but_one G.rest) (inl table_below, tt) F.grown;
+      grown = grown-after C.files (but_one G.rest) (inl (table_below C G), tt) F.grown;
       put = F.put;
       rows = F.rows;
       map = F.map;
@@ -118,11 +123,11 @@ module _ {x : Outcome (List LineRow)} {most : ℕ} {main supplementary w w₁ : 
       within = omega (arith, F.within, gathered.few);
     }
 
-    pub gathered-finish : {w₂ files files₁ warnings warnings₁ : List ℕ} {r₂ : CollectedLines}
+    pub gathered-finish : {w₂ files files₁ warnings warnings₁ : List ℕ} {r₂ : Result CollectedLines Refusal}
         → FinishesLines (done given) (length given) main supplementary w₁ w₂ files files₁ warnings warnings₁ c t warned r₂
         → FinishesLines x most main supplementary w w₂ files files₁ warnings warnings₁ c t warned r₂
     gathered-finish {w₂} {files} {files₁} {warnings} {warnings₁} {r₂} F = let few = gathered.few in record {
       is = finishes-by w₂ files files₁ warnings warnings₁ r₂ F.is;
-      rest = but_trans gathered-rest (but_wide stretches F.rest
+      rest = but_trans (gathered-rest C G) (but_wide (stretches C G) F.rest
           (here (omega arith) (omega arith), (there (here (omega arith) (omega arith)), (there (there (here (omega arith) (omega arith))), tt))));
     }

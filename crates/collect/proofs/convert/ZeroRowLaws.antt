@@ -6,6 +6,10 @@ use mathlib.Core.Option.{Option, none, some}
 use Prim.Native.Nat.{ℕ, zero, suc, ◌+◌, ◌*◌, ◌≤◌, ◌<◌}
 use native.Mathlib.Omega.{arith}
 use lib.ListN.{length, set}
+use Rattle.std.specs.Prelude.{Option as Maybe, Some, None, Result, Ok, Err}
+use Rattle.files.specs.declared.store.AddedFile.{AddedFile}
+use Rattle.tlv.specs.declared.refusal.Refusal.{Refusal}
+use Rattle.tlv.specs.Refusals.{number_of}
 use Rattle.tlv.specs.declared.model.FileIndex.{FileIndex}
 use Rattle.tlv.specs.Outcome.{refused, done, ◌>>=◌}
 use Rattle.tlv.specs.Model.{CompilationUnit, LineHeader, HeaderFile, file_of}
@@ -20,7 +24,6 @@ use Rattle.lines.specs.Files.{FileTable, FileIndices, Interned, add_file, intern
 use Rattle.lines.specs.Lines.{convert_row}
 use Rattle.files.specs.declared.spans.Span.{Span}
 use Rattle.files.specs.declared.store.StoredFiles.{StoredFiles}
-use Rattle.files.specs.declared.intern.InternedFile.{InternedFile}
 use Rattle.files.specs.Pieces.{span_in, FileUnitIn}
 use Rattle.files.specs.Store.{extent, table_of, FilesIn, Grown}
 use Rattle.files.specs.Indices.{index_of, indices_of, indices_in, Inserted}
@@ -29,7 +32,6 @@ use Rattle.files.proofs.GrownLaws.{table_kept, grown-kept}
 use Rattle.rows.specs.Sizes.{line_size}
 use Rattle.collect.specs.declared.convert.Conversion.{Conversion}
 use Rattle.collect.specs.declared.convert.Converting.{Converting}
-use Rattle.collect.specs.declared.convert.ConvertedRow.{ConvertedRow}
 use Rattle.collect.specs.declared.convert.Row.{Row}
 use Rattle.collect.specs.declared.sought.SoughtFile.{SoughtFile}
 use Rattle.collect.specs.Converts.{unit_at, header_in, Unnamed, converted_in, ConversionIn, sought_of, LineConverted, RowConverts}
@@ -70,7 +72,7 @@ module _ {main supplementary w : List ℕ} {c : Conversion} {st : Converting} (C
   pub zero-asked : FilesIn main supplementary w st.table × (FileUnitIn main w c.unit × (FileSpanIn main file × (OfUnit main c.unit.place file × Listed main supplementary (unit_at main c) (header_in main c))))
   zero-asked = let Z = is_zero C r.file.0 sought in (C.files, (C.unit, (Z.span, (Z.listed, C.listed))))
 
-  module _ {w₁ files files' : List ℕ} {q : InternedFile} (I : Interns main supplementary w w₁ files files' st.table main c.unit file q) where
+  module _ {w₁ files files' : List ℕ} {q : Result (Maybe AddedFile) Refusal} (I : Interns main supplementary w w₁ files files' st.table main c.unit file q) where
     kept : KeptBut w w₁ (written c st line_size)
     kept = but_of I.rest (here (omega arith) (omega arith))
 
@@ -82,42 +84,40 @@ module _ {main supplementary w : List ℕ} {c : Conversion} {st : Converting} (C
         let d = C.directories in
         records-but index_of 5 c.indices.base c.indices.count (but_one I.rest) (inr (omega arith), tt)
 
-    pub zero-refused : {n : ℕ} {warnings : List ℕ} → q ≡ InternedFile.Refused n → RowConverts main supplementary w w₁ files files' warnings warnings c st r (ConvertedRow.Refused n)
-    unfolding convert_row converted_in ◌>>=◌
-    zero-refused {n} e =
-        let Z = is_zero C r.file.0 sought in
-        let is : refused n ≡ intern_file (unit_at main c) (header_in main c) (table_of main supplementary w st.table) (file_of (span_in main file)) = rw e at I.is in
-        record { is = rw (unknown, Z.is, ← is); rest = kept }
+  pub zero-refused : {w₁ files files' warnings : List ℕ} {e : Refusal} → Interns main supplementary w w₁ files files' st.table main c.unit file (Err e)
+      → RowConverts main supplementary w w₁ files files' warnings warnings c st r (Err e)
+  unfolding convert_row converted_in ◌>>=◌
+  zero-refused I =
+      let Z = is_zero C r.file.0 sought in
+      record { is = rw (unknown, Z.is, ← I.is); rest = kept I }
 
-    pub zero-unnamed : {warnings : List ℕ} → length w₁ ≡ length w → st.warned ≤ top → length warnings < top → q ≡ InternedFile.Unnamed
-        → RowConverts main supplementary w w₁ files files' warnings warnings c st r (ConvertedRow.Next st)
-    unfolding convert_row converted_in ◌>>=◌
-    zero-unnamed size fits small e =
-        let Z = is_zero C r.file.0 sought in
-        let t = table_of main supplementary w st.table in
-        let i : Interned = record { table = table_of main supplementary w₁ st.table; number = none } in
-        let is : done i ≡ intern_file (unit_at main c) (header_in main c) t (file_of (span_in main file)) = rw e at I.is in
-        let same : t ≡ i.table = intern-none (unit_at main c) (header_in main c) t (file_of (span_in main file)) i (sym is) refl in
-        let G : Grown main supplementary w w₁ files files' st.table st.table = rw e at I.after in
-        still C r [] kept size G maps (rw (unknown, Z.is, ← is, same)) (none-put fits small)
+  pub zero-unnamed : {w₁ files files' warnings : List ℕ} → Interns main supplementary w w₁ files files' st.table main c.unit file (Ok None)
+      → length w₁ ≡ length w → st.warned ≤ top → length warnings < top → RowConverts main supplementary w w₁ files files' warnings warnings c st r (Ok st)
+  unfolding convert_row converted_in ◌>>=◌
+  zero-unnamed {w₁} I size fits small =
+      let Z = is_zero C r.file.0 sought in
+      let t = table_of main supplementary w st.table in
+      let i : Interned = record { table = table_of main supplementary w₁ st.table; number = none } in
+      let same : t ≡ i.table = intern-none (unit_at main c) (header_in main c) t (file_of (span_in main file)) i (sym I.is) refl in
+      still C r [] (kept I) size I.after (maps I) (rw (unknown, Z.is, ← I.is, same)) (none-put fits small)
 
-    pub zero_number : {w₂ w₃ warnings warnings' : List ℕ} {t : StoredFiles} {i : FileIndex} {st' : Converting} → c.lines + st.count * line_size + line_size ≤ length w → length w₁ ≡ length w
-        → q ≡ InternedFile.Number t i → Inserted w₁ w₂ c.indices r.file i → length w₂ ≡ length w₁
-        → LineConverted w₂ w₃ warnings warnings' c (record { table = t; count = st.count; warned = st.warned }) r i st' → length w₃ ≡ length w₂
-        → RowConverts main supplementary w w₃ files files' warnings warnings' c st r (ConvertedRow.Next st')
-    unfolding convert_row converted_in ◌>>=◌
-    zero_number {w₂} {t = t} {i = i} room size e J size₂ L size₃ =
-        let Z = is_zero C r.file.0 sought in
-        let a = C.table in
-        let b = C.offsets in
-        let d = C.directories in
-        let G : Grown main supplementary w w₁ files files' st.table t = rw e at I.after in
-        let gb = G.base in
-        let gr = G.room in
-        let clear : t.base + extent t ≤ c.indices.base = omega arith in
-        let K₂ : KeptBut w w₂ (written c st line_size) = but_trans kept (but_of J.rest (there (here (omega arith) (omega arith)))) in
-        let is : done (record { table = table_of main supplementary w₁ t; number = some i }) ≡ intern_file (unit_at main c) (header_in main c) (table_of main supplementary w st.table) (file_of (span_in main file)) = rw e at I.is in
-        let table_same : table_of main supplementary w₂ t ≡ table_of main supplementary w₁ t = table_kept G.holds (but_one J.rest) (inl clear, tt) in
-        let set_is : indices_in w₂ c.indices ≡ insert_index (indices_in w c.indices) r.file.0 i = J.indices ∙ rw maps in
-        line_row C r room K₂ (size₂ ∙ size) (grown-kept G (but_one J.rest) (inl clear, tt) size₂) (rw set_is (unnamed-set r.file.0 i C.unnamed))
-        (rw (unknown, Z.is, ← is, table_same, set_is)) L size₃
+  pub zero_number : {w₁ w₂ w₃ files files' warnings warnings' : List ℕ} {a : AddedFile} {st' : Converting} → c.lines + st.count * line_size + line_size ≤ length w
+      → length w₁ ≡ length w → Interns main supplementary w w₁ files files' st.table main c.unit file (Ok (Some a))
+      → Inserted w₁ w₂ c.indices r.file a.number → length w₂ ≡ length w₁
+      → LineConverted w₂ w₃ warnings warnings' c (record { table = a.table; count = st.count; warned = st.warned }) r a.number st' → length w₃ ≡ length w₂
+      → RowConverts main supplementary w w₃ files files' warnings warnings' c st r (Ok st')
+  unfolding convert_row converted_in ◌>>=◌
+  zero_number {w₁} {w₂} {files = files} {files'} {a = a} room size I J size₂ L size₃ =
+      let Z = is_zero C r.file.0 sought in
+      let ct = C.table in
+      let co = C.offsets in
+      let cd = C.directories in
+      let G : Grown main supplementary w w₁ files files' st.table a.table = I.after in
+      let gb = G.base in
+      let gr = G.room in
+      let clear : a.table.base + extent a.table ≤ c.indices.base = omega arith in
+      let K₂ : KeptBut w w₂ (written c st line_size) = but_trans (kept I) (but_of J.rest (there (here (omega arith) (omega arith)))) in
+      let table_same : table_of main supplementary w₂ a.table ≡ table_of main supplementary w₁ a.table = table_kept G.holds (but_one J.rest) (inl clear, tt) in
+      let set_is : indices_in w₂ c.indices ≡ insert_index (indices_in w c.indices) r.file.0 a.number = J.indices ∙ rw (maps I) in
+      line_row C r room K₂ (size₂ ∙ size) (grown-kept G (but_one J.rest) (inl clear, tt) size₂) (rw set_is (unnamed-set r.file.0 a.number C.unnamed))
+      (rw (unknown, Z.is, ← I.is, table_same, set_is)) L size₃

@@ -7,6 +7,9 @@ use Prim.Native.Nat.{ℕ, ◌+◌, ◌*◌, ◌≤◌, ◌<◌}
 use native.Mathlib.Omega.{arith}
 use lib.ListN.{length}
 use borrow.Author.Tests.{eq-eqb, ne_eqb}
+use Rattle.std.specs.Prelude.{Result, Ok, Err}
+use Rattle.tlv.specs.declared.refusal.Refusal.{Refusal}
+use Rattle.tlv.specs.Refusals.{number_of}
 use Rattle.tlv.specs.Outcome.{Outcome, refused, done, ◌>>=◌}
 use Rattle.tlv.specs.Bytes.{le, bytes_of}
 use Rattle.tlv.specs.Fields.{encode}
@@ -26,10 +29,8 @@ use Rattle.rows.specs.declared.unit_lines.StoredLines.{StoredLines}
 use Rattle.rows.specs.Sizes.{entry_size, line_size, range_size, row_room}
 use Rattle.rows.specs.Stored.{ranges_of}
 use Rattle.rows.proofs.StoredLaws.{lines-nil}
-use Rattle.collect.specs.declared.collect.CollectedLines.{CollectedLines}
 use Rattle.collect.specs.declared.convert.Conversion.{Conversion}
 use Rattle.collect.specs.declared.convert.Converting.{Converting}
-use Rattle.collect.specs.declared.convert.ConvertedRow.{ConvertedRow}
 use Rattle.collect.specs.Passes.{RowsCounted, sequences_from, with_offset, convert_from}
 use Rattle.collect.specs.Converts.{unit_at, header_in, offsets_of, converted_in, ConversionIn, RowsConverted, RowsConvert}
 use Rattle.collect.specs.Collects.{lines_in}
@@ -109,13 +110,13 @@ module _ {rows : List LineRow} {main supplementary w : List ℕ} {c : Conversion
   unfolding ◌>>=◌
   of-run x e = rw rows-counted.is e
 
-  module _ {w₁ files files₁ warnings₁ warnings₂ : List ℕ} {noted : ℕ} {r : ConvertedRow}
+  module _ {w₁ files files₁ warnings₁ warnings₂ : List ℕ} {noted : ℕ} {r : Result Converting Refusal}
       (R : RowsConvert rows main supplementary w w₁ files files₁ warnings₁ warnings₂ c (record { table = t; count = 0; warned = noted }) n r) where
-    finish-refused : (e : ℕ) → r ≡ ConvertedRow.Refused e → finish_from main supplementary w c t rows-counted.run ≡ refused e
+    finish-refused : (e : Refusal) → r ≡ Err e → finish_from main supplementary w c t rows-counted.run ≡ refused (number_of e)
     unfolding ◌>>=◌ start notes
     finish-refused e is =
-        let h = rows_are noted (refused e) (rw is at R.is) in
-        let p = rw (append-nil notes) at (convert_rows-prefix-refused (unit_at main c) (header_in main c) (offsets_of w c) rows-counted.run.lines notes start e h) in
+        let h = rows_are noted (refused (number_of e)) (rw is at R.is) in
+        let p = rw (append-nil notes) at (convert_rows-prefix-refused (unit_at main c) (header_in main c) (offsets_of w c) rows-counted.run.lines notes start (number_of e) h) in
         rw p
 
     rows-rest : KeptBut w w₁ ((t.base, extent t) ∷ (c.indices.base, c.indices.count * 5) ∷ (c.lines, row_room * length rows + entry_size) ∷ [])
@@ -134,12 +135,11 @@ module _ {rows : List LineRow} {main supplementary w : List ℕ} {c : Conversion
         let all = rows-counted.all in
         (inr (omega arith), (inr (omega arith), (inr (omega arith), tt)))
 
-    pub finishes-refused : {files' warnings warnings' : List ℕ} {e : ℕ} → r ≡ ConvertedRow.Refused e
-        → FinishesLines (done rows) (length rows) main supplementary w w₁ files files' warnings warnings' c t warned
-        (CollectedLines.Refused e)
-    finishes-refused {e = e} is = record { is = of-run (refused e) (finish-refused e is); rest = rows-rest }
+    pub finishes-refused : {files' warnings warnings' : List ℕ} {e : Refusal} → r ≡ Err e
+        → FinishesLines (done rows) (length rows) main supplementary w w₁ files files' warnings warnings' c t warned (Err e)
+    finishes-refused {e = e} is = record { is = of-run (refused (number_of e)) (finish-refused e is); rest = rows-rest }
 
-    module _ {st : Converting} (is : r ≡ ConvertedRow.Next st) where
+    module _ {st : Converting} (is : r ≡ Ok st) where
       rows-converted : RowsConverted rows main supplementary w w₁ files files₁ warnings₁ warnings₂ c (record { table = t; count = 0; warned = noted }) n st
       rows-converted = rw is at R.is
 
@@ -204,7 +204,7 @@ module _ {rows : List LineRow} {main supplementary w : List ℕ} {c : Conversion
 
         pub finishes-done : {warnings : List ℕ} → Put warned (warnings_bytes (mismatch m c.offset_count)) warnings warnings₁ noted → length w₂ ≡ length w₁
             → FinishesLines (done rows) (length rows) main supplementary w w₂ files files₁ warnings warnings₂ c t warned
-            (CollectedLines.Lines l c.indices st.table st.warned)
+            (Ok (record { lines = l; indices = c.indices; table = st.table; warned = st.warned }))
         finishes-done W size =
             let small = store-small in
             let b = S.within in

@@ -6,6 +6,9 @@ use Prim.Native.Nat.{ℕ, ◌+◌, ◌*◌, ◌≤◌, ◌<◌, min}
 use native.Mathlib.Omega.{arith}
 use lib.ListN.{length, drop}
 use borrow.Author.Tests.{eq-eqb, ne_eqb}
+use Rattle.std.specs.Prelude.{Some, None, Ok, Err}
+use Rattle.tlv.specs.declared.refusal.Refusal.{Refusal}
+use Rattle.tlv.specs.Refusals.{number_of}
 use Rattle.tlv.specs.Outcome.{Outcome, refused, done, ◌>>=◌}
 use Rattle.tlv.specs.Bytes.{le_at}
 use Rattle.tlv.specs.Grammar.{row_line_at, row_column_at, row_kind_at, row_field_size}
@@ -19,19 +22,12 @@ use Rattle.machine.specs.declared.registers.Registers.{Registers}
 use Rattle.machine.specs.declared.machine.Emitted.{Emitted}
 use Rattle.machine.specs.Machine.{initial, appended_row, rest_rows, unsupported, program_rows}
 use Rattle.machine.specs.Steps.{machine_of, Emits}
-use Rattle.collect.specs.declared.program.ProgramRows.{ProgramRows}
 use Rattle.collect.specs.Tables.{table_rows, RowPut, GathersRows}
 use Rattle.collect.specs.Sources.{program_in}
 use Rattle.collect.proofs.ProgramCountLaws.{CountingProgram, no-range, no-operation, program-start, program-done, program-fault}
 use Rattle.collect.proofs.ProgramCountLaws.{program-plain, program-plain_ahead, program-ended, program-ended_ahead}
 
 -- ---- one row
-
-pub column-last : (column : ℕ) → 65535 < column → 65535 ≡ min column 65535
-column-last column h = omega arith
-
-pub column-small : (column : ℕ) → column ≤ 65535 → column ≡ min column 65535
-column-small column h = omega arith
 
 pub row_put : {w w₁ w₂ w₃ w₄ w₅ : List ℕ} {p : ℕ} (r : Registers) {kind column : ℕ} → column ≡ min r.column 65535 → Wrote w w₁ p 8 r.address
     → Wrote w₁ w₂ (p + 8) 8 r.file → Wrote w₂ w₃ (p + row_line_at) 8 r.line → Wrote w₃ w₄ (p + row_column_at) 2 column
@@ -86,11 +82,11 @@ pub record GatheringProgram (e : Encoding) (ls s w₀ w : List ℕ) (base : ℕ)
 
 module _ (e : Encoding) (ls s w : List ℕ) (base : ℕ) where
   -- 21
-  pub gather-range : e.line_range ≡ 0 → GathersRows (program_in e ls s) w w base (length s) (ProgramRows.Fault 21)
+  pub gather-range : e.line_range ≡ 0 → GathersRows (program_in e ls s) w w base (length s) (Err Refusal.LineEncoding)
   gather-range z = record { is = sym (no-range e ls s z); rest = kept_refl w base _ }
 
   pub gather-operation : (e.line_range ≡ 0 → ⊥) → (e.maximum_operations ≡ 1 → ⊥)
-      → GathersRows (program_in e ls s) w w base (length s) (ProgramRows.Fault 21)
+      → GathersRows (program_in e ls s) w w base (length s) (Err Refusal.LineEncoding)
   gather-operation n m = record { is = sym (no-operation e ls s n m); rest = kept_refl w base _ }
 
   pub gather-start : (r : Registers) → (e.line_range ≡ 0 → ⊥) → e.maximum_operations ≡ 1 → r ≡ initial
@@ -107,19 +103,19 @@ module _ (e : Encoding) (ls s w : List ℕ) (base : ℕ) where
   }
 
 module _ {e : Encoding} {ls s w₀ w : List ℕ} {base : ℕ} {r : Registers} {at lines opened n count : ℕ}
-    (G : GatheringProgram e ls s w₀ w base r at lines opened n count) {q : Emitted} (E : Emits (machine_of e ls (length s)) s r at q) where
-  pub gather-fault : {f : ℕ} → q ≡ Emitted.Fault f → GathersRows (program_in e ls s) w₀ w base (length s) (ProgramRows.Fault f)
-  gather-fault is = record { is = sym (program-fault G.counting E is); rest = G.kept }
+    (G : GatheringProgram e ls s w₀ w base r at lines opened n count) where
+  pub gather-fault : {f : Refusal} → Emits (machine_of e ls (length s)) s r at (Err f) → GathersRows (program_in e ls s) w₀ w base (length s) (Err f)
+  gather-fault E = record { is = sym (program-fault G.counting E); rest = G.kept }
 
-  pub gather-end : q ≡ Emitted.End → GathersRows (program_in e ls s) w₀ w base (length s) (ProgramRows.Rows lines n count)
+  pub gather-end : Emits (machine_of e ls (length s)) s r at (Ok None)
+      → GathersRows (program_in e ls s) w₀ w base (length s) (Ok (record { lines = lines; sequences = n; count = count }))
   unfolding ◌>>=◌
-  gather-end is =
-      let Q : Emits (machine_of e ls (length s)) s r at Emitted.End = rw is at E in
-      let all : program_in e ls s ≡ done (table_rows w base count) = sym (rw (← Q.is, append-nil) at G.rows) in
+  gather-end E =
+      let all : program_in e ls s ≡ done (table_rows w base count) = sym (rw (← E.is, append-nil) at G.rows) in
       record {
         is = record {
           is = all;
-          counted = record { is = sym (rw all at (program-done G.counting E is)) };
+          counted = record { is = sym (rw all at (program-done G.counting E)) };
           few = omega (arith, G.few, G.counting.within);
         };
         rest = G.kept;
@@ -147,24 +143,18 @@ module _ {e : Encoding} {ls s w₀ w : List ℕ} {base : ℕ} {r : Registers} {a
           size = same ∙ G.size;
         }
 
-  module _ {v : Registers} {next : ℕ} (is : q ≡ Emitted.Plain v next) where
-    plain : Emits (machine_of e ls (length s)) s r at (Emitted.Plain v next)
-    plain = rw is at E
-
+  module _ {v : Registers} {next : ℕ} (plain : Emits (machine_of e ls (length s)) s r at (Ok (Some (Emitted.Plain v next)))) where
     pub gather-plain-room : (base + count * row_field_size + row_field_size ≤ length w) × (count + 1 ≤ length s)
-    gather-plain-room = let few = G.few in let room = G.room in let x = program-plain_ahead G.counting E is in (omega arith, omega arith)
+    gather-plain-room = let few = G.few in let room = G.room in let x = program-plain_ahead G.counting plain in (omega arith, omega arith)
 
     pub gather-plain : {w' : List ℕ} → RowPut w w' (base + count * row_field_size) (appended_row v 0) → length w' ≡ length w
         → GatheringProgram e ls s w₀ w' base v next lines (opened + 1) n (count + 1)
-    gather-plain P same = grown P same plain.within.0 plain.within.1 (program-plain G.counting E is) plain.is
+    gather-plain P same = grown P same plain.within.0 plain.within.1 (program-plain G.counting plain) plain.is
 
-  module _ {v : Registers} {next : ℕ} (is : q ≡ Emitted.Ended v next) where
-    ended : Emits (machine_of e ls (length s)) s r at (Emitted.Ended v next)
-    ended = rw is at E
-
+  module _ {v : Registers} {next : ℕ} (ended : Emits (machine_of e ls (length s)) s r at (Ok (Some (Emitted.Ended v next)))) where
     pub gather-ended-room : (base + count * row_field_size + row_field_size ≤ length w) × (count + 1 ≤ length s)
-    gather-ended-room = let few = G.few in let room = G.room in let x = program-ended_ahead G.counting E is in (omega arith, omega arith)
+    gather-ended-room = let few = G.few in let room = G.room in let x = program-ended_ahead G.counting ended in (omega arith, omega arith)
 
     pub gather-ended : {w' : List ℕ} (i : Registers) → RowPut w w' (base + count * row_field_size) (appended_row v 1) → length w' ≡ length w → i ≡ initial
         → GatheringProgram e ls s w₀ w' base i next (lines + opened) 0 (n + 1) (count + 1)
-    gather-ended i P same z = grown P same ended.within.0 ended.within.1 (program-ended G.counting E is i z) (rw z ended.is)
+    gather-ended i P same z = grown P same ended.within.0 ended.within.1 (program-ended G.counting ended i z) (rw z ended.is)

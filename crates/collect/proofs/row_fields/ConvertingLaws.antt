@@ -4,13 +4,15 @@ use mathlib.Core.List.{List, ◌∷◌}
 use Prim.Native.Nat.{ℕ, ◌+◌, ◌-◌, ◌*◌, ◌≤◌, ◌<◌}
 use native.Mathlib.Omega.{arith}
 use lib.ListN.{length, take, drop}
+use Rattle.std.specs.Prelude.{Some, None, Ok, Err}
+use Rattle.tlv.specs.declared.fields.FieldSpan.{FieldSpan}
+use Rattle.tlv.specs.declared.refusal.Refusal.{Refusal}
 use Rattle.tlv.specs.Grammar.{row_field_size, row_kind_at}
 use Rattle.tlv.specs.Bytes.{le_at}
 use Rattle.tlv.specs.Checked.{Placed}
 use Rattle.tlv.specs.Model.{row_of}
 use Rattle.buffers.specs.Buffer.{top}
 use Rattle.buffers.specs.Table.{chunk}
-use Rattle.access.specs.declared.access.Own.{Own}
 use Rattle.access.specs.Access.{NextOwn}
 use Rattle.access.proofs.OwnLaws.{own-within, own-placed}
 use Rattle.lines.specs.Lines.{raw_line}
@@ -18,7 +20,6 @@ use Rattle.files.proofs.UnitLaws.{unit-next}
 use Rattle.rows.specs.Sizes.{line_size}
 use Rattle.collect.specs.declared.convert.Conversion.{Conversion}
 use Rattle.collect.specs.declared.convert.Converting.{Converting}
-use Rattle.collect.specs.declared.convert.ConvertedRow.{ConvertedRow}
 use Rattle.collect.specs.declared.convert.Row.{Row}
 use Rattle.collect.specs.Passes.{rows_from}
 use Rattle.collect.specs.Converts.{ConversionIn, raw_of, KnownConverted, RowConverts, RowsConvert}
@@ -50,60 +51,57 @@ module _ {main supplementary w₀ w files₀ files warnings₀ warnings : List �
 
   -- enough rows
   pub converting-full : more ≡ 0
-      → RowsConvert (rows_from main (c.unit.place + 21)) main supplementary w₀ w files₀ files warnings₀ warnings c st₀ left (ConvertedRow.Next st)
+      → RowsConvert (rows_from main (c.unit.place + 21)) main supplementary w₀ w files₀ files warnings₀ warnings c st₀ left (Ok st)
   converting-full e = list_full J.list e
 
-  module _ {r : Own} (own : NextOwn main at 0x16 r) where
-    -- no more rows
-    pub converting-over : r ≡ Own.Missing
-        → RowsConvert (rows_from main (c.unit.place + 21)) main supplementary w₀ w files₀ files warnings₀ warnings c st₀ left (ConvertedRow.Next st)
-    converting-over e = list_over J.list (rows_end main at r own e)
+  -- no more rows
+  pub converting-over : NextOwn main at 0x16 None
+      → RowsConvert (rows_from main (c.unit.place + 21)) main supplementary w₀ w files₀ files warnings₀ warnings c st₀ left (Ok st)
+  converting-over own = list_over J.list (rows_end main at own)
 
-    module _ {start len next : ℕ} (e : r ≡ Own.Field start len next) (some_left : more ≡ 0 → ⊥) (kind : ℕ)
-        (read : kind ≡ le_at 1 main (start + row_kind_at)) where
-      here : rows_from main at ≡ row_of (take len (drop start main)) ∷ rows_from main next
-      here = rows_next main at r own start len next e
+  module _ {f : FieldSpan} (own : NextOwn main at 0x16 (Some f)) where
+    module _ (some_left : more ≡ 0 → ⊥) (kind : ℕ) (read : kind ≡ le_at 1 main (f.start + row_kind_at)) where
+      here : rows_from main at ≡ row_of (take f.len (drop f.start main)) ∷ rows_from main f.next
+      here = rows_next main at f own
 
-      kind-is : (row_of (take len (drop start main))).kind ≡ kind
-      kind-is = row-kind main at r own start len next e J.placed kind read
+      kind-is : (row_of (take f.len (drop f.start main))).kind ≡ kind
+      kind-is = row-kind main at f own J.placed kind read
 
-      placed-next : Placed main next
-      placed-next = own-placed main at 0x16 r start len next own e J.placed
+      placed-next : Placed main f.next
+      placed-next = own-placed main at 0x16 f own J.placed
 
-      small-next : n + 1 ≤ next
-      small-next = let x = own-within main at 0x16 r start len next own e in let small = J.small in omega arith
+      small-next : n + 1 ≤ f.next
+      small-next = let x = own-within main at 0x16 f own in let small = J.small in omega arith
 
       -- an end of sequence
-      pub converting-ended : kind ≡ 1 → ConvertingRows main supplementary w₀ w files₀ files warnings₀ warnings c st₀ st left next (n + 1) more
+      pub converting-ended : kind ≡ 1 → ConvertingRows main supplementary w₀ w files₀ files warnings₀ warnings c st₀ st left f.next (n + 1) more
       converting-ended one = record { placed = placed-next; list = list-ended J.list here some_left (kind-is ∙ one); small = small-next }
 
-      module _ (plain : kind ≡ 1 → ⊥) {row : Row} (is_row : raw_of row ≡ raw_line (row_of (chunk main start row_field_size)) n) where
-        no_end : (row_of (take len (drop start main))).kind ≡ 1 → ⊥
+      module _ (plain : kind ≡ 1 → ⊥) {row : Row} (is_row : raw_of row ≡ raw_line (row_of (chunk main f.start row_field_size)) n) where
+        no_end : (row_of (take f.len (drop f.start main))).kind ≡ 1 → ⊥
         no_end one = plain (sym kind-is ∙ one)
 
-        row_is : raw_of row ≡ raw_line (row_of (take len (drop start main))) n
+        row_is : raw_of row ≡ raw_line (row_of (take f.len (drop f.start main))) n
         unfolding chunk
-        row_is = is_row ∙ rw (row-long main at r own start len next e J.placed)
+        row_is = is_row ∙ rw (row-long main at f own J.placed)
 
-        module _ {w' files' warnings' : List ℕ} {q : ConvertedRow} (A : RowConverts main supplementary w w' files files' warnings warnings' c st row q) where
-          pub converting-refused : {k : ℕ} → q ≡ ConvertedRow.Refused k
-              → RowsConvert (rows_from main (c.unit.place + 21)) main supplementary w₀ w' files₀ files' warnings₀ warnings' c st₀ left
-              (ConvertedRow.Refused k)
-          converting-refused eq = list-refused J.list here some_left no_end row_is A eq
+        pub converting-refused : {w' files' warnings' : List ℕ} {k : Refusal} → RowConverts main supplementary w w' files files' warnings warnings' c st row (Err k)
+            → RowsConvert (rows_from main (c.unit.place + 21)) main supplementary w₀ w' files₀ files' warnings₀ warnings' c st₀ left (Err k)
+        converting-refused A = list-refused J.list here some_left no_end row_is A
 
-          pub converting-more : {st' : Converting} → q ≡ ConvertedRow.Next st' → length w' ≡ length w → length files' ≡ length files
-              → length warnings' ≡ length warnings
-              → ConvertingRows main supplementary w₀ w' files₀ files' warnings₀ warnings' c st₀ st' left next n (more - 1)
-          converting-more eq size files-size warnings-size = record {
-            placed = placed-next;
-            list = list-more J.list here some_left no_end row_is A eq size files-size warnings-size;
-            small = let x = small-next in omega arith;
-          }
+        pub converting-more : {w' files' warnings' : List ℕ} {st' : Converting} → RowConverts main supplementary w w' files files' warnings warnings' c st row (Ok st')
+            → length w' ≡ length w → length files' ≡ length files → length warnings' ≡ length warnings
+            → ConvertingRows main supplementary w₀ w' files₀ files' warnings₀ warnings' c st₀ st' left f.next n (more - 1)
+        converting-more A size files-size warnings-size = record {
+          placed = placed-next;
+          list = list-more J.list here some_left no_end row_is A size files-size warnings-size;
+          small = let x = small-next in omega arith;
+        }
 
         -- its line is appended
         pub converting-known : {w' : List ℕ} → KnownConverted w w' c row st.count → length w' ≡ length w
             → ConvertingRows main supplementary w₀ w' files₀ files warnings₀ warnings c st₀
-            (record { table = st.table; count = st.count + 1; warned = st.warned }) left next n (more - 1)
+            (record { table = st.table; count = st.count + 1; warned = st.warned }) left f.next n (more - 1)
         converting-known K size = record {
           placed = placed-next;
           list = list-known J.list here some_left no_end row_is K size;

@@ -5,16 +5,18 @@ use Prim.Native.Nat.{ℕ, ◌+◌, ◌-◌, ◌≤◌}
 use native.Mathlib.Omega.{arith}
 use lib.Dec.{eqb}
 use lib.ListN.{length, take, drop}
+use Rattle.std.specs.Prelude.{Some, None}
+use Rattle.tlv.specs.declared.fields.FieldSpan.{FieldSpan}
 use Rattle.tlv.specs.Grammar.{encoding_flag_at, encoding_field_size}
 use Rattle.tlv.specs.Tags.{encoding_tag}
 use Rattle.tlv.specs.Lists.{map_option}
 use Rattle.tlv.specs.Bytes.{le_at}
 use Rattle.tlv.specs.Model.{header_of, encoding_of}
+use Rattle.tlv.specs.Cursor.{step_at}
 use Rattle.tlv.specs.Checked.{Placed}
 use Rattle.tlv.proofs.ShapeLaws.{number_at, number-first}
 use Rattle.tlv.proofs.WidthLaws.{drop_part}
 use Rattle.tlv.proofs.PlacePromises.{placed-encoding}
-use Rattle.access.specs.declared.access.Own.{Own}
 use Rattle.access.specs.Access.{NextOwn}
 use Rattle.access.proofs.OwnLaws.{own-within, own-field}
 use Rattle.line_program.specs.Program.{opcodes_of}
@@ -28,40 +30,40 @@ use Rattle.collect.specs.Sources.{program_in, EncodingRead, SourceFound}
 
 -- ---- the source that is found
 
-module _ {main : List ℕ} {p : ℕ} {r : Own} (own : NextOwn main p encoding_tag r) where
+module _ {main : List ℕ} {p : ℕ} where
   -- no encoding
-  pub source-fields : (start len : ℕ) → r ≡ Own.Missing → SourceFound main p start len RowSource.Fields
+  pub source-fields : (start len : ℕ) → NextOwn main p encoding_tag None → SourceFound main p start len RowSource.Fields
   unfolding line_rows rows_most map_option
-  source-fields start len e = record {
+  source-fields start len own = record {
     within = record { is = tt };
-    is = λ u program enc rows. rw (enc, first-none main p encoding_tag r own e, rows);
-    most = λ u program enc rows. rw (enc, first-none main p encoding_tag r own e, rows);
+    is = λ u program enc rows. rw (enc, first-none main p encoding_tag own, rows);
+    most = λ u program enc rows. rw (enc, first-none main p encoding_tag own, rows);
   }
 
-  module _ (h : Placed main p) {at size next : ℕ} (e : r ≡ Own.Field at size next) where
-    sized : size ≡ encoding_field_size
+  module _ (h : Placed main p) {field : FieldSpan} (own : NextOwn main p encoding_tag (Some field)) where
+    sized : field.len ≡ encoding_field_size
     sized =
-        let f = own-field main p encoding_tag r at size next own e h in
-        placed-encoding main f.place f.step encoding_tag at size next f.here f.reads f.is refl
+        let x = own-field main p encoding_tag field own h in
+        placed-encoding main x.place (step_at main x.place) encoding_tag field.start field.len field.next x.here refl x.is refl
 
     -- it can be read
-    pub encoding-within : at + encoding_field_size ≤ length main
-    encoding-within = let l = sized in let w = own-within main p encoding_tag r at size next own e in omega arith
+    pub encoding-within : field.start + encoding_field_size ≤ length main
+    encoding-within = let l = sized in let w = own-within main p encoding_tag field own in omega arith
 
-    module _ (b : ℕ) (q : Encoding) (R : EncodingRead main at b q) where
-      encoding-is : line_encoding q ≡ encoding_of (take size (drop at main))
+    module _ (b : ℕ) (q : Encoding) (R : EncodingRead main field.start b q) where
+      encoding-is : line_encoding q ≡ encoding_of (take field.len (drop field.start main))
       unfolding encoding_of
       encoding-is =
           let l = sized in
-          let n : q.minimum_instruction_length ≡ le_at 1 (take size (drop at main)) 0
-          = sym (number-first main at size 1 q.minimum_instruction_length (omega arith) R.minimum) in
-          let o : q.maximum_operations ≡ le_at 1 (take size (drop at main)) 1
-          = sym (number_at main at size 1 1 q.maximum_operations (omega arith) R.operations) in
-          let f : le_at 1 (take size (drop at main)) encoding_flag_at ≡ le_at 1 main (at + encoding_flag_at)
-          = number_at main at size 1 encoding_flag_at (le_at 1 main (at + encoding_flag_at)) (omega arith) refl in
-          let s : q.default_is_stmt ≡ eqb (le_at 1 (take size (drop at main)) encoding_flag_at) 1 = R.statement ∙ ap (λ (x : ℕ). eqb x 1) (sym f) in
-          let g : q.line_base ≡ le_at 1 (take size (drop at main)) 3 = sym (number_at main at size 1 3 q.line_base (omega arith) R.line-base) in
-          let k : q.line_range ≡ le_at 1 (take size (drop at main)) 4 = sym (number_at main at size 1 4 q.line_range (omega arith) R.line-range) in
+          let n : q.minimum_instruction_length ≡ le_at 1 (take field.len (drop field.start main)) 0
+          = sym (number-first main field.start field.len 1 q.minimum_instruction_length (omega arith) R.minimum) in
+          let o : q.maximum_operations ≡ le_at 1 (take field.len (drop field.start main)) 1
+          = sym (number_at main field.start field.len 1 1 q.maximum_operations (omega arith) R.operations) in
+          let f : le_at 1 (take field.len (drop field.start main)) encoding_flag_at ≡ le_at 1 main (field.start + encoding_flag_at)
+          = number_at main field.start field.len 1 encoding_flag_at (le_at 1 main (field.start + encoding_flag_at)) (omega arith) refl in
+          let s : q.default_is_stmt ≡ eqb (le_at 1 (take field.len (drop field.start main)) encoding_flag_at) 1 = R.statement ∙ ap (λ (x : ℕ). eqb x 1) (sym f) in
+          let g : q.line_base ≡ le_at 1 (take field.len (drop field.start main)) 3 = sym (number_at main field.start field.len 1 3 q.line_base (omega arith) R.line-base) in
+          let k : q.line_range ≡ le_at 1 (take field.len (drop field.start main)) 4 = sym (number_at main field.start field.len 1 4 q.line_range (omega arith) R.line-range) in
           λ i. record { minimum_instruction_length = n i; maximum_operations = o i; default_is_stmt = s i; line_base = g i; line_range = k i }
 
       module _ (start len : ℕ) (long : 19 ≤ len) (within : start + len ≤ length main) (base : b ≡ le_at 1 main (start + 18)) where
@@ -80,7 +82,7 @@ module _ {main : List ℕ} {p : ℕ} {r : Own} (own : NextOwn main p encoding_ta
         unfolding line_rows rows_most map_option program_in
         source-program = record {
           within = record { is = (omega arith, within) };
-          is = λ u program enc rows. rw (enc, first_found main p encoding_tag r own at size next e)
+          is = λ u program enc rows. rw (enc, first_found main p encoding_tag field own)
               (λ i. program_rows (encoding-is i) (opcodes-are i) program);
-          most = λ u program enc rows. rw (enc, first_found main p encoding_tag r own at size next e);
+          most = λ u program enc rows. rw (enc, first_found main p encoding_tag field own);
         }

@@ -5,6 +5,8 @@ use mathlib.Core.List.{List, ◌∷◌}
 use Prim.Native.Nat.{ℕ, ◌+◌, ◌-◌, ◌*◌, ◌≤◌, ◌<◌}
 use native.Mathlib.Omega.{arith}
 use lib.ListN.{length, drop}
+use Rattle.std.specs.Prelude.{Ok, Err}
+use Rattle.tlv.specs.declared.refusal.Refusal.{Refusal}
 use Rattle.tlv.specs.Grammar.{row_field_size, row_kind_at}
 use Rattle.tlv.specs.Bytes.{le_at}
 use Rattle.tlv.specs.Model.{row_of}
@@ -17,7 +19,6 @@ use Rattle.lines.specs.Lines.{raw_line}
 use Rattle.rows.specs.Sizes.{line_size}
 use Rattle.collect.specs.declared.convert.Conversion.{Conversion}
 use Rattle.collect.specs.declared.convert.Converting.{Converting}
-use Rattle.collect.specs.declared.convert.ConvertedRow.{ConvertedRow}
 use Rattle.collect.specs.declared.convert.Row.{Row}
 use Rattle.collect.specs.Tables.{table_rows}
 use Rattle.collect.specs.Converts.{ConversionIn, raw_of, KnownConverted, RowConverts, RowsConvert}
@@ -48,12 +49,12 @@ module _ {main supplementary w₀ w files₀ files warnings₀ warnings : List �
     (J : ConvertingTable main supplementary w₀ w files₀ files warnings₀ warnings c st₀ st at count left i n more) where
   -- enough rows
   pub table-full : more ≡ 0
-      → RowsConvert (table_rows w₀ at count) main supplementary w₀ w files₀ files warnings₀ warnings c st₀ left (ConvertedRow.Next st)
+      → RowsConvert (table_rows w₀ at count) main supplementary w₀ w files₀ files warnings₀ warnings c st₀ left (Ok st)
   table-full e = list_full J.list e
 
   -- no more rows
   pub table-over : count ≤ i
-      → RowsConvert (table_rows w₀ at count) main supplementary w₀ w files₀ files warnings₀ warnings c st₀ left (ConvertedRow.Next st)
+      → RowsConvert (table_rows w₀ at count) main supplementary w₀ w files₀ files warnings₀ warnings c st₀ left (Ok st)
   table-over e = list_over J.list (records-rest_none row_of row_field_size w₀ at count i e)
 
   module _ (ahead : i < count) where
@@ -108,20 +109,19 @@ module _ {main supplementary w₀ w files₀ files warnings₀ warnings : List �
         }
 
         -- or, as nothing was written for it yet, it is converted
-        module _ {w₁ : List ℕ} (same : w₁ ≡ w) {w' files' warnings' : List ℕ} {q : ConvertedRow}
-            (A : RowConverts main supplementary w₁ w' files files' warnings warnings' c st row q) where
-          converts : RowConverts main supplementary w w' files files' warnings warnings' c st row q
-          converts = subst (λ (x : List ℕ). RowConverts main supplementary x w' files files' warnings warnings' c st row q) same A
+        module _ {w₁ : List ℕ} (same : w₁ ≡ w) {w' files' warnings' : List ℕ} where
+          pub table-refused : {k : Refusal} → RowConverts main supplementary w₁ w' files files' warnings warnings' c st row (Err k)
+              → RowsConvert (table_rows w₀ at count) main supplementary w₀ w' files₀ files' warnings₀ warnings' c st₀ left (Err k)
+          table-refused {k} A = list-refused J.list here some_left no_end is_row
+              (subst (λ (x : List ℕ). RowConverts main supplementary x w' files files' warnings warnings' c st row (Err k)) same A)
 
-          pub table-refused : {k : ℕ} → q ≡ ConvertedRow.Refused k
-              → RowsConvert (table_rows w₀ at count) main supplementary w₀ w' files₀ files' warnings₀ warnings' c st₀ left (ConvertedRow.Refused k)
-          table-refused eq = list-refused J.list here some_left no_end is_row converts eq
-
-          pub table_more : {st' : Converting} → q ≡ ConvertedRow.Next st' → length w' ≡ length w₁ → length files' ≡ length files
-              → length warnings' ≡ length warnings
+          pub table_more : {st' : Converting} → RowConverts main supplementary w₁ w' files files' warnings warnings' c st row (Ok st')
+              → length w' ≡ length w₁ → length files' ≡ length files → length warnings' ≡ length warnings
               → ConvertingTable main supplementary w₀ w' files₀ files' warnings₀ warnings' c st₀ st' at count left (i + 1) n (more - 1)
-          table_more eq size files-size warnings-size = record {
-            list = list-more J.list here some_left no_end is_row converts eq (size ∙ ap length same) files-size warnings-size;
+          table_more {st'} A size files-size warnings-size = record {
+            list = list-more J.list here some_left no_end is_row
+                (subst (λ (x : List ℕ). RowConverts main supplementary x w' files files' warnings warnings' c st row (Ok st')) same A)
+                (size ∙ ap length same) files-size warnings-size;
             small = omega (arith, J.small);
             within = J.within;
             below = J.below;

@@ -11,88 +11,66 @@ use Rattle.collect.proofs.collect.collect_header.Goals as goal
 pub overflow_add-p : goal.overflow_add-p
 overflow_add-p c = let w = unit-within (unit-stands c.requires.placed c.requires.unit) in omega arith
 
-pub scan_program-requires-clause-le_len : goal.scan_program-requires-clause-le_len
-scan_program-requires-clause-le_len c = c.requires.header.long
-
-pub scan_program-requires-clause-len_in_bounds : goal.scan_program-requires-clause-len_in_bounds
-scan_program-requires-clause-len_in_bounds c = c.requires.header.within
-
 pub scan_program-requires-clause-offset_record_in_bounds : goal.scan_program-requires-clause-offset_record_in_bounds
 scan_program-requires-clause-offset_record_in_bounds c = scan-room c.requires
 
 pub row_fault-requires-clause-placed : goal.row_fault-requires-clause-placed
 row_fault-requires-clause-placed c = found-placed c.requires
 
-pub row_fault-requires-clause-source_within : goal.row_fault-requires-clause-source_within
-row_fault-requires-clause-source_within c = c.requires.within
-
-pub row_fault-requires-clause-source_in_bounds : goal.row_fault-requires-clause-source_in_bounds
-row_fault-requires-clause-source_in_bounds c = omega (arith, fault-room c.requires, c.scan_program.auto.work)
-
-pub shape_of-work-in-Fault : goal.shape_of-work-in-Fault
-shape_of-work-in-Fault c = c.row_fault.auto.work ∙ c.scan_program.auto.work
-
-pub returns-in-Fault : goal.returns-in-Fault
-returns-in-Fault c = collected-fault c.requires c.scan_program.ensures c.in-Fault.is c.row_fault.ensures
-
-pub overflow_mul-k : goal.overflow_mul-k
-overflow_mul-k c = let s = scanned-small c.requires c.scan_program.ensures c.in-Count.is c.scan_program.auto.work in
-    omega (arith, s, c.well_formed.1.1.1.1.1.1.1.0)
-
-pub overflow_add-free : goal.overflow_add-free
-overflow_add-free c = let s = scanned-small c.requires c.scan_program.ensures c.in-Count.is c.scan_program.auto.work in
-    omega (arith, s, c.well_formed.1.1.1.1.1.1.1.0)
-
 pub intern_unit-requires-clause-unit_placed : goal.intern_unit-requires-clause-unit_placed
 intern_unit-requires-clause-unit_placed c = unit-stands c.requires.placed c.requires.unit
-
-pub intern_unit-requires-clause-files_in : goal.intern_unit-requires-clause-files_in
-intern_unit-requires-clause-files_in c = scanned-files c.requires c.scan_program.ensures c.in-Count.is c.scan_program.auto.work
 
 pub intern_unit-requires-clause-listed : goal.intern_unit-requires-clause-listed
 intern_unit-requires-clause-listed c = unit-listed c.requires.placed c.requires.unit c.args.supplementary.now
     c.requires.header
 
-pub intern_unit-requires-clause-unit_room : goal.intern_unit-requires-clause-unit_room
-intern_unit-requires-clause-unit_room c = scanned-room c.requires c.scan_program.ensures c.in-Count.is c.scan_program.auto.work
-
-pub row_fault-requires-in-Refused-clause-placed : goal.row_fault-requires-in-Refused-clause-placed
-row_fault-requires-in-Refused-clause-placed c = found-placed c.requires
-
-pub row_fault-requires-in-Refused-clause-source_within : goal.row_fault-requires-in-Refused-clause-source_within
-row_fault-requires-in-Refused-clause-source_within c = c.requires.within
-
-pub row_fault-requires-in-Refused-clause-source_in_bounds : goal.row_fault-requires-in-Refused-clause-source_in_bounds
-row_fault-requires-in-Refused-clause-source_in_bounds c = omega (arith, fault-room c.requires, c.scan_program.auto.work, c.intern_unit.auto.work)
-
-pub shape_of-work-in-Refused : goal.shape_of-work-in-Refused
-shape_of-work-in-Refused c = c.row_fault-in-Refused.auto.work ∙ c.intern_unit.auto.work ∙ c.scan_program.auto.work
-
-pub returns-in-Refused : goal.returns-in-Refused
-returns-in-Refused c = collected-unnumbered c.requires c.scan_program.ensures c.in-Count.is c.scan_program.auto.work c.intern_unit.ensures c.in-Refused.is c.row_fault-in-Refused.ensures
-
-pub conversion-c-requires-clause-placed : goal.conversion-c-requires-clause-placed
-conversion-c-requires-clause-placed c = let all = interned-fits c.requires c.scan_program.ensures c.in-Count.is c.scan_program.auto.work c.intern_unit.ensures c.in-Unit.is in
-    interned-placed c.requires c.scan_program.ensures c.in-Count.is c.scan_program.auto.work c.intern_unit.ensures c.in-Unit.is
-
-pub conversion-c-requires-clause-index_record_bound : goal.conversion-c-requires-clause-index_record_bound
-conversion-c-requires-clause-index_record_bound c = let all = interned-fits c.requires c.scan_program.ensures c.in-Count.is c.scan_program.auto.work c.intern_unit.ensures c.in-Unit.is in
-    omega (arith, all, c.well_formed.1.1.1.1.1.1.1.0)
-
-pub collect_rows-requires-clause-conversion_in : goal.collect_rows-requires-clause-conversion_in
-collect_rows-requires-clause-conversion_in c = let last = c.intern_unit.auto.work ∙ c.scan_program.auto.work in
-    conversion-in c.requires c.scan_program.ensures c.in-Count.is c.scan_program.auto.work c.intern_unit.ensures c.in-Unit.is c.conversion-c.ensures c.args.warned last
-
 pub collect_rows-requires-clause-source_within : goal.collect_rows-requires-clause-source_within
 collect_rows-requires-clause-source_within c = let last = c.intern_unit.auto.work ∙ c.scan_program.auto.work in
     c.requires.within
 
+pub row_fault-requires-clause-source_in_bounds : goal.row_fault-requires-clause-source_in_bounds
+row_fault-requires-clause-source_in_bounds c = omega (arith, fault-room c.requires, c.scan_program.auto.work)
+
+pub returns-in-Err : goal.returns-in-Err
+returns-in-Err c = collected-fault c.requires c.in-Err.ensures c.row_fault.ensures
+
+pub overflow_mul-base : goal.overflow_mul-base
+overflow_mul-base c = let s = scanned-small c.requires c.in-Ok.ensures c.scan_program.auto.work in
+    omega (arith, s, c.well_formed.1.1.1.1.1.1.1.0)
+
+pub overflow_add-base : goal.overflow_add-base
+overflow_add-base c = let s = scanned-small c.requires c.in-Ok.ensures c.scan_program.auto.work in
+    omega (arith, s, c.well_formed.1.1.1.1.1.1.1.0)
+
+pub intern_unit-requires-clause-files_in : goal.intern_unit-requires-clause-files_in
+intern_unit-requires-clause-files_in c = scanned-files c.requires c.in-Ok.ensures c.scan_program.auto.work
+
+pub intern_unit-requires-clause-unit_room : goal.intern_unit-requires-clause-unit_room
+intern_unit-requires-clause-unit_room c = scanned-room c.requires c.in-Ok.ensures c.scan_program.auto.work
+
+pub row_fault-requires-in-Err-intern_unit-clause-placed : goal.row_fault-requires-in-Err-intern_unit-clause-placed
+row_fault-requires-in-Err-intern_unit-clause-placed c = found-placed c.requires
+
+pub row_fault-requires-in-Err-intern_unit-clause-source_in_bounds : goal.row_fault-requires-in-Err-intern_unit-clause-source_in_bounds
+row_fault-requires-in-Err-intern_unit-clause-source_in_bounds c = omega (arith, fault-room c.requires, c.scan_program.auto.work, c.intern_unit.auto.work)
+
+pub returns-in-Err-intern_unit : goal.returns-in-Err-intern_unit
+returns-in-Err-intern_unit c = collected-unnumbered c.requires c.in-Ok.ensures c.scan_program.auto.work c.in-Err-intern_unit.ensures c.row_fault-in-Err-intern_unit.ensures
+
+pub conversion-c-requires-clause-placed : goal.conversion-c-requires-clause-placed
+conversion-c-requires-clause-placed c = interned-placed c.requires c.in-Ok.ensures c.scan_program.auto.work c.in-Ok-intern_unit.ensures
+
+pub conversion-c-requires-clause-index_record_bound : goal.conversion-c-requires-clause-index_record_bound
+conversion-c-requires-clause-index_record_bound c = let all = interned-fits c.requires c.in-Ok.ensures c.scan_program.auto.work c.in-Ok-intern_unit.ensures in
+    omega (arith, all, c.well_formed.1.1.1.1.1.1.1.0)
+
+pub collect_rows-requires-clause-conversion_in : goal.collect_rows-requires-clause-conversion_in
+collect_rows-requires-clause-conversion_in c = let last = c.intern_unit.auto.work ∙ c.scan_program.auto.work in
+    conversion-in c.requires c.in-Ok.ensures c.scan_program.auto.work c.in-Ok-intern_unit.ensures c.conversion-c.ensures c.args.warned last
+
 pub collect_rows-requires-clause-entry_size_in_bounds : goal.collect_rows-requires-clause-entry_size_in_bounds
 collect_rows-requires-clause-entry_size_in_bounds c = let last = c.intern_unit.auto.work ∙ c.scan_program.auto.work in
-    conversion-fits c.requires c.scan_program.ensures c.in-Count.is c.scan_program.auto.work c.intern_unit.ensures c.in-Unit.is c.conversion-c.ensures last
+    conversion-fits c.requires c.in-Ok.ensures c.scan_program.auto.work c.in-Ok-intern_unit.ensures c.conversion-c.ensures last
 
-pub shape_of-work-in-Unit : goal.shape_of-work-in-Unit
-shape_of-work-in-Unit c = c.collect_rows.auto.work ∙ c.intern_unit.auto.work ∙ c.scan_program.auto.work
-
-pub returns-in-Unit : goal.returns-in-Unit
-returns-in-Unit c = collected-end c.requires c.scan_program.ensures c.in-Count.is c.scan_program.auto.work c.intern_unit.ensures c.in-Unit.is c.conversion-c.ensures c.collect_rows.ensures
+pub returns : goal.returns
+returns c = collected-end c.requires c.in-Ok.ensures c.scan_program.auto.work c.in-Ok-intern_unit.ensures c.conversion-c.ensures c.collect_rows.ensures

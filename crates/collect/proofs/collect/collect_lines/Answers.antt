@@ -7,23 +7,18 @@ use Rattle.collect.proofs.collect.collect_lines.Goals as goal
 pub overflow_add-p : goal.overflow_add-p
 overflow_add-p c = let w = place-within c.requires.placed c.requires.unit_in in omega arith
 
-pub returns-in-Missing : goal.returns-in-Missing
-returns-in-Missing c = collected-nothing c.requires.placed c.requires.unit_in c.requires.files_in c.requires.lines_room c.next_own.ensures c.in-Missing.is (omega arith) (omega arith) (omega arith)
+pub returns-in_default : goal.returns-in_default
+returns-in_default c = collected-nothing c.requires.placed c.requires.unit_in c.requires.files_in c.requires.lines_room c.in_default.ensures (omega arith) (omega arith) (omega arith)
 
 pub row_source-source-requires-clause-placed : goal.row_source-source-requires-clause-placed
-row_source-source-requires-clause-placed c = let H = header-found (unit-stands c.requires.placed c.requires.unit_in) c.next_own.ensures c.in-Field.is in
-    rows-placed c.requires.placed c.requires.unit_in
+row_source-source-requires-clause-placed c = rows-placed c.requires.placed c.requires.unit_in
 
 pub row_source-source-requires-clause-le_len : goal.row_source-source-requires-clause-le_len
-row_source-source-requires-clause-le_len c = let H = header-found (unit-stands c.requires.placed c.requires.unit_in) c.next_own.ensures c.in-Field.is in
+row_source-source-requires-clause-le_len c = let H = header-found (unit-stands c.requires.placed c.requires.unit_in) c.in-Some.ensures in
     H.long
 
-pub row_source-source-requires-clause-len_in_bounds : goal.row_source-source-requires-clause-len_in_bounds
-row_source-source-requires-clause-len_in_bounds c = let H = header-found (unit-stands c.requires.placed c.requires.unit_in) c.next_own.ensures c.in-Field.is in
-    H.within
-
 pub collect_header-requires : goal.collect_header-requires
-collect_header-requires c = let H = header-found (unit-stands c.requires.placed c.requires.unit_in) c.next_own.ensures c.in-Field.is in
+collect_header-requires c = let H = header-found (unit-stands c.requires.placed c.requires.unit_in) c.in-Some.ensures in
     record {
       placed = c.requires.placed;
       unit = c.requires.unit_in;

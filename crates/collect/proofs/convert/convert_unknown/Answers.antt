@@ -4,20 +4,11 @@ use native.Mathlib.Omega.{arith}
 use Rattle.collect.proofs.ConvertLaws.{row-missing, row-unnamed}
 use Rattle.collect.proofs.convert.convert_unknown.Goals as goal
 
-pub returns-in-Missing : goal.returns-in-Missing
-returns-in-Missing c = row-missing c.requires.conversion_in c.args.row c.requires.file_value (omega arith) c.sought_file.ensures c.in-Missing.is c.put_warning-warned.ensures
-
 pub returns-in-Unnamed : goal.returns-in-Unnamed
 returns-in-Unnamed c = row-unnamed c.requires.conversion_in c.args.row c.requires.file_value (omega arith) (omega arith) (omega arith) c.sought_file.ensures c.in-Unnamed.is
 
-pub convert_zero-requires-clause-conversion_in : goal.convert_zero-requires-clause-conversion_in
-convert_zero-requires-clause-conversion_in c = c.requires.conversion_in
-
-pub convert_zero-requires-clause-line_size_in_bounds : goal.convert_zero-requires-clause-line_size_in_bounds
-convert_zero-requires-clause-line_size_in_bounds c = c.requires.line_size_in_bounds
-
-pub convert_zero-requires-clause-file_value : goal.convert_zero-requires-clause-file_value
-convert_zero-requires-clause-file_value c = c.requires.file_value
-
 pub convert_zero-requires-clause-file_value_2 : goal.convert_zero-requires-clause-file_value_2
 convert_zero-requires-clause-file_value_2 c = sym c.in-Zero.is ∙ c.sought_file.ensures
+
+pub returns-in-Missing : goal.returns-in-Missing
+returns-in-Missing c = row-missing c.requires.conversion_in c.args.row c.requires.file_value (omega arith) c.sought_file.ensures c.in-Missing.is c.put_warning.ensures

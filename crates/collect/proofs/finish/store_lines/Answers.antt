@@ -3,15 +3,6 @@ use native.Mathlib.Omega.{arith}
 use Rattle.collect.proofs.finish.StoreLaws.{sequences-counted, buffer-apart, stored_lines}
 use Rattle.collect.proofs.finish.store_lines.Goals as goal
 
-pub collect_unit_sequences-sequence_count-requires-clause-rows_ready : goal.collect_unit_sequences-sequence_count-requires-clause-rows_ready
-collect_unit_sequences-sequence_count-requires-clause-rows_ready c = c.requires.rows_ready
-
-pub collect_unit_sequences-sequence_count-requires-clause-offset_record_bound : goal.collect_unit_sequences-sequence_count-requires-clause-offset_record_bound
-collect_unit_sequences-sequence_count-requires-clause-offset_record_bound c = omega (arith, c.requires.offset_record_bound)
-
-pub collect_unit_sequences-sequence_count-requires-clause-none_in_bounds : goal.collect_unit_sequences-sequence_count-requires-clause-none_in_bounds
-collect_unit_sequences-sequence_count-requires-clause-none_in_bounds c = omega (arith, c.requires.entry_size_in_bounds)
-
 pub overflow_mul-buffer : goal.overflow_mul-buffer
 overflow_mul-buffer c = let k = sequences-counted c.args.lines c.args.count c.collect_unit_sequences-sequence_count.ensures in
     omega arith

@@ -4,8 +4,8 @@ use lib.ListN.{length}
 use Rattle.collect.proofs.passes.CountLaws.{CountingRows}
 use Rattle.collect.proofs.passes.count_rows.Given as goal
 
-abbrev pub invariant-loop-start : goal.invariant-loop-start
-invariant-loop-start l = CountingRows l.s l.p l.at l.lines l.opened l.n
+abbrev pub invariant-loop-field : goal.invariant-loop-field
+invariant-loop-field l = CountingRows l.s l.p l.at l.lines l.opened l.sequences
 
-abbrev pub decreases-loop-start : goal.decreases-loop-start
-decreases-loop-start l = length l.s - l.at
+abbrev pub decreases-loop-field : goal.decreases-loop-field
+decreases-loop-field l = length l.s - l.at

@@ -2,8 +2,8 @@
 use Rattle.collect.proofs.SequencesList.{offset-known, offset-unknown}
 use Rattle.collect.proofs.passes.sequence_offset.Goals as goal
 
-pub returns-then-sequence-n : goal.returns-then-sequence-n
-returns-then-sequence-n c = search offset-known
-
 pub returns : goal.returns
 returns c = search offset-unknown
+
+pub returns-then-sequence-n : goal.returns-then-sequence-n
+returns-then-sequence-n c = search offset-known

@@ -4,8 +4,8 @@ use lib.ListN.{length}
 use Rattle.collect.proofs.program.GatherLaws.{GatheringProgram}
 use Rattle.collect.proofs.program.gather_program_rows.Given as goal
 
-abbrev pub invariant-loop-fault : goal.invariant-loop-fault
-invariant-loop-fault l = GatheringProgram l.e l.lengths l.program l.initial.work l.work l.base l.registers l.at l.lines l.opened l.n l.count
+abbrev pub invariant-loop-emitted : goal.invariant-loop-emitted
+invariant-loop-emitted l = GatheringProgram l.e l.lengths l.program l.initial.work l.work l.base l.registers l.at l.lines l.opened l.sequences l.count
 
-abbrev pub decreases-loop-fault : goal.decreases-loop-fault
-decreases-loop-fault l = length l.program - l.at
+abbrev pub decreases-loop-emitted : goal.decreases-loop-emitted
+decreases-loop-emitted l = length l.program - l.at

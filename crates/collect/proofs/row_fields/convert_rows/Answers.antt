@@ -6,6 +6,7 @@ use lib.ListN.{length}
 use Rattle.tlv.specs.Grammar.{row_field_size}
 use Rattle.access.proofs.OwnLaws.{own-less}
 use Rattle.files.proofs.UnitLaws.{unit-within}
+use Rattle.tlv.proofs.AnswerLaws.{handed}
 use Rattle.collect.proofs.RowsFromLaws.{row_within, row-ahead}
 use Rattle.collect.proofs.row_fields.ConvertingLaws.{converting-start, converting-same, converting-full, converting-over, converting-ended, converting-refused, converting-more, converting-known}
 use Rattle.collect.proofs.row_fields.convert_rows.Goals as goal
@@ -21,49 +22,24 @@ pub returns-then-more-eq0 : goal.returns-then-more-eq0
 returns-then-more-eq0 c = converting-full c.loop-more.invariant c.if-more-eq0.true
 
 pub returns-in_default : goal.returns-in_default
-returns-in_default c = converting-over c.loop-more.invariant c.next_row.ensures c.in_default.is
+returns-in_default c = converting-over c.loop-more.invariant c.in_default.ensures
 
 pub read_row-row-requires : goal.read_row-row-requires
-read_row-row-requires c = row_within c.args.main.now _ _ c.next_row.ensures _ _ _ c.in-Field.is c.loop-more.invariant.placed
+read_row-row-requires c = row_within c.args.main.now _ _ c.in-Some.ensures c.loop-more.invariant.placed
 
-pub overflow_add-start : goal.overflow_add-start
-overflow_add-start c = let w : c.in-Field.start + row_field_size ≤ length c.args.main.now = row_within c.args.main.now _ _ c.next_row.ensures _ _ _ c.in-Field.is c.loop-more.invariant.placed in
-    omega (arith, c.well_formed.0)
-
-pub read_u8-requires : goal.read_u8-requires
-read_u8-requires c = let w : c.in-Field.start + row_field_size ≤ length c.args.main.now = row_within c.args.main.now _ _ c.next_row.ensures _ _ _ c.in-Field.is c.loop-more.invariant.placed in
+pub read-requires : goal.read-requires
+read-requires c = let w : c.in-Some.field.start + row_field_size ≤ length c.args.main.now = row_within c.args.main.now _ _ c.in-Some.ensures c.loop-more.invariant.placed in
     omega arith
 
 pub overflow_add-sequence : goal.overflow_add-sequence
-overflow_add-sequence c = let w : c.loop-more.at < length c.args.main.now = row-ahead c.args.main.now _ _ c.next_row.ensures _ _ _ c.in-Field.is in
+overflow_add-sequence c = let w : c.loop-more.at < length c.args.main.now = row-ahead c.args.main.now _ _ c.in-Some.ensures in
     omega (arith, c.well_formed.0)
 
-pub loop-more-smaller-then-read_u8-eq1 : goal.loop-more-smaller-then-read_u8-eq1
-loop-more-smaller-then-read_u8-eq1 c = search own-less
-
-pub loop-more-preserved-then-read_u8-eq1 : goal.loop-more-preserved-then-read_u8-eq1
-loop-more-preserved-then-read_u8-eq1 c = converting-ended c.loop-more.invariant c.next_row.ensures c.in-Field.is c.if-more-eq0.false _ c.read_u8.ensures c.if-read_u8-eq1.true
-
-pub convert_known-requires-clause-index_record_in_bounds : goal.convert_known-requires-clause-index_record_in_bounds
-convert_known-requires-clause-index_record_in_bounds c = omega arith
-
-pub convert_known-requires-clause-offset_record_in_bounds : goal.convert_known-requires-clause-offset_record_in_bounds
-convert_known-requires-clause-offset_record_in_bounds c = omega arith
-
-pub convert_known-requires-clause-line_size_in_bounds : goal.convert_known-requires-clause-line_size_in_bounds
-convert_known-requires-clause-line_size_in_bounds c = omega arith
-
-pub overflow_add-state : goal.overflow_add-state
-overflow_add-state c = omega (arith, c.well_formed.1.1.1.1.0)
-
-pub overflow_sub-more : goal.overflow_sub-more
-overflow_sub-more c = omega (arith, c.if-more-eq0.false)
-
-pub loop-more-smaller-then-convert_known : goal.loop-more-smaller-then-convert_known
-loop-more-smaller-then-convert_known c = search own-less
+pub loop-more-preserved-then-read-eq1 : goal.loop-more-preserved-then-read-eq1
+loop-more-preserved-then-read-eq1 c = converting-ended c.loop-more.invariant c.in-Some.ensures c.if-more-eq0.false _ c.read.ensures c.if-read-eq1.true
 
 pub loop-more-preserved-then-convert_known : goal.loop-more-preserved-then-convert_known
-loop-more-preserved-then-convert_known c = converting-known c.loop-more.invariant c.next_row.ensures c.in-Field.is c.if-more-eq0.false _ c.read_u8.ensures c.if-read_u8-eq1.false c.read_row-row.ensures (rw c.if-convert_known.true at c.convert_known.ensures) c.convert_known.auto.work
+loop-more-preserved-then-convert_known c = converting-known c.loop-more.invariant c.in-Some.ensures c.if-more-eq0.false _ c.read.ensures c.if-read-eq1.false c.read_row-row.ensures (rw c.if-convert_known.true at c.convert_known.ensures) c.convert_known.auto.work
 
 pub convert_row-requires-clause-conversion_in : goal.convert_row-requires-clause-conversion_in
 convert_row-requires-clause-conversion_in c = let J = converting-same c.loop-more.invariant (rw c.if-convert_known.false at c.convert_known.ensures) in
@@ -77,24 +53,13 @@ convert_row-requires-clause-line_size_in_bounds c = let J = converting-same c.lo
     let room = J.list.room in
     omega arith
 
-pub shape_of-work-in-Refused : goal.shape_of-work-in-Refused
-shape_of-work-in-Refused c = omega (arith, c.convert_row.auto.work, c.convert_known.auto.work, c.loop-more.invariant.list.size)
-
-pub shape_of-files-in-Refused : goal.shape_of-files-in-Refused
-shape_of-files-in-Refused c = omega (arith, c.convert_row.auto.files, c.loop-more.invariant.list.files-size)
-
-pub shape_of-warnings-in-Refused : goal.shape_of-warnings-in-Refused
-shape_of-warnings-in-Refused c = omega (arith, c.convert_row.auto.warnings, c.loop-more.invariant.list.warnings-size)
-
-pub returns-in-Refused : goal.returns-in-Refused
-returns-in-Refused c = converting-refused (converting-same c.loop-more.invariant (rw c.if-convert_known.false at c.convert_known.ensures)) c.next_row.ensures c.in-Field.is c.if-more-eq0.false _ c.read_u8.ensures c.if-read_u8-eq1.false c.read_row-row.ensures c.convert_row.ensures c.in-Refused.is
-
-pub overflow_sub-more-in-Next : goal.overflow_sub-more-in-Next
-overflow_sub-more-in-Next c = omega (arith, c.if-more-eq0.false)
-
 pub loop-more-smaller : goal.loop-more-smaller
-loop-more-smaller c = own-less _ _ _ _ _ _ _ c.next_row.ensures c.in-Field.is
+loop-more-smaller c = own-less _ _ _ _ c.in-Some.ensures
+
+pub returns-in_err-state : goal.returns-in_err-state
+returns-in_err-state c = rw (handed _ _ c.from_residual.ensures.1) (converting-refused (converting-same c.loop-more.invariant (rw c.if-convert_known.false at c.convert_known.ensures))
+    c.in-Some.ensures c.if-more-eq0.false _ c.read.ensures c.if-read-eq1.false c.read_row-row.ensures c.in_err-state.ensures)
 
 pub loop-more-preserved : goal.loop-more-preserved
-loop-more-preserved c = converting-more (converting-same c.loop-more.invariant (rw c.if-convert_known.false at c.convert_known.ensures)) c.next_row.ensures c.in-Field.is c.if-more-eq0.false _ c.read_u8.ensures c.if-read_u8-eq1.false c.read_row-row.ensures
-    c.convert_row.ensures c.in-Next.is c.convert_row.auto.work c.convert_row.auto.files c.convert_row.auto.warnings
+loop-more-preserved c = converting-more (converting-same c.loop-more.invariant (rw c.if-convert_known.false at c.convert_known.ensures))
+    c.in-Some.ensures c.if-more-eq0.false _ c.read.ensures c.if-read-eq1.false c.read_row-row.ensures c.in_ok-state.ensures c.convert_row.auto.work c.convert_row.auto.files c.convert_row.auto.warnings

@@ -2,12 +2,6 @@
 use Rattle.collect.proofs.UnitRowsLaws.{rows-fields, rows-table, table-above}
 use Rattle.collect.proofs.source.collect_unit_sequences.Goals as goal
 
-pub collect_sequences-requires-clause-placed : goal.collect_sequences-requires-clause-placed
-collect_sequences-requires-clause-placed c = c.requires.rows_ready.placed
-
-pub collect_sequences-requires-clause-offset_record_bound : goal.collect_sequences-requires-clause-offset_record_bound
-collect_sequences-requires-clause-offset_record_bound c = c.requires.offset_record_bound
-
 pub collect_sequences-requires-clause-none_in_bounds : goal.collect_sequences-requires-clause-none_in_bounds
 collect_sequences-requires-clause-none_in_bounds c = rw (rows-fields c.args.main.now c.args.work.now c.args.p c.args.rows
     c.in-Fields.is) at c.requires.none_in_bounds

@@ -3,12 +3,6 @@ use Prim.Native.Nat.{◌+◌}
 use Rattle.collect.proofs.UnitRowsLaws.{rows-fields, rows-table, table-above}
 use Rattle.collect.proofs.source.convert_unit_rows.Goals as goal
 
-pub convert_rows-requires-clause-conversion_in : goal.convert_rows-requires-clause-conversion_in
-convert_rows-requires-clause-conversion_in c = c.requires.conversion_in
-
-pub convert_rows-requires-clause-line_size_in_bounds : goal.convert_rows-requires-clause-line_size_in_bounds
-convert_rows-requires-clause-line_size_in_bounds c = c.requires.line_size_in_bounds
-
 pub convert_table_rows-requires-clause-row_field_size_in_bounds : goal.convert_table_rows-requires-clause-row_field_size_in_bounds
 convert_table_rows-requires-clause-row_field_size_in_bounds c = let x = table-above c.args.main.now c.args.work.now (c.args.c.unit.place + 21) c.args.rows c.in-Table.is
     c.requires.rows_ready in

@@ -10,7 +10,7 @@ returns c = record {
   minimum = search rules;
   operations = search rules;
   statement =
-      ap (λ (x : ℕ). eqb x 1) c.read_u8-3.ensures;
+      ap (λ (x : ℕ). eqb x 1) c.read-3.ensures;
   line-base = search rules;
   line-range = search rules;
   opcode_base-is = search rules;

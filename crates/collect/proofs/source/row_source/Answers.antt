@@ -2,11 +2,11 @@
 use Rattle.collect.proofs.source.SourceLaws.{encoding-within, source-fields, source-program}
 use Rattle.collect.proofs.source.row_source.Goals as goal
 
-pub read_encoding-encoding-requires : goal.read_encoding-encoding-requires
-read_encoding-encoding-requires c = search encoding-within
+pub returns-in_default : goal.returns-in_default
+returns-in_default c = source-fields _ _ c.in_default.ensures
 
-pub returns-in-Missing : goal.returns-in-Missing
-returns-in-Missing c = search source-fields
+pub read_encoding-requires : goal.read_encoding-requires
+read_encoding-requires c = encoding-within c.requires.placed c.in-Some.ensures
 
-pub returns-in-Field : goal.returns-in-Field
-returns-in-Field c = search source-program
+pub returns : goal.returns
+returns c = source-program c.requires.placed c.in-Some.ensures _ _ c.read_encoding.ensures _ _ c.requires.le_len c.requires.len_in_bounds c.read-opcode_base.ensures
