@@ -1,12 +1,17 @@
 -- How a search goes on from a reference: what stays when a target is written down, where a search stands, and the ways that a reference leads.
-use mathlib.Core.Path.{◌≡◌, refl, ◌∙◌}
+use mathlib.Core.Path.{◌≡◌, refl, sym, ◌∙◌}
 use mathlib.Core.Bool.{false}
 use mathlib.Core.Logic.{inl}
 use mathlib.Core.List.{List}
-use Prim.Native.Nat.{ℕ, ◌+◌, ◌*◌, ◌≤◌}
+use Prim.Native.Nat.{ℕ, ◌+◌, ◌*◌, ◌^◌, ◌≤◌, ◌<◌}
 use native.Mathlib.Omega.{arith}
 use lib.ListN.{length}
+use borrow.Author.Tests.{le-ltb, lt-ltb}
+use Rattle.std.specs.Prelude.{Some, None, SomeIff, ok_or}
+use Rattle.std.specs.declared.option.Option.{Option as Given}
 use Rattle.tlv.specs.declared.model.DebugSource.{DebugSource}
+use Rattle.tlv.specs.declared.refusal.Refusal.{Refusal}
+use Rattle.tlv.specs.Refusals.{outcome_of}
 use Rattle.tlv.specs.Lists.{Any, exists}
 use Rattle.tlv.specs.Bytes.{le_at}
 use Rattle.tlv.specs.Fields.{fields}
@@ -27,7 +32,7 @@ use Rattle.references.specs.declared.tables.Index.{Index}
 use Rattle.references.specs.declared.tables.Tables.{Tables}
 use Rattle.references.specs.declared.attributes.Reference.{Reference}
 use Rattle.references.specs.declared.ways.EntryAt.{EntryAt}
-use Rattle.references.specs.Search.{DieKey, same_key, attribute}
+use Rattle.references.specs.Search.{DieKey, same_key, absolute_entry_offset, attribute}
 use Rattle.references.specs.Tables.{IndexIn, EntryKnown, reference_of}
 use Rattle.references.specs.Keys.{keys_at, key_in, Pushed, PossibleKey, KeysIn, keys_from, keys_extent, TrailIn}
 use Rattle.references.specs.Names.{Sourced, Stands, index_in, SearchIn}
@@ -125,7 +130,9 @@ module _ {s : List ℕ} (q : ℕ) (accepted : Placed s 0) (listed : UnitOf s q) 
       let l = placed-unit s q _ 0x10 u.start u.len u.next u.placed refl u.is refl in
       omega arith
 
--- the offset of the unit where a search stands can be read
-pub unit-inside : {main supplementary w s : List ℕ} {x : Tables} {n : ℕ} {at : EntryAt} → SearchIn main supplementary w x n → Stands main supplementary at
-    → s ≡ source_in main supplementary at.input → at.unit + 3 + 8 ≤ length s
-unit-inside {at = at} S A is = rw is (offset-inside at.unit (placed_at S at.input refl) (stands_unit S A))
+  -- an offset of the unit added to it
+  pub offset_sum : (own o : ℕ) → own ≡ le_at 8 s (q + 3) → (r : Given ℕ) → SomeIff r (own + o < 2 ^ 64) (own + o)
+      → outcome_of (ok_or r Refusal.Overflow) ≡ absolute_entry_offset (unit_here s q) o
+  unfolding absolute_entry_offset
+  offset_sum own o eo None h = let is : (unit_here s q).offset ≡ own = unit_offset ∙ sym eo in rw (is, le-ltb (own + o) (2 ^ 64) (omega (arith, h)))
+  offset_sum own o eo (Some n) h = let is : (unit_here s q).offset ≡ own = unit_offset ∙ sym eo in rw (is, lt-ltb (own + o) (2 ^ 64) h.0, h.1)

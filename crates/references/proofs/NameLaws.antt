@@ -1,12 +1,15 @@
 -- The name search of an entry: its own name, the turns over its references, and the two searches that start at an entry of the main sheet.
 use mathlib.Core.Path.{◌≡◌, refl, sym, ap, ◌∙◌}
-use mathlib.Core.Bool.{Bool, true, false, cond}
+use mathlib.Core.Bool.{Bool, true, false, cond, true≢false}
 use mathlib.Core.List.{List, [], ◌∷◌}
 use mathlib.Core.Option.{Option, none, some}
-use Prim.Native.Nat.{ℕ, zero, suc, ◌+◌, ◌-◌, ◌≤◌, ◌<◌}
+use Prim.Native.Nat.{ℕ, suc, ◌+◌, ◌-◌, ◌≤◌, ◌<◌}
 use native.Mathlib.Omega.{arith}
-use lib.ListN.{length}
-use borrow.Author.Tests.{eq-eqb, ne_eqb}
+use lib.ListN.{length, drop, get_or}
+use Rattle.std.specs.Prelude.{◌==◌}
+use Rattle.std.proofs.Common.{add-one, drop-cons}
+use Rattle.std.proofs.lemmas.List.{drop_all}
+use borrow.Author.Tests.{eq-eqb, ne_eqb, eqb-true}
 use Rattle.tlv.specs.Outcome.{Outcome, done, ◌>>=◌}
 use Rattle.tlv.specs.Lists.{is_empty}
 use Rattle.tlv.specs.Model.{CompilationUnit, Entry, Attribute}
@@ -17,39 +20,52 @@ use Rattle.files.specs.Pieces.{source_in}
 use Rattle.references.specs.declared.tables.Tables.{Tables}
 use Rattle.references.specs.declared.ways.EntryAt.{EntryAt}
 use Rattle.references.specs.declared.ways.OffsetAt.{OffsetAt}
+use Rattle.std.specs.Prelude.{Ok, Err, Some, None}
 use Rattle.references.specs.declared.ways.Way.{Way}
-use Rattle.references.specs.declared.names.FoundName.{FoundName}
+use Rattle.tlv.specs.declared.refusal.Refusal.{Refusal}
+use Rattle.tlv.specs.Refusals.{number_of}
 use Rattle.references.specs.Search.{Dwarf, Trail, Followed, empty_trail, attribute, follow, place_in, origin_attributes, name_attributes, own_name, Named, resolve_named, resolve_name, resolve_reference_name}
 use Rattle.references.specs.Reads.{Counted, after, ◌>>>◌, counted_name_at, counted_referenced_name, counted_name, counted_reference_name, name_reads, reference_name_reads, ReadsWithin}
 use Rattle.references.specs.Tables.{EntryKnown, OwnNamed, bytes_given}
 use Rattle.references.specs.Keys.{keys_at, key_in, Pushed, keys_from, keys_extent, TrailIn}
-use Rattle.references.specs.Names.{dwarf_of, search_source, place_at, start_at, Stands, trail_at, SearchIn, follow_from, Ways, is_answer, counted_given, Gives, resolve_absolute_name, found_name, reference_name, Resolved}
+use Rattle.references.specs.Names.{dwarf_of, search_source, place_at, start_at, Stands, trail_at, SearchIn, follow_from, Ways, is_answer, counted_given, Gives, referred_name, resolve_absolute_name, found_name, reference_name, Resolved}
+use Rattle.tlv.proofs.AnswerLaws.{numbered}
 use Rattle.references.proofs.FollowLaws.{push_room, push_search}
 use Rattle.references.proofs.ReadBounds.{bounded_at}
 use Rattle.references.proofs.ReadLaws.{counts-after, counts_name, counts-name_at}
 use Rattle.references.proofs.GivesLaws.{gives-here, gives_nothing, gives-refused, gives_after, gives-pushed, bind_assoc, counted-assoc, no_answer, own-ends, name-ends, name-goes, name-bytes}
 
+-- ---- answers
+
+-- bytes are an answer, and no bytes are none
+pub named_answer : (r : List ℕ) {v : Bool} → v ≡ (length r == 0) → v ≡ false → true ≡ is_answer 0 r
+unfolding is_answer
+named_answer [] e h = absurd (true≢false (sym e ∙ h))
+named_answer (b ∷ r) e h = refl
+
+pub no-name : (r : List ℕ) {v : Bool} → v ≡ (length r == 0) → v ≡ true → false ≡ is_answer 0 r
+unfolding is_answer
+no-name [] e h = refl
+no-name (b ∷ r) e h = let z = eqb-true (length (b ∷ r)) 0 (sym e ∙ h) in absurd (omega arith)
+
 -- ---- the name that one reference leads to, by the way that it leads
 
--- the name that the attribute of a name of an entry leads to; k is the limit less the depth
-unfoldable pub referred_name : ℕ → List ℕ → List ℕ → EntryAt → ℕ → Trail → Counted Named
-referred_name k main supplementary at name t =
-    after t (follow_from main supplementary at name t) >>> λ f. counted_name_at (counted_name k (dwarf_of main supplementary)) f.trail f.target
-
 -- the answer is a way
-pub way_is : {f : Trail → Outcome Followed} {main supplementary w : List ℕ} {x : Tables} {n depth : ℕ} {r q : Way} → Ways f main supplementary w x n depth r → r ≡ q
-    → Ways f main supplementary w x n depth q
+pub way_is : {f : Trail → Outcome Followed} {main supplementary w : List ℕ} {x : Tables} {n depth : ℕ} {r q : Way} → Ways f main supplementary w x n depth (Ok r) → r ≡ q
+    → Ways f main supplementary w x n depth (Ok q)
 way_is W e = rw e at W
 
+module _ {main supplementary w : List ℕ} {x : Tables} {n : ℕ} (at : EntryAt) (name : ℕ) (S : SearchIn main supplementary w x n) where
+  pub from-refused : {bytes : List ℕ} {a : ℕ} (k : ℕ) (e : Refusal) → Ways (follow_from main supplementary at name) main supplementary w x n at.depth (Err e) → a ≤ n + 1
+      → Gives (referred_name k main supplementary at name) main supplementary x w n a w n a (number_of e) bytes
+  unfolding referred_name
+  from-refused {a = a} k e W few = gives-refused (referred_name k main supplementary at name) S few (numbered e) (rw (W.is a))
+
 module _ {main supplementary w : List ℕ} {x : Tables} {n : ℕ} {r : Way} (at : EntryAt) (name : ℕ) (S : SearchIn main supplementary w x n)
-    (W : Ways (follow_from main supplementary at name) main supplementary w x n at.depth r) where
+    (W : Ways (follow_from main supplementary at name) main supplementary w x n at.depth (Ok r)) where
   pub from_nothing : {a st : ℕ} (k : ℕ) → r ≡ Way.Nothing → a ≤ n + 1 → st ≡ 0 → Gives (referred_name k main supplementary at name) main supplementary x w n a w n a st []
   unfolding referred_name
   from_nothing {a} k to few z = gives_nothing (referred_name k main supplementary at name) S few z (rw ((way_is W to).is a))
-
-  pub from-refused : {bytes : List ℕ} {a : ℕ} (k st : ℕ) → r ≡ Way.Refused st → a ≤ n + 1 → Gives (referred_name k main supplementary at name) main supplementary x w n a w n a st bytes
-  unfolding referred_name
-  from-refused {a = a} k st to few = let N = (way_is W to).is in gives-refused (referred_name k main supplementary at name) S few N.0 (rw (N.1 a))
 
   module _ (next : EntryAt) (target : ℕ) (to : r ≡ Way.Entry next target) where
     pub entry-room : TrailIn w x n 1
@@ -95,21 +111,15 @@ abbrev referenced : List ℕ → List ℕ → EntryAt → List ℕ → Trail →
 referenced main supplementary at names t =
     counted_referenced_name (counted_name (64 - (at.depth + 1)) (dwarf_of main supplementary)) (dwarf_of main supplementary) (place_at main supplementary at) names t
 
--- the names of the references that are left, the first of them given
-unfoldable pub origins : ℕ → ℕ → List ℕ
-origins name zero = []
-origins name (suc left) = name ∷ origins 0x47 left
-
--- left references from that of a name on are to be followed
-pub record Going (main supplementary : List ℕ) (x : Tables) (at : EntryAt) (w₀ : List ℕ) (n₀ a₀ : ℕ) (w : List ℕ) (n a st name left : ℕ) : Type 0 where
-  pub clean : st ≡ 0
+-- the references of these names are still to be followed
+pub record Going (main supplementary : List ℕ) (x : Tables) (at : EntryAt) (w₀ : List ℕ) (n₀ a₀ : ℕ) (w : List ℕ) (n a : ℕ) (names : List ℕ) : Type 0 where
   pub shallow : at.depth < 64
   pub stands : Stands main supplementary at
   pub ready : SearchIn main supplementary w x n
   pub few : a ≤ n + 1
   pub rest : Kept w₀ w x.keys (keys_extent main supplementary x)
   pub size : length w ≡ length w₀
-  pub goes : inner main supplementary at (trail_at w₀ (keys_from x) n₀ a₀) ≡ referenced main supplementary at (origins name left) (trail_at w (keys_from x) n a)
+  pub goes : inner main supplementary at (trail_at w₀ (keys_from x) n₀ a₀) ≡ referenced main supplementary at names (trail_at w (keys_from x) n a)
 
 module _ {main supplementary w : List ℕ} {x : Tables} {n a : ℕ} {at : EntryAt} (S : SearchIn main supplementary w x n) (few : a ≤ n + 1) (A : Stands main supplementary at) where
   pub inner_deep : {st : ℕ} → 64 ≤ at.depth → st ≡ 0 → Gives (inner main supplementary at) main supplementary x w n a w n a st []
@@ -130,12 +140,11 @@ module _ {main supplementary w : List ℕ} {x : Tables} {n a : ℕ} {at : EntryA
         let t = trail_at w (keys_from x) n a in
         gives-here (inner main supplementary at) S few (inner_own t ∙ own-ends st own t (referenced main supplementary at origin_attributes t) (sym e ∙ y))
 
-    pub inner_goes : v ≡ false → Going main supplementary x at w n a w n a st 0x31 2
-    unfolding bytes_given origins
+    pub inner_goes : v ≡ false → Going main supplementary x at w n a w n a origin_attributes
+    unfolding bytes_given
     inner_goes y =
         let h = no_answer st own (sym e ∙ y) in
         record {
-          clean = h.0;
           shallow = shallow;
           stands = A;
           ready = S;
@@ -147,69 +156,56 @@ module _ {main supplementary w : List ℕ} {x : Tables} {n a : ℕ} {at : EntryA
 
 -- ---- a turn
 
-origins_step : (name left : ℕ) → 0 < left → origins name left ≡ name ∷ origins 0x47 (left - 1)
-unfolding origins
-origins_step name zero h = absurd (let z : ⊥ = omega arith in z)
-origins_step name (suc left) h = let z : suc left - 1 ≡ left = omega arith in rw z
-
 referenced_step : (main supplementary : List ℕ) (at : EntryAt) (name : ℕ) (names : List ℕ) (t : Trail) → referenced main supplementary at (name ∷ names) t
     ≡ (referred_name (64 - (at.depth + 1)) main supplementary at name t >>> λ m. cond (is_empty m.name) (referenced main supplementary at names m.trail) (after m.trail (done m)))
 unfolding counted_referenced_name referred_name follow_from
 referenced_step main supplementary at name names t = sym (counted-assoc t (follow (dwarf_of main supplementary) (place_at main supplementary at) t (attribute (place_at main supplementary at).entry name)) _ _)
 
-module _ {main supplementary w₀ w w₁ bytes : List ℕ} {x : Tables} {at : EntryAt} {n₀ a₀ n a n₁ b st₀ st name left : ℕ} {v : Bool} (G : Going main supplementary x at w₀ n₀ a₀ w n a st₀ name left) (more : 0 < left)
+module _ {main supplementary w₀ w w₁ bytes names : List ℕ} {x : Tables} {at : EntryAt} {n₀ a₀ n a n₁ b st name : ℕ} {v : Bool} (G : Going main supplementary x at w₀ n₀ a₀ w n a (name ∷ names))
     (T : Gives (referred_name (64 - (at.depth + 1)) main supplementary at name) main supplementary x w n a w₁ n₁ b st bytes) (e : v ≡ is_answer st bytes) where
   turn : inner main supplementary at (trail_at w₀ (keys_from x) n₀ a₀)
-      ≡ (counted_given st (trail_at w₁ (keys_from x) n₁ b) bytes >>> λ m. cond (is_empty m.name) (referenced main supplementary at (origins 0x47 (left - 1)) m.trail) (after m.trail (done m)))
+      ≡ (counted_given st (trail_at w₁ (keys_from x) n₁ b) bytes >>> λ m. cond (is_empty m.name) (referenced main supplementary at names m.trail) (after m.trail (done m)))
   turn =
       G.goes
-      ∙ ap (λ (names : List ℕ). referenced main supplementary at names (trail_at w (keys_from x) n a)) (origins_step name left more)
-      ∙ referenced_step main supplementary at name (origins 0x47 (left - 1)) (trail_at w (keys_from x) n a)
-      ∙ ap (λ (o : Counted Named). o >>> λ m. cond (is_empty m.name) (referenced main supplementary at (origins 0x47 (left - 1)) m.trail) (after m.trail (done m))) T.is
+      ∙ referenced_step main supplementary at name names (trail_at w (keys_from x) n a)
+      ∙ ap (λ (o : Counted Named). o >>> λ m. cond (is_empty m.name) (referenced main supplementary at names m.trail) (after m.trail (done m))) T.is
 
   pub turn-ends : v ≡ true → Gives (inner main supplementary at) main supplementary x w₀ n₀ a₀ w₁ n₁ b st bytes
   turn-ends y = record {
-    is = turn ∙ name-ends st bytes (trail_at w₁ (keys_from x) n₁ b) (referenced main supplementary at (origins 0x47 (left - 1))) (sym e ∙ y);
+    is = turn ∙ name-ends st bytes (trail_at w₁ (keys_from x) n₁ b) (referenced main supplementary at names) (sym e ∙ y);
     few = T.few;
     ready = T.ready;
     rest = kept_trans G.rest T.rest;
   }
 
-  pub turn-goes : v ≡ false → length w₁ ≡ length w → Going main supplementary x at w₀ n₀ a₀ w₁ n₁ b st 0x47 (left - 1)
+  pub turn-goes : v ≡ false → length w₁ ≡ length w → Going main supplementary x at w₀ n₀ a₀ w₁ n₁ b names
   turn-goes y same = record {
-    clean = (no_answer st bytes (sym e ∙ y)).0;
     shallow = G.shallow;
     stands = G.stands;
     ready = T.ready;
     few = T.few;
     rest = kept_trans G.rest T.rest;
     size = same ∙ G.size;
-    goes = turn ∙ name-goes st bytes (trail_at w₁ (keys_from x) n₁ b) (referenced main supplementary at (origins 0x47 (left - 1))) (sym e ∙ y);
+    goes = turn ∙ name-goes st bytes (trail_at w₁ (keys_from x) n₁ b) (referenced main supplementary at names) (sym e ∙ y);
   }
 
-refused-answer : (st : ℕ) (bytes : List ℕ) → (st ≡ 0 → ⊥) → true ≡ is_answer st bytes
+pub refused-answer : (st : ℕ) (bytes : List ℕ) → (st ≡ 0 → ⊥) → true ≡ is_answer st bytes
 unfolding is_answer
 refused-answer st bytes h = rw (ne_eqb st 0 h)
 
-module _ {main supplementary w₀ w : List ℕ} {x : Tables} {at : EntryAt} {n₀ a₀ n a st name left : ℕ} (G : Going main supplementary x at w₀ n₀ a₀ w n a st name left) where
-  -- a reference that leads nowhere
-  pub turn-nothing : {r : Way} → 0 < left → Ways (follow_from main supplementary at name) main supplementary w x n at.depth r → r ≡ Way.Nothing
-      → Going main supplementary x at w₀ n₀ a₀ w n a st 0x47 (left - 1)
-  unfolding is_answer
-  turn-nothing more W to = turn-goes {v = false} G more (from_nothing at name G.ready W (64 - (at.depth + 1)) to G.few G.clean) (rw (eq-eqb st 0 G.clean)) refl refl
-
-  -- or is refused
-  pub turn-refused : {r : Way} {bytes : List ℕ} (code : ℕ) → 0 < left → Ways (follow_from main supplementary at name) main supplementary w x n at.depth r → r ≡ Way.Refused code
-      → Gives (inner main supplementary at) main supplementary x w₀ n₀ a₀ w n a code bytes
-  turn-refused {bytes = bytes} code more W to = turn-ends {v = true} G more (from-refused at name G.ready W (64 - (at.depth + 1)) code to G.few) (refused-answer code bytes (way_is W to).is.0) refl
+module _ {main supplementary w₀ w : List ℕ} {x : Tables} {at : EntryAt} {n₀ a₀ n a : ℕ} where
+  -- the reference that is next
+  pub going_next : (names : List ℕ) (i d : ℕ) → Going main supplementary x at w₀ n₀ a₀ w n a (drop i names) → i < length names
+      → Going main supplementary x at w₀ n₀ a₀ w n a (get_or names i d ∷ drop (i + 1) names)
+  going_next names i d G within = let e : drop i names ≡ get_or names i d ∷ drop (i + 1) names = rw (add-one, drop-cons names i d within) in rw e at G
 
   -- no reference is left
-  pub inner_done : left ≤ 0 → Gives (inner main supplementary at) main supplementary x w₀ n₀ a₀ w n a st []
-  unfolding origins counted_referenced_name
-  inner_done over =
-      let z : left ≡ 0 = omega arith in
+  pub inner_done : (names : List ℕ) (i : ℕ) → Going main supplementary x at w₀ n₀ a₀ w n a (drop i names) → length names ≤ i
+      → Gives (inner main supplementary at) main supplementary x w₀ n₀ a₀ w n a 0 []
+  unfolding counted_referenced_name
+  inner_done names i G over =
       let g : Trail → Counted Named = λ t. after t (done (record { trail = t; name = [] })) in
-      gives_after (inner main supplementary at) g G.rest (G.goes ∙ rw z) (gives_nothing g G.ready G.few G.clean refl)
+      gives_after (inner main supplementary at) g G.rest (G.goes ∙ rw (drop_all i names over)) (gives_nothing g G.ready G.few refl refl)
 
 -- ---- the searches that start at an entry of the main sheet
 
@@ -270,19 +266,23 @@ module _ {main supplementary : List ℕ} (q p : ℕ) {at : EntryAt} (is : at ≡
 
 -- ---- what was found by its bytes
 
-pub found_none : (name : List ℕ) → length name ≡ 0 → FoundName.Missing ≡ found_name name
+pub found_none : (name : List ℕ) → length name ≡ 0 → None ≡ found_name name
 found_none [] e = refl
 found_none (b ∷ bs) e = absurd (omega arith)
 
-pub found_some : (name : List ℕ) → (length name ≡ 0 → ⊥) → FoundName.Found (length name) ≡ found_name name
+pub found_some : (name : List ℕ) → (length name ≡ 0 → ⊥) → Some name ≡ found_name name
 found_some [] h = absurd (h refl)
 found_some (b ∷ bs) h = refl
 
 -- and the other way
-pub found-length : (name : List ℕ) {r : FoundName} {n : ℕ} → r ≡ found_name name → r ≡ FoundName.Found n → length name ≡ 0 → ⊥
-found-length [] is found e = let z : ◌≡◌ {A = ℕ} 0 1 = cc in omega arith
-found-length (b ∷ bs) is found e = omega arith
+pub found-length : (name : List ℕ) {r : List ℕ} → Some r ≡ found_name name → length name ≡ 0 → ⊥
+found-length [] is e = let z : ◌≡◌ {A = ℕ} 0 1 = cc in omega arith
+found-length (b ∷ bs) is e = omega arith
 
-pub missing-length : (name : List ℕ) {r : FoundName} → r ≡ found_name name → r ≡ FoundName.Missing → length name ≡ 0
-missing-length [] is missing = refl
-missing-length (b ∷ bs) is missing = let z : ◌≡◌ {A = ℕ} 0 1 = cc in absurd (omega arith)
+pub found-is : (name : List ℕ) {r : List ℕ} → Some r ≡ found_name name → r ≡ name
+found-is [] is = let z : ◌≡◌ {A = ℕ} 0 1 = cc in absurd (omega arith)
+found-is (b ∷ bs) is = cc
+
+pub missing-length : (name : List ℕ) → None ≡ found_name name → length name ≡ 0
+missing-length [] is = refl
+missing-length (b ∷ bs) is = let z : ◌≡◌ {A = ℕ} 0 1 = cc in absurd (omega arith)

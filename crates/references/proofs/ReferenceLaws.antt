@@ -23,9 +23,11 @@ use Rattle.tlv.proofs.CursorLaws.{fields-at, fields-field, field-within, row-ind
 use Rattle.tlv.proofs.AcceptedGroups.{passed-both}
 use Rattle.tlv.proofs.PlaceFacts.{placed-next}
 use Rattle.tlv.proofs.PlacePromises.{placed-entry}
+use Rattle.std.specs.Prelude.{Some, None}
+use Rattle.std.specs.declared.option.Option.{Option as Given}
 use Rattle.access.specs.declared.access.Value.{Value}
 use Rattle.access.specs.Places.{own_fields, entry_here, behind, IndexedEntry, entry_index}
-use Rattle.access.specs.Access.{Meaning, absent, unsigned, file_number, text, unit_reference, section_reference, supplementary_reference, section_offset, line_offset, address, failed, is_named, value_of, meaning_of, meant, Says}
+use Rattle.access.specs.Access.{Meaning, absent, unsigned, file_number, text, unit_reference, section_reference, supplementary_reference, section_offset, line_offset, address, failed, is_named, value_of, meaning_of, meant, said, Says}
 use Rattle.access.proofs.EntryPlaceLaws.{entry-says}
 use Rattle.access.proofs.IndexLaws.{index-unit, index-entry, index-other}
 use Rattle.access.proofs.IndexModel.{either}
@@ -109,7 +111,7 @@ module _ {s : List ℕ} {q p : ℕ} (accepted : Placed s 0) (known : EntryKnown 
   entry-inside = entry_next.within
 
   -- what is read there of the attribute of a name
-  pub attribute-says : (v : Value) (name : ℕ) → Says s v (meaning_of (first (is_named name) (map attribute_of (payloads 0x18 (own_fields (fields (drop (p + 15) s)))))))
+  pub attribute-says : (v : Given Value) (name : ℕ) → Says s v (meaning_of (first (is_named name) (map attribute_of (payloads 0x18 (own_fields (fields (drop (p + 15) s)))))))
       → Says s v (meaning_of (attribute (entry_here s p) name))
   unfolding attribute
   attribute-says v name says = entry-says s p _ 0x17 (p + 3) 12 (p + 15) refl entry-step v name says
@@ -117,30 +119,23 @@ module _ {s : List ℕ} {q p : ℕ} (accepted : Placed s 0) (known : EntryKnown 
 -- ---- the reference that an attribute is
 
 abbrev reference_meant : Meaning → Reference
-reference_meant absent = Reference.Missing
-reference_meant (unsigned n) = Reference.Missing
-reference_meant (file_number n) = Reference.Missing
-reference_meant (text b) = Reference.Missing
 reference_meant (unit_reference n) = Reference.Unit n
 reference_meant (section_reference n) = Reference.Section n
 reference_meant (supplementary_reference n) = Reference.Supplementary n
-reference_meant (section_offset n) = Reference.Missing
-reference_meant (line_offset n) = Reference.Missing
-reference_meant (address n) = Reference.Missing
-reference_meant failed = Reference.Missing
+reference_meant m = Reference.Missing
 
-value-reference : (s : List ℕ) (v : Value) → reference_in v ≡ reference_meant (meant s v)
-value-reference s Value.Absent = refl
-value-reference s (Value.Unsigned n) = refl
-value-reference s (Value.FileNumber n) = refl
-value-reference s (Value.Text start len) = refl
-value-reference s (Value.UnitReference n) = refl
-value-reference s (Value.SectionReference n) = refl
-value-reference s (Value.SupplementaryReference n) = refl
-value-reference s (Value.SectionOffset n) = refl
-value-reference s (Value.LineOffset n) = refl
-value-reference s (Value.Address n) = refl
-value-reference s Value.Failed = refl
+value-reference : (s : List ℕ) (v : Given Value) → reference_in v ≡ reference_meant (said s v)
+value-reference s None = refl
+value-reference s (Some (Value.Unsigned n)) = refl
+value-reference s (Some (Value.FileNumber n)) = refl
+value-reference s (Some (Value.Text start len)) = refl
+value-reference s (Some (Value.UnitReference n)) = refl
+value-reference s (Some (Value.SectionReference n)) = refl
+value-reference s (Some (Value.SupplementaryReference n)) = refl
+value-reference s (Some (Value.SectionOffset n)) = refl
+value-reference s (Some (Value.LineOffset n)) = refl
+value-reference s (Some (Value.Address n)) = refl
+value-reference s (Some Value.Failed) = refl
 
 -- a statement of the kind of an attribute, by cases
 pub by_kind : (C : ℕ → Type 0) (k : ℕ) → C 1 → C 2 → C 3 → C 4 → C 5 → C 6 → C 7 → C 8 → C 9
@@ -167,7 +162,7 @@ meaning-reference (some a) =
     by_kind (λ k. reference_meant (value_of (of_kind a k)) ≡ reference_of (some (of_kind a k))) a.kind refl refl refl refl refl refl refl refl refl
     (λ n1 n2 n3 n4 n5 n6 n7 n8 n9. rw (n1, n2, n3, n4, n5, n6, n7, n8, n9))
 
-pub reference-read : {s : List ℕ} {q p : ℕ} {v : Value} (name : ℕ) (r : Reference) → Placed s 0 → EntryKnown s q p
+pub reference-read : {s : List ℕ} {q p : ℕ} {v : Given Value} (name : ℕ) (r : Reference) → Placed s 0 → EntryKnown s q p
     → Says s v (meaning_of (first (is_named name) (map attribute_of (payloads 0x18 (own_fields (fields (drop (p + 15) s)))))))
     → r ≡ reference_in v → r ≡ reference_of (attribute (entry_here s p) name)
 reference-read {s} {q} {p} {v} name r accepted known says is =
@@ -177,16 +172,8 @@ reference-read {s} {q} {p} {v} name r accepted known says is =
 
 abbrev name_meant : Meaning → Outcome (List ℕ) → Outcome (List ℕ)
 name_meant absent other = other
-name_meant (unsigned n) other = refused 6
-name_meant (file_number n) other = refused 6
 name_meant (text b) other = if_empty b other
-name_meant (unit_reference n) other = refused 6
-name_meant (section_reference n) other = refused 6
-name_meant (supplementary_reference n) other = refused 6
-name_meant (section_offset n) other = refused 6
-name_meant (line_offset n) other = refused 6
-name_meant (address n) other = refused 6
-name_meant failed other = refused 6
+name_meant m other = refused 6
 
 meaning_name : (o : Option Attribute) (other : Outcome (List ℕ)) → name_from o other ≡ name_meant (meaning_of o) other
 unfolding meaning_of value_of
@@ -195,22 +182,12 @@ meaning_name (some a) other =
     by_kind (λ k. name_from (some (of_kind a k)) other ≡ name_meant (value_of (of_kind a k)) other) a.kind refl refl refl refl refl refl refl refl refl
     (λ n1 n2 n3 n4 n5 n6 n7 n8 n9. rw (n1, n2, n3, n4, n5, n6, n7, n8, n9))
 
--- a value that is there and no string
+-- a value that is no string
 abbrev pub NoText : Value → Type 0
-NoText Value.Absent = ⊥
-NoText (Value.Unsigned n) = Unit
-NoText (Value.FileNumber n) = Unit
 NoText (Value.Text start len) = ⊥
-NoText (Value.UnitReference n) = Unit
-NoText (Value.SectionReference n) = Unit
-NoText (Value.SupplementaryReference n) = Unit
-NoText (Value.SectionOffset n) = Unit
-NoText (Value.LineOffset n) = Unit
-NoText (Value.Address n) = Unit
-NoText Value.Failed = Unit
+NoText v = Unit
 
 no_text : (s : List ℕ) (v : Value) (other : Outcome (List ℕ)) → NoText v → name_meant (meant s v) other ≡ refused 6
-no_text s Value.Absent other h = absurd h
 no_text s (Value.Unsigned n) other h = refl
 no_text s (Value.FileNumber n) other h = refl
 no_text s (Value.Text start len) other h = absurd h
@@ -222,28 +199,29 @@ no_text s (Value.LineOffset n) other h = refl
 no_text s (Value.Address n) other h = refl
 no_text s Value.Failed other h = refl
 
-module _ {s : List ℕ} {q p : ℕ} {v : Value} (name : ℕ) (accepted : Placed s 0) (known : EntryKnown s q p)
+module _ {s : List ℕ} {q p : ℕ} {v : Given Value} (name : ℕ) (accepted : Placed s 0) (known : EntryKnown s q p)
     (says : Says s v (meaning_of (first (is_named name) (map attribute_of (payloads 0x18 (own_fields (fields (drop (p + 15) s)))))))) where
-  named : (other : Outcome (List ℕ)) → name_from (attribute (entry_here s p) name) other ≡ name_meant (meant s v) other
+  named : (other : Outcome (List ℕ)) → name_from (attribute (entry_here s p) name) other ≡ name_meant (said s v) other
   named other = meaning_name (attribute (entry_here s p) name) other ∙ ap (λ (m : Meaning). name_meant m other) (sym (attribute-says accepted known v name says).is)
 
-  pub name-absent : {st : ℕ} {r : List ℕ} → v ≡ Value.Absent → st ≡ 0 → r ≡ [] → NameRead s p name st r
+  pub name-absent : v ≡ None → NameRead s p name 0 []
   unfolding name_then
-  name-absent is zero-status empty = record { is = λ other. named other ∙ rw (is, zero-status, empty) }
+  name-absent is = record { is = λ other. named other ∙ rw is }
 
-  pub name-text : {st start len : ℕ} {r : List ℕ} → v ≡ Value.Text start len → st ≡ 0 → r ≡ take (start + len - start) (drop start s) → NameRead s p name st r
-  unfolding name_then
-  name-text {st} {start} {len} is zero-status part =
-      let long : start + len - start ≡ len = omega arith in
-      record { is = λ other. named other ∙ rw (is, zero-status, part, long) }
+  module _ {y : Value} (there : v ≡ Some y) where
+    pub name-text : {start len : ℕ} {r : List ℕ} → y ≡ Value.Text start len → r ≡ take (start + len - start) (drop start s) → NameRead s p name 0 r
+    unfolding name_then
+    name-text {start} {len} is part =
+        let long : start + len - start ≡ len = omega arith in
+        record { is = λ other. named other ∙ rw (there, is, part, long) }
 
-  pub name-refused : {r : List ℕ} → NoText v → NameRead s p name 6 r
-  unfolding name_then
-  name-refused h = record { is = λ other. named other ∙ no_text s v other h }
+    pub name-refused : {r : List ℕ} → NoText y → NameRead s p name 6 r
+    unfolding name_then
+    name-refused h = record { is = λ other. named other ∙ rw there (no_text s y other h) }
 
-  -- a text lies in the sheet
-  pub text-inside : {start len : ℕ} → v ≡ Value.Text start len → start + len ≤ length s
-  text-inside is = rw is at says.within
+    -- a text lies in the sheet
+    pub text-inside : {start len : ℕ} → y ≡ Value.Text start len → start + len ≤ length s
+    text-inside is = rw (there, is) at says.within
 
 -- ---- the entry's own name: the first of several that is not empty
 

@@ -14,8 +14,9 @@ use Rattle.tlv.specs.Checked.{Accepts}
 use Rattle.tlv.specs.Model.{units}
 use Rattle.tlv.proofs.TestLaws.{by_test, and_left}
 use Rattle.buffers.specs.Table.{records}
-use Rattle.access.specs.declared.access.Place.{Place}
-use Rattle.access.specs.declared.index.Found.{Found}
+use Rattle.std.specs.Prelude.{Some, None}
+use Rattle.std.specs.declared.option.Option.{Option as Given}
+use Rattle.access.specs.declared.index.EntryPlace.{EntryPlace}
 use Rattle.access.specs.Places.{unit_here, entry_here, unit_places, IndexedEntry, entry_index, UnitOf}
 use Rattle.access.specs.Access.{place_of}
 use Rattle.access.specs.Index.{indexed_of, RisingFrom, Rising, lookup, found_of, entry_in}
@@ -84,22 +85,21 @@ entry_known s x e found = record { entry = e; listed = first_any (λ d. eqb d.of
 
 module _ {s w : List ℕ} {x : Index} (I : IndexIn s w x) (o : ℕ) where
   -- the unit
-  module _ (r : Place) (e : place_of r ≡ containing o (records unit_of24 24 w x.units x.unit_count)) where
+  module _ (r : Given ℕ) (e : place_of r ≡ containing o (records unit_of24 24 w x.units x.unit_count)) where
     place_is : place_of r ≡ containing o (map (indexed_unit s) (unit_places 0 (fields s)))
     place_is = e ∙ ap (containing o) I.units
 
-    pub leads_outside : r ≡ Place.Missing → Leads s o Target.Outside
+    pub leads_outside : r ≡ None → Leads s o Target.Outside
     leads_outside is = record { is = unit-none s o (sym (rw is at place_is)) }
 
     -- no entry of the unit starts there
-    pub leads_no-entry : (q : ℕ) (f : Found) → r ≡ Place.At q → found_of o f ≡ lookup o (records indexed_of 16 w x.entries x.entry_count) → f ≡ Found.Missing
-        → Leads s o (Target.NoEntry q)
+    pub leads_no-entry : (q : ℕ) → r ≡ Some q → found_of o None ≡ lookup o (records indexed_of 16 w x.entries x.entry_count) → Leads s o (Target.NoEntry q)
     unfolding entry_at entry_in
-    leads_no-entry q f is answer missing =
+    leads_no-entry q is answer =
         let found = sym (rw is at place_is) in
         let low = unit-low s o q found in
         let sum : (unit_here s q).offset + (o - (unit_here s q).offset) ≡ o = omega arith in
-        let gone = answer-missing s w x.entries x.entry_count o f I.entries answer missing in
+        let gone = answer-missing s w x.entries x.entry_count o I.entries answer in
         record {
           is = (
             unit-is s o q found,
@@ -107,45 +107,46 @@ module _ {s w : List ℕ} {x : Index} (I : IndexIn s w x) (o : ℕ) where
           );
         }
 
-  -- the entry
-  module _ (f : Found) (answer : found_of o f ≡ lookup o (records indexed_of 16 w x.entries x.entry_count)) where
-    module _ (p u : ℕ) (is : f ≡ Found.At p u) where
-      found : lookup o (entry_index 0 0 0 (fields s)) ≡ some (record { offset = o; place = p; unit = u })
-      found = answer_at s w x.entries x.entry_count o f I.entries answer p u is
+  -- no entry of the unit at q starts at its offset own
+  module _ (q own : ℕ) (listed : UnitOf s q) (sum : o ≡ (unit_here s q).offset + own) where
+    own-entry : entry_at (unit_here s q) own ≡ or_no_entry (entry_in s q (lookup o (entry_index 0 0 0 (fields s))))
+    unfolding entry_at
+    own-entry = ap or_no_entry (index-finds s I.number q own I.accepted listed) ∙ rw sum
 
-      pub leads_at : Leads s o (Target.At p u)
-      unfolding entry_at
-      leads_at =
-          let e : IndexedEntry = record { offset = o; place = p; unit = u } in
-          let placed = found-placed s I.number I.accepted o e found in
-          let sum = placed.offset in
-          let own : o - (unit_here s u).offset ≡ (entry_here s p).offset = omega arith in
-          record {
-            is = (
-              unit-is s o u (entry-containing s I.number I.accepted o e found),
-              rw own (ap or_no_entry (found-entry s I.number I.accepted o e found)),
-              entry_known s o e found,
-            );
-          }
+    pub leads_in-missing : found_of o None ≡ lookup o (records indexed_of 16 w x.entries x.entry_count) → LeadsIn s q own None
+    unfolding entry_in
+    leads_in-missing answer = record { is = own-entry ∙ rw (answer-missing s w x.entries x.entry_count o I.entries answer) }
+
+  -- the entry
+  module _ (f : EntryPlace) (answer : found_of o (Some f) ≡ lookup o (records indexed_of 16 w x.entries x.entry_count)) where
+    found : lookup o (entry_index 0 0 0 (fields s)) ≡ some (record { offset = o; place = f.place; unit = f.unit })
+    found = answer_at s w x.entries x.entry_count o I.entries f answer
+
+    pub leads_at : Leads s o (Target.At f.place f.unit)
+    unfolding entry_at
+    leads_at =
+        let e : IndexedEntry = record { offset = o; place = f.place; unit = f.unit } in
+        let placed = found-placed s I.number I.accepted o e found in
+        let sum = placed.offset in
+        let own : o - (unit_here s f.unit).offset ≡ (entry_here s f.place).offset = omega arith in
+        record {
+          is = (
+            unit-is s o f.unit (entry-containing s I.number I.accepted o e found),
+            rw own (ap or_no_entry (found-entry s I.number I.accepted o e found)),
+            entry_known s o e found,
+          );
+        }
 
     -- in the unit at q, which o is an offset of by its own offset `own`
     module _ (q own : ℕ) (listed : UnitOf s q) (sum : o ≡ (unit_here s q).offset + own) where
-      own-entry : entry_at (unit_here s q) own ≡ or_no_entry (entry_in s q (lookup o (entry_index 0 0 0 (fields s))))
-      unfolding entry_at
-      own-entry = ap or_no_entry (index-finds s I.number q own I.accepted listed) ∙ rw sum
-
-      pub leads_in-missing : f ≡ Found.Missing → LeadsIn s q own (Target.NoEntry q)
+      pub leads_in-other : (f.unit ≡ q → ⊥) → LeadsIn s q own None
       unfolding entry_in
-      leads_in-missing missing = record { is = own-entry ∙ rw (answer-missing s w x.entries x.entry_count o f I.entries answer missing) }
+      leads_in-other other = record { is = own-entry q own listed sum ∙ rw (found, ne_eqb f.unit q other) }
 
-      pub leads_in-other : (p u : ℕ) → f ≡ Found.At p u → (u ≡ q → ⊥) → LeadsIn s q own (Target.NoEntry q)
+      pub leads_in_at : f.unit ≡ q → LeadsIn s q own (Some f.place)
       unfolding entry_in
-      leads_in-other p u is other = record { is = own-entry ∙ rw (found p u is, ne_eqb u q other) }
-
-      pub leads_in_at : (p u : ℕ) → f ≡ Found.At p u → u ≡ q → LeadsIn s q own (Target.At p q)
-      unfolding entry_in
-      leads_in_at p u is same = record {
-        is = (own-entry ∙ rw (found p u is, eq-eqb u q same), rw same at (entry_known s o (record { offset = o; place = p; unit = u }) (found p u is)));
+      leads_in_at same = record {
+        is = (own-entry q own listed sum ∙ rw (found, eq-eqb f.unit q same), rw same at (entry_known s o (record { offset = o; place = f.place; unit = f.unit }) found));
       }
 
 -- ---- the entry of a unit that the index knows

@@ -1,16 +1,12 @@
 -- The ways that a reference leads: to an offset of the own unit, to an offset of the own section, and from the main sheet into the supplementary one.
 use mathlib.Core.Path.{◌≡◌, refl, sym, ap, ◌∙◌}
 use mathlib.Core.Bool.{Bool, true, false, cond}
-use mathlib.Core.Logic.{⊎_elim}
 use mathlib.Core.List.{List, [], ◌∷◌}
 use mathlib.Core.Option.{Option, none, some}
 use Prim.Native.Nat.{ℕ, ◌+◌, ◌^◌, ◌≤◌, ◌<◌}
 use native.Mathlib.Omega.{arith}
-use lib.Dec.{eqb}
+use lib.Dec.{eqb, ltb}
 use lib.ListN.{length, length-map}
-use borrow.Author.Tests.{le-ltb, lt-ltb}
-use types.Run.{OneOf}
-use denote.Enum.Declared.{tag_of}
 use Rattle.tlv.specs.declared.model.DebugSource.{DebugSource}
 use Rattle.tlv.specs.Outcome.{Outcome, refused, done, ◌>>=◌}
 use Rattle.tlv.specs.Lists.{Any, exists}
@@ -24,17 +20,18 @@ use Rattle.access.proofs.IndexModel.{either}
 use Rattle.access.proofs.UnitPlaceLaws.{units-places}
 use Rattle.files.specs.Pieces.{source_in}
 use Rattle.references.specs.declared.tables.Tables.{Tables}
-use Rattle.references.specs.declared.tables.Target.{Target}
 use Rattle.references.specs.declared.attributes.Reference.{Reference}
 use Rattle.references.specs.declared.ways.EntryAt.{EntryAt}
+use Rattle.std.specs.Prelude.{Some, None, Result, Ok, Err}
 use Rattle.references.specs.declared.ways.Way.{Way}
+use Rattle.tlv.specs.declared.refusal.Refusal.{Refusal}
+use Rattle.tlv.specs.Refusals.{number_of}
 use Rattle.references.specs.Search.{Dwarf, Place, Trail, DieKey, same_key, main_source, is_visited, visit_entry, attribute, absolute_entry_offset, entry_at, Followed, same_unit, followed_nothing, follow_unit, follow_absolute, follow_supplementary, follow}
 use Rattle.references.specs.Tables.{EntryKnown, reference_of, LeadsIn}
 use Rattle.references.specs.Keys.{keys_at, key_in, PossibleKey, keys_from}
 use Rattle.references.specs.Names.{dwarf_of, search_source, place_at, Sourced, Stands, SearchIn, follow_unit_from, follow_from, Ways}
-use Rattle.references.specs.contracts.tables.Target.{the_type}
 use Rattle.references.proofs.KeyLaws.{possible-main_section, possible-main-supplementary, possible-supplementary_section}
-use Rattle.references.proofs.FollowLaws.{placed_at, stands_unit, unit_offset}
+use Rattle.references.proofs.FollowLaws.{stands_unit}
 
 -- the key of a source
 pub key-source : (source : DebugSource) (o : ℕ) → record { source = search_source source; offset = o } ≡ key_in source o
@@ -42,13 +39,13 @@ key-source DebugSource.Main o = refl
 key-source DebugSource.Supplementary o = refl
 
 -- ways of one search are those of another that follows as it does
-pub ways_as : {f g : Trail → Outcome Followed} {main supplementary w : List ℕ} {x : Tables} {n depth : ℕ} (r : Way)
+pub ways_as : {f g : Trail → Outcome Followed} {main supplementary w : List ℕ} {x : Tables} {n depth : ℕ} (r : Result Way Refusal)
     → ((t : Trail) → f t ≡ g t) → Ways g main supplementary w x n depth r → Ways f main supplementary w x n depth r
-ways_as Way.Nothing e W = record { is = λ k. e _ ∙ W.is k }
-ways_as (Way.Refused st) e W = record { is = (W.is.0, λ k. e _ ∙ W.is.1 k) }
-ways_as (Way.Entry next target) e W =
+ways_as (Ok Way.Nothing) e W = record { is = λ k. e _ ∙ W.is k }
+ways_as (Err r) e W = record { is = λ k. e _ ∙ W.is k }
+ways_as (Ok (Way.Entry next target)) e W =
     let N = W.is in record { is = record { is = λ k. e _ ∙ N.is k; stands = N.stands; deeper = N.deeper; possible = N.possible; new = N.new } }
-ways_as (Way.Offset next) e W = let N = W.is in record { is = record { is = λ k. e _ ∙ N.is k; aims = N.aims; deeper = N.deeper } }
+ways_as (Ok (Way.Offset next)) e W = let N = W.is in record { is = record { is = λ k. e _ ∙ N.is k; aims = N.aims; deeper = N.deeper } }
 
 -- ---- an offset of the own unit
 
@@ -58,63 +55,60 @@ unit_step p o t k =
     cond (exists (same_key k) t.visited) (followed_nothing t)
     (entry_at p.unit o >>= λ e. done (record { trail = visit_entry t k; target = same_unit (record { input = p.input; source = p.source; unit = p.unit; entry = e }) }))
 
--- no entry starts at an offset that leads to none
-no_target : {s : List ℕ} {q o : ℕ} (r : Target) → OneOf (0 ∷ 1 ∷ []) (tag_of the_type r) → LeadsIn s q o r → entry_at (unit_here s q) o ≡ refused 13
-no_target Target.Outside h L = L.is
-no_target (Target.NoEntry q) h L = L.is
-no_target (Target.At p q) h L = absurd (two_of_none h)
+-- the sum that fits
+sum_is : (u : CompilationUnit) (o t : ℕ) → done t ≡ absolute_entry_offset u o → t ≡ u.offset + o
+unfolding absolute_entry_offset
+sum_is u o t e = go (ltb (u.offset + o) (2 ^ 64)) e
   where
-    two_of_none : OneOf (0 ∷ 1 ∷ []) 2 → ⊥
-    two_of_none = ⊎_elim (λ e. omega arith) (λ e. omega arith)
+    go : (b : Bool) → done t ≡ cond b (done (u.offset + o)) (refused 12) → t ≡ u.offset + o
+    go true e = cc
+    go false e = let z : ◌≡◌ {A = ℕ} 0 1 = cc in absurd (omega arith)
 
-module _ {main supplementary w s : List ℕ} {x : Tables} {n own : ℕ} {at : EntryAt} (o : ℕ) (S : SearchIn main supplementary w x n) (A : Stands main supplementary at)
-    (is : s ≡ source_in main supplementary at.input) (eo : own ≡ le_at 8 s (at.unit + 3)) where
-  own-offset : (unit_here (source_in main supplementary at.input) at.unit).offset ≡ own
-  own-offset = unit_offset at.unit (placed_at S at.input refl) (stands_unit S A) ∙ sym (rw is at eo)
-
+module _ {main supplementary w s : List ℕ} {x : Tables} {n : ℕ} {at : EntryAt} (o : ℕ) (S : SearchIn main supplementary w x n) (A : Stands main supplementary at)
+    (is : s ≡ source_in main supplementary at.input) where
   -- what is asked on the way
   pub way-listed : Any (λ q. q ≡ at.unit) (unit_places 0 (fields s))
   way-listed = rw is (stands_unit S A)
 
-  pub way_sum : own + o ≡ (unit_here s at.unit).offset + o
-  way_sum = rw (is, own-offset)
+  pub way_overflow : (r : Refusal) → refused (number_of r) ≡ absolute_entry_offset (unit_here s at.unit) o → Ways (follow_unit_from main supplementary at o) main supplementary w x n at.depth (Err r)
+  unfolding follow_unit_from follow_unit ◌>>=◌
+  way_overflow r e = record { is = λ k. rw (← is, ← e) }
 
-  pub way_overflow : 2 ^ 64 ≤ own + o → Ways (follow_unit_from main supplementary at o) main supplementary w x n at.depth (Way.Refused 12)
-  unfolding follow_unit_from follow_unit absolute_entry_offset ◌>>=◌
-  way_overflow h = record { is = (λ z. omega arith, λ k. rw (own-offset, le-ltb (own + o) (2 ^ 64) h)) }
+  module _ {target : ℕ} (e : done target ≡ absolute_entry_offset (unit_here s at.unit) o) where
+    there : absolute_entry_offset (unit_here (source_in main supplementary at.input) at.unit) o ≡ done target
+    there = rw is at (sym e)
 
-  module _ (small : own + o < 2 ^ 64) (v : Bool) (seen : v ≡ exists (same_key (key_in at.source (own + o))) (keys_at w (keys_from x) n)) where
-    absolute-is : absolute_entry_offset (unit_here (source_in main supplementary at.input) at.unit) o ≡ done (own + o)
-    unfolding absolute_entry_offset
-    absolute-is = rw (own-offset, lt-ltb (own + o) (2 ^ 64) small)
+    pub way_sum : target ≡ (unit_here s at.unit).offset + o
+    way_sum = sum_is (unit_here s at.unit) o target e
 
-    follows : (t : Trail) → follow_unit_from main supplementary at o t ≡ unit_step (place_at main supplementary at) o t (key_in at.source (own + o))
-    unfolding follow_unit_from follow_unit is_visited ◌>>=◌
-    follows t = rw absolute-is (ap (unit_step (place_at main supplementary at) o t) (key-source at.source (own + o)))
+    module _ (v : Bool) (seen : v ≡ exists (same_key (key_in at.source target)) (keys_at w (keys_from x) n)) where
+      follows : (t : Trail) → follow_unit_from main supplementary at o t ≡ unit_step (place_at main supplementary at) o t (key_in at.source target)
+      unfolding follow_unit_from follow_unit is_visited ◌>>=◌
+      follows t = rw there (ap (unit_step (place_at main supplementary at) o t) (key-source at.source target))
 
-    pub way_seen : v ≡ true → Ways (follow_unit_from main supplementary at o) main supplementary w x n at.depth Way.Nothing
-    way_seen y = record { is = λ k. follows _ ∙ rw (← seen, y) }
+      pub way_seen : v ≡ true → Ways (follow_unit_from main supplementary at o) main supplementary w x n at.depth (Ok Way.Nothing)
+      way_seen y = record { is = λ k. follows _ ∙ rw (← seen, y) }
 
-    module _ (new : v ≡ false) {r : Target} (L : LeadsIn s at.unit o r) where
-      pub way_no-entry : OneOf (0 ∷ 1 ∷ []) (tag_of the_type r) → Ways (follow_unit_from main supplementary at o) main supplementary w x n at.depth (Way.Refused 13)
-      unfolding ◌>>=◌
-      way_no-entry h = record { is = (λ z. omega arith, λ k. follows _ ∙ rw (← seen, new, no_target r h (rw is at L))) }
+      module _ (new : v ≡ false) where
+        pub way_no-entry : LeadsIn s at.unit o None → Ways (follow_unit_from main supplementary at o) main supplementary w x n at.depth (Err Refusal.NoEntry)
+        unfolding ◌>>=◌
+        way_no-entry L = record { is = λ k. follows _ ∙ rw (← seen, new, rw is at L.is) }
 
-      pub way-entry : (p q : ℕ) → r ≡ Target.At p q → PossibleKey main supplementary (key_in at.source ((unit_here (source_in main supplementary at.input) at.unit).offset + o))
-          → Ways (follow_unit_from main supplementary at o) main supplementary w x n at.depth
-          (Way.Entry (record { input = at.input; source = at.source; unit = at.unit; place = p; depth = at.depth + 1 }) (own + o))
-      unfolding ◌>>=◌
-      way-entry p q at-is possible =
-          let leads = rw (is, at-is) at L in
-          record {
-            is = record {
-              is = λ k. follows _ ∙ rw (← seen, new, leads.is.0);
-              stands = record { known = leads.is.1; sourced = A.sourced };
-              deeper = refl;
-              possible = rw own-offset at possible;
-              new = sym seen ∙ new;
-            };
-          }
+        pub way-entry : {p : ℕ} → LeadsIn s at.unit o (Some p) → PossibleKey main supplementary (key_in at.source ((unit_here (source_in main supplementary at.input) at.unit).offset + o))
+            → Ways (follow_unit_from main supplementary at o) main supplementary w x n at.depth
+            (Ok (Way.Entry (record { input = at.input; source = at.source; unit = at.unit; place = p; depth = at.depth + 1 }) target))
+        unfolding ◌>>=◌
+        way-entry L possible =
+            let leads = rw is at L.is in
+            record {
+              is = record {
+                is = λ k. follows _ ∙ rw (← seen, new, leads.0);
+                stands = record { known = leads.1; sourced = A.sourced };
+                deeper = refl;
+                possible = rw (← rw is at way_sum) at possible;
+                new = sym seen ∙ new;
+              };
+            }
 
 -- ---- the reference that an attribute is
 
@@ -152,17 +146,17 @@ module _ {main supplementary w s : List ℕ} {x : Tables} {n : ℕ} {at : EntryA
   unfolding follow_from
   followed q to t = follow-by (dwarf_of main supplementary) (place_at main supplementary at) t _ ∙ ap (follow_by (dwarf_of main supplementary) (place_at main supplementary at) t) (reference-is to)
 
-  pub way-missing : r ≡ Reference.Missing → Ways (follow_from main supplementary at name) main supplementary w x n at.depth Way.Nothing
+  pub way-missing : r ≡ Reference.Missing → Ways (follow_from main supplementary at name) main supplementary w x n at.depth (Ok Way.Nothing)
   way-missing to = record { is = λ k. followed Reference.Missing to _ }
 
-  pub way_unit : {y : Way} (o : ℕ) → r ≡ Reference.Unit o → Ways (follow_unit_from main supplementary at o) main supplementary w x n at.depth y
+  pub way_unit : {y : Result Way Refusal} (o : ℕ) → r ≡ Reference.Unit o → Ways (follow_unit_from main supplementary at o) main supplementary w x n at.depth y
       → Ways (follow_from main supplementary at name) main supplementary w x n at.depth y
   unfolding follow_unit_from
   way_unit {y} o to W = ways_as y (followed (Reference.Unit o) to) W
 
   pub way_section : (o : ℕ) → r ≡ Reference.Section o
       → Ways (follow_from main supplementary at name) main supplementary w x n at.depth
-      (Way.Offset (record { input = at.input; source = DebugSource.Main; target = o; depth = at.depth + 1 }))
+      (Ok (Way.Offset (record { input = at.input; source = DebugSource.Main; target = o; depth = at.depth + 1 })))
   way_section o to = record {
     is = record {
       is = λ k. followed (Reference.Section o) to _;
@@ -188,15 +182,15 @@ module _ {main supplementary w s : List ℕ} {x : Tables} {n : ℕ} {at : EntryA
       ∙ sym (ap length S.supplementary-index.units) ∙ records-length unit_of24 24 w x.supplementary.units x.supplementary.unit_count
 
   module _ (o : ℕ) (to : r ≡ Reference.Supplementary o) where
-    pub way_no-units : x.supplementary.unit_count ≡ 0 → Ways (follow_from main supplementary at name) main supplementary w x n at.depth Way.Nothing
+    pub way_no-units : x.supplementary.unit_count ≡ 0 → Ways (follow_from main supplementary at name) main supplementary w x n at.depth (Ok Way.Nothing)
     way_no-units z = record { is = λ k. followed (Reference.Supplementary o) to _ ∙ from-none (dwarf_of main supplementary) (units supplementary) _ o at.input (unit-number ∙ z) }
 
-    pub way-inside : at.input ≡ DebugSource.Supplementary → Ways (follow_from main supplementary at name) main supplementary w x n at.depth Way.Nothing
+    pub way-inside : at.input ≡ DebugSource.Supplementary → Ways (follow_from main supplementary at name) main supplementary w x n at.depth (Ok Way.Nothing)
     way-inside z = record { is = λ k. followed (Reference.Supplementary o) to _ ∙ rw z }
 
     pub way-supplementary : at.input ≡ DebugSource.Main → (x.supplementary.unit_count ≡ 0 → ⊥)
         → Ways (follow_from main supplementary at name) main supplementary w x n at.depth
-        (Way.Offset (record { input = DebugSource.Supplementary; source = DebugSource.Supplementary; target = o; depth = at.depth + 1 }))
+        (Ok (Way.Offset (record { input = DebugSource.Supplementary; source = DebugSource.Supplementary; target = o; depth = at.depth + 1 })))
     way-supplementary z some-units = record {
       is = record {
         is = λ k. followed (Reference.Supplementary o) to _ ∙ from-main (dwarf_of main supplementary) (units supplementary) _ o at.input z (λ none. some-units (sym unit-number ∙ none));

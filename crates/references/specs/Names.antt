@@ -1,7 +1,10 @@
 -- Contract. What the name searches promise: the name as a part of a sheet, the followed targets in the work slice.
-use Rattle.std.specs.Prelude.{ℕ, ◌+◌, ◌*◌, ◌≤◌, ◌≡◌, Bool, true, false, cond, not, List, [], ◌∷◌, eqb, length}
+use Rattle.std.specs.Prelude.{ℕ, ◌+◌, ◌*◌, ◌≤◌, ◌≡◌, Bool, true, false, cond, not, List, [], ◌∷◌, eqb, length, Result, Ok, Err, Some, None}
 use Rattle.std.proofs.Math.Option.{Option, none, some}
+use Rattle.std.specs.declared.option.Option.{Option as Given}
+use denote.Bor.{Bor}
 use Rattle.tlv.specs.declared.model.DebugSource.{DebugSource}
+use Rattle.tlv.specs.declared.refusal.Refusal.{Refusal}
 use Rattle.tlv.specs.Outcome.{Outcome, refused, done}
 use Rattle.tlv.specs.Lists.{exists, is_empty}
 use Rattle.tlv.specs.Model.{CompilationUnit, Entry, Attribute, units}
@@ -15,7 +18,7 @@ use Rattle.references.specs.declared.tables.Tables.{Tables}
 use Rattle.references.specs.declared.ways.EntryAt.{EntryAt}
 use Rattle.references.specs.declared.ways.OffsetAt.{OffsetAt}
 use Rattle.references.specs.declared.ways.Way.{Way}
-use Rattle.references.specs.declared.names.FoundName.{FoundName}
+use Rattle.tlv.specs.Refusals.{number_of}
 use Rattle.references.specs.Search.{Dwarf, main_source, supplementary_source, Place, Trail, same_key, visit_entry, Followed, same_unit, followed_nothing}
 use Rattle.references.specs.Search.{attribute, follow_unit, follow_absolute, follow, Named, resolve_reference_name}
 use Rattle.references.specs.Reads.{Counted, after, ◌>>>◌, counted_name_at, counted_name}
@@ -105,13 +108,13 @@ pub record OffsetNext (f : Trail → Outcome Followed) (main supplementary w : L
   pub aims : Aims main supplementary next
   pub deeper : next.depth ≡ depth + 1
 
-abbrev pub WayIs : (Trail → Outcome Followed) → List ℕ → List ℕ → List ℕ → Tables → ℕ → ℕ → Way → Type 0
-WayIs f main supplementary w x n depth Way.Nothing = (k : ℕ) → f (trail_at w (keys_from x) n k) ≡ followed_nothing (trail_at w (keys_from x) n k)
-WayIs f main supplementary w x n depth (Way.Refused st) = (st ≡ 0 → ⊥) × ((k : ℕ) → f (trail_at w (keys_from x) n k) ≡ refused st)
-WayIs f main supplementary w x n depth (Way.Entry next target) = EntryNext f main supplementary w x n depth next target
-WayIs f main supplementary w x n depth (Way.Offset next) = OffsetNext f main supplementary w x n depth next
+abbrev pub WayIs : (Trail → Outcome Followed) → List ℕ → List ℕ → List ℕ → Tables → ℕ → ℕ → Result Way Refusal → Type 0
+WayIs f main supplementary w x n depth (Ok Way.Nothing) = (k : ℕ) → f (trail_at w (keys_from x) n k) ≡ followed_nothing (trail_at w (keys_from x) n k)
+WayIs f main supplementary w x n depth (Err e) = (k : ℕ) → f (trail_at w (keys_from x) n k) ≡ refused (number_of e)
+WayIs f main supplementary w x n depth (Ok (Way.Entry next target)) = EntryNext f main supplementary w x n depth next target
+WayIs f main supplementary w x n depth (Ok (Way.Offset next)) = OffsetNext f main supplementary w x n depth next
 
-pub record Ways (f : Trail → Outcome Followed) (main supplementary w : List ℕ) (x : Tables) (n depth : ℕ) (r : Way) : Type 0 where
+pub record Ways (f : Trail → Outcome Followed) (main supplementary w : List ℕ) (x : Tables) (n depth : ℕ) (r : Result Way Refusal) : Type 0 where
   pub is : WayIs f main supplementary w x n depth r
 
 -- ---- what a search gives
@@ -121,9 +124,14 @@ unfoldable pub is_answer : ℕ → List ℕ → Bool
 is_answer st r = cond (eqb st 0) (not (is_empty r)) true
 
 -- what was found by its bytes: no bytes are no name
-abbrev pub found_name : List ℕ → FoundName
-found_name [] = FoundName.Missing
-found_name (b ∷ bs) = FoundName.Found (length (b ∷ bs))
+abbrev pub found_name : List ℕ → Given (List ℕ)
+found_name [] = None
+found_name (b ∷ bs) = Some (b ∷ bs)
+
+-- the bytes of a name, where there is one
+abbrev pub name_given : Given (Bor (List ℕ)) → Given (List ℕ)
+name_given None = None
+name_given (Some r) = Some r.now
 
 -- the answer that a status, a trail and bytes stand for
 unfoldable pub named_given : ℕ → Trail → List ℕ → Outcome Named
@@ -140,6 +148,11 @@ pub record Gives (f : Trail → Counted Named) (main supplementary : List ℕ) (
   pub few : b ≤ n' + 1
   pub ready : SearchIn main supplementary w' x n'
   pub rest : Kept w w' x.keys (keys_extent main supplementary x)
+
+-- the name that the attribute of a name of an entry leads to; k is the limit less the depth
+unfoldable pub referred_name : ℕ → List ℕ → List ℕ → EntryAt → ℕ → Trail → Counted Named
+referred_name k main supplementary at name t =
+    after t (follow_from main supplementary at name t) >>> λ f. counted_name_at (counted_name k (dwarf_of main supplementary)) f.trail f.target
 
 -- resolve_absolute_name: the name at an offset of the section; k is the limit less the depth
 unfoldable pub resolve_absolute_name : ℕ → Dwarf → Rattle.references.specs.Search.DebugSource → Rattle.references.specs.Search.DebugSource

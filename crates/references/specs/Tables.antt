@@ -1,6 +1,9 @@
 -- Contract. The index of a sheet in the work slice, as the searches use it, and what is read of an entry.
-use Rattle.std.specs.Prelude.{ℕ, ◌+◌, ◌-◌, ◌*◌, ◌≤◌, ◌≡◌, cond, List, map, eqb, length}
+use Rattle.std.specs.Prelude.{ℕ, ◌+◌, ◌-◌, ◌*◌, ◌≤◌, ◌≡◌, cond, List, [], map, eqb, length, Result, Ok, Err, Some, None}
+use denote.Bor.{Bor}
 use Rattle.std.proofs.Math.Option.{Option, none, some}
+use Rattle.std.specs.declared.option.Option.{Option as Given}
+use Rattle.tlv.specs.declared.refusal.Refusal.{Refusal}
 use Rattle.tlv.specs.Outcome.{Outcome, refused, done}
 use Rattle.tlv.specs.Lists.{Any}
 use Rattle.tlv.specs.Fields.{fields}
@@ -14,7 +17,6 @@ use Rattle.access.specs.Units.{indexed_unit, unit_of24, unit_record}
 use Rattle.references.specs.declared.tables.Index.{Index}
 use Rattle.references.specs.declared.tables.Target.{Target}
 use Rattle.references.specs.declared.attributes.Reference.{Reference}
-use Rattle.references.specs.declared.attributes.Number.{Number}
 use Rattle.references.specs.Search.{attribute, if_empty, name_from, own_name, name_attributes, entry_at, unit_containing}
 
 -- a sheet that the grammar accepts, whose units and entries stand in tables
@@ -45,12 +47,11 @@ pub record Leads (s : List ℕ) (o : ℕ) (r : Target) : Type 0 where
   pub is : TargetIs s o r
 
 -- where an offset of the unit at q leads
-abbrev pub OwnTargetIs : List ℕ → ℕ → ℕ → Target → Type 0
-OwnTargetIs s q o Target.Outside = entry_at (unit_here s q) o ≡ refused 13
-OwnTargetIs s q o (Target.NoEntry q') = entry_at (unit_here s q) o ≡ refused 13
-OwnTargetIs s q o (Target.At p q') = (entry_at (unit_here s q) o ≡ done (entry_here s p)) × EntryKnown s q p
+abbrev pub OwnTargetIs : List ℕ → ℕ → ℕ → Given ℕ → Type 0
+OwnTargetIs s q o None = entry_at (unit_here s q) o ≡ refused 13
+OwnTargetIs s q o (Some p) = (entry_at (unit_here s q) o ≡ done (entry_here s p)) × EntryKnown s q p
 
-pub record LeadsIn (s : List ℕ) (q o : ℕ) (r : Target) : Type 0 where
+pub record LeadsIn (s : List ℕ) (q o : ℕ) (r : Given ℕ) : Type 0 where
   pub is : OwnTargetIs s q o r
 
 -- ---- an entry's attributes
@@ -65,51 +66,27 @@ reference_of (some a) =
     Reference.Missing))
 
 -- the reference that a value is
-abbrev pub reference_in : Value → Reference
-reference_in Value.Absent = Reference.Missing
-reference_in (Value.Unsigned n) = Reference.Missing
-reference_in (Value.FileNumber n) = Reference.Missing
-reference_in (Value.Text start len) = Reference.Missing
-reference_in (Value.UnitReference n) = Reference.Unit n
-reference_in (Value.SectionReference n) = Reference.Section n
-reference_in (Value.SupplementaryReference n) = Reference.Supplementary n
-reference_in (Value.SectionOffset n) = Reference.Missing
-reference_in (Value.LineOffset n) = Reference.Missing
-reference_in (Value.Address n) = Reference.Missing
-reference_in Value.Failed = Reference.Missing
+abbrev pub reference_in : Given Value → Reference
+reference_in (Some (Value.UnitReference n)) = Reference.Unit n
+reference_in (Some (Value.SectionReference n)) = Reference.Section n
+reference_in (Some (Value.SupplementaryReference n)) = Reference.Supplementary n
+reference_in v = Reference.Missing
 
 -- a number, where there is one
-abbrev pub number_given : Option ℕ → Number
-number_given none = Number.Missing
-number_given (some n) = Number.Is n
+abbrev pub number_given : Option ℕ → Given ℕ
+number_given none = None
+number_given (some n) = Some n
 
 -- the file number that a value is
-abbrev pub file_number_in : Value → Number
-file_number_in Value.Absent = Number.Missing
-file_number_in (Value.Unsigned n) = Number.Is n
-file_number_in (Value.FileNumber n) = Number.Is n
-file_number_in (Value.Text start len) = Number.Missing
-file_number_in (Value.UnitReference n) = Number.Missing
-file_number_in (Value.SectionReference n) = Number.Missing
-file_number_in (Value.SupplementaryReference n) = Number.Missing
-file_number_in (Value.SectionOffset n) = Number.Missing
-file_number_in (Value.LineOffset n) = Number.Missing
-file_number_in (Value.Address n) = Number.Missing
-file_number_in Value.Failed = Number.Missing
+abbrev pub file_number_in : Given Value → Given ℕ
+file_number_in (Some (Value.Unsigned n)) = Some n
+file_number_in (Some (Value.FileNumber n)) = Some n
+file_number_in v = None
 
 -- the line that a value is
-abbrev pub line_number_in : Value → Number
-line_number_in Value.Absent = Number.Missing
-line_number_in (Value.Unsigned n) = Number.Is n
-line_number_in (Value.FileNumber n) = Number.Missing
-line_number_in (Value.Text start len) = Number.Missing
-line_number_in (Value.UnitReference n) = Number.Missing
-line_number_in (Value.SectionReference n) = Number.Missing
-line_number_in (Value.SupplementaryReference n) = Number.Missing
-line_number_in (Value.SectionOffset n) = Number.Missing
-line_number_in (Value.LineOffset n) = Number.Missing
-line_number_in (Value.Address n) = Number.Missing
-line_number_in Value.Failed = Number.Missing
+abbrev pub line_number_in : Given Value → Given ℕ
+line_number_in (Some (Value.Unsigned n)) = Some n
+line_number_in v = None
 
 -- what a status and bytes make of the attributes of the later names: an empty name is none
 unfoldable pub name_then : ℕ → List ℕ → Outcome (List ℕ) → Outcome (List ℕ)
@@ -118,6 +95,11 @@ name_then st r other = cond (eqb st 0) (if_empty r other) (refused st)
 -- the attribute of a name, as a part of the entry's own name
 pub record NameRead (s : List ℕ) (p name st : ℕ) (r : List ℕ) : Type 0 where
   pub is : (other : Outcome (List ℕ)) → name_from (attribute (entry_here s p) name) other ≡ name_then st r other
+
+-- the bytes that were found: none where it is refused
+abbrev pub bytes_of : Result (Bor (List ℕ)) Refusal → List ℕ
+bytes_of (Ok r) = r.now
+bytes_of (Err e) = []
 
 -- the answer that a status and bytes stand for
 unfoldable pub bytes_given : ℕ → List ℕ → Outcome (List ℕ)

@@ -7,8 +7,9 @@ ghost use Rattle.references.specs.Keys.{key_of, keys_at, key_in, source_byte, ch
 ghost use Rattle.references.specs.Keys.{key_record};
 
 use crate::tables::Tables;
-use buffers::table::{fill_zero, set_u8, set_u32, set_u64};
-use tlv::bytes::{read_u8, read_u32, read_u64};
+use buffers::numbers::Written;
+use buffers::table::fill_zero;
+use tlv::bytes::Number;
 use tlv::model::DebugSource;
 
 // Bytes of a record, and of the head of a chain.
@@ -21,10 +22,10 @@ fn is_key(work: &[u8], p: usize, source: DebugSource, offset: u64) -> bool
     requires { p + 9 ≤ length work.now }
     ensures { result ≡ same_key (key_in source offset) (key_of (chunk work.now p 9)) }
 {
-    if read_u64(work, p + 1) != offset {
+    if u64::read(work, p + 1) != offset {
         return false;
     }
-    let first = read_u8(work, p);
+    let first = u8::read(work, p);
     match source {
         DebugSource::Main => first == 0,
         DebugSource::Supplementary => first != 0,
@@ -101,13 +102,13 @@ pub fn is_visited(work: &[u8], x: Tables, n: usize, source: DebugSource, offset:
         return is_scanned(work, keys_from(x), n, source, offset);
     }
     let c = chain_of(chain_count(x), offset);
-    let mut k = read_u32(work, x.keys + c * CHAIN_HEAD) as usize;
+    let mut k = u32::read(work, x.keys + c * CHAIN_HEAD) as usize;
     while k != 0 {
         let p = keys_from(x) + (k - 1) * KEY_RECORD;
         if is_key(work, p, source, offset) {
             return true;
         }
-        k = read_u32(work, p + 9) as usize;
+        k = u32::read(work, p + 9) as usize;
     }
     false
 }
@@ -121,11 +122,11 @@ fn chain_key(work: &mut [u8], x: Tables, i: usize)
 {
     let chains = chain_count(x);
     let p = keys_from(x) + i * KEY_RECORD;
-    let c = chain_of(chains, read_u64(work, p + 1));
+    let c = chain_of(chains, u64::read(work, p + 1));
     let head = x.keys + c * CHAIN_HEAD;
-    let link = read_u32(work, head);
-    set_u32(work, p + 9, link);
-    set_u32(work, head, (i + 1) as u32);
+    let link = u32::read(work, head);
+    link.write(work, p + 9);
+    ((i + 1) as u32).write(work, head);
 }
 
 // Makes chains of the first n targets.
@@ -149,8 +150,8 @@ pub fn push_key(work: &mut [u8], x: Tables, n: usize, source: DebugSource, offse
     ensures { Pushed work.old work.new x n (key_in source offset) }
 {
     let p = keys_from(x) + n * KEY_RECORD;
-    set_u8(work, p, source_byte(source));
-    set_u64(work, p + 1, offset);
+    source_byte(source).write(work, p);
+    offset.write(work, p + 1);
     if !is_many(n + 1) {
         return;
     }

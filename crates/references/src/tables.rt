@@ -5,8 +5,7 @@ ghost use Rattle.tlv.specs.Fields.{fields};
 ghost use Rattle.access.specs.Places.{unit_here, unit_places};
 ghost use Rattle.references.specs.Tables.{IndexIn, Leads, LeadsIn};
 
-use access::access::Place;
-use access::index::{Found, find_entry};
+use access::index::find_entry;
 use access::units::unit_containing_offset;
 
 // Where the tables of a sheet's units and entries stand in the work slice.
@@ -39,39 +38,36 @@ pub fn target_at(s: &[u8], work: &[u8], x: Index, target: u64) -> Target
     requires { IndexIn s.now work.now x }
     ensures { Leads s.now target result }
 {
-    let units = x.units;
-    let unit_count = x.unit_count;
-    let entries = x.entries;
-    let entry_count = x.entry_count;
-    let Place::At(q) = unit_containing_offset(work, units, unit_count, target) else {
+    let Some(q) = unit_containing_offset(work, x.units, x.unit_count, target) else {
         return Target::Outside;
     };
-    let Found::At { place, unit } = find_entry(work, entries, entry_count, target) else {
+    let Some(entry) = find_entry(work, x.entries, x.entry_count, target) else {
         return Target::NoEntry(q);
     };
     Target::At {
-        place: place,
-        unit: unit,
+        place: entry.place,
+        unit: entry.unit,
     }
 }
 
-// Where an offset of the unit at a place leads, which is `target` in the section.
-pub fn target_in(s: &[u8], work: &[u8], x: Index, unit: usize, offset: u64, target: u64) -> Target
+// The place of the entry at an offset of the unit at a place, which is `target` in the section.
+pub fn target_in(
+    s: &[u8],
+    work: &[u8],
+    x: Index,
+    unit: usize,
+    offset: u64,
+    target: u64,
+) -> Option<usize>
     requires index_in { IndexIn s.now work.now x }
     requires any { Any (λ p. p ≡ unit) (unit_places 0 (fields s.now)) }
     requires target_value { target ≡ (unit_here s.now unit).offset + offset }
     ensures { LeadsIn s.now unit offset result }
 {
-    let entries = x.entries;
-    let entry_count = x.entry_count;
-    let Found::At { place, unit: found } = find_entry(work, entries, entry_count, target) else {
-        return Target::NoEntry(unit);
-    };
-    if found != unit {
-        return Target::NoEntry(unit);
-    }
-    Target::At {
-        place: place,
-        unit: unit,
+    let entry = find_entry(work, x.entries, x.entry_count, target)?;
+    if entry.unit == unit {
+        Some(entry.place)
+    } else {
+        None
     }
 }

@@ -1,14 +1,19 @@
 // Where an attribute's reference leads.
 ghost use Rattle.std.specs.Prelude.{◌≡◌, ◌+◌, ◌-◌, ◌<◌, length};
-ghost use Rattle.access.specs.Places.{unit_here};
+ghost use Rattle.tlv.specs.Checked.{Placed};
+ghost use Rattle.tlv.specs.Refusals.{outcome_of};
+ghost use Rattle.access.specs.Places.{unit_here, UnitOf};
 ghost use Rattle.files.specs.Pieces.{source_in};
+ghost use Rattle.references.specs.Search.{absolute_entry_offset};
 ghost use Rattle.references.specs.Keys.{key_in, PossibleKey};
 ghost use Rattle.references.specs.Names.{index_in, Stands, SearchIn, follow_unit_from, follow_from, Ways};
 
 use crate::attributes::{Reference, reference_at};
 use crate::keys::is_visited;
-use crate::tables::{Index, Tables, Target, target_in};
+use crate::tables::{Index, Tables, target_in};
+use tlv::bytes::Number;
 use tlv::model::DebugSource;
+use tlv::refusal::Refusal;
 use tlv::tags::UNIT_OFFSET;
 
 // Where a search stands: the entry at a place of the unit at a place of a sheet, the source that its unit's targets are remembered under, and how deep.
@@ -30,11 +35,10 @@ pub struct OffsetAt {
     pub depth: u8,
 }
 
-// How a search goes on from a reference: not at all; with a refusal; at an entry of the same unit, by its offset in the section; or at an offset of a section.
+// How a search goes on from a reference: not at all; at an entry of the same unit, by its offset in the section; or at an offset of a section.
 #[derive(Clone, Copy)]
 pub enum Way {
     Nothing,
-    Refused(u8),
     Entry(EntryAt, u64),
     Offset(OffsetAt),
 }
@@ -60,6 +64,17 @@ pub fn index_of(x: Tables, input: DebugSource) -> Index
     }
 }
 
+// The offset in the section of an offset of the unit at a place.
+pub fn absolute_entry_offset(s: &[u8], unit: usize, offset: u64) -> Result<u64, Refusal>
+    requires placed { Placed s.now 0 }
+    requires listed { UnitOf s.now unit }
+    ensures { outcome_of result ≡ absolute_entry_offset (unit_here s.now unit) offset }
+{
+    u64::read(s, unit + UNIT_OFFSET)
+        .checked_add(offset)
+        .ok_or(Refusal::Overflow)
+}
+
 // How a search goes on from a reference to an offset of its own unit.
 fn unit_way<'a>(
     main: &'a [u8],
@@ -69,7 +84,7 @@ fn unit_way<'a>(
     n: usize,
     at: EntryAt,
     offset: u64,
-) -> Way
+) -> Result<Way, Refusal>
     requires search_in { SearchIn main.now supplementary.now work.now x n }
     requires stands { Stands main.now supplementary.now at }
     requires possible_key { PossibleKey main.now supplementary.now (key_in at.source
@@ -78,30 +93,22 @@ fn unit_way<'a>(
     ensures { Ways (follow_unit_from main.now supplementary.now at offset) main.now supplementary.now
         work.now x n at.depth result }
 {
-    let input = at.input;
-    let source = at.source;
     let unit = at.unit;
-    let s = input_of(main, supplementary, input);
-    let own = tlv::bytes::read_u64(s, unit + UNIT_OFFSET);
-    if offset > 0xffff_ffff_ffff_ffff - own {
-        return Way::Refused(12);
+    let s = input_of(main, supplementary, at.input);
+    let target = absolute_entry_offset(s, unit, offset)?;
+    if is_visited(work, x, n, at.source, target) {
+        return Ok(Way::Nothing);
     }
-    let target = own + offset;
-    if is_visited(work, x, n, source, target) {
-        return Way::Nothing;
-    }
-    let y = index_of(x, input);
-    let Target::At { place, unit: _ } = target_in(s, work, y, unit, offset, target) else {
-        return Way::Refused(13);
+    let y = index_of(x, at.input);
+    let Some(place) = target_in(s, work, y, unit, offset, target) else {
+        return Err(Refusal::NoEntry);
     };
     let next = EntryAt {
-        input: input,
-        source: source,
-        unit: unit,
-        place: place,
+        place,
         depth: at.depth + 1,
+        ..at
     };
-    Way::Entry(next, target)
+    Ok(Way::Entry(next, target))
 }
 
 // How a search goes on from the attribute of a name of an entry.
@@ -113,7 +120,7 @@ pub fn way_of<'a>(
     n: usize,
     at: EntryAt,
     name: u16,
-) -> Way
+) -> Result<Way, Refusal>
     requires search_in { SearchIn main.now supplementary.now work.now x n }
     requires stands { Stands main.now supplementary.now at }
     requires depth_bound { at.depth < 64 }
@@ -124,26 +131,26 @@ pub fn way_of<'a>(
     let depth = at.depth + 1;
     let s = input_of(main, supplementary, here);
     match reference_at(s, at.unit, at.place, name) {
-        Reference::Missing => Way::Nothing,
+        Reference::Missing => Ok(Way::Nothing),
         Reference::Unit(o) => unit_way(main, supplementary, work, x, n, at, o),
-        Reference::Section(o) => Way::Offset(OffsetAt {
+        Reference::Section(o) => Ok(Way::Offset(OffsetAt {
             input: here,
             source: DebugSource::Main,
             target: o,
-            depth: depth,
-        }),
+            depth,
+        })),
         Reference::Supplementary(o) => {
             if x.supplementary.unit_count == 0 {
-                return Way::Nothing;
+                return Ok(Way::Nothing);
             }
             match here {
-                DebugSource::Supplementary => Way::Nothing,
-                DebugSource::Main => Way::Offset(OffsetAt {
+                DebugSource::Supplementary => Ok(Way::Nothing),
+                DebugSource::Main => Ok(Way::Offset(OffsetAt {
                     input: DebugSource::Supplementary,
                     source: DebugSource::Supplementary,
                     target: o,
-                    depth: depth,
-                }),
+                    depth,
+                })),
             }
         }
     }

@@ -1,27 +1,20 @@
 -- `attributes::own_name` meets its contract.
+use mathlib.Core.Path.{refl}
+use Rattle.tlv.proofs.AnswerLaws.{numbered, handed}
 use Rattle.references.proofs.ReferenceLaws.{own-refused, own-found, own-later, own-last}
 use Rattle.references.proofs.attributes.own_name.Goals as goal
 
-pub returns-then-status-ne0 : goal.returns-then-status-ne0
-returns-then-status-ne0 c = record { is = own-refused c.name_at-linkage.ensures _ c.if-status-ne0.true }
-
 pub returns-then-linkage-ne0 : goal.returns-then-linkage-ne0
-returns-then-linkage-ne0 c = record { is = own-found c.name_at-linkage.ensures _ c.if-status-ne0.false c.if-linkage-ne0.true }
+returns-then-linkage-ne0 c = record { is = own-found c.in_ok-linkage.ensures _ refl c.if-linkage-ne0.true }
 
-pub returns-then-status-ne0-2 : goal.returns-then-status-ne0-2
-returns-then-status-ne0-2 c = record {
-  is = own-later c.name_at-linkage.ensures _ _ _ c.if-status-ne0.false c.if-linkage-ne0.false
-      (own-refused c.name_at-mips.ensures _ c.if-status-ne0-2.true);
-}
+pub returns-in_err-linkage : goal.returns-in_err-linkage
+returns-in_err-linkage c = rw (handed _ _ c.from_residual.ensures.1) (record { is = own-refused c.in_err-linkage.ensures _ (numbered _) })
 
 pub returns-then-mips-ne0 : goal.returns-then-mips-ne0
-returns-then-mips-ne0 c = record {
-  is = own-later c.name_at-linkage.ensures _ _ _ c.if-status-ne0.false c.if-linkage-ne0.false
-      (own-found c.name_at-mips.ensures _ c.if-status-ne0-2.false c.if-mips-ne0.true);
-}
+returns-then-mips-ne0 c = record { is = own-later c.in_ok-linkage.ensures _ _ _ refl c.if-linkage-ne0.false (own-found c.in_ok-mips.ensures _ refl c.if-mips-ne0.true) }
+
+pub returns-in_err-mips : goal.returns-in_err-mips
+returns-in_err-mips c = rw (handed _ _ c.from_residual-in_err-mips.ensures.1) (record { is = own-later c.in_ok-linkage.ensures _ _ _ refl c.if-linkage-ne0.false (own-refused c.in_err-mips.ensures _ (numbered _)) })
 
 pub returns : goal.returns
-returns c = record {
-  is = own-later c.name_at-linkage.ensures _ _ _ c.if-status-ne0.false c.if-linkage-ne0.false
-      (own-later c.name_at-mips.ensures _ _ _ c.if-status-ne0-2.false c.if-mips-ne0.false (own-last c.name_at.ensures));
-}
+returns c = record { is = own-later c.in_ok-linkage.ensures _ _ _ refl c.if-linkage-ne0.false (own-later c.in_ok-mips.ensures _ _ _ refl c.if-mips-ne0.false (own-last c.name_at-3.ensures)) }

@@ -9,12 +9,12 @@ overflow_mul-head c = let s = chain-small c.args.x _ c.chain_of-c.ensures c.chai
 pub overflow_add-head : goal.overflow_add-head
 overflow_add-head c = let s = chain-small c.args.x _ c.chain_of-c.ensures c.chain_count-chains.ensures in omega arith
 
-pub read_u32-link-requires : goal.read_u32-link-requires
-read_u32-link-requires c = let s = chain-small c.args.x _ c.chain_of-c.ensures c.chain_count-chains.ensures in omega arith
+pub read-link-requires : goal.read-link-requires
+read-link-requires c = let s = chain-small c.args.x _ c.chain_of-c.ensures c.chain_count-chains.ensures in omega arith
 
-pub set_u32-requires-2 : goal.set_u32-requires-2
-set_u32-requires-2 c = let s = chain-small c.args.x _ c.chain_of-c.ensures c.chain_count-chains.ensures in omega arith
+pub write-requires-2 : goal.write-requires-2
+write-requires-2 c = let s = chain-small c.args.x _ c.chain_of-c.ensures c.chain_count-chains.ensures in omega arith
 
 pub returns : goal.returns
 returns c = joined-chain c.requires.chained c.chain_count-chains.ensures c.keys_from.ensures
-    c.chain_of-c.ensures c.read_u64.ensures c.read_u32-link.ensures c.set_u32.ensures c.set_u32-2.ensures
+    c.chain_of-c.ensures c.read.ensures c.read-link.ensures c.write.ensures c.write-2.ensures

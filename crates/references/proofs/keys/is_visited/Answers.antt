@@ -14,11 +14,11 @@ overflow_mul-c c = let s = chain-small c.args.x _ c.chain_of-c.ensures c.chain_c
 pub overflow_add-x : goal.overflow_add-x
 overflow_add-x c = let s = chain-small c.args.x _ c.chain_of-c.ensures c.chain_count.ensures in omega arith
 
-pub read_u32-k-requires : goal.read_u32-k-requires
-read_u32-k-requires c = let s = chain-small c.args.x _ c.chain_of-c.ensures c.chain_count.ensures in omega arith
+pub read-k-requires : goal.read-k-requires
+read-k-requires c = let s = chain-small c.args.x _ c.chain_of-c.ensures c.chain_count.ensures in omega arith
 
 pub loop-k-init : goal.loop-k-init
-loop-k-init c = walk_start (many-chained c.requires c.is_many.ensures (not_no _ (ap not c.if-not-is_many.false))) c.chain_count.ensures c.chain_of-c.ensures c.read_u32-k.ensures
+loop-k-init c = walk_start (many-chained c.requires c.is_many.ensures (not_no _ (ap not c.if-not-is_many.false))) c.chain_count.ensures c.chain_of-c.ensures c.read-k.ensures
 
 pub returns-then-is_key : goal.returns-then-is_key
 returns-then-is_key c = walk-found (many-chained c.requires c.is_many.ensures (not_no _ (ap not c.if-not-is_many.false))) c.keys_from-in-loop-k.ensures c.loop-k.invariant c.loop-k-test.true
@@ -26,11 +26,11 @@ returns-then-is_key c = walk-found (many-chained c.requires c.is_many.ensures (n
 
 pub loop-k-smaller : goal.loop-k-smaller
 loop-k-smaller c = walk-less (many-chained c.requires c.is_many.ensures (not_no _ (ap not c.if-not-is_many.false))) c.keys_from-in-loop-k.ensures c.loop-k.invariant c.loop-k-test.true
-    c.read_u32-k-in-loop-k.ensures
+    c.read-k-in-loop-k.ensures
 
 pub loop-k-preserved : goal.loop-k-preserved
 loop-k-preserved c = walk_step (many-chained c.requires c.is_many.ensures (not_no _ (ap not c.if-not-is_many.false))) c.keys_from-in-loop-k.ensures c.loop-k.invariant c.loop-k-test.true
-    c.is_key.ensures c.if-is_key.false c.read_u32-k-in-loop-k.ensures
+    c.is_key.ensures c.if-is_key.false c.read-k-in-loop-k.ensures
 
 pub returns : goal.returns
 returns c = walk_none c.loop-k.invariant c.loop-k-test.false

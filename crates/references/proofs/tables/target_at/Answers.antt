@@ -9,7 +9,7 @@ pub find_entry-requires-clause-rising : goal.find_entry-requires-clause-rising
 find_entry-requires-clause-rising c = search index-table-rising
 
 pub returns-in_default-find_entry : goal.returns-in_default-find_entry
-returns-in_default-find_entry c = leads_no-entry c.requires c.args.target _ c.unit_containing_offset.ensures _ _ c.in-At.is c.find_entry.ensures c.in_default-find_entry.is
+returns-in_default-find_entry c = leads_no-entry c.requires c.args.target _ c.unit_containing_offset.ensures _ c.in-Some.is c.in_default-find_entry.ensures
 
 pub returns : goal.returns
-returns c = leads_at c.requires c.args.target _ c.find_entry.ensures _ _ c.in-At-find_entry.is
+returns c = leads_at c.requires c.args.target _ c.in-Some-find_entry.ensures

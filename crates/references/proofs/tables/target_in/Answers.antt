@@ -5,11 +5,11 @@ use Rattle.references.proofs.tables.target_in.Goals as goal
 pub find_entry-requires-clause-rising : goal.find_entry-requires-clause-rising
 find_entry-requires-clause-rising c = search index-table-rising
 
-pub returns-in_default : goal.returns-in_default
-returns-in_default c = leads_in-missing c.requires.index_in c.args.target _ c.find_entry.ensures _ _ c.requires.any c.requires.target_value c.in_default.is
+pub returns-in_err-entry : goal.returns-in_err-entry
+returns-in_err-entry c = rw c.from_residual.ensures (leads_in-missing c.requires.index_in c.args.target _ _ c.requires.any c.requires.target_value c.in_err-entry.ensures)
 
-pub returns-then-found-unit : goal.returns-then-found-unit
-returns-then-found-unit c = leads_in-other c.requires.index_in c.args.target _ c.find_entry.ensures _ _ c.requires.any c.requires.target_value _ _ c.in-At.is c.if-found-unit.true
+pub returns-then-entry-unit : goal.returns-then-entry-unit
+returns-then-entry-unit c = leads_in_at c.requires.index_in c.args.target _ c.in_ok-entry.ensures _ _ c.requires.any c.requires.target_value c.if-entry-unit.true
 
-pub returns : goal.returns
-returns c = leads_in_at c.requires.index_in c.args.target _ c.find_entry.ensures _ _ c.requires.any c.requires.target_value _ _ c.in-At.is c.if-found-unit.false
+pub returns-else-entry-unit : goal.returns-else-entry-unit
+returns-else-entry-unit c = leads_in-other c.requires.index_in c.args.target _ c.in_ok-entry.ensures _ _ c.requires.any c.requires.target_value c.if-entry-unit.false
