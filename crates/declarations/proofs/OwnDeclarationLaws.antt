@@ -10,6 +10,10 @@ use lib.ListN.{length}
 use borrow.Author.Tests.{le-ltb, lt-ltb}
 use Rattle.tlv.specs.declared.model.DebugSource.{DebugSource}
 use Rattle.tlv.specs.declared.model.FileIndex.{FileIndex}
+use Rattle.std.specs.Prelude.{Some, None, Result, Ok, Err}
+use Rattle.std.specs.declared.option.Option.{Option as Given}
+use Rattle.tlv.specs.declared.refusal.Refusal.{Refusal}
+use Rattle.tlv.specs.Refusals.{outcome_of}
 use Rattle.tlv.specs.Outcome.{Outcome, ◌>>=◌}
 use Rattle.tlv.specs.Lists.{is_none}
 use Rattle.tlv.specs.Bytes.{bytes_of}
@@ -31,14 +35,12 @@ use Rattle.access.proofs.UnitFacts.{UnitAt, all-unit_places}
 use Rattle.lines.specs.Files.{FileTable, FileIndices, get}
 use Rattle.files.specs.declared.spans.FileUnit.{FileUnit}
 use Rattle.files.specs.declared.index.FileNumber.{FileNumber}
-use Rattle.files.specs.declared.index.FoundIndex.{FoundIndex}
 use Rattle.files.specs.Pieces.{source_in, or_header, header_here, UnitPlaced, FileUnitIn, Described}
 use Rattle.files.specs.Store.{extent, entries_of, table_of, FilesIn}
 use Rattle.files.specs.Indices.{indices_in, number_of}
 use Rattle.files.proofs.GrownLaws.{table_kept, files-kept, grown-none}
 use Rattle.files.specs.Reached.{reached_indices, LookedUp}
 use Rattle.references.specs.declared.ways.EntryAt.{EntryAt}
-use Rattle.references.specs.declared.attributes.Number.{Number}
 use Rattle.references.specs.Search.{Declaring, absolute_entry_offset, warn_declaration, declaration_of, own_declaration}
 use Rattle.references.specs.Keys.{keys_from}
 use Rattle.references.specs.Names.{place_at, trail_at, Stands}
@@ -49,10 +51,10 @@ use Rattle.declarations.specs.declared.declaring.Places.{Places}
 use Rattle.declarations.specs.declared.declaring.DeclaringState.{DeclaringState}
 use Rattle.declarations.specs.declared.declaring.Declared.{Declared}
 use Rattle.declarations.specs.declared.own_declarations.OwnLine.{OwnLine}
-use Rattle.declarations.specs.Declarations.{reached_files, indices_at, declaring_at, DeclaringIn, DeclaredState, lower, DeclaresCounted}
-use Rattle.declarations.specs.DeclaredSteps.{declared_by, OwnAt, absolute_given, Numbered, Warns, Owns, UnitKnown}
+use Rattle.declarations.specs.Declarations.{none_found, reached_files, indices_at, declaring_at, DeclaringIn, DeclaredState, lower, DeclaresCounted}
+use Rattle.declarations.specs.DeclaredSteps.{declared_by, OwnAt, Numbered, Warns, Owns, UnitKnown}
 use Rattle.declarations.proofs.DeclareFrames.{sheet-small, unit-room, spans-inside, lower-keys, lower-ready, lower-rest}
-use Rattle.declarations.proofs.DeclareLaws.{declares-missing, declares-found, declares-refused, declares-after}
+use Rattle.declarations.proofs.DeclareLaws.{declares-here, declares-refused, declares-after}
 
 -- ---- the unit of a place
 
@@ -78,12 +80,12 @@ module _ {main supplementary w : List ℕ} {d : Places} {st : DeclaringState} (D
 
   -- ---- the table's number
 
-  pub number-imported : {n : FileNumber} (input : DebugSource) (q : ℕ) {reached : Bool} {r : FoundIndex} → reached ≡ false → number_of r ≡ get (indices_in w d.indices) n.0
+  pub number-imported : {n : FileNumber} (input : DebugSource) (q : ℕ) {reached : Bool} {r : Given FileIndex} → reached ≡ false → number_of r ≡ get (indices_in w d.indices) n.0
       → Numbered main supplementary w w d st (indices_at main supplementary w d st input q reached) n r
   unfolding indices_at
   number-imported input q not_so e = record { is_number = rw not_so e; same = refl; holds = D.files; rest = but_refl _ _ }
 
-  pub number-reached : {w' : List ℕ} {n : FileNumber} (input : DebugSource) (q : ℕ) {reached : Bool} {r : FoundIndex} → reached ≡ true
+  pub number-reached : {w' : List ℕ} {n : FileNumber} (input : DebugSource) (q : ℕ) {reached : Bool} {r : Given FileIndex} → reached ≡ true
       → Numbered main supplementary w w' d st (reached_files (unit_here (source_in main supplementary input) q) (unit_here (source_in main supplementary input) q).header (table_of main supplementary w st.table)) n r
       → Numbered main supplementary w w' d st (indices_at main supplementary w d st input q reached) n r
   unfolding indices_at
@@ -107,7 +109,7 @@ module _ {main supplementary w : List ℕ} {d : Places} {st : DeclaringState} (D
       no_header u (some h) t n y = absurd (false≢true y)
 
       pub number-none : {n : FileNumber} → lacks ≡ true
-          → Numbered main supplementary w w d st (reached_files (unit_here (source_in main supplementary input) q) (unit_here (source_in main supplementary input) q).header (table_of main supplementary w st.table)) n FoundIndex.Missing
+          → Numbered main supplementary w w d st (reached_files (unit_here (source_in main supplementary input) q) (unit_here (source_in main supplementary input) q).header (table_of main supplementary w st.table)) n None
       number-none {n} so = record {
         is_number = no_header (unit_here (source_in main supplementary input) q) (unit_here (source_in main supplementary input) q).header (table_of main supplementary w st.table) n.0 (rw is at (sym e ∙ so));
         same = refl;
@@ -144,7 +146,7 @@ module _ {main supplementary w : List ℕ} {d : Places} {st : DeclaringState} (D
         pub described-rest : KeptBut w w₁ (lower d st.table)
         described-rest = let a = described-room in but_of B.rest (there (here (omega arith) (omega arith)))
 
-        pub number-looked : {w₂ : List ℕ} {n : FileNumber} {r : FoundIndex} → LookedUp main supplementary w₁ w₂ st.table (source_in main supplementary input) u n r
+        pub number-looked : {w₂ : List ℕ} {n : FileNumber} {r : Given FileIndex} → LookedUp main supplementary w₁ w₂ st.table (source_in main supplementary input) u n r
             → Numbered main supplementary w w₂ d st (reached_files (unit_here (source_in main supplementary input) q) (unit_here (source_in main supplementary input) q).header (table_of main supplementary w st.table)) n r
         unfolding header_here
         number-looked {n = n} L =
@@ -158,27 +160,28 @@ module _ {main supplementary w : List ℕ} {d : Places} {st : DeclaringState} (D
 
 -- ---- a warning
 
-module _ {s : List ℕ} {q p kind number : ℕ} {warnings : List ℕ} {st : DeclaringState} {o : Number} (e : absolute_given o ≡ absolute_entry_offset (unit_here s q) (entry_here s p).offset) where
-  pub warns-refused : {warnings' : List ℕ} → o ≡ Number.Missing → Warns s q p kind number warnings warnings' st (Declared.Refused 12)
-  warns-refused is = record { is = sym e ∙ rw is }
+module _ {s : List ℕ} {q p kind number : ℕ} {warnings : List ℕ} {st : DeclaringState} where
+  pub warns-refused : {warnings' : List ℕ} {n : Refusal} → outcome_of (Err n) ≡ absolute_entry_offset (unit_here s q) (entry_here s p).offset → Warns s q p kind number warnings warnings' st (Err n)
+  warns-refused e = record { is = sym e }
 
-  pub warns-written : {warnings' : List ℕ} {n r : ℕ} → o ≡ Number.Is n → Put st.warned (encode 0x46 ((kind ∷ []) ++ bytes_of 8 n ++ bytes_of 8 number)) warnings warnings' r
-      → Warns s q p kind number warnings warnings' st (Declared.Missing (record { count = st.count; table = st.table; warned = r }))
-  warns-written {n = n} is P = record { is = record { offset = n; is = sym e ∙ rw is; put = P; count = refl; table = refl } }
+  pub warns-written : {warnings' : List ℕ} {n r : ℕ} → outcome_of (Ok n) ≡ absolute_entry_offset (unit_here s q) (entry_here s p).offset
+      → Put st.warned (encode 0x46 ((kind ∷ []) ++ bytes_of 8 n ++ bytes_of 8 number)) warnings warnings' r
+      → Warns s q p kind number warnings warnings' st (none_found (record { count = st.count; table = st.table; warned = r }))
+  warns-written {n = n} e P = record { is = (record { offset = n; is = sym e; put = P; count = refl; table = refl }, refl) }
 
 module _ {main supplementary w : List ℕ} {d : Places} {st : DeclaringState} (D : DeclaringIn main supplementary w d st) {s : List ℕ} {q p kind number : ℕ} {warnings warnings' : List ℕ} where
-  declares-warned : (k : WarningKind) (r : Declared) (files : List ℕ) → length files < top → kind ≡ kind_number k → {a : ℕ} → a ≤ st.count + 1 → Warns s q p kind number warnings warnings' st r
+  declares-warned : (k : WarningKind) (r : Result Declared Refusal) (files : List ℕ) → length files < top → kind ≡ kind_number k → {a : ℕ} → a ≤ st.count + 1 → Warns s q p kind number warnings warnings' st r
       → DeclaresCounted (λ y. still y.trail (warn_declaration k (unit_here s q) (entry_here s p) number y)) main supplementary w w files files warnings warnings' d st a a r
   unfolding warn_declaration ◌>>=◌ warnings_bytes each_of
-  declares-warned k (Declared.Refused n) files few kd read W = declares-refused (λ m. m) (λ m. refl) (λ m ws. rw W.is) (but_refl _ _)
-  declares-warned k (Declared.Missing st') files few kd read W =
-      let X = W.is in
+  declares-warned k (Err n) files few kd read W = declares-refused n (λ m. m) (λ m. refl) (λ m ws. rw W.is) (but_refl _ _)
+  declares-warned k (Ok r) files few kd read W =
+      let X = W.is.0 in
       record {
         reads = λ m. m;
         adds = λ m. refl;
         few = rw X.count read;
         new = about k X.offset number ∷ [];
-        is = λ m ws. rw (X.is, X.count, X.table);
+        is = λ m ws. rw (X.is, X.count, X.table, W.is.1);
         after = record {
           grown = rw X.table (grown-none D.files few);
           put = put_as (append-nil (encode 0x46 (warning_payload (about k X.offset number)))) (put-about k kind X.offset number kd X.put);
@@ -186,20 +189,19 @@ module _ {main supplementary w : List ℕ} {d : Places} {st : DeclaringState} (D
         };
         rest = but_refl _ _;
       }
-  declares-warned k (Declared.Found st' file line) files few kd read W = absurd W.is
 
 -- ---- the search
 
 module _ {main supplementary w : List ℕ} {d : Places} {st : DeclaringState} (D : DeclaringIn main supplementary w d st) {s : List ℕ} (at : EntryAt) (ids : FileIndices)
-    (is : s ≡ source_in main supplementary at.input) {o : OwnLine} (O : OwnAt s at.place o) where
-  pub own-nothing : {warnings : List ℕ} → length warnings < top → o ≡ OwnLine.Missing
-      → Owns (own_declaration (place_at main supplementary at).unit (place_at main supplementary at).entry ids) main supplementary w w warnings warnings d st (Declared.Missing st)
+    (is : s ≡ source_in main supplementary at.input) {o : Given OwnLine} (O : OwnAt s at.place o) where
+  pub own-nothing : {warnings : List ℕ} → length warnings < top → o ≡ None
+      → Owns (own_declaration (place_at main supplementary at).unit (place_at main supplementary at).entry ids) main supplementary w w warnings warnings d st (none_found st)
   own-nothing short none_is = record {
-    declares = λ files few a read. declares-missing D few short read (λ k ws.
+    declares = λ files few a read. declares-here D few short None read (λ k ws.
         let e = rw is at (O.is (place_at main supplementary at).unit ids (declaring_at main supplementary w d st ws k)) in ap (still (trail_at w (keys_from d.tables) st.count k)) (e ∙ rw none_is));
   }
 
-  module _ {w₁ : List ℕ} {file : FileNumber} {line : ℕ} {r : FoundIndex} (there-is : o ≡ OwnLine.At file line) (N : Numbered main supplementary w w₁ d st ids file r) (size : length w₁ ≡ length w) where
+  module _ {w₁ : List ℕ} {l : OwnLine} {r : Given FileIndex} (there-is : o ≡ Some l) (N : Numbered main supplementary w w₁ d st ids l.file r) (size : length w₁ ≡ length w) where
     ready : DeclaringIn main supplementary w₁ d st
     ready = lower-ready D N.rest size refl N.holds refl refl D.warned
 
@@ -219,8 +221,8 @@ module _ {main supplementary w : List ℕ} {d : Places} {st : DeclaringState} (D
       ready = ready;
     }
 
-    after : (g : Declaring → Outcome Declaring) (x : Declared) (files warnings warnings₂ : List ℕ) → length files < top → length warnings < top → {a : ℕ}
-        → ((y : Declaring) → declaration_of (place_at main supplementary at).unit (place_at main supplementary at).entry file.0 line (number_of r) y ≡ g y)
+    after : (g : Declaring → Outcome Declaring) (x : Result Declared Refusal) (files warnings warnings₂ : List ℕ) → length files < top → length warnings < top → {a : ℕ}
+        → ((y : Declaring) → declaration_of (place_at main supplementary at).unit (place_at main supplementary at).entry l.file.0 l.line (number_of r) y ≡ g y)
         → DeclaresCounted (λ y. still y.trail (g y)) main supplementary w₁ w₁ files files warnings warnings₂ d st a a x
         → DeclaresCounted (λ y. still y.trail (own_declaration (place_at main supplementary at).unit (place_at main supplementary at).entry ids y)) main supplementary w w₁ files files warnings warnings₂ d st a a x
     after g x files warnings warnings₂ few short to G =
@@ -233,28 +235,28 @@ module _ {main supplementary w : List ℕ} {d : Places} {st : DeclaringState} (D
         ap (still (trail_at w (keys_from d.tables) st.count k)) (e ∙ told) ∙ ap (λ (y : Declaring). still y.trail (g y)) same)
         x G
 
-    pub own-no_file : {warnings warnings₂ : List ℕ} {x : Declared} → length warnings < top → r ≡ FoundIndex.Missing → Warns s at.unit at.place 10 file.0 warnings warnings₂ st x
+    pub own-no_file : {warnings warnings₂ : List ℕ} {x : Result Declared Refusal} → length warnings < top → r ≡ None → Warns s at.unit at.place 10 l.file.0 warnings warnings₂ st x
         → Owns (own_declaration (place_at main supplementary at).unit (place_at main supplementary at).entry ids) main supplementary w w₁ warnings warnings₂ d st x
     unfolding kind_number
     own-no_file {warnings} {warnings₂} {x} short missing W = record {
       declares = λ files few a read.
-          after (warn_declaration invalid_declaration_file (place_at main supplementary at).unit (place_at main supplementary at).entry file.0) x files warnings warnings₂ few short (λ y. rw missing)
+          after (warn_declaration invalid_declaration_file (place_at main supplementary at).unit (place_at main supplementary at).entry l.file.0) x files warnings warnings₂ few short (λ y. rw missing)
           (declares-warned ready invalid_declaration_file x files few refl read (rw is at W));
     }
 
-    pub own-long_line : {warnings warnings₂ : List ℕ} {x : Declared} {i : FileIndex} → length warnings < top → r ≡ FoundIndex.Number i → 2 ^ 32 ≤ line → Warns s at.unit at.place 11 line warnings warnings₂ st x
+    pub own-long_line : {warnings warnings₂ : List ℕ} {x : Result Declared Refusal} {i : FileIndex} → length warnings < top → r ≡ Some i → 2 ^ 32 ≤ l.line → Warns s at.unit at.place 11 l.line warnings warnings₂ st x
         → Owns (own_declaration (place_at main supplementary at).unit (place_at main supplementary at).entry ids) main supplementary w w₁ warnings warnings₂ d st x
     unfolding kind_number
     own-long_line {warnings} {warnings₂} {x} short number long W = record {
       declares = λ files few a read.
-          after (warn_declaration invalid_declaration_line (place_at main supplementary at).unit (place_at main supplementary at).entry line) x files warnings warnings₂ few short (λ y. rw (number, le-ltb line (2 ^ 32) long))
+          after (warn_declaration invalid_declaration_line (place_at main supplementary at).unit (place_at main supplementary at).entry l.line) x files warnings warnings₂ few short (λ y. rw (number, le-ltb l.line (2 ^ 32) long))
           (declares-warned ready invalid_declaration_line x files few refl read (rw is at W));
     }
 
-    pub own-found : {warnings : List ℕ} {i : FileIndex} → length warnings < top → r ≡ FoundIndex.Number i → line < 2 ^ 32
-        → Owns (own_declaration (place_at main supplementary at).unit (place_at main supplementary at).entry ids) main supplementary w w₁ warnings warnings d st (Declared.Found st i line)
-    own-found {warnings} {i} short number small = record {
+    pub own-found : {warnings : List ℕ} {i : FileIndex} {m : ℕ} → length warnings < top → r ≡ Some i → (l.line < 2 ^ 32) × (m ≡ l.line)
+        → Owns (own_declaration (place_at main supplementary at).unit (place_at main supplementary at).entry ids) main supplementary w w₁ warnings warnings d st (Ok (record { state = st; found = Some (record { file = i; line = m }) }))
+    own-found {warnings} {i} {m} short number small = record {
       declares = λ files few a read.
-          after (declaration_of (place_at main supplementary at).unit (place_at main supplementary at).entry file.0 line (some i)) (Declared.Found st i line) files warnings warnings few short (λ y. rw number)
-          (declares-found ready few short (λ k ws. rw (lt-ltb line (2 ^ 32) small)));
+          after (declaration_of (place_at main supplementary at).unit (place_at main supplementary at).entry l.file.0 l.line (some i)) (Ok (record { state = st; found = Some (record { file = i; line = m }) })) files warnings warnings few short (λ y. rw number)
+          (declares-here ready few short (Some (record { file = i; line = m })) read (λ k ws. rw (lt-ltb l.line (2 ^ 32) small.0, small.1)));
     }

@@ -6,6 +6,8 @@ use mathlib.Core.Option.{none}
 use Prim.Native.Nat.{ℕ, ◌+◌, ◌-◌, ◌≤◌, ◌<◌}
 use native.Mathlib.Omega.{arith}
 use lib.ListN.{length}
+use Rattle.std.specs.Prelude.{None, Result, Ok, Err}
+use Rattle.tlv.specs.declared.refusal.Refusal.{Refusal}
 use Rattle.tlv.specs.Outcome.{Outcome, refused, done}
 use Rattle.tlv.specs.Lists.{exists}
 use Rattle.tlv.proofs.OutcomeLaws.{Gives, gives}
@@ -30,12 +32,11 @@ use Rattle.references.specs.Names.{dwarf_of, search_source, place_at, trail_at, 
 use Rattle.declarations.specs.declared.declaring.Places.{Places}
 use Rattle.declarations.specs.declared.declaring.DeclaringState.{DeclaringState}
 use Rattle.declarations.specs.declared.declaring.Declared.{Declared}
-use Rattle.declarations.specs.declared.aims.Joined.{Joined}
 use Rattle.declarations.specs.declared.aims.Aim.{Aim}
-use Rattle.declarations.specs.Declarations.{indices_at, declaring_at, DeclaringIn, DeclaredState, searched, DeclaresCounted, Reaching, resolve_reference, resolve_absolute}
+use Rattle.declarations.specs.Declarations.{none_found, indices_at, declaring_at, DeclaringIn, DeclaredState, searched, DeclaresCounted, Reaching, resolve_reference, resolve_absolute}
 use Rattle.declarations.specs.DeclaredSteps.{JoinedTo, Joins, follow_offset, AimOutside, AimEntry, Aimed}
 use Rattle.declarations.proofs.DeclareFrames.{lower-keys, lower-ready, lower-rest, pushed_rest, pushed-table, pushed_map, pushed_ready}
-use Rattle.declarations.proofs.DeclareLaws.{declares-missing, declares-refused, declares-as, declares-after}
+use Rattle.declarations.proofs.DeclareLaws.{declares-here, declares-refused, declares-as, declares-after}
 use Rattle.declarations.proofs.ResolveLaws.{Far, absolute-far, same-unit, indices-as, reaching_as}
 
 abbrev more : DeclaringState → DeclaringState
@@ -70,22 +71,22 @@ module _ {main supplementary w w₁ : List ℕ} {d : Places} {st : DeclaringStat
 
 module _ {main supplementary w : List ℕ} {d : Places} {st : DeclaringState} (D : DeclaringIn main supplementary w d st) (at : EntryAt) (reached : Bool) (name : ℕ) where
   pub reference-nothing : {files warnings : List ℕ} {a : ℕ} (is : FileIndices) → length files < top → length warnings < top → a ≤ st.count + 1 → (y : Way) → y ≡ Way.Nothing
-      → Ways (follow_from main supplementary at name) main supplementary w d.tables st.count at.depth y
-      → DeclaresCounted (resolve_reference (64 - (at.depth + 1)) main supplementary at is name) main supplementary w w files files warnings warnings d st a a (Declared.Missing st)
+      → Ways (follow_from main supplementary at name) main supplementary w d.tables st.count at.depth (Ok y)
+      → DeclaresCounted (resolve_reference (64 - (at.depth + 1)) main supplementary at is name) main supplementary w w files files warnings warnings d st a a (none_found st)
   unfolding resolve_reference
-  reference-nothing is few short read y to W = let e = rw to at W.is in declares-missing D few short read (λ k ws. rw (e k))
+  reference-nothing is few short read y to W = let e = rw to at W.is in declares-here D few short None read (λ k ws. rw (e k))
 
-  pub reference-refused : {files warnings : List ℕ} {a : ℕ} (is : FileIndices) (n : ℕ) (y : Way) → y ≡ Way.Refused n
-      → Ways (follow_from main supplementary at name) main supplementary w d.tables st.count at.depth y
-      → DeclaresCounted (resolve_reference (64 - (at.depth + 1)) main supplementary at is name) main supplementary w w files files warnings warnings d st a a (Declared.Refused n)
+  pub reference-refused : {files warnings : List ℕ} {a : ℕ} (is : FileIndices) (n : Refusal)
+      → Ways (follow_from main supplementary at name) main supplementary w d.tables st.count at.depth (Err n)
+      → DeclaresCounted (resolve_reference (64 - (at.depth + 1)) main supplementary at is name) main supplementary w w files files warnings warnings d st a a (Err n)
   unfolding resolve_reference
-  reference-refused is n y to W = let e = rw to at W.is in declares-refused (λ k. k) (λ k. refl) (λ k ws. rw (e.1 k)) (but_refl _ _)
+  reference-refused is n W = declares-refused n (λ k. k) (λ k. refl) (λ k ws. rw (W.is k)) (but_refl _ _)
 
-  pub entry_next : (next : EntryAt) (target : ℕ) (y : Way) → y ≡ Way.Entry next target → Ways (follow_from main supplementary at name) main supplementary w d.tables st.count at.depth y
+  pub entry_next : (next : EntryAt) (target : ℕ) (y : Way) → y ≡ Way.Entry next target → Ways (follow_from main supplementary at name) main supplementary w d.tables st.count at.depth (Ok y)
       → EntryNext (follow_from main supplementary at name) main supplementary w d.tables st.count at.depth next target
   entry_next next target y to W = rw to at W.is
 
-  pub offset-next : (next : OffsetAt) (y : Way) → y ≡ Way.Offset next → Ways (follow_from main supplementary at name) main supplementary w d.tables st.count at.depth y
+  pub offset-next : (next : OffsetAt) (y : Way) → y ≡ Way.Offset next → Ways (follow_from main supplementary at name) main supplementary w d.tables st.count at.depth (Ok y)
       → OffsetNext (follow_from main supplementary at name) main supplementary w d.tables st.count at.depth next
   offset-next next y to W = rw to at W.is
 
@@ -98,7 +99,7 @@ module _ {main supplementary w : List ℕ} {d : Places} {st : DeclaringState} (D
       pub entry-reaching : Reaching main supplementary w₁ (more st) next reached
       entry-reaching = reaching_as R (pushed-table D N.possible N.new P) next-unit
 
-      pub reference-entry : {files warnings w₂ files₂ warnings₂ : List ℕ} {a b : ℕ} → length w₁ ≡ length w → length files < top → length warnings < top → (r : Declared)
+      pub reference-entry : {files warnings w₂ files₂ warnings₂ : List ℕ} {a b : ℕ} → length w₁ ≡ length w → length files < top → length warnings < top → (r : Result Declared Refusal)
           → DeclaresCounted (counted_declaration (64 - next.depth) (dwarf_of main supplementary) (place_at main supplementary next) (indices_at main supplementary w₁ d (more st) next.input next.unit reached))
           main supplementary w₁ w₂ files files₂ warnings warnings₂ d (more st) (a + 1) b r
           → DeclaresCounted (resolve_reference (64 - (at.depth + 1)) main supplementary at (indices_at main supplementary w d st at.input at.unit reached) name)
@@ -122,7 +123,7 @@ module _ {main supplementary w : List ℕ} {d : Places} {st : DeclaringState} (D
       go (same_unit p) h = absurd h
       go (by_offset p) h = refl
 
-  pub reference-offset : {w₂ files files₂ warnings warnings₂ : List ℕ} {a b : ℕ} (is : FileIndices) {next : OffsetAt} (r : Declared)
+  pub reference-offset : {w₂ files files₂ warnings warnings₂ : List ℕ} {a b : ℕ} (is : FileIndices) {next : OffsetAt} (r : Result Declared Refusal)
       → OffsetNext (follow_from main supplementary at name) main supplementary w d.tables st.count at.depth next
       → DeclaresCounted (resolve_absolute (64 - next.depth) main supplementary next) main supplementary w w₂ files files₂ warnings warnings₂ d st a b r
       → DeclaresCounted (resolve_reference (64 - (at.depth + 1)) main supplementary at is name) main supplementary w w₂ files files₂ warnings warnings₂ d st a b r
@@ -134,25 +135,25 @@ module _ {main supplementary w : List ℕ} {d : Places} {st : DeclaringState} (D
 -- ---- an offset of a section
 
 module _ {main supplementary w : List ℕ} {d : Places} {st : DeclaringState} (D : DeclaringIn main supplementary w d st) (at : OffsetAt) where
-  pub absolute-seen : {files warnings : List ℕ} {c : ℕ} → length files < top → length warnings < top → c ≤ st.count + 1 → (y : Aim) → y ≡ Aim.Seen → Aimed main supplementary w d.tables st.count at y
-      → DeclaresCounted (resolve_absolute (64 - at.depth) main supplementary at) main supplementary w w files files warnings warnings d st c c (Declared.Missing st)
+  pub absolute-seen : {files warnings : List ℕ} {c : ℕ} → length files < top → length warnings < top → c ≤ st.count + 1 → (y : Aim) → y ≡ Aim.Seen → Aimed main supplementary w d.tables st.count at (Ok y)
+      → DeclaresCounted (resolve_absolute (64 - at.depth) main supplementary at) main supplementary w w files files warnings warnings d st c c (none_found st)
   unfolding resolve_absolute follow_offset
-  absolute-seen few short read y to A = let e = rw to at A.is in declares-missing D few short read (λ k ws. rw (e k))
+  absolute-seen few short read y to A = let e = rw to at A.is in declares-here D few short None read (λ k ws. rw (e k))
 
-  pub absolute-refused : {files warnings : List ℕ} {c : ℕ} (n : ℕ) (y : Aim) → y ≡ Aim.Refused n → Aimed main supplementary w d.tables st.count at y
-      → DeclaresCounted (resolve_absolute (64 - at.depth) main supplementary at) main supplementary w w files files warnings warnings d st c c (Declared.Refused n)
+  pub absolute-refused : {files warnings : List ℕ} {c : ℕ} (n : Refusal) → Aimed main supplementary w d.tables st.count at (Err n)
+      → DeclaresCounted (resolve_absolute (64 - at.depth) main supplementary at) main supplementary w w files files warnings warnings d st c c (Err n)
   unfolding resolve_absolute follow_offset
-  absolute-refused n y to A = let e = rw to at A.is in declares-refused (λ k. k) (λ k. refl) (λ k ws. rw (e k)) (but_refl _ _)
+  absolute-refused n A = declares-refused n (λ k. k) (λ k. refl) (λ k ws. rw (A.is k)) (but_refl _ _)
 
-  pub aim_out : (y : Aim) → y ≡ Aim.Outside → Aimed main supplementary w d.tables st.count at y → AimOutside main supplementary w d.tables st.count at
+  pub aim_out : (y : Aim) → y ≡ Aim.Outside → Aimed main supplementary w d.tables st.count at (Ok y) → AimOutside main supplementary w d.tables st.count at
   aim_out y to A = rw to at A.is
 
-  pub aim_in : (next : EntryAt) (y : Aim) → y ≡ Aim.Entry next → Aimed main supplementary w d.tables st.count at y → AimEntry main supplementary w d.tables st.count at next
+  pub aim_in : (next : EntryAt) (y : Aim) → y ≡ Aim.Entry next → Aimed main supplementary w d.tables st.count at (Ok y) → AimEntry main supplementary w d.tables st.count at next
   aim_in next y to A = rw to at A.is
 
   module _ (a : Aims main supplementary at) {w₁ : List ℕ} (P : Pushed w w₁ d.tables st.count (key_in at.source at.target)) (size : length w₁ ≡ length w) where
     pub absolute-outside : {files warnings : List ℕ} {c : ℕ} → length files < top → length warnings < top → c ≤ st.count + 1 → AimOutside main supplementary w d.tables st.count at
-        → DeclaresCounted (resolve_absolute (64 - at.depth) main supplementary at) main supplementary w w₁ files files warnings warnings d st c c (Declared.Missing (more st))
+        → DeclaresCounted (resolve_absolute (64 - at.depth) main supplementary at) main supplementary w w₁ files files warnings warnings d st c c (none_found (more st))
     unfolding resolve_absolute follow_offset
     absolute-outside {files} {warnings} few short read A =
         let S = pushed-state D a.possible A.new P size files warnings few short in
@@ -166,7 +167,7 @@ module _ {main supplementary w : List ℕ} {d : Places} {st : DeclaringState} (D
           rest = pushed_rest D a.possible A.new P;
         }
 
-    module _ {next : EntryAt} (A : AimEntry main supplementary w d.tables st.count at next) {files files₂ w₂ : List ℕ} {j : Joined}
+    module _ {next : EntryAt} (A : AimEntry main supplementary w d.tables st.count at next) {files files₂ w₂ : List ℕ} {j : Result StoredFiles Refusal}
         (J : Joins main supplementary w₁ w₂ files files₂ d st.table (unit_here (source_in main supplementary next.input) next.unit) j) where
       ready₁ : DeclaringIn main supplementary w₁ d (more st)
       ready₁ = pushed_ready D a.possible A.new P size
@@ -174,14 +175,14 @@ module _ {main supplementary w : List ℕ} {d : Places} {st : DeclaringState} (D
       rest₂ : KeptBut w w₂ (searched main supplementary d st.table)
       rest₂ = but_trans (pushed_rest D a.possible A.new P) (lower-rest ready₁ J.rest)
 
-      pub absolute-join-refused : {warnings : List ℕ} {c : ℕ} (n : ℕ) → j ≡ Joined.Refused n
-          → DeclaresCounted (resolve_absolute (64 - at.depth) main supplementary at) main supplementary w w₂ files files₂ warnings warnings d st c (c + 1) (Declared.Refused n)
+      pub absolute-join-refused : {warnings : List ℕ} {c : ℕ} (n : Refusal) → j ≡ Err n
+          → DeclaresCounted (resolve_absolute (64 - at.depth) main supplementary at) main supplementary w w₂ files files₂ warnings warnings d st c (c + 1) (Err n)
       unfolding resolve_absolute follow_offset
       absolute-join-refused n to =
           let e = rw to at J.is in
-          declares-refused (λ k. k + 1) (λ k. omega arith) (λ k ws. rw (A.is k, ← pushed-table D a.possible A.new P, e)) rest₂
+          declares-refused n (λ k. k + 1) (λ k. omega arith) (λ k ws. rw (A.is k, ← pushed-table D a.possible A.new P, e)) rest₂
 
-      module _ (t : StoredFiles) (to : j ≡ Joined.Table t) (size₂ : length w₂ ≡ length w₁) where
+      module _ (t : StoredFiles) (to : j ≡ Ok t) (size₂ : length w₂ ≡ length w₁) where
         joined : JoinedTo main supplementary w₁ w₂ files files₂ st.table t (unit_here (source_in main supplementary next.input) next.unit)
         joined = rw to at J.is
 
@@ -200,7 +201,7 @@ module _ {main supplementary w : List ℕ} {d : Places} {st : DeclaringState} (D
           ready = joined-ready;
         }
 
-        pub absolute-entry : {warnings w₃ files₃ warnings₃ : List ℕ} {c b : ℕ} → length files < top → length warnings < top → (r : Declared)
+        pub absolute-entry : {warnings w₃ files₃ warnings₃ : List ℕ} {c b : ℕ} → length files < top → length warnings < top → (r : Result Declared Refusal)
             → DeclaresCounted (counted_declaration (64 - next.depth) (dwarf_of main supplementary) (place_at main supplementary next)
             (indices_at main supplementary w₂ d (record { count = st.count + 1; table = t; warned = st.warned }) next.input next.unit true))
             main supplementary w₂ w₃ files₂ files₃ warnings warnings₃ d (record { count = st.count + 1; table = t; warned = st.warned }) (c + 1) b r

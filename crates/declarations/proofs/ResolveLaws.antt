@@ -1,14 +1,15 @@
 -- The members of the declaration search's cycle: the ways through an entry, a reference and an offset of a section.
-use mathlib.Core.Path.{◌≡◌, refl, sym, ap, ◌∙◌}
+use mathlib.Core.Path.{◌≡◌, refl, sym, ap, subst, ◌∙◌}
 use mathlib.Core.Bool.{Bool, true, false, cond}
 use mathlib.Core.List.{List, [], ◌∷◌}
 use mathlib.Core.Option.{Option, none, some}
 use Prim.Native.Nat.{ℕ, suc, ◌+◌, ◌-◌, ◌≤◌, ◌<◌}
 use native.Mathlib.Omega.{arith}
-use types.Run.{OneOf}
-use denote.Enum.Declared.{tag_of}
 use lib.Dec.{eqb}
 use lib.ListN.{length}
+use Rattle.std.specs.Prelude.{None, Result, Ok, Err, is_some}
+use Rattle.std.specs.declared.option.Option.{Option as Given}
+use Rattle.tlv.specs.declared.refusal.Refusal.{Refusal}
 use Rattle.tlv.specs.Outcome.{Outcome, refused, done}
 use Rattle.tlv.specs.Model.{CompilationUnit, Attribute, LineHeader}
 use Rattle.tlv.proofs.OutcomeLaws.{Gives, gives, gives_none, gives-cond, gives-bind, gives-map, given}
@@ -32,11 +33,11 @@ use Rattle.references.proofs.ReadBounds.{bounded_at}
 use Rattle.references.proofs.GivesLaws.{counted-assoc}
 use Rattle.declarations.specs.declared.declaring.Places.{Places}
 use Rattle.declarations.specs.declared.declaring.DeclaringState.{DeclaringState}
+use Rattle.declarations.specs.declared.declaring.Declaration.{Declaration}
 use Rattle.declarations.specs.declared.declaring.Declared.{Declared}
-use Rattle.declarations.specs.Declarations.{reached_files, ReachedUnit, indices_at, declaring_at, DeclaringIn, DeclaredAs, Declares, CountedAs, DeclaresCounted, LineRead, searched, Reaching, resolve_reference}
-use Rattle.declarations.specs.contracts.declaring.Declared.{the_type}
+use Rattle.declarations.specs.Declarations.{none_found, reached_files, ReachedUnit, indices_at, declaring_at, DeclaringIn, DeclaredAs, Declares, CountedAs, DeclaresCounted, LineRead, searched, Reaching, resolve_reference}
 use Rattle.declarations.proofs.DeclareFrames.{searched-map}
-use Rattle.declarations.proofs.DeclareLaws.{declares-missing, declares-as, and_then, then-missing, then_stop, then_last}
+use Rattle.declarations.proofs.DeclareLaws.{Stops, none_is, declares-here, declares-as, and_then, then-missing, then_stop, then_last}
 
 -- ---- a reference leads to its own unit, or elsewhere by an offset
 
@@ -135,9 +136,9 @@ module _ {main supplementary w : List ℕ} {d : Places} {st : DeclaringState} (D
     (R : Reaching main supplementary w st at reached) where
   pub resolve-deep : {files warnings : List ℕ} {a : ℕ} → length files < top → length warnings < top → a ≤ st.count + 1 → 64 ≤ at.depth
       → DeclaresCounted (counted_declaration (64 - at.depth) (dwarf_of main supplementary) (place_at main supplementary at) (indices_at main supplementary w d st at.input at.unit reached))
-      main supplementary w w files files warnings warnings d st a a (Declared.Missing st)
+      main supplementary w w files files warnings warnings d st a a (none_found st)
   unfolding counted_declaration
-  resolve-deep few short read deep = let z : 64 - at.depth ≡ 0 = omega arith in rw z (declares-missing D few short read (λ k ws. refl))
+  resolve-deep few short read deep = let z : 64 - at.depth ≡ 0 = omega arith in rw z (declares-here D few short None read (λ k ws. refl))
 
   module _ (shallow : at.depth < 64) where
     step : (x : Declaring) → (counted_declaration (64 - at.depth) (dwarf_of main supplementary) (place_at main supplementary at) (indices_at main supplementary w d st at.input at.unit reached)) x
@@ -162,7 +163,7 @@ module _ {main supplementary w : List ℕ} {d : Places} {st : DeclaringState} (D
     none_left x = refl
 
     module _ {files warnings w₁ files₁ warnings₁ : List ℕ} {a : ℕ} where
-      pub resolve-own : (r : Declared) → OneOf (0 ∷ 2 ∷ []) (tag_of the_type r)
+      pub resolve-own : (r : Result Declared Refusal) → Stops r
           → DeclaresCounted (λ y. after y.trail (own_declaration (place_at main supplementary at).unit (place_at main supplementary at).entry (indices_at main supplementary w d st at.input at.unit reached) y))
           main supplementary w w₁ files files₁ warnings warnings₁ d st a a r
           → DeclaresCounted (counted_declaration (64 - at.depth) (dwarf_of main supplementary) (place_at main supplementary at) (indices_at main supplementary w d st at.input at.unit reached))
@@ -170,18 +171,18 @@ module _ {main supplementary w : List ℕ} {d : Places} {st : DeclaringState} (D
       resolve-own r stop F = declares-as r (λ k ws. step _) (then_stop _ r stop F)
 
       module _ {st₁ : DeclaringState} (F : DeclaresCounted (λ y. after y.trail (own_declaration (place_at main supplementary at).unit (place_at main supplementary at).entry (indices_at main supplementary w d st at.input at.unit reached) y))
-          main supplementary w w₁ files files₁ warnings warnings₁ d st a a (Declared.Missing st₁)) where
+          main supplementary w w₁ files files₁ warnings warnings₁ d st a a (none_found st₁)) where
         pub first-reaching : Reaching main supplementary w₁ st₁ at reached
         first-reaching = reaching-grown D st₁ R F.after.grown
 
         module _ {w₂ files₂ warnings₂ : List ℕ} {b : ℕ} where
-          first-as : {r : Declared} → DeclaresCounted (resolve_reference (64 - (at.depth + 1)) main supplementary at (indices_at main supplementary w₁ d st₁ at.input at.unit reached) 0x31)
+          first-as : {r : Result Declared Refusal} → DeclaresCounted (resolve_reference (64 - (at.depth + 1)) main supplementary at (indices_at main supplementary w₁ d st₁ at.input at.unit reached) 0x31)
               main supplementary w₁ w₂ files₁ files₂ warnings₁ warnings₂ d st₁ a b r
               → DeclaresCounted (resolve_reference (64 - (at.depth + 1)) main supplementary at (indices_at main supplementary w d st at.input at.unit reached) 0x31)
               main supplementary w₁ w₂ files₁ files₂ warnings₁ warnings₂ d st₁ a b r
           first-as G = rw (indices-grown D st₁ R F.after.grown F.rest) at G
 
-          pub resolve-first : (r : Declared) → OneOf (0 ∷ 2 ∷ []) (tag_of the_type r)
+          pub resolve-first : (r : Result Declared Refusal) → Stops r
               → DeclaresCounted (resolve_reference (64 - (at.depth + 1)) main supplementary at (indices_at main supplementary w₁ d st₁ at.input at.unit reached) 0x31)
               main supplementary w₁ w₂ files₁ files₂ warnings₁ warnings₂ d st₁ a b r
               → DeclaresCounted (counted_declaration (64 - at.depth) (dwarf_of main supplementary) (place_at main supplementary at) (indices_at main supplementary w d st at.input at.unit reached))
@@ -190,11 +191,11 @@ module _ {main supplementary w : List ℕ} {d : Places} {st : DeclaringState} (D
               declares-as r (λ k ws. step _) (then-missing r F (declares-as r (λ k ws. turn 0x31 (0x47 ∷ []) _) (then_stop _ r stop (first-as G))))
 
           module _ {st₂ : DeclaringState} (G : DeclaresCounted (resolve_reference (64 - (at.depth + 1)) main supplementary at (indices_at main supplementary w₁ d st₁ at.input at.unit reached) 0x31)
-              main supplementary w₁ w₂ files₁ files₂ warnings₁ warnings₂ d st₁ a b (Declared.Missing st₂)) where
+              main supplementary w₁ w₂ files₁ files₂ warnings₁ warnings₂ d st₁ a b (none_found st₂)) where
             pub second-reaching : Reaching main supplementary w₂ st₂ at reached
             second-reaching = reaching-grown F.after.ready st₂ first-reaching G.after.grown
 
-            pub resolve-second : {w₃ files₃ warnings₃ : List ℕ} {e : ℕ} (r : Declared)
+            pub resolve-second : {w₃ files₃ warnings₃ : List ℕ} {e : ℕ} (r : Result Declared Refusal)
                 → DeclaresCounted (resolve_reference (64 - (at.depth + 1)) main supplementary at (indices_at main supplementary w₂ d st₂ at.input at.unit reached) 0x47)
                 main supplementary w₂ w₃ files₂ files₃ warnings₂ warnings₃ d st₂ b e r
                 → DeclaresCounted (counted_declaration (64 - at.depth) (dwarf_of main supplementary) (place_at main supplementary at) (indices_at main supplementary w d st at.input at.unit reached))
@@ -205,15 +206,16 @@ module _ {main supplementary w : List ℕ} {d : Places} {st : DeclaringState} (D
                 (then-missing r (first-as G) (declares-as r (λ k ws. turn 0x47 [] _) (then_last r none_left I)))))
 
 -- a search that found nothing, and what it leaves
-module _ {f : Declaring → Counted Declaring} {main supplementary w w' files files' warnings warnings' : List ℕ} {d : Places} {st st₁ : DeclaringState} {a b : ℕ} where
-  pub missing-is : {r : Declared} → DeclaresCounted f main supplementary w w' files files' warnings warnings' d st a b r → r ≡ Declared.Missing st₁
-      → DeclaresCounted f main supplementary w w' files files' warnings warnings' d st a b (Declared.Missing st₁)
-  missing-is F e = rw e at F
+module _ {f : Declaring → Counted Declaring} {main supplementary w w' files files' warnings warnings' : List ℕ} {d : Places} {st : DeclaringState} {a b : ℕ} where
+  pub missing-is : (r : Declared) → is_some r.found ≡ false → DeclaresCounted f main supplementary w w' files files' warnings warnings' d st a b (Ok r)
+      → DeclaresCounted f main supplementary w w' files files' warnings warnings' d st a b (none_found r.state)
+  missing-is r h F =
+      subst (λ (o : Given Declaration). DeclaresCounted f main supplementary w w' files files' warnings warnings' d st a b (Ok (record { state = r.state; found = o }))) (none_is r.found h) F
 
-  pub missing-ready : DeclaresCounted f main supplementary w w' files files' warnings warnings' d st a b (Declared.Missing st₁) → DeclaringIn main supplementary w' d st₁
+  pub missing-ready : {st₁ : DeclaringState} → DeclaresCounted f main supplementary w w' files files' warnings warnings' d st a b (none_found st₁) → DeclaringIn main supplementary w' d st₁
   missing-ready F = F.after.ready
 
-  pub missing-few : DeclaresCounted f main supplementary w w' files files' warnings warnings' d st a b (Declared.Missing st₁) → b ≤ st₁.count + 1
+  pub missing-few : {st₁ : DeclaringState} → DeclaresCounted f main supplementary w w' files files' warnings warnings' d st a b (none_found st₁) → b ≤ st₁.count + 1
   missing-few F = F.few
 
 -- the search of an entry of the unit that is imported, as the definition says it: from no followed targets on
@@ -226,17 +228,15 @@ declaration-line main supplementary w d st q p is ws none-followed = rw none-fol
 -- ---- without the count, and the count
 
 module _ (main supplementary w' : List ℕ) (d : Places) (ws new : List Warning) (n : ℕ) where
-  outcome-as : (c : Counted Declaring) (o : Outcome Declaring) (r : Declared) → c.outcome ≡ o → CountedAs main supplementary w' d ws n new c r → DeclaredAs main supplementary w' d ws n new o r
-  outcome-as c o (Declared.Refused m) e h = sym e ∙ ap (λ (x : Counted Declaring). x.outcome) h
-  outcome-as c o (Declared.Missing st') e h = sym e ∙ ap (λ (x : Counted Declaring). x.outcome) h
-  outcome-as c o (Declared.Found st' file line) e h = sym e ∙ ap (λ (x : Counted Declaring). x.outcome) h
+  outcome-as : (c : Counted Declaring) (o : Outcome Declaring) (r : Result Declared Refusal) → c.outcome ≡ o → CountedAs main supplementary w' d ws n new c r → DeclaredAs main supplementary w' d ws n new o r
+  outcome-as c o (Err m) e h = sym e ∙ ap (λ (x : Counted Declaring). x.outcome) h
+  outcome-as c o (Ok r) e h = sym e ∙ ap (λ (x : Counted Declaring). x.outcome) h
 
-  reads_as : (c : Counted Declaring) (r : Declared) → CountedAs main supplementary w' d ws n new c r → c.reads ≡ n
-  reads_as c (Declared.Refused m) h = ap (λ (x : Counted Declaring). x.reads) h
-  reads_as c (Declared.Missing st') h = ap (λ (x : Counted Declaring). x.reads) h
-  reads_as c (Declared.Found st' file line) h = ap (λ (x : Counted Declaring). x.reads) h
+  reads_as : (c : Counted Declaring) (r : Result Declared Refusal) → CountedAs main supplementary w' d ws n new c r → c.reads ≡ n
+  reads_as c (Err m) h = ap (λ (x : Counted Declaring). x.reads) h
+  reads_as c (Ok r) h = ap (λ (x : Counted Declaring). x.reads) h
 
-module _ {main supplementary w w' files files' warnings warnings' : List ℕ} {d : Places} {st : DeclaringState} {b : ℕ} (q p : ℕ) (r : Declared)
+module _ {main supplementary w w' files files' warnings warnings' : List ℕ} {d : Places} {st : DeclaringState} {b : ℕ} (q p : ℕ) (r : Result Declared Refusal)
     (G : DeclaresCounted (counted_declaration 64 (dwarf_of main supplementary) (place_at main supplementary (start_at q p)) (indices_in w d.indices)) main supplementary w w' files files' warnings warnings' d st 1 b r) where
   pub line_plain : Declares (resolve_declaration 64 (dwarf_of main supplementary) (place_at main supplementary (start_at q p)) (indices_in w d.indices)) main supplementary w w' files files' warnings warnings' d st r
   line_plain = record {

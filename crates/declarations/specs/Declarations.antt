@@ -1,7 +1,10 @@
 -- Contract. What the declaration search promises: the file and line, the files that join the table, the warnings.
-use Rattle.std.specs.Prelude.{ℕ, ◌+◌, ◌*◌, ◌≤◌, ◌≡◌, ◌⊎◌, Bool, true, cond, List, [], ◌∷◌, ◌++◌}
+use Rattle.std.specs.Prelude.{Some, None, Result, Ok, Err, ℕ, ◌+◌, ◌*◌, ◌≤◌, ◌≡◌, ◌⊎◌, Bool, true, cond, List, [], ◌∷◌, ◌++◌}
 use Rattle.std.proofs.Math.Option.{Option, none, some}
+use Rattle.std.specs.declared.option.Option.{Option as Given}
 use Rattle.tlv.specs.declared.model.DebugSource.{DebugSource}
+use Rattle.tlv.specs.declared.refusal.Refusal.{Refusal}
+use Rattle.tlv.specs.Refusals.{number_of}
 use Rattle.tlv.specs.Outcome.{Outcome, refused, done}
 use Rattle.tlv.specs.Model.{CompilationUnit, LineHeader}
 use Rattle.buffers.specs.Buffer.{top, Put}
@@ -25,6 +28,7 @@ use Rattle.references.specs.Keys.{keys_from, keys_extent}
 use Rattle.references.specs.Names.{trail_at, SearchIn, dwarf_of, search_source, follow_from}
 use Rattle.declarations.specs.declared.declaring.Places.{Places}
 use Rattle.declarations.specs.declared.declaring.DeclaringState.{DeclaringState}
+use Rattle.declarations.specs.declared.declaring.Declaration.{Declaration}
 use Rattle.declarations.specs.declared.declaring.Declared.{Declared}
 
 -- the numbers of the files of a unit that was reached by section offset, all of which are in the table
@@ -75,12 +79,19 @@ pub record DeclaringIn (main supplementary w : List ℕ) (d : Places) (st : Decl
   pub room-supplementary : (q : ℕ) → UnitOf supplementary q
       → map_extent supplementary q ≤ d.room
 
+-- the state with what was found
+abbrev pub found_in : Given Declaration → Declaring → Declaring
+found_in None x = x
+found_in (Some l) x = with_found x (some (record { address = 0; file = l.file; line = l.line; column = 0 }))
+
+-- the answer of a search that found nothing
+abbrev pub none_found : DeclaringState → Result Declared Refusal
+none_found st = Ok (record { state = st; found = None })
+
 -- what an answer says of the definition's outcome, from any warnings and any number of reads
-abbrev pub DeclaredAs : List ℕ → List ℕ → List ℕ → Places → List Warning → ℕ → List Warning → Outcome Declaring → Declared → Type 0
-DeclaredAs main supplementary w' d ws reads new o (Declared.Refused n) = o ≡ refused n
-DeclaredAs main supplementary w' d ws reads new o (Declared.Missing st') = o ≡ done (declaring_at main supplementary w' d st' (ws ++ new) reads)
-DeclaredAs main supplementary w' d ws reads new o (Declared.Found st' file line) =
-    o ≡ done (with_found (declaring_at main supplementary w' d st' (ws ++ new) reads) (some (record { address = 0; file = file; line = line; column = 0 })))
+abbrev pub DeclaredAs : List ℕ → List ℕ → List ℕ → Places → List Warning → ℕ → List Warning → Outcome Declaring → Result Declared Refusal → Type 0
+DeclaredAs main supplementary w' d ws reads new o (Ok r) = o ≡ done (found_in r.found (declaring_at main supplementary w' d r.state (ws ++ new) reads))
+DeclaredAs main supplementary w' d ws reads new o (Err e) = o ≡ refused (number_of e)
 
 -- the state after, its new files and warnings written
 pub record DeclaredState (main supplementary w w' files files' warnings warnings' : List ℕ) (d : Places) (st st' : DeclaringState)
@@ -90,12 +101,10 @@ pub record DeclaredState (main supplementary w w' files files' warnings warnings
   pub ready : DeclaringIn main supplementary w' d st'
 
 abbrev pub DeclaredAfter : List ℕ → List ℕ → List ℕ → List ℕ → List ℕ → List ℕ → List ℕ → List ℕ → Places → DeclaringState
-    → List Warning → Declared → Type 0
-DeclaredAfter main supplementary w w' files files' warnings warnings' d st new (Declared.Refused n) = Unit
-DeclaredAfter main supplementary w w' files files' warnings warnings' d st new (Declared.Missing st') =
-    DeclaredState main supplementary w w' files files' warnings warnings' d st st' new
-DeclaredAfter main supplementary w w' files files' warnings warnings' d st new (Declared.Found st' file line) =
-    DeclaredState main supplementary w w' files files' warnings warnings' d st st' new
+    → List Warning → Result Declared Refusal → Type 0
+DeclaredAfter main supplementary w w' files files' warnings warnings' d st new (Ok r) =
+    DeclaredState main supplementary w w' files files' warnings warnings' d st r.state new
+DeclaredAfter main supplementary w w' files files' warnings warnings' d st new (Err e) = Unit
 
 -- what a search writes: the file table, a unit's directories and map, and its targets
 abbrev pub lower : Places → StoredFiles → List (ℕ × ℕ)
@@ -106,7 +115,7 @@ searched main supplementary d t = (t.base, extent t) ∷ (d.spans, d.room) ∷ (
 
 -- a search f from the state st has answered r
 pub record Declares (f : Declaring → Outcome Declaring) (main supplementary w w' files files' warnings warnings' : List ℕ) (d : Places)
-    (st : DeclaringState) (r : Declared) : Type 0 where
+    (st : DeclaringState) (r : Result Declared Refusal) : Type 0 where
   pub reads : ℕ → ℕ
   pub new : List Warning
   pub is : (k : ℕ) (ws : List Warning) → DeclaredAs main supplementary w' d ws (reads k) new (f (declaring_at main supplementary w d st ws k)) r
@@ -115,26 +124,19 @@ pub record Declares (f : Declaring → Outcome Declaring) (main supplementary w 
 
 -- ---- with the count of the entries that were read
 
-abbrev pub CountedAs : List ℕ → List ℕ → List ℕ → Places → List Warning → ℕ → List Warning → Counted Declaring → Declared → Type 0
-CountedAs main supplementary w' d ws n new c (Declared.Refused k) = c ≡ record { reads = n; outcome = refused k }
-CountedAs main supplementary w' d ws n new c (Declared.Missing st') =
-    c ≡ record { reads = n; outcome = done (declaring_at main supplementary w' d st' (ws ++ new) n) }
-CountedAs main supplementary w' d ws n new c (Declared.Found st' file line) =
-    c ≡ record {
-      reads = n;
-      outcome = done (with_found (declaring_at main supplementary w' d st' (ws ++ new) n)
-          (some (record { address = 0; file = file; line = line; column = 0 })));
-    }
+abbrev pub CountedAs : List ℕ → List ℕ → List ℕ → Places → List Warning → ℕ → List Warning → Counted Declaring → Result Declared Refusal → Type 0
+CountedAs main supplementary w' d ws n new c (Ok r) =
+    c ≡ record { reads = n; outcome = done (found_in r.found (declaring_at main supplementary w' d r.state (ws ++ new) n)) }
+CountedAs main supplementary w' d ws n new c (Err e) = c ≡ record { reads = n; outcome = refused (number_of e) }
 
--- where the search goes on, it has read no more entries than it followed targets, and its start
-abbrev pub FewRead : ℕ → Declared → Type 0
-FewRead b (Declared.Refused n) = Unit
-FewRead b (Declared.Missing st') = b ≤ st'.count + 1
-FewRead b (Declared.Found st' file line) = Unit
+-- the search has read no more entries than it followed targets, and its start
+abbrev pub FewRead : ℕ → Result Declared Refusal → Type 0
+FewRead b (Ok r) = b ≤ r.state.count + 1
+FewRead b (Err e) = Unit
 
 -- a search f from the state st, a entries read, has answered r, b entries read
 pub record DeclaresCounted (f : Declaring → Counted Declaring) (main supplementary w w' files files' warnings warnings' : List ℕ) (d : Places)
-    (st : DeclaringState) (a b : ℕ) (r : Declared) : Type 0 where
+    (st : DeclaringState) (a b : ℕ) (r : Result Declared Refusal) : Type 0 where
   pub reads : ℕ → ℕ
   pub adds : (k : ℕ) → reads k + a ≡ k + b
   pub few : FewRead b r

@@ -1,5 +1,9 @@
 -- Contract. What the steps of the declaration search promise: an entry's own declaration, a unit's files that join the table, an offset that is followed.
-use Rattle.std.specs.Prelude.{ℕ, ◌+◌, ◌≤◌, ◌<◌, ◌≡◌, false, List, [], ◌∷◌, ◌++◌, length}
+use Rattle.std.specs.Prelude.{Some, None, Result, Ok, Err, ℕ, ◌+◌, ◌≤◌, ◌<◌, ◌≡◌, false, List, [], ◌∷◌, ◌++◌, length}
+use Rattle.std.specs.declared.option.Option.{Option as Given}
+use Rattle.tlv.specs.declared.model.FileIndex.{FileIndex}
+use Rattle.tlv.specs.declared.refusal.Refusal.{Refusal}
+use Rattle.tlv.specs.Refusals as refusals
 use Rattle.tlv.specs.Tags.{tray_warning_tag}
 use Rattle.tlv.specs.Outcome.{Outcome, refused, done}
 use Rattle.tlv.specs.Lists.{exists}
@@ -12,14 +16,12 @@ use Rattle.access.specs.Places.{unit_here, entry_here, UnitOf}
 use Rattle.lines.specs.Files.{FileIndices, get}
 use Rattle.files.specs.declared.store.StoredFiles.{StoredFiles}
 use Rattle.files.specs.declared.index.FileNumber.{FileNumber}
-use Rattle.files.specs.declared.index.FoundIndex.{FoundIndex}
 use Rattle.files.specs.Pieces.{UnitPlaced}
 use Rattle.files.specs.Store.{table_of, FilesIn, Grown}
 use Rattle.files.specs.Indices.{number_of}
 use Rattle.references.specs.declared.tables.Tables.{Tables}
 use Rattle.references.specs.declared.ways.EntryAt.{EntryAt}
 use Rattle.references.specs.declared.ways.OffsetAt.{OffsetAt}
-use Rattle.references.specs.declared.attributes.Number.{Number}
 use Rattle.references.specs.Search.{Trail, same_key, visit, visit_entry, Followed, by_offset, nothing, follow_absolute, followed_nothing}
 use Rattle.references.specs.Search.{absolute_entry_offset, Declaring, declaration_of, own_declaration, unit_files}
 use Rattle.references.specs.Keys.{keys_at, key_in, keys_from}
@@ -29,29 +31,23 @@ use Rattle.declarations.specs.declared.declaring.Places.{Places}
 use Rattle.declarations.specs.declared.declaring.DeclaringState.{DeclaringState}
 use Rattle.declarations.specs.declared.declaring.Declared.{Declared}
 use Rattle.declarations.specs.declared.own_declarations.OwnLine.{OwnLine}
-use Rattle.declarations.specs.declared.aims.Joined.{Joined}
 use Rattle.declarations.specs.declared.aims.Aim.{Aim}
 use Rattle.declarations.specs.Declarations.{reached_files, ReachedUnit, lower, DeclaresCounted}
 
 -- ---- the file number and the line of an entry
 
 -- what a file number and a line make of the entry's own declaration
-abbrev pub declared_by : CompilationUnit → List ℕ → ℕ → FileIndices → OwnLine → Declaring → Outcome Declaring
-declared_by u s p is OwnLine.Missing x = done x
-declared_by u s p is (OwnLine.At file line) x = declaration_of u (entry_here s p) file.0 line (get is file.0) x
+abbrev pub declared_by : CompilationUnit → List ℕ → ℕ → FileIndices → Given OwnLine → Declaring → Outcome Declaring
+declared_by u s p is None x = done x
+declared_by u s p is (Some l) x = declaration_of u (entry_here s p) l.file.0 l.line (get is l.file.0) x
 
-pub record OwnAt (s : List ℕ) (p : ℕ) (r : OwnLine) : Type 0 where
+pub record OwnAt (s : List ℕ) (p : ℕ) (r : Given OwnLine) : Type 0 where
   pub is : (u : CompilationUnit) (is : FileIndices) (x : Declaring) → own_declaration u (entry_here s p) is x ≡ declared_by u s p is r x
-
--- the offset in the section of an entry, or 12 where it exceeds 64 bits
-abbrev pub absolute_given : Number → Outcome ℕ
-absolute_given Number.Missing = refused 12
-absolute_given (Number.Is n) = done n
 
 -- ---- the table's number for one of a unit's
 
 pub record Numbered (main supplementary w w' : List ℕ) (d : Places) (st : DeclaringState) (is : FileIndices) (n : FileNumber)
-    (r : FoundIndex) : Type 0 where
+    (r : Given FileIndex) : Type 0 where
   pub is_number : number_of r ≡ get is n.0
   pub same : table_of main supplementary w' st.table ≡ table_of main supplementary w st.table
   pub holds : FilesIn main supplementary w' st.table
@@ -67,18 +63,17 @@ pub record WarnedOf (s : List ℕ) (q p kind number : ℕ) (warnings warnings' :
   pub count : st'.count ≡ st.count
   pub table : st'.table ≡ st.table
 
-abbrev pub WarnedIs : List ℕ → ℕ → ℕ → ℕ → ℕ → List ℕ → List ℕ → DeclaringState → Declared → Type 0
-WarnedIs s q p kind number warnings warnings' st (Declared.Refused n) = absolute_entry_offset (unit_here s q) (entry_here s p).offset ≡ refused n
-WarnedIs s q p kind number warnings warnings' st (Declared.Missing st') = WarnedOf s q p kind number warnings warnings' st st'
-WarnedIs s q p kind number warnings warnings' st (Declared.Found st' file line) = ⊥
+abbrev pub WarnedIs : List ℕ → ℕ → ℕ → ℕ → ℕ → List ℕ → List ℕ → DeclaringState → Result Declared Refusal → Type 0
+WarnedIs s q p kind number warnings warnings' st (Ok r) = WarnedOf s q p kind number warnings warnings' st r.state × (r.found ≡ None)
+WarnedIs s q p kind number warnings warnings' st (Err e) = absolute_entry_offset (unit_here s q) (entry_here s p).offset ≡ refused (refusals.number_of e)
 
-pub record Warns (s : List ℕ) (q p kind number : ℕ) (warnings warnings' : List ℕ) (st : DeclaringState) (r : Declared) : Type 0 where
+pub record Warns (s : List ℕ) (q p kind number : ℕ) (warnings warnings' : List ℕ) (st : DeclaringState) (r : Result Declared Refusal) : Type 0 where
   pub is : WarnedIs s q p kind number warnings warnings' st r
 
 -- ---- an entry's own declaration: it adds no files
 
 pub record Owns (f : Declaring → Outcome Declaring) (main supplementary w w' warnings warnings' : List ℕ) (d : Places) (st : DeclaringState)
-    (r : Declared) : Type 0 where
+    (r : Result Declared Refusal) : Type 0 where
   pub declares : (files : List ℕ) → length files < top → (a : ℕ) → a ≤ st.count + 1
       → DeclaresCounted (λ s. after s.trail (f s)) main supplementary w w' files files warnings warnings' d st a a r
 
@@ -96,11 +91,11 @@ pub record JoinedTo (main supplementary w w' files files' : List ℕ) (t t' : St
   pub reached : ReachedUnit u u.header (table_of main supplementary w' t')
   pub grown : Grown main supplementary w w' files files' t t'
 
-abbrev pub JoinedIs : List ℕ → List ℕ → List ℕ → List ℕ → List ℕ → List ℕ → StoredFiles → CompilationUnit → Joined → Type 0
-JoinedIs main supplementary w w' files files' t u (Joined.Refused n) = unit_files u u.header (table_of main supplementary w t) ≡ refused n
-JoinedIs main supplementary w w' files files' t u (Joined.Table t') = JoinedTo main supplementary w w' files files' t t' u
+abbrev pub JoinedIs : List ℕ → List ℕ → List ℕ → List ℕ → List ℕ → List ℕ → StoredFiles → CompilationUnit → Result StoredFiles Refusal → Type 0
+JoinedIs main supplementary w w' files files' t u (Err e) = unit_files u u.header (table_of main supplementary w t) ≡ refused (refusals.number_of e)
+JoinedIs main supplementary w w' files files' t u (Ok t') = JoinedTo main supplementary w w' files files' t t' u
 
-pub record Joins (main supplementary w w' files files' : List ℕ) (d : Places) (t : StoredFiles) (u : CompilationUnit) (r : Joined) : Type 0 where
+pub record Joins (main supplementary w w' files files' : List ℕ) (d : Places) (t : StoredFiles) (u : CompilationUnit) (r : Result StoredFiles Refusal) : Type 0 where
   pub is : JoinedIs main supplementary w w' files files' t u r
   pub rest : KeptBut w w' (lower d t)
 
@@ -127,12 +122,12 @@ pub record AimEntry (main supplementary w : List ℕ) (x : Tables) (n : ℕ) (at
   pub stands : Stands main supplementary next
   pub depth : next.depth ≡ at.depth
 
-abbrev pub AimIs : List ℕ → List ℕ → List ℕ → Tables → ℕ → OffsetAt → Aim → Type 0
-AimIs main supplementary w x n at Aim.Seen =
+abbrev pub AimIs : List ℕ → List ℕ → List ℕ → Tables → ℕ → OffsetAt → Result Aim Refusal → Type 0
+AimIs main supplementary w x n at (Ok Aim.Seen) =
     (k : ℕ) → follow_offset main supplementary at (trail_at w (keys_from x) n k) ≡ followed_nothing (trail_at w (keys_from x) n k)
-AimIs main supplementary w x n at (Aim.Refused m) = (k : ℕ) → follow_offset main supplementary at (trail_at w (keys_from x) n k) ≡ refused m
-AimIs main supplementary w x n at Aim.Outside = AimOutside main supplementary w x n at
-AimIs main supplementary w x n at (Aim.Entry next) = AimEntry main supplementary w x n at next
+AimIs main supplementary w x n at (Err e) = (k : ℕ) → follow_offset main supplementary at (trail_at w (keys_from x) n k) ≡ refused (refusals.number_of e)
+AimIs main supplementary w x n at (Ok Aim.Outside) = AimOutside main supplementary w x n at
+AimIs main supplementary w x n at (Ok (Aim.Entry next)) = AimEntry main supplementary w x n at next
 
-pub record Aimed (main supplementary w : List ℕ) (x : Tables) (n : ℕ) (at : OffsetAt) (r : Aim) : Type 0 where
+pub record Aimed (main supplementary w : List ℕ) (x : Tables) (n : ℕ) (at : OffsetAt) (r : Result Aim Refusal) : Type 0 where
   pub is : AimIs main supplementary w x n at r

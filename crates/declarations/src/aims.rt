@@ -8,26 +8,18 @@ ghost use Rattle.declarations.specs.DeclaredSteps.{UnitKnown, Joins, Aimed};
 
 use crate::declaring::{DeclaringState, Places};
 use crate::own_declarations::lacks_header;
-use files::header::InternedFiles;
 use files::spans::SPAN_RECORD;
 use files::store::StoredFiles;
 use references::keys::is_visited;
 use references::tables::{Tables, Target, target_at};
 use references::ways::{EntryAt, OffsetAt, index_of, input_of};
 use tlv::model::DebugSource;
+use tlv::refusal::Refusal;
 
-// The table with a unit's files in it, or the refusal.
-#[derive(Clone, Copy)]
-pub enum Joined {
-    Refused(u8),
-    Table(StoredFiles),
-}
-
-// Where an offset of a section leads a search: nowhere, since it was followed already; to a refusal; outside all units; or to an entry.
+// Where an offset of a section leads a search: nowhere, since it was followed already; outside all units; or to an entry.
 #[derive(Clone, Copy)]
 pub enum Aim {
     Seen,
-    Refused(u8),
     Outside,
     Entry(EntryAt),
 }
@@ -40,32 +32,31 @@ pub fn aim_of<'a>(
     x: Tables,
     n: usize,
     at: OffsetAt,
-) -> Aim
+) -> Result<Aim, Refusal>
     requires search_in { SearchIn main.now supplementary.now work.now x n }
     requires aims { Aims main.now supplementary.now at }
     ensures { Aimed main.now supplementary.now work.now x n at result }
 {
     let input = at.input;
-    let source = at.source;
-    if is_visited(work, x, n, source, at.target) {
-        return Aim::Seen;
+    if is_visited(work, x, n, at.source, at.target) {
+        return Ok(Aim::Seen);
     }
     let s = input_of(main, supplementary, input);
     let y = index_of(x, input);
     match target_at(s, work, y, at.target) {
-        Target::NoEntry(_) => Aim::Refused(13),
-        Target::Outside => Aim::Outside,
-        Target::At { place, unit } => Aim::Entry(EntryAt {
-            input: input,
-            source: source,
-            unit: unit,
-            place: place,
+        Target::NoEntry(_) => Err(Refusal::NoEntry),
+        Target::Outside => Ok(Aim::Outside),
+        Target::At { place, unit } => Ok(Aim::Entry(EntryAt {
+            input,
+            source: at.source,
+            unit,
+            place,
             depth: at.depth,
-        }),
+        })),
     }
 }
 
-// The files of a unit that is reached by a section offset join the table.
+// The files of a unit that is reached by a section offset join the table, which is handed back.
 pub fn join_files<'a>(
     main: &'a [u8],
     supplementary: &'a [u8],
@@ -75,7 +66,7 @@ pub fn join_files<'a>(
     input: DebugSource,
     unit: usize,
     st: DeclaringState,
-) -> Joined
+) -> Result<StoredFiles, Refusal>
     requires declaring_in { DeclaringIn main.now supplementary.now work.old d st }
     requires unit_known { UnitKnown (source_in main.now supplementary.now input) unit }
     ensures { Joins main.now supplementary.now work.old work.new files.old files.new d
@@ -84,11 +75,11 @@ pub fn join_files<'a>(
     let s = input_of(main, supplementary, input);
     let table = st.table;
     if lacks_header(s, unit) {
-        return Joined::Table(table);
+        return Ok(table);
     }
     let described = files::spans::file_unit(s, unit, work, d.spans);
     let base = d.spans + described.directory_count * SPAN_RECORD;
-    match files::header::intern_header_files(
+    let joined = files::header::intern_header_files(
         main,
         supplementary,
         input,
@@ -97,11 +88,6 @@ pub fn join_files<'a>(
         files,
         table,
         base,
-    ) {
-        InternedFiles::Refused(n) => Joined::Refused(n),
-        InternedFiles::Indices {
-            table: grown,
-            count: _,
-        } => Joined::Table(grown),
-    }
+    )?;
+    Ok(joined.table)
 }

@@ -8,8 +8,15 @@ ghost use Rattle.declarations.specs.Declarations.{DeclaringIn, Declares, LineRea
 
 use crate::declarations::resolve;
 use crate::declaring::{Declared, DeclaringState, Places};
-use references::ways::EntryAt;
-use tlv::model::DebugSource;
+use references::names::start_at;
+use tlv::refusal::Refusal;
+
+// What a search answered, and how many entries it read for it.
+#[derive(Clone, Copy)]
+pub struct SearchedLine {
+    pub answer: Result<Declared, Refusal>,
+    pub reads: usize,
+}
 
 // The declaration of the entry at a place of the unit that is imported, from no followed targets on, and how many entries were read for it.
 pub fn resolve_declaration_line_counted<'a>(
@@ -18,41 +25,35 @@ pub fn resolve_declaration_line_counted<'a>(
     work: &mut [u8],
     files: &mut [u8],
     warnings: &mut [u8],
-    reads: &mut usize,
     d: Places,
     unit: usize,
     place: usize,
     st: DeclaringState,
-) -> Declared
+) -> SearchedLine
     requires declaring_in { DeclaringIn main.now supplementary.now work.old d st }
     requires count_value { st.count ≡ 0 }
     requires entry_known { EntryKnown main.now unit place }
     ensures declares { Declares (resolve_declaration 64 (dwarf_of main.now supplementary.now)
         (place_at main.now supplementary.now (start_at unit place)) (indices_in work.old d.indices)) main.now
         supplementary.now work.old work.new files.old files.new warnings.old
-        warnings.new d st result }
-    ensures line_read { LineRead main.now supplementary.now work.old d st unit place reads.new }
+        warnings.new d st result.answer }
+    ensures line_read { LineRead main.now supplementary.now work.old d st unit place result.reads }
 {
-    let at = EntryAt {
-        input: DebugSource::Main,
-        source: DebugSource::Main,
-        unit: unit,
-        place: place,
-        depth: 0,
-    };
-    *reads = 1;
-    resolve(
+    let mut reads: usize = 1;
+    let at = start_at(unit, place);
+    let answer = resolve(
         main,
         supplementary,
         work,
         files,
         warnings,
-        reads,
+        &mut reads,
         d,
         at,
         false,
         st,
-    )
+    );
+    SearchedLine { answer, reads }
 }
 
 // The declaration of such an entry.
@@ -66,7 +67,7 @@ pub fn resolve_declaration_line<'a>(
     unit: usize,
     place: usize,
     st: DeclaringState,
-) -> Declared
+) -> Result<Declared, Refusal>
     requires declaring_in { DeclaringIn main.now supplementary.now work.old d st }
     requires count_value { st.count ≡ 0 }
     requires entry_known { EntryKnown main.now unit place }
@@ -75,17 +76,16 @@ pub fn resolve_declaration_line<'a>(
         supplementary.now work.old work.new files.old files.new warnings.old
         warnings.new d st result }
 {
-    let mut reads: usize = 0;
     resolve_declaration_line_counted(
         main,
         supplementary,
         work,
         files,
         warnings,
-        &mut reads,
         d,
         unit,
         place,
         st,
     )
+    .answer
 }

@@ -5,12 +5,13 @@ ghost use Rattle.references.specs.Names.{dwarf_of, place_at, Stands, Aims};
 ghost use Rattle.references.specs.Reads.{counted_declaration};
 ghost use Rattle.declarations.specs.Declarations.{indices_at, DeclaringIn, DeclaresCounted, Reaching, resolve_reference, resolve_absolute};
 
-use crate::aims::{Aim, Joined, aim_of, join_files};
+use crate::aims::{Aim, aim_of, join_files};
 use crate::declaring::{Declared, DeclaringState, Places};
 use crate::own_declarations::own_declaration;
 use references::keys::push_key;
 use references::ways::{EntryAt, OffsetAt, Way, way_of};
 use tlv::constants::{DW_AT_ABSTRACT_ORIGIN, DW_AT_SPECIFICATION};
+use tlv::refusal::Refusal;
 
 // The declaration of the entry at a place: its own, or the first that its references lead to. `reached`: its unit was reached by a section offset.
 #[cycle(resolve_resolve_absolute_resolve_reference)]
@@ -25,7 +26,7 @@ pub fn resolve<'a>(
     at: EntryAt,
     reached: bool,
     st: DeclaringState,
-) -> Declared
+) -> Result<Declared, Refusal>
     requires declaring_in { DeclaringIn main.now supplementary.now work.old d st }
     requires reads_bound { reads.old ≤ st.count + 1 }
     requires stands { Stands main.now supplementary.now at }
@@ -37,12 +38,15 @@ pub fn resolve<'a>(
         warnings.new d st reads.old reads.new result }
 {
     if at.depth >= 64 {
-        return Declared::Missing(st);
+        return Ok(Declared {
+            state: st,
+            found: None,
+        });
     }
-    let own = own_declaration(main, supplementary, work, warnings, d, at, reached, st);
-    let Declared::Missing(first) = own else {
-        return own;
-    };
+    let own = own_declaration(main, supplementary, work, warnings, d, at, reached, st)?;
+    if own.found.is_some() {
+        return Ok(own);
+    }
     let origin = resolve_reference(
         main,
         supplementary,
@@ -54,11 +58,11 @@ pub fn resolve<'a>(
         at,
         reached,
         DW_AT_ABSTRACT_ORIGIN,
-        first,
-    );
-    let Declared::Missing(second) = origin else {
-        return origin;
-    };
+        own.state,
+    )?;
+    if origin.found.is_some() {
+        return Ok(origin);
+    }
     resolve_reference(
         main,
         supplementary,
@@ -70,7 +74,7 @@ pub fn resolve<'a>(
         at,
         reached,
         DW_AT_SPECIFICATION,
-        second,
+        origin.state,
     )
 }
 
@@ -88,7 +92,7 @@ fn resolve_reference<'a>(
     reached: bool,
     name: u16,
     st: DeclaringState,
-) -> Declared
+) -> Result<Declared, Refusal>
     requires declaring_in { DeclaringIn main.now supplementary.now work.old d st }
     requires reads_bound { reads.old ≤ st.count + 1 }
     requires stands { Stands main.now supplementary.now at }
@@ -99,21 +103,17 @@ fn resolve_reference<'a>(
         supplementary.now work.old work.new files.old files.new warnings.old
         warnings.new d st reads.old reads.new result }
 {
-    let tables = d.tables;
-    let count = st.count;
-    match way_of(main, supplementary, work, tables, count, at, name) {
-        Way::Nothing => Declared::Missing(st),
-        Way::Refused(code) => Declared::Refused(code),
+    match way_of(main, supplementary, work, d.tables, st.count, at, name)? {
+        Way::Nothing => Ok(Declared {
+            state: st,
+            found: None,
+        }),
         Way::Entry(next, target) => {
-            let source = next.source;
-            let table = st.table;
-            push_key(work, tables, count, source, target);
-            let read = *reads;
-            *reads = read + 1;
+            push_key(work, d.tables, st.count, next.source, target);
+            *reads += 1;
             let followed = DeclaringState {
-                count: count + 1,
-                table: table,
-                warned: st.warned,
+                count: st.count + 1,
+                ..st
             };
             resolve(
                 main,
@@ -154,7 +154,7 @@ pub fn resolve_absolute<'a>(
     d: Places,
     at: OffsetAt,
     st: DeclaringState,
-) -> Declared
+) -> Result<Declared, Refusal>
     requires declaring_in { DeclaringIn main.now supplementary.now work.old d st }
     requires reads_bound { reads.old ≤ st.count + 1 }
     requires aims { Aims main.now supplementary.now at }
@@ -162,60 +162,50 @@ pub fn resolve_absolute<'a>(
         supplementary.now work.old work.new files.old files.new warnings.old
         warnings.new d st reads.old reads.new result }
 {
-    let tables = d.tables;
-    let count = st.count;
-    let source = at.source;
-    let table = st.table;
-    let aim = aim_of(main, supplementary, work, tables, count, at);
-    match aim {
-        Aim::Seen => Declared::Missing(st),
-        Aim::Refused(code) => Declared::Refused(code),
+    match aim_of(main, supplementary, work, d.tables, st.count, at)? {
+        Aim::Seen => Ok(Declared {
+            state: st,
+            found: None,
+        }),
         Aim::Outside => {
-            push_key(work, tables, count, source, at.target);
-            Declared::Missing(DeclaringState {
-                count: count + 1,
-                table: table,
-                warned: st.warned,
+            push_key(work, d.tables, st.count, at.source, at.target);
+            Ok(Declared {
+                state: DeclaringState {
+                    count: st.count + 1,
+                    ..st
+                },
+                found: None,
             })
         }
         Aim::Entry(next) => {
-            push_key(work, tables, count, source, at.target);
-            let read = *reads;
-            *reads = read + 1;
+            push_key(work, d.tables, st.count, at.source, at.target);
+            *reads += 1;
             let followed = DeclaringState {
-                count: count + 1,
-                table: table,
-                warned: st.warned,
+                count: st.count + 1,
+                ..st
             };
-            let input = next.input;
-            match join_files(
+            let table = join_files(
                 main,
                 supplementary,
                 work,
                 files,
                 d,
-                input,
+                next.input,
                 next.unit,
                 followed,
-            ) {
-                Joined::Refused(code) => Declared::Refused(code),
-                Joined::Table(grown) => resolve(
-                    main,
-                    supplementary,
-                    work,
-                    files,
-                    warnings,
-                    reads,
-                    d,
-                    next,
-                    true,
-                    DeclaringState {
-                        count: count + 1,
-                        table: grown,
-                        warned: st.warned,
-                    },
-                ),
-            }
+            )?;
+            resolve(
+                main,
+                supplementary,
+                work,
+                files,
+                warnings,
+                reads,
+                d,
+                next,
+                true,
+                DeclaringState { table, ..followed },
+            )
         }
     }
 }

@@ -2,6 +2,7 @@
 use files::index::StoredIndices;
 use files::store::StoredFiles;
 use references::tables::Tables;
+use tlv::model::FileIndex;
 
 // The search's tables, the map of the unit that is imported, and where the spans of a unit's directories and its map are put.
 #[derive(Clone, Copy)]
@@ -20,14 +21,16 @@ pub struct DeclaringState {
     pub warned: usize,
 }
 
-// A declaration's file and line, or none; or the refusal.
+// A declaration's file and line.
+#[derive(Clone, Copy, Debug)]
+pub struct Declaration {
+    pub file: FileIndex,
+    pub line: u32,
+}
+
+// The declaration that a search found, where there is one, and the state after it.
 #[derive(Clone, Copy)]
-pub enum Declared {
-    Refused(u8),
-    Missing(DeclaringState),
-    Found {
-        state: DeclaringState,
-        file: tlv::model::FileIndex,
-        line: u32,
-    },
+pub struct Declared {
+    pub state: DeclaringState,
+    pub found: Option<Declaration>,
 }

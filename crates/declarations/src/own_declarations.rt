@@ -2,47 +2,46 @@
 ghost use Rattle.std.specs.Prelude.{◌≡◌, ◌+◌, ◌-◌, ◌<◌};
 ghost use Rattle.tlv.specs.Lists.{is_none};
 ghost use Rattle.tlv.specs.Checked.{Placed};
-ghost use Rattle.access.specs.Places.{unit_here, entry_here};
+ghost use Rattle.access.specs.Places.{unit_here, UnitOf};
 ghost use Rattle.files.specs.Pieces.{source_in, UnitPlaced};
 ghost use Rattle.files.specs.Store.{table_of};
-ghost use Rattle.references.specs.Search.{absolute_entry_offset, own_declaration};
+ghost use Rattle.references.specs.Search.{own_declaration};
 ghost use Rattle.references.specs.Tables.{EntryKnown};
 ghost use Rattle.references.specs.Names.{place_at, Stands};
 ghost use Rattle.declarations.specs.Declarations.{reached_files, indices_at, DeclaringIn};
-ghost use Rattle.declarations.specs.DeclaredSteps.{OwnAt, absolute_given, Numbered, Warns, Owns, UnitKnown};
+ghost use Rattle.declarations.specs.DeclaredSteps.{OwnAt, Numbered, Warns, Owns, UnitKnown};
 
-use crate::declaring::{Declared, DeclaringState, Places};
-use files::index::{FileNumber, FoundIndex};
+use crate::declaring::{Declaration, Declared, DeclaringState, Places};
+use access::access::next_own;
+use files::index::{FileNumber, get_index};
 use files::lookup::look_up_file;
-use references::attributes::{Number, file_index_attribute, unsigned_attribute};
-use references::ways::{EntryAt, input_of};
+use references::attributes::{file_index_attribute, unsigned_attribute};
+use references::ways::{EntryAt, absolute_entry_offset, input_of};
+use tlv::bytes::Number;
 use tlv::constants::{DW_AT_DECL_FILE, DW_AT_DECL_LINE};
-use tlv::model::DebugSource;
-use tlv::tags::{HEADER_TAG, UNIT_OFFSET, UNIT_WHOLE};
+use tlv::model::{DebugSource, FileIndex};
+use tlv::refusal::Refusal;
+use tlv::tags::{FIELD_HEAD, HEADER_TAG, UNIT_WHOLE};
 
-// The file number and the line that an entry has, where it has both.
+// The file number and the line that an entry has.
 #[derive(Clone, Copy)]
-pub enum OwnLine {
-    Missing,
-    At { file: FileNumber, line: u64 },
+pub struct OwnLine {
+    pub file: FileNumber,
+    pub line: u64,
 }
 
-// The file number and the line of the declaration of the entry at place p.
-fn declared_at(s: &[u8], unit: usize, p: usize) -> OwnLine
+// The file number and the line of the declaration of the entry at place p, where it has both.
+fn declared_at(s: &[u8], unit: usize, p: usize) -> Option<OwnLine>
     requires placed { Placed s.now 0 }
     requires entry_known { EntryKnown s.now unit p }
     ensures { OwnAt s.now p result }
 {
-    match file_index_attribute(s, unit, p, DW_AT_DECL_FILE) {
-        Number::Missing => OwnLine::Missing,
-        Number::Is(file) => match unsigned_attribute(s, unit, p, DW_AT_DECL_LINE) {
-            Number::Missing => OwnLine::Missing,
-            Number::Is(line) => OwnLine::At {
-                file: FileNumber(file),
-                line: line,
-            },
-        },
-    }
+    let file = file_index_attribute(s, unit, p, DW_AT_DECL_FILE)?;
+    let line = unsigned_attribute(s, unit, p, DW_AT_DECL_LINE)?;
+    Some(OwnLine {
+        file: FileNumber(file),
+        line,
+    })
 }
 
 // Whether the unit at a place has no line header.
@@ -50,14 +49,7 @@ pub fn lacks_header(s: &[u8], unit: usize) -> bool
     requires { UnitPlaced s.now unit }
     ensures { result ≡ is_none (unit_here s.now unit).header }
 {
-    match access::access::next_own(s, unit + UNIT_WHOLE, HEADER_TAG) {
-        access::access::Own::Missing => true,
-        access::access::Own::Field {
-            start: _,
-            len: _,
-            next: _,
-        } => false,
-    }
+    next_own(s, unit + UNIT_WHOLE, HEADER_TAG).is_none()
 }
 
 // The table's number for one of a unit's that was reached: a unit without a header has none.
@@ -70,7 +62,7 @@ fn reached_number<'a>(
     unit: usize,
     file: FileNumber,
     st: DeclaringState,
-) -> FoundIndex
+) -> Option<FileIndex>
     requires declaring_in { DeclaringIn main.now supplementary.now work.old d st }
     requires unit_known { UnitKnown (source_in main.now supplementary.now input) unit }
     ensures { Numbered main.now supplementary.now work.old work.new d st
@@ -80,11 +72,10 @@ fn reached_number<'a>(
 {
     let s = input_of(main, supplementary, input);
     if lacks_header(s, unit) {
-        return FoundIndex::Missing;
+        return None;
     }
-    let table = st.table;
     let described = files::spans::file_unit(s, unit, work, d.spans);
-    look_up_file(main, supplementary, input, described, file, work, table)
+    look_up_file(main, supplementary, input, described, file, work, st.table)
 }
 
 // The table's number for one of the unit's at a place.
@@ -98,7 +89,7 @@ fn number_of<'a>(
     reached: bool,
     file: FileNumber,
     st: DeclaringState,
-) -> FoundIndex
+) -> Option<FileIndex>
     requires declaring_in { DeclaringIn main.now supplementary.now work.old d st }
     requires unit_known { UnitKnown (source_in main.now supplementary.now input) unit }
     ensures { Numbered main.now supplementary.now work.old work.new d st
@@ -107,23 +98,7 @@ fn number_of<'a>(
     if reached {
         return reached_number(main, supplementary, work, d, input, unit, file, st);
     }
-    let indices = d.indices;
-    files::index::get_index(work, indices, file)
-}
-
-// The offset in the section of the entry at a place; none where it exceeds 64 bits.
-fn absolute_entry_offset(s: &[u8], unit: usize, place: usize) -> Number
-    requires unit_placed { UnitPlaced s.now unit }
-    requires placed { Placed s.now 0 }
-    requires entry_known { EntryKnown s.now unit place }
-    ensures { absolute_given result ≡ absolute_entry_offset (unit_here s.now unit) (entry_here s.now place).offset }
-{
-    let own = tlv::bytes::read_u64(s, unit + UNIT_OFFSET);
-    let offset = tlv::bytes::read_u64(s, place + 3);
-    if offset > 0xffff_ffff_ffff_ffff - own {
-        return Number::Missing;
-    }
-    Number::Is(own + offset)
+    get_index(work, d.indices, file)
 }
 
 // Warns of a bad declaration, with the entry's offset in its section and a number.
@@ -135,24 +110,18 @@ fn warn_declaration(
     kind: u8,
     number: u64,
     st: DeclaringState,
-) -> Declared
-    requires unit_placed { UnitPlaced s.now unit }
+) -> Result<Declared, Refusal>
+    requires listed { UnitOf s.now unit }
     requires placed { Placed s.now 0 }
     requires entry_known { EntryKnown s.now unit place }
     ensures { Warns s.now unit place kind number warnings.old warnings.new st result }
 {
-    match absolute_entry_offset(s, unit, place) {
-        Number::Missing => Declared::Refused(12),
-        Number::Is(offset) => {
-            let warned = buffers::output::put_warning(warnings, st.warned, kind, offset, number);
-            let table = st.table;
-            Declared::Missing(DeclaringState {
-                count: st.count,
-                table: table,
-                warned: warned,
-            })
-        }
-    }
+    let offset = absolute_entry_offset(s, unit, u64::read(s, place + FIELD_HEAD))?;
+    let warned = buffers::output::put_warning(warnings, st.warned, kind, offset, number);
+    Ok(Declared {
+        state: DeclaringState { warned, ..st },
+        found: None,
+    })
 }
 
 // The declaration that an entry has itself.
@@ -165,7 +134,7 @@ pub fn own_declaration<'a>(
     at: EntryAt,
     reached: bool,
     st: DeclaringState,
-) -> Declared
+) -> Result<Declared, Refusal>
     requires declaring_in { DeclaringIn main.now supplementary.now work.old d st }
     requires stands { Stands main.now supplementary.now at }
     ensures { Owns (own_declaration (place_at main.now supplementary.now at).unit
@@ -177,24 +146,30 @@ pub fn own_declaration<'a>(
     let unit = at.unit;
     let place = at.place;
     let s = input_of(main, supplementary, input);
-    match declared_at(s, unit, place) {
-        OwnLine::Missing => Declared::Missing(st),
-        OwnLine::At { file, line } => {
-            match number_of(main, supplementary, work, d, input, unit, reached, file, st) {
-                FoundIndex::Missing => {
-                    warn_declaration(s, warnings, unit, place, 10, file.0, st)
-                }
-                FoundIndex::Number(index) => {
-                    if line >= 4294967296 {
-                        return warn_declaration(s, warnings, unit, place, 11, line, st);
-                    }
-                    Declared::Found {
-                        state: st,
-                        file: index,
-                        line: line as u32,
-                    }
-                }
-            }
-        }
-    }
+    let Some(own) = declared_at(s, unit, place) else {
+        return Ok(Declared {
+            state: st,
+            found: None,
+        });
+    };
+    let Some(file) = number_of(
+        main,
+        supplementary,
+        work,
+        d,
+        input,
+        unit,
+        reached,
+        own.file,
+        st,
+    ) else {
+        return warn_declaration(s, warnings, unit, place, 10, own.file.0, st);
+    };
+    let Ok(line) = u32::try_from(own.line) else {
+        return warn_declaration(s, warnings, unit, place, 11, own.line, st);
+    };
+    Ok(Declared {
+        state: st,
+        found: Some(Declaration { file, line }),
+    })
 }

@@ -4,6 +4,8 @@ use mathlib.Core.Bool.{Bool, true, false, cond}
 use mathlib.Core.List.{List}
 use Prim.Native.Nat.{ℕ}
 use Rattle.tlv.specs.declared.model.DebugSource.{DebugSource}
+use Rattle.std.specs.Prelude.{Ok, Err}
+use Rattle.tlv.specs.declared.refusal.Refusal.{Refusal}
 use Rattle.tlv.specs.Outcome.{done, ◌>>=◌}
 use Rattle.tlv.specs.Lists.{exists}
 use Rattle.tlv.specs.Model.{units}
@@ -34,15 +36,15 @@ module _ (main supplementary w : List ℕ) (x : Tables) (n : ℕ) (at : OffsetAt
   unfolding follow_offset follow_absolute is_visited
   follows k = rw (seen, ← key_is at.source at.target, units-are main supplementary at.input)
 
-  pub aim-seen : v ≡ true → Aimed main supplementary w x n at Aim.Seen
+  pub aim-seen : v ≡ true → Aimed main supplementary w x n at (Ok Aim.Seen)
   aim-seen so = record { is = λ k. follows k ∙ rw so }
 
   module _ (not_so : v ≡ false) {s : List ℕ} (is : s ≡ source_in main supplementary at.input) {r : Target} (L : Leads s at.target r) where
-    pub aim-refused : (q : ℕ) → r ≡ Target.NoEntry q → Aimed main supplementary w x n at (Aim.Refused 13)
+    pub aim-refused : (q : ℕ) → r ≡ Target.NoEntry q → Aimed main supplementary w x n at (Err Refusal.NoEntry)
     unfolding ◌>>=◌
     aim-refused q to = let l = rw (is, to) at L.is in record { is = λ k. follows k ∙ rw (not_so, l.0, l.1) }
 
-    pub aim-outside : r ≡ Target.Outside → Aimed main supplementary w x n at Aim.Outside
+    pub aim-outside : r ≡ Target.Outside → Aimed main supplementary w x n at (Ok Aim.Outside)
     aim-outside to =
         let l = rw (is, to) at L.is in
         record {
@@ -53,7 +55,7 @@ module _ (main supplementary w : List ℕ) (x : Tables) (n : ℕ) (at : OffsetAt
         }
 
     pub aim-entry : Aims main supplementary at → (p q : ℕ) → r ≡ Target.At p q
-        → Aimed main supplementary w x n at (Aim.Entry (record { input = at.input; source = at.source; unit = q; place = p; depth = at.depth }))
+        → Aimed main supplementary w x n at (Ok (Aim.Entry (record { input = at.input; source = at.source; unit = q; place = p; depth = at.depth })))
     unfolding ◌>>=◌
     aim-entry A p q to =
         let l = rw (is, to) at L.is in

@@ -20,6 +20,9 @@ use Rattle.access.proofs.UnitPlaceLaws.{units-at}
 use Rattle.lines.specs.Files.{FileTable, Indexed, intern_header_files}
 use Rattle.files.specs.declared.spans.FileUnit.{FileUnit}
 use Rattle.files.specs.declared.store.StoredFiles.{StoredFiles}
+use Rattle.std.specs.Prelude.{Result, Ok, Err}
+use Rattle.tlv.specs.declared.refusal.Refusal.{Refusal}
+use Rattle.tlv.specs.Refusals.{number_of}
 use Rattle.files.specs.declared.header.InternedFiles.{InternedFiles}
 use Rattle.files.specs.Pieces.{source_in, or_header, header_here, Described}
 use Rattle.files.specs.Store.{table_of}
@@ -30,7 +33,6 @@ use Rattle.files.proofs.ReachedLaws.{interned-reached}
 use Rattle.references.specs.Search.{unit_files}
 use Rattle.declarations.specs.declared.declaring.Places.{Places}
 use Rattle.declarations.specs.declared.declaring.DeclaringState.{DeclaringState}
-use Rattle.declarations.specs.declared.aims.Joined.{Joined}
 use Rattle.declarations.specs.Declarations.{reached_files, ReachedUnit, DeclaringIn, lower}
 use Rattle.declarations.specs.DeclaredSteps.{UnitKnown, Joins}
 use Rattle.declarations.proofs.DeclareFrames.{spans-inside}
@@ -82,7 +84,7 @@ files-reached u (some h) t r e is =
 module _ {main supplementary w : List ℕ} {d : Places} {st : DeclaringState} (D : DeclaringIn main supplementary w d st)
     {s : List ℕ} (input : DebugSource) {q : ℕ} (is : s ≡ source_in main supplementary input) (U : UnitKnown (source_in main supplementary input) q)
     {lacks : Bool} (e : lacks ≡ is_none (unit_here s q).header) where
-  pub joins-none : {files : List ℕ} → length files < top → lacks ≡ true → Joins main supplementary w w files files d st.table (unit_here (source_in main supplementary input) q) (Joined.Table st.table)
+  pub joins-none : {files : List ℕ} → length files < top → lacks ≡ true → Joins main supplementary w w files files d st.table (unit_here (source_in main supplementary input) q) (Ok st.table)
   joins-none few so =
       let u = unit_here (source_in main supplementary input) q in
       let n = no-files u u.header (table_of main supplementary w st.table) (rw is at (sym e ∙ so)) in
@@ -105,7 +107,7 @@ module _ {main supplementary w : List ℕ} {d : Places} {st : DeclaringState} (D
         let m : d.spans + u.directory_count * 8 + 5 * (1 + length (unit_here (source_in main supplementary input) q).files) ≤ length w = omega arith in
         record { table = omega arith; directories = omega arith; map = rw (B.place, size) m }
 
-    module _ {w₂ files files₂ : List ℕ} {r : InternedFiles}
+    module _ {w₂ files files₂ : List ℕ} {r : Result InternedFiles Refusal}
         (I : InternsHeader main supplementary w₁ w₂ files files₂ st.table (source_in main supplementary input) u (d.spans + u.directory_count * 8) r) where
       interned : indexed_of main supplementary w₂ (d.spans + u.directory_count * 8) r
           ≡ intern_header_files (unit_here (source_in main supplementary input) q) (or_header (unit_here (source_in main supplementary input) q).header) (table_of main supplementary w st.table)
@@ -119,13 +121,13 @@ module _ {main supplementary w : List ℕ} {d : Places} {st : DeclaringState} (D
           but_trans (described-rest D input is U e not_so B size)
           (record { same = λ p n c. I.rest.same p n (c.0, (⊎_elim (λ l. inl (omega arith)) (λ l. inr (omega arith)) c.1.0, tt)) })
 
-      pub joins-refused : (n : ℕ) → r ≡ InternedFiles.Refused n → Joins main supplementary w w₂ files files₂ d st.table (unit_here (source_in main supplementary input) q) (Joined.Refused n)
+      pub joins-refused : (n : Refusal) → r ≡ Err n → Joins main supplementary w w₂ files files₂ d st.table (unit_here (source_in main supplementary input) q) (Err n)
       joins-refused n to =
           let v = unit_here (source_in main supplementary input) q in
-          record { is = files-are v v.header (table_of main supplementary w st.table) (refused n) there (rw to at interned); rest = join-rest }
+          record { is = files-are v v.header (table_of main supplementary w st.table) (refused (number_of n)) there (rw to at interned); rest = join-rest }
 
-      pub joins-table : (t' : StoredFiles) (n : ℕ) → r ≡ InternedFiles.Indices t' n → Joins main supplementary w w₂ files files₂ d st.table (unit_here (source_in main supplementary input) q) (Joined.Table t')
-      joins-table t' n to =
+      pub joins-table : (j : InternedFiles) → r ≡ Ok j → Joins main supplementary w w₂ files files₂ d st.table (unit_here (source_in main supplementary input) q) (Ok j.table)
+      joins-table j to =
           let v = unit_here (source_in main supplementary input) q in
           let f = files-reached v v.header (table_of main supplementary w st.table) _ there (rw to at interned) in
           let g = rw to at I.after in

@@ -1,5 +1,7 @@
 -- `aims::join_files` meets its contract. The unit is described, and its header's files are interned.
+use mathlib.Core.Path.{refl}
 use native.Mathlib.Omega.{arith}
+use Rattle.tlv.proofs.AnswerLaws.{handed}
 use Rattle.declarations.proofs.DeclareFrames.{spans-inside}
 use Rattle.declarations.proofs.OwnDeclarationLaws.{unit-here, sheet_here, spans-here, described-files, described-unit, described-placed, described-room}
 use Rattle.declarations.proofs.aims.JoinLaws.{joins-none, join-listed, join-room, joins-refused, joins-table}
@@ -41,8 +43,8 @@ intern_header_files-requires-clause-listed c = join-listed c.requires.declaring_
 pub intern_header_files-requires-clause-map_room : goal.intern_header_files-requires-clause-map_room
 intern_header_files-requires-clause-map_room c = join-room c.requires.declaring_in c.args.input c.input_of-s.ensures.result_value c.requires.unit_known c.lacks_header.ensures c.if-lacks_header.false c.file_unit-described.ensures c.file_unit-described.auto.work
 
-pub returns-in-Refused : goal.returns-in-Refused
-returns-in-Refused c = joins-refused c.requires.declaring_in c.args.input c.input_of-s.ensures.result_value c.requires.unit_known c.lacks_header.ensures c.if-lacks_header.false c.file_unit-described.ensures c.file_unit-described.auto.work c.intern_header_files.ensures _ c.in-Refused.is
+pub returns-in_err-joined : goal.returns-in_err-joined
+returns-in_err-joined c = rw (handed _ _ c.from_residual.ensures.1) (joins-refused c.requires.declaring_in c.args.input c.input_of-s.ensures.result_value c.requires.unit_known c.lacks_header.ensures c.if-lacks_header.false c.file_unit-described.ensures c.file_unit-described.auto.work c.in_err-joined.ensures _ refl)
 
-pub returns-in-Indices : goal.returns-in-Indices
-returns-in-Indices c = joins-table c.requires.declaring_in c.args.input c.input_of-s.ensures.result_value c.requires.unit_known c.lacks_header.ensures c.if-lacks_header.false c.file_unit-described.ensures c.file_unit-described.auto.work c.intern_header_files.ensures _ _ c.in-Indices.is
+pub returns : goal.returns
+returns c = joins-table c.requires.declaring_in c.args.input c.input_of-s.ensures.result_value c.requires.unit_known c.lacks_header.ensures c.if-lacks_header.false c.file_unit-described.ensures c.file_unit-described.auto.work c.in_ok-joined.ensures _ refl

@@ -15,8 +15,8 @@ number_of-requires-clause-declaring_in c = c.requires.declaring_in
 pub number_of-requires-clause-unit_known : goal.number_of-requires-clause-unit_known
 number_of-requires-clause-unit_known c = unit-known c.requires.declaring_in c.args.at c.requires.stands
 
-pub warn_declaration-requires-clause-unit_placed : goal.warn_declaration-requires-clause-unit_placed
-warn_declaration-requires-clause-unit_placed c = unit-here c.requires.declaring_in c.args.at.input c.input_of-s.ensures.result_value (unit-known c.requires.declaring_in c.args.at c.requires.stands)
+pub warn_declaration-requires-clause-listed : goal.warn_declaration-requires-clause-listed
+warn_declaration-requires-clause-listed c = rw c.input_of-s.ensures.result_value (unit-known c.requires.declaring_in c.args.at c.requires.stands).listed
 
 pub warn_declaration-requires-clause-placed : goal.warn_declaration-requires-clause-placed
 warn_declaration-requires-clause-placed c = rw c.input_of-s.ensures.result_value (accepted-at c.requires.declaring_in c.args.at.input)
@@ -24,23 +24,23 @@ warn_declaration-requires-clause-placed c = rw c.input_of-s.ensures.result_value
 pub warn_declaration-requires-clause-entry_known : goal.warn_declaration-requires-clause-entry_known
 warn_declaration-requires-clause-entry_known c = rw c.input_of-s.ensures.result_value c.requires.stands.known
 
-pub warn_declaration-requires-then-line-ge4294967296-clause-unit_placed : goal.warn_declaration-requires-then-line-ge4294967296-clause-unit_placed
-warn_declaration-requires-then-line-ge4294967296-clause-unit_placed c = unit-here c.requires.declaring_in c.args.at.input c.input_of-s.ensures.result_value (unit-known c.requires.declaring_in c.args.at c.requires.stands)
+pub returns-in_default-try_from : goal.returns-in_default-try_from
+returns-in_default-try_from c = own-long_line c.requires.declaring_in c.args.at _ c.input_of-s.ensures.result_value c.declared_at.ensures c.in-Some.is c.number_of.ensures c.number_of.auto.work (omega (arith, c.well_formed)) c.in-Some-number_of.is (omega (arith, c.in_default-try_from.ensures)) c.warn_declaration-in_default-try_from.ensures
 
-pub warn_declaration-requires-then-line-ge4294967296-clause-placed : goal.warn_declaration-requires-then-line-ge4294967296-clause-placed
-warn_declaration-requires-then-line-ge4294967296-clause-placed c = rw c.input_of-s.ensures.result_value (accepted-at c.requires.declaring_in c.args.at.input)
+pub returns-in_default : goal.returns-in_default
+returns-in_default c = own-nothing c.requires.declaring_in c.args.at _ c.input_of-s.ensures.result_value c.declared_at.ensures (omega (arith, c.well_formed)) c.in_default.is
 
-pub warn_declaration-requires-then-line-ge4294967296-clause-entry_known : goal.warn_declaration-requires-then-line-ge4294967296-clause-entry_known
-warn_declaration-requires-then-line-ge4294967296-clause-entry_known c = rw c.input_of-s.ensures.result_value c.requires.stands.known
+pub returns-in_default-number_of : goal.returns-in_default-number_of
+returns-in_default-number_of c = own-no_file c.requires.declaring_in c.args.at _ c.input_of-s.ensures.result_value c.declared_at.ensures c.in-Some.is c.number_of.ensures c.number_of.auto.work (omega (arith, c.well_formed)) c.in_default-number_of.is c.warn_declaration.ensures
 
-pub returns-then-line-ge4294967296 : goal.returns-then-line-ge4294967296
-returns-then-line-ge4294967296 c = own-long_line c.requires.declaring_in c.args.at _ c.input_of-s.ensures.result_value c.declared_at.ensures c.in-At.is c.number_of.ensures c.number_of.auto.work (omega (arith, c.well_formed)) c.in-Number.is (omega arith) c.warn_declaration-then-line-ge4294967296.ensures
+pub returns : goal.returns
+returns c = own-found c.requires.declaring_in c.args.at _ c.input_of-s.ensures.result_value c.declared_at.ensures c.in-Some.is c.number_of.ensures c.number_of.auto.work (omega (arith, c.well_formed)) c.in-Some-number_of.is c.in-Ok.ensures
 
-pub returns-in-Missing : goal.returns-in-Missing
-returns-in-Missing c = own-nothing c.requires.declaring_in c.args.at _ c.input_of-s.ensures.result_value c.declared_at.ensures (omega (arith, c.well_formed)) c.in-Missing.is
+pub warn_declaration-requires-in_default-try_from-clause-listed : goal.warn_declaration-requires-in_default-try_from-clause-listed
+warn_declaration-requires-in_default-try_from-clause-listed c = rw c.input_of-s.ensures.result_value (unit-known c.requires.declaring_in c.args.at c.requires.stands).listed
 
-pub returns-in-Missing-number_of : goal.returns-in-Missing-number_of
-returns-in-Missing-number_of c = own-no_file c.requires.declaring_in c.args.at _ c.input_of-s.ensures.result_value c.declared_at.ensures c.in-At.is c.number_of.ensures c.number_of.auto.work (omega (arith, c.well_formed)) c.in-Missing-number_of.is c.warn_declaration.ensures
+pub warn_declaration-requires-in_default-try_from-clause-placed : goal.warn_declaration-requires-in_default-try_from-clause-placed
+warn_declaration-requires-in_default-try_from-clause-placed c = rw c.input_of-s.ensures.result_value (accepted-at c.requires.declaring_in c.args.at.input)
 
-pub returns-else-line-ge4294967296 : goal.returns-else-line-ge4294967296
-returns-else-line-ge4294967296 c = own-found c.requires.declaring_in c.args.at _ c.input_of-s.ensures.result_value c.declared_at.ensures c.in-At.is c.number_of.ensures c.number_of.auto.work (omega (arith, c.well_formed)) c.in-Number.is (omega arith)
+pub warn_declaration-requires-in_default-try_from-clause-entry_known : goal.warn_declaration-requires-in_default-try_from-clause-entry_known
+warn_declaration-requires-in_default-try_from-clause-entry_known c = rw c.input_of-s.ensures.result_value c.requires.stands.known

@@ -1,9 +1,18 @@
 -- `own_declarations::warn_declaration` meets its contract.
+use native.Mathlib.Omega.{arith}
+use Rattle.tlv.proofs.AnswerLaws.{handed}
 use Rattle.declarations.proofs.OwnDeclarationLaws.{warns-refused, warns-written}
+use Rattle.declarations.proofs.own_declarations.OwnLineLaws.{place_inside, entry-is}
 use Rattle.declarations.proofs.own_declarations.warn_declaration.Goals as goal
 
-pub returns-in-Missing : goal.returns-in-Missing
-returns-in-Missing c = warns-refused c.absolute_entry_offset.ensures c.in-Missing.is
+pub overflow_add-place : goal.overflow_add-place
+overflow_add-place c = omega (arith, place_inside c.requires.placed c.requires.entry_known)
 
-pub returns-in-Is : goal.returns-in-Is
-returns-in-Is c = warns-written c.absolute_entry_offset.ensures c.in-Is.is c.put_warning-warned.ensures
+pub read-requires : goal.read-requires
+read-requires c = place_inside c.requires.placed c.requires.entry_known
+
+pub returns-in_err-offset : goal.returns-in_err-offset
+returns-in_err-offset c = rw (handed _ _ c.from_residual.ensures.1) (warns-refused (rw (entry-is c.requires.placed c.requires.entry_known c.read.ensures) c.in_err-offset.ensures))
+
+pub returns : goal.returns
+returns c = warns-written (rw (entry-is c.requires.placed c.requires.entry_known c.read.ensures) c.in_ok-offset.ensures) c.put_warning-warned.ensures
