@@ -1,6 +1,6 @@
 -- The ranges of an inlined entry, of its fields 19 or of its list: what each source gives, and which one it is.
 use mathlib.Core.Path.{◌≡◌, refl, sym, ap, ◌∙◌}
-use mathlib.Core.Bool.{Bool, true, false, ◌&&◌, ◌||◌}
+use mathlib.Core.Bool.{Bool, true, false, true≢false, false≢true, ◌&&◌, ◌||◌}
 use mathlib.Core.Logic.{◌⊎◌, inl, inr}
 use mathlib.Core.List.{List, [], ◌∷◌}
 use Prim.Native.Nat.{ℕ, ◌+◌, ◌*◌, ◌/◌, ◌≤◌}
@@ -20,16 +20,18 @@ use Rattle.tlv.proofs.ShapeLaws.{number_at, number-first}
 use Rattle.tlv.proofs.PlaceFacts.{placed-shaped}
 use Rattle.tlv.proofs.PlacePromises.{placed-list}
 use Rattle.buffers.proofs.TableLaws.{kept_refl, kept-wide, kept_trans}
-use Rattle.access.specs.declared.access.Own.{Own}
+use Rattle.std.specs.Prelude.{Result, Ok, Err, Option, Some, None, IsSome, IsNone}
+use Rattle.tlv.specs.declared.refusal.Refusal.{Refusal}
+use Rattle.tlv.specs.declared.fields.FieldSpan.{FieldSpan}
+use Rattle.tlv.specs.Cursor.{step_at}
+use Rattle.tlv.specs.Refusals.{number_of}
 use Rattle.access.specs.Places.{own_fields}
 use Rattle.access.specs.Access.{NextOwn}
 use Rattle.access.proofs.OwnLaws.{own-field, own-within}
 use Rattle.rnglists.specs.RangeLists.{ListRanges, list_ranges, failure_by}
 use Rattle.imports.specs.Ranges.{coalesce_ranges}
 use Rattle.imports.specs.Tree.{fit}
-use Rattle.ranges.specs.declared.gather.ListGathered.{ListGathered}
-use Rattle.ranges.specs.declared.inlined.Merged.{Merged}
-use Rattle.ranges.specs.RangeTable.{ranges_at, range_fields, own_lists, MergedAt, Gathered, list_at, list_given, GatheredList, read_at, Merges, MergesList, MergesFields}
+use Rattle.ranges.specs.RangeTable.{ranges_at, range_fields, own_lists, MergedAt, Gathered, list_at, list_of, list_given, GatheredList, read_at, Merges, MergesList, MergesFields}
 use Rattle.ranges.proofs.GatherLaws.{fit-nonempty}
 
 -- ---- a list
@@ -41,56 +43,50 @@ fault-none : (n : ℕ) → n ≡ 0 → is_none (failure_by n) ≡ true
 fault-none n h = rw (eq-eqb n 0 h)
 
 -- the list by the numbers of its field
-list_same : (s lists addresses : List ℕ) (start : ℕ) {place size offset base : ℕ} → offset ≡ le_at 8 s start → base ≡ le_at 8 s (start + 8) → place ≡ le_at 8 s (start + 16) → size ≡ le_at 1 s (start + 24)
-    → list_at lists addresses place size offset base ≡ list_at lists addresses (le_at 8 s (start + 16)) (le_at 1 s (start + 24)) (le_at 8 s start) (le_at 8 s (start + 8))
+list_same : (s lists addresses : List ℕ) (start : ℕ) {place size offset base : ℕ} → offset ≡ le_at 8 s start → base ≡ le_at 8 s (start + 8)
+    → place ≡ le_at 8 s (start + 16) → size ≡ le_at 1 s (start + 24) → list_at lists addresses place size offset base ≡ list_of s lists addresses start
 list_same s lists addresses start eo eb ep es = λ i. list_at lists addresses (ep i) (es i) (eo i) (eb i)
 
-module _ {lists addresses w w₁ : List ℕ} {place size offset base q m to : ℕ} {g : ListGathered} (G : GatheredList lists addresses place size offset base w w₁ q m to g) where
-  module _ {n : ℕ} (e : g ≡ ListGathered.Ranges n) where
-    filled : GatheredList lists addresses place size offset base w w₁ q m to (ListGathered.Ranges n)
-    filled = rw e at G
-
+module _ {lists addresses w w₁ : List ℕ} {place size offset base q m to : ℕ} where
+  module _ {n : ℕ} (G : GatheredList lists addresses place size offset base w w₁ q m to (Ok n)) where
     pub list-few : n ≤ length lists / 3
-    list-few = filled.is.2
+    list-few = G.is.2
 
     pub list-nonempty : All Nonempty (ranges_at w₁ to n)
-    list-nonempty = rw filled.is.1 (fit-nonempty (ranges_at w q m) (list_given (list_at lists addresses place size offset base)))
+    list-nonempty = rw G.is.1 (fit-nonempty (ranges_at w q m) (list_given (list_at lists addresses place size offset base)))
 
-  module _ (s : List ℕ) (start : ℕ) (eo : offset ≡ le_at 8 s start) (eb : base ≡ le_at 8 s (start + 8)) (ep : place ≡ le_at 8 s (start + 16)) (es : size ≡ le_at 1 s (start + 24)) where
-    abbrev here : ListRanges
-    here = list_at lists addresses (le_at 8 s (start + 16)) (le_at 1 s (start + 24)) (le_at 8 s start) (le_at 8 s (start + 8))
+  module _ (s : List ℕ) (start : ℕ) (eo : offset ≡ le_at 8 s start) (eb : base ≡ le_at 8 s (start + 8)) (ep : place ≡ le_at 8 s (start + 16))
+      (es : size ≡ le_at 1 s (start + 24)) where
+    pub list-refused : {e : Refusal} → GatheredList lists addresses place size offset base w w₁ q m to (Err e) → MergesList (list_of s lists addresses start) lists w w₁ q m to (Err e)
+    list-refused {e} G =
+        let z : (list_of s lists addresses start).fault ≡ number_of e = ap (λ (l : ListRanges). l.fault) (sym (list_same s lists addresses start eo eb ep es)) ∙ G.is.0 in
+        record { is = (ap (λ (n : ℕ). is_none (failure_by n)) z ∙ fault-some (number_of e) G.is.1, z, omega (arith, G.is.1)); few = tt; rest = G.rest }
 
-    same : list_at lists addresses place size offset base ≡ here
-    same = list_same s lists addresses start eo eb ep es
-
-    pub list-refused : {f : ℕ} → g ≡ ListGathered.Fault f → MergesList here lists w w₁ q m to (Merged.Refused f)
-    list-refused {f} e =
-        let Q : GatheredList lists addresses place size offset base w w₁ q m to (ListGathered.Fault f) = rw e at G in
-        let z : here.fault ≡ f = ap (λ (l : ListRanges). l.fault) (sym same) ∙ Q.is.0 in
-        record { is = (ap (λ (n : ℕ). is_none (failure_by n)) z ∙ fault-some f Q.is.1, z, omega (arith, Q.is.1)); few = tt; rest = Q.rest }
-
-    pub list-merged : {n : ℕ} → g ≡ ListGathered.Ranges n → {w₂ : List ℕ} {k : ℕ} → MergedAt w₁ w₂ to n k → MergesList here lists w w₂ q m to (Merged.Ranges k)
-    list-merged e M =
-        let z : here.fault ≡ 0 = ap (λ (l : ListRanges). l.fault) (sym same) ∙ (filled e).is.0 in
+    pub list-merged : {n : ℕ} → GatheredList lists addresses place size offset base w w₁ q m to (Ok n) → {w₂ : List ℕ} {k : ℕ} → MergedAt w₁ w₂ to n k
+        → MergesList (list_of s lists addresses start) lists w w₂ q m to (Ok k)
+    list-merged G M =
+        let z : (list_of s lists addresses start).fault ≡ 0 = ap (λ (l : ListRanges). l.fault) (sym (list_same s lists addresses start eo eb ep es)) ∙ G.is.0 in
         record {
           is = (
-            fault-none here.fault z,
-            M.ranges ∙ ap coalesce_ranges (filled e).is.1 ∙ ap (λ (l : ListRanges). coalesce_ranges (fit (ranges_at w q m) (list_given l))) same,
+            fault-none (list_of s lists addresses start).fault z,
+            M.ranges ∙ ap coalesce_ranges G.is.1 ∙ ap (λ (l : ListRanges). coalesce_ranges (fit (ranges_at w q m) (list_given l))) (list_same s lists addresses start eo eb ep es),
           );
-          few = omega (arith, M.few, list-few e);
-          rest = kept_trans (filled e).rest (kept-wide to (16 * (length lists / 3)) M.rest (omega arith) (omega (arith, list-few e, M.few)));
+          few = omega (arith, M.few, G.is.2);
+          rest = kept_trans G.rest (kept-wide to (16 * (length lists / 3)) M.rest (omega arith) (omega (arith, G.is.2, M.few)));
         }
 
 -- ---- fields 19 and 1a
 
-module _ {s w : List ℕ} {p q m to : ℕ} {own : Own} (N : NextOwn s p 0x1a own) where
-  pub field-refused : {start len next : ℕ} → own ≡ Own.Field start len next → MergesFields s p w w q m to (Merged.Refused 6)
+module _ {s w : List ℕ} {p q m to : ℕ} where
+  pub field-refused : (o : Option FieldSpan) → IsSome o → NextOwn s p 0x1a o → MergesFields s p w w q m to (Err Refusal.Decoder)
   unfolding payload_of map_option
-  field-refused e = record { is = (rw (← N.is, e), refl, omega arith); few = tt; rest = kept_refl w to (16 * length (range_fields s p)) }
+  field-refused None h N = absurd (false≢true h)
+  field-refused (Some f) h N = record { is = (rw (← N.is) refl, refl, omega arith); few = tt; rest = kept_refl w to (16 * length (range_fields s p)) }
 
-  pub field-merged : {w₁ : List ℕ} {k : ℕ} → own ≡ Own.Missing → Gathered s p w w₁ q m to k → MergesFields s p w w₁ q m to (Merged.Ranges k)
+  pub field-merged : {w₁ : List ℕ} {k : ℕ} (o : Option FieldSpan) → IsNone o → NextOwn s p 0x1a o → Gathered s p w w₁ q m to k → MergesFields s p w w₁ q m to (Ok k)
   unfolding payload_of map_option
-  field-merged e G = record { is = (rw (← N.is, e), G.ranges); few = G.few; rest = G.rest }
+  field-merged None h N G = record { is = (rw (← N.is) refl, G.ranges); few = G.few; rest = G.rest }
+  field-merged (Some f) h N G = absurd (true≢false h)
 
 -- ---- which of them
 
@@ -98,7 +94,7 @@ empty_none : (xs : List (List ℕ)) → length xs ≡ 0 → xs ≡ []
 empty_none [] h = refl
 empty_none (x ∷ xs) h = absurd (omega arith)
 
-module _ (lists addresses : List ℕ) {s w w' : List ℕ} {p q m to : ℕ} {r : Merged} where
+module _ (lists addresses : List ℕ) {s w w' : List ℕ} {p q m to : ℕ} {r : Result ℕ Refusal} where
   by-fields : payloads 0x1f (own_fields (fields (drop p s))) ≡ [] → MergesFields s p w w' q m to r → Merges (read_at lists addresses s p) s lists p w w' q m to r
   unfolding payload_of map_option
   by-fields e M = record { is = rw e M.is; most = length (range_fields s p); few = M.few; own = inl refl; rest = M.rest }
@@ -106,53 +102,53 @@ module _ (lists addresses : List ℕ) {s w w' : List ℕ} {p q m to : ℕ} {r : 
   pub inline-listless : {b : Bool} → (b ≡ false → own_lists s p ≡ 0) → b ≡ false → MergesFields s p w w' q m to r → Merges (read_at lists addresses s p) s lists p w w' q m to r
   inline-listless f e M = by-fields (empty_none (payloads 0x1f (own_fields (fields (drop p s)))) (f e)) M
 
-  pub inline-missing : {own : Own} → NextOwn s p 0x1f own → own ≡ Own.Missing → MergesFields s p w w' q m to r → Merges (read_at lists addresses s p) s lists p w w' q m to r
-  inline-missing N e M = by-fields (sym (rw e at N.is)) M
+  pub inline-missing : NextOwn s p 0x1f None → MergesFields s p w w' q m to r → Merges (read_at lists addresses s p) s lists p w w' q m to r
+  inline-missing N M = by-fields (sym N.is) M
 
-module _ {s : List ℕ} {p : ℕ} {own : Own} (N : NextOwn s p 0x1f own) {start len next : ℕ} (e : own ≡ Own.Field start len next) where
-  fields-are : payloads 0x1f (own_fields (fields (drop p s))) ≡ take len (drop start s) ∷ payloads 0x1f (own_fields (fields (drop next s)))
-  fields-are = sym (rw e at N.is)
+module _ {s : List ℕ} {p : ℕ} {f : FieldSpan} (N : NextOwn s p 0x1f (Some f)) where
+  fields-are : payloads 0x1f (own_fields (fields (drop p s))) ≡ take f.len (drop f.start s) ∷ payloads 0x1f (own_fields (fields (drop f.next s)))
+  fields-are = sym N.is
 
   pub list-there : 1 ≤ own_lists s p
   list-there = omega (arith, ap length fields-are)
 
   module _ (h : Placed s p) where
-    long : len ≡ 25
-    long = let f = own-field s p 0x1f own start len next N e h in placed-list s f.place f.step 0x1f start len next f.here f.reads f.is refl
+    long : f.len ≡ 25
+    long = let x = own-field s p 0x1f f N h in placed-list s x.place (step_at s x.place) 0x1f f.start f.len f.next x.here refl x.is refl
 
-    pub list-within : start + 25 ≤ length s
-    list-within = omega (arith, long, own-within s p 0x1f own start len next N e)
+    pub list-within : f.start + 25 ≤ length s
+    list-within = omega (arith, long, own-within s p 0x1f f N)
 
-    read_is : range_list_of (take len (drop start s)) ≡ record { offset = le_at 8 s start; base = le_at 8 s (start + 8); addresses = le_at 8 s (start + 16); size = le_at 1 s (start + 24) }
+    read_is : range_list_of (take f.len (drop f.start s)) ≡ record { offset = le_at 8 s f.start; base = le_at 8 s (f.start + 8); addresses = le_at 8 s (f.start + 16); size = le_at 1 s (f.start + 24) }
     unfolding range_list_of
     read_is = λ i. record {
-      offset = number-first s start len 8 (le_at 8 s start) (omega (arith, long)) refl i;
-      base = number_at s start len 8 8 (le_at 8 s (start + 8)) (omega (arith, long)) refl i;
-      addresses = number_at s start len 8 16 (le_at 8 s (start + 16)) (omega (arith, long)) refl i;
-      size = number_at s start len 1 24 (le_at 1 s (start + 24)) (omega (arith, long)) refl i;
+      offset = number-first s f.start f.len 8 (le_at 8 s f.start) (omega (arith, long)) refl i;
+      base = number_at s f.start f.len 8 8 (le_at 8 s (f.start + 8)) (omega (arith, long)) refl i;
+      addresses = number_at s f.start f.len 8 16 (le_at 8 s (f.start + 16)) (omega (arith, long)) refl i;
+      size = number_at s f.start f.len 1 24 (le_at 1 s (f.start + 24)) (omega (arith, long)) refl i;
     }
 
-    shape : payload_shaped (own-field s p 0x1f own start len next N e h).here.context 0x1f (take len (drop start s)) ≡ true
+    shape : payload_shaped (own-field s p 0x1f f N h).here.context 0x1f (take f.len (drop f.start s)) ≡ true
     unfolding shaped
     shape =
-        let f = own-field s p 0x1f own start len next N e h in
-        and_right (may_follow f.here.context.previous 0x1f) (payload_shaped f.here.context 0x1f (take len (drop start s)))
-        (placed-shaped s f.place f.step 0x1f start len next f.here f.reads f.is)
+        let x = own-field s p 0x1f f N h in
+        and_right (may_follow x.here.context.previous 0x1f) (payload_shaped x.here.context 0x1f (take f.len (drop f.start s)))
+        (placed-shaped s x.place (step_at s x.place) 0x1f f.start f.len f.next x.here refl x.is)
 
-    pub list-word : (le_at 1 s (start + 24) ≡ 4) ⊎ (le_at 1 s (start + 24) ≡ 8)
+    pub list-word : (le_at 1 s (f.start + 24) ≡ 4) ⊎ (le_at 1 s (f.start + 24) ≡ 8)
     unfolding payload_shaped list_shaped
     list-word =
-        let c = (own-field s p 0x1f own start len next N e h).here.context in
-        let n = le_at 1 (take len (drop start s)) 24 in
-        let size_is : n ≡ le_at 1 s (start + 24) = number_at s start len 1 24 (le_at 1 s (start + 24)) (omega (arith, long)) refl in
-        let word = and_right (eqb (length (take len (drop start s))) 25 && eqb c.version 5) (eqb n 4 || eqb n 8) shape in
+        let c = (own-field s p 0x1f f N h).here.context in
+        let n = le_at 1 (take f.len (drop f.start s)) 24 in
+        let size_is : n ≡ le_at 1 s (f.start + 24) = number_at s f.start f.len 1 24 (le_at 1 s (f.start + 24)) (omega (arith, long)) refl in
+        let word = and_right (eqb (length (take f.len (drop f.start s))) 25 && eqb c.version 5) (eqb n 4 || eqb n 8) shape in
         elim (or_either (eqb n 4) (eqb n 8) word) [
           | inl x ↦ inl (sym size_is ∙ eqb-true n 4 x)
           | inr x ↦ inr (sym size_is ∙ eqb-true n 8 x)
         ]
 
-    pub inline-list : (lists addresses : List ℕ) {w w' : List ℕ} {q m to : ℕ} {r : Merged}
-        → MergesList (list_at lists addresses (le_at 8 s (start + 16)) (le_at 1 s (start + 24)) (le_at 8 s start) (le_at 8 s (start + 8))) lists w w' q m to r
+    pub inline-list : (lists addresses : List ℕ) {w w' : List ℕ} {q m to : ℕ} {r : Result ℕ Refusal}
+        → MergesList (list_at lists addresses (le_at 8 s (f.start + 16)) (le_at 1 s (f.start + 24)) (le_at 8 s f.start) (le_at 8 s (f.start + 8))) lists w w' q m to r
         → Merges (read_at lists addresses s p) s lists p w w' q m to r
     unfolding payload_of map_option list_ranges
     inline-list lists addresses M = record { is = rw (fields-are, read_is) M.is; most = length lists / 3; few = M.few; own = inr (refl, list-there); rest = M.rest }

@@ -1,6 +1,6 @@
 -- Ranges in the work slice, and the loops over them: whether one lies inside some, one more in place.
 use mathlib.Core.Path.{◌≡◌, refl, sym, ap, ◌∙◌}
-use mathlib.Core.Logic.{inl, inr}
+use mathlib.Core.Logic.{◌⊎◌, inl, inr}
 use mathlib.Core.List.{List, [], ◌∷◌, ◌++◌, append_assoc, append-nil}
 use mathlib.Core.Bool.{Bool, true, false, ◌&&◌, ◌||◌}
 use Prim.Native.Nat.{ℕ, ◌+◌, ◌-◌, ◌*◌, ◌≤◌, ◌<◌, min, max}
@@ -108,14 +108,12 @@ module _ {w : List ℕ} {p n : ℕ} {x : AddressRange} {i : ℕ} (L : Lying w p 
     turn : lies_in (ranges_at w p n) x ≡ (leb m.start x.start && leb x.end m.end) || lies_in (drop (i + 1) (ranges_at w p n)) x
     turn = L.rest ∙ ap (λ (l : List AddressRange). lies_in l x) (ranges-cons w p n i h) ∙ rw em
 
-    pub lying-low : x.start < m.start → Lying w p n x (i + 1)
-    lying-low l = record { within = omega arith; rest = turn ∙ rw (lt-leb m.start x.start l) }
-
     pub lying-hit : m.start ≤ x.start → x.end ≤ m.end → true ≡ lies_in (ranges_at w p n) x
     lying-hit l k = sym (turn ∙ rw (le-leb m.start x.start l, le-leb x.end m.end k))
 
-    pub lying-high : m.start ≤ x.start → m.end < x.end → Lying w p n x (i + 1)
-    lying-high l k = record { within = omega arith; rest = turn ∙ rw (le-leb m.start x.start l, lt-leb x.end m.end k) }
+    pub lying-miss : (m.start ≤ x.start) × (m.end < x.end) ⊎ (x.start < m.start) → Lying w p n x (i + 1)
+    lying-miss (inl q) = record { within = omega arith; rest = turn ∙ rw (le-leb m.start x.start q.0, lt-leb x.end m.end q.1) }
+    lying-miss (inr l) = record { within = omega arith; rest = turn ∙ rw (lt-leb m.start x.start l) }
 
 -- ---- one range more, by a pass in place: o ranges are written, and `held` is in hand
 

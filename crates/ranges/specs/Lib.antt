@@ -1,1 +1,2 @@
 pub mod RangeTable
+pub mod Stays

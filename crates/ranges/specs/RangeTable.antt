@@ -1,21 +1,21 @@
 -- Contract. Ranges in the work slice, and what the functions that merge them there promise.
-use Rattle.std.specs.Prelude.{◌≡◌, ◌↔◌, ◌⊎◌, Bool, true, false, List, [], ◌∷◌, ◌++◌, map, ℕ, ◌+◌, ◌*◌, ◌/◌, ◌≤◌, min, max, ltb, length, drop}
+use Rattle.std.specs.Prelude.{Result, Ok, Err, ◌≡◌, ◌↔◌, ◌⊎◌, Bool, true, false, List, [], ◌∷◌, ◌++◌, map, ℕ, ◌+◌, ◌*◌, ◌/◌, ◌≤◌, min, max, ltb, length, drop}
 use Rattle.std.proofs.Math.Option.{Option, none, some}
 use Rattle.tlv.specs.Tags.{failure_tag, list_tag, range_tag}
 use Rattle.tlv.specs.declared.model.AddressRange.{AddressRange}
+use Rattle.tlv.specs.declared.refusal.Refusal.{Refusal}
+use Rattle.tlv.specs.Refusals.{number_of}
 use Rattle.tlv.specs.Bytes.{le_at}
 use Rattle.tlv.specs.Grammar.{list_base_at, list_addresses_at, list_size_at}
 use Rattle.tlv.specs.Fields.{fields, payloads, payload_of}
 use Rattle.tlv.specs.Model.{RangeList, range_of, entry_range_of, failure_of, range_list_of}
 use Rattle.tlv.specs.Lists.{Any, is_none, map_option}
-use Rattle.buffers.specs.Table.{chunk, records, Kept, KeptBut}
+use Rattle.buffers.specs.Table.{chunk, records, Kept}
 use Rattle.access.specs.Places.{own_fields}
 use Rattle.rnglists.specs.RangeLists.{ListRanges, ranges_in, list_ranges, DieRanges, listed}
 use Rattle.rnglists.specs.Room.{range_least}
 use Rattle.imports.specs.Ranges.{Apart, coalesce_ranges}
 use Rattle.imports.specs.Tree.{fit}
-use Rattle.ranges.specs.declared.gather.ListGathered.{ListGathered}
-use Rattle.ranges.specs.declared.inlined.Merged.{Merged}
 
 -- bytes of a range
 abbrev pub range_record : ℕ
@@ -61,12 +61,6 @@ pub record Added (w w' : List ℕ) (p n : ℕ) (x : AddressRange) (r : ℕ) : Ty
   pub rest : Kept w w' p (n * range_record + range_record)
 
 -- ---- all the ranges of a table, in some order
-
--- ranges i and j at p changed places
-pub record Swapped (w w' : List ℕ) (p i j : ℕ) : Type 0 where
-  pub former : range_of (chunk w' (p + i * range_record) range_record) ≡ range_of (chunk w (p + j * range_record) range_record)
-  pub latter : range_of (chunk w' (p + j * range_record) range_record) ≡ range_of (chunk w (p + i * range_record) range_record)
-  pub rest : KeptBut w w' ((p + i * range_record, range_record) ∷ (p + j * range_record, range_record) ∷ [])
 
 -- a range is one of the n at p just if it was one of them before: their order, and how often each stands there, does not matter to merging
 pub record Reordered (w w' : List ℕ) (p n : ℕ) : Type 0 where
@@ -130,27 +124,27 @@ abbrev pub list_given : ListRanges → List AddressRange
 list_given l = map (λ x. x.range) l.given
 
 -- those that are nonempty and lie inside one of the m at q stand at `to`, as they come: a third of the section's bytes at the most; or the list has a fault
-abbrev pub ListFit : List ℕ → ListRanges → List ℕ → List ℕ → ℕ → ℕ → ℕ → ListGathered → Type 0
-ListFit lists l w w' q m to (ListGathered.Ranges r) = (l.fault ≡ 0) × (ranges_at w' to r ≡ fit (ranges_at w q m) (list_given l))
+abbrev pub ListFit : List ℕ → ListRanges → List ℕ → List ℕ → ℕ → ℕ → ℕ → Result ℕ Refusal → Type 0
+ListFit lists l w w' q m to (Ok r) = (l.fault ≡ 0) × (ranges_at w' to r ≡ fit (ranges_at w q m) (list_given l))
     × (r ≤ length lists / range_least)
-ListFit lists l w w' q m to (ListGathered.Fault n) = (l.fault ≡ n) × (7 ≤ n)
+ListFit lists l w w' q m to (Err e) = (l.fault ≡ number_of e) × (7 ≤ number_of e)
 
-pub record GatheredList (lists addresses : List ℕ) (place size offset from : ℕ) (w w' : List ℕ) (q m to : ℕ) (r : ListGathered) : Type 0 where
+pub record GatheredList (lists addresses : List ℕ) (place size offset from : ℕ) (w w' : List ℕ) (q m to : ℕ) (r : Result ℕ Refusal) : Type 0 where
   pub is : ListFit lists (list_at lists addresses place size offset from) w w' q m to r
   pub rest : Kept w w' to (range_record * (length lists / range_least))
 
 -- ---- the ranges of an inlined entry: merged, or the refusal that they are
 
 -- of x, which the definition reads, those that are nonempty and lie inside one of the m at q were merged to r ranges at `to`; or reading them failed
-abbrev pub MergedBy : DieRanges → List ℕ → List ℕ → ℕ → ℕ → ℕ → Merged → Type 0
-MergedBy x w w' q m to (Merged.Ranges r) =
+abbrev pub MergedBy : DieRanges → List ℕ → List ℕ → ℕ → ℕ → ℕ → Result ℕ Refusal → Type 0
+MergedBy x w w' q m to (Ok r) =
     (is_none x.failure ≡ true) × (ranges_at w' to r ≡ coalesce_ranges (fit (ranges_at w q m) (map (λ y. y.range) x.given)))
-MergedBy x w w' q m to (Merged.Refused n) = (is_none x.failure ≡ false) × (x.refusal ≡ n) × (6 ≤ n)
+MergedBy x w w' q m to (Err e) = (is_none x.failure ≡ false) × (x.refusal ≡ number_of e) × (6 ≤ number_of e)
 
 -- there are no more than `most`
-abbrev pub MergedFew : ℕ → Merged → Type 0
-MergedFew most (Merged.Ranges r) = r ≤ most
-MergedFew most (Merged.Refused n) = Unit
+abbrev pub MergedFew : ℕ → Result ℕ Refusal → Type 0
+MergedFew most (Ok r) = r ≤ most
+MergedFew most (Err e) = Unit
 
 -- what is read of the entry whose field ends at p: its fields 19 and 1a, or, "in place of 19 and 1a", its list
 abbrev pub read_by : List ℕ → List ℕ → List ℕ → ℕ → Option RangeList → DieRanges
@@ -165,7 +159,7 @@ abbrev pub read_at : List ℕ → List ℕ → List ℕ → ℕ → DieRanges
 read_at lists addresses s p = read_by lists addresses s p (map_option range_list_of (payload_of list_tag (own_fields (fields (drop p s)))))
 
 -- its ranges, merged: those of its fields 19, or of its list
-pub record Merges (x : DieRanges) (s lists : List ℕ) (p : ℕ) (w w' : List ℕ) (q m to : ℕ) (r : Merged) : Type 0 where
+pub record Merges (x : DieRanges) (s lists : List ℕ) (p : ℕ) (w w' : List ℕ) (q m to : ℕ) (r : Result ℕ Refusal) : Type 0 where
   pub is : MergedBy x w w' q m to r
   pub most : ℕ
   pub few : MergedFew most r
@@ -173,13 +167,13 @@ pub record Merges (x : DieRanges) (s lists : List ℕ) (p : ℕ) (w w' : List �
   pub rest : Kept w w' to (range_record * most)
 
 -- the list's own part of it
-pub record MergesList (l : ListRanges) (lists w w' : List ℕ) (q m to : ℕ) (r : Merged) : Type 0 where
+pub record MergesList (l : ListRanges) (lists w w' : List ℕ) (q m to : ℕ) (r : Result ℕ Refusal) : Type 0 where
   pub is : MergedBy (listed l) w w' q m to r
   pub few : MergedFew (length lists / range_least) r
   pub rest : Kept w w' to (range_record * (length lists / range_least))
 
 -- and that of the fields 19 and 1a of the entry whose field ends at p
-pub record MergesFields (s : List ℕ) (p : ℕ) (w w' : List ℕ) (q m to : ℕ) (r : Merged) : Type 0 where
+pub record MergesFields (s : List ℕ) (p : ℕ) (w w' : List ℕ) (q m to : ℕ) (r : Result ℕ Refusal) : Type 0 where
   pub is : MergedBy (read_by [] [] s p none) w w' q m to r
   pub few : MergedFew (length (range_fields s p)) r
   pub rest : Kept w w' to (range_record * length (range_fields s p))

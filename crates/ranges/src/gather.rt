@@ -5,9 +5,10 @@ ghost use Rattle.rnglists.specs.Room.{range_least};
 ghost use Rattle.ranges.specs.RangeTable.{range_fields, PutFit, GatheredFit, GatheredList, range_record};
 
 use crate::ranges::{RANGE_RECORD, lies_in, put_range_at, range_at};
-use access::access::Own;
-use rnglists::lists::NextRange;
+use access::access::next_own;
+use rnglists::lists::next_range;
 use tlv::model::AddressRange;
+use tlv::refusal::Refusal;
 use tlv::tags::RANGE_TAG;
 
 // Adds a range behind the n at `to`, if it is nonempty and lies inside one of the m ranges at q.
@@ -22,14 +23,11 @@ fn put_fitting(
     requires { (q + m * range_record ≤ to) × (to + n * range_record + range_record ≤ length work.old) }
     ensures { PutFit work.old work.new q m to n range result }
 {
-    if range.end <= range.start {
+    if range.end <= range.start || !lies_in(work, q, m, range) {
         return n;
     }
-    if lies_in(work, q, m, range) {
-        put_range_at(work, to + n * RANGE_RECORD, range);
-        return n + 1;
-    }
-    n
+    put_range_at(work, to + n * RANGE_RECORD, range);
+    n + 1
 }
 
 // The ranges of the entry whose field ends at `at` that are nonempty and lie inside one of the m ranges at q, at `to` as they come.
@@ -41,29 +39,11 @@ pub fn gather_ranges(s: &[u8], at: usize, work: &mut [u8], q: usize, m: usize, t
 {
     let mut p = at;
     let mut n: usize = 0;
-    loop {
-        match access::access::next_own(s, p, RANGE_TAG) {
-            Own::Missing => {
-                return n;
-            }
-            Own::Field {
-                start,
-                len: _,
-                next,
-            } => {
-                let range = range_at(s, start);
-                n = put_fitting(work, q, m, to, n, range);
-                p = next;
-            }
-        }
+    while let Some(field) = next_own(s, p, RANGE_TAG) {
+        n = put_fitting(work, q, m, to, n, range_at(s, field.start));
+        p = field.next;
     }
-}
-
-// How many ranges of a list were gathered, or its fault.
-#[derive(Clone, Copy)]
-pub enum ListGathered {
-    Ranges(usize),
-    Fault(u8),
+    n
 }
 
 // The ranges of the list at an offset that are nonempty and lie inside one of the m ranges at q, at `to` as they come.
@@ -78,7 +58,7 @@ pub fn gather_list(
     q: usize,
     m: usize,
     to: usize,
-) -> ListGathered
+) -> Result<usize, Refusal>
     requires fact { (size ≡ 4) ⊎ (size ≡ 8) }
     requires range_record_bound { q + m * range_record ≤ to }
     requires range_least_in_bounds { to + range_record * (length lists.now / range_least) ≤ length work.old }
@@ -87,29 +67,10 @@ pub fn gather_list(
     let mut at = offset as usize;
     let mut from = base;
     let mut n: usize = 0;
-    loop {
-        match rnglists::lists::next_range(lists, addresses, place, size, at, from) {
-            NextRange::End => {
-                return ListGathered::Ranges(n);
-            }
-            NextRange::Fault(fault) => {
-                return ListGathered::Fault(fault);
-            }
-            NextRange::Range {
-                start,
-                end,
-                dead: _,
-                next,
-                base: after,
-            } => {
-                let range = AddressRange {
-                    start: start,
-                    end: end,
-                };
-                n = put_fitting(work, q, m, to, n, range);
-                at = next;
-                from = after;
-            }
-        }
+    while let Some(found) = next_range(lists, addresses, place, size, at, from)? {
+        n = put_fitting(work, q, m, to, n, found.range);
+        at = found.next;
+        from = found.base;
     }
+    Ok(n)
 }

@@ -6,17 +6,13 @@ ghost use Rattle.tlv.specs.Checked.{Placed};
 ghost use Rattle.rnglists.specs.Room.{range_least};
 ghost use Rattle.ranges.specs.RangeTable.{range_fields, own_lists, list_of, read_at, Merges, MergesList, MergesFields, range_record};
 
-use crate::gather::ListGathered;
-use access::access::Own;
+use crate::gather::gather_list;
+use crate::ranges::{coalesce_at, coalesce_ranges};
+use access::access::next_own;
+use tlv::bytes::Number;
+use tlv::refusal::Refusal;
 use tlv::shapes::{LIST_ADDRESSES, LIST_BASE, LIST_SIZE};
 use tlv::tags::{FAILURE_TAG, LIST_TAG};
-
-// How many ranges were merged, or the refusal that reading them is.
-#[derive(Clone, Copy)]
-pub enum Merged {
-    Ranges(usize),
-    Refused(u8),
-}
 
 // Of the list whose field's payload starts at `start`, the ranges that are nonempty and lie inside one of the m ranges at q, merged at `to`.
 fn list_ranges(
@@ -28,7 +24,7 @@ fn list_ranges(
     q: usize,
     m: usize,
     to: usize,
-) -> Merged
+) -> Result<usize, Refusal>
     requires list_field_size_in_bounds { start + list_field_size ≤ length main.now }
     requires fact { (le_at 1 main.now (start + list_size_at) ≡ 4) ⊎ (le_at 1 main.now (start + list_size_at) ≡ 8) }
     requires range_record_bound { q + m * range_record ≤ to }
@@ -36,41 +32,32 @@ fn list_ranges(
     ensures { MergesList (list_of main.now lists.now addresses.now start) lists.now
         work.old work.new q m to result }
 {
-    let offset = tlv::bytes::read_u64(main, start);
-    let base = tlv::bytes::read_u64(main, start + LIST_BASE);
-    let place = tlv::bytes::read_u64(main, start + LIST_ADDRESSES);
-    let size = tlv::bytes::read_u8(main, start + LIST_SIZE);
-    match crate::gather::gather_list(lists, addresses, place, size, offset, base, work, q, m, to) {
-        ListGathered::Fault(fault) => {
-            return Merged::Refused(fault);
-        }
-        ListGathered::Ranges(n) => {
-            let k = crate::ranges::coalesce_at(work, to, n);
-            return Merged::Ranges(k);
-        }
-    }
+    let offset = u64::read(main, start);
+    let base = u64::read(main, start + LIST_BASE);
+    let place = u64::read(main, start + LIST_ADDRESSES);
+    let size = u8::read(main, start + LIST_SIZE);
+    let n = gather_list(lists, addresses, place, size, offset, base, work, q, m, to)?;
+    Ok(coalesce_at(work, to, n))
 }
 
 // The same of the fields 19 of the entry whose field ends at `at`; one with a range failure is refused.
-fn field_ranges(main: &[u8], at: usize, work: &mut [u8], q: usize, m: usize, to: usize) -> Merged
+fn field_ranges(
+    main: &[u8],
+    at: usize,
+    work: &mut [u8],
+    q: usize,
+    m: usize,
+    to: usize,
+) -> Result<usize, Refusal>
     requires placed { Placed main.now at }
     requires range_record_bound { q + m * range_record ≤ to }
     requires at_in_bounds { to + range_record * length (range_fields main.now at) ≤ length work.old }
     ensures { MergesFields main.now at work.old work.new q m to result }
 {
-    match access::access::next_own(main, at, FAILURE_TAG) {
-        Own::Field {
-            start: _,
-            len: _,
-            next: _,
-        } => {
-            return Merged::Refused(6);
-        }
-        Own::Missing => {
-            let k = crate::ranges::coalesce_ranges(main, at, work, q, m, to);
-            return Merged::Ranges(k);
-        }
+    if next_own(main, at, FAILURE_TAG).is_some() {
+        return Err(Refusal::Decoder);
     }
+    Ok(coalesce_ranges(main, at, work, q, m, to))
 }
 
 // The same of the entry whose field ends at `at`, from its list where it has one. Without any list in the unit none is looked for.
@@ -84,7 +71,7 @@ pub fn inline_ranges(
     q: usize,
     m: usize,
     to: usize,
-) -> Merged
+) -> Result<usize, Refusal>
     requires placed { Placed main.now at }
     requires range_record_bound { q + m * range_record ≤ to }
     requires at_in_bounds { to + range_record * length (range_fields main.now at) ≤ length work.old }
@@ -94,17 +81,8 @@ pub fn inline_ranges(
         work.old work.new q m to result }
 {
     if with_lists {
-        match access::access::next_own(main, at, LIST_TAG) {
-            Own::Field {
-                start,
-                len: _,
-                next: _,
-            } => {
-                return list_ranges(main, lists, addresses, work, start, q, m, to);
-            }
-            Own::Missing => {
-                return field_ranges(main, at, work, q, m, to);
-            }
+        if let Some(field) = next_own(main, at, LIST_TAG) {
+            return list_ranges(main, lists, addresses, work, field.start, q, m, to);
         }
     }
     field_ranges(main, at, work, q, m, to)

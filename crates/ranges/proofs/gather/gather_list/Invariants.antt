@@ -4,8 +4,8 @@ use lib.ListN.{length}
 use Rattle.ranges.proofs.gather.ListGatherLaws.{ListGathering}
 use Rattle.ranges.proofs.gather.gather_list.Given as goal
 
-abbrev pub invariant-loop-fault : goal.invariant-loop-fault
-invariant-loop-fault l = ListGathering l.lists l.addresses l.place l.size l.offset l.base l.initial.work l.work l.q l.m l.to l.at l.from l.n
+abbrev pub invariant-loop-found : goal.invariant-loop-found
+invariant-loop-found l = ListGathering l.lists l.addresses l.place l.size l.offset l.base l.initial.work l.work l.q l.m l.to l.at l.from l.n
 
-abbrev pub decreases-loop-fault : goal.decreases-loop-fault
-decreases-loop-fault l = length l.lists - l.at
+abbrev pub decreases-loop-found : goal.decreases-loop-found
+decreases-loop-found l = length l.lists - l.at

@@ -4,20 +4,20 @@ use Rattle.access.proofs.OwnLaws.{own-less}
 use Rattle.ranges.proofs.GatherLaws.{gathering-start, gathering-within, gathering_room, gathering_turn, gathering_done}
 use Rattle.ranges.proofs.gather.gather_ranges.Goals as goal
 
-pub loop-start-init : goal.loop-start-init
-loop-start-init c = search gathering-start
+pub loop-field-init : goal.loop-field-init
+loop-field-init c = search gathering-start
 
-pub returns-in-Missing : goal.returns-in-Missing
-returns-in-Missing c = search gathering_done
-
-pub range_at-range-requires : goal.range_at-range-requires
-range_at-range-requires c = search gathering-within
+pub range_at-requires : goal.range_at-requires
+range_at-requires c = gathering-within c.loop-field.invariant c.in-Some.ensures
 
 pub put_fitting-n-requires : goal.put_fitting-n-requires
-put_fitting-n-requires c = (omega arith, search gathering_room)
+put_fitting-n-requires c = (omega arith, gathering_room c.loop-field.invariant c.in-Some.ensures (omega arith))
 
-pub loop-start-smaller : goal.loop-start-smaller
-loop-start-smaller c = search own-less
+pub loop-field-smaller : goal.loop-field-smaller
+loop-field-smaller c = own-less _ _ _ _ c.in-Some.ensures
 
-pub loop-start-preserved : goal.loop-start-preserved
-loop-start-preserved c = search gathering_turn
+pub loop-field-preserved : goal.loop-field-preserved
+loop-field-preserved c = search (gathering_turn, c.in-Some.ensures)
+
+pub returns : goal.returns
+returns c = gathering_done c.loop-field.invariant c.in_default.ensures

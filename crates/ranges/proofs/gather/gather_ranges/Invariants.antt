@@ -4,8 +4,8 @@ use lib.ListN.{length}
 use Rattle.ranges.proofs.GatherLaws.{Gathering}
 use Rattle.ranges.proofs.gather.gather_ranges.Given as goal
 
-abbrev pub invariant-loop-start : goal.invariant-loop-start
-invariant-loop-start l = Gathering l.s l.at l.initial.work l.work l.q l.m l.to l.p l.n
+abbrev pub invariant-loop-field : goal.invariant-loop-field
+invariant-loop-field l = Gathering l.s l.at l.initial.work l.work l.q l.m l.to l.p l.n
 
-abbrev pub decreases-loop-start : goal.decreases-loop-start
-decreases-loop-start l = length l.s - l.p
+abbrev pub decreases-loop-field : goal.decreases-loop-field
+decreases-loop-field l = length l.s - l.p

@@ -1,9 +1,10 @@
 -- `inlined::field_ranges` meets its contract.
+use Rattle.std.proofs.Common.{rules}
 use Rattle.ranges.proofs.InlinedLaws.{field-refused, field-merged}
 use Rattle.ranges.proofs.inlined.field_ranges.Goals as goal
 
-pub returns-in-Field : goal.returns-in-Field
-returns-in-Field c = field-refused c.next_own.ensures c.in-Field.is
+pub returns-then-is_some : goal.returns-then-is_some
+returns-then-is_some c = field-refused _ (search rules) c.next_own.ensures
 
-pub returns-in-Missing : goal.returns-in-Missing
-returns-in-Missing c = field-merged c.next_own.ensures c.in-Missing.is c.coalesce_ranges-k.ensures
+pub returns : goal.returns
+returns c = field-merged _ (search rules) c.next_own.ensures c.coalesce_ranges.ensures
