@@ -6,21 +6,20 @@ use Prim.Native.Nat.{ℕ, ◌-◌, ◌≤◌}
 use native.Mathlib.Omega.{arith}
 use lib.ListN.{take, drop, replicate}
 use borrow.Author.Tests.{not-true, not-false}
-use Rattle.tlv.specs.Outcome.{refused, done, ◌>>=◌}
+use Rattle.std.specs.Prelude.{Option, Some, None, Result, Ok, Err, IfOk}
+use Rattle.tlv.specs.declared.refusal.Refusal.{Refusal}
+use Rattle.tlv.specs.Outcome.{done, ◌>>=◌}
 use Rattle.tlv.specs.Lists.{first}
 use Rattle.tlv.specs.Fields.{fields}
-use Rattle.tlv.proofs.OutcomeLaws.{refused-not}
 use Rattle.buffers.specs.Reader.{records_form}
-use Rattle.lookup.specs.declared.model.Refusal.{Refusal}
-use Rattle.lookup.specs.declared.model.Row.{Row}
 use Rattle.lookup.specs.declared.model.Chain.{Chain}
-use Rattle.lookup.specs.declared.model.Running.{Running}
 use Rattle.lookup.specs.declared.model.LookedUp.{LookedUp}
 use Rattle.lookup.specs.declared.address.FunctionPlace.{FunctionPlace}
 use Rattle.lookup.specs.Tray.{nodes_at, functions_at, functions_of, function_range}
 use Rattle.lookup.specs.Lookup.{holds, row_in_force, chain, frames_of, qualifying, look_up}
-use Rattle.lookup.specs.Walk.{Stands, StandsOwn, FunctionFound, row_from, ChainAt, RefusedWith}
-use Rattle.lookup.specs.Answers.{refusal_number, row_place, frames_given, LooksUp}
+use Rattle.lookup.specs.Walk.{Stands, StandsOwn, FunctionFound, row_from, ChainAt}
+use Rattle.access.specs.Access.{place_of}
+use Rattle.lookup.specs.Answers.{frames_given, LooksUp}
 use Rattle.lookup.proofs.DemandLaws.{explaining}
 use Rattle.lookup.proofs.OwnLaws.{stands-own}
 
@@ -28,41 +27,31 @@ pub stands-start : (s : List ℕ) (b : Bool) → b ≡ records_form 0 0 (fields 
 stands-start s b e h = record { previous = 0; depth = 0; formed = sym e ∙ not-false b h; within = omega arith }
 
 -- the definition's answer, with the chain's places in bounds: demand 3 is then a theorem
-pub looks_up : (s : List ℕ) (a : ℕ) (r : LookedUp) → frames_given r.running r.chain ≡ look_up s a → r.chain.nodes ≤ 257
-    → ((n : ℕ) → frames_given r.running r.chain ≡ refused n → r.chain.nodes ≡ 0)
-    → drop r.chain.nodes r.chain.places ≡ replicate (257 - r.chain.nodes) 0 → LooksUp s a r
-looks_up s a r is few bare rest = record { is = is; few = few; bare = bare; rest = rest; demand = λ i x w e. explaining i s a x w (sym is ∙ e) }
-
-without-chain : (s : List ℕ) (a : ℕ) (x : LookedUp) (n : Refusal) → RefusedWith n x → refused (refusal_number n) ≡ look_up s a → LooksUp s a x
-without-chain s a x n w e =
-    looks_up s a x (rw w.is e) (rw w.none (omega arith)) (λ k q. w.none) (rw (w.none, w.rest))
+pub looks_up : (s : List ℕ) (a : ℕ) (r : Result LookedUp Refusal) → frames_given r ≡ look_up s a → IfOk r (λ x. x.chain.nodes ≤ 257)
+    → IfOk r (λ x. drop x.chain.nodes x.chain.places ≡ replicate (257 - x.chain.nodes) 0) → LooksUp s a r
+looks_up s a r is few rest = record { is = is; few = few; rest = rest; demand = λ i x w e. explaining i s a x w (sym is ∙ e) }
 
 module _ (s : List ℕ) (a : ℕ) (b : Bool) (form : b ≡ records_form 0 0 (fields s)) where
-  pub looked_misshapen : (x : LookedUp) → RefusedWith Refusal.MisshapenRecords x → not b ≡ true → LooksUp s a x
+  pub looked_misshapen : not b ≡ true → LooksUp s a (Err Refusal.MisshapenRecords)
   unfolding look_up functions_of ◌>>=◌
-  looked_misshapen x w h = without-chain s a x Refusal.MisshapenRecords w (rw (← form, not-true b h))
+  looked_misshapen h = looks_up s a (Err Refusal.MisshapenRecords) (rw (← form, not-true b h)) tt tt
 
   module _ (h : not b ≡ false) where
     well : look_up s a ≡ qualifying (frames_of a) (first (λ f. holds a (function_range f)) (functions_at s))
     unfolding look_up functions_of ◌>>=◌
     well = rw (← form, not-false b h)
 
-    pub looked_none : (r : FunctionPlace) (x : LookedUp) → FunctionFound s a r → r ≡ FunctionPlace.Missing → RefusedWith Refusal.NoFunction x → LooksUp s a x
-    looked_none r x f e w =
-        let none-holds = subst (FunctionFound s a) e f in
-        without-chain s a x Refusal.NoFunction w (sym (well ∙ ap (qualifying (frames_of a)) none-holds))
+    pub looked_none : FunctionFound s a None → LooksUp s a (Err Refusal.NoFunction)
+    looked_none f = looks_up s a (Err Refusal.NoFunction) (sym (well ∙ ap (qualifying (frames_of a)) f)) tt tt
 
-    pub looked-found : (r : FunctionPlace) (place own : ℕ) (row : Row) (c : Chain) → FunctionFound s a r → r ≡ FunctionPlace.At place own
-        → row_place row ≡ row_from s own a → ChainAt s own a c → LooksUp s a (record { running = Running.Found place row; chain = c })
+    pub looked-found : (f : FunctionPlace) (row : Option ℕ) (c : Chain) → FunctionFound s a (Some f) → place_of row ≡ row_from s f.own a
+        → ChainAt s f.own a c → LooksUp s a (Ok (record { function = f.place; row = row; chain = c }))
     unfolding frames_of row_in_force chain nodes_at row_from
-    looked-found r place own row c f e w k =
-        let here = subst (FunctionFound s a) e f in
-        let g = here.function in
-        let frames : frames_of a g ≡ record { function = place; row = row_place row; chain = take c.nodes c.places } = rw
+    looked-found f row c here w k =
+        let frames : frames_of a here.function ≡ record { function = f.place; row = place_of row; chain = take c.nodes c.places } = rw
         (here.here, here.rest, w, k.is) in
-        looks_up s a (record { running = Running.Found place row; chain = c }) (sym (well ∙ ap (qualifying (frames_of a)) here.is ∙ ap done frames))
-        k.few (λ n q. refused-not (sym q)) k.rest
+        looks_up s a (Ok (record { function = f.place; row = row; chain = c })) (sym (well ∙ ap (qualifying (frames_of a)) here.is ∙ ap done frames)) k.few k.rest
 
 -- where its own fields begin is a place of the tray
-pub own-stands : (s : List ℕ) (a : ℕ) (r : FunctionPlace) (place own : ℕ) → FunctionFound s a r → r ≡ FunctionPlace.At place own → StandsOwn s own
-own-stands s a r place own f e = stands-own (subst (FunctionFound s a) e f).stands
+pub own-stands : (s : List ℕ) (a : ℕ) (f : FunctionPlace) → FunctionFound s a (Some f) → StandsOwn s f.own
+own-stands s a f here = stands-own here.stands

@@ -1,107 +1,72 @@
 // What is running at an address.
-ghost use Rattle.std.specs.Prelude.{◌≡◌, ◌+◌, ◌≤◌, length, take, drop};
+ghost use Rattle.std.specs.Prelude.{◌≡◌, ◌≤◌, length};
 ghost use Rattle.tlv.specs.Model.{range_of};
 ghost use Rattle.lookup.specs.Lookup.{holds};
-ghost use Rattle.lookup.specs.Walk.{Stands, StandsOwn, FunctionFound, row_from, held_from, ChainAt, RefusedWith};
-ghost use Rattle.lookup.specs.Answers.{row_place, LooksUp};
+ghost use Rattle.lookup.specs.Walk.{Stands, StandsOwn, FunctionFound, row_from, held_from, ChainAt};
+ghost use Rattle.access.specs.Access.{place_of};
+ghost use Rattle.lookup.specs.Answers.{LooksUp};
 
-use crate::form::check_records;
-use crate::model::{CHAIN_MOST, Chain, LookedUp, Refusal, Row, Running};
-use tlv::bytes::{read_u16, read_u64};
-use tlv::fields::{Step, field_at};
+use crate::form::{check_records, payload_of};
+use crate::model::{CHAIN_MOST, Chain, LookedUp};
+use crate::window::range_of;
+use tlv::bytes::Number;
+use tlv::fields::next_field;
+use tlv::refusal::Refusal;
 use tlv::tags::{TRAY_FUNCTION_TAG, TRAY_NODE_TAG, TRAY_RANGE_TAG, TRAY_ROW_TAG};
 
 // Whether the range that a payload begins with holds the address.
-fn holds_at(s: &[u8], start: usize, len: usize, address: u64) -> bool
-    requires len_in_bounds { start + len ≤ length s.now }
-    requires le_len { 16 ≤ len }
-    ensures { result ≡ holds address (range_of (take len (drop start s.now))) }
+fn holds_at(payload: &[u8], address: u64) -> bool
+    requires { 16 ≤ length payload.now }
+    ensures { result ≡ holds address (range_of payload.now) }
 {
-    let from = read_u64(s, start);
-    let to = read_u64(s, start + 8);
-    (from <= address) & (address < to)
+    let r = range_of(payload);
+    r.start <= address && address < r.end
 }
 
 // A function: the place of its field, and the place behind it, where its own fields begin.
-#[derive(Clone, Copy)]
-pub enum FunctionPlace {
-    At { place: usize, own: usize },
-    Missing,
+#[derive(Clone, Copy, Debug)]
+pub struct FunctionPlace {
+    pub place: usize,
+    pub own: usize,
 }
 
 // The first function that holds the address.
-pub fn function_at(s: &[u8], address: u64) -> FunctionPlace
+pub fn function_at(s: &[u8], address: u64) -> Option<FunctionPlace>
     requires { Stands s.now 0 }
     ensures { FunctionFound s.now address result }
 {
-    let mut p: usize = 0;
-    loop {
-        match field_at(s, p) {
-            Step::End => {
-                return FunctionPlace::Missing;
-            }
-            Step::Cut => {
-                return FunctionPlace::Missing;
-            }
-            Step::Field {
-                tag,
-                start,
-                len,
-                next,
-            } => {
-                if tag == TRAY_FUNCTION_TAG {
-                    if holds_at(s, start, len, address) {
-                        return FunctionPlace::At {
-                            place: p,
-                            own: next,
-                        };
-                    }
-                    p = next;
-                } else {
-                    p = next;
-                }
-            }
+    let mut p = 0;
+    // Stays a loop: each field's own length moves the place, so nothing is counted.
+    while let Some(field) = next_field(s, p) {
+        if field.tag == TRAY_FUNCTION_TAG && holds_at(payload_of(s, field), address) {
+            return Some(FunctionPlace {
+                place: p,
+                own: field.next,
+            });
         }
+        p = field.next;
     }
+    None
 }
 
 // The last row at or below the address among the own fields of a function, which begin at `own`.
-pub fn row_in_force(s: &[u8], own: usize, address: u64) -> Row
+pub fn row_in_force(s: &[u8], own: usize, address: u64) -> Option<usize>
     requires { StandsOwn s.now own }
-    ensures { row_place result ≡ row_from s.now own address }
+    ensures { place_of result ≡ row_from s.now own address }
 {
     let mut p = own;
-    let mut row = Row::Missing;
-    loop {
-        match field_at(s, p) {
-            Step::End => {
-                return row;
-            }
-            Step::Cut => {
-                return row;
-            }
-            Step::Field {
-                tag,
-                start,
-                len: _,
-                next,
-            } => {
-                if tag == TRAY_FUNCTION_TAG {
-                    return row;
-                }
-                if tag == TRAY_ROW_TAG {
-                    if read_u64(s, start) <= address {
-                        row = Row::At(p);
-                        p = next;
-                    } else {
-                        p = next;
-                    }
-                } else {
-                    p = next;
-                }
-            }
+    let mut row = None;
+    // Stays a loop: each field's own length moves the place, so nothing is counted.
+    while let Some(field) = next_field(s, p) {
+        if field.tag == TRAY_FUNCTION_TAG {
+            return row;
         }
+        if field.tag == TRAY_ROW_TAG && u64::read(s, field.start) <= address {
+            row = Some(p);
+        }
+        p = field.next;
     }
+    row
 }
 
 // Whether one of the ranges of a node, whose own fields begin at `own`, holds the address.
@@ -110,37 +75,17 @@ fn node_holds(s: &[u8], own: usize, address: u64) -> bool
     ensures { result ≡ held_from s.now own address }
 {
     let mut p = own;
-    loop {
-        match field_at(s, p) {
-            Step::End => {
-                return false;
-            }
-            Step::Cut => {
-                return false;
-            }
-            Step::Field {
-                tag,
-                start,
-                len,
-                next,
-            } => {
-                if tag == TRAY_FUNCTION_TAG {
-                    return false;
-                }
-                if tag == TRAY_NODE_TAG {
-                    return false;
-                }
-                if tag == TRAY_RANGE_TAG {
-                    if holds_at(s, start, len, address) {
-                        return true;
-                    }
-                    p = next;
-                } else {
-                    p = next;
-                }
-            }
+    // Stays a loop: each field's own length moves the place, so nothing is counted.
+    while let Some(field) = next_field(s, p) {
+        if field.tag == TRAY_FUNCTION_TAG || field.tag == TRAY_NODE_TAG {
+            return false;
         }
+        if field.tag == TRAY_RANGE_TAG && holds_at(payload_of(s, field), address) {
+            return true;
+        }
+        p = field.next;
     }
+    false
 }
 
 // The chain of nodes that hold the address, of the function whose own fields begin at `own`.
@@ -148,93 +93,42 @@ pub fn chain_at(s: &[u8], own: usize, address: u64) -> Chain
     requires { StandsOwn s.now own }
     ensures { ChainAt s.now own address result }
 {
-    let mut places: [usize; CHAIN_MOST] = [0; CHAIN_MOST];
-    let mut n: usize = 0;
+    let mut places = [0; CHAIN_MOST];
+    let mut nodes = 0;
     let mut p = own;
-    loop {
-        match field_at(s, p) {
-            Step::End => {
-                return Chain {
-                    places: places,
-                    nodes: n,
-                };
+    // Stays a loop: each field's own length moves the place, so nothing is counted.
+    while let Some(field) = next_field(s, p) {
+        if field.tag == TRAY_FUNCTION_TAG {
+            break;
+        }
+        if field.tag == TRAY_NODE_TAG {
+            let depth = u16::read(s, field.start) as usize;
+            if depth < nodes {
+                break;
             }
-            Step::Cut => {
-                return Chain {
-                    places: places,
-                    nodes: n,
-                };
-            }
-            Step::Field {
-                tag,
-                start,
-                len: _,
-                next,
-            } => {
-                if tag == TRAY_FUNCTION_TAG {
-                    return Chain {
-                        places: places,
-                        nodes: n,
-                    };
-                }
-                if tag == TRAY_NODE_TAG {
-                    let depth = read_u16(s, start) as usize;
-                    if depth < n {
-                        return Chain {
-                            places: places,
-                            nodes: n,
-                        };
-                    }
-                    if depth == n {
-                        if node_holds(s, next, address) {
-                            places[n] = p;
-                            n += 1;
-                            p = next;
-                        } else {
-                            p = next;
-                        }
-                    } else {
-                        p = next;
-                    }
-                } else {
-                    p = next;
-                }
+            if depth == nodes && node_holds(s, field.next, address) {
+                places[nodes] = p;
+                nodes += 1;
             }
         }
+        p = field.next;
     }
-}
-
-pub fn refused(r: Refusal) -> LookedUp
-    ensures { RefusedWith r result }
-{
-    LookedUp {
-        running: Running::Refused(r),
-        chain: Chain {
-            places: [0; CHAIN_MOST],
-            nodes: 0,
-        },
-    }
+    Chain { places, nodes }
 }
 
 // What is running at an address: the first function in the tray that holds it, its row in force, the chain of its nodes that hold it.
-pub fn look_up(s: &[u8], address: u64) -> LookedUp
+pub fn look_up(s: &[u8], address: u64) -> Result<LookedUp, Refusal>
     ensures { LooksUp s.now address result }
 {
     if !check_records(s) {
-        return refused(Refusal::MisshapenRecords);
+        return Err(Refusal::MisshapenRecords);
     }
-    match function_at(s, address) {
-        FunctionPlace::Missing => refused(Refusal::NoFunction),
-        FunctionPlace::At { place, own } => {
-            let row = row_in_force(s, own, address);
-            let chain = chain_at(s, own, address);
-            LookedUp {
-                running: Running::Found {
-                    function: place,
-                    row: row,
-                },
-                chain: chain,
-            }
-        }
-    }
+    let Some(found) = function_at(s, address) else {
+        return Err(Refusal::NoFunction);
+    };
+    Ok(LookedUp {
+        function: found.place,
+        row: row_in_force(s, found.own, address),
+        chain: chain_at(s, found.own, address),
+    })
 }

@@ -1,74 +1,43 @@
 // The function that ends nearest below an address.
-ghost use Rattle.std.specs.Prelude.{◌≡◌, ◌+◌, ◌≤◌, length};
-ghost use Rattle.tlv.specs.Bytes.{le_at};
+ghost use Rattle.std.specs.Prelude.{◌≡◌};
+ghost use Rattle.tlv.specs.Refusals.{outcome_of};
 ghost use Rattle.lookup.specs.Lookup.{nearest_below};
 ghost use Rattle.lookup.specs.Walk.{Stands, NearestFound};
-ghost use Rattle.lookup.specs.Answers.{nearest_given};
 
-use crate::form::check_records;
-use crate::model::{Nearest, Refusal};
-use tlv::bytes::read_u64;
-use tlv::fields::{Step, field_at};
+use crate::form::{check_records, payload_of};
+use crate::window::range_of;
+use tlv::fields::next_field;
+use tlv::refusal::Refusal;
 use tlv::tags::TRAY_FUNCTION_TAG;
 
-// Where the range that a payload begins with ends.
-fn end_at(s: &[u8], start: usize, len: usize) -> u64
-    requires len_in_bounds { start + len ≤ length s.now }
-    requires le_len { 16 ≤ len }
-    ensures { result ≡ le_at 8 s.now (start + 8) }
-{
-    read_u64(s, start + 8)
-}
-
-// Of a tray in document 01's form, the latest end so far and the function that has it.
-fn ending_below(s: &[u8], address: u64) -> Nearest
+// Of a tray in document 01's form, the place of the function that has the latest end at or below the address.
+fn ending_below(s: &[u8], address: u64) -> Option<usize>
     requires { Stands s.now 0 }
     ensures { NearestFound s.now address result }
 {
-    let mut p: usize = 0;
-    let mut latest: u64 = 0;
-    let mut found = Nearest::Refused(Refusal::NoFunction);
-    loop {
-        match field_at(s, p) {
-            Step::End => {
-                return found;
-            }
-            Step::Cut => {
-                return found;
-            }
-            Step::Field {
-                tag,
-                start,
-                len,
-                next,
-            } => {
-                if tag == TRAY_FUNCTION_TAG {
-                    let end = end_at(s, start, len);
-                    if end <= address {
-                        if latest < end {
-                            latest = end;
-                            found = Nearest::At(p);
-                            p = next;
-                        } else {
-                            p = next;
-                        }
-                    } else {
-                        p = next;
-                    }
-                } else {
-                    p = next;
-                }
+    let mut p = 0;
+    let mut latest = 0;
+    let mut found = None;
+    // Stays a loop: each field's own length moves the place, so nothing is counted.
+    while let Some(field) = next_field(s, p) {
+        if field.tag == TRAY_FUNCTION_TAG {
+            let end = range_of(payload_of(s, field)).end;
+            if latest < end && end <= address {
+                latest = end;
+                found = Some(p);
             }
         }
+        p = field.next;
     }
+    found
 }
 
 // The function that ends nearest below an address: the latest end at or below it, the first in the tray among equals.
-pub fn nearest_below(s: &[u8], address: u64) -> Nearest
-    ensures { nearest_given result ≡ nearest_below s.now address }
+pub fn nearest_below(s: &[u8], address: u64) -> Result<usize, Refusal>
+    ensures { outcome_of result ≡ nearest_below s.now address }
 {
     if !check_records(s) {
-        return Nearest::Refused(Refusal::MisshapenRecords);
+        return Err(Refusal::MisshapenRecords);
     }
-    ending_below(s, address)
+    ending_below(s, address).ok_or(Refusal::NoFunction)
 }

@@ -1,60 +1,54 @@
--- `address::chain_at` meets its contract: what is gathered and what is left make the chain.
+-- `address::chain_at` meets its contract.
 use native.Mathlib.Omega.{arith}
-use Prim.Native.Nat.{◌≤◌}
 use borrow.Author.Rules.{rules}
-use Rattle.tlv.proofs.CursorLaws.{next-less}
+use Rattle.tlv.proofs.FieldLaws.{next-less}
 use Rattle.lookup.proofs.OwnLaws.{own-stands_next, node-first}
-use Rattle.lookup.proofs.address.ChainWalkLaws.{gather-start, chain-end, chain-cut, chain-function, chain-other, chain-leaves}
+use Rattle.lookup.proofs.address.ChainWalkLaws.{gather-start, chain-none, chain-function, chain-other, chain-leaves}
 use Rattle.lookup.proofs.address.ChainWalkLaws.{chain-deeper, chain-room, chain-passes, chain-takes}
 use Rattle.lookup.proofs.address.chain_at.Goals as goal
+use Rattle.lookup.proofs.address.chain_at.Goals.{else-depth-nodes-2-via-then-depth-nodes-2+else-node_holds, else-depth-nodes-2-via-else-depth-nodes-2}
 
-pub loop-places-init : goal.loop-places-init
-loop-places-init c = (search rules, gather-start _)
+pub loop-field-init : goal.loop-field-init
+loop-field-init c = (search rules, gather-start _)
 
-pub returns-in-End : goal.returns-in-End
-returns-in-End c = search chain-end
-
-pub returns-in-Cut : goal.returns-in-Cut
-returns-in-Cut c = search chain-cut
-
-pub returns-then-tag-eq-TRAY_FUNCTION_TAG : goal.returns-then-tag-eq-TRAY_FUNCTION_TAG
-returns-then-tag-eq-TRAY_FUNCTION_TAG c = search chain-function
-
-pub read_u16-depth-requires : goal.read_u16-depth-requires
-read_u16-depth-requires c = search node-first
-
-pub returns-then-depth-n : goal.returns-then-depth-n
-returns-then-depth-n c = search chain-leaves
+pub read-depth-requires : goal.read-depth-requires
+read-depth-requires c = search (node-first, c.in-Some.ensures)
 
 pub node_holds-requires : goal.node_holds-requires
-node_holds-requires c = search own-stands_next
+node_holds-requires c = search (own-stands_next, c.in-Some.ensures)
 
-pub bounds-places-n : goal.bounds-places-n
-bounds-places-n c = search chain-room
+pub bounds-places-nodes : goal.bounds-places-nodes
+bounds-places-nodes c = search (chain-room, c.in-Some.ensures)
 
-pub overflow_add-n : goal.overflow_add-n
-overflow_add-n c = omega arith
+pub loop-field-smaller-then-node_holds : goal.loop-field-smaller-then-node_holds
+loop-field-smaller-then-node_holds c = next-less _ _ _ c.in-Some.ensures
 
-pub loop-places-smaller-then-node_holds : goal.loop-places-smaller-then-node_holds
-loop-places-smaller-then-node_holds c = search next-less
+pub loop-field-preserved-then-node_holds : goal.loop-field-preserved-then-node_holds
+loop-field-preserved-then-node_holds c = (search (own-stands_next, c.in-Some.ensures), search (chain-takes, c.in-Some.ensures))
 
-pub loop-places-preserved-then-node_holds : goal.loop-places-preserved-then-node_holds
-loop-places-preserved-then-node_holds c = (search own-stands_next, search chain-takes)
+pub loop-field-smaller-else-depth-nodes-2 : goal.loop-field-smaller-else-depth-nodes-2
+loop-field-smaller-else-depth-nodes-2 c = next-less _ _ _ c.in-Some.ensures
 
-pub loop-places-smaller-else-node_holds : goal.loop-places-smaller-else-node_holds
-loop-places-smaller-else-node_holds c = search next-less
+pub loop-field-preserved-else-depth-nodes-2 : goal.loop-field-preserved-else-depth-nodes-2
+loop-field-preserved-else-depth-nodes-2 c = (
+  search (own-stands_next, c.in-Some.ensures),
+  elim c.else-depth-nodes-2.branch [
+    | else-depth-nodes-2-via-then-depth-nodes-2+else-node_holds w ↦ search (chain-passes, c.in-Some.ensures)
+    | else-depth-nodes-2-via-else-depth-nodes-2 w ↦ search (chain-deeper, c.in-Some.ensures)
+  ],
+)
 
-pub loop-places-preserved-else-node_holds : goal.loop-places-preserved-else-node_holds
-loop-places-preserved-else-node_holds c = (search own-stands_next, search chain-passes)
+pub loop-field-smaller : goal.loop-field-smaller
+loop-field-smaller c = next-less _ _ _ c.in-Some.ensures
 
-pub loop-places-smaller-else-depth-n-2 : goal.loop-places-smaller-else-depth-n-2
-loop-places-smaller-else-depth-n-2 c = search next-less
+pub loop-field-preserved : goal.loop-field-preserved
+loop-field-preserved c = (search (own-stands_next, c.in-Some.ensures), search (chain-other, c.in-Some.ensures))
 
-pub loop-places-preserved-else-depth-n-2 : goal.loop-places-preserved-else-depth-n-2
-loop-places-preserved-else-depth-n-2 c = let deeper : c.loop-places.n ≤ c.read_u16-depth.result = omega arith in (search own-stands_next, search chain-deeper)
+pub returns-then-field-eq-TRAY_FUNCTION_TAG : goal.returns-then-field-eq-TRAY_FUNCTION_TAG
+returns-then-field-eq-TRAY_FUNCTION_TAG c = search (chain-function, c.in-Some.ensures)
 
-pub loop-places-smaller : goal.loop-places-smaller
-loop-places-smaller c = search next-less
+pub returns-then-depth-nodes : goal.returns-then-depth-nodes
+returns-then-depth-nodes c = search (chain-leaves, c.in-Some.ensures)
 
-pub loop-places-preserved : goal.loop-places-preserved
-loop-places-preserved c = (search own-stands_next, search chain-other)
+pub returns-in_default : goal.returns-in_default
+returns-in_default c = search (chain-none, c.in_default.ensures)

@@ -1,39 +1,37 @@
 -- `address::function_at` meets its contract.
 use mathlib.Core.Path.{refl}
 use borrow.Author.Rules.{rules}
-use Rattle.tlv.proofs.CursorLaws.{next-less, payload-within}
+use Rattle.tlv.proofs.FieldLaws.{next-less, payload-within}
 use Rattle.lookup.specs.Tray.{functions_at}
 use Rattle.lookup.proofs.StepLaws.{stands-next, function-long}
-use Rattle.lookup.proofs.address.WalkLaws.{none_end, none-cut, found-other, found-not, found_here}
+use Rattle.lookup.proofs.address.WalkLaws.{found-none, found-other, found-not, found_here}
 use Rattle.lookup.proofs.address.function_at.Goals as goal
+use Rattle.lookup.proofs.address.function_at.Goals.{else-field-eq-TRAY_FUNCTION_TAG-via-then-field-eq-TRAY_FUNCTION_TAG+else-holds_at, else-field-eq-TRAY_FUNCTION_TAG-via-else-field-eq-TRAY_FUNCTION_TAG}
 
-pub loop-tag-init : goal.loop-tag-init
+pub loop-field-init : goal.loop-field-init
 unfolding functions_at
-loop-tag-init c = (search rules, refl)
+loop-field-init c = (search rules, refl)
 
-pub returns-in-End : goal.returns-in-End
-returns-in-End c = search none_end
+pub payload_of-requires : goal.payload_of-requires
+payload_of-requires c = payload-within _ _ _ c.in-Some.ensures
 
-pub returns-in-Cut : goal.returns-in-Cut
-returns-in-Cut c = search none-cut
+pub holds_at-requires : goal.holds_at-requires
+holds_at-requires c = search (rules, function-long, c.in-Some.ensures)
 
-pub holds_at-requires-clause-len_in_bounds : goal.holds_at-requires-clause-len_in_bounds
-holds_at-requires-clause-len_in_bounds c = search payload-within
+pub loop-field-smaller : goal.loop-field-smaller
+loop-field-smaller c = next-less _ _ _ c.in-Some.ensures
 
-pub holds_at-requires-clause-le_len : goal.holds_at-requires-clause-le_len
-holds_at-requires-clause-le_len c = search function-long
+pub loop-field-preserved : goal.loop-field-preserved
+loop-field-preserved c = (
+  search (stands-next, c.in-Some.ensures),
+  elim c.else-field-eq-TRAY_FUNCTION_TAG.branch [
+    | else-field-eq-TRAY_FUNCTION_TAG-via-then-field-eq-TRAY_FUNCTION_TAG+else-holds_at w ↦ search (found-not, c.in-Some.ensures, w.if-holds_at.ensures)
+    | else-field-eq-TRAY_FUNCTION_TAG-via-else-field-eq-TRAY_FUNCTION_TAG w ↦ search (found-other, c.in-Some.ensures)
+  ],
+)
+
+pub returns : goal.returns
+returns c = search (found-none, c.in_default.ensures)
 
 pub returns-then-holds_at : goal.returns-then-holds_at
-returns-then-holds_at c = search found_here
-
-pub loop-tag-smaller-then-tag-eq-TRAY_FUNCTION_TAG : goal.loop-tag-smaller-then-tag-eq-TRAY_FUNCTION_TAG
-loop-tag-smaller-then-tag-eq-TRAY_FUNCTION_TAG c = search next-less
-
-pub loop-tag-preserved-then-tag-eq-TRAY_FUNCTION_TAG : goal.loop-tag-preserved-then-tag-eq-TRAY_FUNCTION_TAG
-loop-tag-preserved-then-tag-eq-TRAY_FUNCTION_TAG c = (search stands-next, search found-not)
-
-pub loop-tag-smaller : goal.loop-tag-smaller
-loop-tag-smaller c = search next-less
-
-pub loop-tag-preserved : goal.loop-tag-preserved
-loop-tag-preserved c = (search stands-next, search found-other)
+returns-then-holds_at c = search (found_here, c.in-Some.ensures, c.if-holds_at.ensures)

@@ -8,14 +8,14 @@ returns-then-not-check_records c = search looked_misshapen
 pub function_at-requires : goal.function_at-requires
 function_at-requires c = search stands-start
 
-pub row_in_force-row-requires : goal.row_in_force-row-requires
-row_in_force-row-requires c = search own-stands
+pub returns-in_default : goal.returns-in_default
+returns-in_default c = search (looked_none, c.in_default.ensures)
 
-pub chain_at-chain-requires : goal.chain_at-chain-requires
-chain_at-chain-requires c = search own-stands
+pub row_in_force-requires : goal.row_in_force-requires
+row_in_force-requires c = own-stands _ _ _ c.in-Some.ensures
 
-pub returns-in-Missing : goal.returns-in-Missing
-returns-in-Missing c = search looked_none
+pub chain_at-requires : goal.chain_at-requires
+chain_at-requires c = own-stands _ _ _ c.in-Some.ensures
 
-pub returns-in-At : goal.returns-in-At
-returns-in-At c = search looked-found
+pub returns : goal.returns
+returns c = search (looked-found, c.in-Some.ensures)

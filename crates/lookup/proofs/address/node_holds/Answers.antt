@@ -1,43 +1,42 @@
 -- `address::node_holds` meets its contract.
 use mathlib.Core.Path.{refl}
 use borrow.Author.Rules.{rules}
-use Rattle.tlv.proofs.CursorLaws.{next-less, payload-within}
+use Rattle.tlv.proofs.FieldLaws.{next-less, payload-within}
 use Rattle.lookup.proofs.OwnLaws.{own-stands_next, range-long}
-use Rattle.lookup.proofs.address.WalkLaws.{held-end, held_cut, held-function, held-node, held-other, held-not, held-this}
+use Rattle.lookup.proofs.address.WalkLaws.{held-none, held-function, held-node, held-other, held-not, held-this}
 use Rattle.lookup.proofs.address.node_holds.Goals as goal
+use Rattle.lookup.proofs.address.node_holds.Goals.{then-field-eq-TRAY_FUNCTION_TAG-via-then-field-eq-TRAY_FUNCTION_TAG, then-field-eq-TRAY_FUNCTION_TAG-via-else-field-eq-TRAY_FUNCTION_TAG+then-field-eq-TRAY_NODE_TAG}
+use Rattle.lookup.proofs.address.node_holds.Goals.{else-field-eq-TRAY_RANGE_TAG-via-then-field-eq-TRAY_RANGE_TAG+else-holds_at, else-field-eq-TRAY_RANGE_TAG-via-else-field-eq-TRAY_RANGE_TAG}
 
-pub loop-tag-init : goal.loop-tag-init
-loop-tag-init c = (search rules, refl)
+pub loop-field-init : goal.loop-field-init
+loop-field-init c = (search rules, refl)
 
-pub returns-in-End : goal.returns-in-End
-returns-in-End c = search held-end
+pub payload_of-requires : goal.payload_of-requires
+payload_of-requires c = payload-within _ _ _ c.in-Some.ensures
 
-pub returns-in-Cut : goal.returns-in-Cut
-returns-in-Cut c = search held_cut
+pub holds_at-requires : goal.holds_at-requires
+holds_at-requires c = search (rules, range-long, c.in-Some.ensures)
 
-pub returns-then-tag-eq-TRAY_FUNCTION_TAG : goal.returns-then-tag-eq-TRAY_FUNCTION_TAG
-returns-then-tag-eq-TRAY_FUNCTION_TAG c = search held-function
-
-pub returns-then-tag-eq-TRAY_NODE_TAG : goal.returns-then-tag-eq-TRAY_NODE_TAG
-returns-then-tag-eq-TRAY_NODE_TAG c = search held-node
-
-pub holds_at-requires-clause-len_in_bounds : goal.holds_at-requires-clause-len_in_bounds
-holds_at-requires-clause-len_in_bounds c = search payload-within
-
-pub holds_at-requires-clause-le_len : goal.holds_at-requires-clause-le_len
-holds_at-requires-clause-le_len c = search range-long
+pub returns-then-field-eq-TRAY_FUNCTION_TAG : goal.returns-then-field-eq-TRAY_FUNCTION_TAG
+returns-then-field-eq-TRAY_FUNCTION_TAG c = elim c.then-field-eq-TRAY_FUNCTION_TAG.branch [
+  | then-field-eq-TRAY_FUNCTION_TAG-via-then-field-eq-TRAY_FUNCTION_TAG w ↦ search (held-function, c.in-Some.ensures)
+  | then-field-eq-TRAY_FUNCTION_TAG-via-else-field-eq-TRAY_FUNCTION_TAG+then-field-eq-TRAY_NODE_TAG w ↦ search (held-node, c.in-Some.ensures)
+]
 
 pub returns-then-holds_at : goal.returns-then-holds_at
-returns-then-holds_at c = search held-this
+returns-then-holds_at c = search (held-this, c.in-Some.ensures, c.if-holds_at.ensures)
 
-pub loop-tag-smaller-then-tag-eq-TRAY_RANGE_TAG : goal.loop-tag-smaller-then-tag-eq-TRAY_RANGE_TAG
-loop-tag-smaller-then-tag-eq-TRAY_RANGE_TAG c = search next-less
+pub loop-field-smaller : goal.loop-field-smaller
+loop-field-smaller c = next-less _ _ _ c.in-Some.ensures
 
-pub loop-tag-preserved-then-tag-eq-TRAY_RANGE_TAG : goal.loop-tag-preserved-then-tag-eq-TRAY_RANGE_TAG
-loop-tag-preserved-then-tag-eq-TRAY_RANGE_TAG c = (search own-stands_next, search held-not)
+pub loop-field-preserved : goal.loop-field-preserved
+loop-field-preserved c = (
+  search (own-stands_next, c.in-Some.ensures),
+  elim c.else-field-eq-TRAY_RANGE_TAG.branch [
+    | else-field-eq-TRAY_RANGE_TAG-via-then-field-eq-TRAY_RANGE_TAG+else-holds_at w ↦ search (held-not, c.in-Some.ensures, w.if-holds_at.ensures)
+    | else-field-eq-TRAY_RANGE_TAG-via-else-field-eq-TRAY_RANGE_TAG w ↦ search (held-other, c.in-Some.ensures)
+  ],
+)
 
-pub loop-tag-smaller : goal.loop-tag-smaller
-loop-tag-smaller c = search next-less
-
-pub loop-tag-preserved : goal.loop-tag-preserved
-loop-tag-preserved c = (search own-stands_next, search held-other)
+pub returns : goal.returns
+returns c = search (held-none, c.in_default.ensures)

@@ -1,40 +1,38 @@
 -- `address::row_in_force` meets its contract.
 use mathlib.Core.Path.{sym}
 use borrow.Author.Rules.{rules}
-use Rattle.tlv.proofs.CursorLaws.{next-less}
+use Rattle.tlv.proofs.FieldLaws.{next-less}
 use Rattle.lookup.proofs.OwnLaws.{own-stands_next, row_first, row-long}
-use Rattle.lookup.proofs.address.WalkLaws.{or-none, row-end, row_cut, row-function, row_other, row-above, row-taken}
+use Rattle.lookup.proofs.address.WalkLaws.{or-none, row-none, row-function, row_other, row-above, row-taken}
 use Rattle.lookup.proofs.address.row_in_force.Goals as goal
+use Rattle.lookup.proofs.address.row_in_force.Goals.{else-field-eq-TRAY_ROW_TAG-via-then-field-eq-TRAY_ROW_TAG+else-read-address, else-field-eq-TRAY_ROW_TAG-via-else-field-eq-TRAY_ROW_TAG}
 
-pub loop-row-init : goal.loop-row-init
-loop-row-init c = (search rules, sym (or-none _))
+pub loop-field-init : goal.loop-field-init
+loop-field-init c = (search rules, sym (or-none _))
 
-pub returns-in-End : goal.returns-in-End
-returns-in-End c = search row-end
+pub returns-then-field-eq-TRAY_FUNCTION_TAG : goal.returns-then-field-eq-TRAY_FUNCTION_TAG
+returns-then-field-eq-TRAY_FUNCTION_TAG c = search (row-function, c.in-Some.ensures)
 
-pub returns-in-Cut : goal.returns-in-Cut
-returns-in-Cut c = search row_cut
+pub read-requires : goal.read-requires
+read-requires c = search (row_first, c.in-Some.ensures)
 
-pub returns-then-tag-eq-TRAY_FUNCTION_TAG : goal.returns-then-tag-eq-TRAY_FUNCTION_TAG
-returns-then-tag-eq-TRAY_FUNCTION_TAG c = search row-function
+pub loop-field-smaller-then-read-address : goal.loop-field-smaller-then-read-address
+loop-field-smaller-then-read-address c = next-less _ _ _ c.in-Some.ensures
 
-pub read_u64-requires : goal.read_u64-requires
-read_u64-requires c = search row_first
+pub loop-field-preserved-then-read-address : goal.loop-field-preserved-then-read-address
+loop-field-preserved-then-read-address c = (search (own-stands_next, c.in-Some.ensures), search (row-taken, row-long, c.in-Some.ensures))
 
-pub loop-row-smaller-then-read_u64-address : goal.loop-row-smaller-then-read_u64-address
-loop-row-smaller-then-read_u64-address c = search next-less
+pub loop-field-smaller : goal.loop-field-smaller
+loop-field-smaller c = next-less _ _ _ c.in-Some.ensures
 
-pub loop-row-preserved-then-read_u64-address : goal.loop-row-preserved-then-read_u64-address
-loop-row-preserved-then-read_u64-address c = (search own-stands_next, search (row-taken, row-long))
+pub loop-field-preserved : goal.loop-field-preserved
+loop-field-preserved c = (
+  search (own-stands_next, c.in-Some.ensures),
+  elim c.else-field-eq-TRAY_ROW_TAG.branch [
+    | else-field-eq-TRAY_ROW_TAG-via-then-field-eq-TRAY_ROW_TAG+else-read-address w ↦ search (row-above, row-long, c.in-Some.ensures)
+    | else-field-eq-TRAY_ROW_TAG-via-else-field-eq-TRAY_ROW_TAG w ↦ search (row_other, c.in-Some.ensures)
+  ],
+)
 
-pub loop-row-smaller-else-read_u64-address : goal.loop-row-smaller-else-read_u64-address
-loop-row-smaller-else-read_u64-address c = search next-less
-
-pub loop-row-preserved-else-read_u64-address : goal.loop-row-preserved-else-read_u64-address
-loop-row-preserved-else-read_u64-address c = (search own-stands_next, search (row-above, row-long))
-
-pub loop-row-smaller : goal.loop-row-smaller
-loop-row-smaller c = search next-less
-
-pub loop-row-preserved : goal.loop-row-preserved
-loop-row-preserved c = (search own-stands_next, search row_other)
+pub returns : goal.returns
+returns c = search (row-none, c.in_default.ensures)

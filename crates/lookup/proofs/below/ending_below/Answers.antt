@@ -1,48 +1,47 @@
--- `below::ending_below` meets its contract: the answer is the better of what is found and of what is left.
+-- `below::ending_below` meets its contract.
 use mathlib.Core.Path.{refl}
 use borrow.Author.Rules.{rules}
-use Rattle.tlv.proofs.CursorLaws.{next-less, payload-within}
+use Rattle.tlv.proofs.FieldLaws.{next-less, payload-within}
 use Rattle.lookup.specs.Tray.{functions_at}
 use Rattle.lookup.proofs.StepLaws.{stands-next, function-long}
-use Rattle.lookup.proofs.below.NearestWalkLaws.{nearest-end, nearest-cut, nearest-other, nearest-above, nearest-takes, nearest-leaves}
+use Rattle.lookup.proofs.below.NearestWalkLaws.{nearest-none, nearest-other, nearest-above, nearest-takes, nearest-leaves}
 use Rattle.lookup.proofs.below.ending_below.Goals as goal
+use Rattle.lookup.proofs.below.ending_below.Goals.{else-latest-end-via-then-latest-end+else-end-address, else-latest-end-via-else-latest-end}
 
-pub loop-found-init : goal.loop-found-init
+pub loop-field-init : goal.loop-field-init
 unfolding functions_at
-loop-found-init c = (search rules, refl, (refl, refl))
+loop-field-init c = (search rules, refl, refl)
 
-pub returns-in-End : goal.returns-in-End
-returns-in-End c = search nearest-end
+pub payload_of-requires : goal.payload_of-requires
+payload_of-requires c = payload-within _ _ _ c.in-Some.ensures
 
-pub returns-in-Cut : goal.returns-in-Cut
-returns-in-Cut c = search nearest-cut
+pub range_of-end-requires : goal.range_of-end-requires
+range_of-end-requires c = search (rules, function-long, c.in-Some.ensures)
 
-pub end_at-end-requires-clause-len_in_bounds : goal.end_at-end-requires-clause-len_in_bounds
-end_at-end-requires-clause-len_in_bounds c = search payload-within
+pub loop-field-smaller-then-end-address : goal.loop-field-smaller-then-end-address
+loop-field-smaller-then-end-address c = next-less _ _ _ c.in-Some.ensures
 
-pub end_at-end-requires-clause-le_len : goal.end_at-end-requires-clause-le_len
-end_at-end-requires-clause-le_len c = search function-long
+pub loop-field-preserved-then-end-address : goal.loop-field-preserved-then-end-address
+loop-field-preserved-then-end-address c = (search (stands-next, c.in-Some.ensures), search (nearest-takes, c.in-Some.ensures), tt)
 
-pub loop-found-smaller-then-latest-end : goal.loop-found-smaller-then-latest-end
-loop-found-smaller-then-latest-end c = search next-less
+pub loop-field-smaller-else-latest-end : goal.loop-field-smaller-else-latest-end
+loop-field-smaller-else-latest-end c = next-less _ _ _ c.in-Some.ensures
 
-pub loop-found-preserved-then-latest-end : goal.loop-found-preserved-then-latest-end
-loop-found-preserved-then-latest-end c = (search stands-next, search nearest-takes, tt)
+pub loop-field-preserved-else-latest-end : goal.loop-field-preserved-else-latest-end
+loop-field-preserved-else-latest-end c = (
+  search (stands-next, c.in-Some.ensures),
+  elim c.else-latest-end.branch [
+    | else-latest-end-via-then-latest-end+else-end-address w ↦ search (nearest-above, c.in-Some.ensures)
+    | else-latest-end-via-else-latest-end w ↦ search (nearest-leaves, c.in-Some.ensures)
+  ],
+  search rules,
+)
 
-pub loop-found-smaller-else-latest-end : goal.loop-found-smaller-else-latest-end
-loop-found-smaller-else-latest-end c = search next-less
+pub loop-field-smaller : goal.loop-field-smaller
+loop-field-smaller c = next-less _ _ _ c.in-Some.ensures
 
-pub loop-found-preserved-else-latest-end : goal.loop-found-preserved-else-latest-end
-loop-found-preserved-else-latest-end c = (search stands-next, search nearest-leaves, search rules)
+pub loop-field-preserved : goal.loop-field-preserved
+loop-field-preserved c = (search (stands-next, c.in-Some.ensures), search (nearest-other, c.in-Some.ensures), search rules)
 
-pub loop-found-smaller-else-end-address : goal.loop-found-smaller-else-end-address
-loop-found-smaller-else-end-address c = search next-less
-
-pub loop-found-preserved-else-end-address : goal.loop-found-preserved-else-end-address
-loop-found-preserved-else-end-address c = (search stands-next, search nearest-above, search rules)
-
-pub loop-found-smaller : goal.loop-found-smaller
-loop-found-smaller c = search next-less
-
-pub loop-found-preserved : goal.loop-found-preserved
-loop-found-preserved c = (search stands-next, search nearest-other, search rules)
+pub returns : goal.returns
+returns c = search (nearest-none, c.in_default.ensures)

@@ -10,4 +10,4 @@ pub ending_below-requires : goal.ending_below-requires
 ending_below-requires c = search stands-start
 
 pub returns : goal.returns
-returns c = search nearest-well
+returns c = rw c.ok_or.ensures.value (search nearest-well)

@@ -1,38 +1,27 @@
--- `form::check_records` meets its contract. The loop's invariant: the form of all is the form of what is left, after the fields so far.
-use mathlib.Core.Path.{ap}
-use mathlib.Core.Bool.{not}
-use mathlib.Core.Path.{refl}
-use native.Mathlib.Omega.{arith}
-use Rattle.tlv.proofs.CursorLaws.{next-less, next-within, payload-within}
-use Rattle.lookup.proofs.CheckLaws.{turn_end, turn-cut, turn-order, turn-payload, formed-held, turn-next}
+-- `form::check_records` meets its contract.
+use Rattle.tlv.proofs.FieldLaws.{next-less, next-within, payload-within}
+use Rattle.lookup.proofs.CheckLaws.{turn_end, turn-cut, turn-order, turn-payload, turn-next}
 use Rattle.lookup.proofs.form.check_records.Goals as goal
+use Rattle.lookup.proofs.form.check_records.Goals.{then-not-may_follow-via-then-not-may_follow, then-not-may_follow-via-else-not-may_follow+then-not-payload_formed}
 
-pub loop-tag-init : goal.loop-tag-init
-loop-tag-init c = (omega arith, refl)
+pub returns-in_default : goal.returns-in_default
+returns-in_default c = search (turn-cut, c.in_default.ensures)
 
-pub returns-in-End : goal.returns-in-End
-returns-in-End c = search turn_end
-
-pub returns-in-Cut : goal.returns-in-Cut
-returns-in-Cut c = search turn-cut
+pub payload_of-payload-requires : goal.payload_of-payload-requires
+payload_of-payload-requires c = payload-within _ _ _ c.in-Some.ensures
 
 pub returns-then-not-may_follow : goal.returns-then-not-may_follow
-returns-then-not-may_follow c = search turn-order
+returns-then-not-may_follow c = elim c.then-not-may_follow.branch [
+  | then-not-may_follow-via-then-not-may_follow w ↦ search (turn-order, c.in-Some.ensures, w.if-not-may_follow.ensures)
+  | then-not-may_follow-via-else-not-may_follow+then-not-payload_formed w ↦
+      search (turn-payload, c.in-Some.ensures, w.if-not-may_follow.ensures, w.if-not-payload_formed.ensures)
+]
 
-pub payload_formed-requires : goal.payload_formed-requires
-payload_formed-requires c = search payload-within
+pub loop-p-smaller : goal.loop-p-smaller
+loop-p-smaller c = next-less _ _ _ c.in-Some.ensures
 
-pub returns-then-not-payload_formed : goal.returns-then-not-payload_formed
-returns-then-not-payload_formed c = search turn-payload
+pub loop-p-preserved : goal.loop-p-preserved
+loop-p-preserved c = (next-within _ _ _ c.in-Some.ensures, search (turn-next, c.in-Some.ensures, c.if-not-may_follow.ensures, c.if-not-payload_formed.ensures))
 
-pub depth_after-depth-requires-clause-len_in_bounds : goal.depth_after-depth-requires-clause-len_in_bounds
-depth_after-depth-requires-clause-len_in_bounds c = search payload-within
-
-pub depth_after-depth-requires-clause-s_value : goal.depth_after-depth-requires-clause-s_value
-depth_after-depth-requires-clause-s_value c = formed-held _ _ _ _ c.payload_formed.ensures (ap not c.if-not-payload_formed.false)
-
-pub loop-tag-smaller : goal.loop-tag-smaller
-loop-tag-smaller c = search next-less
-
-pub loop-tag-preserved : goal.loop-tag-preserved
-loop-tag-preserved c = (search next-within, search turn-next)
+pub returns : goal.returns
+returns c = search turn_end

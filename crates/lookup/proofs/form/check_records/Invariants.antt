@@ -6,8 +6,8 @@ use Rattle.tlv.specs.Fields.{fields}
 use Rattle.buffers.specs.Reader.{records_form}
 use Rattle.lookup.proofs.form.check_records.Given as goal
 
-abbrev pub invariant-loop-tag : goal.invariant-loop-tag
-invariant-loop-tag l = (l.p ≤ length l.s) × (records_form 0 0 (fields l.s) ≡ records_form l.previous l.depth (fields (drop l.p l.s)))
+abbrev pub invariant-loop-p : goal.invariant-loop-p
+invariant-loop-p l = (l.p ≤ length l.s) × (records_form 0 0 (fields l.s) ≡ records_form l.previous l.depth (fields (drop l.p l.s)))
 
-abbrev pub decreases-loop-tag : goal.decreases-loop-tag
-decreases-loop-tag l = length l.s - l.p
+abbrev pub decreases-loop-p : goal.decreases-loop-p
+decreases-loop-p l = length l.s - l.p

@@ -4,16 +4,16 @@ use Rattle.lookup.proofs.window.ListingLaws.{list-misshapen, list-short, list-no
 use Rattle.lookup.proofs.window.list_functions.Goals as goal
 
 pub returns-then-not-check_records : goal.returns-then-not-check_records
-returns-then-not-check_records c = search list-misshapen
+returns-then-not-check_records g c = record { listed = λ test t. search list-misshapen }
 
-pub put_functions-n-requires : goal.put_functions-n-requires
-put_functions-n-requires c = search stands-start
+pub put_functions-n-requires-clause-stands : goal.put_functions-n-requires-clause-stands
+put_functions-n-requires-clause-stands g c = search stands-start
 
 pub returns-then-list-n : goal.returns-then-list-n
-returns-then-list-n c = search list-short
+returns-then-list-n g c = record { listed = λ test t. let laid = c.put_functions-n.ensures.laid test t in search (list-short, laid) }
 
 pub returns-then-n-eq0 : goal.returns-then-n-eq0
-returns-then-n-eq0 c = search list-none
+returns-then-n-eq0 g c = record { listed = λ test t. let laid = c.put_functions-n.ensures.laid test t in search (list-none, laid) }
 
 pub returns : goal.returns
-returns c = search list_done
+returns g c = record { listed = λ test t. let laid = c.put_functions-n.ensures.laid test t in search (list_done, laid) }

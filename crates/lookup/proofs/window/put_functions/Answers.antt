@@ -1,49 +1,52 @@
 -- `window::put_functions` meets its contract: who lays the fields from here on has laid all.
 use native.Mathlib.Omega.{arith}
 use borrow.Author.Rules.{rules}
-use Rattle.tlv.proofs.CursorLaws.{next-less, next-within, payload-within}
+use Rattle.tlv.proofs.FieldLaws.{next-less, next-within, payload-within}
 use Rattle.buffers.proofs.BufferLaws.{left-start, left-same, left-done}
 use Rattle.lookup.specs.Tray.{functions_at}
 use Rattle.lookup.proofs.StepLaws.{stands-next, function-long}
-use Rattle.lookup.proofs.window.ListingLaws.{left_end, left_cut, left_other, left_not, left_laid, part-below}
+use Rattle.lookup.proofs.window.ListingLaws.{left-none, left_other, left_not, left_laid, part-below}
 use Rattle.lookup.proofs.window.put_functions.Goals as goal
+use Rattle.lookup.proofs.window.put_functions.Goals.{else-field-eq-TRAY_FUNCTION_TAG-via-then-field-eq-TRAY_FUNCTION_TAG+else-is_wanted, else-field-eq-TRAY_FUNCTION_TAG-via-else-field-eq-TRAY_FUNCTION_TAG}
 
-pub loop-tag-init : goal.loop-tag-init
+pub loop-field-init : goal.loop-field-init
 unfolding functions_at
-loop-tag-init c = (search rules, left-start _ _ _ (omega arith) (omega arith))
+loop-field-init g c = record { stands = search rules; left = λ test t. left-start _ _ _ (omega arith) (omega arith) }
 
-pub returns-in-End : goal.returns-in-End
-returns-in-End c = search (left-done, left_end)
+pub payload_of-requires : goal.payload_of-requires
+payload_of-requires g c = payload-within _ _ _ c.in-Some.ensures
 
-pub returns-in-Cut : goal.returns-in-Cut
-returns-in-Cut c = search (left-done, left_cut)
-
-pub range_of-r-requires-clause-len_in_bounds : goal.range_of-r-requires-clause-len_in_bounds
-range_of-r-requires-clause-len_in_bounds c = search payload-within
-
-pub range_of-r-requires-clause-le_len : goal.range_of-r-requires-clause-le_len
-range_of-r-requires-clause-le_len c = search function-long
+pub range_of-requires : goal.range_of-requires
+range_of-requires g c = search (rules, function-long, c.in-Some.ensures)
 
 pub put_part-at-requires-clause-p_le_next : goal.put_part-at-requires-clause-p_le_next
-put_part-at-requires-clause-p_le_next c = search part-below
+put_part-at-requires-clause-p_le_next g c = part-below _ _ _ c.in-Some.ensures
 
 pub put_part-at-requires-clause-next_in_bounds : goal.put_part-at-requires-clause-next_in_bounds
-put_part-at-requires-clause-next_in_bounds c = search next-within
+put_part-at-requires-clause-next_in_bounds g c = next-within _ _ _ c.in-Some.ensures
 
-pub loop-tag-smaller-then-is_wanted : goal.loop-tag-smaller-then-is_wanted
-loop-tag-smaller-then-is_wanted c = search next-less
+pub loop-field-smaller-then-is_wanted : goal.loop-field-smaller-then-is_wanted
+loop-field-smaller-then-is_wanted g c = next-less _ _ _ c.in-Some.ensures
 
-pub loop-tag-preserved-then-is_wanted : goal.loop-tag-preserved-then-is_wanted
-loop-tag-preserved-then-is_wanted c = (search stands-next, search left_laid)
+pub loop-field-preserved-then-is_wanted : goal.loop-field-preserved-then-is_wanted
+loop-field-preserved-then-is_wanted g c = record {
+  stands = search (stands-next, c.in-Some.ensures);
+  left = λ test t. left_laid _ test _ _ _ _ _ (c.loop-field.invariant.left test t) c.in-Some.ensures c.if-field-eq-TRAY_FUNCTION_TAG.true c.payload_of.ensures
+      c.range_of.ensures (t _ _ (search rules, search rules) c.is_wanted.ensures) c.if-is_wanted.true c.put_part-at.ensures;
+}
 
-pub loop-tag-smaller-else-is_wanted : goal.loop-tag-smaller-else-is_wanted
-loop-tag-smaller-else-is_wanted c = search next-less
+pub loop-field-smaller : goal.loop-field-smaller
+loop-field-smaller g c = next-less _ _ _ c.in-Some.ensures
 
-pub loop-tag-preserved-else-is_wanted : goal.loop-tag-preserved-else-is_wanted
-loop-tag-preserved-else-is_wanted c = (search stands-next, search (left-same, left_not))
+pub loop-field-preserved : goal.loop-field-preserved
+loop-field-preserved g c = record {
+  stands = search (stands-next, c.in-Some.ensures);
+  left = λ test t. elim c.else-field-eq-TRAY_FUNCTION_TAG.branch [
+    | else-field-eq-TRAY_FUNCTION_TAG-via-then-field-eq-TRAY_FUNCTION_TAG+else-is_wanted w ↦ left-same (c.loop-field.invariant.left test t) (left_not _ test _ _ c.in-Some.ensures _ _ _ w.if-field-eq-TRAY_FUNCTION_TAG.true w.payload_of.ensures
+        w.range_of.ensures (t _ _ (search rules, search rules) w.is_wanted.ensures) w.if-is_wanted.false)
+    | else-field-eq-TRAY_FUNCTION_TAG-via-else-field-eq-TRAY_FUNCTION_TAG w ↦ left-same (c.loop-field.invariant.left test t) (left_other _ test _ _ c.in-Some.ensures w.if-field-eq-TRAY_FUNCTION_TAG.false)
+  ];
+}
 
-pub loop-tag-smaller : goal.loop-tag-smaller
-loop-tag-smaller c = search next-less
-
-pub loop-tag-preserved : goal.loop-tag-preserved
-loop-tag-preserved c = (search stands-next, search (left-same, left_other))
+pub returns : goal.returns
+returns g c = record { laid = λ test t. left-done (c.loop-field.invariant.left test t) (left-none _ test _ c.in_default.ensures) }
