@@ -8,6 +8,7 @@ use native.Mathlib.Omega.{arith}
 use lib.Dec.{leb, eqb}
 use lib.ListN.{length, drop}
 use borrow.Author.Tests.{leb-true, eqb-true, eqb-false}
+use Rattle.std.specs.Prelude.{Option as Maybe, Some, None}
 use Rattle.tlv.specs.Lists.{All, first, take_while}
 use Rattle.tlv.specs.Bytes.{Bytes, le_at}
 use Rattle.tlv.specs.Fields.{Field, fields, whole_fields, payloads}
@@ -21,7 +22,7 @@ use Rattle.tlv.proofs.AcceptedFields.{Promised, promised_all}
 use Rattle.tlv.proofs.PlaceFacts.{placed-start, placed-passed}
 use Rattle.access.specs.declared.access.Value.{Value}
 use Rattle.access.specs.Places.{own_fields, entry_here}
-use Rattle.access.specs.Access.{Meaning, absent, unsigned, file_number, text, unit_reference, section_reference, supplementary_reference, section_offset, line_offset, address, failed, is_named, value_of, meaning_of, meant, Says}
+use Rattle.access.specs.Access.{Meaning, absent, unsigned, file_number, text, unit_reference, section_reference, supplementary_reference, section_offset, line_offset, address, failed, is_named, value_of, meaning_of, said, Says}
 use Rattle.access.proofs.IndexModel.{either}
 use Rattle.access.proofs.EntryPlaceLaws.{entry-attributes}
 use Rattle.references.specs.Search.{attribute}
@@ -91,18 +92,18 @@ address_meant (line_offset n) = Address.Missing
 address_meant (address n) = Address.At n
 address_meant failed = Address.Failed
 
-value-address : (s : List ℕ) (v : Value) → address_in v ≡ address_meant (meant s v)
-value-address s Value.Absent = refl
-value-address s (Value.Unsigned n) = refl
-value-address s (Value.FileNumber n) = refl
-value-address s (Value.Text start len) = refl
-value-address s (Value.UnitReference n) = refl
-value-address s (Value.SectionReference n) = refl
-value-address s (Value.SupplementaryReference n) = refl
-value-address s (Value.SectionOffset n) = refl
-value-address s (Value.LineOffset n) = refl
-value-address s (Value.Address n) = refl
-value-address s Value.Failed = refl
+value-address : (s : List ℕ) (v : Maybe Value) → address_in v ≡ address_meant (said s v)
+value-address s None = refl
+value-address s (Some (Value.Unsigned n)) = refl
+value-address s (Some (Value.FileNumber n)) = refl
+value-address s (Some (Value.Text start len)) = refl
+value-address s (Some (Value.UnitReference n)) = refl
+value-address s (Some (Value.SectionReference n)) = refl
+value-address s (Some (Value.SupplementaryReference n)) = refl
+value-address s (Some (Value.SectionOffset n)) = refl
+value-address s (Some (Value.LineOffset n)) = refl
+value-address s (Some (Value.Address n)) = refl
+value-address s (Some Value.Failed) = refl
 
 meaning-address : (o : Option Attribute) → Given (λ a. KindKnown a.kind) o → address_meant (meaning_of o) ≡ address_of o
 unfolding meaning_of value_of
@@ -118,6 +119,6 @@ meaning-address (some a) h =
 
 -- ---- what is read of the entry at p
 
-module _ {s : List ℕ} {q p : ℕ} {v : Value} (A : Accepted s) (K : EntryKnown s q p) where
+module _ {s : List ℕ} {q p : ℕ} {v : Maybe Value} (A : Accepted s) (K : EntryKnown s q p) where
   pub address_read : {r : Address} → Bytes s → Says s v (meaning_of (first (is_named 0x7d) (map attribute_of (payloads 0x18 (own_fields (fields (drop (p + 15) s))))))) → r ≡ address_in v → r ≡ address_of (attribute (entry_here s p) 0x7d)
   address_read b says is = is ∙ value-address s v ∙ ap address_meant (attribute-says (accepted-placed A K) K v 0x7d says).is ∙ meaning-address (attribute (entry_here s p) 0x7d) (kind-known A K b 0x7d)

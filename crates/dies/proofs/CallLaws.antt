@@ -1,11 +1,12 @@
 -- A call's file and line, and the warnings about them.
 use mathlib.Core.Path.{◌≡◌, refl, ap, ◌∙◌}
 use mathlib.Core.List.{List, [], ◌∷◌, ◌++◌, append-nil}
-use mathlib.Core.Option.{some}
+use mathlib.Core.Option.{Option, none, some}
 use Prim.Native.Nat.{ℕ, ◌+◌, ◌-◌, ◌^◌, ◌≤◌, ◌<◌}
 use native.Mathlib.Omega.{arith}
 use lib.ListN.{length}
 use borrow.Author.Tests.{lt-ltb, le-ltb}
+use Rattle.std.specs.Prelude.{Option as Maybe, Some, None}
 use Rattle.tlv.specs.declared.model.FileIndex.{FileIndex}
 use Rattle.tlv.specs.Outcome.{◌>>=◌}
 use Rattle.tlv.specs.Bytes.{le_at, bytes_of}
@@ -22,16 +23,12 @@ use Rattle.access.specs.Places.{entry_here, unit_here, unit_places}
 use Rattle.access.proofs.EntryPlaceLaws.{entry-offset_is, entry_depth-is, entry_tag-is}
 use Rattle.access.proofs.UnitFacts.{UnitAt, all-unit_places, unit-offset}
 use Rattle.lines.specs.Files.{FileIndices, file_index, get}
-use Rattle.files.specs.declared.index.FoundIndex.{FoundIndex}
 use Rattle.files.specs.Indices.{number_of}
 use Rattle.references.specs.Search.{absolute_entry_offset, unsigned_attribute, file_index_attribute}
-use Rattle.references.specs.declared.attributes.Number.{Number}
 use Rattle.references.specs.Tables.{EntryKnown, number_given}
-use Rattle.references.proofs.NumberLaws.{given-none, given-some}
 use Rattle.references.proofs.ReferenceLaws.{entry-placed, entry-step, entry-inside}
 use Rattle.references.proofs.TargetLaws.{known-unit}
 use Rattle.imports.specs.Tree.{DetailContext, call_file_from, call_file_of, call_line_if, call_line_of}
-use Rattle.dies.specs.declared.calls.Warned.{Warned}
 use Rattle.dies.specs.Calls.{AboutWarned, FileCalled, LineCalled}
 use Rattle.dies.proofs.AttributeReads.{accepted-placed}
 
@@ -78,7 +75,7 @@ module _ {s : List ℕ} {q p : ℕ} (A : Accepted s) (K : EntryKnown s q p) wher
   -- ---- a warning
 
   module _ {kind number at base offset : ℕ} {u : List ℕ} (eb : base ≡ le_at 8 s (q + 3)) (eo : offset ≡ le_at 8 s (p + 3)) where
-    pub about-refused : 18446744073709551615 - base < offset → AboutWarned s q p kind number at u u (record { at = at; status = 12 })
+    pub about-refused : (base + offset < 2 ^ 64 → ⊥) → AboutWarned s q p kind number at u u 12 at
     unfolding absolute_entry_offset
     about-refused h = record {
       offset = 0;
@@ -87,82 +84,90 @@ module _ {s : List ℕ} {q p : ℕ} (A : Accepted s) (K : EntryKnown s q p) wher
       no = λ z. rw (unit-offset_here, entry-offset_here, ← eb, ← eo, le-ltb (base + offset) (2 ^ 64) (omega arith));
     }
 
-    pub about-put : {u' : List ℕ} {r : ℕ} → base < 2 ^ 64 → offset ≤ 18446744073709551615 - base → Put at (encode 0x46 ((kind ∷ []) ++ bytes_of 8 (base + offset) ++ bytes_of 8 number)) u u' r
-        → AboutWarned s q p kind number at u u' (record { at = r; status = 0 })
+    pub about-put : {u' : List ℕ} {sum r : ℕ} → base + offset < 2 ^ 64 → sum ≡ base + offset → Put at (encode 0x46 ((kind ∷ []) ++ bytes_of 8 sum ++ bytes_of 8 number)) u u' r
+        → AboutWarned s q p kind number at u u' 0 r
     unfolding absolute_entry_offset warnings_bytes each_of
-    about-put small h P = record {
+    about-put small e P = record {
       offset = base + offset;
-      ok = λ z. rw (unit-offset_here, entry-offset_here, ← eb, ← eo, lt-ltb (base + offset) (2 ^ 64) (omega arith));
-      laid = λ z k is. rw (append-nil (encode 0x46 (warning_payload (about k (base + offset) number)))) (put-about k kind (base + offset) number is P);
+      ok = λ z. rw (unit-offset_here, entry-offset_here, ← eb, ← eo, lt-ltb (base + offset) (2 ^ 64) small);
+      laid = λ z k is. rw (append-nil (encode 0x46 (warning_payload (about k (base + offset) number)))) (put-about k kind (base + offset) number is (rw e at P));
       no = λ z. absurd (z refl);
     }
 
 -- ---- the file
 
-of_number : (is : FileIndices) (s : List ℕ) (p : ℕ) (n : Number) (number : ℕ) (f : FoundIndex) → n ≡ number_given (file_index_attribute (entry_here s p) 0x58) → n ≡ Number.Is number → number_of f ≡ get is number
+-- what an answer says of the number
+number-none : (o : Option ℕ) → None ≡ number_given o → o ≡ none
+number-none none e = refl
+number-none (some n) e = cc
+
+number-some : (o : Option ℕ) (m : ℕ) → Some m ≡ number_given o → o ≡ some m
+number-some none m e = cc
+number-some (some n) m e = cc
+
+of_number : (is : FileIndices) (s : List ℕ) (p number : ℕ) (f : Maybe FileIndex) → Some number ≡ number_given (file_index_attribute (entry_here s p) 0x58) → number_of f ≡ get is number
     → (c : DetailContext) → c.file_indices ≡ is → call_file_of c (entry_here s p) ≡ call_file_from c (entry_here s p) number (number_of f)
 unfolding call_file_of
-of_number is s p n number f read e found c ei = rw (given-some (file_index_attribute (entry_here s p) 0x58) n number read e, ei, ← found)
+of_number is s p number f read found c ei = rw (number-some (file_index_attribute (entry_here s p) 0x58) number read, ei, ← found)
 
-module _ {is : FileIndices} {s : List ℕ} {q p at : ℕ} {u : List ℕ} {n : Number} (h : at ≤ top) (k : length u < top) (read : n ≡ number_given (file_index_attribute (entry_here s p) 0x58)) where
-  pub file-missing : n ≡ Number.Missing → FileCalled is s q p at u u (record { file = file_index 0; at = at; status = 0 })
+module _ {is : FileIndices} {s : List ℕ} {q p at : ℕ} {u : List ℕ} (h : at ≤ top) (k : length u < top) where
+  pub file-missing : None ≡ number_given (file_index_attribute (entry_here s p) 0x58) → FileCalled is s q p at u u 0 (record { file = file_index 0; at = at })
   unfolding call_file_of
-  file-missing e = record {
+  file-missing read = record {
     warnings = [];
     laid = λ z. warn_none h k;
-    ok = λ z c ei eu. rw (given-none (file_index_attribute (entry_here s p) 0x58) n read e);
+    ok = λ z c ei eu. rw (number-none (file_index_attribute (entry_here s p) 0x58) read);
     no = λ z. absurd (z refl);
   }
 
-  module _ {number : ℕ} {f : FoundIndex} (e : n ≡ Number.Is number) (found : number_of f ≡ get is number) where
-    pub file-found : {i : FileIndex} → f ≡ FoundIndex.Number i → FileCalled is s q p at u u (record { file = i; at = at; status = 0 })
+  module _ {number : ℕ} {f : Maybe FileIndex} (read : Some number ≡ number_given (file_index_attribute (entry_here s p) 0x58)) (found : number_of f ≡ get is number) where
+    pub file-found : {i : FileIndex} → f ≡ Some i → FileCalled is s q p at u u 0 (record { file = i; at = at })
     file-found is_number = record {
       warnings = [];
       laid = λ z. warn_none h k;
-      ok = λ z c ei eu. of_number is s p n number f read e found c ei ∙ rw is_number;
+      ok = λ z c ei eu. of_number is s p number f read found c ei ∙ rw is_number;
       no = λ z. absurd (z refl);
     }
 
-    pub file-warned : {u' : List ℕ} {r : Warned} → f ≡ FoundIndex.Missing → AboutWarned s q p 8 number at u u' r → FileCalled is s q p at u u' (record { file = file_index 0; at = r.at; status = r.status })
+    pub file-warned : {u' : List ℕ} {m r : ℕ} → f ≡ None → AboutWarned s q p 8 number at u u' m r → FileCalled is s q p at u u' m (record { file = file_index 0; at = r })
     unfolding ◌>>=◌ kind_number
     file-warned missing W = record {
       warnings = about missing_inline_call_file W.offset number ∷ [];
       laid = λ z. W.laid z missing_inline_call_file refl;
-      ok = λ z c ei eu. of_number is s p n number f read e found c ei ∙ rw (missing, eu, W.ok z);
-      no = λ z c ei eu. of_number is s p n number f read e found c ei ∙ rw (missing, eu, W.no z);
+      ok = λ z c ei eu. of_number is s p number f read found c ei ∙ rw (missing, eu, W.ok z);
+      no = λ z c ei eu. of_number is s p number f read found c ei ∙ rw (missing, eu, W.no z);
     }
 
 -- ---- the line
 
-of_line : (s : List ℕ) (p : ℕ) (n : Number) (number : ℕ) → n ≡ number_given (unsigned_attribute (entry_here s p) 0x59) → n ≡ Number.Is number
-    → (c : DetailContext) → call_line_of c (entry_here s p) ≡ call_line_if c (entry_here s p) (some number)
+of_line : (s : List ℕ) (p number : ℕ) → Some number ≡ number_given (unsigned_attribute (entry_here s p) 0x59) → (c : DetailContext) → call_line_of c (entry_here s p) ≡ call_line_if c (entry_here s p) (some number)
 unfolding call_line_of
-of_line s p n number read e c = rw (given-some (unsigned_attribute (entry_here s p) 0x59) n number read e)
+of_line s p number read c = rw (number-some (unsigned_attribute (entry_here s p) 0x59) number read)
 
-module _ {s : List ℕ} {q p at : ℕ} {u : List ℕ} {n : Number} (h : at ≤ top) (k : length u < top) (read : n ≡ number_given (unsigned_attribute (entry_here s p) 0x59)) where
-  pub line-missing : n ≡ Number.Missing → LineCalled s q p at u u (record { line = 0; at = at; status = 0 })
+module _ {s : List ℕ} {q p at : ℕ} {u : List ℕ} (h : at ≤ top) (k : length u < top) where
+  pub line-missing : None ≡ number_given (unsigned_attribute (entry_here s p) 0x59) → LineCalled s q p at u u 0 (record { line = 0; at = at })
   unfolding call_line_of
-  line-missing e = record {
+  line-missing read = record {
     warnings = [];
     laid = λ z. warn_none h k;
-    ok = λ z c eu. rw (given-none (unsigned_attribute (entry_here s p) 0x59) n read e);
+    ok = λ z c eu. rw (number-none (unsigned_attribute (entry_here s p) 0x59) read);
     no = λ z. absurd (z refl);
   }
 
-  module _ {number : ℕ} (e : n ≡ Number.Is number) where
-    pub line_small : number < 4294967296 → LineCalled s q p at u u (record { line = number; at = at; status = 0 })
+  module _ {number : ℕ} (read : Some number ≡ number_given (unsigned_attribute (entry_here s p) 0x59)) where
+    pub line_small : number < 4294967296 → LineCalled s q p at u u 0 (record { line = number; at = at })
     line_small l = record {
       warnings = [];
       laid = λ z. warn_none h k;
-      ok = λ z c eu. of_line s p n number read e c ∙ rw (lt-ltb number (2 ^ 32) (omega arith));
+      ok = λ z c eu. of_line s p number read c ∙ rw (lt-ltb number (2 ^ 32) (omega arith));
       no = λ z. absurd (z refl);
     }
 
-    pub line-warned : {u' : List ℕ} {r : Warned} → 4294967296 ≤ number → AboutWarned s q p 9 number at u u' r → LineCalled s q p at u u' (record { line = 0; at = r.at; status = r.status })
+    pub line-warned : {u' : List ℕ} {m r : ℕ} → 4294967296 ≤ number → AboutWarned s q p 9 number at u u' m r → LineCalled s q p at u u' m (record { line = 0; at = r })
     unfolding ◌>>=◌ kind_number
     line-warned l W = record {
       warnings = about invalid_inline_call_line W.offset number ∷ [];
       laid = λ z. W.laid z invalid_inline_call_line refl;
-      ok = λ z c eu. of_line s p n number read e c ∙ rw (le-ltb number (2 ^ 32) (omega arith), eu, W.ok z);
-      no = λ z c eu. of_line s p n number read e c ∙ rw (le-ltb number (2 ^ 32) (omega arith), eu, W.no z);
+      ok = λ z c eu. of_line s p number read c ∙ rw (le-ltb number (2 ^ 32) (omega arith), eu, W.ok z);
+      no = λ z c eu. of_line s p number read c ∙ rw (le-ltb number (2 ^ 32) (omega arith), eu, W.no z);
     }

@@ -1,20 +1,21 @@
 -- The entries of a unit by place: what the field at a place adds to them, which of them lie below a subprogram, and how many ranges and entries are left.
 use mathlib.Core.Path.{◌≡◌, refl, ap, ◌∙◌}
 use mathlib.Core.Bool.{Bool, not, ◌||◌}
-use mathlib.Core.List.{List, [], ◌∷◌}
+use mathlib.Core.List.{List, [], ◌∷◌, map}
 use Prim.Native.Nat.{ℕ, ◌+◌, ◌≤◌, ◌<◌}
 use native.Mathlib.Omega.{arith}
 use lib.Dec.{eqb}
 use lib.ListN.{length, drop}
 use borrow.Author.Tests.{eqb-true, eqb-false, eq-eqb, ne_eqb, lt-ltb, le-ltb}
-use Rattle.tlv.specs.declared.fields.Step.{Step}
+use Rattle.std.specs.Prelude.{Some, None}
+use Rattle.tlv.specs.declared.fields.FieldSpan.{FieldSpan}
 use Rattle.tlv.specs.Lists.{Any, All, take_while, drop_while}
-use Rattle.tlv.specs.Fields.{Field, more, fields, whole_fields, grouped, payloads}
-use Rattle.tlv.specs.Model.{Entry}
-use Rattle.tlv.specs.Cursor.{step_at}
+use Rattle.tlv.specs.Fields.{Field, FieldList, more, fields, whole_fields, grouped, payloads}
+use Rattle.tlv.specs.Model.{Entry, entry_of}
+use Rattle.tlv.specs.Cursor.{step_at, field_from}
 use Rattle.tlv.specs.Bytes.{le_at}
 use Rattle.tlv.specs.Checked.{field_in, Placed}
-use Rattle.tlv.proofs.CursorLaws.{fields-at, fields-field, field-within, payload-length}
+use Rattle.tlv.proofs.FieldLaws.{is-step, at-none, fields-field, field-within, payload-length}
 use Rattle.tlv.proofs.PlacePromises.{placed-entry}
 use Rattle.access.specs.Places.{own_fields, unit_fields, entry_here, unit_here, behind, entry_index, lists_from}
 use Rattle.access.proofs.EntryPlaceLaws.{entry_depth-is}
@@ -87,109 +88,102 @@ module _ (depth : ℕ) where
 
 -- ---- what stands at a place
 
-module _ (s : List ℕ) (p : ℕ) (r : Step) (reads : r ≡ step_at s p) where
-  pub from_end : r ≡ Step.End → entries_from s p ≡ []
+module _ (s : List ℕ) (p : ℕ) where
+  pub from-none : None ≡ field_from s p → entries_from s p ≡ []
   unfolding entries_from unit_fields whole_fields take_while grouped
-  from_end e = rw (fields-at s p, ← reads, e)
+  from-none at = at-none s p at (λ (fs : FieldList). map entry_of (grouped 0x17 (unit_fields fs)).groups ≡ []) refl refl
 
-  pub from_cut : r ≡ Step.Cut → entries_from s p ≡ []
-  unfolding entries_from unit_fields whole_fields take_while grouped
-  from_cut e = rw (fields-at s p, ← reads, e)
+  pub none-below : None ≡ field_from s p → (depth : ℕ) → descendants_of depth (entries_from s p) ≡ []
+  none-below at depth = ap (descendants_of depth) (from-none at) ∙ below_none depth
 
-  pub none_end : (depth : ℕ) → r ≡ Step.End → descendants_of depth (entries_from s p) ≡ []
-  none_end depth e = ap (descendants_of depth) (from_end e) ∙ below_none depth
+  module _ (f : FieldSpan) (there : Some f ≡ field_from s p) where
+    here : fields (drop p s) ≡ more (field_in s f.tag f.start f.len) (fields (drop f.next s))
+    here = fields-field s p f there
 
-  pub none-cut : (depth : ℕ) → r ≡ Step.Cut → descendants_of depth (entries_from s p) ≡ []
-  none-cut depth e = ap (descendants_of depth) (from_cut e) ∙ below_none depth
-
-  module _ (t start len next : ℕ) (e : r ≡ Step.Field t start len next) where
-    here : fields (drop p s) ≡ more (field_in s t start len) (fields (drop next s))
-    here = fields-field s p r t start len next reads e
-
-    pub from-unit : t ≡ 0x10 → entries_from s p ≡ []
+    pub from-unit : f.tag ≡ 0x10 → entries_from s p ≡ []
     unfolding entries_from unit_fields whole_fields take_while grouped
-    from-unit is = rw (here, eq-eqb t 0x10 is)
+    from-unit is = rw (here, eq-eqb f.tag 0x10 is)
 
-    pub from-entry : t ≡ 0x17 → entries_from s p ≡ entry_here s p ∷ entries_from s next
+    pub from-entry : f.tag ≡ 0x17 → entries_from s p ≡ entry_here s p ∷ entries_from s f.next
     unfolding entries_from unit_fields whole_fields take_while grouped entry_here own_fields
-    from-entry is = rw (here, ne_eqb t 0x10 (λ no. omega arith), eq-eqb t 0x17 is, own-before (whole_fields (fields (drop next s))))
+    from-entry is = rw (here, ne_eqb f.tag 0x10 (λ no. omega arith), eq-eqb f.tag 0x17 is, own-before (whole_fields (fields (drop f.next s))))
 
-    pub from-other : (t ≡ 0x10 → ⊥) → (t ≡ 0x17 → ⊥) → entries_from s p ≡ entries_from s next
+    pub from-other : (f.tag ≡ 0x10 → ⊥) → (f.tag ≡ 0x17 → ⊥) → entries_from s p ≡ entries_from s f.next
     unfolding entries_from unit_fields whole_fields take_while grouped
-    from-other h k = rw (here, ne_eqb t 0x10 h, ne_eqb t 0x17 k)
+    from-other h k = rw (here, ne_eqb f.tag 0x10 h, ne_eqb f.tag 0x17 k)
 
-    pub none-unit : (depth : ℕ) → t ≡ 0x10 → descendants_of depth (entries_from s p) ≡ []
+    pub none-unit : (depth : ℕ) → f.tag ≡ 0x10 → descendants_of depth (entries_from s p) ≡ []
     none-unit depth is = ap (descendants_of depth) (from-unit is) ∙ below_none depth
 
-    module _ (h : Placed s p) (is : t ≡ 0x17) where
-      pub entry-room : start + 12 ≤ length s
+    module _ (h : Placed s p) (is : f.tag ≡ 0x17) where
+      pub entry-room : f.start + 12 ≤ length s
       entry-room =
-          let w = field-within s p r t start len next reads e in
-          let l = placed-entry s p r t start len next h reads e is in
+          let w = field-within s p f there in
+          let l = placed-entry s p (step_at s p) f.tag f.start f.len f.next h refl (is-step s p f there) is in
           omega arith
 
-      pub none-stop : (depth : ℕ) {n : ℕ} → n ≡ le_at 2 s (start + 8) → n ≤ depth → descendants_of depth (entries_from s p) ≡ []
-      none-stop depth en l = ap (descendants_of depth) (from-entry is) ∙ below-stop depth (entry_here s p) (entries_from s next) (omega (arith, entry_depth-is s p r t start len next reads e h is))
+      pub none-stop : (depth : ℕ) {n : ℕ} → n ≡ le_at 2 s (f.start + 8) → n ≤ depth → descendants_of depth (entries_from s p) ≡ []
+      none-stop depth en l = ap (descendants_of depth) (from-entry is) ∙ below-stop depth (entry_here s p) (entries_from s f.next) (omega (arith, entry_depth-is s p (step_at s p) f.tag f.start f.len f.next refl (is-step s p f there) h is))
 
     -- ---- how many are left
 
-    whole : whole_fields (fields (drop p s)) ≡ field_in s t start len ∷ whole_fields (fields (drop next s))
+    whole : whole_fields (fields (drop p s)) ≡ field_in s f.tag f.start f.len ∷ whole_fields (fields (drop f.next s))
     unfolding whole_fields
     whole = ap whole_fields here
 
-    pub left-entry : t ≡ 0x17 → entries_left s p ≡ 1 + entries_left s next
+    pub left-entry : f.tag ≡ 0x17 → entries_left s p ≡ 1 + entries_left s f.next
     unfolding entries_left payloads
-    left-entry is = rw (whole, eq-eqb t 0x17 is) (omega arith)
+    left-entry is = rw (whole, eq-eqb f.tag 0x17 is) (omega arith)
 
-    pub left_other : (t ≡ 0x17 → ⊥) → entries_left s p ≡ entries_left s next
+    pub left_other : (f.tag ≡ 0x17 → ⊥) → entries_left s p ≡ entries_left s f.next
     unfolding entries_left payloads
-    left_other h = rw (whole, ne_eqb t 0x17 h)
+    left_other h = rw (whole, ne_eqb f.tag 0x17 h)
 
-    pub later-entry : t ≡ 0x17 → (ranges_later s p).ranges ≡ length (table.range_fields s next) + (ranges_later s next).ranges
+    pub later-entry : f.tag ≡ 0x17 → (ranges_later s p).ranges ≡ length (table.range_fields s f.next) + (ranges_later s f.next).ranges
     unfolding ranges_later own_fields drop_while payloads
-    later-entry is = rw (whole, eq-eqb t 0x17 is, ne_eqb t 0x19 (λ no. omega arith)) (split is_own 0x19 (whole_fields (fields (drop next s))))
+    later-entry is = rw (whole, eq-eqb f.tag 0x17 is, ne_eqb f.tag 0x19 (λ no. omega arith)) (split is_own 0x19 (whole_fields (fields (drop f.next s))))
 
-    pub lists-entry : t ≡ 0x17 → (ranges_later s p).lists ≡ table.own_lists s next + (ranges_later s next).lists
+    pub lists-entry : f.tag ≡ 0x17 → (ranges_later s p).lists ≡ table.own_lists s f.next + (ranges_later s f.next).lists
     unfolding ranges_later unit_fields own_fields take_while drop_while payloads
     lists-entry is =
-        let own : List Field = take_while (λ f. not (eqb f.tag 0x10)) (whole_fields (fields (drop next s))) in
-        rw (whole, ne_eqb t 0x10 (λ no. omega arith), eq-eqb t 0x17 is, ne_eqb t 0x1f (λ no. omega arith))
-        (split is_own 0x1f own ∙ ap (λ (l : List Field). length (payloads 0x1f l) + length (payloads 0x1f (drop_while is_own own))) (own-both (whole_fields (fields (drop next s)))))
+        let own : List Field = take_while (λ f. not (eqb f.tag 0x10)) (whole_fields (fields (drop f.next s))) in
+        rw (whole, ne_eqb f.tag 0x10 (λ no. omega arith), eq-eqb f.tag 0x17 is, ne_eqb f.tag 0x1f (λ no. omega arith))
+        (split is_own 0x1f own ∙ ap (λ (l : List Field). length (payloads 0x1f l) + length (payloads 0x1f (drop_while is_own own))) (own-both (whole_fields (fields (drop f.next s)))))
 
-    pub later-other : (t ≡ 0x10 → ⊥) → (t ≡ 0x17 → ⊥) → (ranges_later s p).ranges ≡ (ranges_later s next).ranges
+    pub later-other : (f.tag ≡ 0x10 → ⊥) → (f.tag ≡ 0x17 → ⊥) → (ranges_later s p).ranges ≡ (ranges_later s f.next).ranges
     unfolding ranges_later drop_while
-    later-other h k = rw (whole, ne_eqb t 0x17 k, ne_eqb t 0x10 h)
+    later-other h k = rw (whole, ne_eqb f.tag 0x17 k, ne_eqb f.tag 0x10 h)
 
-    pub lists-later-other : (t ≡ 0x10 → ⊥) → (t ≡ 0x17 → ⊥) → (ranges_later s p).lists ≡ (ranges_later s next).lists
+    pub lists-later-other : (f.tag ≡ 0x10 → ⊥) → (f.tag ≡ 0x17 → ⊥) → (ranges_later s p).lists ≡ (ranges_later s f.next).lists
     unfolding ranges_later unit_fields take_while drop_while
-    lists-later-other h k = rw (whole, ne_eqb t 0x10 h, ne_eqb t 0x17 k, ne_eqb t 0x10 h)
+    lists-later-other h k = rw (whole, ne_eqb f.tag 0x10 h, ne_eqb f.tag 0x17 k, ne_eqb f.tag 0x10 h)
 
     -- ---- the index
 
-    to : behind p (field_in s t start len) ≡ next
-    to = let w = field-within s p r t start len next reads e in omega (arith, payload-length s p r t start len next reads e)
+    to : behind p (field_in s f.tag f.start f.len) ≡ f.next
+    to = let w = field-within s p f there in omega (arith, payload-length s p f there)
 
-    fewer : (m : ℕ) → length (payloads m (whole_fields (fields (drop next s)))) ≤ length (payloads m (whole_fields (fields (drop p s))))
+    fewer : (m : ℕ) → length (payloads m (whole_fields (fields (drop f.next s)))) ≤ length (payloads m (whole_fields (fields (drop p s))))
     unfolding payloads
-    fewer m = rw whole (either (eqb t m) (λ y. rw y (omega arith)) (λ n. rw n (omega arith)))
+    fewer m = rw whole (either (eqb f.tag m) (λ y. rw y (omega arith)) (λ n. rw n (omega arith)))
 
     -- no more lists follow
-    fewer-lists : (t ≡ 0x10 → ⊥) → lists_from s next ≤ lists_from s p
+    fewer-lists : (f.tag ≡ 0x10 → ⊥) → lists_from s f.next ≤ lists_from s p
     fewer-lists h =
-        either (eqb t 0x1f)
-        (λ y. omega (arith, lists-one s p r reads t start len next e h (eqb-true t 0x1f y)))
-        (λ n. omega (arith, lists-other s p r reads t start len next e h (eqb-false t 0x1f n)))
+        either (eqb f.tag 0x1f)
+        (λ y. omega (arith, lists-one s p (step_at s p) refl f.tag f.start f.len f.next (is-step s p f there) h (eqb-true f.tag 0x1f y)))
+        (λ n. omega (arith, lists-other s p (step_at s p) refl f.tag f.start f.len f.next (is-step s p f there) h (eqb-false f.tag 0x1f n)))
 
     module _ {q : ℕ} (K : EntriesKnown s q p) where
-      index-here : t ≡ 0x17 → EntryKnown s q p × All (λ x. Any (λ y. y ≡ x) (entry_index 0 0 0 (fields s))) (entry_index next q (unit_here s q).offset (fields (drop next s)))
+      index-here : f.tag ≡ 0x17 → EntryKnown s q p × All (λ x. Any (λ y. y ≡ x) (entry_index 0 0 0 (fields s))) (entry_index f.next q (unit_here s q).offset (fields (drop f.next s)))
       index-here is =
-          let all = rw (here, index-entry p q (unit_here s q).offset (field_in s t start len) (fields (drop next s)) next to is) at K.listed in
+          let all = rw (here, index-entry p q (unit_here s q).offset (field_in s f.tag f.start f.len) (fields (drop f.next s)) f.next to is) at K.listed in
           (record { entry = _; listed = all.0; place = refl; unit = refl }, all.1)
 
-      pub known-here : t ≡ 0x17 → EntryKnown s q p
+      pub known-here : f.tag ≡ 0x17 → EntryKnown s q p
       known-here is = (index-here is).0
 
-      pub known-entry : t ≡ 0x17 → EntriesKnown s q next
+      pub known-entry : f.tag ≡ 0x17 → EntriesKnown s q f.next
       known-entry is = record {
         listed = (index-here is).1;
         ranges = omega (arith, K.ranges, fewer 0x19);
@@ -197,9 +191,9 @@ module _ (s : List ℕ) (p : ℕ) (r : Step) (reads : r ≡ step_at s p) where
         lists = omega (arith, K.lists, fewer-lists (λ no. omega arith));
       }
 
-      pub known-other : (t ≡ 0x10 → ⊥) → (t ≡ 0x17 → ⊥) → EntriesKnown s q next
+      pub known-other : (f.tag ≡ 0x10 → ⊥) → (f.tag ≡ 0x17 → ⊥) → EntriesKnown s q f.next
       known-other h k = record {
-        listed = rw (here, index-other p q (unit_here s q).offset (field_in s t start len) (fields (drop next s)) next to h k) at K.listed;
+        listed = rw (here, index-other p q (unit_here s q).offset (field_in s f.tag f.start f.len) (fields (drop f.next s)) f.next to h k) at K.listed;
         ranges = omega (arith, K.ranges, fewer 0x19);
         entries = omega (arith, K.entries, fewer 0x17);
         lists = omega (arith, K.lists, fewer-lists h);

@@ -17,7 +17,7 @@ use Rattle.ranges.specs.RangeTable.{ranges_at}
 use Rattle.ranges.proofs.RangeTableLaws.{ranges-but}
 use Rattle.dies.specs.declared.frames.Frame.{Frame}
 use Rattle.dies.specs.declared.frames.Open.{Open}
-use Rattle.dies.specs.FrameStack.{slot, open_of, Stacked, Lean, open_in, Ready, Empty, Popped, grown}
+use Rattle.dies.specs.FrameStack.{slot, open_of, Stacked, Lean, open_in, Ready, Empty, Popped, Top, grown}
 
 -- ---- the stack of ranges
 
@@ -191,11 +191,6 @@ module _ (st : Open) (d n used : ℕ) (R : Ready st) (P : Popping st.frames st.n
   }
 
 -- ---- the innermost node's ranges
-
--- the innermost node's ranges begin at range `from` of the stack; with none open these are the function's own, f, which is range 0
-pub record Top (st : Open) (from : ℕ) : Type 0 where
-  pub within : from ≤ st.used
-  pub ranges : (f : AddressRange) (w : List ℕ) (base : ℕ) → ranges_at w base 1 ≡ f ∷ [] → parent_ranges f (open_in w base st) ≡ ranges_at w (base + from * 16) (st.used - from)
 
 module _ (st : Open) (R : Ready st) where
   none-top : st.n ≡ 0 → Top st 0

@@ -19,8 +19,7 @@ use Rattle.imports.specs.Tree.{fit, die_ranges, parent_ranges}
 use Rattle.ranges.specs.RangeTable.{ranges_at, read_by, read_at}
 use Rattle.dies.specs.declared.frames.Open.{Open}
 use Rattle.dies.specs.Details.{dwarf_with}
-use Rattle.dies.specs.FrameStack.{open_in}
-use Rattle.dies.proofs.FrameLaws.{Top}
+use Rattle.dies.specs.FrameStack.{open_in, Top}
 
 -- what is read of the entry at a place is what the fields behind its field give
 pub read_here : (main supplementary lists addresses : List ℕ) (p : ℕ) (r : Step) (t start len next : ℕ) → r ≡ step_at main p → r ≡ Step.Field t start len next

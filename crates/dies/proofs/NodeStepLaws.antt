@@ -7,6 +7,10 @@ use native.Mathlib.Numerals.{add-one}
 use native.Mathlib.Omega.{arith}
 use lib.ListN.{length}
 use borrow.Author.Tests.{lt-ltb, le-ltb}
+use Rattle.std.specs.Prelude.{Result, Ok, Err}
+use Rattle.tlv.specs.declared.refusal.Refusal.{Refusal}
+use Rattle.tlv.specs.Refusals.{status_of}
+use Rattle.tlv.proofs.AnswerLaws.{numbered}
 use Rattle.tlv.specs.declared.model.AddressRange.{AddressRange}
 use Rattle.tlv.specs.declared.model.FileIndex.{FileIndex}
 use Rattle.tlv.specs.Outcome.{Outcome, refused, done, ◌>>=◌}
@@ -14,14 +18,13 @@ use Rattle.tlv.specs.Bytes.{le_at}
 use Rattle.tlv.specs.Fields.{encode}
 use Rattle.tlv.specs.Model.{Entry}
 use Rattle.buffers.specs.Buffer.{Put, top}
-use Rattle.buffers.specs.Output.{InlineNode, Warning, node_payload, range_payload, range_bytes, each_of, node_bytes}
+use Rattle.buffers.specs.Output.{InlineNode, Warning, warning_payload, warnings_bytes, node_payload, range_payload, range_bytes, each_of, node_bytes}
 use Rattle.buffers.specs.Table.{Kept}
 use Rattle.buffers.proofs.BufferLaws.{◌then◌, put-none}
 use Rattle.buffers.proofs.TableLaws.{kept_refl}
 use Rattle.access.specs.Places.{entry_here}
 use Rattle.lines.specs.Files.{file_index}
 use Rattle.references.specs.Tables.{EntryKnown}
-pub use Rattle.declarations.proofs.DeclareLaws.{warnings-append}
 use Rattle.files.specs.Indices.{indices_in}
 use Rattle.imports.specs.Tree.{Descendants, DetailContext, CallFile, CallLine, call_file_of, call_line_of, push_inline}
 use Rattle.ranges.specs.RangeTable.{ranges_at, range_fields}
@@ -33,8 +36,9 @@ use Rattle.dies.specs.declared.calls.CalledLine.{CalledLine}
 use Rattle.dies.specs.declared.nodes.Laid.{Laid}
 use Rattle.dies.specs.FrameStack.{open_in, grown}
 use Rattle.dies.specs.Past.{is_past, node_size}
+use Rattle.dies.specs.Answers.{value_or}
 use Rattle.dies.specs.Details.{DetailsIn, context_in}
-use Rattle.dies.specs.DetailState.{Later, OwnRanges, origin_name, site_frames_at, sites_at, ranges_later, entries_left, walk_of, Fits, lead_bytes, new_bytes, walked, Advances, noded}
+use Rattle.dies.specs.DetailState.{Later, OwnRanges, origin_name, site_frames_at, sites_at, ranges_later, entries_left, walk_of, Fits, lead_bytes, new_bytes, walked, Advances, laid_of, noded}
 use Rattle.dies.specs.Calls.{FileCalled, LineCalled}
 use Rattle.dies.proofs.FrameLaws.{length-open, Pushed, pushed_is}
 use Rattle.dies.proofs.CallLaws.{entry_depth-here}
@@ -64,6 +68,10 @@ pub each_append : {A : Type 0} (f : A → List ℕ) (xs ys : List A) → each_of
 unfolding each_of
 each_append f [] ys = refl
 each_append f (x ∷ xs) ys = ap (λ (l : List ℕ). f x ++ l) (each_append f xs ys) ∙ sym (append_assoc (f x) (each_of f xs) (each_of f ys))
+
+pub warnings-append : (a b : List Warning) → warnings_bytes (a ++ b) ≡ warnings_bytes a ++ warnings_bytes b
+unfolding warnings_bytes
+warnings-append a b = each_append (λ (x : Warning). encode 0x46 (warning_payload x)) a b
 
 -- ---- what the definition does with ranges that were kept
 
@@ -117,9 +125,9 @@ module _ (c : DetailContext) (e : Entry) (name : List ℕ) (rs : List AddressRan
 -- ---- the steps
 
 -- a refusal says nothing of what was laid
-pub advance-refused : {G : Descendants → Outcome Descendants} {main supplementary name : List ℕ} {d : Details} {a : Later} {b : ℕ} {w t u : List ℕ} {s : Walk} {w' t' u' : List ℕ} {s' : Walk}
-    → (s'.status ≡ 0 → ⊥) → Kept w w' d.ranges (walked main supplementary d) → ((ns : List InlineNode) (ws : List Warning) → G (walk_of main supplementary d w s ns ws) ≡ refused s'.status)
-    → Advances G main supplementary name d a b w t u s w' t' u' s'
+pub advance-refused : {G : Descendants → Outcome Descendants} {main supplementary name : List ℕ} {d : Details} {a : Later} {b : ℕ} {w t u : List ℕ} {s : Walk} {w' t' u' : List ℕ} {n : ℕ} {s' : Walk}
+    → (n ≡ 0 → ⊥) → Kept w w' d.ranges (walked main supplementary d) → ((ns : List InlineNode) (ws : List Warning) → G (walk_of main supplementary d w s ns ws) ≡ refused n)
+    → Advances G main supplementary name d a b w t u s w' t' u' n s'
 advance-refused n K refuses = record {
   nodes = [];
   warnings = [];
@@ -133,42 +141,48 @@ advance-refused n K refuses = record {
   no = λ _. refuses;
 }
 
--- nor of the state but for its number
-pub refused_as : {G : Descendants → Outcome Descendants} {main supplementary name : List ℕ} {d : Details} {a : Later} {b : ℕ} {w t u : List ℕ} {s : Walk} {w' t' u' : List ℕ} {s' s'' : Walk}
-    → Advances G main supplementary name d a b w t u s w' t' u' s' → (s'.status ≡ 0 → ⊥) → s''.status ≡ s'.status → Advances G main supplementary name d a b w t u s w' t' u' s''
-refused_as A n e = advance-refused (λ z. n (sym e ∙ z)) A.kept (λ ns ws. A.no n ns ws ∙ ap refused (sym e))
+-- nor of the state
+pub refused_as : {G : Descendants → Outcome Descendants} {main supplementary name : List ℕ} {d : Details} {a : Later} {b : ℕ} {w t u : List ℕ} {s : Walk} {w' t' u' : List ℕ} {n : ℕ} {s' s'' : Walk}
+    → Advances G main supplementary name d a b w t u s w' t' u' n s' → (n ≡ 0 → ⊥) → Advances G main supplementary name d a b w t u s w' t' u' n s''
+refused_as A h = advance-refused h A.kept (A.no h)
+
+-- nor of what stands for one
+pub or-any : {G : Descendants → Outcome Descendants} {main supplementary name : List ℕ} {d : Details} {a : Later} {b : ℕ} {w t u : List ℕ} {s : Walk} {w' t' u' : List ℕ} (s' s'' : Walk) (r : Result Walk Refusal)
+    → Advances G main supplementary name d a b w t u s w' t' u' (status_of r) (value_or s' r) → Advances G main supplementary name d a b w t u s w' t' u' (status_of r) (value_or s'' r)
+or-any s' s'' (Ok x) A = A
+or-any s' s'' (Err e) A = refused_as A (numbered e)
 
 -- the depth as it was read
-pub noded-at : {G : Descendants → Outcome Descendants} {main supplementary name : List ℕ} {d : Details} {a : Later} {b : ℕ} {w t u : List ℕ} {s : Walk} {w' t' u' : List ℕ} {depth depth' : ℕ} {r : Laid} (k : ℕ)
-    → depth ≡ depth' → Advances G main supplementary name d a b w t u s w' t' u' (noded s depth' k r) → Advances G main supplementary name d a b w t u s w' t' u' (noded s depth k r)
+pub noded-at : {G : Descendants → Outcome Descendants} {main supplementary name : List ℕ} {d : Details} {a : Later} {b : ℕ} {w t u : List ℕ} {s : Walk} {w' t' u' : List ℕ} {n depth depth' : ℕ} {r : Laid} (k : ℕ)
+    → depth ≡ depth' → Advances G main supplementary name d a b w t u s w' t' u' n (noded s depth' k r) → Advances G main supplementary name d a b w t u s w' t' u' n (noded s depth k r)
 noded-at k e A = rw e A
 
 module _ {main supplementary w u : List ℕ} {d : Details} {p : ℕ} {s : Walk} (lists addresses name inlined t : List ℕ) (k : ℕ) (D : DetailsIn main supplementary w d) (K : EntryKnown main d.unit p)
     (F : Fits main supplementary w d (ranges_later main p) (entries_left main p) s) (some-k : 0 < k) (O : OwnRanges main d p k)
-    {u₁ : List ℕ} {file : CalledFile} (FC : FileCalled (indices_in w d.indices) main d.unit p s.warned u u₁ file) where
+    {u₁ : List ℕ} {nf : ℕ} {file : CalledFile} (FC : FileCalled (indices_in w d.indices) main d.unit p s.warned u u₁ nf file) where
   some-ranges : 0 < length (ranges_at w (d.ranges + s.frames.used * 16) k)
   some-ranges = omega (arith, ranges-length w (d.ranges + s.frames.used * 16) k)
 
-  pub keep_file : (file.status ≡ 0 → ⊥)
-      → Advances (push_inline (context_in main supplementary lists addresses w d) (entry_here main p) inlined (ranges_at w (d.ranges + s.frames.used * 16) k)) main supplementary name d (ranges_later main (p + 15)) (entries_left main (p + 15)) w t u s w t u₁
-      (noded s (le_at 2 main (p + 11)) k (record { at = s.at; warned = s.warned; status = file.status; past = s.past }))
+  pub keep_file : (nf ≡ 0 → ⊥)
+      → Advances (push_inline (context_in main supplementary lists addresses w d) (entry_here main p) inlined (ranges_at w (d.ranges + s.frames.used * 16) k)) main supplementary name d (ranges_later main (p + 15)) (entries_left main (p + 15)) w t u s w t u₁ nf
+      (noded s (le_at 2 main (p + 11)) k (laid_of s))
   keep_file n = advance-refused n (kept_refl w d.ranges (walked main supplementary d)) (λ ns ws. push_file (context_in main supplementary lists addresses w d) (entry_here main p) inlined _ _ some-ranges (FC.no n (context_in main supplementary lists addresses w d) refl refl))
 
-  module _ (f : file.status ≡ 0) {u₂ : List ℕ} {line : CalledLine} (LC : LineCalled main d.unit p file.at u₁ u₂ line) where
-    pub keep_line : (line.status ≡ 0 → ⊥)
-        → Advances (push_inline (context_in main supplementary lists addresses w d) (entry_here main p) inlined (ranges_at w (d.ranges + s.frames.used * 16) k)) main supplementary name d (ranges_later main (p + 15)) (entries_left main (p + 15)) w t u s w t u₂
-        (noded s (le_at 2 main (p + 11)) k (record { at = s.at; warned = s.warned; status = line.status; past = s.past }))
+  module _ (f : nf ≡ 0) {u₂ : List ℕ} {nl : ℕ} {line : CalledLine} (LC : LineCalled main d.unit p file.at u₁ u₂ nl line) where
+    pub keep_line : (nl ≡ 0 → ⊥)
+        → Advances (push_inline (context_in main supplementary lists addresses w d) (entry_here main p) inlined (ranges_at w (d.ranges + s.frames.used * 16) k)) main supplementary name d (ranges_later main (p + 15)) (entries_left main (p + 15)) w t u s w t u₂ nl
+        (noded s (le_at 2 main (p + 11)) k (laid_of s))
     keep_line n = advance-refused n (kept_refl w d.ranges (walked main supplementary d))
         (λ ns ws. push_line (context_in main supplementary lists addresses w d) (entry_here main p) inlined _ _ some-ranges (FC.ok f (context_in main supplementary lists addresses w d) refl refl) (LC.no n (context_in main supplementary lists addresses w d) refl))
 
-    module _ (l : line.status ≡ 0) where
+    module _ (l : nl ≡ 0) where
       stack-length : (ns : List InlineNode) (ws : List Warning) → length (walk_of main supplementary d w s ns ws).inline_stack ≡ s.frames.n
       unfolding walk_of
       stack-length ns ws = length-open w d.ranges s.frames
 
       pub keep_deep : 256 ≤ s.frames.n
-          → Advances (push_inline (context_in main supplementary lists addresses w d) (entry_here main p) inlined (ranges_at w (d.ranges + s.frames.used * 16) k)) main supplementary name d (ranges_later main (p + 15)) (entries_left main (p + 15)) w t u s w t u₂
-          (noded s (le_at 2 main (p + 11)) k (record { at = s.at; warned = s.warned; status = 14; past = s.past }))
+          → Advances (push_inline (context_in main supplementary lists addresses w d) (entry_here main p) inlined (ranges_at w (d.ranges + s.frames.used * 16) k)) main supplementary name d (ranges_later main (p + 15)) (entries_left main (p + 15)) w t u s w t u₂ 14
+          (noded s (le_at 2 main (p + 11)) k (laid_of s))
       keep_deep h = advance-refused (λ z. omega arith) (kept_refl w d.ranges (walked main supplementary d))
           (λ ns ws. push_deep (context_in main supplementary lists addresses w d) (entry_here main p) inlined _ _ some-ranges (FC.ok f (context_in main supplementary lists addresses w d) refl refl) (LC.ok l (context_in main supplementary lists addresses w d) refl) (omega (arith, stack-length ns ws)))
 
@@ -191,8 +205,8 @@ module _ {main supplementary w u : List ℕ} {d : Details} {p : ℕ} {s : Walk} 
         P : Pushed s.frames (grown s.frames (le_at 2 main (p + 11)) k) (le_at 2 main (p + 11)) k
         P = pushed_is s.frames (le_at 2 main (p + 11)) k F.ready h
 
-        pub keep_done : Advances (push_inline (context_in main supplementary lists addresses w d) (entry_here main p) inlined (ranges_at w (d.ranges + s.frames.used * 16) k)) main supplementary name d (ranges_later main (p + 15)) (entries_left main (p + 15)) w t u s w t₂ u₂
-            (noded s (le_at 2 main (p + 11)) k (record { at = q₂; warned = line.at; status = 0; past = s.past || b }))
+        pub keep_done : Advances (push_inline (context_in main supplementary lists addresses w d) (entry_here main p) inlined (ranges_at w (d.ranges + s.frames.used * 16) k)) main supplementary name d (ranges_later main (p + 15)) (entries_left main (p + 15)) w t u s w t₂ u₂ 0
+            (noded s (le_at 2 main (p + 11)) k (record { at = q₂; warned = line.at; past = s.past || b }))
         unfolding walk_of node
         keep_done = record {
           nodes = node ∷ [];

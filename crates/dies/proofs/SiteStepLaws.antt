@@ -9,6 +9,9 @@ use native.Mathlib.Omega.{arith}
 use lib.Dec.{eqb}
 use lib.ListN.{length}
 use borrow.Author.Tests.{le-leb, lt-leb, lt-ltb, le-ltb, eq-eqb, ne_eqb}
+use Rattle.std.specs.Prelude.{Some}
+use Rattle.tlv.specs.declared.fields.FieldSpan.{FieldSpan}
+use Rattle.tlv.specs.Cursor.{span_of, field_from}
 use Rattle.tlv.specs.Outcome.{Outcome, refused, done, ◌>>=◌}
 use Rattle.tlv.specs.Lists.{All}
 use Rattle.tlv.specs.Bytes.{Bytes, le_at}
@@ -71,15 +74,23 @@ module _ {main supplementary w : List ℕ} {d : Details} {p : ℕ} (D : DetailsI
       let all = rw I.entries at (small-table w d.tables.main.entries d.tables.main.entry_count b) in
       any_one (entry_index 0 0 0 (fields main)) (λ e l same. let is : e.place ≡ p = ap (λ (x : IndexedEntry). x.place) same ∙ K.place in omega arith) all K.listed
 
+  -- its field
+  abbrev entry-span : FieldSpan
+  entry-span = record { tag = 0x17; start = p + 3; len = 12; next = p + 15 }
+
+  entry-there : Some entry-span ≡ field_from main p
+  unfolding span_of
+  entry-there = rw (entry-step (accepted-placed (details-accepted D) K) K)
+
   -- behind it
   pub left_here : entries_left main p ≡ 1 + entries_left main (p + 15)
-  left_here = left-entry main p _ refl 0x17 (p + 3) 12 (p + 15) (entry-step (accepted-placed (details-accepted D) K) K) refl
+  left_here = left-entry main p entry-span entry-there refl
 
   pub later-here : (ranges_later main p).ranges ≡ length (table.range_fields main (p + 15)) + (ranges_later main (p + 15)).ranges
-  later-here = later-entry main p _ refl 0x17 (p + 3) 12 (p + 15) (entry-step (accepted-placed (details-accepted D) K) K) refl
+  later-here = later-entry main p entry-span entry-there refl
 
   pub lists-here : (ranges_later main p).lists ≡ table.own_lists main (p + 15) + (ranges_later main (p + 15)).lists
-  lists-here = lists-entry main p _ refl 0x17 (p + 3) 12 (p + 15) (entry-step (accepted-placed (details-accepted D) K) K) refl
+  lists-here = lists-entry main p entry-span entry-there refl
 
 -- ---- what the definition does with the return address
 
@@ -138,10 +149,10 @@ module _ {main supplementary w : List ℕ} {d : Details} {p : ℕ} {s : Walk} (D
     unfolding collect_site make_call_site
     site-is x = ap (λ (o : Outcome (Option CallSite)). o >>= λ y. done (push_call_site (entry_here main p) x y)) (site-by (context_in main supplementary lists addresses w d) (entry_here main p) (attribute (entry_here main p) 0x7d) ∙ ap (site_by (context_in main supplementary lists addresses w d) (entry_here main p)) (sym read))
 
-    passed : s.status ≡ 0 → site_by (context_in main supplementary lists addresses w d) (entry_here main p) r ≡ done none
-        → Quiet (collect_site (context_in main supplementary lists addresses w d) (entry_here main p)) main supplementary d (ranges_later main (p + 15)) (entries_left main (p + 15)) w s w s
+    passed : site_by (context_in main supplementary lists addresses w d) (entry_here main p) r ≡ done none
+        → Quiet (collect_site (context_in main supplementary lists addresses w d) (entry_here main p)) main supplementary d (ranges_later main (p + 15)) (entries_left main (p + 15)) w s w 0 s
     unfolding ◌>>=◌
-    passed st e = record {
+    passed e = record {
       place = refl;
       warned = refl;
       nodes = refl;
@@ -149,15 +160,14 @@ module _ {main supplementary w : List ℕ} {d : Details} {p : ℕ} {s : Walk} (D
       kept = kept_refl w d.ranges (walked main supplementary d);
       fits = λ z. later-fits;
       ok = λ z ns ws. site-is (walk_of main supplementary d w s ns ws) ∙ rw e;
-      no = λ z. absurd (z st);
+      no = λ z. absurd (z refl);
     }
 
-    pub site-missing : s.status ≡ 0 → r ≡ Address.Missing → Quiet (collect_site (context_in main supplementary lists addresses w d) (entry_here main p)) main supplementary d (ranges_later main (p + 15)) (entries_left main (p + 15)) w s w s
-    site-missing st e = passed st (rw e)
+    pub site-missing : r ≡ Address.Missing → Quiet (collect_site (context_in main supplementary lists addresses w d) (entry_here main p)) main supplementary d (ranges_later main (p + 15)) (entries_left main (p + 15)) w s w 0 s
+    site-missing e = passed (rw e)
 
     pub site-failed : r ≡ Address.Failed
-        → Quiet (collect_site (context_in main supplementary lists addresses w d) (entry_here main p)) main supplementary d (ranges_later main (p + 15)) (entries_left main (p + 15)) w s w
-        (record { frames = s.frames; opened = s.opened; closed = s.closed; nodes = s.nodes; at = s.at; warned = s.warned; status = 6; past = s.past })
+        → Quiet (collect_site (context_in main supplementary lists addresses w d) (entry_here main p)) main supplementary d (ranges_later main (p + 15)) (entries_left main (p + 15)) w s w 6 s
     unfolding ◌>>=◌
     site-failed e = record {
       place = refl;
@@ -171,11 +181,11 @@ module _ {main supplementary w : List ℕ} {d : Details} {p : ℕ} {s : Walk} (D
     }
 
     module _ {a : ℕ} (e : r ≡ Address.At a) where
-      pub site-low : s.status ≡ 0 → a < d.range.start → Quiet (collect_site (context_in main supplementary lists addresses w d) (entry_here main p)) main supplementary d (ranges_later main (p + 15)) (entries_left main (p + 15)) w s w s
-      site-low st h = passed st (rw (e, below-range (context_in main supplementary lists addresses w d) a h))
+      pub site-low : a < d.range.start → Quiet (collect_site (context_in main supplementary lists addresses w d) (entry_here main p)) main supplementary d (ranges_later main (p + 15)) (entries_left main (p + 15)) w s w 0 s
+      site-low h = passed (rw (e, below-range (context_in main supplementary lists addresses w d) a h))
 
-      pub site-high : s.status ≡ 0 → d.range.start ≤ a → d.range.end ≤ a → Quiet (collect_site (context_in main supplementary lists addresses w d) (entry_here main p)) main supplementary d (ranges_later main (p + 15)) (entries_left main (p + 15)) w s w s
-      site-high st h k = passed st (rw (e, above-range (context_in main supplementary lists addresses w d) a h k))
+      pub site-high : d.range.start ≤ a → d.range.end ≤ a → Quiet (collect_site (context_in main supplementary lists addresses w d) (entry_here main p)) main supplementary d (ranges_later main (p + 15)) (entries_left main (p + 15)) w s w 0 s
+      site-high h k = passed (rw (e, above-range (context_in main supplementary lists addresses w d) a h k))
 
       module _ (h : d.range.start ≤ a) (k : a < d.range.end) {w₁ : List ℕ} {st' : ℕ} {name : List ℕ}
           (R : Resolved main supplementary d.tables w w₁ (reference_name (dwarf_of main supplementary) (unit_here main d.unit) (entry_here main p) (attribute (entry_here main p) 0x7f)) st' name) where
@@ -189,8 +199,7 @@ module _ {main supplementary w : List ℕ} {d : Details} {p : ℕ} {s : Walk} (D
         )
 
         pub site-unnamed : (st' ≡ 0 → ⊥)
-            → Quiet (collect_site (context_in main supplementary lists addresses w d) (entry_here main p)) main supplementary d (ranges_later main (p + 15)) (entries_left main (p + 15)) w s w₁
-            (record { frames = s.frames; opened = s.opened; closed = s.closed; nodes = s.nodes; at = s.at; warned = s.warned; status = st'; past = s.past })
+            → Quiet (collect_site (context_in main supplementary lists addresses w d) (entry_here main p)) main supplementary d (ranges_later main (p + 15)) (entries_left main (p + 15)) w s w₁ st' s
         unfolding ◌>>=◌
         site-unnamed n = record {
           place = refl;
@@ -203,7 +212,7 @@ module _ {main supplementary w : List ℕ} {d : Details} {p : ℕ} {s : Walk} (D
           no = λ z ns ws. site-named (walk_of main supplementary d w s ns ws) ∙ rw (given-refused st' name R.is n);
         }
 
-        module _ (z : st' ≡ 0) (st : s.status ≡ 0) {w₂ : List ℕ} {depth : ℕ} (ed : (entry_here main p).depth ≡ depth)
+        module _ (z : st' ≡ 0) {w₂ : List ℕ} {depth : ℕ} (ed : (entry_here main p).depth ≡ depth)
             (P : PutSite w₁ w₂ (d.stack + s.opened * 14) depth p (a - d.range.start)) where
           found : reference_name (dwarf_of main supplementary) (unit_here main d.unit) (entry_here main p) (attribute (entry_here main p) 0x7f) ≡ done name
           found = given-done st' name R.is z
@@ -252,8 +261,8 @@ module _ {main supplementary w : List ℕ} {d : Details} {p : ℕ} {s : Walk} (D
               ∙ (λ i. record { die_depth = sym ed i; call_site = record { return_offset = a - d.range.start; pattern = sym name-is i } }
               ∷ site-frames_kept (origin_name main supplementary d.unit) d.stack s.opened R.rest (aside_keys D F _).stack i)
 
-          pub site-pushed : Quiet (collect_site (context_in main supplementary lists addresses w d) (entry_here main p)) main supplementary d (ranges_later main (p + 15)) (entries_left main (p + 15)) w s w₂
-              (record { frames = s.frames; opened = s.opened + 1; closed = s.closed; nodes = s.nodes; at = s.at; warned = s.warned; status = s.status; past = s.past })
+          pub site-pushed : Quiet (collect_site (context_in main supplementary lists addresses w d) (entry_here main p)) main supplementary d (ranges_later main (p + 15)) (entries_left main (p + 15)) w s w₂ 0
+              (record { frames = s.frames; opened = s.opened + 1; closed = s.closed; nodes = s.nodes; at = s.at; warned = s.warned; past = s.past })
           unfolding ◌>>=◌ walk_of
           site-pushed = record {
             place = refl;
@@ -284,5 +293,5 @@ module _ {main supplementary w : List ℕ} {d : Details} {p : ℕ} {s : Walk} (D
               call_sites = sym same-sites i;
               warnings = ws;
             }));
-            no = λ n. absurd (n st);
+            no = λ n. absurd (n refl);
           }

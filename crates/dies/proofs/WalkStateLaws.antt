@@ -158,14 +158,13 @@ module _ {main supplementary w : List ℕ} {d : Details} {a : Later} {b : ℕ} {
   -- ---- closing
 
   pub shut_is : {w' : List ℕ} {o : Open} {depth : ℕ} {r : Sites} → Popped s.frames o depth → Closed w w' d.stack s.opened d.sites s.closed depth r
-      → Shut main supplementary d depth w s w' (record { frames = o; opened = r.opened; closed = r.closed; nodes = s.nodes; at = s.at; warned = s.warned; status = s.status; past = s.past })
+      → Shut main supplementary d depth w s w' (record { frames = o; opened = r.opened; closed = r.closed; nodes = s.nodes; at = s.at; warned = s.warned; past = s.past })
   unfolding walk_of finish
   shut_is {w'} {o} {depth} {r} P C = record {
     place = refl;
     warned = refl;
     nodes = refl;
     past = refl;
-    status = refl;
     kept = kept-inside D C.rest (omega (arith, D.ranges, D.stack)) (omega (arith, F.sites, D.sites));
     fits = λ a' b' G. record {
       ready = P.ready;

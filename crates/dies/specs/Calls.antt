@@ -1,4 +1,5 @@
 -- Contract. What the code that reads a call site's address, and a call's file and line, promises.
+use Rattle.std.specs.Prelude.{Option as Maybe, Some, None}
 use Rattle.std.specs.Prelude.{◌≡◌, cond, List, [], ◌∷◌, ℕ, eqb}
 use Rattle.std.proofs.Math.Option.{Option, none, some}
 use Rattle.tlv.specs.Outcome.{refused, done}
@@ -11,7 +12,6 @@ use Rattle.lines.specs.Files.{FileIndices}
 use Rattle.references.specs.Search.{absolute_entry_offset}
 use Rattle.imports.specs.Tree.{DetailContext, call_file_of, call_line_of}
 use Rattle.dies.specs.declared.sites.Address.{Address}
-use Rattle.dies.specs.declared.calls.Warned.{Warned}
 use Rattle.dies.specs.declared.calls.CalledFile.{CalledFile}
 use Rattle.dies.specs.declared.calls.CalledLine.{CalledLine}
 
@@ -22,42 +22,46 @@ abbrev pub address_of : Option Attribute → Address
 address_of none = Address.Missing
 address_of (some a) = cond (eqb a.kind 10) Address.Failed (cond (eqb a.kind 9) (Address.At a.value) Address.Missing)
 
--- what values are
-abbrev pub address_in : Value → Address
-address_in Value.Absent = Address.Missing
-address_in (Value.Unsigned n) = Address.Missing
-address_in (Value.FileNumber n) = Address.Missing
-address_in (Value.Text start len) = Address.Missing
-address_in (Value.UnitReference n) = Address.Missing
-address_in (Value.SectionReference n) = Address.Missing
-address_in (Value.SupplementaryReference n) = Address.Missing
-address_in (Value.SectionOffset n) = Address.Missing
-address_in (Value.LineOffset n) = Address.Missing
-address_in (Value.Address n) = Address.At n
-address_in Value.Failed = Address.Failed
+-- the address that a value is
+abbrev pub address_is : Value → Address
+address_is (Value.Unsigned n) = Address.Missing
+address_is (Value.FileNumber n) = Address.Missing
+address_is (Value.Text start len) = Address.Missing
+address_is (Value.UnitReference n) = Address.Missing
+address_is (Value.SectionReference n) = Address.Missing
+address_is (Value.SupplementaryReference n) = Address.Missing
+address_is (Value.SectionOffset n) = Address.Missing
+address_is (Value.LineOffset n) = Address.Missing
+address_is (Value.Address n) = Address.At n
+address_is Value.Failed = Address.Failed
+
+-- .. and where there is none
+abbrev pub address_in : Maybe Value → Address
+address_in (Some v) = address_is v
+address_in None = Address.Missing
 
 -- ---- a call's file and line
 
--- a warning of a kind was laid; or it is refused
-pub record AboutWarned (main : List ℕ) (unit p kind number at : ℕ) (u u' : List ℕ) (r : Warned) : Type 0 where
+-- a warning of a kind was laid, and the warnings go on at r; or the number n refuses it
+pub record AboutWarned (main : List ℕ) (unit p kind number at : ℕ) (u u' : List ℕ) (n r : ℕ) : Type 0 where
   pub offset : ℕ
-  pub ok : r.status ≡ 0 → absolute_entry_offset (unit_here main unit) (entry_here main p).offset ≡ done offset
-  pub laid : r.status ≡ 0 → (k : WarningKind) → kind ≡ kind_number k → Put at (warnings_bytes (about k offset number ∷ [])) u u' r.at
-  pub no : (r.status ≡ 0 → ⊥) → absolute_entry_offset (unit_here main unit) (entry_here main p).offset ≡ refused r.status
+  pub ok : n ≡ 0 → absolute_entry_offset (unit_here main unit) (entry_here main p).offset ≡ done offset
+  pub laid : n ≡ 0 → (k : WarningKind) → kind ≡ kind_number k → Put at (warnings_bytes (about k offset number ∷ [])) u u' r
+  pub no : (n ≡ 0 → ⊥) → absolute_entry_offset (unit_here main unit) (entry_here main p).offset ≡ refused n
 
 -- the file of the call of the entry at p, of a unit that has the map `is`; what else a context holds does not matter
-pub record FileCalled (is : FileIndices) (main : List ℕ) (unit p at : ℕ) (u u' : List ℕ) (r : CalledFile) : Type 0 where
+pub record FileCalled (is : FileIndices) (main : List ℕ) (unit p at : ℕ) (u u' : List ℕ) (n : ℕ) (r : CalledFile) : Type 0 where
   pub warnings : List Warning
-  pub laid : r.status ≡ 0 → Put at (warnings_bytes warnings) u u' r.at
-  pub ok : r.status ≡ 0 → (c : DetailContext) → c.file_indices ≡ is → c.unit ≡ unit_here main unit → call_file_of c (entry_here main p)
+  pub laid : n ≡ 0 → Put at (warnings_bytes warnings) u u' r.at
+  pub ok : n ≡ 0 → (c : DetailContext) → c.file_indices ≡ is → c.unit ≡ unit_here main unit → call_file_of c (entry_here main p)
       ≡ done (record { file = r.file; warnings = warnings })
-  pub no : (r.status ≡ 0 → ⊥) → (c : DetailContext) → c.file_indices ≡ is → c.unit ≡ unit_here main unit → call_file_of c (entry_here main p)
-      ≡ refused r.status
+  pub no : (n ≡ 0 → ⊥) → (c : DetailContext) → c.file_indices ≡ is → c.unit ≡ unit_here main unit → call_file_of c (entry_here main p)
+      ≡ refused n
 
 -- the line
-pub record LineCalled (main : List ℕ) (unit p at : ℕ) (u u' : List ℕ) (r : CalledLine) : Type 0 where
+pub record LineCalled (main : List ℕ) (unit p at : ℕ) (u u' : List ℕ) (n : ℕ) (r : CalledLine) : Type 0 where
   pub warnings : List Warning
-  pub laid : r.status ≡ 0 → Put at (warnings_bytes warnings) u u' r.at
-  pub ok : r.status ≡ 0 → (c : DetailContext) → c.unit ≡ unit_here main unit → call_line_of c (entry_here main p)
+  pub laid : n ≡ 0 → Put at (warnings_bytes warnings) u u' r.at
+  pub ok : n ≡ 0 → (c : DetailContext) → c.unit ≡ unit_here main unit → call_line_of c (entry_here main p)
       ≡ done (record { line = r.line; warnings = warnings })
-  pub no : (r.status ≡ 0 → ⊥) → (c : DetailContext) → c.unit ≡ unit_here main unit → call_line_of c (entry_here main p) ≡ refused r.status
+  pub no : (n ≡ 0 → ⊥) → (c : DetailContext) → c.unit ≡ unit_here main unit → call_line_of c (entry_here main p) ≡ refused n

@@ -1,8 +1,10 @@
 -- Contract. What the walk over the entries below a subprogram has done, as it stands in memory, and what each of its steps promises.
-use Rattle.std.specs.Prelude.{◌≡◌, Bool, not, ◌||◌, ◌⊎◌, List, [], ◌∷◌, ◌++◌, map, ℕ, zero, suc, ◌+◌, ◌-◌, ◌*◌, ◌≤◌, ◌<◌, eqb, length, drop}
+use Rattle.std.specs.Prelude.{◌≡◌, Result, Ok, Err, Bool, not, ◌||◌, ◌⊎◌, List, [], ◌∷◌, ◌++◌, map, ℕ, zero, suc, ◌+◌, ◌-◌, ◌*◌, ◌≤◌, ◌<◌, eqb, length, drop}
 use Rattle.tlv.specs.Tags.{entry_tag, list_tag, range_tag, tray_site_tag, unit_tag, entry_whole}
 use Rattle.tlv.specs.Constants.{dw_at_call_origin}
 use Rattle.tlv.specs.declared.model.AddressRange.{AddressRange}
+use Rattle.tlv.specs.declared.refusal.Refusal.{Refusal}
+use Rattle.tlv.specs.Refusals.{number_of}
 use Rattle.tlv.specs.Outcome.{Outcome, refused, done, ◌>>=◌}
 use Rattle.tlv.specs.Lists.{take_while, drop_while}
 use Rattle.tlv.specs.Bytes.{le_at}
@@ -155,6 +157,10 @@ new_bytes name r n (x ∷ xs) = lead_bytes name r n ++ each_of node_bytes (x ∷
 
 -- ---- the steps
 
+-- where a state lays on
+abbrev pub laid_of : Walk → Laid
+laid_of s = record { at = s.at; warned = s.warned; past = s.past }
+
 -- the state with one node more, which was laid, of an entry at this depth, whose ranges are the k above the stack of ranges
 abbrev pub noded : Walk → ℕ → ℕ → Laid → Walk
 noded s depth k r =
@@ -165,7 +171,6 @@ noded s depth k r =
       nodes = s.nodes + 1;
       at = r.at;
       warned = r.warned;
-      status = r.status;
       past = r.past;
     }
 
@@ -173,21 +178,21 @@ noded s depth k r =
 abbrev pub walked : List ℕ → List ℕ → Details → ℕ
 walked main supplementary d = d.tables.keys + keys_extent main supplementary d.tables - d.ranges
 
--- what the definition does by F is done in memory: nodes and warnings are laid, and the rest stands in w', with room for a ranges and b entries; or it is
--- refused
+-- what the definition does by F is done in memory: nodes and warnings are laid, and the rest stands in w', with room for a ranges and b entries; or the
+-- number n refuses it
 pub record Advances (F : Descendants → Outcome Descendants) (main supplementary name : List ℕ) (d : Details) (a : Later) (b : ℕ) (w t u : List ℕ)
-    (s : Walk) (w' t' u' : List ℕ) (s' : Walk) : Type 0 where
+    (s : Walk) (w' t' u' : List ℕ) (n : ℕ) (s' : Walk) : Type 0 where
   pub nodes : List InlineNode
   pub warnings : List Warning
-  pub laid : s'.status ≡ 0 → Put s.at (new_bytes name d.range s.nodes nodes) t t' s'.at
-  pub warned : s'.status ≡ 0 → Put s.warned (warnings_bytes warnings) u u' s'.warned
-  pub past : s'.status ≡ 0 → s'.past ≡ (s.past || is_past s.at (length (new_bytes name d.range s.nodes nodes)))
-  pub count : s'.status ≡ 0 → s'.nodes ≡ s.nodes + length nodes
+  pub laid : n ≡ 0 → Put s.at (new_bytes name d.range s.nodes nodes) t t' s'.at
+  pub warned : n ≡ 0 → Put s.warned (warnings_bytes warnings) u u' s'.warned
+  pub past : n ≡ 0 → s'.past ≡ (s.past || is_past s.at (length (new_bytes name d.range s.nodes nodes)))
+  pub count : n ≡ 0 → s'.nodes ≡ s.nodes + length nodes
   pub kept : Kept w w' d.ranges (walked main supplementary d)
-  pub fits : s'.status ≡ 0 → Fits main supplementary w' d a b s'
-  pub ok : s'.status ≡ 0 → (ns : List InlineNode) (ws : List Warning) → F (walk_of main supplementary d w s ns ws)
+  pub fits : n ≡ 0 → Fits main supplementary w' d a b s'
+  pub ok : n ≡ 0 → (ns : List InlineNode) (ws : List Warning) → F (walk_of main supplementary d w s ns ws)
       ≡ done (walk_of main supplementary d w' s' (ns ++ nodes) (ws ++ warnings))
-  pub no : (s'.status ≡ 0 → ⊥) → (ns : List InlineNode) (ws : List Warning) → F (walk_of main supplementary d w s ns ws) ≡ refused s'.status
+  pub no : (n ≡ 0 → ⊥) → (ns : List InlineNode) (ws : List Warning) → F (walk_of main supplementary d w s ns ws) ≡ refused n
 
 -- k ranges are no more than the entry at p can give: its fields 19, or its list
 abbrev pub OwnRanges : List ℕ → Details → ℕ → ℕ → Type 0
@@ -195,16 +200,16 @@ OwnRanges main d p k = (k ≤ length (range_fields main (p + entry_whole))) ⊎ 
 
 -- the same of what lays nothing
 pub record Quiet (F : Descendants → Outcome Descendants) (main supplementary : List ℕ) (d : Details) (a : Later) (b : ℕ) (w : List ℕ) (s : Walk)
-    (w' : List ℕ) (s' : Walk) : Type 0 where
+    (w' : List ℕ) (n : ℕ) (s' : Walk) : Type 0 where
   pub place : s'.at ≡ s.at
   pub warned : s'.warned ≡ s.warned
   pub nodes : s'.nodes ≡ s.nodes
   pub past : s'.past ≡ s.past
   pub kept : Kept w w' d.ranges (walked main supplementary d)
-  pub fits : s'.status ≡ 0 → Fits main supplementary w' d a b s'
-  pub ok : s'.status ≡ 0 → (ns : List InlineNode) (ws : List Warning) → F (walk_of main supplementary d w s ns ws)
+  pub fits : n ≡ 0 → Fits main supplementary w' d a b s'
+  pub ok : n ≡ 0 → (ns : List InlineNode) (ws : List Warning) → F (walk_of main supplementary d w s ns ws)
       ≡ done (walk_of main supplementary d w' s' ns ws)
-  pub no : (s'.status ≡ 0 → ⊥) → (ns : List InlineNode) (ws : List Warning) → F (walk_of main supplementary d w s ns ws) ≡ refused s'.status
+  pub no : (n ≡ 0 → ⊥) → (ns : List InlineNode) (ws : List Warning) → F (walk_of main supplementary d w s ns ws) ≡ refused n
 
 -- the nodes and call sites that end before an entry of this depth are closed
 pub record Shut (main supplementary : List ℕ) (d : Details) (depth : ℕ) (w : List ℕ) (s : Walk) (w' : List ℕ) (s' : Walk) : Type 0 where
@@ -212,7 +217,6 @@ pub record Shut (main supplementary : List ℕ) (d : Details) (depth : ℕ) (w :
   pub warned : s'.warned ≡ s.warned
   pub nodes : s'.nodes ≡ s.nodes
   pub past : s'.past ≡ s.past
-  pub status : s'.status ≡ s.status
   pub kept : Kept w w' d.ranges (walked main supplementary d)
   pub fits : (a : Later) (b : ℕ) → Fits main supplementary w d a b s → Fits main supplementary w' d a b s'
   pub walk : (ns : List InlineNode) (ws : List Warning) → walk_of main supplementary d w' s' ns ws ≡ finish depth (walk_of main supplementary d w s ns ws)
@@ -246,14 +250,13 @@ pub record Descended (o : Outcome Descendants) (d : Details) (name : List ℕ) (
   pub warns : Put warned (warnings_bytes descendants.warnings) u u' warned'
   pub passes : past ≡ is_past at (length (detail_bytes name d.range descendants))
 
-abbrev pub DescendedBy : Outcome Descendants → Details → List ℕ → ℕ → ℕ → List ℕ → List ℕ → List ℕ → List ℕ → Extracted
+abbrev pub DescendedBy : Outcome Descendants → Details → List ℕ → ℕ → ℕ → List ℕ → List ℕ → List ℕ → List ℕ → Result Extracted Refusal
     → Type 0
-DescendedBy o d name at warned t t' u u' (Extracted.Refused n) = o ≡ refused n
-DescendedBy o d name at warned t t' u u' (Extracted.Details nodes at' warned' past) =
-    Descended o d name at warned t t' u u' nodes at' warned' past
+DescendedBy o d name at warned t t' u u' (Err e) = o ≡ refused (number_of e)
+DescendedBy o d name at warned t t' u u' (Ok x) = Descended o d name at warned t t' u u' x.nodes x.at x.warned x.past
 
 pub record Descends (main supplementary lists addresses w w' : List ℕ) (d : Details) (name : List ℕ) (p depth at warned : ℕ) (t t' u u' : List ℕ)
-    (r : Extracted) : Type 0 where
+    (r : Result Extracted Refusal) : Type 0 where
   pub is : DescendedBy (collect_descendants (context_in main supplementary lists addresses w d) (descendants_of depth (entries_from main p)))
       d name at warned t
       t' u u' r

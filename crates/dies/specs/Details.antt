@@ -1,7 +1,9 @@
 -- Contract. The entries of a unit by place, and what the extraction of a function's inline nodes and call sites promises.
-use Rattle.std.specs.Prelude.{ℕ, ◌+◌, ◌-◌, ◌*◌, ◌≤◌, ◌≡◌, Bool, false, List, ◌++◌, map, length, drop}
+use Rattle.std.specs.Prelude.{Result, Ok, Err, ℕ, ◌+◌, ◌-◌, ◌*◌, ◌≤◌, ◌≡◌, Bool, false, List, ◌++◌, map, length, drop}
 use Rattle.tlv.specs.Tags.{entry_tag, range_tag, tray_site_tag}
 use Rattle.tlv.specs.declared.model.AddressRange.{AddressRange}
+use Rattle.tlv.specs.declared.refusal.Refusal.{Refusal}
+use Rattle.tlv.specs.Refusals.{number_of}
 use Rattle.tlv.specs.Outcome.{refused, done}
 use Rattle.tlv.specs.Fields.{fields, encode, grouped, payloads, whole_fields, count_of}
 use Rattle.tlv.specs.Limits.{list_limit}
@@ -109,14 +111,13 @@ pub record ExtractedIn (main supplementary lists addresses w : List ℕ) (d : De
 
 -- the outcome of the extraction over the entries that follow place p and are deeper than `depth`: refused, or its bytes were written
 abbrev pub ExtractedBy : List ℕ → List ℕ → List ℕ → List ℕ → List ℕ → Details → List ℕ → ℕ → ℕ → ℕ → ℕ → List ℕ
-    → List ℕ → List ℕ → List ℕ → Extracted → Type 0
-ExtractedBy main supplementary lists addresses w d name p depth at warned records records' warnings warnings' (Extracted.Refused n) =
-    extract_subprogram_details (context_in main supplementary lists addresses w d) (descendants_of depth (entries_from main p)) ≡ refused n
-ExtractedBy main supplementary lists addresses w d name p depth at warned records records' warnings warnings'
-    (Extracted.Details nodes at' warned' past) =
-    ExtractedIn main supplementary lists addresses w d name p depth at warned records records' warnings warnings' nodes at' warned' past
+    → List ℕ → List ℕ → List ℕ → Result Extracted Refusal → Type 0
+ExtractedBy main supplementary lists addresses w d name p depth at warned records records' warnings warnings' (Err e) =
+    extract_subprogram_details (context_in main supplementary lists addresses w d) (descendants_of depth (entries_from main p)) ≡ refused (number_of e)
+ExtractedBy main supplementary lists addresses w d name p depth at warned records records' warnings warnings' (Ok x) =
+    ExtractedIn main supplementary lists addresses w d name p depth at warned records records' warnings warnings' x.nodes x.at x.warned x.past
 
 pub record Extracts (main supplementary lists addresses w w' : List ℕ) (d : Details) (name : List ℕ) (p depth at warned : ℕ)
-    (records records' warnings warnings' : List ℕ) (r : Extracted) : Type 0 where
+    (records records' warnings warnings' : List ℕ) (r : Result Extracted Refusal) : Type 0 where
   pub is : ExtractedBy main supplementary lists addresses w d name p depth at warned records records' warnings warnings' r
   pub rest : Kept w w' d.ranges (d.tables.keys + keys_extent main supplementary d.tables - d.ranges)

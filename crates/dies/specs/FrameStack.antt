@@ -1,6 +1,7 @@
 -- Contract. The open inline nodes as frames by value and a stack of ranges in the work slice, and what the functions on them promise.
 use Rattle.std.specs.Prelude.{◌≡◌, List, [], ◌∷◌, ℕ, zero, suc, ◌+◌, ◌-◌, ◌*◌, ◌≤◌, length, get_or, set}
-use Rattle.imports.specs.Tree.{InlineFrame, finish_inlines}
+use Rattle.tlv.specs.declared.model.AddressRange.{AddressRange}
+use Rattle.imports.specs.Tree.{InlineFrame, finish_inlines, parent_ranges}
 use Rattle.ranges.specs.RangeTable.{ranges_at, range_record}
 use Rattle.dies.specs.declared.frames.Frame.{Frame}
 use Rattle.dies.specs.declared.frames.Open.{Open}
@@ -53,6 +54,11 @@ pub record Popped (st st' : Open) (d : ℕ) : Type 0 where
   pub fewer : st'.n ≤ st.n
   pub used : st'.used ≤ st.used
   pub lean : (c t : ℕ) → Lean c t st.frames st.n st.used → Lean c t st'.frames st'.n st'.used
+
+-- the innermost node's ranges begin at range `from` of the stack; with none open these are the function's own, f, which is range 0
+pub record Top (st : Open) (from : ℕ) : Type 0 where
+  pub within : from ≤ st.used
+  pub ranges : (f : AddressRange) (w : List ℕ) (base : ℕ) → ranges_at w base 1 ≡ f ∷ [] → parent_ranges f (open_in w base st) ≡ ranges_at w (base + from * 16) (st.used - from)
 
 -- one frame more, of depth d, whose ranges are the k from `used` on
 abbrev pub grown : Open → ℕ → ℕ → Open

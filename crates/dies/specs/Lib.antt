@@ -1,3 +1,4 @@
+pub mod Answers
 pub mod FrameStack
 pub mod Details
 pub mod DetailState

@@ -10,8 +10,10 @@ use crate::sites::put_sites;
 use crate::walk::{Walk, close, collect_entries};
 use files::index::StoredIndices;
 use references::tables::Tables;
-use tlv::fields::Step;
+use tlv::bytes::Number;
+use tlv::fields::next_field;
 use tlv::model::AddressRange;
+use tlv::refusal::Refusal;
 use tlv::tags::{ENTRY_TAG, UNIT_TAG};
 
 // What is the same for every entry below a subprogram: the searches' tables, the unit's place and its map of file numbers, the function's range,
@@ -21,7 +23,7 @@ pub struct Details {
     pub tables: Tables,
     pub unit: usize,
     pub indices: StoredIndices,
-    pub range: tlv::model::AddressRange,
+    pub range: AddressRange,
     pub include_inlines: bool,
     pub include_call_sites: bool,
     pub ranges: usize,
@@ -31,17 +33,13 @@ pub struct Details {
     pub with_lists: bool,
 }
 
-// How many inline nodes there are below the root, the places in the records and the warnings after them, and whether the records pass the largest place;
-// or the refusal.
-#[derive(Clone, Copy)]
-pub enum Extracted {
-    Refused(u8),
-    Details {
-        nodes: usize,
-        at: usize,
-        warned: usize,
-        past: bool,
-    },
+// How many inline nodes there are below the root, the places in the records and the warnings after them, and whether the records pass the largest place.
+#[derive(Clone, Copy, Debug)]
+pub struct Extracted {
+    pub nodes: usize,
+    pub at: usize,
+    pub warned: usize,
+    pub past: bool,
 }
 
 // The nodes and the call sites of the function of a name, from the entries that follow place p and are deeper than depth.
@@ -59,7 +57,7 @@ fn collect_descendants<'a>(
     depth: u16,
     at: usize,
     warned: usize,
-) -> Extracted
+) -> Result<Extracted, Refusal>
     requires details_in { DetailsIn main.now supplementary.now work.old d }
     requires placed { Placed main.now p }
     requires entries_known { EntriesKnown main.now d.unit p }
@@ -69,16 +67,14 @@ fn collect_descendants<'a>(
         work.new d name.now p depth at warned records.old records.new warnings.old warnings.new
         result }
 {
-    let range = d.range;
-    ranges::ranges::put_range_at(work, d.ranges, range);
+    ranges::ranges::put_range_at(work, d.ranges, d.range);
     let start = Walk {
         frames: crate::frames::none_open(),
         opened: 0,
         closed: 0,
         nodes: 0,
-        at: at,
-        warned: warned,
-        status: 0,
+        at,
+        warned,
         past: false,
     };
     let e = collect_entries(
@@ -94,18 +90,15 @@ fn collect_descendants<'a>(
         p,
         depth,
         start,
-    );
-    if e.status != 0 {
-        return Extracted::Refused(e.status);
-    }
+    )?;
     let c = close(main, supplementary, work, d, e, 0);
-    let placed = put_sites(main, supplementary, work, records, d, c.at, c);
-    Extracted::Details {
+    let sites = put_sites(main, supplementary, work, records, d, c.at, c);
+    Ok(Extracted {
         nodes: c.nodes,
-        at: placed.at,
+        at: sites.at,
         warned: c.warned,
-        past: c.past | placed.past,
-    }
+        past: c.past | sites.past,
+    })
 }
 
 // Whether an entry deeper than depth may follow place p.
@@ -113,28 +106,13 @@ fn has_entries(main: &[u8], p: usize, depth: u16) -> bool
     requires { Placed main.now p }
     ensures { result ≡ false → descendants_of depth (entries_from main.now p) ≡ [] }
 {
-    match tlv::fields::field_at(main, p) {
-        Step::End => {
-            return false;
-        }
-        Step::Cut => {
-            return false;
-        }
-        Step::Field {
-            tag,
-            start,
-            len: _,
-            next: _,
-        } => {
-            if tag == UNIT_TAG {
-                return false;
-            }
-            if tag == ENTRY_TAG {
-                return depth < tlv::bytes::read_u16(main, start + 8);
-            }
-            true
-        }
+    let Some(field) = next_field(main, p) else {
+        return false;
+    };
+    if field.tag == ENTRY_TAG {
+        return depth < u16::read(main, field.start + 8);
     }
+    field.tag != UNIT_TAG
 }
 
 // Writes the nodes and the call sites of the function of a name, from the entries that follow place p and are deeper than depth.
@@ -153,7 +131,7 @@ pub fn extract_subprogram_details<'a>(
     depth: u16,
     at: usize,
     warned: usize,
-) -> Extracted
+) -> Result<Extracted, Refusal>
     requires details_in { DetailsIn main.now supplementary.now work.old d }
     requires placed { Placed main.now p }
     requires entries_known { EntriesKnown main.now d.unit p }
@@ -163,15 +141,7 @@ pub fn extract_subprogram_details<'a>(
         work.new d name.now p depth at warned records.old records.new warnings.old warnings.new
         result }
 {
-    if !has_entries(main, p, depth) {
-        return Extracted::Details {
-            nodes: 0,
-            at: at,
-            warned: warned,
-            past: false,
-        };
-    }
-    if d.include_inlines {
+    if has_entries(main, p, depth) && (d.include_inlines || d.include_call_sites) {
         return collect_descendants(
             main,
             supplementary,
@@ -188,27 +158,10 @@ pub fn extract_subprogram_details<'a>(
             warned,
         );
     }
-    if d.include_call_sites {
-        return collect_descendants(
-            main,
-            supplementary,
-            lists,
-            addresses,
-            work,
-            records,
-            warnings,
-            d,
-            name,
-            p,
-            depth,
-            at,
-            warned,
-        );
-    }
-    Extracted::Details {
+    Ok(Extracted {
         nodes: 0,
-        at: at,
-        warned: warned,
+        at,
+        warned,
         past: false,
-    }
+    })
 }

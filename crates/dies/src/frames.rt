@@ -1,5 +1,5 @@
 // The inline nodes that are open, while the entries below a function are walked: frames by value, their ranges on a stack in the work slice.
-ghost use Rattle.dies.specs.FrameStack.{Ready, Empty, Popped, shrunk};
+ghost use Rattle.dies.specs.FrameStack.{Ready, Empty, Popped, Top, shrunk};
 
 // An open node: the depth of its entry, and where its ranges begin in the stack of ranges.
 #[derive(Clone, Copy)]
@@ -47,10 +47,21 @@ pub fn finish_inlines(st: Open, depth: u16) -> Left
     while 0 < n {
         let t = st.frames[n - 1];
         if t.depth < depth {
-            return Left { n: n, used: used };
+            return Left { n, used };
         }
         used = t.ranges as usize;
         n -= 1;
     }
-    Left { n: n, used: used }
+    Left { n, used }
+}
+
+// Where the ranges of the innermost open node begin in the stack; with none open these are the function's own, at 0.
+pub fn innermost(st: &Open) -> usize
+    requires { Ready st.now }
+    ensures { Top st.now result }
+{
+    if st.n == 0 {
+        return 0;
+    }
+    st.frames[st.n - 1].ranges as usize
 }

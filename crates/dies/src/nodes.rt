@@ -1,6 +1,7 @@
 // Inlined nodes: their depth, their bytes, and the frame that each opens.
 ghost use Rattle.std.specs.Prelude.{◌≡◌, ℕ, ◌+◌, ◌*◌, ◌/◌, ◌≤◌, ◌<◌, List, leb, length};
 ghost use Rattle.tlv.specs.Bytes.{le_at};
+ghost use Rattle.tlv.specs.Refusals.{status_of};
 ghost use Rattle.tlv.specs.Tags.{entry_whole};
 ghost use Rattle.buffers.specs.Buffer.{Put};
 ghost use Rattle.buffers.specs.Output.{node_bytes};
@@ -9,25 +10,27 @@ ghost use Rattle.rnglists.specs.Room.{range_least};
 ghost use Rattle.references.specs.Tables.{EntryKnown};
 ghost use Rattle.imports.specs.Tree.{inline_depth_limit, push_inline, make_inline_node};
 ghost use Rattle.ranges.specs.RangeTable.{ranges_at, range_record};
+ghost use Rattle.dies.specs.Answers.{value_or};
 ghost use Rattle.dies.specs.Details.{DetailsIn, context_in};
-ghost use Rattle.dies.specs.DetailState.{Fits, OwnRanges, Advances, ranges_later, entries_left, lead_bytes, noded};
+ghost use Rattle.dies.specs.DetailState.{Fits, OwnRanges, Advances, ranges_later, entries_left, lead_bytes, laid_of, noded};
 
 use crate::calls::{call_file, call_line};
 use crate::dies::Details;
-use crate::frames::Frame;
+use crate::frames::{Frame, innermost};
 use crate::walk::Walk;
-use ranges::inlined::Merged;
+use ranges::inlined::inline_ranges;
 use ranges::ranges::RANGE_RECORD;
-use references::names::{FoundName, found_name};
+use references::names::{found_name, resolve_name};
+use tlv::bytes::Number;
 use tlv::model::{AddressRange, FileIndex};
+use tlv::refusal::Refusal;
 use tlv::tags::{ENTRY_DEPTH, ENTRY_WHOLE};
 
-// The places in the records and the warnings after a node, the refusal, 0 for none, and whether the records pass the largest place.
-#[derive(Clone, Copy)]
+// The places in the records and the warnings after a node, and whether the records pass the largest place.
+#[derive(Clone, Copy, Debug)]
 pub struct Laid {
     pub at: usize,
     pub warned: usize,
-    pub status: u8,
     pub past: bool,
 }
 
@@ -89,69 +92,45 @@ fn keep_node(
     p: usize,
     k: usize,
     s: Walk,
-) -> Laid
+) -> Result<Laid, Refusal>
     requires details_in { DetailsIn main.now supplementary.now work.now d }
     requires entry_known { EntryKnown main.now d.unit p }
     requires fits { Fits main.now supplementary.now work.now d (ranges_later main.now p) (entries_left main.now p) s }
-    requires status_value { (s.status ≡ 0) × (0 < k) × (10 + length name.now < 65536) × (10 + length inlined.now < 65536) }
+    requires k_positive { 0 < k }
+    requires name_bound { 10 + length name.now < 65536 }
+    requires inlined_bound { 10 + length inlined.now < 65536 }
     requires own_ranges { OwnRanges main.now d p k }
     ensures { (lists addresses : List ℕ) → Advances
         (push_inline (context_in main.now supplementary.now lists addresses work.now d) (entry_here main.now p)
         inlined.now (ranges_at work.now (d.ranges + s.frames.used * range_record) k)) main.now supplementary.now
         name.now d (ranges_later main.now (p + entry_whole)) (entries_left main.now (p + entry_whole))
-        work.now records.old warnings.old s work.now records.new warnings.new
-        (noded s (le_at 2 main.now (p + 11)) k result) }
+        work.now records.old warnings.old s work.now records.new warnings.new (status_of result)
+        (noded s (le_at 2 main.now (p + 11)) k (value_or (laid_of s) result)) }
 {
-    let indices = d.indices;
-    let range = d.range;
-    let file = call_file(main, work, warnings, d.unit, indices, p, s.warned);
-    if file.status != 0 {
-        return Laid {
-            at: s.at,
-            warned: s.warned,
-            status: file.status,
-            past: s.past,
-        };
-    }
-    let line = call_line(main, warnings, d.unit, p, file.at);
-    if line.status != 0 {
-        return Laid {
-            at: s.at,
-            warned: s.warned,
-            status: line.status,
-            past: s.past,
-        };
-    }
+    let file = call_file(main, work, warnings, d.unit, d.indices, p, s.warned)?;
+    let line = call_line(main, warnings, d.unit, p, file.at)?;
     let n = s.frames.n;
     if !check_inline_depth(n + 1) {
-        return Laid {
-            at: s.at,
-            warned: s.warned,
-            status: 14,
-            past: s.past,
-        };
+        return Err(Refusal::TooDeep);
     }
-    let called = file.file;
     let past = crate::past::node_past(s.at, s.nodes, name.len(), inlined.len(), k);
-    let rooted = put_root(records, s.at, s.nodes, range, name);
-    let from = d.ranges + s.frames.used * RANGE_RECORD;
+    let rooted = put_root(records, s.at, s.nodes, d.range, name);
     let at = put_inline_node(
         work,
         records,
         rooted,
         (n + 1) as u16,
-        called,
+        file.file,
         line.line,
         inlined,
-        from,
+        d.ranges + s.frames.used * RANGE_RECORD,
         k,
     );
-    Laid {
-        at: at,
+    Ok(Laid {
+        at,
         warned: line.at,
-        status: 0,
         past: s.past | past,
-    }
+    })
 }
 
 // An inlined entry.
@@ -166,45 +145,25 @@ pub fn make_inline_node<'a>(
     d: Details,
     name: &[u8],
     p: usize,
-    mut s: Walk,
-) -> Walk
+    s: Walk,
+) -> Result<Walk, Refusal>
     requires details_in { DetailsIn main.now supplementary.now work.old d }
     requires entry_known { EntryKnown main.now d.unit p }
     requires fits { Fits main.now supplementary.now work.old d (ranges_later main.now p) (entries_left main.now p) s }
-    requires status_value { (s.status ≡ 0) × (10 + length name.now < 65536) }
+    requires name_bound { 10 + length name.now < 65536 }
     requires range_least_len { length lists.now / range_least ≡ d.third }
     ensures { Advances (make_inline_node (context_in main.now supplementary.now lists.now addresses.now
         work.old d) (entry_here main.now p)) main.now supplementary.now name.now d
         (ranges_later main.now (p + entry_whole)) (entries_left main.now (p + entry_whole)) work.old records.old
-        warnings.old s work.new records.new warnings.new result }
+        warnings.old s work.new records.new warnings.new (status_of result) (value_or s result) }
 {
-    let mut status: u8 = 0;
-    let tables = d.tables;
-    let inlined = references::names::resolve_name(
-        main,
-        supplementary,
-        work,
-        &mut status,
-        tables,
-        d.unit,
-        p,
-    );
-    if status != 0 {
-        s.status = status;
-        return s;
-    }
-    let FoundName::Found(_) = found_name(inlined) else {
-        return s;
+    let inlined = resolve_name(main, supplementary, work, d.tables, d.unit, p)?;
+    let Some(_) = found_name(inlined) else {
+        return Ok(s);
     };
-    let mut o = s.frames;
-    let n = o.n;
-    let used = o.used;
-    let mut top: usize = 0;
-    if 0 < n {
-        let f = o.frames[n - 1];
-        top = f.ranges as usize;
-    }
-    match ranges::inlined::inline_ranges(
+    let used = s.frames.used;
+    let top = innermost(&s.frames);
+    let k = inline_ranges(
         main,
         lists,
         addresses,
@@ -214,49 +173,37 @@ pub fn make_inline_node<'a>(
         d.ranges + top * RANGE_RECORD,
         used - top,
         d.ranges + used * RANGE_RECORD,
-    ) {
-        Merged::Refused(fault) => {
-            s.status = fault;
-            return s;
-        }
-        Merged::Ranges(k) => {
-            if k == 0 {
-                return s;
-            }
-            let laid = keep_node(
-                main,
-                supplementary,
-                work,
-                records,
-                warnings,
-                d,
-                name,
-                inlined,
-                p,
-                k,
-                s,
-            );
-            if laid.status != 0 {
-                s.status = laid.status;
-                return s;
-            }
-            let depth = tlv::bytes::read_u16(main, p + ENTRY_DEPTH);
-            o.frames[n] = Frame {
-                depth: depth,
-                ranges: used as u32,
-            };
-            o.n = n + 1;
-            o.used = used + k;
-            return Walk {
-                frames: o,
-                opened: s.opened,
-                closed: s.closed,
-                nodes: s.nodes + 1,
-                at: laid.at,
-                warned: laid.warned,
-                status: laid.status,
-                past: laid.past,
-            };
-        }
+    )?;
+    if k == 0 {
+        return Ok(s);
     }
+    let laid = keep_node(
+        main,
+        supplementary,
+        work,
+        records,
+        warnings,
+        d,
+        name,
+        inlined,
+        p,
+        k,
+        s,
+    )?;
+    let depth = u16::read(main, p + ENTRY_DEPTH);
+    let mut frames = s.frames;
+    frames.frames[frames.n] = Frame {
+        depth,
+        ranges: used as u32,
+    };
+    frames.n += 1;
+    frames.used += k;
+    Ok(Walk {
+        frames,
+        nodes: s.nodes + 1,
+        at: laid.at,
+        warned: laid.warned,
+        past: laid.past,
+        ..s
+    })
 }

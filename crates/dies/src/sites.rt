@@ -2,10 +2,12 @@
 ghost use Rattle.std.specs.Prelude.{◌≡◌, ℕ, ◌+◌, ◌*◌, ◌≤◌, ◌<◌, false, List, length};
 ghost use Rattle.tlv.specs.Constants.{dw_at_call_return_pc};
 ghost use Rattle.tlv.specs.Checked.{Accepted};
+ghost use Rattle.tlv.specs.Refusals.{status_of};
 ghost use Rattle.tlv.specs.Tags.{entry_whole};
 ghost use Rattle.access.specs.Places.{entry_here};
 ghost use Rattle.references.specs.Search.{attribute};
 ghost use Rattle.references.specs.Tables.{EntryKnown};
+ghost use Rattle.dies.specs.Answers.{value_or};
 ghost use Rattle.dies.specs.Details.{DetailsIn, context_in, open_site, closed_site};
 ghost use Rattle.dies.specs.DetailState.{PutSite, Closed, none_later, Fits, Quiet, collect_site, ranges_later, entries_left, SitesPut};
 ghost use Rattle.dies.specs.Calls.{address_of, address_in};
@@ -13,8 +15,11 @@ ghost use Rattle.dies.specs.Calls.{address_of, address_in};
 use crate::dies::Details;
 use crate::walk::Walk;
 use access::access::Value;
-use files::index::FileNumber;
+use buffers::numbers::Written;
+use references::reference_names::resolve_reference_name;
+use tlv::bytes::Number;
 use tlv::constants::{DW_AT_CALL_ORIGIN, DW_AT_CALL_RETURN_PC};
+use tlv::refusal::Refusal;
 use tlv::tags::{ENTRY_DEPTH, ENTRY_WHOLE};
 
 // Bytes of an open and of a closed call site.
@@ -44,22 +49,14 @@ pub enum Address {
     At(u64),
 }
 
-// The address that a value is.
-fn address_in(v: Value) -> Address
+// The address that a value is, where there is one.
+fn address_in(v: Option<Value>) -> Address
     ensures { result ≡ address_in v }
 {
     match v {
-        Value::Absent => Address::Missing,
-        Value::Unsigned(_) => Address::Missing,
-        Value::FileNumber(_) => Address::Missing,
-        Value::Text { start: _, len: _ } => Address::Missing,
-        Value::UnitReference(_) => Address::Missing,
-        Value::SectionReference(_) => Address::Missing,
-        Value::SupplementaryReference(_) => Address::Missing,
-        Value::SectionOffset(_) => Address::Missing,
-        Value::LineOffset(_) => Address::Missing,
-        Value::Address(n) => Address::At(n),
-        Value::Failed => Address::Failed,
+        Some(Value::Address(n)) => Address::At(n),
+        Some(Value::Failed) => Address::Failed,
+        _ => Address::Missing,
     }
 }
 
@@ -77,9 +74,9 @@ fn put_open_site(work: &mut [u8], at: usize, depth: u16, place: usize, offset: u
     requires { (at + 14 ≤ length work.old) × (place < 4294967296) }
     ensures { PutSite work.old work.new at depth place offset }
 {
-    buffers::table::set_u16(work, at, depth);
-    buffers::table::set_u32(work, at + 2, place as u32);
-    buffers::table::set_u64(work, at + 6, offset);
+    depth.write(work, at);
+    (place as u32).write(work, at + 2);
+    offset.write(work, at + 6);
 }
 
 // The innermost open call sites whose entries are at this depth or deeper go behind the closed ones, for which no depth is kept.
@@ -98,20 +95,14 @@ pub fn finish_call_sites(
     let mut closed = m;
     while 0 < opened {
         let at = stack + (opened - 1) * OPEN_SITE;
-        if tlv::bytes::read_u16(work, at) < depth {
-            return Sites {
-                opened: opened,
-                closed: closed,
-            };
+        if u16::read(work, at) < depth {
+            return Sites { opened, closed };
         }
         buffers::table::copy_record(work, at + 2, sites + closed * CLOSED_SITE, 12);
         opened -= 1;
         closed += 1;
     }
-    Sites {
-        opened: opened,
-        closed: closed,
-    }
+    Sites { opened, closed }
 }
 
 // A call site: its return address is to lie in the function. The name that its origin refers to is searched here only for a refusal.
@@ -122,54 +113,41 @@ pub fn make_call_site<'a>(
     d: Details,
     p: usize,
     s: Walk,
-) -> Walk
+) -> Result<Walk, Refusal>
     requires details_in { DetailsIn main.now supplementary.now work.old d }
     requires entry_known { EntryKnown main.now d.unit p }
     requires fits { Fits main.now supplementary.now work.old d (ranges_later main.now p) (entries_left main.now p) s }
-    requires status_value { s.status ≡ 0 }
     ensures { (lists addresses : List ℕ) → Quiet
         (collect_site (context_in main.now supplementary.now lists addresses work.old d) (entry_here main.now p))
         main.now supplementary.now d (ranges_later main.now (p + entry_whole)) (entries_left main.now (p + entry_whole))
-        work.old s work.new result }
+        work.old s work.new (status_of result) (value_or s result) }
 {
-    let mut r = s;
     let start = d.range.start;
-    let end = d.range.end;
     match return_address(main, d.unit, p) {
-        Address::Failed => {
-            r.status = 6;
-            return r;
-        }
+        Address::Missing => Ok(s),
+        Address::Failed => Err(Refusal::Decoder),
         Address::At(a) => {
             if a < start {
-                return r;
+                return Ok(s);
             }
-            if end <= a {
-                return r;
+            if d.range.end <= a {
+                return Ok(s);
             }
-            let mut status: u8 = 0;
-            let tables = d.tables;
-            references::reference_names::resolve_reference_name(
+            resolve_reference_name(
                 main,
                 supplementary,
                 work,
-                &mut status,
-                tables,
+                d.tables,
                 d.unit,
                 p,
                 DW_AT_CALL_ORIGIN,
-            );
-            if status != 0 {
-                r.status = status;
-                return r;
-            }
-            let depth = tlv::bytes::read_u16(main, p + ENTRY_DEPTH);
+            )?;
+            let depth = u16::read(main, p + ENTRY_DEPTH);
             put_open_site(work, d.stack + s.opened * OPEN_SITE, depth, p, a - start);
-            r.opened = s.opened + 1;
-            return r;
-        }
-        Address::Missing => {
-            return r;
+            Ok(Walk {
+                opened: s.opened + 1,
+                ..s
+            })
         }
     }
 }
@@ -189,33 +167,24 @@ pub fn put_sites<'a>(
     ensures { SitesPut main.now supplementary.now d s.closed at work.old work.new records.old
         records.new result }
 {
-    let n = s.closed;
-    let tables = d.tables;
     let mut place = at;
     let mut past = false;
-    let mut i = 0;
-    while i < n {
+    for i in 0..s.closed {
         let from = d.sites + i * CLOSED_SITE;
-        let entry = tlv::bytes::read_u32(work, from) as usize;
-        let offset = tlv::bytes::read_u64(work, from + 4);
-        let mut status: u8 = 0;
-        let pattern = references::reference_names::resolve_reference_name(
+        let entry = u32::read(work, from) as usize;
+        let offset = u64::read(work, from + 4);
+        let found = resolve_reference_name(
             main,
             supplementary,
             work,
-            &mut status,
-            tables,
+            d.tables,
             d.unit,
             entry,
             DW_AT_CALL_ORIGIN,
         );
-        let over = crate::past::is_past(place, 12 + pattern.len());
+        let pattern = found.unwrap();
+        past = past | crate::past::is_past(place, 12 + pattern.len());
         place = buffers::output::put_call_site(records, place, offset, pattern);
-        past = past | over;
-        i += 1;
     }
-    LaidSites {
-        at: place,
-        past: past,
-    }
+    LaidSites { at: place, past }
 }

@@ -6,7 +6,11 @@ use Prim.Native.Nat.{ℕ, ◌+◌, ◌≤◌, ◌<◌}
 use native.Mathlib.Nat.{mul-le-mul_left}
 use native.Mathlib.Omega.{arith}
 use lib.ListN.{length}
+use Rattle.std.specs.Prelude.{Result, Ok, Err}
 use Rattle.tlv.specs.declared.model.AddressRange.{AddressRange}
+use Rattle.tlv.specs.declared.refusal.Refusal.{Refusal}
+use Rattle.tlv.specs.Refusals.{number_of}
+use Rattle.tlv.proofs.AnswerLaws.{numbered}
 use Rattle.tlv.specs.Outcome.{refused, done, ◌>>=◌}
 use Rattle.tlv.specs.Lists.{take_while, drop_while}
 use Rattle.tlv.specs.Model.{Entry}
@@ -45,7 +49,7 @@ module _ {main supplementary w w₁ : List ℕ} {d : Details} {p : ℕ} {o : Ope
   lists-few : (ranges_later main p).lists ≤ list_count main d
   lists-few = omega (arith, lists-most main p, K.lists)
 
-  pub start_fits : {at warned : ℕ} → at ≤ top → warned ≤ top → Fits main supplementary w₁ d (ranges_later main p) (entries_left main p) (record { frames = o; opened = 0; closed = 0; nodes = 0; at = at; warned = warned; status = 0; past = false })
+  pub start_fits : {at warned : ℕ} → at ≤ top → warned ≤ top → Fits main supplementary w₁ d (ranges_later main p) (entries_left main p) (record { frames = o; opened = 0; closed = 0; nodes = 0; at = at; warned = warned; past = false })
   start_fits h k = record {
     ready = E.ready;
     used = omega (arith, E.used, later-most main p, K.ranges);
@@ -64,7 +68,7 @@ module _ {main supplementary w w₁ : List ℕ} {d : Details} {p : ℕ} {o : Ope
   }
 
 walk_none : (main supplementary : List ℕ) (d : Details) (w : List ℕ) (o : Open) (at warned : ℕ) → Empty o
-    → walk_of main supplementary d w (record { frames = o; opened = 0; closed = 0; nodes = 0; at = at; warned = warned; status = 0; past = false }) [] [] ≡ no_descendants
+    → walk_of main supplementary d w (record { frames = o; opened = 0; closed = 0; nodes = 0; at = at; warned = warned; past = false }) [] [] ≡ no_descendants
 unfolding walk_of
 walk_none main supplementary d w o at warned E = λ i. record {
   inline_stack = open_none E w d.ranges i;
@@ -90,25 +94,25 @@ unfolding collect_descendants ◌>>=◌
 collect-done c es x h = rw h
 
 module _ {main supplementary name w w₁ : List ℕ} {d : Details} {at warned : ℕ} {o : Open} (lists addresses : List ℕ) (p depth : ℕ) (D : DetailsIn main supplementary w d) (P : PutRange w w₁ d.ranges d.range) (E : Empty o)
-    {t u w₂ t₂ u₂ : List ℕ} {s₂ : Walk}
-    (A : Advances (collect_entries (context_in main supplementary lists addresses w₁ d) (descendants_of depth (entries_from main p))) main supplementary name d none_later 0 w₁ t u (record { frames = o; opened = 0; closed = 0; nodes = 0; at = at; warned = warned; status = 0; past = false }) w₂ t₂ u₂ s₂) where
+    {t u w₂ t₂ u₂ : List ℕ} {n : ℕ} {s₂ : Walk}
+    (A : Advances (collect_entries (context_in main supplementary lists addresses w₁ d) (descendants_of depth (entries_from main p))) main supplementary name d none_later 0 w₁ t u (record { frames = o; opened = 0; closed = 0; nodes = 0; at = at; warned = warned; past = false }) w₂ t₂ u₂ n s₂) where
   first-kept : Kept w w₁ d.ranges (walked main supplementary d)
   first-kept = kept-inside D P.rest (omega arith) (omega (arith, D.ranges, D.stack, D.sites))
 
   begun : collect_entries (context_in main supplementary lists addresses w d) (descendants_of depth (entries_from main p)) no_descendants
-      ≡ collect_entries (context_in main supplementary lists addresses w₁ d) (descendants_of depth (entries_from main p)) (walk_of main supplementary d w₁ (record { frames = o; opened = 0; closed = 0; nodes = 0; at = at; warned = warned; status = 0; past = false }) [] [])
+      ≡ collect_entries (context_in main supplementary lists addresses w₁ d) (descendants_of depth (entries_from main p)) (walk_of main supplementary d w₁ (record { frames = o; opened = 0; closed = 0; nodes = 0; at = at; warned = warned; past = false }) [] [])
   begun = λ i. collect_entries (sym (context-kept D P.rest (omega arith) {lists = lists} {addresses = addresses}) i) (descendants_of depth (entries_from main p)) (sym (walk_none main supplementary d w₁ o at warned E) i)
 
   pub end-details : length w₁ ≡ length w → length w₂ ≡ length w₁ → DetailsIn main supplementary w₂ d
   end-details a b = details_kept (details_kept D P.rest (omega arith) a) A.kept (omega arith) b
 
-  pub descends-refused : (s₂.status ≡ 0 → ⊥) → Descends main supplementary lists addresses w w₂ d name p depth at warned t t₂ u u₂ (Extracted.Refused s₂.status)
-  descends-refused n = record {
-    is = collect-refused (context_in main supplementary lists addresses w d) (descendants_of depth (entries_from main p)) s₂.status (begun ∙ A.no n [] []);
+  pub descends-refused : {e : Refusal} → n ≡ number_of e → Descends main supplementary lists addresses w w₂ d name p depth at warned t t₂ u u₂ (Err e)
+  descends-refused {e} is = record {
+    is = collect-refused (context_in main supplementary lists addresses w d) (descendants_of depth (entries_from main p)) (number_of e) (begun ∙ rw is at (A.no (λ z. numbered e (sym is ∙ z)) [] []));
     rest = kept_trans first-kept A.kept;
   }
 
-  module _ (z : s₂.status ≡ 0) {w₃ w₄ t₃ : List ℕ} {s₃ : Walk} {r : LaidSites} (S : Shut main supplementary d 0 w₂ s₂ w₃ s₃) (Q : SitesPut main supplementary d s₃.closed s₃.at w₃ w₄ t₂ t₃ r) where
+  module _ (z : n ≡ 0) {w₃ w₄ t₃ : List ℕ} {s₃ : Walk} {r : LaidSites} (S : Shut main supplementary d 0 w₂ s₂ w₃ s₃) (Q : SitesPut main supplementary d s₃.closed s₃.at w₃ w₄ t₂ t₃ r) where
     last : Descendants
     last = walk_of main supplementary d w₃ s₃ A.nodes A.warnings
 
@@ -122,7 +126,7 @@ module _ {main supplementary name w w₁ : List ℕ} {d : Details} {at warned : 
     nodes-past : s₃.past ≡ (false || is_past at (length (each_of node_bytes (rooted name d.range A.nodes))))
     nodes-past = rw (← root-first name d.range A.nodes) (S.past ∙ A.past z)
 
-    pub descends-done : at ≤ top → Descends main supplementary lists addresses w w₄ d name p depth at warned t t₃ u u₂ (Extracted.Details s₃.nodes r.at s₃.warned (s₃.past || r.past))
+    pub descends-done : at ≤ top → Descends main supplementary lists addresses w w₄ d name p depth at warned t t₃ u u₂ (Ok (record { nodes = s₃.nodes; at = r.at; warned = s₃.warned; past = s₃.past || r.past }))
     unfolding last walk_of
     descends-done h = record {
       is = record {
@@ -144,35 +148,29 @@ unfolding extract_subprogram_details collect_descendants collect_entries finish 
 none_below c = either (c.include_inlines || c.include_call_sites) (λ y. rw y) (λ n. rw n)
 
 module _ {main supplementary lists addresses name w : List ℕ} {d : Details} {p depth at warned : ℕ} {t u : List ℕ} where
-  switched : {w' t' u' : List ℕ} (r : Extracted) → (d.include_inlines || d.include_call_sites) ≡ true → Descends main supplementary lists addresses w w' d name p depth at warned t t' u u' r
+  pub switched : {w' t' u' : List ℕ} (r : Result Extracted Refusal) → (d.include_inlines || d.include_call_sites) ≡ true → Descends main supplementary lists addresses w w' d name p depth at warned t t' u u' r
       → Extracts main supplementary lists addresses w w' d name p depth at warned t t' u u' r
   unfolding extract_subprogram_details
-  switched (Extracted.Refused n) on R = record { is = rw on R.is; rest = R.rest }
-  switched (Extracted.Details nodes at' warned' past) on R = record {
+  switched (Err e) on R = record { is = rw on R.is; rest = R.rest }
+  switched (Ok x) on R = record {
     is = record { descendants = R.is.descendants; is = rw on R.is.is; count = R.is.count; put = R.is.put; warns = R.is.warns; passes = R.is.passes };
     rest = R.rest;
   }
 
-  pub extracts-inlines : {w' t' u' : List ℕ} {r : Extracted} → d.include_inlines ≡ true → Descends main supplementary lists addresses w w' d name p depth at warned t t' u u' r → Extracts main supplementary lists addresses w w' d name p depth at warned t t' u u' r
-  extracts-inlines {r = r} on R = switched r (rw on) R
-
-  pub extracts-sites : {w' t' u' : List ℕ} {r : Extracted} → d.include_inlines ≡ false → d.include_call_sites ≡ true → Descends main supplementary lists addresses w w' d name p depth at warned t t' u u' r → Extracts main supplementary lists addresses w w' d name p depth at warned t t' u u' r
-  extracts-sites {r = r} off on R = switched r (rw (off, on)) R
-
   -- nothing is laid where the definition finds nothing
   nothing : extract_subprogram_details (context_in main supplementary lists addresses w d) (descendants_of depth (entries_from main p)) ≡ done no_descendants → at ≤ top → warned ≤ top → length t < top → length u < top
-      → Extracts main supplementary lists addresses w w d name p depth at warned t t u u (Extracted.Details 0 at warned false)
+      → Extracts main supplementary lists addresses w w d name p depth at warned t t u u (Ok (record { nodes = 0; at = at; warned = warned; past = false }))
   unfolding each_of
   nothing is h k small tiny = record {
     is = record { descendants = no_descendants; is = is; count = refl; put = put-none h small; warns = warn_none k tiny; passes = sym (past-none at h) };
     rest = kept_refl w d.ranges (walked main supplementary d);
   }
 
-  pub extracts-off : d.include_inlines ≡ false → d.include_call_sites ≡ false → at ≤ top → warned ≤ top → length t < top → length u < top
-      → Extracts main supplementary lists addresses w w d name p depth at warned t t u u (Extracted.Details 0 at warned false)
+  pub extracts-off : (d.include_inlines || d.include_call_sites) ≡ false → at ≤ top → warned ≤ top → length t < top → length u < top
+      → Extracts main supplementary lists addresses w w d name p depth at warned t t u u (Ok (record { nodes = 0; at = at; warned = warned; past = false }))
   unfolding extract_subprogram_details
-  extracts-off a b = nothing (rw (a, b))
+  extracts-off off = nothing (rw off)
 
   pub extracts-none : descendants_of depth (entries_from main p) ≡ [] → at ≤ top → warned ≤ top → length t < top → length u < top
-      → Extracts main supplementary lists addresses w w d name p depth at warned t t u u (Extracted.Details 0 at warned false)
+      → Extracts main supplementary lists addresses w w d name p depth at warned t t u u (Ok (record { nodes = 0; at = at; warned = warned; past = false }))
   extracts-none e = nothing (ap (extract_subprogram_details (context_in main supplementary lists addresses w d)) e ∙ none_below (context_in main supplementary lists addresses w d))

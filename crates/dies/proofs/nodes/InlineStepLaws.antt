@@ -6,6 +6,9 @@ use mathlib.Core.List.{List, [], ◌∷◌, map, append-nil}
 use Prim.Native.Nat.{ℕ, ◌+◌, ◌-◌, ◌*◌, ◌/◌, ◌≤◌, ◌<◌}
 use native.Mathlib.Omega.{arith}
 use lib.ListN.{length}
+use Rattle.std.specs.Prelude.{Result, Ok, Err}
+use Rattle.tlv.specs.declared.refusal.Refusal.{Refusal}
+use Rattle.tlv.specs.Refusals.{number_of}
 use Rattle.tlv.specs.declared.model.AddressRange.{AddressRange}
 use Rattle.tlv.specs.Outcome.{refused, done, ◌>>=◌}
 use Rattle.tlv.specs.Lists.{is_empty, is_none}
@@ -24,16 +27,14 @@ use Rattle.references.proofs.ReferenceLaws.{entry-step}
 use Rattle.references.proofs.SectionLaws.{name-same}
 use Rattle.imports.specs.Ranges.{coalesce_ranges}
 use Rattle.imports.specs.Tree.{Descendants, DetailContext, fit, die_ranges, ranges_of, parent_ranges, push_inline, make_inline_node}
-use Rattle.ranges.specs.declared.inlined.Merged.{Merged}
 use Rattle.ranges.specs.RangeTable as table
 use Rattle.ranges.specs.RangeTable.{ranges_at, read_at, MergedBy, Merges}
 use Rattle.ranges.proofs.RangeTableLaws.{ranges-nil}
 use Rattle.dies.specs.declared.dies.Details.{Details}
 use Rattle.dies.specs.declared.walk.Walk.{Walk}
-use Rattle.dies.specs.FrameStack.{open_in}
+use Rattle.dies.specs.FrameStack.{open_in, Top}
 use Rattle.dies.specs.Details.{DetailsIn, dwarf_with, context_in, range_room}
 use Rattle.dies.specs.DetailState.{ranges_later, entries_left, walk_of, Fits, OwnRanges, new_bytes, walked, Advances}
-use Rattle.dies.proofs.FrameLaws.{Top}
 use Rattle.dies.proofs.NodeRangeLaws.{read_here, node-ranges}
 use Rattle.dies.proofs.AttributeReads.{accepted-placed}
 use Rattle.dies.proofs.CallLaws.{warn_none}
@@ -103,15 +104,14 @@ module _ {main supplementary w : List ℕ} {d : Details} {p : ℕ} {s : Walk} (l
   no-warnings = warn_none F.warned tiny
 
   pub inline-refused : (st' ≡ 0 → ⊥)
-      → Advances (make_inline_node (context_in main supplementary lists addresses w d) (entry_here main p)) main supplementary name d (ranges_later main (p + 15)) (entries_left main (p + 15)) w t u s w₁ t u
-      (record { frames = s.frames; opened = s.opened; closed = s.closed; nodes = s.nodes; at = s.at; warned = s.warned; status = st'; past = s.past })
+      → Advances (make_inline_node (context_in main supplementary lists addresses w d) (entry_here main p)) main supplementary name d (ranges_later main (p + 15)) (entries_left main (p + 15)) w t u s w₁ t u st' s
   inline-refused n = advance-refused n (kept-keys D R.rest) (λ ns ws. make-refused (context_in main supplementary lists addresses w d) (entry_here main p) _ (name-same lists addresses (dwarf_of main supplementary) _ _ ∙ given-refused st' inlined R.is n))
 
   -- the entry is passed over, and the memory of the state was not touched
-  passed : {w' : List ℕ} → s.status ≡ 0 → Kept w w' d.ranges (walked main supplementary d) → Fits main supplementary w' d (ranges_later main (p + 15)) (entries_left main (p + 15)) s
+  passed : {w' : List ℕ} → Kept w w' d.ranges (walked main supplementary d) → Fits main supplementary w' d (ranges_later main (p + 15)) (entries_left main (p + 15)) s
       → ((ns : List InlineNode) (ws : List Warning) → make_inline_node (context_in main supplementary lists addresses w d) (entry_here main p) (walk_of main supplementary d w s ns ws) ≡ done (walk_of main supplementary d w' s ns ws))
-      → Advances (make_inline_node (context_in main supplementary lists addresses w d) (entry_here main p)) main supplementary name d (ranges_later main (p + 15)) (entries_left main (p + 15)) w t u s w' t u s
-  passed {w'} st kept fits ok = record {
+      → Advances (make_inline_node (context_in main supplementary lists addresses w d) (entry_here main p)) main supplementary name d (ranges_later main (p + 15)) (entries_left main (p + 15)) w t u s w' t u 0 s
+  passed {w'} kept fits ok = record {
     nodes = [];
     warnings = [];
     laid = λ z. no-nodes;
@@ -121,7 +121,7 @@ module _ {main supplementary w : List ℕ} {d : Details} {p : ℕ} {s : Walk} (l
     kept = kept;
     fits = λ z. fits;
     ok = λ z ns ws. ok ns ws ∙ ap done (λ i. walk_of main supplementary d w' s (sym (append-nil ns) i) (sym (append-nil ws) i));
-    no = λ z. absurd (z st);
+    no = λ z. absurd (z refl);
   }
 
   module _ (z : st' ≡ 0) where
@@ -134,9 +134,9 @@ module _ {main supplementary w : List ℕ} {d : Details} {p : ℕ} {s : Walk} (l
     same-walk : (ns : List InlineNode) (ws : List Warning) → walk_of main supplementary d w₁ s ns ws ≡ walk_of main supplementary d w s ns ws
     same-walk ns ws = walk_kept F R.rest (aside_keys D F _) ns ws
 
-    pub inline-nameless : s.status ≡ 0 → length inlined ≡ 0
-        → Advances (make_inline_node (context_in main supplementary lists addresses w d) (entry_here main p)) main supplementary name d (ranges_later main (p + 15)) (entries_left main (p + 15)) w t u s w₁ t u s
-    inline-nameless st e = passed st (kept-keys D R.rest) (fits_kept (later-fits D K F) R.rest (aside_keys D F _))
+    pub inline-nameless : length inlined ≡ 0
+        → Advances (make_inline_node (context_in main supplementary lists addresses w d) (entry_here main p)) main supplementary name d (ranges_later main (p + 15)) (entries_left main (p + 15)) w t u s w₁ t u 0 s
+    inline-nameless e = passed (kept-keys D R.rest) (fits_kept (later-fits D K F) R.rest (aside_keys D F _))
         (λ ns ws. make-nameless (context_in main supplementary lists addresses w d) (entry_here main p) _ found e ∙ ap done (sym (same-walk ns ws)))
 
     -- what the definition reads of the entry
@@ -144,7 +144,7 @@ module _ {main supplementary w : List ℕ} {d : Details} {p : ℕ} {s : Walk} (l
     read_is = read_here main supplementary lists addresses p _ 0x17 (p + 3) 12 (p + 15) refl (entry-step (accepted-placed (details-accepted D) K) K)
 
     module _ (some-name : length inlined ≡ 0 → ⊥) (third : length lists / 3 ≡ d.third) where
-      module _ {from : ℕ} {w₂ : List ℕ} (T : Top s.frames from) {g : Merged}
+      module _ {from : ℕ} {w₂ : List ℕ} (T : Top s.frames from) {g : Result ℕ Refusal}
           (H : Merges (read_at lists addresses main (p + 15)) main lists (p + 15) w₁ w₂ (d.ranges + from * 16) (s.frames.used - from) (d.ranges + s.frames.used * 16) g) where
         own-most : OwnRanges main d p H.most
         own-most = ⊎_elim (λ e. inl (omega arith)) (λ e. inr (omega (arith, e.0), e.1)) H.own
@@ -158,17 +158,16 @@ module _ {main supplementary w : List ℕ} {d : Details} {p : ℕ} {s : Walk} (l
         both-kept : Kept w w₂ d.ranges (walked main supplementary d)
         both-kept = kept_trans (kept-keys D R.rest) (kept-inside D H.rest (omega arith) (omega (arith, room, D.ranges, D.stack, D.sites)))
 
-        pub inline-failed : {n : ℕ} → g ≡ Merged.Refused n
-            → Advances (make_inline_node (context_in main supplementary lists addresses w d) (entry_here main p)) main supplementary name d (ranges_later main (p + 15)) (entries_left main (p + 15)) w t u s w₂ t u
-            (record { frames = s.frames; opened = s.opened; closed = s.closed; nodes = s.nodes; at = s.at; warned = s.warned; status = n; past = s.past })
-        inline-failed {n} e =
-            let M : MergedBy (read_at lists addresses main (p + 15)) w₁ w₂ (d.ranges + from * 16) (s.frames.used - from) (d.ranges + s.frames.used * 16) (Merged.Refused n) = rw e at H.is in
+        pub inline-failed : {e : Refusal} → g ≡ Err e
+            → Advances (make_inline_node (context_in main supplementary lists addresses w d) (entry_here main p)) main supplementary name d (ranges_later main (p + 15)) (entries_left main (p + 15)) w t u s w₂ t u (number_of e) s
+        inline-failed {e} is =
+            let M : MergedBy (read_at lists addresses main (p + 15)) w₁ w₂ (d.ranges + from * 16) (s.frames.used - from) (d.ranges + s.frames.used * 16) (Err e) = rw is at H.is in
             advance-refused (λ q. omega (arith, M.2)) both-kept
             (λ ns ws. make-failed (context_in main supplementary lists addresses w d) (entry_here main p) _ found some-name (ap (λ (x : DieRanges). is_none x.failure) read_is ∙ M.0)
             ∙ ap refused (ap (λ (x : DieRanges). x.refusal) read_is ∙ M.1))
 
-        module _ {k : ℕ} (e : g ≡ Merged.Ranges k) where
-          merged : MergedBy (read_at lists addresses main (p + 15)) w₁ w₂ (d.ranges + from * 16) (s.frames.used - from) (d.ranges + s.frames.used * 16) (Merged.Ranges k)
+        module _ {k : ℕ} (e : g ≡ Ok k) where
+          merged : MergedBy (read_at lists addresses main (p + 15)) w₁ w₂ (d.ranges + from * 16) (s.frames.used - from) (d.ranges + s.frames.used * 16) (Ok k)
           merged = rw e at H.is
 
           pub inline-own : OwnRanges main d p k
@@ -194,9 +193,9 @@ module _ {main supplementary w : List ℕ} {d : Details} {p : ℕ} {s : Walk} (l
           makes ns ws = make-named (context_in main supplementary lists addresses w d) (entry_here main p) _ found some-name (ap (λ (x : DieRanges). is_none x.failure) read_is ∙ merged.0)
               ∙ ap (λ (l : List AddressRange). push_inline (context_in main supplementary lists addresses w d) (entry_here main p) inlined l (walk_of main supplementary d w s ns ws)) (gathered ns ws)
 
-          pub inline-empty : s.status ≡ 0 → k ≡ 0
-              → Advances (make_inline_node (context_in main supplementary lists addresses w d) (entry_here main p)) main supplementary name d (ranges_later main (p + 15)) (entries_left main (p + 15)) w t u s w₂ t u s
-          inline-empty st z = passed st both-kept (fits-less second (ranges_later main (p + 15)) (entries_left main (p + 15)) (omega (arith, later-here D K)) (omega (arith, lists-here D K)) (omega (arith, left_here D K)))
+          pub inline-empty : k ≡ 0
+              → Advances (make_inline_node (context_in main supplementary lists addresses w d) (entry_here main p)) main supplementary name d (ranges_later main (p + 15)) (entries_left main (p + 15)) w t u s w₂ t u 0 s
+          inline-empty z = passed both-kept (fits-less second (ranges_later main (p + 15)) (entries_left main (p + 15)) (omega (arith, later-here D K)) (omega (arith, lists-here D K)) (omega (arith, left_here D K)))
               (λ ns ws. makes ns ws
               ∙ ap (λ (l : List AddressRange). push_inline (context_in main supplementary lists addresses w d) (entry_here main p) inlined l (walk_of main supplementary d w s ns ws)) (ap (ranges_at w₂ (d.ranges + s.frames.used * 16)) z ∙ ranges-nil w₂ (d.ranges + s.frames.used * 16))
               ∙ push-none (context_in main supplementary lists addresses w d) (entry_here main p) inlined (walk_of main supplementary d w s ns ws) ∙ ap done (sym (same-twice ns ws)))
@@ -210,9 +209,9 @@ module _ {main supplementary w : List ℕ} {d : Details} {p : ℕ} {s : Walk} (l
           same-context : context_in main supplementary lists addresses w₂ d ≡ context_in main supplementary lists addresses w d
           same-context = context-kept D both-kept (omega arith)
 
-          pub inline-kept : {t' u' : List ℕ} {s' : Walk}
-              → Advances (push_inline (context_in main supplementary lists addresses w₂ d) (entry_here main p) inlined (ranges_at w₂ (d.ranges + s.frames.used * 16) k)) main supplementary name d (ranges_later main (p + 15)) (entries_left main (p + 15)) w₂ t u s w₂ t' u' s'
-              → Advances (make_inline_node (context_in main supplementary lists addresses w d) (entry_here main p)) main supplementary name d (ranges_later main (p + 15)) (entries_left main (p + 15)) w t u s w₂ t' u' s'
+          pub inline-kept : {t' u' : List ℕ} {n : ℕ} {s' : Walk}
+              → Advances (push_inline (context_in main supplementary lists addresses w₂ d) (entry_here main p) inlined (ranges_at w₂ (d.ranges + s.frames.used * 16) k)) main supplementary name d (ranges_later main (p + 15)) (entries_left main (p + 15)) w₂ t u s w₂ t' u' n s'
+              → Advances (make_inline_node (context_in main supplementary lists addresses w d) (entry_here main p)) main supplementary name d (ranges_later main (p + 15)) (entries_left main (p + 15)) w t u s w₂ t' u' n s'
           inline-kept A = record {
             nodes = A.nodes;
             warnings = A.warnings;

@@ -7,7 +7,12 @@ use Prim.Native.Nat.{ℕ, ◌+◌, ◌*◌, ◌≤◌, ◌<◌}
 use native.Mathlib.Omega.{arith}
 use lib.Dec.{eqb}
 use lib.ListN.{length, drop}
-use Rattle.tlv.specs.Outcome.{done}
+use Rattle.std.specs.Prelude.{Result, Ok, Err, IsOk}
+use denote.Bor.{Bor}
+use Rattle.tlv.specs.declared.refusal.Refusal.{Refusal}
+use Rattle.tlv.specs.Refusals.{status_of}
+use Rattle.tlv.proofs.AnswerLaws.{numbered}
+use Rattle.tlv.specs.Outcome.{Outcome, done}
 use Rattle.tlv.specs.Bytes.{le_at}
 use Rattle.tlv.specs.Fields.{encode}
 use Rattle.tlv.proofs.OutcomeLaws.{done-is, refused-not}
@@ -22,6 +27,7 @@ use Rattle.access.specs.Places.{entry_here, unit_here}
 use Rattle.access.proofs.IndexModel.{either}
 use Rattle.references.specs.Search.{attribute}
 use Rattle.references.specs.Tables.{EntryKnown, bytes_given}
+use Rattle.references.specs.Tables.{bytes_of}
 use Rattle.references.specs.Names.{dwarf_of, reference_name, Resolved}
 use Rattle.references.specs.Keys.{keys_extent}
 use Rattle.dies.specs.declared.dies.Details.{Details}
@@ -31,6 +37,7 @@ use Rattle.dies.specs.Details.{DetailsIn}
 use Rattle.dies.specs.DetailState.{none_later, origin_of, origin_name, site_of, sites_at, SiteKnown, Fits, SitesPut}
 use Rattle.dies.proofs.PastLaws.{past_same, past-turn, site-length}
 use Rattle.dies.proofs.WalkStateLaws.{details_kept, kept-keys}
+use Rattle.dies.proofs.SiteStepLaws.{given-refused}
 
 -- the bytes of call sites
 abbrev sites_bytes : List CallSite → List ℕ
@@ -39,6 +46,11 @@ sites_bytes xs = each_of (λ x. encode 0x45 (site_payload x)) xs
 bytes-done : (st : ℕ) (r x : List ℕ) → bytes_given st r ≡ done x → r ≡ x
 unfolding bytes_given
 bytes-done st r x e = either (eqb st 0) (λ y. done-is (rw y at e)) (λ n. refused-not (rw n at e))
+
+-- a name that is there is found
+pub site-found : (r : Result (Bor (List ℕ)) Refusal) {x : List ℕ} {o : Outcome (List ℕ)} → bytes_given (status_of r) (bytes_of r) ≡ o → o ≡ done x → IsOk r
+site-found (Ok y) is at = refl
+site-found (Err e) is at = refused-not (sym (given-refused _ _ is (numbered e)) ∙ at)
 
 pub record Siting (main supplementary : List ℕ) (d : Details) (n at : ℕ) (w₀ t₀ w t : List ℕ) (place i : ℕ) (b : Bool) : Type 0 where
   pub within : i ≤ n
@@ -95,6 +107,9 @@ module _ {main supplementary : List ℕ} {d : Details} {at : ℕ} {w₀ t₀ w t
 
       name-is : name ≡ origin_name main supplementary d.unit entry
       name-is = bytes-done st name (origin_name main supplementary d.unit entry) (R.is ∙ named)
+
+      pub siting-found : reference_name (dwarf_of main supplementary) (unit_here main d.unit) (entry_here main entry) (attribute (entry_here main entry) 0x7f) ≡ done (origin_name main supplementary d.unit entry)
+      siting-found = named
 
       pub siting-named : reference_name (dwarf_of main supplementary) (unit_here main d.unit) (entry_here main entry) (attribute (entry_here main entry) 0x7f) ≡ done name
       siting-named = named ∙ ap done (sym name-is)

@@ -75,10 +75,10 @@ module _ {main supplementary w : List ℕ} {d : Details} {p : ℕ} {s : Walk} (n
     shut-walk : (ns : List InlineNode) (ws : List Warning) → finish (entry_here main p).depth (walk_of main supplementary d w s ns ws) ≡ walk_of main supplementary d w₁ s₁ ns ws
     shut-walk ns ws = ap (λ (n : ℕ). finish n (walk_of main supplementary d w s ns ws)) depth_is ∙ sym (S.walk ns ws)
 
-    pub one-inline : {w₂ t₂ u₂ : List ℕ} {s₂ : Walk} → d.include_inlines ≡ true → tag ≡ 0x1d
-        → Advances (make_inline_node (context_in main supplementary lists addresses w₁ d) (entry_here main p)) main supplementary name d (ranges_later main (p + 15)) (entries_left main (p + 15)) w₁ t u s₁ w₂ t₂ u₂ s₂
-        → Advances (step_entry (context_in main supplementary lists addresses w d) (entry_here main p)) main supplementary name d (ranges_later main (p + 15)) (entries_left main (p + 15)) w t u s w₂ t₂ u₂ s₂
-    one-inline {w₂} {t₂} {u₂} {s₂} on is A = record {
+    pub one-inline : {w₂ t₂ u₂ : List ℕ} {n : ℕ} {s₂ : Walk} → d.include_inlines ≡ true → tag ≡ 0x1d
+        → Advances (make_inline_node (context_in main supplementary lists addresses w₁ d) (entry_here main p)) main supplementary name d (ranges_later main (p + 15)) (entries_left main (p + 15)) w₁ t u s₁ w₂ t₂ u₂ n s₂
+        → Advances (step_entry (context_in main supplementary lists addresses w d) (entry_here main p)) main supplementary name d (ranges_later main (p + 15)) (entries_left main (p + 15)) w t u s w₂ t₂ u₂ n s₂
+    one-inline on is A = record {
       nodes = A.nodes;
       warnings = A.warnings;
       laid = λ z. let P = A.laid z in rw (S.place, S.nodes) at P;
@@ -96,12 +96,12 @@ module _ {main supplementary w : List ℕ} {d : Details} {p : ℕ} {s : Walk} (n
         steps ns ws = step-inline (context_in main supplementary lists addresses w d) (entry_here main p) (walk_of main supplementary d w s ns ws) on (tag_is ∙ is) ∙ (λ i. make_inline_node (sym same-context i) (entry_here main p) (shut-walk ns ws i))
 
     module _ (small : length t < top) (tiny : length u < top) where
-      quiet-advances : {w₂ : List ℕ} {s₂ : Walk} → s₂.at ≡ s₁.at → s₂.warned ≡ s₁.warned → s₂.nodes ≡ s₁.nodes → s₂.past ≡ s₁.past → Kept w₁ w₂ d.ranges (walked main supplementary d)
-          → (s₂.status ≡ 0 → Fits main supplementary w₂ d (ranges_later main (p + 15)) (entries_left main (p + 15)) s₂)
-          → (s₂.status ≡ 0 → (ns : List InlineNode) (ws : List Warning) → step_entry (context_in main supplementary lists addresses w d) (entry_here main p) (walk_of main supplementary d w s ns ws) ≡ done (walk_of main supplementary d w₂ s₂ ns ws))
-          → ((s₂.status ≡ 0 → ⊥) → (ns : List InlineNode) (ws : List Warning) → step_entry (context_in main supplementary lists addresses w d) (entry_here main p) (walk_of main supplementary d w s ns ws) ≡ refused s₂.status)
-          → Advances (step_entry (context_in main supplementary lists addresses w d) (entry_here main p)) main supplementary name d (ranges_later main (p + 15)) (entries_left main (p + 15)) w t u s w₂ t u s₂
-      quiet-advances {w₂} {s₂} ep ew en eb kept fits ok refuses = record {
+      quiet-advances : {w₂ : List ℕ} {n : ℕ} {s₂ : Walk} → s₂.at ≡ s₁.at → s₂.warned ≡ s₁.warned → s₂.nodes ≡ s₁.nodes → s₂.past ≡ s₁.past → Kept w₁ w₂ d.ranges (walked main supplementary d)
+          → (n ≡ 0 → Fits main supplementary w₂ d (ranges_later main (p + 15)) (entries_left main (p + 15)) s₂)
+          → (n ≡ 0 → (ns : List InlineNode) (ws : List Warning) → step_entry (context_in main supplementary lists addresses w d) (entry_here main p) (walk_of main supplementary d w s ns ws) ≡ done (walk_of main supplementary d w₂ s₂ ns ws))
+          → ((n ≡ 0 → ⊥) → (ns : List InlineNode) (ws : List Warning) → step_entry (context_in main supplementary lists addresses w d) (entry_here main p) (walk_of main supplementary d w s ns ws) ≡ refused n)
+          → Advances (step_entry (context_in main supplementary lists addresses w d) (entry_here main p)) main supplementary name d (ranges_later main (p + 15)) (entries_left main (p + 15)) w t u s w₂ t u n s₂
+      quiet-advances {w₂} {s₂ = s₂} ep ew en eb kept fits ok refuses = record {
         nodes = [];
         warnings = [];
         laid = λ z. rw (ep, S.place) (put-none F.place small);
@@ -114,9 +114,9 @@ module _ {main supplementary w : List ℕ} {d : Details} {p : ℕ} {s : Walk} (n
         no = refuses;
       }
 
-      pub one-site : {w₂ : List ℕ} {s₂ : Walk} → d.include_call_sites ≡ true → tag ≡ 0x48
-          → Quiet (collect_site (context_in main supplementary lists addresses w₁ d) (entry_here main p)) main supplementary d (ranges_later main (p + 15)) (entries_left main (p + 15)) w₁ s₁ w₂ s₂
-          → Advances (step_entry (context_in main supplementary lists addresses w d) (entry_here main p)) main supplementary name d (ranges_later main (p + 15)) (entries_left main (p + 15)) w t u s w₂ t u s₂
+      pub one-site : {w₂ : List ℕ} {n : ℕ} {s₂ : Walk} → d.include_call_sites ≡ true → tag ≡ 0x48
+          → Quiet (collect_site (context_in main supplementary lists addresses w₁ d) (entry_here main p)) main supplementary d (ranges_later main (p + 15)) (entries_left main (p + 15)) w₁ s₁ w₂ n s₂
+          → Advances (step_entry (context_in main supplementary lists addresses w d) (entry_here main p)) main supplementary name d (ranges_later main (p + 15)) (entries_left main (p + 15)) w t u s w₂ t u n s₂
       one-site on is Q = quiet-advances Q.place Q.warned Q.nodes Q.past Q.kept Q.fits (λ z ns ws. steps ns ws ∙ Q.ok z ns ws) (λ z ns ws. steps ns ws ∙ Q.no z ns ws)
         where
           steps : (ns : List InlineNode) (ws : List Warning) → step_entry (context_in main supplementary lists addresses w d) (entry_here main p) (walk_of main supplementary d w s ns ws)
@@ -124,19 +124,19 @@ module _ {main supplementary w : List ℕ} {d : Details} {p : ℕ} {s : Walk} (n
           steps ns ws = step-site (context_in main supplementary lists addresses w d) (entry_here main p) (walk_of main supplementary d w s ns ws) on (tag_is ∙ is) ∙ (λ i. collect_site (sym same-context i) (entry_here main p) (shut-walk ns ws i))
 
       -- neither
-      neither : s.status ≡ 0 → ((x : Descendants) → step_entry (context_in main supplementary lists addresses w d) (entry_here main p) x ≡ done (finish (entry_here main p).depth x))
-          → Advances (step_entry (context_in main supplementary lists addresses w d) (entry_here main p)) main supplementary name d (ranges_later main (p + 15)) (entries_left main (p + 15)) w t u s w₁ t u s₁
-      neither st steps = quiet-advances refl refl refl refl (kept_refl w₁ d.ranges (walked main supplementary d)) (λ z. S.fits (ranges_later main (p + 15)) (entries_left main (p + 15)) (later-fits D K F))
-          (λ z ns ws. steps (walk_of main supplementary d w s ns ws) ∙ ap done (shut-walk ns ws)) (λ z. absurd (z (S.status ∙ st)))
+      neither : ((x : Descendants) → step_entry (context_in main supplementary lists addresses w d) (entry_here main p) x ≡ done (finish (entry_here main p).depth x))
+          → Advances (step_entry (context_in main supplementary lists addresses w d) (entry_here main p)) main supplementary name d (ranges_later main (p + 15)) (entries_left main (p + 15)) w t u s w₁ t u 0 s₁
+      neither steps = quiet-advances refl refl refl refl (kept_refl w₁ d.ranges (walked main supplementary d)) (λ z. S.fits (ranges_later main (p + 15)) (entries_left main (p + 15)) (later-fits D K F))
+          (λ z ns ws. steps (walk_of main supplementary d w s ns ws) ∙ ap done (shut-walk ns ws)) (λ z. absurd (z refl))
 
-      pub one-site-off : s.status ≡ 0 → d.include_call_sites ≡ false → tag ≡ 0x48
-          → Advances (step_entry (context_in main supplementary lists addresses w d) (entry_here main p)) main supplementary name d (ranges_later main (p + 15)) (entries_left main (p + 15)) w t u s w₁ t u s₁
-      one-site-off st off is = neither st (λ x. step-site-off (context_in main supplementary lists addresses w d) (entry_here main p) x off (tag_is ∙ is))
+      pub one-site-off : d.include_call_sites ≡ false → tag ≡ 0x48
+          → Advances (step_entry (context_in main supplementary lists addresses w d) (entry_here main p)) main supplementary name d (ranges_later main (p + 15)) (entries_left main (p + 15)) w t u s w₁ t u 0 s₁
+      one-site-off off is = neither (λ x. step-site-off (context_in main supplementary lists addresses w d) (entry_here main p) x off (tag_is ∙ is))
 
-      pub one-inline-off : s.status ≡ 0 → d.include_inlines ≡ false → tag ≡ 0x1d
-          → Advances (step_entry (context_in main supplementary lists addresses w d) (entry_here main p)) main supplementary name d (ranges_later main (p + 15)) (entries_left main (p + 15)) w t u s w₁ t u s₁
-      one-inline-off st off is = neither st (λ x. step-inline-off (context_in main supplementary lists addresses w d) (entry_here main p) x off (tag_is ∙ is))
+      pub one-inline-off : d.include_inlines ≡ false → tag ≡ 0x1d
+          → Advances (step_entry (context_in main supplementary lists addresses w d) (entry_here main p)) main supplementary name d (ranges_later main (p + 15)) (entries_left main (p + 15)) w t u s w₁ t u 0 s₁
+      one-inline-off off is = neither (λ x. step-inline-off (context_in main supplementary lists addresses w d) (entry_here main p) x off (tag_is ∙ is))
 
-      pub one-other : s.status ≡ 0 → (tag ≡ 0x48 → ⊥) → (tag ≡ 0x1d → ⊥)
-          → Advances (step_entry (context_in main supplementary lists addresses w d) (entry_here main p)) main supplementary name d (ranges_later main (p + 15)) (entries_left main (p + 15)) w t u s w₁ t u s₁
-      one-other st h k = neither st (λ x. step_other (context_in main supplementary lists addresses w d) (entry_here main p) x (λ z. h (sym tag_is ∙ z)) (λ z. k (sym tag_is ∙ z)))
+      pub one-other : (tag ≡ 0x48 → ⊥) → (tag ≡ 0x1d → ⊥)
+          → Advances (step_entry (context_in main supplementary lists addresses w d) (entry_here main p)) main supplementary name d (ranges_later main (p + 15)) (entries_left main (p + 15)) w t u s w₁ t u 0 s₁
+      one-other h k = neither (λ x. step_other (context_in main supplementary lists addresses w d) (entry_here main p) x (λ z. h (sym tag_is ∙ z)) (λ z. k (sym tag_is ∙ z)))

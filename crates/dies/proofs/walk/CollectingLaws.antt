@@ -5,14 +5,15 @@ use mathlib.Core.List.{List, [], ◌∷◌, ◌++◌, append-nil, append_assoc}
 use Prim.Native.Nat.{ℕ, suc, ◌+◌, ◌≤◌, ◌<◌}
 use native.Mathlib.Omega.{arith}
 use lib.ListN.{length, length-append}
+use Rattle.std.specs.Prelude.{Some, None}
 use Rattle.tlv.specs.declared.model.AddressRange.{AddressRange}
-use Rattle.tlv.specs.declared.fields.Step.{Step}
+use Rattle.tlv.specs.declared.fields.FieldSpan.{FieldSpan}
 use Rattle.tlv.specs.Outcome.{refused, done, ◌>>=◌}
 use Rattle.tlv.specs.Bytes.{le_at}
 use Rattle.tlv.specs.Checked.{Placed}
-use Rattle.tlv.specs.Cursor.{step_at}
+use Rattle.tlv.specs.Cursor.{step_at, field_from}
 use Rattle.tlv.specs.Model.{Entry}
-use Rattle.tlv.proofs.CursorLaws.{field-within}
+use Rattle.tlv.proofs.FieldLaws.{is-step, field-within}
 use Rattle.tlv.proofs.PlaceFacts.{placed-next}
 use Rattle.tlv.proofs.PlacePromises.{placed-entry}
 use Rattle.buffers.specs.Buffer.{Put, top}
@@ -32,7 +33,7 @@ use Rattle.dies.specs.Details.{DetailsIn, EntriesKnown, context_in, entries_from
 use Rattle.dies.specs.DetailState.{none_later, ranges_later, entries_left, walk_of, Fits, lead_bytes, new_bytes, walked, Advances, step_entry}
 use Rattle.dies.proofs.CallLaws.{warn_none}
 use Rattle.dies.proofs.PastLaws.{past_same, past-append}
-use Rattle.dies.proofs.EntryWalkLaws.{below-cons, from-entry, from-other, none_end, none-cut, none-unit, none-stop, entry-room, left_other, later-other, lists-later-other, known-here, known-entry, known-other}
+use Rattle.dies.proofs.EntryWalkLaws.{below-cons, from-entry, from-other, none-below, none-unit, none-stop, entry-room, left_other, later-other, lists-later-other, known-here, known-entry, known-other}
 use Rattle.dies.proofs.WalkStateLaws.{details_kept, context-kept, fits-less}
 use Rattle.dies.proofs.NodeStepLaws.{each_append, warnings-append, advance-refused}
 
@@ -70,7 +71,6 @@ pub record Collecting (main supplementary lists addresses name : List ℕ) (d : 
   pub details : DetailsIn main supplementary w d
   pub same : context_in main supplementary lists addresses w d ≡ context_in main supplementary lists addresses w₀ d
   pub fits : Fits main supplementary w d (ranges_later main at) (entries_left main at) s
-  pub status : s.status ≡ 0
   pub nodes : List InlineNode
   pub warnings : List Warning
   pub laid : Put s₀.at (new_bytes name d.range s₀.nodes nodes) t₀ t s.at
@@ -86,14 +86,13 @@ pub record Collecting (main supplementary lists addresses name : List ℕ) (d : 
       ≡ collect_entries (context_in main supplementary lists addresses w₀ d) (descendants_of depth (entries_from main p)) (walk_of main supplementary d w₀ s₀ ns ws)
 
 pub collecting-start : {main supplementary w : List ℕ} {d : Details} {p : ℕ} {s : Walk} (lists addresses name t u : List ℕ) (depth : ℕ) → DetailsIn main supplementary w d → Placed main p → EntriesKnown main d.unit p
-    → Fits main supplementary w d (ranges_later main p) (entries_left main p) s → s.status ≡ 0 → length t < top → length u < top → Collecting main supplementary lists addresses name d p depth w t u s w t u s p
-collecting-start {main} {supplementary} {w} {d} {p} {s} lists addresses name t u depth D h K F st small tiny = record {
+    → Fits main supplementary w d (ranges_later main p) (entries_left main p) s → length t < top → length u < top → Collecting main supplementary lists addresses name d p depth w t u s w t u s p
+collecting-start {main} {supplementary} {w} {d} {p} {s} lists addresses name t u depth D h K F small tiny = record {
   placed = h;
   known = K;
   details = D;
   same = refl;
   fits = F;
-  status = st;
   nodes = [];
   warnings = [];
   laid = put-none F.place small;
@@ -111,7 +110,7 @@ collecting-start {main} {supplementary} {w} {d} {p} {s} lists addresses name t u
 module _ {main supplementary lists addresses name : List ℕ} {d : Details} {p depth : ℕ} {w₀ t₀ u₀ : List ℕ} {s₀ : Walk} {w t u : List ℕ} {s : Walk} {at : ℕ} (C : Collecting main supplementary lists addresses name d p depth w₀ t₀ u₀ s₀ w t u s at) where
   -- nothing is left
   ended : descendants_of depth (entries_from main at) ≡ []
-      → Advances (collect_entries (context_in main supplementary lists addresses w₀ d) (descendants_of depth (entries_from main p))) main supplementary name d none_later 0 w₀ t₀ u₀ s₀ w t u s
+      → Advances (collect_entries (context_in main supplementary lists addresses w₀ d) (descendants_of depth (entries_from main p))) main supplementary name d none_later 0 w₀ t₀ u₀ s₀ w t u 0 s
   ended e = record {
     nodes = C.nodes;
     warnings = C.warnings;
@@ -123,97 +122,91 @@ module _ {main supplementary lists addresses name : List ℕ} {d : Details} {p d
     fits = λ z. fits-less C.fits none_later 0 (omega arith) (omega arith) (omega arith);
     ok = λ z ns ws. sym (C.left ns ws) ∙ ap (λ (es : List Entry). collect_entries (context_in main supplementary lists addresses w₀ d) es (walk_of main supplementary d w s (ns ++ C.nodes) (ws ++ C.warnings))) e
         ∙ entries_none (context_in main supplementary lists addresses w₀ d) _;
-    no = λ z. absurd (z C.status);
+    no = λ z. absurd (z refl);
   }
 
-  module _ {r : Step} (reads : r ≡ step_at main at) where
-    pub collecting-end : r ≡ Step.End → Advances (collect_entries (context_in main supplementary lists addresses w₀ d) (descendants_of depth (entries_from main p))) main supplementary name d none_later 0 w₀ t₀ u₀ s₀ w t u s
-    collecting-end e = ended (none_end main at r reads depth e)
+  pub collecting-none : None ≡ field_from main at → Advances (collect_entries (context_in main supplementary lists addresses w₀ d) (descendants_of depth (entries_from main p))) main supplementary name d none_later 0 w₀ t₀ u₀ s₀ w t u 0 s
+  collecting-none none = ended (none-below main at none depth)
 
-    pub collecting-cut : r ≡ Step.Cut → Advances (collect_entries (context_in main supplementary lists addresses w₀ d) (descendants_of depth (entries_from main p))) main supplementary name d none_later 0 w₀ t₀ u₀ s₀ w t u s
-    collecting-cut e = ended (none-cut main at r reads depth e)
+  module _ {f : FieldSpan} (there : Some f ≡ field_from main at) where
+    pub collecting-unit : f.tag ≡ 0x10 → Advances (collect_entries (context_in main supplementary lists addresses w₀ d) (descendants_of depth (entries_from main p))) main supplementary name d none_later 0 w₀ t₀ u₀ s₀ w t u 0 s
+    collecting-unit is = ended (none-unit main at f there depth is)
 
-    module _ {tag start len next : ℕ} (e : r ≡ Step.Field tag start len next) where
-      pub collecting-unit : tag ≡ 0x10 → Advances (collect_entries (context_in main supplementary lists addresses w₀ d) (descendants_of depth (entries_from main p))) main supplementary name d none_later 0 w₀ t₀ u₀ s₀ w t u s
-      collecting-unit is = ended (none-unit main at r reads tag start len next e depth is)
+    pub collecting-other : (f.tag ≡ 0x10 → ⊥) → (f.tag ≡ 0x17 → ⊥) → Collecting main supplementary lists addresses name d p depth w₀ t₀ u₀ s₀ w t u s f.next
+    collecting-other h k = record {
+      placed = placed-next main at (step_at main at) f.tag f.start f.len f.next C.placed refl (is-step main at f there);
+      known = known-other main at f there C.known h k;
+      details = C.details;
+      same = C.same;
+      fits = fits-less C.fits (ranges_later main f.next) (entries_left main f.next) (omega (arith, later-other main at f there h k)) (omega (arith, lists-later-other main at f there h k)) (omega (arith, left_other main at f there k));
+      nodes = C.nodes;
+      warnings = C.warnings;
+      laid = C.laid;
+      warned = C.warned;
+      begins = C.begins;
+      past = C.past;
+      count = C.count;
+      kept = C.kept;
+      size = C.size;
+      records-size = C.records-size;
+      warnings-size = C.warnings-size;
+      left = λ ns ws. ap (λ (es : List Entry). collect_entries (context_in main supplementary lists addresses w₀ d) (descendants_of depth es) (walk_of main supplementary d w s (ns ++ C.nodes) (ws ++ C.warnings))) (sym (from-other main at f there h k)) ∙ C.left ns ws;
+    }
 
-      pub collecting-other : (tag ≡ 0x10 → ⊥) → (tag ≡ 0x17 → ⊥) → Collecting main supplementary lists addresses name d p depth w₀ t₀ u₀ s₀ w t u s next
-      collecting-other h k = record {
-        placed = placed-next main at r tag start len next C.placed reads e;
-        known = known-other main at r reads tag start len next e C.known h k;
-        details = C.details;
-        same = C.same;
-        fits = fits-less C.fits (ranges_later main next) (entries_left main next) (omega (arith, later-other main at r reads tag start len next e h k)) (omega (arith, lists-later-other main at r reads tag start len next e h k)) (omega (arith, left_other main at r reads tag start len next e k));
-        status = C.status;
-        nodes = C.nodes;
-        warnings = C.warnings;
-        laid = C.laid;
-        warned = C.warned;
-        begins = C.begins;
-        past = C.past;
-        count = C.count;
-        kept = C.kept;
-        size = C.size;
-        records-size = C.records-size;
-        warnings-size = C.warnings-size;
-        left = λ ns ws. ap (λ (es : List Entry). collect_entries (context_in main supplementary lists addresses w₀ d) (descendants_of depth es) (walk_of main supplementary d w s (ns ++ C.nodes) (ws ++ C.warnings))) (sym (from-other main at r reads tag start len next e h k)) ∙ C.left ns ws;
-      }
+    module _ (is : f.tag ≡ 0x17) where
+      pub entry-fields : f.start + 12 ≤ length main
+      entry-fields = entry-room main at f there C.placed is
 
-      module _ (is : tag ≡ 0x17) where
-        pub entry-fields : start + 12 ≤ length main
-        entry-fields = entry-room main at r reads tag start len next e C.placed is
+      pub entry_known : EntryKnown main d.unit at
+      entry_known = known-here main at f there C.known is
 
-        pub entry_known : EntryKnown main d.unit at
-        entry_known = known-here main at r reads tag start len next e C.known is
+      next-is : f.next ≡ at + 15
+      next-is =
+          let w = field-within main at f there in
+          let l = placed-entry main at (step_at main at) f.tag f.start f.len f.next C.placed refl (is-step main at f there) is in
+          omega arith
 
-        next-is : next ≡ at + 15
-        next-is =
-            let w = field-within main at r tag start len next reads e in
-            let l = placed-entry main at r tag start len next C.placed reads e is in
-            omega arith
+      module _ {n : ℕ} (en : n ≡ le_at 2 main (f.start + 8)) where
+        depth_is : (entry_here main at).depth ≡ n
+        depth_is = entry_depth-is main at (step_at main at) f.tag f.start f.len f.next refl (is-step main at f there) C.placed is ∙ sym en
 
-        module _ {n : ℕ} (en : n ≡ le_at 2 main (start + 8)) where
-          depth_is : (entry_here main at).depth ≡ n
-          depth_is = entry_depth-is main at r tag start len next reads e C.placed is ∙ sym en
+        pub collecting-stop : n ≤ depth → Advances (collect_entries (context_in main supplementary lists addresses w₀ d) (descendants_of depth (entries_from main p))) main supplementary name d none_later 0 w₀ t₀ u₀ s₀ w t u 0 s
+        collecting-stop h = ended (none-stop main at f there C.placed is depth en h)
 
-          pub collecting-stop : n ≤ depth → Advances (collect_entries (context_in main supplementary lists addresses w₀ d) (descendants_of depth (entries_from main p))) main supplementary name d none_later 0 w₀ t₀ u₀ s₀ w t u s
-          collecting-stop h = ended (none-stop main at r reads tag start len next e C.placed is depth en h)
+        module _ (h : depth < n) {w' t' u' : List ℕ} {m : ℕ} {s' : Walk}
+            (A : Advances (step_entry (context_in main supplementary lists addresses w d) (entry_here main at)) main supplementary name d (ranges_later main (at + 15)) (entries_left main (at + 15)) w t u s w' t' u' m s') where
+          entries-are : descendants_of depth (entries_from main at) ≡ entry_here main at ∷ descendants_of depth (entries_from main f.next)
+          entries-are = ap (descendants_of depth) (from-entry main at f there is) ∙ below-cons depth (entry_here main at) (entries_from main f.next) (omega (arith, depth_is))
 
-          module _ (h : depth < n) {w' t' u' : List ℕ} {s' : Walk}
-              (A : Advances (step_entry (context_in main supplementary lists addresses w d) (entry_here main at)) main supplementary name d (ranges_later main (at + 15)) (entries_left main (at + 15)) w t u s w' t' u' s') where
-            entries-are : descendants_of depth (entries_from main at) ≡ entry_here main at ∷ descendants_of depth (entries_from main next)
-            entries-are = ap (descendants_of depth) (from-entry main at r reads tag start len next e is) ∙ below-cons depth (entry_here main at) (entries_from main next) (omega (arith, depth_is))
+          begun : (ns : List InlineNode) (ws : List Warning)
+              → collect_entries (context_in main supplementary lists addresses w₀ d) (descendants_of depth (entries_from main p)) (walk_of main supplementary d w₀ s₀ ns ws)
+              ≡ collect_entries (context_in main supplementary lists addresses w d) (entry_here main at ∷ descendants_of depth (entries_from main f.next)) (walk_of main supplementary d w s (ns ++ C.nodes) (ws ++ C.warnings))
+          begun ns ws = sym (C.left ns ws) ∙ (λ i. collect_entries (sym C.same i) (entries-are i) (walk_of main supplementary d w s (ns ++ C.nodes) (ws ++ C.warnings)))
 
-            begun : (ns : List InlineNode) (ws : List Warning)
-                → collect_entries (context_in main supplementary lists addresses w₀ d) (descendants_of depth (entries_from main p)) (walk_of main supplementary d w₀ s₀ ns ws)
-                ≡ collect_entries (context_in main supplementary lists addresses w d) (entry_here main at ∷ descendants_of depth (entries_from main next)) (walk_of main supplementary d w s (ns ++ C.nodes) (ws ++ C.warnings))
-            begun ns ws = sym (C.left ns ws) ∙ (λ i. collect_entries (sym C.same i) (entries-are i) (walk_of main supplementary d w s (ns ++ C.nodes) (ws ++ C.warnings)))
+          pub collecting-refused : {s'' : Walk} → (m ≡ 0 → ⊥) → Advances (collect_entries (context_in main supplementary lists addresses w₀ d) (descendants_of depth (entries_from main p))) main supplementary name d none_later 0 w₀ t₀ u₀ s₀ w' t' u' m s''
+          collecting-refused z = advance-refused z (kept_trans C.kept A.kept) (λ ns ws. begun ns ws ∙ entries-refused (context_in main supplementary lists addresses w d) (entry_here main at) _ _ m (A.no z (ns ++ C.nodes) (ws ++ C.warnings)))
 
-            pub collecting-refused : (s'.status ≡ 0 → ⊥) → Advances (collect_entries (context_in main supplementary lists addresses w₀ d) (descendants_of depth (entries_from main p))) main supplementary name d none_later 0 w₀ t₀ u₀ s₀ w' t' u' s'
-            collecting-refused z = advance-refused z (kept_trans C.kept A.kept) (λ ns ws. begun ns ws ∙ entries-refused (context_in main supplementary lists addresses w d) (entry_here main at) _ _ s'.status (A.no z (ns ++ C.nodes) (ws ++ C.warnings)))
-
-            pub collecting-entry : s'.status ≡ 0 → length w' ≡ length w → Collecting main supplementary lists addresses name d p depth w₀ t₀ u₀ s₀ w' t' u' s' next
-            collecting-entry z l =
-                let same : context_in main supplementary lists addresses w' d ≡ context_in main supplementary lists addresses w d = context-kept C.details A.kept (omega arith) in
-                record {
-                  placed = placed-next main at r tag start len next C.placed reads e;
-                  known = known-entry main at r reads tag start len next e C.known is;
-                  details = details_kept C.details A.kept (omega arith) l;
-                  same = same ∙ C.same;
-                  fits = rw next-is (A.fits z);
-                  status = z;
-                  nodes = C.nodes ++ A.nodes;
-                  warnings = C.warnings ++ A.warnings;
-                  laid = rw (new-append name d.range s₀.nodes C.nodes A.nodes) (C.laid then rw C.count at (A.laid z));
-                  warned = rw (warnings-append C.warnings A.warnings) (C.warned then A.warned z);
-                  begins = C.begins;
-                  past = rw (new-append name d.range s₀.nodes C.nodes A.nodes) (past-append C.begins C.laid s₀.past _ C.past (rw C.count at (A.past z)));
-                  count = omega (arith, A.count z, C.count, length-append C.nodes A.nodes);
-                  kept = kept_trans C.kept A.kept;
-                  size = l ∙ C.size;
-                  records-size = put-length (A.laid z) ∙ C.records-size;
-                  warnings-size = put-length (A.warned z) ∙ C.warnings-size;
-                  left = λ ns ws. sym (begun ns ws
-                      ∙ entries_next (context_in main supplementary lists addresses w d) (entry_here main at) (descendants_of depth (entries_from main next)) _ _ (A.ok z (ns ++ C.nodes) (ws ++ C.warnings))
-                      ∙ (λ i. collect_entries (C.same i) (descendants_of depth (entries_from main next)) (walk_of main supplementary d w' s' (append_assoc ns C.nodes A.nodes i) (append_assoc ws C.warnings A.warnings i))));
-                }
+          pub collecting-entry : m ≡ 0 → length w' ≡ length w → Collecting main supplementary lists addresses name d p depth w₀ t₀ u₀ s₀ w' t' u' s' f.next
+          collecting-entry z l =
+              let same : context_in main supplementary lists addresses w' d ≡ context_in main supplementary lists addresses w d = context-kept C.details A.kept (omega arith) in
+              record {
+                placed = placed-next main at (step_at main at) f.tag f.start f.len f.next C.placed refl (is-step main at f there);
+                known = known-entry main at f there C.known is;
+                details = details_kept C.details A.kept (omega arith) l;
+                same = same ∙ C.same;
+                fits = rw next-is (A.fits z);
+                nodes = C.nodes ++ A.nodes;
+                warnings = C.warnings ++ A.warnings;
+                laid = rw (new-append name d.range s₀.nodes C.nodes A.nodes) (C.laid then rw C.count at (A.laid z));
+                warned = rw (warnings-append C.warnings A.warnings) (C.warned then A.warned z);
+                begins = C.begins;
+                past = rw (new-append name d.range s₀.nodes C.nodes A.nodes) (past-append C.begins C.laid s₀.past _ C.past (rw C.count at (A.past z)));
+                count = omega (arith, A.count z, C.count, length-append C.nodes A.nodes);
+                kept = kept_trans C.kept A.kept;
+                size = l ∙ C.size;
+                records-size = put-length (A.laid z) ∙ C.records-size;
+                warnings-size = put-length (A.warned z) ∙ C.warnings-size;
+                left = λ ns ws. sym (begun ns ws
+                    ∙ entries_next (context_in main supplementary lists addresses w d) (entry_here main at) (descendants_of depth (entries_from main f.next)) _ _ (A.ok z (ns ++ C.nodes) (ws ++ C.warnings))
+                    ∙ (λ i. collect_entries (C.same i) (descendants_of depth (entries_from main f.next)) (walk_of main supplementary d w' s' (append_assoc ns C.nodes A.nodes i) (append_assoc ws C.warnings A.warnings i))));
+              }

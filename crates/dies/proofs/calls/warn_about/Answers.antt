@@ -6,17 +6,17 @@ use Rattle.dies.proofs.calls.warn_about.Goals as goal
 pub overflow_add-unit : goal.overflow_add-unit
 overflow_add-unit c = omega (arith, unit-read c.requires.accepted c.requires.entry_known)
 
-pub read_u64-base-requires : goal.read_u64-base-requires
-read_u64-base-requires c = unit-read c.requires.accepted c.requires.entry_known
+pub read-base-requires : goal.read-base-requires
+read-base-requires c = unit-read c.requires.accepted c.requires.entry_known
 
 pub overflow_add-p : goal.overflow_add-p
 overflow_add-p c = omega (arith, entry_read c.requires.accepted c.requires.entry_known)
 
-pub read_u64-offset-requires : goal.read_u64-offset-requires
-read_u64-offset-requires c = omega (arith, entry_read c.requires.accepted c.requires.entry_known)
+pub read-requires : goal.read-requires
+read-requires c = omega (arith, entry_read c.requires.accepted c.requires.entry_known)
 
-pub returns-then-base-offset : goal.returns-then-base-offset
-returns-then-base-offset c = about-refused c.requires.accepted c.requires.entry_known c.read_u64-base.ensures c.read_u64-offset.ensures c.if-base-offset.true
+pub returns-in_default : goal.returns-in_default
+returns-in_default c = about-refused c.requires.accepted c.requires.entry_known c.read-base.ensures c.read.ensures c.in_default.ensures
 
 pub returns : goal.returns
-returns c = about-put c.requires.accepted c.requires.entry_known c.read_u64-base.ensures c.read_u64-offset.ensures (omega arith) c.if-base-offset.false c.put_warning.ensures
+returns c = about-put c.requires.accepted c.requires.entry_known c.read-base.ensures c.read.ensures c.in-Some.ensures.0 c.in-Some.ensures.1 c.put_warning.ensures

@@ -1,19 +1,13 @@
 -- `dies::extract_subprogram_details` meets its contract.
-use mathlib.Core.Path.{ap}
-use mathlib.Core.Bool.{not}
+use mathlib.Core.Path.{◌≡◌, refl, sym, ◌∙◌}
+use mathlib.Core.Bool.{true, false, ◌||◌}
 use native.Mathlib.Omega.{arith}
-use borrow.Author.Tests.{not-true}
-use Rattle.dies.proofs.dies.ExtractLaws.{extracts-inlines, extracts-sites, extracts-off, extracts-none}
+use Rattle.dies.proofs.dies.ExtractLaws.{switched, extracts-off, extracts-none}
+use Rattle.dies.proofs.dies.extract_subprogram_details.Goals.{else-has_entries-via-then-has_entries+else-d-2, then-d, else-d, else-has_entries-via-else-has_entries}
 use Rattle.dies.proofs.dies.extract_subprogram_details.Goals as goal
 
-pub returns-then-not-has_entries : goal.returns-then-not-has_entries
-returns-then-not-has_entries c = extracts-none (c.has_entries.ensures (not-true _ (ap not c.if-not-has_entries.true))) (omega arith) (omega arith) (omega arith) (omega arith)
-
-pub returns-then-d : goal.returns-then-d
-returns-then-d c = extracts-inlines c.if-d.true c.collect_descendants.ensures
-
 pub returns-then-d-2 : goal.returns-then-d-2
-returns-then-d-2 c = extracts-sites c.if-d.false c.if-d-2.true c.collect_descendants-then-d-2.ensures
+returns-then-d-2 c = let on : (c.args.d.include_inlines || c.args.d.include_call_sites) ≡ true = elim c.if-d.branch [ then-d w ↦ rw w.if-d.true | else-d w ↦ rw w.if-d.false (sym w.value-is ∙ c.if-d-2.true) ] in switched _ on c.collect_descendants.ensures
 
 pub returns : goal.returns
-returns c = extracts-off c.if-d.false c.if-d-2.false (omega arith) (omega arith) (omega arith) (omega arith)
+returns c = elim c.else-has_entries.branch [ else-has_entries-via-then-has_entries+else-d-2 w ↦ extracts-off (elim w.if-d.branch [ then-d x ↦ absurd (cc) | else-d x ↦ rw x.if-d.false (sym x.value-is ∙ w.if-d-2.false) ]) (omega arith) (omega arith) (omega arith) (omega arith) | else-has_entries-via-else-has_entries w ↦ extracts-none (c.has_entries.ensures w.if-has_entries.false) (omega arith) (omega arith) (omega arith) (omega arith) ]

@@ -3,4 +3,4 @@ use Rattle.dies.proofs.WalkStateLaws.{shut_is}
 use Rattle.dies.proofs.walk.close.Goals as goal
 
 pub returns : goal.returns
-returns c = shut_is c.requires.details_in c.requires.fits c.finish_inlines-left.ensures c.finish_call_sites-c.ensures
+returns c = shut_is c.requires.details_in c.requires.fits c.finish_inlines-left.ensures c.finish_call_sites-sites.ensures

@@ -4,6 +4,7 @@ use mathlib.Core.Path.{◌∙◌}
 use Rattle.dies.specs.DetailState.{none_later}
 use Rattle.dies.proofs.CallLaws.{entry_read}
 use Rattle.dies.proofs.WalkStateLaws.{fits-less}
+use Rattle.dies.proofs.NodeStepLaws.{or-any}
 use Rattle.dies.proofs.SiteStepLaws.{details-accepted}
 use Rattle.dies.proofs.walk.CollectLaws.{shut-fits, shut-details, one-inline, one-site, one-site-off, one-inline-off, one-other}
 use Rattle.dies.proofs.walk.collect_entry.Goals as goal
@@ -11,11 +12,8 @@ use Rattle.dies.proofs.walk.collect_entry.Goals as goal
 pub overflow_add-p : goal.overflow_add-p
 overflow_add-p c = omega (arith, entry_read (details-accepted c.requires.details_in) c.requires.entry_known)
 
-pub read_u16-depth-requires : goal.read_u16-depth-requires
-read_u16-depth-requires c = omega (arith, entry_read (details-accepted c.requires.details_in) c.requires.entry_known)
-
-pub close-c-requires-clause-details_in : goal.close-c-requires-clause-details_in
-close-c-requires-clause-details_in c = c.requires.details_in
+pub read-depth-requires : goal.read-depth-requires
+read-depth-requires c = omega (arith, entry_read (details-accepted c.requires.details_in) c.requires.entry_known)
 
 pub close-c-requires-clause-fits : goal.close-c-requires-clause-fits
 close-c-requires-clause-fits c = fits-less c.requires.fits none_later 0 (omega arith) (omega arith) (omega arith)
@@ -23,47 +21,32 @@ close-c-requires-clause-fits c = fits-less c.requires.fits none_later 0 (omega a
 pub overflow_add-p-2 : goal.overflow_add-p-2
 overflow_add-p-2 c = omega (arith, entry_read (details-accepted c.requires.details_in) c.requires.entry_known)
 
-pub read_u16-tag-requires : goal.read_u16-tag-requires
-read_u16-tag-requires c = omega (arith, entry_read (details-accepted c.requires.details_in) c.requires.entry_known)
+pub read-tag-requires : goal.read-tag-requires
+read-tag-requires c = omega (arith, entry_read (details-accepted c.requires.details_in) c.requires.entry_known)
 
 pub make_call_site-requires-clause-details_in : goal.make_call_site-requires-clause-details_in
-make_call_site-requires-clause-details_in c = shut-details c.args.name.now c.args.records.now c.args.warnings.now c.requires.details_in c.requires.entry_known c.requires.fits c.read_u16-depth.ensures c.read_u16-tag.ensures c.close-c.ensures c.close-c.auto.work
-
-pub make_call_site-requires-clause-entry_known : goal.make_call_site-requires-clause-entry_known
-make_call_site-requires-clause-entry_known c = c.requires.entry_known
+make_call_site-requires-clause-details_in c = shut-details c.args.name.now c.args.records.now c.args.warnings.now c.requires.details_in c.requires.entry_known c.requires.fits c.read-depth.ensures c.read-tag.ensures c.close-c.ensures c.close-c.auto.work
 
 pub make_call_site-requires-clause-fits : goal.make_call_site-requires-clause-fits
-make_call_site-requires-clause-fits c = shut-fits c.args.name.now c.args.records.now c.args.warnings.now c.requires.details_in c.requires.entry_known c.requires.fits c.read_u16-depth.ensures c.read_u16-tag.ensures c.close-c.ensures
-
-pub make_call_site-requires-clause-status_value : goal.make_call_site-requires-clause-status_value
-make_call_site-requires-clause-status_value c = c.close-c.ensures.status ∙ c.requires.status_value.0
+make_call_site-requires-clause-fits c = shut-fits c.args.name.now c.args.records.now c.args.warnings.now c.requires.details_in c.requires.entry_known c.requires.fits c.read-depth.ensures c.read-tag.ensures c.close-c.ensures
 
 pub returns-then-d : goal.returns-then-d
-returns-then-d c = one-site _ _ _ c.requires.details_in c.requires.entry_known c.requires.fits c.read_u16-depth.ensures c.read_u16-tag.ensures c.close-c.ensures c.args.lists.now c.args.addresses.now (omega arith) (omega arith) c.if-d.true c.if-tag-eq-DW_TAG_CALL_SITE.true (c.make_call_site.ensures _ _)
+returns-then-d c = or-any _ _ _ (one-site _ _ _ c.requires.details_in c.requires.entry_known c.requires.fits c.read-depth.ensures c.read-tag.ensures c.close-c.ensures c.args.lists.now c.args.addresses.now (omega arith) (omega arith) c.if-d.true c.if-tag-eq-DW_TAG_CALL_SITE.true (c.make_call_site.ensures _ _))
 
 pub returns-then-tag-eq-DW_TAG_CALL_SITE : goal.returns-then-tag-eq-DW_TAG_CALL_SITE
-returns-then-tag-eq-DW_TAG_CALL_SITE c = one-site-off _ _ _ c.requires.details_in c.requires.entry_known c.requires.fits c.read_u16-depth.ensures c.read_u16-tag.ensures c.close-c.ensures c.args.lists.now c.args.addresses.now (omega arith) (omega arith) c.requires.status_value.0 c.if-d.false c.if-tag-eq-DW_TAG_CALL_SITE.true
+returns-then-tag-eq-DW_TAG_CALL_SITE c = one-site-off _ _ _ c.requires.details_in c.requires.entry_known c.requires.fits c.read-depth.ensures c.read-tag.ensures c.close-c.ensures c.args.lists.now c.args.addresses.now (omega arith) (omega arith) c.if-d.false c.if-tag-eq-DW_TAG_CALL_SITE.true
 
 pub make_inline_node-requires-clause-details_in : goal.make_inline_node-requires-clause-details_in
-make_inline_node-requires-clause-details_in c = shut-details c.args.name.now c.args.records.now c.args.warnings.now c.requires.details_in c.requires.entry_known c.requires.fits c.read_u16-depth.ensures c.read_u16-tag.ensures c.close-c.ensures c.close-c.auto.work
-
-pub make_inline_node-requires-clause-entry_known : goal.make_inline_node-requires-clause-entry_known
-make_inline_node-requires-clause-entry_known c = c.requires.entry_known
+make_inline_node-requires-clause-details_in c = shut-details c.args.name.now c.args.records.now c.args.warnings.now c.requires.details_in c.requires.entry_known c.requires.fits c.read-depth.ensures c.read-tag.ensures c.close-c.ensures c.close-c.auto.work
 
 pub make_inline_node-requires-clause-fits : goal.make_inline_node-requires-clause-fits
-make_inline_node-requires-clause-fits c = shut-fits c.args.name.now c.args.records.now c.args.warnings.now c.requires.details_in c.requires.entry_known c.requires.fits c.read_u16-depth.ensures c.read_u16-tag.ensures c.close-c.ensures
-
-pub make_inline_node-requires-clause-status_value : goal.make_inline_node-requires-clause-status_value
-make_inline_node-requires-clause-status_value c = (c.close-c.ensures.status ∙ c.requires.status_value.0, c.requires.status_value.1)
-
-pub make_inline_node-requires-clause-range_least_len : goal.make_inline_node-requires-clause-range_least_len
-make_inline_node-requires-clause-range_least_len c = c.requires.range_least_len
+make_inline_node-requires-clause-fits c = shut-fits c.args.name.now c.args.records.now c.args.warnings.now c.requires.details_in c.requires.entry_known c.requires.fits c.read-depth.ensures c.read-tag.ensures c.close-c.ensures
 
 pub returns-then-d-2 : goal.returns-then-d-2
-returns-then-d-2 c = one-inline _ _ _ c.requires.details_in c.requires.entry_known c.requires.fits c.read_u16-depth.ensures c.read_u16-tag.ensures c.close-c.ensures c.args.lists.now c.args.addresses.now c.if-d-2.true c.if-tag-eq-DW_TAG_INLINED_SUBROUTINE.true c.make_inline_node.ensures
+returns-then-d-2 c = or-any _ _ _ (one-inline _ _ _ c.requires.details_in c.requires.entry_known c.requires.fits c.read-depth.ensures c.read-tag.ensures c.close-c.ensures c.args.lists.now c.args.addresses.now c.if-d-2.true c.if-tag-eq-DW_TAG_INLINED_SUBROUTINE.true c.make_inline_node.ensures)
 
 pub returns-then-tag-eq-DW_TAG_INLINED_SUBROUTINE : goal.returns-then-tag-eq-DW_TAG_INLINED_SUBROUTINE
-returns-then-tag-eq-DW_TAG_INLINED_SUBROUTINE c = one-inline-off _ _ _ c.requires.details_in c.requires.entry_known c.requires.fits c.read_u16-depth.ensures c.read_u16-tag.ensures c.close-c.ensures c.args.lists.now c.args.addresses.now (omega arith) (omega arith) c.requires.status_value.0 c.if-d-2.false c.if-tag-eq-DW_TAG_INLINED_SUBROUTINE.true
+returns-then-tag-eq-DW_TAG_INLINED_SUBROUTINE c = one-inline-off _ _ _ c.requires.details_in c.requires.entry_known c.requires.fits c.read-depth.ensures c.read-tag.ensures c.close-c.ensures c.args.lists.now c.args.addresses.now (omega arith) (omega arith) c.if-d-2.false c.if-tag-eq-DW_TAG_INLINED_SUBROUTINE.true
 
 pub returns : goal.returns
-returns c = one-other _ _ _ c.requires.details_in c.requires.entry_known c.requires.fits c.read_u16-depth.ensures c.read_u16-tag.ensures c.close-c.ensures c.args.lists.now c.args.addresses.now (omega arith) (omega arith) c.requires.status_value.0 c.if-tag-eq-DW_TAG_CALL_SITE.false c.if-tag-eq-DW_TAG_INLINED_SUBROUTINE.false
+returns c = one-other _ _ _ c.requires.details_in c.requires.entry_known c.requires.fits c.read-depth.ensures c.read-tag.ensures c.close-c.ensures c.args.lists.now c.args.addresses.now (omega arith) (omega arith) c.if-tag-eq-DW_TAG_CALL_SITE.false c.if-tag-eq-DW_TAG_INLINED_SUBROUTINE.false
