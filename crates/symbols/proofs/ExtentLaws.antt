@@ -21,7 +21,7 @@ use Rattle.ranges.proofs.ReorderLaws.{reordered-all, reordered-merge}
 use Rattle.lookup.specs.Lookup.{holds}
 use Rattle.lookup.proofs.DemandLaws.{some_holds}
 use Rattle.symbols.specs.declared.extents.Extents.{Extents}
-use Rattle.symbols.specs.declared.extents.Gathered.{Gathered}
+use Rattle.std.specs.Prelude.{Option, Some, None}
 use Rattle.symbols.specs.Walk.{ranges_in}
 use Rattle.symbols.specs.Extents.{Lying, HeldIn, Known, GatheredIn, Remembered}
 use Rattle.symbols.proofs.SoughtLaws.{exists-holds, same_test}
@@ -60,65 +60,51 @@ settled h o m = record { ranges = m.ranges ∙ reordered-merge o h; apart = m.ap
 
 -- ---- the tables of a tray
 
-no_table : (w : List ℕ) → Lying w (record { fast = false; functions = 0; base = 0; merged = 0; added = 0 })
-no_table w = record {
-  below = omega arith;
-  within = omega arith;
-  some = omega arith;
-  first = rw (ranges-nil w 0) tt;
-  second = rw (ranges-nil w 0) tt;
-  filled = rw (ranges-nil w 0) tt;
-}
-
-pub known-none : (rs : List AddressRange) (w : List ℕ) → Known rs w (record { fast = false; functions = 0; base = 0; merged = 0; added = 0 })
-known-none rs w = record { lying = no_table w; same = λ e. absurd (false≢true e) }
-
-pub learned : {s w₁ w₂ : List ℕ} {g : Gathered} {k : ℕ} → GatheredIn s w₁ g → not g.fast ≡ false → MergedAt w₁ w₂ 0 g.n k → length w₂ ≡ length w₁
-    → Known (ranges_in s) w₂ (record { fast = true; functions = k; base = g.n * 16; merged = 0; added = 0 })
-learned {s} {w₁} {w₂} {g} {k} got fast m e =
-    let is : ranges_at w₂ 0 k ≡ coalesce_ranges (ranges_in s) = m.ranges ∙ ap coalesce_ranges (got.ranges (not-false g.fast fast)) in
+pub learned : {s w₁ w₂ : List ℕ} {n k : ℕ} → GatheredIn s w₁ (Some n) → MergedAt w₁ w₂ 0 n k → length w₂ ≡ length w₁
+    → Known (ranges_in s) w₂ (Some (record { functions = k; base = n * 16; merged = 0; added = 0 }))
+learned {s} {w₁} {w₂} {n} {k} g m e =
+    let got = g.is in
+    let is : ranges_at w₂ 0 k ≡ coalesce_ranges (ranges_in s) = m.ranges ∙ ap coalesce_ranges got.ranges in
     let few = m.few in
     let room = got.within in
-    let nil = ranges-nil w₂ (g.n * 16) in
+    let nil = ranges-nil w₂ (n * 16) in
     record {
-      lying = record { below = omega arith; within = omega arith; some = omega arith; first = m.apart; second = rw nil tt; filled = rw nil tt };
-      same = λ _ a. (
-        λ h. ⊎_elim (λ x. (merge-holds (ranges_in s) a).0 (subst (λ (l : List AddressRange). Holds l a) is x))
-            (λ x. absurd (subst (λ (l : List AddressRange). Holds l a) nil x)) h,
-        λ h. inl (subst (λ (l : List AddressRange). Holds l a) (sym is) ((merge-holds (ranges_in s) a).1 h)),
-      );
+      is = record {
+        lying = record { below = omega arith; within = omega arith; some = omega arith; first = m.apart; second = rw nil tt; filled = rw nil tt };
+        same = λ a. (
+          λ h. ⊎_elim (λ x. (merge-holds (ranges_in s) a).0 (subst (λ (l : List AddressRange). Holds l a) is x))
+              (λ x. absurd (subst (λ (l : List AddressRange). Holds l a) nil x)) h,
+          λ h. inl (subst (λ (l : List AddressRange). Holds l a) (sym is) ((merge-holds (ranges_in s) a).1 h)),
+        );
+      };
     }
 
 -- ---- one range more
 
-module _ {w : List ℕ} {e : Extents} (x : AddressRange) where
-  pub remember-slow : not e.fast ≡ true → Remembered w w e x e
-  remember-slow h = record { grown = λ rs k. record { lying = k.lying; same = λ f. absurd (true≢false (sym f ∙ not-true e.fast h)) } }
-
-  pub remember-full : Remembered w w e x (record { fast = false; functions = 0; base = 0; merged = 0; added = 0 })
-  remember-full = record { grown = λ rs k. known-none (rs ++ (x ∷ [])) w }
+pub remember-none : {w w' : List ℕ} {tables : Option Extents} (x : AddressRange) → Remembered w w' tables x None
+remember-none x = record { grown = λ rs k. record { is = tt } }
 
 -- the second table holds what it held and the range, however it now stands there
-grown-by : {w w' : List ℕ} {e : Extents} (x : AddressRange) (m n : ℕ) → not e.fast ≡ false
-    → Lying w' (record { fast = true; functions = e.functions; base = e.base; merged = m; added = n })
+grown-by : {w w' : List ℕ} {e : Extents} (x : AddressRange) (m n : ℕ)
+    → Lying w' (record { functions = e.functions; base = e.base; merged = m; added = n })
     → ranges_at w' 0 e.functions ≡ ranges_at w 0 e.functions
     → ((y : ℕ) → Holds (ranges_at w' e.base n) y ↔ Holds (ranges_at w e.base e.added ++ (x ∷ [])) y)
-    → Remembered w w' e x (record { fast = true; functions = e.functions; base = e.base; merged = m; added = n })
-grown-by {w} {w'} {e} x m n f lying first held = record { grown = λ rs k. record { lying = lying; same = λ _ y. (to rs k y, from rs k y) } }
+    → Remembered w w' (Some e) x (Some (record { functions = e.functions; base = e.base; merged = m; added = n }))
+grown-by {w} {w'} {e} x m n lying first held = record { grown = λ rs k. record { is = record { lying = lying; same = λ y. (to rs k y, from rs k y) } } }
   where
-    to : (rs : List AddressRange) → Known rs w e → (y : ℕ)
-        → HeldIn w' (record { fast = true; functions = e.functions; base = e.base; merged = m; added = n }) y → Holds (rs ++ (x ∷ [])) y
-    to rs k y (inl h) = held-left y rs (x ∷ []) ((k.same (not-false e.fast f) y).0 (inl (subst (λ (q : List AddressRange). Holds q y) first h)))
+    to : (rs : List AddressRange) → Known rs w (Some e) → (y : ℕ)
+        → HeldIn w' (record { functions = e.functions; base = e.base; merged = m; added = n }) y → Holds (rs ++ (x ∷ [])) y
+    to rs k y (inl h) = held-left y rs (x ∷ []) ((k.is.same y).0 (inl (subst (λ (q : List AddressRange). Holds q y) first h)))
     to rs k y (inr h) =
-        ⊎_elim (λ u. held-left y rs (x ∷ []) ((k.same (not-false e.fast f) y).0 (inr u))) (λ u. held-right y rs (x ∷ []) u)
+        ⊎_elim (λ u. held-left y rs (x ∷ []) ((k.is.same y).0 (inr u))) (λ u. held-right y rs (x ∷ []) u)
         (held-split y (ranges_at w e.base e.added) (x ∷ []) ((held y).0 h))
 
-    from : (rs : List AddressRange) → Known rs w e → (y : ℕ) → Holds (rs ++ (x ∷ [])) y
-        → HeldIn w' (record { fast = true; functions = e.functions; base = e.base; merged = m; added = n }) y
+    from : (rs : List AddressRange) → Known rs w (Some e) → (y : ℕ) → Holds (rs ++ (x ∷ [])) y
+        → HeldIn w' (record { functions = e.functions; base = e.base; merged = m; added = n }) y
     from rs k y h =
         ⊎_elim
         (λ u. ⊎_elim (λ v. inl (subst (λ (q : List AddressRange). Holds q y) (sym first) v))
-        (λ v. inr ((held y).1 (held-left y (ranges_at w e.base e.added) (x ∷ []) v))) ((k.same (not-false e.fast f) y).1 u))
+        (λ v. inr ((held y).1 (held-left y (ranges_at w e.base e.added) (x ∷ []) v))) ((k.is.same y).1 u))
         (λ u. inr ((held y).1 (held-right y (ranges_at w e.base e.added) (x ∷ []) u))) (held-split y rs (x ∷ []) h)
 
 turned_round : (y : ℕ) (x : AddressRange) (rs : List AddressRange) → Holds (x ∷ rs) y ↔ Holds (rs ++ (x ∷ [])) y
@@ -147,17 +133,17 @@ module _ {w w₁ : List ℕ} {e : Extents} (x : AddressRange) (l : Lying w e) (f
   pub pushed-filled : All Nonempty (ranges_at w₁ e.base (e.added + 1))
   pushed-filled = rw pushed (all_append Nonempty (ranges_at w e.base e.added) (x ∷ []) l.filled (full, tt))
 
-module _ {w w₁ : List ℕ} {e : Extents} (x : AddressRange) (l : Lying w e) (f : not e.fast ≡ false)
+module _ {w w₁ : List ℕ} {e : Extents} (x : AddressRange) (l : Lying w e)
     (room : 16 ≤ length w - (e.base + e.added * 16)) where
   -- merged with all others at once
   pub remember-added : {n : ℕ} → Added w w₁ e.base e.added x n → length w₁ ≡ length w
-      → Remembered w w₁ e x (record { fast = true; functions = e.functions; base = e.base; merged = n; added = n })
+      → Remembered w w₁ (Some e) x (Some (record { functions = e.functions; base = e.base; merged = n; added = n }))
   remember-added {n} a same =
       let below = l.below in
       let within = l.within in
       let few = a.few in
       let kept : ranges_at w₁ 0 e.functions ≡ ranges_at w 0 e.functions = ranges-below 0 e.functions a.rest (omega arith) in
-      grown-by x n n f
+      grown-by x n n
       (record {
         below = l.below;
         within = omega arith;
@@ -179,12 +165,12 @@ module _ {w w₁ : List ℕ} {e : Extents} (x : AddressRange) (l : Lying w e) (f
     first-kept = let below = l.below in ranges-below 0 e.functions put.rest (omega arith)
 
     -- behind those that are merged
-    pub remember-pushed : Remembered w w₁ e x (record { fast = true; functions = e.functions; base = e.base; merged = e.merged; added = e.added + 1 })
+    pub remember-pushed : Remembered w w₁ (Some e) x (Some (record { functions = e.functions; base = e.base; merged = e.merged; added = e.added + 1 }))
     remember-pushed =
         let within = l.within in
         let some = l.some in
         let kept : ranges_at w₁ e.base e.merged ≡ ranges_at w e.base e.merged = ranges-below e.base e.merged put.rest (omega arith) in
-        grown-by x e.merged (e.added + 1) f
+        grown-by x e.merged (e.added + 1)
         (record {
           below = l.below;
           within = omega arith;
@@ -197,14 +183,14 @@ module _ {w w₁ : List ℕ} {e : Extents} (x : AddressRange) (l : Lying w e) (f
 
     -- and then merged with all of them
     pub remember-settled : {w₂ : List ℕ} {n : ℕ} → MergedAt w₁ w₂ e.base (e.added + 1) n → length w₂ ≡ length w₁
-        → Remembered w w₂ e x (record { fast = true; functions = e.functions; base = e.base; merged = n; added = n })
+        → Remembered w w₂ (Some e) x (Some (record { functions = e.functions; base = e.base; merged = n; added = n }))
     remember-settled {w₂} {n} m again =
         let below = l.below in
         let within = l.within in
         let few = m.few in
         let kept : ranges_at w₂ 0 e.functions ≡ ranges_at w 0 e.functions = ranges-below 0 e.functions m.rest (omega arith) ∙ first-kept in
         let is : ranges_at w₂ e.base n ≡ coalesce_ranges (ranges_at w e.base e.added ++ (x ∷ [])) = m.ranges ∙ ap coalesce_ranges (pushed x l full put) in
-        grown-by x n n f
+        grown-by x n n
         (record {
           below = l.below;
           within = omega arith;
@@ -219,18 +205,18 @@ module _ {w w₁ : List ℕ} {e : Extents} (x : AddressRange) (l : Lying w e) (f
 
 -- ---- is an address held, by the tables
 
-module _ {rs : List AddressRange} {w : List ℕ} {e : Extents} (k : Known rs w e) (f : not e.fast ≡ false) (a : ℕ) (b : Bool)
+module _ {rs : List AddressRange} {w : List ℕ} {e : Extents} (k : Known rs w (Some e)) (a : ℕ) (b : Bool)
     (first : b ≡ exists (holds a) (ranges_at w 0 e.functions)) where
   pub by_first : b ≡ true → true ≡ exists (holds a) rs
-  by_first h = sym (exists-holds a rs ((k.same (not-false e.fast f) a).0 (inl (some_holds a (ranges_at w 0 e.functions) (sym first ∙ h)))))
+  by_first h = sym (exists-holds a rs ((k.is.same a).0 (inl (some_holds a (ranges_at w 0 e.functions) (sym first ∙ h)))))
 
   pub by-second : (c : Bool) → b ≡ false → c ≡ exists (holds a) (ranges_at w e.base e.added) → c ≡ exists (holds a) rs
   by-second c h second = second ∙ same_test a (ranges_at w e.base e.added) rs (to, from)
     where
       to : Holds (ranges_at w e.base e.added) a → Holds rs a
-      to q = (k.same (not-false e.fast f) a).0 (inr q)
+      to q = (k.is.same a).0 (inr q)
 
       from : Holds rs a → Holds (ranges_at w e.base e.added) a
       from q =
           ⊎_elim (λ u. absurd (true≢false (sym (exists-holds a (ranges_at w 0 e.functions) u) ∙ sym first ∙ h))) (λ u. u)
-          ((k.same (not-false e.fast f) a).1 q)
+          ((k.is.same a).1 q)

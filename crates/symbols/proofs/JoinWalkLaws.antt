@@ -9,6 +9,9 @@ use lib.Dec.{eqb}
 use lib.ListN.{length, take, drop, length-drop}
 use lib.Seq.{drop-drop, length-take-le}
 use borrow.Author.Tests.{eq-eqb, ne_eqb}
+use Rattle.std.specs.Prelude.{Option, Some, None}
+use Rattle.std.specs.Option.{is_some}
+use Rattle.std.proofs.lemmas.List.{take_all}
 use Rattle.tlv.specs.declared.model.AddressRange.{AddressRange}
 use Rattle.tlv.specs.Lists.{exists, first, is_empty}
 use Rattle.tlv.specs.Bytes.{le_at}
@@ -46,24 +49,11 @@ first_some p f (x ∷ xs) y e = go (p (f x)) e (first_some p f xs y)
     go true q ih = refl
     go false q ih = ih q
 
-module _ (t : List ℕ) (a : ℕ) (r : FunctionPlace) (f : FunctionFound t a r) where
-  pub held-not : r ≡ FunctionPlace.Missing → false ≡ exists (holds a) (ranges_in t)
-  held-not e = sym (first-none (holds a) function_range (functions_at t) (subst (FunctionFound t a) e f))
-
-  pub held-so : (p own : ℕ) → r ≡ FunctionPlace.At p own → true ≡ exists (holds a) (ranges_in t)
-  held-so p own e = let h = subst (FunctionFound t a) e f in sym (first_some (holds a) function_range (functions_at t) h.function h.is)
+pub held-as : (t : List ℕ) (a : ℕ) (o : Option FunctionPlace) → FunctionFound t a o → is_some o ≡ exists (holds a) (ranges_in t)
+held-as t a None f = sym (first-none (holds a) function_range (functions_at t) f)
+held-as t a (Some p) f = sym (first_some (holds a) function_range (functions_at t) f.function f.is)
 
 -- ---- one symbol
-
-drop_take : (k : ℕ) (l : List ℕ) (m : ℕ) → k ≤ m → drop k (take m l) ≡ take (m - k) (drop k l)
-drop_take zero l m h = let e : m ≡ m - 0 = omega arith in ap (λ (i : ℕ). take i l) e
-drop_take (suc k) l zero h = absurd (omega arith)
-drop_take (suc k) [] (suc m) h = none-taken (suc m - suc k)
-  where
-    none-taken : (i : ℕ) → ◌≡◌ {A = List ℕ} [] (take i [])
-    none-taken zero = refl
-    none-taken (suc i) = refl
-drop_take (suc k) (y ∷ l) (suc m) h = let e : m - k ≡ suc m - suc k = omega arith in drop_take k l m (omega arith) ∙ ap (λ (i : ℕ). take i (drop k l)) e
 
 module _ (rs : List AddressRange) (m : Symbol) where
   laid-passed : passed_over m ≡ true → laid_for rs m ≡ []
@@ -102,77 +92,65 @@ not-passed m h k = rw (ne_eqb m.range.start m.range.end h) (go m.name k)
     go [] q = absurd (q refl)
     go (y ∷ l) q = refl
 
-module _ (s : List ℕ) (start len : ℕ) (fits : start + len ≤ length s) (long : 16 ≤ len) (rs : List AddressRange) (x n : ℕ) (ex : x ≡ le_at 8 s start)
-    (en : n ≡ le_at 8 s (start + 8)) where
-  abbrev this : Symbol
-  this = symbol_of (take len (drop start s))
+drop-all : (k : ℕ) (l : List ℕ) → length l ≤ k → drop k l ≡ []
+drop-all k l h = empty (drop k l) (length-drop k l ∙ omega arith)
+  where
+    empty : (x : List ℕ) → length x ≡ 0 → x ≡ []
+    empty [] e = refl
+    empty (y ∷ x) e = absurd (omega arith)
 
-  range-is : this.range ≡ record { start = x; end = x + n }
+module _ (g : List ℕ) (rs : List AddressRange) (x n : ℕ) (ex : x ≡ le_at 8 g 0) (en : n ≡ le_at 8 g 8) where
+  range-is : (symbol_of g).range ≡ record { start = x; end = x + n }
   unfolding symbol_of
-  range-is = rw (number-first s start len 8 x (omega arith) ex, number_at s start len 8 8 n (omega arith) en)
+  range-is = rw (ex, en)
 
-  name-is : this.name ≡ take (len - 16) (drop (start + 16) s)
+  name-is : (symbol_of g).name ≡ drop 16 g
   unfolding symbol_of
-  name-is = drop_take 16 (drop start s) len long ∙ ap (take (len - 16)) (drop-drop 16 start s)
+  name-is = refl
 
-  start_is : this.range.start ≡ x
+  start_is : (symbol_of g).range.start ≡ x
   start_is = ap (λ (r : AddressRange). r.start) range-is
 
-  end_is : this.range.end ≡ x + n
+  end_is : (symbol_of g).range.end ≡ x + n
   end_is = ap (λ (r : AddressRange). r.end) range-is
 
-  held-is : exists (holds this.range.start) rs ≡ exists (holds x) rs
+  held-is : exists (holds (symbol_of g).range.start) rs ≡ exists (holds x) rs
   held-is = ap (λ (a : ℕ). exists (holds a) rs) start_is
 
-  pub laid-empty : n ≡ 0 → laid_for rs this ≡ []
-  laid-empty z = let a = start_is in let b = end_is in laid-passed rs this (passed-size this (omega arith))
+  pub laid-empty : n ≡ 0 → laid_for rs (symbol_of g) ≡ []
+  laid-empty z = let a = start_is in let b = end_is in laid-passed rs (symbol_of g) (passed-size (symbol_of g) (omega arith))
 
-  pub laid-nameless : len ≡ 16 → laid_for rs this ≡ []
-  laid-nameless z = let e : len - 16 ≡ 0 = omega arith in laid-passed rs this (passed-name this (name-is ∙ ap (λ (i : ℕ). take i (drop (start + 16) s)) e))
+  pub laid-nameless : length g ≡ 16 → laid_for rs (symbol_of g) ≡ []
+  laid-nameless z = laid-passed rs (symbol_of g) (passed-name (symbol_of g) (name-is ∙ drop-all 16 g (omega arith)))
 
-  pub laid-held : (b : Bool) → b ≡ exists (holds x) rs → b ≡ true → laid_for rs this ≡ []
-  laid-held b e k = laid-known rs this (held-is ∙ sym e ∙ k)
+  pub laid-held : (b : Bool) → b ≡ exists (holds x) rs → b ≡ true → laid_for rs (symbol_of g) ≡ []
+  laid-held b e k = laid-known rs (symbol_of g) (held-is ∙ sym e ∙ k)
 
   -- a symbol that has a size and a name, and whose start is not held
-  pub laid-this : (b : Bool) → (n ≡ 0 → ⊥) → (len ≡ 16 → ⊥) → b ≡ exists (holds x) rs → b ≡ false
-      → laid_for rs this ≡ encode 0x41 (function_payload (record { start = x; end = x + n }) (take (len - 16) (drop (start + 16) s)))
-  laid-this b z w e k =
+  pub laid-this : (b : Bool) → 16 ≤ length g → (n ≡ 0 → ⊥) → (length g ≡ 16 → ⊥) → b ≡ exists (holds x) rs → b ≡ false
+      → laid_for rs (symbol_of g) ≡ encode 0x41 (function_payload (record { start = x; end = x + n }) (drop 16 g))
+  laid-this b long z w e k =
       let a = start_is in
       let c = end_is in
-      let sized : this.range.start ≡ this.range.end → ⊥ = λ q. z (omega arith) in
-      let size : length (take (len - 16) (drop (start + 16) s)) ≡ len - 16 = length-take-le (len - 16) (drop (start + 16) s) (rw length-drop (omega arith)) in
-      let named : this.name ≡ [] → ⊥ = λ q. w (short-name q size) in
-      laid-new rs this (not-passed this sized named) (held-is ∙ sym e ∙ k)
-      ∙ ap (λ (r : AddressRange). encode 0x41 (function_payload r this.name)) range-is
+      let sized : (symbol_of g).range.start ≡ (symbol_of g).range.end → ⊥ = λ q. z (omega arith) in
+      let named : (symbol_of g).name ≡ [] → ⊥ = λ q. w (omega (arith, ap length (sym name-is ∙ q), length-drop 16 g)) in
+      laid-new rs (symbol_of g) (not-passed (symbol_of g) sized named) (held-is ∙ sym e ∙ k)
+      ∙ ap (λ (r : AddressRange). encode 0x41 (function_payload r (symbol_of g).name)) range-is
       ∙ ap (λ (l : List ℕ). encode 0x41 (function_payload (record { start = x; end = x + n }) l)) name-is
-    where
-      short-name : this.name ≡ [] → length (take (len - 16) (drop (start + 16) s)) ≡ len - 16 → len ≡ 16
-      short-name q size = let none : length (take (len - 16) (drop (start + 16) s)) ≡ 0 = ap length (sym name-is ∙ q) in omega arith
 
 -- the part of the result that is lent: its first `at` bytes
-part-is : (result : List ℕ) (at : ℕ) → take (at - 0) result ≡ take at result
-part-is result at = let e : at - 0 ≡ at = omega arith in ap (λ (i : ℕ). take i result) e
-
-pub stands-part : (result : List ℕ) (at : ℕ) → Standing result at → Stands (take (at - 0) result) 0
-stands-part result at s = rw (part-is result at) (record { previous = 0; depth = 0; formed = s.formed; within = omega arith })
-
-module _ (result : List ℕ) (at a : ℕ) (r : FunctionPlace) (f : FunctionFound (take (at - 0) result) a r) where
-  pub part-not : r ≡ FunctionPlace.Missing → false ≡ exists (holds a) (ranges_in (take at result))
-  part-not e = held-not (take (at - 0) result) a r f e ∙ ap (λ (l : List ℕ). exists (holds a) (ranges_in l)) (part-is result at)
-
-  pub part-so : (p own : ℕ) → r ≡ FunctionPlace.At p own → true ≡ exists (holds a) (ranges_in (take at result))
-  part-so p own e = held-so (take (at - 0) result) a r f p own e ∙ ap (λ (l : List ℕ). exists (holds a) (ranges_in l)) (part-is result at)
+pub stands-part : (result : List ℕ) (at : ℕ) → Standing result at → Stands (take at result) 0
+stands-part result at s = record { previous = 0; depth = 0; formed = s.formed; within = omega arith }
 
 -- a symbol that becomes a record is laid
-pub laid-put : {at q : ℕ} {t t' : List ℕ} (s : List ℕ) (start len : ℕ) (rs : List AddressRange) (x n : ℕ) (b : Bool)
-    → Put at (encode 0x41 (function_payload (record { start = x; end = x + n }) (take (start + len - (start + 16)) (drop (start + 16) s)))) t t' q
-    → start + len ≤ length s → 16 ≤ len → x ≡ le_at 8 s start → n ≡ le_at 8 s (start + 8) → (n ≡ 0 → ⊥) → (len ≡ 16 → ⊥) → b ≡ exists (holds x) rs → b ≡ false
-    → Put at (laid_for rs (symbol_of (take len (drop start s)))) t t' q
-laid-put {at} {q} {t} {t'} s start len rs x n b p fits long ex en z w e k =
-    let size : start + len - (start + 16) ≡ len - 16 = omega arith in
-    put_as (laid-this s start len fits long rs x n ex en b z w e k)
-    (subst (λ (i : ℕ). Put at (encode 0x41 (function_payload (record { start = x; end = x + n }) (take i (drop (start + 16) s)))) t t' q) size p)
+pub laid-put : {at q : ℕ} {t t' : List ℕ} (g : List ℕ) (rs : List AddressRange) (x n : ℕ) (b : Bool)
+    → Put at (encode 0x41 (function_payload (record { start = x; end = x + n }) (take (length g - 16) (drop 16 g)))) t t' q
+    → 16 ≤ length g → x ≡ le_at 8 g 0 → n ≡ le_at 8 g 8 → (n ≡ 0 → ⊥) → (length g ≡ 16 → ⊥) → b ≡ exists (holds x) rs → b ≡ false
+    → Put at (laid_for rs (symbol_of g)) t t' q
+laid-put {at} {q} {t} {t'} g rs x n b p long ex en z w e k =
+    let whole : take (length g - 16) (drop 16 g) ≡ drop 16 g = take_all (length g - 16) (drop 16 g) (omega (arith, length-drop 16 g)) in
+    put_as (laid-this g rs x n ex en b long z w e k)
+    (subst (λ (l : List ℕ). Put at (encode 0x41 (function_payload (record { start = x; end = x + n }) l)) t t' q) whole p)
 
-pub symbol_range-is : (s : List ℕ) (start len x n : ℕ) → start + len ≤ length s → 16 ≤ len → x ≡ le_at 8 s start → n ≡ le_at 8 s (start + 8)
-    → record { start = x; end = x + n } ≡ (symbol_of (take len (drop start s))).range
-symbol_range-is s start len x n fits long ex en = sym (range-is s start len fits long [] x n ex en)
+pub symbol_range-is : (g : List ℕ) (x n : ℕ) → x ≡ le_at 8 g 0 → n ≡ le_at 8 g 8 → record { start = x; end = x + n } ≡ (symbol_of g).range
+symbol_range-is g x n ex en = sym (range-is g [] x n ex en)

@@ -191,14 +191,12 @@ module _ {w : List ℕ} {p n a i : ℕ} (s : Looked w p n a i) where
     unfolding exists
     turn = s.rest ∙ ap (λ (l : List AddressRange). exists (holds a) l) (ranges-cons w p n i h) ∙ rw is
 
-    pub looked-below : a < x.start → Looked w p n a (i + 1)
-    looked-below l = record { within = omega arith; rest = turn ∙ rw (holds-false a x (inr l)) }
-
     pub looked-found : x.start ≤ a → a < x.end → true ≡ exists (holds a) (ranges_at w p n)
     looked-found l k = sym (turn ∙ rw (holds-true a x l k))
 
-    pub looked-above : x.start ≤ a → x.end ≤ a → Looked w p n a (i + 1)
-    looked-above l k = record { within = omega arith; rest = turn ∙ rw (holds-false a x (inl k)) }
+    pub looked-past : (x.start ≤ a) × (x.end ≤ a) ⊎ (a < x.start) → Looked w p n a (i + 1)
+    looked-past (inl q) = record { within = omega arith; rest = turn ∙ rw (holds-false a x (inl q.1)) }
+    looked-past (inr l) = record { within = omega arith; rest = turn ∙ rw (holds-false a x (inr l)) }
 
 -- ---- both parts of a table
 

@@ -1,27 +1,23 @@
 // The form of a list of symbols (26).
-ghost use Rattle.std.specs.Prelude.{◌≡◌, ◌+◌, ◌≤◌, length};
-ghost use Rattle.tlv.specs.Checked.{field_in};
+ghost use Rattle.std.specs.Prelude.{◌≡◌};
 ghost use Rattle.symbols.specs.Symbols.{symbol_formed};
 ghost use Rattle.symbols.specs.Answers.{SymbolsChecked};
 
-use crate::model::{LAST, SYMBOL_SIZE, SYMBOL_TAG};
-use tlv::bytes::read_u64;
-use tlv::fields::{Step, field_at};
+use crate::model::{SYMBOL_SIZE, SYMBOL_TAG};
+use lookup::form::payload_of;
+use tlv::bytes::Number;
+use tlv::fields::next_field;
 
 // Whether a field is a symbol that ends within 64 bits.
-fn symbol_formed(tag: u8, s: &[u8], start: usize, len: usize) -> bool
-    requires { start + len ≤ length s.now }
-    ensures { result ≡ symbol_formed (field_in s.now tag start len) }
+fn symbol_formed(tag: u8, payload: &[u8]) -> bool
+    ensures { result ≡ symbol_formed (record { tag = tag; payload = payload.now }) }
 {
-    if tag != SYMBOL_TAG {
+    if tag != SYMBOL_TAG || payload.len() < SYMBOL_SIZE {
         return false;
     }
-    if len < SYMBOL_SIZE {
-        return false;
-    }
-    let from = read_u64(s, start);
-    let size = read_u64(s, start + 8);
-    size <= LAST - from
+    let from = u64::read(payload, 0);
+    let size = u64::read(payload, 8);
+    size <= u64::MAX - from
 }
 
 // Whether every field of a list is such a symbol.
@@ -29,25 +25,15 @@ pub fn check_symbols(s: &[u8]) -> bool
     ensures { SymbolsChecked s.now result }
 {
     let mut p: usize = 0;
-    loop {
-        match field_at(s, p) {
-            Step::End => {
-                return true;
-            }
-            Step::Cut => {
-                return false;
-            }
-            Step::Field {
-                tag,
-                start,
-                len,
-                next,
-            } => {
-                if !symbol_formed(tag, s, start, len) {
-                    return false;
-                }
-                p = next;
-            }
+    // Stays a loop: each field's own length moves the place, so nothing is counted.
+    while p < s.len() {
+        let Some(field) = next_field(s, p) else {
+            return false;
+        };
+        if !symbol_formed(field.tag, payload_of(s, field)) {
+            return false;
         }
+        p = field.next;
     }
+    true
 }

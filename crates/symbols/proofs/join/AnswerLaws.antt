@@ -14,17 +14,18 @@ use Rattle.buffers.specs.Reader.{records_form}
 use Rattle.buffers.proofs.BufferLaws.{put-length, put-fits, put_whole, put-lost}
 use Rattle.lookup.specs.Tray.{functions_of}
 use Rattle.lookup.specs.Window.{fitting, listed_in}
-use Rattle.symbols.specs.declared.model.Refusal.{Refusal}
-use Rattle.symbols.specs.declared.model.Joined.{Joined}
+use Rattle.std.specs.Prelude.{Option, Result, Ok}
+use Rattle.tlv.specs.declared.refusal.Refusal.{Refusal}
+use Rattle.tlv.specs.Refusals.{number_of}
 use Rattle.symbols.specs.declared.extents.Extents.{Extents}
 use Rattle.symbols.specs.Extents.{Known}
 use Rattle.symbols.specs.Symbols.{symbols_form, joined, join_symbols}
-use Rattle.symbols.specs.Answers.{refusal_number, join_given, SymbolsChecked, JoinsWith}
+use Rattle.symbols.specs.Answers.{join_given, SymbolsChecked, JoinsWith}
 use Rattle.symbols.specs.Walk.{ranges_in, whole_from, Standing, AllJoined, Cleared}
 
 module _ (tray list result : List ℕ) where
-  cleared-as : (n : Refusal) (result₁ result₂ : List ℕ) (x : Joined) → length result₁ ≡ length result → Cleared n result₁ result₂ x
-      → (joined tray list >>= fitting 27 result) ≡ refused (refusal_number n)
+  cleared-as : (n : Refusal) (result₁ result₂ : List ℕ) (x : Result ℕ Refusal) → length result₁ ≡ length result → Cleared n result₁ result₂ x
+      → (joined tray list >>= fitting 27 result) ≡ refused (number_of n)
       → join_given x result₂ ≡ join_symbols tray list result
   unfolding join_symbols listed_in
   cleared-as n result₁ result₂ x l c e = rw (c.is, e, c.zeros, l)
@@ -34,7 +35,7 @@ module _ (tray list result : List ℕ) where
     unfolding joined functions_of ◌>>=◌
     misshapen h = rw (← form, not-true b h)
 
-    pub join-misshapen : (result₂ : List ℕ) (x : Joined) → Cleared Refusal.MisshapenRecords result result₂ x → not b ≡ true
+    pub join-misshapen : (result₂ : List ℕ) (x : Result ℕ Refusal) → Cleared Refusal.MisshapenRecords result result₂ x → not b ≡ true
         → join_given x result₂ ≡ join_symbols tray list result
     join-misshapen result₂ x c h = cleared-as Refusal.MisshapenRecords result result₂ x refl c (misshapen h)
 
@@ -43,9 +44,9 @@ module _ (tray list result : List ℕ) where
       unfolding joined functions_of ◌>>=◌
       bad k = rw (← form, not-false b h, ← check.is, not-true d k)
 
-      pub join-bad : (result₂ : List ℕ) (x : Joined) → Cleared Refusal.MisshapenSymbol result result₂ x → not d ≡ true
+      pub join-bad : (result₂ : List ℕ) (x : Result ℕ Refusal) → Cleared Refusal.MisshapenSymbols result result₂ x → not d ≡ true
           → join_given x result₂ ≡ join_symbols tray list result
-      join-bad result₂ x c k = cleared-as Refusal.MisshapenSymbol result result₂ x refl c (bad k)
+      join-bad result₂ x c k = cleared-as Refusal.MisshapenSymbols result result₂ x refl c (bad k)
 
       module _ (k : not d ≡ false) (result₁ : List ℕ) (n : ℕ) (copied : Put 0 tray result result₁ n) where
         whole : (joined tray list >>= fitting 27 result) ≡ fitting 27 result (whole_from tray list 0)
@@ -60,7 +61,7 @@ module _ (tray list result : List ℕ) where
         unfolding whole_from
         long = rw length-append (omega arith)
 
-        pub join-no-copy : (result₂ : List ℕ) (x : Joined) → length result₁ < n → Cleared Refusal.ShortResult result₁ result₂ x
+        pub join-no-copy : (result₂ : List ℕ) (x : Result ℕ Refusal) → length result₁ < n → Cleared Refusal.ShortResult result₁ result₂ x
             → join_given x result₂ ≡ join_symbols tray list result
         join-no-copy result₂ x l c =
             let p = put-lost copied l in let q = long in cleared-as Refusal.ShortResult result₁ result₂ x (put-length copied) c (too_long (omega arith))
@@ -78,14 +79,14 @@ module _ (tray list result : List ℕ) where
           pub join-standing : Standing result₁ n
           join-standing = record { within = l; formed = rw taken (sym form ∙ not-false b h) }
 
-          pub join-known : {w : List ℕ} {e : Extents} → Known (ranges_in tray) w e → Known (ranges_in (take n result₁)) w e
+          pub join-known : {w : List ℕ} {e : Option Extents} → Known (ranges_in tray) w e → Known (ranges_in (take n result₁)) w e
           join-known {w} {e} known = subst (λ (l : List ℕ). Known (ranges_in l) w e) (sym taken) known
 
           pub join-symbols-formed : symbols_form (fields list) ≡ true
           join-symbols-formed = sym check.is ∙ not-false d k
 
           module _ (result₂ : List ℕ) (q : ℕ) (all : AllJoined list result₁ result₂ n q) (same : length result₂ ≡ length result₁) where
-            pub join-short : (result₃ : List ℕ) (x : Joined) → length result₂ < q → Cleared Refusal.ShortResult result₂ result₃ x
+            pub join-short : (result₃ : List ℕ) (x : Result ℕ Refusal) → length result₂ < q → Cleared Refusal.ShortResult result₂ result₃ x
                 → join_given x result₃ ≡ join_symbols tray list result
             join-short result₃ x m c =
                 let s = put-length copied in
@@ -94,7 +95,7 @@ module _ (tray list result : List ℕ) where
                 subst (λ (y : List ℕ). length result < length (whole_from y list 0)) taken (omega arith) in
                 cleared-as Refusal.ShortResult result₂ result₃ x (same ∙ s) c (too_long w)
 
-            pub join-done : q ≤ length result₂ → join_given (Joined.Finished q) result₂ ≡ join_symbols tray list result
+            pub join-done : q ≤ length result₂ → join_given (Ok q) result₂ ≡ join_symbols tray list result
             unfolding join_symbols listed_in fitting
             join-done m =
                 let s = put-length copied in
@@ -120,7 +121,7 @@ module _ (tray list result : List ℕ) where
                     )
 
 -- work is cleared
-pub joins-with : (tray list result result' w w₁ w₂ : List ℕ) (r : Joined) → join_given r result' ≡ join_symbols tray list result → length w₁ ≡ length w
+pub joins-with : (tray list result result' w w₁ w₂ : List ℕ) (r : Result ℕ Refusal) → join_given r result' ≡ join_symbols tray list result → length w₁ ≡ length w
     → w₂ ≡ replicate (length w₁) 0
     → JoinsWith tray list result result' w w₂ r
 joins-with tray list result result' w w₁ w₂ r is l e = record { is = is; zeros = e ∙ ap (λ (n : ℕ). replicate n 0) l }

@@ -1,23 +1,24 @@
 -- The result as it grows: a records tray whose ranges are those of the records joined so far.
 use mathlib.Core.Path.{◌≡◌, refl, sym, ap, subst, ◌∙◌}
 use mathlib.Core.Bool.{true, ◌&&◌}
-use mathlib.Core.List.{List, [], ◌∷◌, ◌++◌, append-nil}
+use mathlib.Core.List.{List, [], ◌∷◌, ◌++◌, map, append-nil}
 use Prim.Native.Nat.{ℕ, zero, suc, ◌+◌, ◌^◌, ◌≤◌, ◌<◌}
 use native.Mathlib.Omega.{arith}
 use lib.Dec.{leb, ltb, eqb}
 use lib.ListN.{length, take, drop, set, length-append}
 use lib.Seq.{drop-drop, drop-set-lt, take-add, length-take-le}
 use borrow.Author.Tests.{leb-true, ltb-true}
-use Rattle.tlv.specs.declared.fields.Step.{Step}
+use Rattle.std.specs.Prelude.{Option, Some, None}
+use Rattle.tlv.specs.declared.fields.FieldSpan.{FieldSpan}
 use Rattle.tlv.specs.declared.model.AddressRange.{AddressRange}
 use Rattle.tlv.specs.Addresses.{Nonempty}
 use Rattle.tlv.specs.Bytes.{Bytes, le_at}
-use Rattle.tlv.specs.Fields.{fields, whole_fields, payloads}
-use Rattle.tlv.specs.Cursor.{step_at, fields_of}
+use Rattle.tlv.specs.Fields.{FieldList, fields, whole_fields, payloads}
+use Rattle.tlv.specs.Cursor.{field_from}
 use Rattle.tlv.specs.Checked.{field_in}
 use Rattle.tlv.proofs.TestLaws.{and_left, and_right}
 use Rattle.tlv.proofs.ListLaws.{all_drop}
-use Rattle.tlv.proofs.CursorLaws.{fields-at, fields-field, payload-within}
+use Rattle.tlv.proofs.FieldLaws.{at-none, fields-field}
 use Rattle.tlv.proofs.ShapeLaws.{part_length, number_at, number-first}
 use Rattle.buffers.specs.Buffer.{overlay, Put}
 use Rattle.buffers.specs.Output.{each_of}
@@ -32,64 +33,46 @@ use Rattle.symbols.proofs.TurnLaws.{Turned, turned}
 
 -- ---- the list: the symbol at a place, and those behind it
 
-module _ (s : List ℕ) (p : ℕ) (r : Step) (at : r ≡ step_at s p) (form : symbols_form (fields (drop p s)) ≡ true) where
-  pub none_end : r ≡ Step.End → symbols_from s p ≡ []
+pub none-left : (s : List ℕ) (p : ℕ) → None ≡ field_from s p → symbols_from s p ≡ []
+unfolding whole_fields payloads
+none-left s p at = at-none s p at (λ (fs : FieldList). map symbol_of (payloads 0x50 (whole_fields fs)) ≡ []) refl refl
+
+module _ (s : List ℕ) (p : ℕ) (f : FieldSpan) (at : Some f ≡ field_from s p) (form : symbols_form (fields (drop p s)) ≡ true) where
+  abbrev payload : List ℕ
+  payload = take f.len (drop f.start s)
+
+  both : (symbol_formed (field_in s f.tag f.start f.len) && symbols_form (fields (drop f.next s))) ≡ true
+  unfolding symbols_form
+  both = rw (fields-field s p f at) at form
+
+  formed-here : symbol_formed (field_in s f.tag f.start f.len) ≡ true
+  formed-here = and_left (symbol_formed (field_in s f.tag f.start f.len)) (symbols_form (fields (drop f.next s))) both
+
+  pub formed-next : symbols_form (fields (drop f.next s)) ≡ true
+  formed-next = and_right (symbol_formed (field_in s f.tag f.start f.len)) (symbols_form (fields (drop f.next s))) both
+
+  front : (eqb f.tag 0x50 && leb 16 (length payload)) ≡ true
+  unfolding symbol_formed
+  front = and_left (eqb f.tag 0x50 && leb 16 (length payload)) (ltb (le_at 8 payload 0 + le_at 8 payload 8) (2 ^ 64)) formed-here
+
+  pub symbol-long : 16 ≤ length payload
+  symbol-long = leb-true 16 (length payload) (and_right (eqb f.tag 0x50) (leb 16 (length payload)) front)
+
+  pub symbol-small : le_at 8 payload 0 + le_at 8 payload 8 < 2 ^ 64
+  unfolding symbol_formed
+  symbol-small = ltb-true _ _ (and_right (eqb f.tag 0x50 && leb 16 (length payload)) (ltb (le_at 8 payload 0 + le_at 8 payload 8) (2 ^ 64)) formed-here)
+
+  pub symbol-next : symbols_from s p ≡ symbol_of payload ∷ symbols_from s f.next
   unfolding whole_fields payloads
-  none_end e = rw (fields-at s p ∙ ap (fields_of s) (sym at ∙ e))
+  symbol-next = rw (fields-field s p f at, and_left (eqb f.tag 0x50) (leb 16 (length payload)) front)
 
-  pub none-cut : r ≡ Step.Cut → symbols_from s p ≡ []
-  unfolding whole_fields payloads
-  none-cut e = rw (fields-at s p ∙ ap (fields_of s) (sym at ∙ e))
+  module _ (bytes : Bytes s) where
+    pub symbol-short : Short payload
+    unfolding whole_fields
+    symbol-short = (rw (fields-field s p f at) at (shorts 0 (drop p s) (all_drop (λ b. b < 256) p s bytes))).0
 
-  module _ (t start len next : ℕ) (e : r ≡ Step.Field t start len next) where
-    both : (symbol_formed (field_in s t start len) && symbols_form (fields (drop next s))) ≡ true
-    unfolding symbols_form
-    both = rw (fields-field s p r t start len next at e) at form
-
-    formed-here : symbol_formed (field_in s t start len) ≡ true
-    formed-here = and_left (symbol_formed (field_in s t start len)) (symbols_form (fields (drop next s))) both
-
-    pub formed-next : symbols_form (fields (drop next s)) ≡ true
-    formed-next = and_right (symbol_formed (field_in s t start len)) (symbols_form (fields (drop next s))) both
-
-    abbrev payload : List ℕ
-    payload = take len (drop start s)
-
-    sized : length payload ≡ len
-    sized = part_length s start len (payload-within s p r t start len next at e)
-
-    front : (eqb t 0x50 && leb 16 (length payload)) ≡ true
-    unfolding symbol_formed
-    front = and_left (eqb t 0x50 && leb 16 (length payload)) (ltb (le_at 8 payload 0 + le_at 8 payload 8) (2 ^ 64)) formed-here
-
-    pub symbol-long : 16 ≤ len
-    symbol-long = let l = leb-true 16 (length payload) (and_right (eqb t 0x50) (leb 16 (length payload)) front) in rw sized at l
-
-    small-payload : le_at 8 payload 0 + le_at 8 payload 8 < 2 ^ 64
-    unfolding symbol_formed
-    small-payload = ltb-true _ _ (and_right (eqb t 0x50 && leb 16 (length payload)) (ltb (le_at 8 payload 0 + le_at 8 payload 8) (2 ^ 64)) formed-here)
-
-    pub symbol-small : le_at 8 s start + le_at 8 s (start + 8) < 2 ^ 64
-    symbol-small =
-        let l = symbol-long in
-        let a = number-first s start len 8 (le_at 8 s start) (omega arith) refl in
-        let b = number_at s start len 8 8 (le_at 8 s (start + 8)) (omega arith) refl in
-        rw (a, b) at small-payload
-
-    pub symbol-next : symbols_from s p ≡ symbol_of payload ∷ symbols_from s next
-    unfolding whole_fields payloads
-    symbol-next = rw (fields-field s p r t start len next at e, and_left (eqb t 0x50) (leb 16 (length payload)) front)
-
-    module _ (bytes : Bytes s) where
-      short-payload : Short payload
-      unfolding whole_fields
-      short-payload = (rw (fields-field s p r t start len next at e) at (shorts 0 (drop p s) (all_drop (λ b. b < 256) p s bytes))).0
-
-      pub symbol-short : len < 65536
-      symbol-short = rw sized at short-payload
-
-      symbol-whole : Whole payload
-      symbol-whole = record { long = rw sized symbol-long; small = small-payload; short = short-payload }
+    symbol-whole : Whole payload
+    symbol-whole = record { long = symbol-long; small = symbol-small; short = symbol-short }
 
 -- ---- the whole: what stands in the result, and what is left of the list
 
@@ -109,28 +92,28 @@ drop-overlay : (k at : ℕ) (bs t : List ℕ) → at + length bs ≤ k → drop 
 drop-overlay k at [] t h = refl
 drop-overlay k at (b ∷ bs) t h = drop-overlay k (at + 1) bs (set t at b) (omega arith) ∙ drop-set-lt k t at b (omega arith)
 
-module _ {list result₀ result result' : List ℕ} {from p at q : ℕ} {r : Step} {t start len next : ℕ}
-    (j : Joins list result₀ result from p at) (s : r ≡ step_at list p) (e : r ≡ Step.Field t start len next)
-    (laid : Put at (laid_for (ranges_in (take at result)) (symbol_of (take len (drop start list)))) result result' q) where
+module _ {list result₀ result result' : List ℕ} {from p at q : ℕ} {f : FieldSpan}
+    (j : Joins list result₀ result from p at) (s : Some f ≡ field_from list p)
+    (laid : Put at (laid_for (ranges_in (take at result)) (symbol_of (take f.len (drop f.start list)))) result result' q) where
   abbrev symbol : Symbol
-  symbol = symbol_of (take len (drop start list))
+  symbol = symbol_of (take f.len (drop f.start list))
 
   abbrev bytes_laid : List ℕ
   bytes_laid = laid_for (ranges_in (take at result)) symbol
 
-  step : Turned (take at result) symbol (symbols_from list next)
-      (symbol_fits (take len (drop start list)) (symbol-whole list p r s j.formed t start len next e j.bytes)) j.standing.formed
+  step : Turned (take at result) symbol (symbols_from list f.next)
+      (symbol_fits (take f.len (drop f.start list)) (symbol-whole list p f s j.formed j.bytes)) j.standing.formed
   step =
-      turned (take at result) symbol (symbols_from list next)
-      (symbol_fits (take len (drop start list)) (symbol-whole list p r s j.formed t start len next e j.bytes)) j.standing.formed
+      turned (take at result) symbol (symbols_from list f.next)
+      (symbol_fits (take f.len (drop f.start list)) (symbol-whole list p f s j.formed j.bytes)) j.standing.formed
 
   -- the whole result, told from behind the symbol
-  whole-next : whole_from (take from result₀) list 0 ≡ whole_from (take at result ++ bytes_laid) list next
+  whole-next : whole_from (take from result₀) list 0 ≡ whole_from (take at result ++ bytes_laid) list f.next
   unfolding whole_from
-  whole-next = j.whole ∙ rw (symbol-next list p r s j.formed t start len next e) step.same
+  whole-next = j.whole ∙ rw (symbol-next list p f s j.formed) step.same
 
   -- there is room: the symbol stands in the result
-  pub joins-next : q ≤ length result' → Joins list result₀ result' from next q
+  pub joins-next : q ≤ length result' → Joins list result₀ result' from f.next q
   joins-next h =
       let fits = put-fits laid h in
       let small = laid.small in
@@ -141,10 +124,10 @@ module _ {list result₀ result result' : List ℕ} {from p at q : ℕ} {r : Ste
       let now : take q result' ≡ take at result ++ bytes_laid = rw (there, take-add at (length bytes_laid) result', front, rest) in
       let kept : drop q result' ≡ drop q result = rw laid.buffer (drop-overlay q at bytes_laid result (omega arith)) in
       record {
-        formed = formed-next list p r s j.formed t start len next e;
+        formed = formed-next list p f s j.formed;
         bytes = j.bytes;
         standing = record { within = h; formed = rw now step.formed };
-        whole = whole-next ∙ ap (λ (l : List ℕ). whole_from l list next) (sym now);
+        whole = whole-next ∙ ap (λ (l : List ℕ). whole_from l list f.next) (sym now);
         behind = kept ∙ further (length bytes_laid) q there;
         size = put-length laid ∙ j.size;
       }
@@ -181,7 +164,7 @@ module _ {list result₀ result result' : List ℕ} {from p at q : ℕ} {r : Ste
   pub next-filled : (x : AddressRange) → q ≤ length result' → at < q → x ≡ symbol.range → Nonempty x
   next-filled x h l e = subst (λ (y : AddressRange). Nonempty y) (sym e) (step.filled (laid-some h l))
 
-  pub next_known : {w w' : List ℕ} {tables tables' : Extents} (x : AddressRange) → q ≤ length result' → at < q → x ≡ symbol.range
+  pub next_known : {w w' : List ℕ} {tables tables' : Option Extents} (x : AddressRange) → q ≤ length result' → at < q → x ≡ symbol.range
       → Known (ranges_in (take at result)) w tables → Remembered w w' tables x tables'
       → Known (ranges_in (take q result')) w' tables'
   next_known {w} {w'} {tables} {tables'} x h l e k m =
@@ -189,7 +172,7 @@ module _ {list result₀ result result' : List ℕ} {from p at q : ℕ} {r : Ste
       ap (λ (y : List ℕ). ranges_in y) (taken h) ∙ step.grown (laid-some h l) ∙ ap (λ (y : AddressRange). ranges_in (take at result) ++ (y ∷ [])) (sym e) in
       subst (λ (rs : List AddressRange). Known rs w' tables') (sym is) (m.grown (ranges_in (take at result)) k)
 
-  pub same_known : {w : List ℕ} {tables : Extents} → q ≤ length result' → q ≤ at → Known (ranges_in (take at result)) w tables
+  pub same_known : {w : List ℕ} {tables : Option Extents} → q ≤ length result' → q ≤ at → Known (ranges_in (take at result)) w tables
       → Known (ranges_in (take q result')) w tables
   same_known {w} {tables} h l k =
       let is : ranges_in (take q result') ≡ ranges_in (take at result) = ap (λ (y : List ℕ). ranges_in y) (taken h) ∙ step.alike (laid_none h l) in
@@ -205,7 +188,7 @@ module _ {list result₀ result result' : List ℕ} {from p at q : ℕ} {r : Ste
       let within = j.standing.within in
       let front : length (take at result) ≡ at = length-take-le at result within in
       let long : length (whole_from (take from result₀) list 0)
-      ≡ at + length bytes_laid + length (bare_bytes (joining (ranges_in (take at result ++ bytes_laid)) (symbols_from list next))) =
+      ≡ at + length bytes_laid + length (bare_bytes (joining (ranges_in (take at result ++ bytes_laid)) (symbols_from list f.next))) =
       ap length whole-next ∙ rw (length-append, length-append, front) in
       record { fits = λ l. absurd (omega arith); short = λ l. omega arith }
 
@@ -231,22 +214,17 @@ joins-done {list} {result₀} {result} {from} {p} {at} j e =
     take_drop (suc k) [] = refl
     take_drop (suc k) (x ∷ l) = ap (λ (y : List ℕ). x ∷ y) (take_drop k l)
 
-pub joins-end : {list result₀ result : List ℕ} {from p at : ℕ} {r : Step} → Joins list result₀ result from p at → r ≡ step_at list p → r ≡ Step.End
-    → AllJoined list result₀ result from at
-joins-end {list} {p = p} {r = r} j s e = joins-done j (none_end list p r s j.formed e)
-
-pub joins-cut : {list result₀ result : List ℕ} {from p at : ℕ} {r : Step} → Joins list result₀ result from p at → r ≡ step_at list p → r ≡ Step.Cut
-    → AllJoined list result₀ result from at
-joins-cut {list} {p = p} {r = r} j s e = joins-done j (none-cut list p r s j.formed e)
+pub joins-end : {list result₀ result : List ℕ} {from p at : ℕ} → Joins list result₀ result from p at → None ≡ field_from list p → AllJoined list result₀ result from at
+joins-end {list} {p = p} j s = joins-done j (none-left list p s)
 
 -- what a symbol at a place is joined with
-module _ {list result₀ result : List ℕ} {from p at : ℕ} {r : Step} {t start len next : ℕ} (j : Joins list result₀ result from p at) (s : r ≡ step_at list p)
-    (e : r ≡ Step.Field t start len next) where
-  pub joins_long : 16 ≤ len
-  joins_long = symbol-long list p r s j.formed t start len next e
+module _ {list result₀ result : List ℕ} {from p at : ℕ} {f : FieldSpan} (j : Joins list result₀ result from p at) (s : Some f ≡ field_from list p)
+    (g : List ℕ) (is : g ≡ take f.len (drop f.start list)) where
+  pub joins_long : 16 ≤ length g
+  joins_long = rw is (symbol-long list p f s j.formed)
 
-  pub joins-small : le_at 8 list start + le_at 8 list (start + 8) < 2 ^ 64
-  joins-small = symbol-small list p r s j.formed t start len next e
+  pub joins-small : le_at 8 g 0 + le_at 8 g 8 < 2 ^ 64
+  joins-small = rw is (symbol-small list p f s j.formed)
 
-  pub joins-fits : len < 65536
-  joins-fits = symbol-short list p r s j.formed t start len next e j.bytes
+  pub joins-fits : length g < 65536
+  joins-fits = rw is (symbol-short list p f s j.formed j.bytes)

@@ -1,51 +1,31 @@
 -- `extents::gather_functions` meets its contract.
-use native.Mathlib.Omega.{arith}
-use Rattle.tlv.proofs.CursorLaws.{next-less, payload-within}
+use borrow.Author.Rules.{rules}
+use Rattle.tlv.proofs.FieldLaws.{next-less, payload-within}
 use Rattle.lookup.proofs.StepLaws.{function-long}
-use Rattle.symbols.proofs.extents.GatherLaws.{gathering-start, gathered-short, gathered-end, gathered-cut, gathering-other, gathering-this}
+use Rattle.symbols.proofs.extents.GatherLaws.{gathering-start, gathered-all, gathering-other, gathering-this}
 use Rattle.symbols.proofs.extents.gather_functions.Goals as goal
 
-pub loop-tag-init : goal.loop-tag-init
-loop-tag-init c = search gathering-start
+pub loop-field-init : goal.loop-field-init
+loop-field-init c = search gathering-start
 
-pub returns-in-End : goal.returns-in-End
-returns-in-End c = search gathered-end
+pub payload_of-requires : goal.payload_of-requires
+payload_of-requires c = payload-within _ _ _ c.in-Some.ensures
 
-pub returns-in-Cut : goal.returns-in-Cut
-returns-in-Cut c = search gathered-cut
+pub range_of-requires : goal.range_of-requires
+range_of-requires c = search (rules, function-long, c.in-Some.ensures)
 
-pub range_of-r-requires-clause-len_in_bounds : goal.range_of-r-requires-clause-len_in_bounds
-range_of-r-requires-clause-len_in_bounds c = search payload-within
+pub loop-field-smaller : goal.loop-field-smaller
+loop-field-smaller c = next-less _ _ _ c.in-Some.ensures
 
-pub range_of-r-requires-clause-le_len : goal.range_of-r-requires-clause-le_len
-range_of-r-requires-clause-le_len c = search function-long
+pub loop-field-preserved : goal.loop-field-preserved
+loop-field-preserved c = gathering-other c.loop-field.invariant c.in-Some.ensures c.if-field-eq-TRAY_FUNCTION_TAG.false
 
-pub overflow_mul-n : goal.overflow_mul-n
-overflow_mul-n c = omega arith
+pub loop-field-smaller-else-work-n-lt-RANGE_RECORD : goal.loop-field-smaller-else-work-n-lt-RANGE_RECORD
+loop-field-smaller-else-work-n-lt-RANGE_RECORD c = next-less _ _ _ c.in-Some.ensures
 
-pub overflow_sub-work : goal.overflow_sub-work
-overflow_sub-work c = omega arith
+pub loop-field-preserved-else-work-n-lt-RANGE_RECORD : goal.loop-field-preserved-else-work-n-lt-RANGE_RECORD
+loop-field-preserved-else-work-n-lt-RANGE_RECORD c = gathering-this c.loop-field.invariant c.in-Some.ensures _ _ c.if-field-eq-TRAY_FUNCTION_TAG.true
+    c.payload_of.ensures c.range_of.ensures c.if-work-n-lt-RANGE_RECORD.false c.put_range_at.ensures c.put_range_at.auto.work
 
-pub returns-then-work-n-lt-RANGE_RECORD : goal.returns-then-work-n-lt-RANGE_RECORD
-returns-then-work-n-lt-RANGE_RECORD c = search gathered-short
-
-pub overflow_mul-n-then-tag-eq-TRAY_FUNCTION_TAG : goal.overflow_mul-n-then-tag-eq-TRAY_FUNCTION_TAG
-overflow_mul-n-then-tag-eq-TRAY_FUNCTION_TAG c = omega arith
-
-pub put_range_at-requires : goal.put_range_at-requires
-put_range_at-requires c = omega arith
-
-pub overflow_add-n : goal.overflow_add-n
-overflow_add-n c = omega arith
-
-pub loop-tag-smaller-then-tag-eq-TRAY_FUNCTION_TAG : goal.loop-tag-smaller-then-tag-eq-TRAY_FUNCTION_TAG
-loop-tag-smaller-then-tag-eq-TRAY_FUNCTION_TAG c = search next-less
-
-pub loop-tag-preserved-then-tag-eq-TRAY_FUNCTION_TAG : goal.loop-tag-preserved-then-tag-eq-TRAY_FUNCTION_TAG
-loop-tag-preserved-then-tag-eq-TRAY_FUNCTION_TAG c = search gathering-this
-
-pub loop-tag-smaller : goal.loop-tag-smaller
-loop-tag-smaller c = search next-less
-
-pub loop-tag-preserved : goal.loop-tag-preserved
-loop-tag-preserved c = search gathering-other
+pub returns : goal.returns
+returns c = record { is = gathered-all c.loop-field.invariant c.in_default.ensures }

@@ -4,8 +4,8 @@ use lib.ListN.{length}
 use Rattle.symbols.proofs.extents.GatherLaws.{Gathering}
 use Rattle.symbols.proofs.extents.gather_functions.Given as goal
 
-abbrev pub invariant-loop-tag : goal.invariant-loop-tag
-invariant-loop-tag l = Gathering l.s l.initial.work l.work l.p l.n
+abbrev pub invariant-loop-field : goal.invariant-loop-field
+invariant-loop-field l = Gathering l.s l.initial.work l.work l.p l.n
 
-abbrev pub decreases-loop-tag : goal.decreases-loop-tag
-decreases-loop-tag l = length l.s - l.p
+abbrev pub decreases-loop-field : goal.decreases-loop-field
+decreases-loop-field l = length l.s - l.p

@@ -1,9 +1,6 @@
 -- `extents::learn` meets its contract.
-use Rattle.symbols.proofs.ExtentLaws.{known-none, learned}
+use Rattle.symbols.proofs.ExtentLaws.{learned}
 use Rattle.symbols.proofs.extents.learn.Goals as goal
 
-pub returns-then-not-g : goal.returns-then-not-g
-returns-then-not-g c = search known-none
-
 pub returns : goal.returns
-returns c = search learned
+returns c = learned c.in_ok-n.ensures c.settle-functions.ensures c.settle-functions.auto.work

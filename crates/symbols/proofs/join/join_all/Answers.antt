@@ -1,55 +1,65 @@
 -- `join::join_all` meets its contract: what stands in the result and what is left of the list make the whole, and the tables hold what the records hold.
-use mathlib.Core.Path.{refl}
 use borrow.Author.Rules.{rules}
-use Rattle.tlv.proofs.CursorLaws.{next-less, payload-within}
-use Rattle.symbols.proofs.join.ResultLaws.{joins-start, joins-next, joins-short, joins-end, joins-cut, joins_long, joins-small, joins-fits}
+use Rattle.tlv.proofs.FieldLaws.{next-less, payload-within}
+use Rattle.symbols.proofs.join.ResultLaws.{joins-start, joins-next, joins-short, joins-end, joins_long, joins-small, joins-fits}
 use Rattle.symbols.proofs.join.ResultLaws.{next-filled, next_known, same_known}
 use Rattle.symbols.proofs.join.join_all.Goals as goal
 
-pub loop-start-init : goal.loop-start-init
-loop-start-init c = (search joins-start, search rules, refl)
+pub loop-field-init : goal.loop-field-init
+loop-field-init c = record { joins = search joins-start; known = search rules }
 
-pub returns-in-End : goal.returns-in-End
-returns-in-End c = search joins-end
-
-pub returns-in-Cut : goal.returns-in-Cut
-returns-in-Cut c = search joins-cut
-
-pub join_symbol-then-requires-clause-len_in_bounds : goal.join_symbol-then-requires-clause-len_in_bounds
-join_symbol-then-requires-clause-len_in_bounds c = search payload-within
+pub payload_of-payload-requires : goal.payload_of-payload-requires
+payload_of-payload-requires c = payload-within _ _ _ c.in-Some.ensures
 
 pub join_symbol-then-requires-clause-le_len : goal.join_symbol-then-requires-clause-le_len
-join_symbol-then-requires-clause-le_len c = search joins_long
+join_symbol-then-requires-clause-le_len c = joins_long c.loop-field.invariant.joins c.in-Some.ensures _ c.payload_of-payload.ensures
 
 pub join_symbol-then-requires-clause-len_bound : goal.join_symbol-then-requires-clause-len_bound
-join_symbol-then-requires-clause-len_bound c = search joins-fits
+join_symbol-then-requires-clause-len_bound c = joins-fits c.loop-field.invariant.joins c.in-Some.ensures _ c.payload_of-payload.ensures
 
 pub join_symbol-then-requires-clause-start_bound : goal.join_symbol-then-requires-clause-start_bound
-join_symbol-then-requires-clause-start_bound c = search joins-small
+join_symbol-then-requires-clause-start_bound c = joins-small c.loop-field.invariant.joins c.in-Some.ensures _ c.payload_of-payload.ensures
 
 pub returns-then-res-then : goal.returns-then-res-then
-returns-then-res-then c = search joins-short
+returns-then-res-then c =
+    let laid = rw c.payload_of-payload.ensures at c.join_symbol-then.ensures in joins-short c.loop-field.invariant.joins c.in-Some.ensures laid c.if-res-then.true
 
-pub symbol_range-range-requires-clause-len_in_bounds : goal.symbol_range-range-requires-clause-len_in_bounds
-symbol_range-range-requires-clause-len_in_bounds c = search payload-within
+pub symbol_range-requires-clause-le_len : goal.symbol_range-requires-clause-le_len
+symbol_range-requires-clause-le_len c = joins_long c.loop-field.invariant.joins c.in-Some.ensures _ c.payload_of-payload.ensures
 
-pub symbol_range-range-requires-clause-le_len : goal.symbol_range-range-requires-clause-le_len
-symbol_range-range-requires-clause-le_len c = search joins_long
+pub symbol_range-requires-clause-start_bound : goal.symbol_range-requires-clause-start_bound
+symbol_range-requires-clause-start_bound c = joins-small c.loop-field.invariant.joins c.in-Some.ensures _ c.payload_of-payload.ensures
 
-pub symbol_range-range-requires-clause-start_bound : goal.symbol_range-range-requires-clause-start_bound
-symbol_range-range-requires-clause-start_bound c = search joins-small
+pub remember-tables-requires-clause-nonempty : goal.remember-tables-requires-clause-nonempty
+remember-tables-requires-clause-nonempty c =
+    let laid = rw c.payload_of-payload.ensures at c.join_symbol-then.ensures in
+    let is = rw c.payload_of-payload.ensures at c.symbol_range.ensures in
+    next-filled c.loop-field.invariant.joins c.in-Some.ensures laid _ c.if-res-then.false c.if-at-then.true is
 
-pub remember-e-requires-clause-nonempty : goal.remember-e-requires-clause-nonempty
-remember-e-requires-clause-nonempty c = search next-filled
+pub loop-field-smaller-then-at-then : goal.loop-field-smaller-then-at-then
+loop-field-smaller-then-at-then c = next-less _ _ _ c.in-Some.ensures
 
-pub loop-start-smaller-then-at-then : goal.loop-start-smaller-then-at-then
-loop-start-smaller-then-at-then c = search next-less
+pub loop-field-preserved-then-at-then : goal.loop-field-preserved-then-at-then
+loop-field-preserved-then-at-then c =
+    let I = c.loop-field.invariant in
+    let laid = rw c.payload_of-payload.ensures at c.join_symbol-then.ensures in
+    let is = rw c.payload_of-payload.ensures at c.symbol_range.ensures in
+    record {
+      joins = joins-next I.joins c.in-Some.ensures laid c.if-res-then.false;
+      known = next_known I.joins c.in-Some.ensures laid _ c.if-res-then.false c.if-at-then.true is I.known c.remember-tables.ensures;
+    }
 
-pub loop-start-preserved-then-at-then : goal.loop-start-preserved-then-at-then
-loop-start-preserved-then-at-then c = (search joins-next, search next_known, search rules)
+pub loop-field-smaller : goal.loop-field-smaller
+loop-field-smaller c = next-less _ _ _ c.in-Some.ensures
 
-pub loop-start-smaller : goal.loop-start-smaller
-loop-start-smaller c = search next-less
+pub loop-field-preserved : goal.loop-field-preserved
+loop-field-preserved c =
+    let I = c.loop-field.invariant in
+    let laid = rw c.payload_of-payload.ensures at c.join_symbol-then.ensures in
+    record {
+      joins = joins-next I.joins c.in-Some.ensures laid c.if-res-then.false;
+      known = same_known I.joins c.in-Some.ensures laid c.if-res-then.false c.if-at-then.false I.known;
+    }
 
-pub loop-start-preserved : goal.loop-start-preserved
-loop-start-preserved c = (search joins-next, search same_known, search rules)
+pub returns : goal.returns
+returns c = joins-end c.loop-field.invariant.joins c.in_default.ensures

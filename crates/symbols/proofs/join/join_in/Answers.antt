@@ -12,8 +12,8 @@ returns-then-not-check_symbols c = search join-bad
 pub returns-then-res-copied : goal.returns-then-res-copied
 returns-then-res-copied c = search join-no-copy
 
-pub learn-e-requires : goal.learn-e-requires
-learn-e-requires c = search stands-start
+pub learn-tables-requires : goal.learn-tables-requires
+learn-tables-requires c = search stands-start
 
 pub join_all-n-requires-clause-symbols_value : goal.join_all-n-requires-clause-symbols_value
 join_all-n-requires-clause-symbols_value c = search join-symbols-formed

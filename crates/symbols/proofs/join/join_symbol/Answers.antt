@@ -2,16 +2,19 @@
 use native.Mathlib.Omega.{arith}
 use Rattle.buffers.proofs.BufferLaws.{put-nothing}
 use Rattle.symbols.proofs.JoinWalkLaws.{laid-empty, laid-nameless, laid-held, laid-put}
+use Rattle.symbols.proofs.join.join_symbol.Goals.{then-empty-via-then-empty}
+use Rattle.symbols.proofs.join.join_symbol.Goals.{then-empty-via-else-empty+then-nameless}
+use Rattle.symbols.proofs.join.join_symbol.Goals.{then-empty-via-else-empty+else-nameless+then-is_held_with}
 use Rattle.symbols.proofs.join.join_symbol.Goals as goal
 
-pub returns-then-size-eq0 : goal.returns-then-size-eq0
-returns-then-size-eq0 c = put-nothing (search laid-empty) (omega arith) (omega arith)
-
-pub returns-then-len-eq-SYMBOL_SIZE : goal.returns-then-len-eq-SYMBOL_SIZE
-returns-then-len-eq-SYMBOL_SIZE c = put-nothing (search laid-nameless) (omega arith) (omega arith)
-
-pub returns-then-is_held_with : goal.returns-then-is_held_with
-returns-then-is_held_with c = put-nothing (search laid-held) (omega arith) (omega arith)
+pub returns-then-empty : goal.returns-then-empty
+returns-then-empty c = put-nothing (elim c.then-empty.branch [
+  | then-empty-via-then-empty w ↦ laid-empty _ _ _ _ c.read-start.ensures c.read-size.ensures w.if-empty.true
+  | then-empty-via-else-empty+then-nameless w ↦ laid-nameless _ _ _ _ c.read-start.ensures c.read-size.ensures w.if-nameless.true
+  | then-empty-via-else-empty+else-nameless+then-is_held_with w ↦
+      laid-held _ _ _ _ c.read-start.ensures c.read-size.ensures _ w.is_held_with.ensures w.if-is_held_with.true
+]) (omega arith) (omega arith)
 
 pub returns : goal.returns
-returns c = search laid-put
+returns c = laid-put _ _ _ _ _ c.put_function.ensures c.requires.le_len c.read-start.ensures c.read-size.ensures c.if-empty.false
+    c.if-nameless.false c.is_held_with.ensures c.if-is_held_with.false
