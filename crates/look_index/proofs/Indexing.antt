@@ -16,7 +16,7 @@ use Rattle.lookup.specs.Means.{HoldingIs}
 use Rattle.lookup.proofs.DemandLaws.{at_less}
 use Rattle.lookup.proofs.RowMeans.{function-is, filled}
 use Rattle.look_index.specs.declared.index.Extent.{Extent}
-use Rattle.look_index.specs.declared.lookin.Choice.{Choice}
+use Rattle.std.specs.Prelude.{Option as Maybe, Some, None}
 use Rattle.look_index.specs.Index.{extent_at, extent_of, ExtentHolds, Among, IndexOf, function_here}
 use Rattle.look_index.specs.LookIn.{Boundary, Searched, Scanned, by_choice, Indexing}
 use Rattle.look_index.proofs.HereLaws.{each-here}
@@ -42,13 +42,13 @@ module _ (tray w : List ℕ) (n a : ℕ) where
 
     -- the extent is that of the function that answers
     taken : (k : ℕ) (g : GroupAt) (o : Option GroupAt) → answering ≡ o → o ≡ some g → (m : ℕ) → at fs m ≡ some g → extent_at w k ≡ extent_of g
-        → by_choice tray w a (Choice.At k) ≡ look_up tray a
+        → by_choice tray w a (Some k) ≡ look_up tray a
     unfolding ◌>>=◌
     taken k g o ea eo m e is =
         let here : function_here tray (extent_at w k).place ≡ done g = ap (λ (x : Extent). function_here tray x.place) is ∙ found_at m g e in
         rw here (sym (looked ∙ ap (qualifying (frames_of a)) (ea ∙ eo)))
 
-    missing : (o : Option GroupAt) → answering ≡ o → o ≡ none → by_choice tray w a Choice.Missing ≡ look_up tray a
+    missing : (o : Option GroupAt) → answering ≡ o → o ≡ none → by_choice tray w a None ≡ look_up tray a
     missing o ea eo = sym (looked ∙ ap (qualifying (frames_of a)) (ea ∙ eo))
 
     -- a function's extent holds the address where the function does
@@ -67,7 +67,7 @@ module _ (tray w : List ℕ) (n a : ℕ) where
   module _ (I : IndexOf tray w n false) where
     plain_at : (k : ℕ) → ExtentHolds (extent_at w k) a → k < n → ((j : ℕ) → j < k → ¬ ExtentHolds (extent_at w j) a) → (o : Option GroupAt) → answering ≡ o
         → HoldingIs a fs o
-        → by_choice tray w a (Choice.At k) ≡ look_up tray a
+        → by_choice tray w a (Some k) ≡ look_up tray a
     plain_at k h l no-earlier none eo all =
         let x = at-within fs k (let z = I.all in omega arith) in
         absurd (not_none false I k x.0 x.1 (as-range false I x.0 (I.plain refl k x.0 x.1) h) all)
@@ -80,16 +80,16 @@ module _ (tray w : List ℕ) (n a : ℕ) where
         taken false I k g (some g) eo refl f.number f.numbered (I.plain refl k g (subst (λ (j : ℕ). at fs j ≡ some g) same f.numbered))
 
     plain-missing : ((j : ℕ) → j < n → ¬ ExtentHolds (extent_at w j) a) → (o : Option GroupAt) → answering ≡ o → HoldingIs a fs o
-        → by_choice tray w a Choice.Missing ≡ look_up tray a
+        → by_choice tray w a None ≡ look_up tray a
     plain-missing off none eo all = missing false I none eo refl
     plain-missing off (some g) eo f =
         let l = at_less fs f.number g f.numbered in
         let z = I.all in
         absurd (off f.number (omega arith) (as-extent false I g (I.plain refl f.number g f.numbered) f.holding))
 
-    pub by_pass-is : (c : Choice) → Scanned w n a c → by_choice tray w a c ≡ look_up tray a
-    by_pass-is (Choice.At k) s = plain_at k s.1 s.0 s.2 answering refl (function-is a fs)
-    by_pass-is Choice.Missing s = plain-missing s answering refl (function-is a fs)
+    pub by_pass-is : (c : Maybe ℕ) → Scanned w n a c → by_choice tray w a c ≡ look_up tray a
+    by_pass-is (Some k) s = plain_at k s.1 s.0 s.2 answering refl (function-is a fs)
+    by_pass-is None s = plain-missing s answering refl (function-is a fs)
 
   -- ---- in the order of addresses
 
@@ -114,7 +114,7 @@ module _ (tray w : List ℕ) (n a : ℕ) where
         let q : ¬ (k < j) = λ l. omega (arith, I.order refl k j l lj, hk.1, hj.0) in omega arith
 
     rising-at : (k : ℕ) → k < n → ExtentHolds (extent_at w k) a → (o : Option GroupAt) → answering ≡ o → HoldingIs a fs o
-        → by_choice tray w a (Choice.At k) ≡ look_up tray a
+        → by_choice tray w a (Some k) ≡ look_up tray a
     rising-at k l h none eo all =
         let q = (I.same refl (extent_at w k)).0 (k, l, refl) in
         absurd (not_none true I q.0 q.1 q.2 (as-range true I q.1 (sym q.3) h) all)
@@ -143,15 +143,15 @@ module _ (tray w : List ℕ) (n a : ℕ) where
             (λ z. let e : j ≡ m - 1 = omega arith in off (omega arith) (subst (λ (k : ℕ). ExtentHolds (extent_at w k) a) e h))
 
     rising-missing : (m : ℕ) → Boundary w n a m → (0 < m → ¬ ExtentHolds (extent_at w (m - 1)) a) → (o : Option GroupAt) → answering ≡ o → HoldingIs a fs o
-        → by_choice tray w a Choice.Missing ≡ look_up tray a
+        → by_choice tray w a None ≡ look_up tray a
     rising-missing m B off none eo all = missing true I none eo refl
     rising-missing m B off (some g) eo f =
         let q = extent-of f.number g f.numbered in
         absurd (outside m q.0 B off q.1 (as-extent true I g q.2 f.holding))
 
-    pub by_search-is : (c : Choice) → Searched w n a c → by_choice tray w a c ≡ look_up tray a
-    by_search-is (Choice.At k) s = rising-at k s.0 s.1 answering refl (function-is a fs)
-    by_search-is Choice.Missing s = rising-missing s.0 s.1 s.2 answering refl (function-is a fs)
+    pub by_search-is : (c : Maybe ℕ) → Searched w n a c → by_choice tray w a c ≡ look_up tray a
+    by_search-is (Some k) s = rising-at k s.0 s.1 answering refl (function-is a fs)
+    by_search-is None s = rising-missing s.0 s.1 s.2 answering refl (function-is a fs)
 
 pub indexing : Indexing
 indexing tray w n a true c I C = by_search-is tray w n a I c (C.searched refl)

@@ -1,7 +1,7 @@
 -- Contract. Beyond the request: an index of a tray's functions, made once in a lent slice for a service that asks many addresses of one tray, and look-ups by
 -- it.
 --
-use Rattle.std.specs.Prelude.{ℕ, ◌+◌, ◌*◌, ◌≤◌, ◌<◌, ◌≡◌, ◌↔◌, ◌≢◌, Bool, true, false, cond, not, List, length, drop, replicate}
+use Rattle.std.specs.Prelude.{Result, Ok, Err, ◌⊎◌, ℕ, ◌+◌, ◌*◌, ◌≤◌, ◌<◌, ◌≡◌, ◌↔◌, ◌≢◌, Bool, true, false, cond, not, List, length, drop, replicate}
 use Rattle.std.proofs.Math.Option.{some}
 use Rattle.tlv.specs.Tags.{tray_function_tag}
 use Rattle.tlv.specs.Outcome.{Outcome, refused, done}
@@ -11,7 +11,7 @@ use Rattle.tlv.specs.Fields.{FieldList, end, cut, more, fields}
 use Rattle.buffers.specs.Reader.{records_form}
 use Rattle.buffers.specs.Table.{Kept}
 use Rattle.access.specs.Places.{behind}
-use Rattle.lookup.specs.declared.model.Refusal.{Refusal}
+use Rattle.tlv.specs.declared.refusal.Refusal.{Refusal}
 use Rattle.lookup.specs.declared.model.Indexed.{Indexed}
 use Rattle.lookup.specs.Tray.{GroupAt, up_to_next, has_tag, fields_at, functions_at, function_range}
 use Rattle.look_index.specs.declared.index.Extent.{Extent}
@@ -21,8 +21,12 @@ use Rattle.look_index.specs.declared.index.Extent.{Extent}
 abbrev pub extent_size : ℕ
 extent_size = 24
 
+-- at a place
+abbrev pub extent_from : List ℕ → ℕ → Extent
+extent_from w p = record { start = le_at 8 w p; end = le_at 8 w (p + 8); place = le_at 8 w (p + 16) }
+
 abbrev pub extent_at : List ℕ → ℕ → Extent
-extent_at w k = record { start = le_at 8 w (k * extent_size); end = le_at 8 w (k * extent_size + 8); place = le_at 8 w (k * extent_size + 16) }
+extent_at w k = extent_from w (k * extent_size)
 
 abbrev pub extent_of : GroupAt → Extent
 extent_of f = record { start = (function_range f).start; end = (function_range f).end; place = f.place }
@@ -56,16 +60,18 @@ pub record IndexOf (tray w : List ℕ) (n : ℕ) (rising : Bool) : Type 0 where
   pub same : rising ≡ true → (x : Extent) → Among w n x ↔ OfFunction tray x
   pub order : rising ≡ true → Rising w n
 
--- the contract of `index::make_index`. 19 as everywhere; document 01's 5, short work, where there is no room; a refusal fills the slice with 0
-abbrev pub IndexMade : List ℕ → List ℕ → List ℕ → Indexed → Type 0
-IndexMade tray w w' (Indexed.Finished n rising) = IndexOf tray w' n rising × Kept w w' 0 (n * extent_size)
-IndexMade tray w w' (Indexed.Refused Refusal.MisshapenRecords) = (records_form 0 0 (fields tray) ≡ false) × (w' ≡ replicate (length w) 0)
-IndexMade tray w w' (Indexed.Refused Refusal.ShortIndex) =
-    (records_form 0 0 (fields tray) ≡ true) × (length w < length (functions_at tray) * extent_size) × (w' ≡ replicate (length w) 0)
-IndexMade tray w w' (Indexed.Refused Refusal.ShortList) = ⊥
-IndexMade tray w w' (Indexed.Refused Refusal.NoFunction) = ⊥
+-- 19 as everywhere; document 01's 5, short work, where there is no room
+abbrev pub IndexRefused : List ℕ → List ℕ → Refusal → Type 0
+IndexRefused tray w e =
+    ((e ≡ Refusal.MisshapenRecords) × (records_form 0 0 (fields tray) ≡ false))
+    ⊎ ((e ≡ Refusal.ShortWork) × (records_form 0 0 (fields tray) ≡ true) × (length w < length (functions_at tray) * extent_size))
 
-pub record MakesIndex (tray w w' : List ℕ) (r : Indexed) : Type 0 where
+-- the contract of `index::make_index`; a refusal fills the slice with 0
+abbrev pub IndexMade : List ℕ → List ℕ → List ℕ → Result Indexed Refusal → Type 0
+IndexMade tray w w' (Ok x) = IndexOf tray w' x.functions x.rising × Kept w w' 0 (x.functions * extent_size)
+IndexMade tray w w' (Err e) = IndexRefused tray w e × (w' ≡ replicate (length w) 0)
+
+pub record MakesIndex (tray w w' : List ℕ) (r : Result Indexed Refusal) : Type 0 where
   pub is : IndexMade tray w w' r
 
 -- ---- what the functions below it promise
@@ -73,12 +79,6 @@ pub record MakesIndex (tray w w' : List ℕ) (r : Indexed) : Type 0 where
 pub record PutExtent (w w' : List ℕ) (k : ℕ) (x : Extent) : Type 0 where
   pub value : extent_at w' k ≡ x
   pub rest : Kept w w' (k * extent_size) extent_size
-
-pub record Swapped (w w' : List ℕ) (i j : ℕ) : Type 0 where
-  pub former : extent_at w' i ≡ extent_at w j
-  pub latter : extent_at w' j ≡ extent_at w i
-  pub others : (k : ℕ) → k ≢ i → k ≢ j → extent_at w' k ≡ extent_at w k
-  pub rest : Kept w w' 0 (j * extent_size + extent_size)
 
 -- the same extents in some order
 pub record Reordered (w w' : List ℕ) (n : ℕ) : Type 0 where
@@ -94,8 +94,8 @@ pub record ExtentsPut (tray w w' : List ℕ) (n : ℕ) : Type 0 where
   pub laid : n * extent_size ≤ length w → InOrder tray w' n
   pub rest : Kept w w' 0 (n * extent_size)
 
-pub record Emptied (r : Refusal) (w w' : List ℕ) (x : Indexed) : Type 0 where
-  pub is : x ≡ Indexed.Refused r
+pub record Emptied (r : Refusal) (w w' : List ℕ) (x : Result Indexed Refusal) : Type 0 where
+  pub is : x ≡ Err r
   pub zeros : w' ≡ replicate (length w) 0
 
 -- ---- one function of a tray of any content

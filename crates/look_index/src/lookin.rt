@@ -9,19 +9,13 @@ ghost use Rattle.look_index.specs.LookIn.{Boundary, SearchedBy, ScannedBy, Chose
 ghost use Rattle.look_index.specs.Index.{extent_size};
 
 use crate::index::{EXTENT_SIZE, extent_at};
-use lookup::address::{chain_at, refused, row_in_force};
-use lookup::form::{depth_after, function_formed, may_follow, payload_formed};
-use lookup::model::{LookedUp, Refusal, Running};
-use tlv::bytes::read_u64;
-use tlv::fields::{Step, field_at};
+use lookup::address::{chain_at, row_in_force};
+use lookup::form::{depth_after, function_formed, may_follow, payload_formed, payload_of};
+use lookup::model::LookedUp;
+use tlv::bytes::Number;
+use tlv::fields::next_field;
+use tlv::refusal::Refusal;
 use tlv::tags::{TRAY_FUNCTION_TAG, TRAY_NODE_TAG};
-
-// The number of an extent.
-#[derive(Clone, Copy)]
-pub enum Choice {
-    At(usize),
-    Missing,
-}
 
 // How many extents start at or below the address, where they are in that order: a binary search.
 fn boundary(index: &[u8], n: usize, address: u64) -> usize
@@ -30,9 +24,10 @@ fn boundary(index: &[u8], n: usize, address: u64) -> usize
 {
     let mut lo: usize = 0;
     let mut hi = n;
+    // Stays a loop: `partition_point` wants a slice of elements, and these are records in bytes.
     while lo < hi {
         let mid = lo + (hi - lo) / 2;
-        if read_u64(index, mid * EXTENT_SIZE) <= address {
+        if u64::read(index, mid * EXTENT_SIZE) <= address {
             lo = mid + 1;
         } else {
             hi = mid;
@@ -41,42 +36,35 @@ fn boundary(index: &[u8], n: usize, address: u64) -> usize
     lo
 }
 
-fn by_search(index: &[u8], n: usize, address: u64) -> Choice
+// The last of the extents that start at or below the address, if it holds it.
+fn by_search(index: &[u8], n: usize, address: u64) -> Option<usize>
     requires { n * extent_size ≤ length index.now }
     ensures { SearchedBy index.now n address result }
 {
     let m = boundary(index, n, address);
     if m == 0 {
-        return Choice::Missing;
+        return None;
     }
     let x = extent_at(index, m - 1);
-    if address < x.end {
-        return Choice::At(m - 1);
-    }
-    Choice::Missing
+    if address < x.end { Some(m - 1) } else { None }
 }
 
 // The first extent that holds the address.
-fn by_pass(index: &[u8], n: usize, address: u64) -> Choice
+fn by_pass(index: &[u8], n: usize, address: u64) -> Option<usize>
     requires { n * extent_size ≤ length index.now }
     ensures { ScannedBy index.now n address result }
 {
-    let mut i: usize = 0;
-    while i < n {
+    for i in 0..n {
         let x = extent_at(index, i);
-        if x.start <= address {
-            if address < x.end {
-                return Choice::At(i);
-            }
-            i += 1;
-        } else {
-            i += 1;
+        if x.start <= address && address < x.end {
+            return Some(i);
         }
     }
-    Choice::Missing
+    None
 }
 
-fn choose(index: &[u8], n: usize, rising: bool, address: u64) -> Choice
+// By a search where the extents rise, else by a pass.
+fn choose(index: &[u8], n: usize, rising: bool, address: u64) -> Option<usize>
     requires { n * extent_size ≤ length index.now }
     ensures { Chosen index.now n rising address result }
 {
@@ -94,96 +82,64 @@ fn own_formed(s: &[u8], own: usize) -> bool
     let mut p = own;
     let mut previous: u8 = TRAY_FUNCTION_TAG;
     let mut depth: u64 = 0;
-    loop {
-        match field_at(s, p) {
-            Step::End => {
-                return previous != TRAY_NODE_TAG;
-            }
-            Step::Cut => {
-                return false;
-            }
-            Step::Field {
-                tag,
-                start,
-                len,
-                next,
-            } => {
-                if tag == TRAY_FUNCTION_TAG {
-                    return previous != TRAY_NODE_TAG;
-                }
-                if !may_follow(previous, tag) {
-                    return false;
-                }
-                if !payload_formed(depth, tag, s, start, len) {
-                    return false;
-                }
-                depth = depth_after(depth, tag, s, start, len);
-                previous = tag;
-                p = next;
-            }
+    // Stays a loop: each field's own length moves the place, so nothing is counted.
+    while p < s.len() {
+        let Some(field) = next_field(s, p) else {
+            return false;
+        };
+        if field.tag == TRAY_FUNCTION_TAG {
+            return previous != TRAY_NODE_TAG;
         }
+        let payload = payload_of(s, field);
+        if !may_follow(previous, field.tag) || !payload_formed(depth, field.tag, payload) {
+            return false;
+        }
+        depth = depth_after(depth, field.tag, payload);
+        previous = field.tag;
+        p = field.next;
     }
+    previous != TRAY_NODE_TAG
 }
 
-// What stands at a place: a function in document 01's form, whose own fields begin at `own`, or something else.
-#[derive(Clone, Copy)]
-pub enum Here {
-    Formed(usize),
-    Misshapen,
-}
-
-fn check_function(s: &[u8], place: usize) -> Here
+// Where the own fields of the function at a place begin, if one in document 01's form stands there.
+fn check_function(s: &[u8], place: usize) -> Result<usize, Refusal>
     ensures { IsHere s.now place result }
 {
-    match field_at(s, place) {
-        Step::End => Here::Misshapen,
-        Step::Cut => Here::Misshapen,
-        Step::Field {
-            tag,
-            start,
-            len,
-            next,
-        } => {
-            if tag != TRAY_FUNCTION_TAG {
-                return Here::Misshapen;
-            }
-            if !function_formed(s, start, len) {
-                return Here::Misshapen;
-            }
-            if !own_formed(s, next) {
-                return Here::Misshapen;
-            }
-            Here::Formed(next)
-        }
+    let Some(field) = next_field(s, place) else {
+        return Err(Refusal::MisshapenRecords);
+    };
+    if field.tag != TRAY_FUNCTION_TAG
+        || !function_formed(payload_of(s, field))
+        || !own_formed(s, field.next)
+    {
+        return Err(Refusal::MisshapenRecords);
     }
+    Ok(field.next)
 }
 
 // What is running at an address, by an index of so many functions, in the order of their addresses or not.
-pub fn look_up_in(s: &[u8], index: &[u8], functions: usize, rising: bool, address: u64) -> LookedUp
+pub fn look_up_in(
+    s: &[u8],
+    index: &[u8],
+    functions: usize,
+    rising: bool,
+    address: u64,
+) -> Result<LookedUp, Refusal>
     ensures { LooksUpIn s.now index.now functions rising address result }
 {
     if index.len() / EXTENT_SIZE < functions {
-        return refused(Refusal::ShortIndex);
+        return Err(Refusal::ShortWork);
     }
-    match choose(index, functions, rising, address) {
-        Choice::Missing => refused(Refusal::NoFunction),
-        Choice::At(k) => {
-            let x = extent_at(index, k);
-            let place = x.place as usize;
-            match check_function(s, place) {
-                Here::Misshapen => refused(Refusal::MisshapenRecords),
-                Here::Formed(own) => {
-                    let row = row_in_force(s, own, address);
-                    let chain = chain_at(s, own, address);
-                    LookedUp {
-                        running: Running::Found {
-                            function: place,
-                            row: row,
-                        },
-                        chain: chain,
-                    }
-                }
-            }
-        }
-    }
+    let Some(k) = choose(index, functions, rising, address) else {
+        return Err(Refusal::NoFunction);
+    };
+    let function = extent_at(index, k).place as usize;
+    let own = check_function(s, function)?;
+    let row = row_in_force(s, own, address);
+    let chain = chain_at(s, own, address);
+    Ok(LookedUp {
+        function,
+        row,
+        chain,
+    })
 }

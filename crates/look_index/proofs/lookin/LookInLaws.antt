@@ -1,28 +1,28 @@
 -- A look-up by an index from its parts: the search, the pass, the function that is found.
 use mathlib.Core.Path.{◌≡◌, refl, sym, ap, subst, ◌∙◌}
+use mathlib.Core.Logic.{◌⊎◌, inl, inr}
 use mathlib.Core.Bool.{Bool, true, false, true≢false, false≢true}
 use mathlib.Core.List.{List}
 use Prim.Native.Nat.{ℕ, ◌+◌, ◌*◌, ◌/◌, ◌-◌, ◌≤◌, ◌<◌}
 use native.Mathlib.Omega.{arith}
 use lib.ListN.{length, take, drop, replicate}
 use borrow.Author.Tests.{lt-ltb, le-ltb}
+use Rattle.std.specs.Prelude.{Option, Some, None, Result, Ok, Err, IfOk}
+use Rattle.tlv.specs.declared.refusal.Refusal.{Refusal}
 use Rattle.tlv.specs.Bytes.{le_at}
 use Rattle.tlv.specs.Outcome.{refused, done, ◌>>=◌}
 use Rattle.tlv.proofs.OutcomeLaws.{refused-not}
 use Rattle.tlv.proofs.TestLaws.{by_less}
-use Rattle.lookup.specs.declared.model.Refusal.{Refusal}
-use Rattle.lookup.specs.declared.model.Row.{Row}
 use Rattle.lookup.specs.declared.model.Chain.{Chain}
-use Rattle.lookup.specs.declared.model.Running.{Running}
 use Rattle.lookup.specs.declared.model.LookedUp.{LookedUp}
 use Rattle.lookup.specs.Tray.{nodes_at}
 use Rattle.lookup.specs.Lookup.{row_in_force, chain, frames_of}
-use Rattle.lookup.specs.Walk.{StandsOwn, row_from, ChainAt, RefusedWith}
-use Rattle.lookup.specs.Answers.{refusal_number, row_place, frames_given}
+use Rattle.access.specs.Access.{place_of}
+use Rattle.tlv.specs.Refusals.{number_of}
+use Rattle.lookup.specs.Walk.{StandsOwn, row_from, ChainAt}
+use Rattle.lookup.specs.Answers.{frames_given}
 use Rattle.lookup.proofs.LookLaws.{looks_up}
 use Rattle.look_index.specs.declared.index.Extent.{Extent}
-use Rattle.look_index.specs.declared.lookin.Choice.{Choice}
-use Rattle.look_index.specs.declared.lookin.Here.{Here}
 use Rattle.look_index.specs.Index.{extent_at, ExtentHolds, function_here}
 use Rattle.look_index.specs.LookIn.{Boundary, Searched, Scanned, SearchedBy, ScannedBy, Chosen, HereIs, IsHere, by_choice, LooksUpIn}
 use Rattle.look_index.proofs.Indexing.{indexing}
@@ -58,17 +58,17 @@ module _ {w : List ℕ} {n a lo hi : ℕ} (H : Halving w n a lo hi) where
       record { within = omega arith; below = H.below; above = λ z. subst (λ (k : ℕ). a < (extent_at w k).start) same (H.above (omega arith)) }
 
 module _ {w : List ℕ} {n a m : ℕ} (B : Boundary w n a m) where
-  pub searched-none : m ≡ 0 → SearchedBy w n a Choice.Missing
+  pub searched-none : m ≡ 0 → SearchedBy w n a None
   searched-none e = record { is = (m, B, λ z. absurd (omega arith)) }
 
   module _ (x : Extent) (e : x ≡ extent_at w (m - 1)) where
-    pub searched-at : (m ≡ 0 → ⊥) → a < x.end → SearchedBy w n a (Choice.At (m - 1))
+    pub searched-at : (m ≡ 0 → ⊥) → a < x.end → SearchedBy w n a (Some (m - 1))
     searched-at z h =
         let l = B.within in
         let up : a < (extent_at w (m - 1)).end = subst (λ (y : Extent). a < y.end) e h in
         record { is = (omega arith, (B.below (omega arith), up)) }
 
-    pub searched-past : x.end ≤ a → SearchedBy w n a Choice.Missing
+    pub searched-past : x.end ≤ a → SearchedBy w n a None
     searched-past h =
         let low : (extent_at w (m - 1)).end ≤ a = subst (λ (y : Extent). y.end ≤ a) e h in
         record { is = (m, B, λ z k. let t = k.1 in omega arith) }
@@ -82,93 +82,79 @@ pub none-start : (w : List ℕ) (a : ℕ) → NoneSo w a 0
 none-start w a j l = absurd (omega arith)
 
 module _ (w : List ℕ) (n a i : ℕ) (N : NoneSo w a i) (x : Extent) (e : x ≡ extent_at w i) where
-  pub scanned-at : i < n → x.start ≤ a → a < x.end → ScannedBy w n a (Choice.At i)
+  pub scanned-at : i < n → x.start ≤ a → a < x.end → ScannedBy w n a (Some i)
   scanned-at l g h = record { is = (l, subst (λ (y : Extent). ExtentHolds y a) e (g, h), N) }
 
   none-further : ¬ ExtentHolds x a → NoneSo w a (i + 1)
   none-further off j l h = by_less ⊥ j i (λ m. N j m h) (λ m. let s : j ≡ i = omega arith in off
       (subst (λ (y : Extent). ExtentHolds y a) (ap (extent_at w) s ∙ sym e) h))
 
-  pub none-past : x.end ≤ a → NoneSo w a (i + 1)
-  none-past g = none-further (λ k. let t = k.1 in omega arith)
+  pub none_apart : (x.start ≤ a) × (x.end ≤ a) ⊎ (a < x.start) → NoneSo w a (i + 1)
+  none_apart (inl q) = none-further (λ k. let t = k.1 in omega arith)
+  none_apart (inr g) = none-further (λ k. let t = k.0 in omega arith)
 
-  pub none_above : a < x.start → NoneSo w a (i + 1)
-  none_above g = none-further (λ k. let t = k.0 in omega arith)
-
-pub scanned-none : (w : List ℕ) (n a i : ℕ) → NoneSo w a i → n ≤ i → ScannedBy w n a Choice.Missing
+pub scanned-none : (w : List ℕ) (n a i : ℕ) → NoneSo w a i → n ≤ i → ScannedBy w n a None
 scanned-none w n a i N h = record { is = λ j l. N j (omega arith) }
 
 -- ---- one of the two
 
-pub chosen-search : (w : List ℕ) (n a : ℕ) (rising : Bool) (c : Choice) → rising ≡ true → SearchedBy w n a c → Chosen w n rising a c
+pub chosen-search : (w : List ℕ) (n a : ℕ) (rising : Bool) (c : Option ℕ) → rising ≡ true → SearchedBy w n a c → Chosen w n rising a c
 chosen-search w n a rising c e s = record { searched = λ _. s.is; scanned = λ z. absurd (true≢false (sym e ∙ z)) }
 
-pub chosen-pass : (w : List ℕ) (n a : ℕ) (rising : Bool) (c : Choice) → rising ≡ false → ScannedBy w n a c → Chosen w n rising a c
+pub chosen-pass : (w : List ℕ) (n a : ℕ) (rising : Bool) (c : Option ℕ) → rising ≡ false → ScannedBy w n a c → Chosen w n rising a c
 chosen-pass w n a rising c e s = record { searched = λ z. absurd (false≢true (sym e ∙ z)); scanned = λ _. s.is }
 
 -- ---- the answer
 
 module _ (tray w : List ℕ) (n a : ℕ) (rising : Bool) where
-  pub in-short : (x : LookedUp) → length w / 24 < n → RefusedWith Refusal.ShortIndex x → LooksUpIn tray w n rising a x
-  in-short x l R = record {
-    choice = Choice.Missing;
+  pub in-short : length w / 24 < n → LooksUpIn tray w n rising a (Err Refusal.ShortWork)
+  in-short l = record {
+    choice = None;
     chosen = λ h. absurd (omega arith);
-    is = rw (R.is, lt-ltb (length w) (n * 24) (omega arith));
-    few = rw R.none (omega arith);
-    bare = λ k q. R.none;
-    rest = rw (R.none, R.rest);
+    is = rw (lt-ltb (length w) (n * 24) (omega arith));
+    few = tt;
+    rest = tt;
     own = λ I. let r = I.room in absurd (omega arith);
   }
 
-  module _ (l : n ≤ length w / 24) (c : Choice) (C : Chosen w n rising a c) where
+  module _ (l : n ≤ length w / 24) where
     fits : n * 24 ≤ length w
     fits = omega arith
 
-    whole : (x : LookedUp) → frames_given x.running x.chain ≡ by_choice tray w a c → x.chain.nodes ≤ 257
-        → ((k : ℕ) → frames_given x.running x.chain ≡ refused k → x.chain.nodes ≡ 0)
-        → drop x.chain.nodes x.chain.places ≡ replicate (257 - x.chain.nodes) 0 → LooksUpIn tray w n rising a x
-    whole x is few bare rest = record {
+    whole : (c : Option ℕ) (x : Result LookedUp Refusal) → Chosen w n rising a c → frames_given x ≡ by_choice tray w a c → IfOk x (λ y. y.chain.nodes ≤ 257)
+        → IfOk x (λ y. drop y.chain.nodes y.chain.places ≡ replicate (257 - y.chain.nodes) 0) → LooksUpIn tray w n rising a x
+    whole c x C is few rest = record {
       choice = c;
       chosen = λ _. C;
       is = is ∙ rw (le-ltb (length w) (n * 24) fits);
       few = few;
-      bare = bare;
       rest = rest;
-      own = λ I. looks_up tray a x (is ∙ indexing tray w n a rising c I C) few bare rest;
+      own = λ I. looks_up tray a x (is ∙ indexing tray w n a rising c I C) few rest;
     }
 
-    without : (x : LookedUp) (q : Refusal) → RefusedWith q x → refused (refusal_number q) ≡ by_choice tray w a c → LooksUpIn tray w n rising a x
-    without x q R e = whole x (rw R.is e) (rw R.none (omega arith)) (λ k z. R.none) (rw (R.none, R.rest))
+    pub in-none : Chosen w n rising a None → LooksUpIn tray w n rising a (Err Refusal.NoFunction)
+    in-none C = whole None (Err Refusal.NoFunction) C refl tt tt
 
-    pub in-none : (x : LookedUp) → c ≡ Choice.Missing → RefusedWith Refusal.NoFunction x → LooksUpIn tray w n rising a x
-    in-none x e R = without x Refusal.NoFunction R (rw e)
+    module _ (k : ℕ) (C : Chosen w n rising a (Some k)) (y : Extent) (ey : y ≡ extent_at w k) where
+      choice-is : by_choice tray w a (Some k) ≡ (function_here tray y.place >>= λ f. done (frames_of a f))
+      choice-is = ap (λ (z : Extent). function_here tray z.place >>= λ f. done (frames_of a f)) (sym ey)
 
-    module _ (k : ℕ) (e : c ≡ Choice.At k) (y : Extent) (ey : y ≡ extent_at w k) (h : Here) (H : IsHere tray y.place h) where
-      choice-is : by_choice tray w a c ≡ (function_here tray y.place >>= λ f. done (frames_of a f))
-      choice-is = ap (by_choice tray w a) e ∙ ap (λ (z : Extent). function_here tray z.place >>= λ f. done (frames_of a f)) (sym ey)
-
-      pub in-misshapen : (x : LookedUp) → h ≡ Here.Misshapen → RefusedWith Refusal.MisshapenRecords x → LooksUpIn tray w n rising a x
+      pub in-misshapen : (e : Refusal) → IsHere tray y.place (Err e) → LooksUpIn tray w n rising a (Err e)
       unfolding ◌>>=◌
-      in-misshapen x eh R =
-          let z = subst (HereIs tray y.place) eh H.is in
-          without x Refusal.MisshapenRecords R (sym (choice-is ∙ rw z))
+      in-misshapen e H =
+          let z = H.is in
+          whole (Some k) (Err e) C (rw z.0 (sym (choice-is ∙ rw z.1))) tt tt
 
-      pub in-found : (own : ℕ) (row : Row) (b : Chain) → h ≡ Here.Formed own → row_place row ≡ row_from tray own a → ChainAt tray own a b
-          → LooksUpIn tray w n rising a (record { running = Running.Found y.place row; chain = b })
+      pub in-found : (own : ℕ) (row : Option ℕ) (b : Chain) → IsHere tray y.place (Ok own) → place_of row ≡ row_from tray own a → ChainAt tray own a b
+          → LooksUpIn tray w n rising a (Ok (record { function = y.place; row = row; chain = b }))
       unfolding ◌>>=◌ frames_of row_in_force chain nodes_at row_from
-      in-found own row b eh er K =
-          let z = subst (HereIs tray y.place) eh H.is in
+      in-found own row b H er K =
+          let z = H.is in
           let g = z.function in
-          let frames : frames_of a g ≡ record { function = y.place; row = row_place row; chain = take b.nodes b.places } = rw
+          let frames : frames_of a g ≡ record { function = y.place; row = place_of row; chain = take b.nodes b.places } = rw
           (z.here, z.rest, er, K.is) in
-          whole (record { running = Running.Found y.place row; chain = b }) (sym (choice-is ∙ rw z.is (ap done frames))) K.few
-          (λ k q. refused-not (sym q)) K.rest
+          whole (Some k) (Ok (record { function = y.place; row = row; chain = b })) C (sym (choice-is ∙ rw z.is (ap done frames))) K.few K.rest
 
--- where the own fields of the function found begin
-pub here-stands : (s : List ℕ) (p : ℕ) (h : Here) (own : ℕ) → IsHere s p h → h ≡ Here.Formed own → StandsOwn s own
-here-stands s p h own H e = (subst (HereIs s p) e H.is).stands
-
-pub chosen-room : (w : List ℕ) (n a : ℕ) (rising : Bool) (c : Choice) (k : ℕ) → Chosen w n rising a c → c ≡ Choice.At k → n ≤ length w / 24
-    → k * 24 + 24 ≤ length w
-chosen-room w n a true c k C e h = let s = subst (Searched w n a) e (C.searched refl) in let l = s.0 in omega arith
-chosen-room w n a false c k C e h = let s = subst (Scanned w n a) e (C.scanned refl) in let l = s.0 in omega arith
+pub chosen-room : (w : List ℕ) (n a : ℕ) (rising : Bool) (k : ℕ) → Chosen w n rising a (Some k) → n ≤ length w / 24 → k * 24 + 24 ≤ length w
+chosen-room w n a true k C h = let s = C.searched refl in let l = s.0 in omega arith
+chosen-room w n a false k C h = let s = C.scanned refl in let l = s.0 in omega arith

@@ -1,28 +1,24 @@
 -- `lookin::check_function` meets its contract.
-use mathlib.Core.Path.{ap}
-use mathlib.Core.Bool.{not}
-use Rattle.tlv.proofs.CursorLaws.{payload-within}
-use Rattle.look_index.proofs.HereLaws.{here_end, here-cut, here-other, here-misformed, here-own, here-formed}
+use Rattle.tlv.proofs.FieldLaws.{payload-within}
+use Rattle.look_index.proofs.HereLaws.{here_end, here-other, here-misformed, here-own, here-formed}
+use Rattle.look_index.proofs.lookin.check_function.Goals.{then-field-ne-TRAY_FUNCTION_TAG-via-then-field-ne-TRAY_FUNCTION_TAG}
+use Rattle.look_index.proofs.lookin.check_function.Goals.{then-field-ne-TRAY_FUNCTION_TAG-via-else-field-ne-TRAY_FUNCTION_TAG+then-not-function_formed, then-field-ne-TRAY_FUNCTION_TAG-via-else-field-ne-TRAY_FUNCTION_TAG+else-not-function_formed+then-not-own_formed}
 use Rattle.look_index.proofs.lookin.check_function.Goals as goal
 
-pub returns-then-tag-ne-TRAY_FUNCTION_TAG : goal.returns-then-tag-ne-TRAY_FUNCTION_TAG
-returns-then-tag-ne-TRAY_FUNCTION_TAG c = search here-other
+pub returns-in_default : goal.returns-in_default
+returns-in_default c = here_end _ _ c.in_default.ensures
 
-pub function_formed-requires : goal.function_formed-requires
-function_formed-requires c = search payload-within
+pub payload_of-requires : goal.payload_of-requires
+payload_of-requires c = payload-within _ _ _ c.in-Some.ensures
 
-pub returns-then-not-function_formed : goal.returns-then-not-function_formed
-returns-then-not-function_formed c = search here-misformed
+pub returns-then-field-ne-TRAY_FUNCTION_TAG : goal.returns-then-field-ne-TRAY_FUNCTION_TAG
+returns-then-field-ne-TRAY_FUNCTION_TAG c = elim c.then-field-ne-TRAY_FUNCTION_TAG.branch [
+  | then-field-ne-TRAY_FUNCTION_TAG-via-then-field-ne-TRAY_FUNCTION_TAG w ↦ here-other _ _ _ c.in-Some.ensures w.if-field-ne-TRAY_FUNCTION_TAG.true
+  | then-field-ne-TRAY_FUNCTION_TAG-via-else-field-ne-TRAY_FUNCTION_TAG+then-not-function_formed w ↦
+      here-misformed _ _ _ c.in-Some.ensures w.if-field-ne-TRAY_FUNCTION_TAG.false _ w.payload_of.ensures w.if-not-function_formed.ensures
+  | then-field-ne-TRAY_FUNCTION_TAG-via-else-field-ne-TRAY_FUNCTION_TAG+else-not-function_formed+then-not-own_formed w ↦
+      here-own _ _ _ c.in-Some.ensures w.if-field-ne-TRAY_FUNCTION_TAG.false _ w.payload_of.ensures w.if-not-function_formed.ensures w.if-not-own_formed.ensures
+]
 
-pub returns-then-not-own_formed : goal.returns-then-not-own_formed
-returns-then-not-own_formed c = search here-own
-
-pub returns-in-End : goal.returns-in-End
-returns-in-End c = search (here_end, here-cut)
-
-pub returns-in-Cut : goal.returns-in-Cut
-returns-in-Cut c = search (here_end, here-cut)
-
-pub returns-else-not-own_formed : goal.returns-else-not-own_formed
-returns-else-not-own_formed c = here-formed _ _ _ c.field_at.ensures _ _ _ _ c.in-Field.is c.if-tag-ne-TRAY_FUNCTION_TAG.false _ c.function_formed.ensures
-    (ap not c.if-not-function_formed.false) _ c.own_formed.ensures (ap not c.if-not-own_formed.false)
+pub returns : goal.returns
+returns c = here-formed _ _ _ c.in-Some.ensures c.if-field-ne-TRAY_FUNCTION_TAG.false _ c.payload_of.ensures c.if-not-function_formed.ensures c.if-not-own_formed.ensures

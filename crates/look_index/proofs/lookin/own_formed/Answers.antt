@@ -1,41 +1,30 @@
 -- `lookin::own_formed` meets its contract. The loop's invariant: the form of all is the form of what is left, after the fields so far.
-use mathlib.Core.Path.{ap}
-use mathlib.Core.Bool.{not}
-use mathlib.Core.Path.{refl}
-use Rattle.tlv.proofs.CursorLaws.{next-less, payload-within}
-use Rattle.lookup.proofs.CheckLaws.{formed-held}
+use Rattle.tlv.proofs.FieldLaws.{next-less, payload-within}
 use Rattle.look_index.proofs.HereLaws.{own-turn_end, own-turn_cut, own-turn-function, own-turn-order, own-turn-payload, own-turn_next}
 use Rattle.look_index.proofs.lookin.own_formed.Goals as goal
+use Rattle.look_index.proofs.lookin.own_formed.Goals.{then-not-may_follow-via-then-not-may_follow, then-not-may_follow-via-else-not-may_follow+then-not-payload_formed}
 
-pub loop-tag-init : goal.loop-tag-init
-loop-tag-init c = refl
+pub returns-in_default : goal.returns-in_default
+returns-in_default c = search (own-turn_cut, c.in_default.ensures)
 
-pub returns-in-End : goal.returns-in-End
-returns-in-End c = search own-turn_end
+pub returns-then-field-eq-TRAY_FUNCTION_TAG : goal.returns-then-field-eq-TRAY_FUNCTION_TAG
+returns-then-field-eq-TRAY_FUNCTION_TAG c = search (own-turn-function, c.in-Some.ensures)
 
-pub returns-in-Cut : goal.returns-in-Cut
-returns-in-Cut c = search own-turn_cut
-
-pub returns-then-tag-eq-TRAY_FUNCTION_TAG : goal.returns-then-tag-eq-TRAY_FUNCTION_TAG
-returns-then-tag-eq-TRAY_FUNCTION_TAG c = search own-turn-function
+pub payload_of-payload-requires : goal.payload_of-payload-requires
+payload_of-payload-requires c = payload-within _ _ _ c.in-Some.ensures
 
 pub returns-then-not-may_follow : goal.returns-then-not-may_follow
-returns-then-not-may_follow c = search own-turn-order
+returns-then-not-may_follow c = elim c.then-not-may_follow.branch [
+  | then-not-may_follow-via-then-not-may_follow w ↦ search (own-turn-order, c.in-Some.ensures, w.if-not-may_follow.ensures)
+  | then-not-may_follow-via-else-not-may_follow+then-not-payload_formed w ↦
+      search (own-turn-payload, c.in-Some.ensures, w.if-not-may_follow.ensures, w.if-not-payload_formed.ensures)
+]
 
-pub payload_formed-requires : goal.payload_formed-requires
-payload_formed-requires c = search payload-within
+pub loop-p-smaller : goal.loop-p-smaller
+loop-p-smaller c = next-less _ _ _ c.in-Some.ensures
 
-pub returns-then-not-payload_formed : goal.returns-then-not-payload_formed
-returns-then-not-payload_formed c = search own-turn-payload
+pub loop-p-preserved : goal.loop-p-preserved
+loop-p-preserved c = search (own-turn_next, c.in-Some.ensures, c.if-not-may_follow.ensures, c.if-not-payload_formed.ensures)
 
-pub depth_after-depth-requires-clause-len_in_bounds : goal.depth_after-depth-requires-clause-len_in_bounds
-depth_after-depth-requires-clause-len_in_bounds c = search payload-within
-
-pub depth_after-depth-requires-clause-s_value : goal.depth_after-depth-requires-clause-s_value
-depth_after-depth-requires-clause-s_value c = formed-held _ _ _ _ c.payload_formed.ensures (ap not c.if-not-payload_formed.false)
-
-pub loop-tag-smaller : goal.loop-tag-smaller
-loop-tag-smaller c = search next-less
-
-pub loop-tag-preserved : goal.loop-tag-preserved
-loop-tag-preserved c = search own-turn_next
+pub returns : goal.returns
+returns c = search own-turn_end
