@@ -6,6 +6,10 @@ use mathlib.Core.Option.{Option, none, some}
 use Prim.Native.Nat.{ℕ, ◌+◌}
 use native.Mathlib.Omega.{arith}
 use lib.ListN.{length, take, drop}
+use Rattle.std.specs.Prelude.{Some, None}
+use Rattle.tlv.specs.declared.fields.Step.{Step}
+use Rattle.tlv.specs.declared.fields.FieldSpan.{FieldSpan}
+use Rattle.tlv.specs.Cursor.{step_at, span_of, field_from}
 use Rattle.tlv.specs.Outcome.{Outcome}
 use Rattle.tlv.specs.Bytes.{le_at}
 use Rattle.tlv.specs.Lists.{map_option}
@@ -14,7 +18,6 @@ use Rattle.tlv.specs.Model.{Entry, RangeFailure, range_list_of}
 use Rattle.tlv.specs.Checked.{Placed}
 use Rattle.tlv.proofs.ShapeLaws.{number_at, number-first}
 use Rattle.tlv.proofs.PlacePromises.{placed-list}
-use Rattle.access.specs.declared.access.Own.{Own}
 use Rattle.access.specs.Places.{own_fields, entry_here}
 use Rattle.access.specs.Access.{NextOwn}
 use Rattle.access.proofs.OwnLaws.{own-field}
@@ -49,8 +52,13 @@ empty_none : (xs : List (List ℕ)) → length xs ≡ 0 → xs ≡ []
 empty_none [] h = refl
 empty_none (x ∷ xs) h = absurd (omega arith)
 
+-- a field that stands at a place
+span : (s : List ℕ) (p t start len next : ℕ) → step_at s p ≡ Step.Field t start len next → Some (record { tag = t; start = start; len = len; next = next }) ≡ field_from s p
+unfolding span_of
+span s p t start len next e = rw e
+
 -- it is not looked for
-pub field-missing : {main : List ℕ} {at : ℕ} → own_lists main at ≡ 0 → NextOwn main at 0x1f Own.Missing
+pub field-missing : {main : List ℕ} {at : ℕ} → own_lists main at ≡ 0 → NextOwn main at 0x1f None
 field-missing h = record { is = sym (empty_none _ h); within = tt; stands = tt }
 
 -- what the definition does with the ranges of the entry at p, wherever they come from, and with those of its fields 19 and 1a
@@ -69,10 +77,10 @@ own_payloads main p = payloads 0x1f (own_fields (fields (drop (p + 15) main)))
 
 -- by what the entry's ranges are
 sourced : {main supplementary : List ℕ} (lists addresses : List ℕ) (q : ImportContext) (name : List ℕ) (p : ℕ) {t f u w w' t' f' u' : List ℕ}
-    {st r : ImportState} {d : DieRanges}
+    {n : ℕ} {st r : ImportState} {d : DieRanges}
     → die_ranges (dwarf_with main supplementary lists addresses) (entry_here main p) ≡ d
-    → Imports (λ s. import_failing (context_with main supplementary lists addresses w q) (entry_here main p) (below_entry main p) name d.given d.failure s) (sheets main supplementary) q (memory w t f u) st (memory w' t' f' u') r
-    → Imports (NamedFrom main supplementary lists addresses q name p w) (sheets main supplementary) q (memory w t f u) st (memory w' t' f' u') r
+    → Imports (λ s. import_failing (context_with main supplementary lists addresses w q) (entry_here main p) (below_entry main p) name d.given d.failure s) (sheets main supplementary) q (memory w t f u) st (memory w' t' f' u') n r
+    → Imports (NamedFrom main supplementary lists addresses q name p w) (sheets main supplementary) q (memory w t f u) st (memory w' t' f' u') n r
 sourced {main} {supplementary} lists addresses q name p {w = w} e I =
     grows_as
     (λ s. by-given (context_with main supplementary lists addresses w q) (entry_here main p) (below_entry main p) name
@@ -91,9 +99,9 @@ module _ {main supplementary w : List ℕ} {q : ImportContext} {T : StoredFiles}
   list-none e = rw (list-is, e)
 
   -- from its fields 19 and 1a
-  from_fields : (lists addresses name : List ℕ) {t f u w' t' f' u' : List ℕ} {st r : ImportState} → own_payloads main p ≡ []
-      → Imports (FieldsFrom main supplementary lists addresses q name p w) (sheets main supplementary) q (memory w t f u) st (memory w' t' f' u') r
-      → Imports (NamedFrom main supplementary lists addresses q name p w) (sheets main supplementary) q (memory w t f u) st (memory w' t' f' u') r
+  from_fields : (lists addresses name : List ℕ) {t f u w' t' f' u' : List ℕ} {n : ℕ} {st r : ImportState} → own_payloads main p ≡ []
+      → Imports (FieldsFrom main supplementary lists addresses q name p w) (sheets main supplementary) q (memory w t f u) st (memory w' t' f' u') n r
+      → Imports (NamedFrom main supplementary lists addresses q name p w) (sheets main supplementary) q (memory w t f u) st (memory w' t' f' u') n r
   unfolding die_ranges
   from_fields lists addresses name e I = sourced lists addresses q name p (ap (die_ranges_by lists addresses (entry_here main p)) (list-none e)) I
 
@@ -106,46 +114,43 @@ module _ {main supplementary w : List ℕ} {q : ImportContext} {T : StoredFiles}
         C.listless n,
         E.lists,
         lists-most main p,
-        lists-entry main p _ refl 0x17 (p + 3) 12 (p + 15) step refl,
+        lists-entry main p (record { tag = 0x17; start = p + 3; len = 12; next = p + 15 }) (span _ _ _ _ _ _ step) refl,
         lists-other main p _ refl 0x17 (p + 3) 12 (p + 15) step (λ z. omega arith) (λ z. omega arith),
       )
 
-  module _ {o : Own} (N : NextOwn main (p + 15) 0x1f o) where
-    -- this one has none
-    pub named-unlisted : (lists addresses name : List ℕ) {t f u w' t' f' u' : List ℕ} {st r : ImportState} → o ≡ Own.Missing
-        → Imports (FieldsFrom main supplementary lists addresses q name p w) (sheets main supplementary) q (memory w t f u) st (memory w' t' f' u') r
-        → Imports (NamedFrom main supplementary lists addresses q name p w) (sheets main supplementary) q (memory w t f u) st (memory w' t' f' u') r
-    named-unlisted lists addresses name e I = from_fields lists addresses name (sym (rw e at N.is)) I
+  -- this one has none
+  pub named-unlisted : NextOwn main (p + 15) 0x1f None → (lists addresses name : List ℕ) {t f u w' t' f' u' : List ℕ} {n : ℕ} {st r : ImportState}
+      → Imports (FieldsFrom main supplementary lists addresses q name p w) (sheets main supplementary) q (memory w t f u) st (memory w' t' f' u') n r
+      → Imports (NamedFrom main supplementary lists addresses q name p w) (sheets main supplementary) q (memory w t f u) st (memory w' t' f' u') n r
+  named-unlisted N lists addresses name I = from_fields lists addresses name (sym N.is) I
 
-    module _ {start len next : ℕ} (e : o ≡ Own.Field start len next) (h : Placed main (p + 15)) where
-      own_is : own_payloads main p ≡ take len (drop start main) ∷ payloads 0x1f (own_fields (fields (drop next main)))
-      own_is = sym (rw e at N.is)
+  module _ {field : FieldSpan} (N : NextOwn main (p + 15) 0x1f (Some field)) (h : Placed main (p + 15)) where
+    own_is : own_payloads main p ≡ take field.len (drop field.start main) ∷ payloads 0x1f (own_fields (fields (drop field.next main)))
+    own_is = sym N.is
 
-      long : len ≡ 25
-      long =
-          let x = own-field main (p + 15) 0x1f o start len next N e h in placed-list main x.place x.step 0x1f start len next x.here x.reads
-          x.is refl
+    long : field.len ≡ 25
+    long = let x = own-field main (p + 15) 0x1f field N h in placed-list main x.place (step_at main x.place) 0x1f field.start field.len field.next x.here refl x.is refl
 
-      -- the field's numbers
-      read_is : range_list_of (take len (drop start main))
-          ≡ record { offset = le_at 8 main start; base = le_at 8 main (start + 8); addresses = le_at 8 main (start + 16); size = le_at 1 main (start + 24) }
-      unfolding range_list_of
-      read_is = λ i. record {
-        offset = number-first main start len 8 (le_at 8 main start) (omega (arith, long)) refl i;
-        base = number_at main start len 8 8 (le_at 8 main (start + 8)) (omega (arith, long)) refl i;
-        addresses = number_at main start len 8 16 (le_at 8 main (start + 16)) (omega (arith, long)) refl i;
-        size = number_at main start len 1 24 (le_at 1 main (start + 24)) (omega (arith, long)) refl i;
-      }
+    -- the field's numbers
+    read_is : range_list_of (take field.len (drop field.start main))
+        ≡ record { offset = le_at 8 main field.start; base = le_at 8 main (field.start + 8); addresses = le_at 8 main (field.start + 16); size = le_at 1 main (field.start + 24) }
+    unfolding range_list_of
+    read_is = λ i. record {
+      offset = number-first main field.start field.len 8 (le_at 8 main field.start) (omega (arith, long)) refl i;
+      base = number_at main field.start field.len 8 8 (le_at 8 main (field.start + 8)) (omega (arith, long)) refl i;
+      addresses = number_at main field.start field.len 8 16 (le_at 8 main (field.start + 16)) (omega (arith, long)) refl i;
+      size = number_at main field.start field.len 1 24 (le_at 1 main (field.start + 24)) (omega (arith, long)) refl i;
+    }
 
-      list-some : (entry_here main p).list
-          ≡ some (record { offset = le_at 8 main start; base = le_at 8 main (start + 8); addresses = le_at 8 main (start + 16); size = le_at 1 main (start + 24) })
-      unfolding payload_of map_option
-      list-some = rw (list-is, own_is, read_is)
+    list-some : (entry_here main p).list
+        ≡ some (record { offset = le_at 8 main field.start; base = le_at 8 main (field.start + 8); addresses = le_at 8 main (field.start + 16); size = le_at 1 main (field.start + 24) })
+    unfolding payload_of map_option
+    list-some = rw (list-is, own_is, read_is)
 
-      -- from its list
-      pub named-listed : (lists addresses name : List ℕ) {t f u w' t' f' u' : List ℕ} {st r : ImportState}
-          → Imports (import_listed (context_with main supplementary lists addresses w q) (entry_here main p) (below_entry main p) name
-          (list_of main lists addresses start)) (sheets main supplementary) q (memory w t f u) st (memory w' t' f' u') r
-          → Imports (NamedFrom main supplementary lists addresses q name p w) (sheets main supplementary) q (memory w t f u) st (memory w' t' f' u') r
-      unfolding die_ranges list_ranges
-      named-listed lists addresses name I = sourced lists addresses q name p (ap (die_ranges_by lists addresses (entry_here main p)) list-some) I
+    -- from its list
+    pub named-listed : (lists addresses name : List ℕ) {t f u w' t' f' u' : List ℕ} {n : ℕ} {st r : ImportState}
+        → Imports (import_listed (context_with main supplementary lists addresses w q) (entry_here main p) (below_entry main p) name
+        (list_of main lists addresses field.start)) (sheets main supplementary) q (memory w t f u) st (memory w' t' f' u') n r
+        → Imports (NamedFrom main supplementary lists addresses q name p w) (sheets main supplementary) q (memory w t f u) st (memory w' t' f' u') n r
+    unfolding die_ranges list_ranges
+    named-listed lists addresses name I = sourced lists addresses q name p (ap (die_ranges_by lists addresses (entry_here main p)) list-some) I

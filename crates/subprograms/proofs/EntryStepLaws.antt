@@ -7,6 +7,7 @@ use Prim.Native.Nat.{ℕ, ◌+◌, ◌≤◌, ◌<◌}
 use native.Mathlib.Omega.{arith}
 use lib.ListN.{length}
 use borrow.Author.Tests.{eq-eqb, ne_eqb}
+use Rattle.std.specs.Prelude.{Some, None}
 use Rattle.tlv.specs.Outcome.{refused, done, ◌>>=◌}
 use Rattle.tlv.specs.Lists.{All, is_empty, at, map_option}
 use Rattle.tlv.specs.Bytes.{Bytes, le_at}
@@ -30,7 +31,6 @@ use Rattle.references.specs.Names.{dwarf_of, Resolved, found_name}
 use Rattle.references.proofs.SectionLaws.{name-same}
 use Rattle.references.proofs.NameBounds.{DwarfAccepted, name-string}
 use Rattle.references.proofs.TargetLaws.{known-entry}
-use Rattle.references.specs.declared.names.FoundName.{FoundName}
 use Rattle.imports.specs.Tree.{die_ranges}
 use Rattle.imports.specs.Import.{State, import_subprogram, import_by_failure}
 use Rattle.imports.specs.Import as import
@@ -46,13 +46,13 @@ use Rattle.subprograms.proofs.StepLaws.{grows_beside, grows_none, grows_no, impo
 
 -- ---- what the definition does
 
-name-missing : (name : List ℕ) (r : FoundName) → r ≡ found_name name → r ≡ FoundName.Missing → is_empty name ≡ true
-name-missing [] r e is = refl
-name-missing (b ∷ bs) r e is = let z : ◌≡◌ {A = ℕ} 0 1 = cc in absurd (omega arith)
+name-missing : (name : List ℕ) → None ≡ found_name name → is_empty name ≡ true
+name-missing [] e = refl
+name-missing (b ∷ bs) e = cc
 
-name-found : (name : List ℕ) (r : FoundName) (n : ℕ) → r ≡ found_name name → r ≡ FoundName.Found n → is_empty name ≡ false
-name-found [] r n e is = let z : ◌≡◌ {A = ℕ} 0 1 = cc in absurd (omega arith)
-name-found (b ∷ bs) r n e is = refl
+name-found : (name : List ℕ) {x : List ℕ} → Some x ≡ found_name name → is_empty name ≡ false
+name-found [] e = cc
+name-found (b ∷ bs) e = refl
 
 module _ (x : import.ImportContext) (e : Entry) (below : List Entry) (s : State) where
   entry_other : (e.tag ≡ 0x2e → ⊥) → import_entry x e below s ≡ done s
@@ -132,11 +132,11 @@ module _ {main supplementary w w₁ : List ℕ} {q : ImportContext} {table : Sto
 
 module _ {main supplementary w : List ℕ} (lists addresses : List ℕ) {q : ImportContext} {p : ℕ} (st : ImportState) (C : ContextIn main supplementary w q st.table) (K : EntryKnown main q.unit p) where
   -- another entry than a subprogram
-  pub entry-passed : {t f u : List ℕ} → (le_at 2 main (p + 13) ≡ 0x2e → ⊥) → st.status ≡ 0 → st.at ≤ top → st.warned ≤ top → length t < top → length f < top → length u < top
-      → Imports (import_entry (context_with main supplementary lists addresses w q) (entry_here main p) (below_entry main p)) (sheets main supplementary) q (memory w t f u) st (memory w t f u) st
-  entry-passed h ok at warned small tiny few =
+  pub entry-passed : {t f u : List ℕ} → (le_at 2 main (p + 13) ≡ 0x2e → ⊥) → st.at ≤ top → st.warned ≤ top → length t < top → length f < top → length u < top
+      → Imports (import_entry (context_with main supplementary lists addresses w q) (entry_here main p) (below_entry main p)) (sheets main supplementary) q (memory w t f u) st (memory w t f u) 0 st
+  entry-passed h at warned small tiny few =
       grows_as (λ s. entry_other (context_with main supplementary lists addresses w q) (entry_here main p) (below_entry main p) s (λ e. h (sym (tag_is C K) ∙ e)))
-      (grows_none C.files ok at warned small tiny few)
+      (grows_none C.files at warned small tiny few)
 
   module _ (is : le_at 2 main (p + 13) ≡ 0x2e) {w₁ name : List ℕ} {st' : ℕ}
       (R : Resolved main supplementary q.places.tables w w₁ (resolve_name (dwarf_of main supplementary) (unit_here main q.unit) (entry_here main p)) st' name) where
@@ -145,26 +145,26 @@ module _ {main supplementary w : List ℕ} (lists addresses : List ℕ) {q : Imp
     same_name = name-same lists addresses (dwarf_of main supplementary) (unit_here main q.unit) (entry_here main p)
 
     pub name-refused : {t f u : List ℕ} → (st' ≡ 0 → ⊥)
-        → Imports (import_entry (context_with main supplementary lists addresses w q) (entry_here main p) (below_entry main p)) (sheets main supplementary) q (memory w t f u) st (memory w₁ t f u) (record { table = st.table; at = st.at; warned = st.warned; stats = st.stats; status = st'; past = st.past })
+        → Imports (import_entry (context_with main supplementary lists addresses w q) (entry_here main p) (below_entry main p)) (sheets main supplementary) q (memory w t f u) st (memory w₁ t f u) st' st
     name-refused h = grows_no h (λ rs ws. entry-refused (context_with main supplementary lists addresses w q) (entry_here main p) (below_entry main p) _ (tag_is C K ∙ is) (same_name ∙ given-refused st' name R.is h))
 
-    module _ (size : length w₁ ≡ length w) (z : st' ≡ 0) {found : FoundName} (ef : found ≡ found_name name) {t f u : List ℕ}
-        (ok : st.status ≡ 0) (at : st.at ≤ top) (warned : st.warned ≤ top) (small : length t < top) (tiny : length f < top) (few : length u < top) where
-      searched : Imports done (sheets main supplementary) q (memory w t f u) st (memory w₁ t f u) st
-      searched = grows_beside (walk-written C R.rest) (same-table C R.rest) (files-after C R.rest size) ok at warned small tiny few
+    module _ (size : length w₁ ≡ length w) (z : st' ≡ 0) {t f u : List ℕ}
+        (at : st.at ≤ top) (warned : st.warned ≤ top) (small : length t < top) (tiny : length f < top) (few : length u < top) where
+      searched : Imports done (sheets main supplementary) q (memory w t f u) st (memory w₁ t f u) 0 st
+      searched = grows_beside (walk-written C R.rest) (same-table C R.rest) (files-after C R.rest size) at warned small tiny few
 
-      pub name-empty : found ≡ FoundName.Missing
-          → Imports (import_entry (context_with main supplementary lists addresses w q) (entry_here main p) (below_entry main p)) (sheets main supplementary) q (memory w t f u) st (memory w₁ t f u) st
+      pub name-empty : None ≡ found_name name
+          → Imports (import_entry (context_with main supplementary lists addresses w q) (entry_here main p) (below_entry main p)) (sheets main supplementary) q (memory w t f u) st (memory w₁ t f u) 0 st
       name-empty e =
-          grows_as (λ s. entry-nameless (context_with main supplementary lists addresses w q) (entry_here main p) (below_entry main p) s (tag_is C K ∙ is) (same_name ∙ given-done st' name R.is z) (name-missing name found ef e))
+          grows_as (λ s. entry-nameless (context_with main supplementary lists addresses w q) (entry_here main p) (below_entry main p) s (tag_is C K ∙ is) (same_name ∙ given-done st' name R.is z) (name-missing name e))
           searched
 
-      pub name-given : {k : ℕ} → found ≡ FoundName.Found k → {w₂ t₂ f₂ u₂ : List ℕ} {r : ImportState}
-          → Imports (import_by_failure (context_with main supplementary lists addresses w₁ q) (entry_here main p) (below_entry main p) name (die_ranges (dwarf_with main supplementary lists addresses) (entry_here main p)).failure) (sheets main supplementary) q (memory w₁ t f u) st (memory w₂ t₂ f₂ u₂) r
-          → Imports (import_entry (context_with main supplementary lists addresses w q) (entry_here main p) (below_entry main p)) (sheets main supplementary) q (memory w t f u) st (memory w₂ t₂ f₂ u₂) r
-      name-given {k} e I =
+      pub name-given : {x : List ℕ} → Some x ≡ found_name name → {w₂ t₂ f₂ u₂ : List ℕ} {m : ℕ} {r : ImportState}
+          → Imports (import_by_failure (context_with main supplementary lists addresses w₁ q) (entry_here main p) (below_entry main p) name (die_ranges (dwarf_with main supplementary lists addresses) (entry_here main p)).failure) (sheets main supplementary) q (memory w₁ t f u) st (memory w₂ t₂ f₂ u₂) m r
+          → Imports (import_entry (context_with main supplementary lists addresses w q) (entry_here main p) (below_entry main p)) (sheets main supplementary) q (memory w t f u) st (memory w₂ t₂ f₂ u₂) m r
+      name-given e I =
           grows_as
-          (λ s. entry_named (context_with main supplementary lists addresses w q) (entry_here main p) (below_entry main p) s (tag_is C K ∙ is) (same_name ∙ given-done st' name R.is z) (name-found name found k ef e)
+          (λ s. entry_named (context_with main supplementary lists addresses w q) (entry_here main p) (below_entry main p) s (tag_is C K ∙ is) (same_name ∙ given-done st' name R.is z) (name-found name e)
           ∙ ap (λ (x : import.ImportContext). done s >>= import_by_failure x (entry_here main p) (below_entry main p) name (die_ranges (dwarf_with main supplementary lists addresses) (entry_here main p)).failure)
           (sym (context-same C (walk-written C R.rest) lists addresses)))
-          (imports_then q ok searched I)
+          (imports_then q refl searched I)

@@ -8,7 +8,10 @@ use native.Mathlib.Omega.{arith}
 use lib.Dec.{eqb}
 use lib.ListN.{length, take, drop, length-take}
 use borrow.Author.Tests.{eq-eqb, ne_eqb}
+use Rattle.std.specs.Prelude.{Some, None}
+use Rattle.tlv.specs.declared.fields.FieldSpan.{FieldSpan}
 use Rattle.tlv.specs.declared.model.AddressRange.{AddressRange}
+use Rattle.tlv.specs.Cursor.{step_at}
 use Rattle.tlv.specs.Outcome.{Outcome, done, ◌>>=◌}
 use Rattle.tlv.specs.Bytes.{le_at}
 use Rattle.tlv.specs.Lists.{map_option}
@@ -25,7 +28,6 @@ use Rattle.buffers.specs.Table.{chunk}
 use Rattle.buffers.specs.Output.{each_of, warning_payload, warnings_bytes, malformed_ranges, about, rejected_range}
 use Rattle.buffers.proofs.BufferLaws.{put_as}
 use Rattle.buffers.proofs.ChunkLaws.{le_at-chunk, le_at-front}
-use Rattle.access.specs.declared.access.Own.{Own}
 use Rattle.access.specs.Places.{own_fields, entry_here}
 use Rattle.access.specs.Access.{NextOwn}
 use Rattle.access.proofs.OwnLaws.{own-field, own-placed, own-within}
@@ -41,7 +43,7 @@ use Rattle.subprograms.specs.declared.model.ImportContext.{ImportContext}
 use Rattle.subprograms.specs.Contexts.{ContextIn, context_with}
 use Rattle.subprograms.specs.Steps.{sheets, memory, Imports, Rejects, import_one, import_failing, below_entry}
 use Rattle.subprograms.proofs.ContextLaws.{context-same}
-use Rattle.subprograms.proofs.StepLaws.{grows_none, imports_then, grows-refused, grows_as, imports-rejected, grows_at, imports-context}
+use Rattle.subprograms.proofs.StepLaws.{grows_none, refused_as, imports_then, grows-refused, grows_as, imports-rejected, grows_at, imports-context}
 
 -- ---- what the definition does
 
@@ -78,27 +80,27 @@ module _ {main supplementary w : List ℕ} {q : ImportContext} {T : StoredFiles}
   failure-is : (entry_here main p).failure ≡ map_option failure_of (payload_of 0x1a (own_fields (fields (drop (p + 15) main))))
   failure-is = entry-failure main p _ 0x17 (p + 3) 12 (p + 15) refl (entry-step start-placed K)
 
-module _ (s : List ℕ) (p : ℕ) (r : Own) (own : NextOwn s p 0x19 r) where
-  given-end : r ≡ Own.Missing → map entry_range_of (range_fields s p) ≡ []
-  given-end e = ap (map entry_range_of) (sym (rw e at own.is))
+given-end : (s : List ℕ) (p : ℕ) → NextOwn s p 0x19 None → map entry_range_of (range_fields s p) ≡ []
+given-end s p own = ap (map entry_range_of) (sym own.is)
 
-  module _ (start len next : ℕ) (e : r ≡ Own.Field start len next) (h : Placed s p) where
-    long : len ≡ 17
-    long = let f = own-field s p 0x19 r start len next own e h in placed-range s f.place f.step 0x19 start len next f.here f.reads f.is refl
+module _ (s : List ℕ) (p : ℕ) (r : FieldSpan) (own : NextOwn s p 0x19 (Some r)) where
+  module _ (h : Placed s p) where
+    long : r.len ≡ 17
+    long = let f = own-field s p 0x19 r own h in placed-range s f.place (step_at s f.place) 0x19 r.start r.len r.next f.here refl f.is refl
 
-    given-more : (x : AddressRange) (flag : ℕ) → x ≡ range_of (chunk s start 16) → flag ≡ le_at 1 s (start + 16)
-        → map entry_range_of (range_fields s p) ≡ record { range = x; tombstone = eqb flag 1 } ∷ map entry_range_of (range_fields s next)
+    given-more : (x : AddressRange) (flag : ℕ) → x ≡ range_of (chunk s r.start 16) → flag ≡ le_at 1 s (r.start + 16)
+        → map entry_range_of (range_fields s p) ≡ record { range = x; tombstone = eqb flag 1 } ∷ map entry_range_of (range_fields s r.next)
     unfolding entry_range_of range_of
     given-more x flag ex ef =
-        ap (map entry_range_of) (sym (rw e at own.is)) ∙ (λ i. record {
+        ap (map entry_range_of) (sym own.is) ∙ (λ i. record {
           range = (front ∙ sym ex) i;
-          tombstone = eqb (number_at s start len 1 16 flag (omega (arith, long)) ef i) 1;
-        } ∷ map entry_range_of (range_fields s next))
+          tombstone = eqb (number_at s r.start r.len 1 16 flag (omega (arith, long)) ef i) 1;
+        } ∷ map entry_range_of (range_fields s r.next))
       where
-        front : range_of (take len (drop start s)) ≡ range_of (chunk s start 16)
+        front : range_of (take r.len (drop r.start s)) ≡ range_of (chunk s r.start 16)
         front = λ i. record {
-          start = number-first s start len 8 (le_at 8 (chunk s start 16) 0) (omega (arith, long)) (le_at-front 8 s start 16 (omega arith)) i;
-          end = number_at s start len 8 8 (le_at 8 (chunk s start 16) 8) (omega (arith, long)) (le_at-chunk 8 s start 16 8 (omega arith)) i;
+          start = number-first s r.start r.len 8 (le_at 8 (chunk s r.start 16) 0) (omega (arith, long)) (le_at-front 8 s r.start 16 (omega arith)) i;
+          end = number_at s r.start r.len 8 8 (le_at 8 (chunk s r.start 16) 8) (omega (arith, long)) (le_at-chunk 8 s r.start 16 8 (omega arith)) i;
         }
 
 -- ---- the loop
@@ -116,76 +118,73 @@ pub record Going (main supplementary lists addresses : List ℕ) (q : ImportCont
   pub placed : Placed main at
   pub context : ContextIn main supplementary w q st.table
   pub same : context_with main supplementary lists addresses w q ≡ context_with main supplementary lists addresses w₀ q
-  pub status : st.status ≡ 0
   pub records : st.at ≤ top
   pub warned : st.warned ≤ top
   pub size : length w ≡ length w₀
   pub records-size : length t ≡ length t₀
   pub files-size : length f ≡ length f₀
   pub warnings-size : length u ≡ length u₀
-  pub finish : (w' t' f' u' : List ℕ) (r : ImportState)
-      → Imports (RangesFrom main supplementary lists addresses q name p w₀ (map entry_range_of (range_fields main at))) (sheets main supplementary) q (memory w t f u) st (memory w' t' f' u') r
-      → Imports (RangesFrom main supplementary lists addresses q name p w₀ (entry_here main p).ranges) (sheets main supplementary) q (memory w₀ t₀ f₀ u₀) st₀ (memory w' t' f' u') r
+  pub finish : (w' t' f' u' : List ℕ) (n : ℕ) (r : ImportState)
+      → Imports (RangesFrom main supplementary lists addresses q name p w₀ (map entry_range_of (range_fields main at))) (sheets main supplementary) q (memory w t f u) st (memory w' t' f' u') n r
+      → Imports (RangesFrom main supplementary lists addresses q name p w₀ (entry_here main p).ranges) (sheets main supplementary) q (memory w₀ t₀ f₀ u₀) st₀ (memory w' t' f' u') n r
 
 module _ {main supplementary w₀ : List ℕ} {q : ImportContext} {p : ℕ} {st₀ : ImportState} (lists addresses name t₀ f₀ u₀ : List ℕ) where
   pub going_start : ContextIn main supplementary w₀ q st₀.table → EntryKnown main q.unit p → Placed main (p + 15)
-      → st₀.status ≡ 0 → st₀.at ≤ top → st₀.warned ≤ top
+      → st₀.at ≤ top → st₀.warned ≤ top
       → Going main supplementary lists addresses q name p w₀ t₀ f₀ u₀ st₀ w₀ t₀ f₀ u₀ st₀ (p + 15)
-  going_start C K h z a b = record {
+  going_start C K h a b = record {
     placed = h;
     context = C;
     same = refl;
-    status = z;
     records = a;
     warned = b;
     size = refl;
     records-size = refl;
     files-size = refl;
     warnings-size = refl;
-    finish = λ w' t' f' u' r I. grows_as (λ s. ap (λ (xs : List EntryRange). RangesFrom main supplementary lists addresses q name p w₀ xs s) (given_is C K)) I;
+    finish = λ w' t' f' u' n r I. grows_as (λ s. ap (λ (xs : List EntryRange). RangesFrom main supplementary lists addresses q name p w₀ xs s) (given_is C K)) I;
   }
 
 module _ {main supplementary lists addresses : List ℕ} {q : ImportContext} {name : List ℕ} {p : ℕ} {w₀ t₀ f₀ u₀ : List ℕ} {st₀ : ImportState} {w t f u : List ℕ} {st : ImportState} {at : ℕ}
-    (G : Going main supplementary lists addresses q name p w₀ t₀ f₀ u₀ st₀ w t f u st at) {own : Own} (N : NextOwn main at 0x19 own) where
-  pub going_done : own ≡ Own.Missing → length t < top → length f < top → length u < top
-      → Imports (RangesFrom main supplementary lists addresses q name p w₀ (entry_here main p).ranges) (sheets main supplementary) q (memory w₀ t₀ f₀ u₀) st₀ (memory w t f u) st
-  going_done e kt kf ku =
-      G.finish w t f u st
-      (grows_as (λ s. ap (λ xs. RangesFrom main supplementary lists addresses q name p w₀ xs s) (given-end main at own N e) ∙ ranges-none (context_with main supplementary lists addresses w₀ q) (entry_here main p) (below_entry main p) name s)
-      (grows_none G.context.files G.status G.records G.warned kt kf ku))
+    (G : Going main supplementary lists addresses q name p w₀ t₀ f₀ u₀ st₀ w t f u st at) where
+  pub going_done : NextOwn main at 0x19 None → length t < top → length f < top → length u < top
+      → Imports (RangesFrom main supplementary lists addresses q name p w₀ (entry_here main p).ranges) (sheets main supplementary) q (memory w₀ t₀ f₀ u₀) st₀ (memory w t f u) 0 st
+  going_done N kt kf ku =
+      G.finish w t f u 0 st
+      (grows_as (λ s. ap (λ xs. RangesFrom main supplementary lists addresses q name p w₀ xs s) (given-end main at N) ∙ ranges-none (context_with main supplementary lists addresses w₀ q) (entry_here main p) (below_entry main p) name s)
+      (grows_none G.context.files G.records G.warned kt kf ku))
 
-  module _ (start len next : ℕ) (e : own ≡ Own.Field start len next) where
-    pub going-within : start + 17 ≤ length main
-    going-within = omega (arith, long main at own N start len next e G.placed, own-within main at 0x19 own start len next N e)
+  module _ {field : FieldSpan} (N : NextOwn main at 0x19 (Some field)) where
+    pub going-within : field.start + 17 ≤ length main
+    going-within = omega (arith, long main at field N G.placed, own-within main at 0x19 field N)
 
-    module _ {x : AddressRange} {flag : ℕ} (ex : x ≡ range_of (chunk main start 16)) (ef : flag ≡ le_at 1 main (start + 16)) {w' t' f' u' : List ℕ} {r : ImportState}
-        (I : Imports (RangeOne main supplementary lists addresses q name p w x flag) (sheets main supplementary) q (memory w t f u) st (memory w' t' f' u') r) where
+    module _ {x : AddressRange} {flag : ℕ} (ex : x ≡ range_of (chunk main field.start 16)) (ef : flag ≡ le_at 1 main (field.start + 16)) {w' t' f' u' : List ℕ} {n : ℕ} {r : ImportState}
+        (I : Imports (RangeOne main supplementary lists addresses q name p w x flag) (sheets main supplementary) q (memory w t f u) st (memory w' t' f' u') n r) where
       turn : (s : State) → RangesFrom main supplementary lists addresses q name p w₀ (map entry_range_of (range_fields main at)) s
           ≡ RangeOne main supplementary lists addresses q name p w x flag s
-          >>= RangesFrom main supplementary lists addresses q name p w₀ (map entry_range_of (range_fields main next))
+          >>= RangesFrom main supplementary lists addresses q name p w₀ (map entry_range_of (range_fields main field.next))
       turn s =
-          ap (λ xs. RangesFrom main supplementary lists addresses q name p w₀ xs s) (given-more main at own N start len next e G.placed x flag ex ef)
-          ∙ ranges-step (context_with main supplementary lists addresses w₀ q) (entry_here main p) (below_entry main p) name (record { range = x; tombstone = eqb flag 1 }) (map entry_range_of (range_fields main next)) s
-          ∙ ap (λ (k : import.ImportContext). import_one k (entry_here main p) (below_entry main p) name (record { range = x; tombstone = eqb flag 1 }) s >>= RangesFrom main supplementary lists addresses q name p w₀ (map entry_range_of (range_fields main next))) (sym G.same)
+          ap (λ xs. RangesFrom main supplementary lists addresses q name p w₀ xs s) (given-more main at field N G.placed x flag ex ef)
+          ∙ ranges-step (context_with main supplementary lists addresses w₀ q) (entry_here main p) (below_entry main p) name (record { range = x; tombstone = eqb flag 1 }) (map entry_range_of (range_fields main field.next)) s
+          ∙ ap (λ (k : import.ImportContext). import_one k (entry_here main p) (below_entry main p) name (record { range = x; tombstone = eqb flag 1 }) s >>= RangesFrom main supplementary lists addresses q name p w₀ (map entry_range_of (range_fields main field.next))) (sym G.same)
 
-      pub going-refused : (r.status ≡ 0 → ⊥)
-          → Imports (RangesFrom main supplementary lists addresses q name p w₀ (entry_here main p).ranges) (sheets main supplementary) q (memory w₀ t₀ f₀ u₀) st₀ (memory w' t' f' u') r
-      going-refused n = G.finish w' t' f' u' r (grows_as turn (grows-refused (RangesFrom main supplementary lists addresses q name p w₀ (map entry_range_of (range_fields main next))) n I))
+      pub going-refused : {r' : ImportState} → (n ≡ 0 → ⊥)
+          → Imports (RangesFrom main supplementary lists addresses q name p w₀ (entry_here main p).ranges) (sheets main supplementary) q (memory w₀ t₀ f₀ u₀) st₀ (memory w' t' f' u') n r'
+      going-refused {r'} h = refused_as h (G.finish w' t' f' u' n r (grows_as turn (grows-refused (RangesFrom main supplementary lists addresses q name p w₀ (map entry_range_of (range_fields main field.next))) h I)))
 
-      pub going_turn : r.status ≡ 0 → length w' ≡ length w → length t' ≡ length t → length f' ≡ length f → length u' ≡ length u
-          → Going main supplementary lists addresses q name p w₀ t₀ f₀ u₀ st₀ w' t' f' u' r next
+      pub going_turn : n ≡ 0 → length w' ≡ length w → length t' ≡ length t → length f' ≡ length f → length u' ≡ length u
+          → Going main supplementary lists addresses q name p w₀ t₀ f₀ u₀ st₀ w' t' f' u' r field.next
       going_turn z sw st sf su = record {
-        placed = own-placed main at 0x19 own start len next N e G.placed;
+        placed = own-placed main at 0x19 field N G.placed;
         context = imports-context sw z G.context I;
         same = context-same G.context (I.kept z) lists addresses ∙ G.same;
-        status = z;
         records = (grows_at I z).0;
         warned = (grows_at I z).1;
         size = sw ∙ G.size;
         records-size = st ∙ G.records-size;
         files-size = sf ∙ G.files-size;
         warnings-size = su ∙ G.warnings-size;
-        finish = λ w'' t'' f'' u'' r'' J. G.finish w'' t'' f'' u'' r'' (grows_as turn (imports_then q z I J));
+        finish = λ w'' t'' f'' u'' m r'' J. G.finish w'' t'' f'' u'' m r'' (grows_as turn (imports_then q z I J));
       }
 
 -- ---- a failure
@@ -204,73 +203,73 @@ reason-put stopped reason P = put_as (append-nil (encode 0x46 (warning_payload (
 abbrev reason_at : List ℕ → ℕ → ℕ → List ℕ
 reason_at main start len = take (start + len - (start + 1)) (drop (start + 1) main)
 
-module _ {main : List ℕ} {at : ℕ} (h : Placed main at) {own : Own} (N : NextOwn main at 0x1a own) (start len next : ℕ) (e : own ≡ Own.Field start len next) where
-  pub named-within : (1 ≤ len) × (len - 1 ≤ reason_limit) × (start + len ≤ length main)
+module _ {main : List ℕ} {at : ℕ} (h : Placed main at) {field : FieldSpan} (N : NextOwn main at 0x1a (Some field)) where
+  pub named-within : (1 ≤ field.len) × (field.len - 1 ≤ reason_limit) × (field.start + field.len ≤ length main)
   named-within =
-      let f = own-field main at 0x1a own start len next N e h in (
-        placed-failure main f.place f.step 0x1a start len next f.here f.reads f.is refl,
-        placed-reason main f.place f.step 0x1a start len next f.here f.reads f.is refl,
-        (own-within main at 0x1a own start len next N e).0,
+      let f = own-field main at 0x1a field N h in (
+        placed-failure main f.place (step_at main f.place) 0x1a field.start field.len field.next f.here refl f.is refl,
+        placed-reason main f.place (step_at main f.place) 0x1a field.start field.len field.next f.here refl f.is refl,
+        (own-within main at 0x1a field N).0,
       )
 
-  pub reason-short : 1 + length (reason_at main start len) < 65536
+  pub reason-short : 1 + length (reason_at main field.start field.len) < 65536
   reason-short = let w = named-within in rw length-take (omega arith)
 
   -- the failure that the field says
-  failure-here : (stage : ℕ) → stage ≡ le_at 1 main start → failure_of (take len (drop start main)) ≡ record { stage = stage; reason = reason_at main start len }
+  failure-here : (stage : ℕ) → stage ≡ le_at 1 main field.start → failure_of (take field.len (drop field.start main)) ≡ record { stage = stage; reason = reason_at main field.start field.len }
   unfolding failure_of
   failure-here stage es = let w = named-within in λ i. record {
-    stage = number-first main start len 1 stage (omega arith) es i;
-    reason = (drop_part main start len 1 ∙ ap (λ n. take n (drop (start + 1) main)) same) i;
+    stage = number-first main field.start field.len 1 stage (omega arith) es i;
+    reason = (drop_part main field.start field.len 1 ∙ ap (λ n. take n (drop (field.start + 1) main)) same) i;
   }
     where
-      same : len - 1 ≡ start + len - (start + 1)
+      same : field.len - 1 ≡ field.start + field.len - (field.start + 1)
       same = omega arith
 
 -- the failure of the entry
 module _ {main supplementary w : List ℕ} {q : ImportContext} {T : StoredFiles} {p : ℕ} (C : ContextIn main supplementary w q T) (K : EntryKnown main q.unit p)
-    {own : Own} (N : NextOwn main (p + 15) 0x1a own) where
-  failure-none : own ≡ Own.Missing → (entry_here main p).failure ≡ none
-  unfolding payload_of map_option
-  failure-none e = rw (failure-is C K, ← N.is, e)
+  where
+    failure-none : NextOwn main (p + 15) 0x1a None → (entry_here main p).failure ≡ none
+    unfolding payload_of map_option
+    failure-none N = rw (failure-is C K, ← N.is)
 
-  failure-some : (h : Placed main (p + 15)) (start len next stage : ℕ) → own ≡ Own.Field start len next → stage ≡ le_at 1 main start
-      → (entry_here main p).failure ≡ some (record { stage = stage; reason = reason_at main start len })
-  unfolding payload_of map_option
-  failure-some h start len next stage e es = rw (failure-is C K, ← N.is, e) (ap some (failure-here h N start len next e stage es))
+    failure-some : (h : Placed main (p + 15)) (field : FieldSpan) (stage : ℕ) → NextOwn main (p + 15) 0x1a (Some field) → stage ≡ le_at 1 main field.start
+        → (entry_here main p).failure ≡ some (record { stage = stage; reason = reason_at main field.start field.len })
+    unfolding payload_of map_option
+    failure-some h field stage N es = rw (failure-is C K, ← N.is) (ap some (failure-here h N stage es))
 
 module _ {main supplementary w : List ℕ} {q : ImportContext} {st : ImportState} {p : ℕ} (lists addresses name : List ℕ) (C : ContextIn main supplementary w q st.table) (K : EntryKnown main q.unit p)
-    (h : Placed main (p + 15)) {own : Own} (N : NextOwn main (p + 15) 0x1a own) where
-  pub named-whole : {t f u w' t' f' u' : List ℕ} {r : ImportState} → own ≡ Own.Missing
-      → Imports (RangesFrom main supplementary lists addresses q name p w (entry_here main p).ranges) (sheets main supplementary) q (memory w t f u) st (memory w' t' f' u') r
-      → Imports (ByFailure main supplementary lists addresses q name p w (entry_here main p).failure) (sheets main supplementary) q (memory w t f u) st (memory w' t' f' u') r
-  named-whole e I = grows_as (λ s. rw (failure-none C K N e)) I
+    (h : Placed main (p + 15)) where
+  pub named-whole : {t f u w' t' f' u' : List ℕ} {n : ℕ} {r : ImportState} → NextOwn main (p + 15) 0x1a None
+      → Imports (RangesFrom main supplementary lists addresses q name p w (entry_here main p).ranges) (sheets main supplementary) q (memory w t f u) st (memory w' t' f' u') n r
+      → Imports (ByFailure main supplementary lists addresses q name p w (entry_here main p).failure) (sheets main supplementary) q (memory w t f u) st (memory w' t' f' u') n r
+  named-whole N I = grows_as (λ s. rw (failure-none C K N)) I
 
-  module _ (start len next : ℕ) (e : own ≡ Own.Field start len next) {stage : ℕ} (es : stage ≡ le_at 1 main start) where
+  module _ {field : FieldSpan} (N : NextOwn main (p + 15) 0x1a (Some field)) {stage : ℕ} (es : stage ≡ le_at 1 main field.start) where
     -- before any range
-    pub named_none : {t f u u' : List ℕ} {warned : ℕ} {r : ImportState} → stage ≡ 0 → st.status ≡ 0 → st.at ≤ top → length t < top → length f < top
-        → Put st.warned (encode 0x46 (warning_payload (malformed_ranges false (reason_at main start len)))) u u' warned → Rejects st warned r
-        → Imports (ByFailure main supplementary lists addresses q name p w (entry_here main p).failure) (sheets main supplementary) q (memory w t f u) st (memory w t f u') r
-    named_none z ok fits kt kf P R =
-        grows_as (λ s. rw (failure-some C K N h start len next stage e es, eq-eqb stage 0 z))
-        (imports-rejected (malformed_ranges false (reason_at main start len) ∷ []) C ok fits kt kf (reason-put false (reason_at main start len) P) R)
+    pub named_none : {t f u u' : List ℕ} {warned : ℕ} {r : ImportState} → stage ≡ 0 → st.at ≤ top → length t < top → length f < top
+        → Put st.warned (encode 0x46 (warning_payload (malformed_ranges false (reason_at main field.start field.len)))) u u' warned → Rejects st warned r
+        → Imports (ByFailure main supplementary lists addresses q name p w (entry_here main p).failure) (sheets main supplementary) q (memory w t f u) st (memory w t f u') 0 r
+    named_none z fits kt kf P R =
+        grows_as (λ s. rw (failure-some C K h field stage N es, eq-eqb stage 0 z))
+        (imports-rejected (malformed_ranges false (reason_at main field.start field.len) ∷ []) C fits kt kf (reason-put false (reason_at main field.start field.len) P) R)
 
-    module _ (n : stage ≡ 0 → ⊥) {t f u w' t' f' u' : List ℕ} {st' : ImportState}
-        (I : Imports (RangesFrom main supplementary lists addresses q name p w (entry_here main p).ranges) (sheets main supplementary) q (memory w t f u) st (memory w' t' f' u') st') where
+    module _ (n : stage ≡ 0 → ⊥) {t f u w' t' f' u' : List ℕ} {m : ℕ} {st' : ImportState}
+        (I : Imports (RangesFrom main supplementary lists addresses q name p w (entry_here main p).ranges) (sheets main supplementary) q (memory w t f u) st (memory w' t' f' u') m st') where
       after : (s : State) → ByFailure main supplementary lists addresses q name p w (entry_here main p).failure s
-          ≡ RangesFrom main supplementary lists addresses q name p w (entry_here main p).ranges s >>= λ t. done (rejected (malformed_ranges true (reason_at main start len) ∷ []) t)
-      after s = rw (failure-some C K N h start len next stage e es, ne_eqb stage 0 n)
+          ≡ RangesFrom main supplementary lists addresses q name p w (entry_here main p).ranges s >>= λ t. done (rejected (malformed_ranges true (reason_at main field.start field.len) ∷ []) t)
+      after s = rw (failure-some C K h field stage N es, ne_eqb stage 0 n)
 
       -- the ranges were refused
-      pub named-refused : (st'.status ≡ 0 → ⊥)
-          → Imports (ByFailure main supplementary lists addresses q name p w (entry_here main p).failure) (sheets main supplementary) q (memory w t f u) st (memory w' t' f' u') st'
-      named-refused k = grows_as after (grows-refused (λ s. done (rejected (malformed_ranges true (reason_at main start len) ∷ []) s)) k I)
+      pub named-refused : {r' : ImportState} → (m ≡ 0 → ⊥)
+          → Imports (ByFailure main supplementary lists addresses q name p w (entry_here main p).failure) (sheets main supplementary) q (memory w t f u) st (memory w' t' f' u') m r'
+      named-refused k = refused_as k (grows_as after (grows-refused (λ s. done (rejected (malformed_ranges true (reason_at main field.start field.len) ∷ []) s)) k I))
 
       -- after the ranges
-      pub named-after : {u'' : List ℕ} {warned : ℕ} {r : ImportState} → st'.status ≡ 0 → length w' ≡ length w → length t' < top → length f' < top
-          → Put st'.warned (encode 0x46 (warning_payload (malformed_ranges true (reason_at main start len)))) u' u'' warned → Rejects st' warned r
-          → Imports (ByFailure main supplementary lists addresses q name p w (entry_here main p).failure) (sheets main supplementary) q (memory w t f u) st (memory w' t' f' u'') r
+      pub named-after : {u'' : List ℕ} {warned : ℕ} {r : ImportState} → m ≡ 0 → length w' ≡ length w → length t' < top → length f' < top
+          → Put st'.warned (encode 0x46 (warning_payload (malformed_ranges true (reason_at main field.start field.len)))) u' u'' warned → Rejects st' warned r
+          → Imports (ByFailure main supplementary lists addresses q name p w (entry_here main p).failure) (sheets main supplementary) q (memory w t f u) st (memory w' t' f' u'') 0 r
       named-after z size kt kf P R =
           grows_as after
           (imports_then q z I
-          (imports-rejected (malformed_ranges true (reason_at main start len) ∷ []) (imports-context size z C I) z (grows_at I z).0 kt kf (reason-put true (reason_at main start len) P) R))
+          (imports-rejected (malformed_ranges true (reason_at main field.start field.len) ∷ []) (imports-context size z C I) (grows_at I z).0 kt kf (reason-put true (reason_at main field.start field.len) P) R))

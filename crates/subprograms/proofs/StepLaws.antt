@@ -5,6 +5,10 @@ use mathlib.Core.List.{List, [], ◌++◌, append-nil, append_assoc}
 use Prim.Native.Nat.{ℕ, ◌≤◌, ◌<◌}
 use native.Mathlib.Omega.{arith}
 use lib.ListN.{length}
+use Rattle.std.specs.Prelude.{Result, Ok, Err}
+use Rattle.tlv.specs.declared.refusal.Refusal.{Refusal}
+use Rattle.tlv.specs.Refusals.{status_of}
+use Rattle.tlv.proofs.AnswerLaws.{numbered}
 use Rattle.tlv.specs.Outcome.{Outcome, refused, done, ◌>>=◌}
 use Rattle.buffers.specs.Buffer.{top, Put}
 use Rattle.buffers.specs.Table.{KeptBut}
@@ -15,6 +19,7 @@ use Rattle.lines.specs.Files.{FileTable}
 use Rattle.files.specs.Store.{entries_of, table_of, FilesIn, Grown}
 use Rattle.files.proofs.GrownLaws.{grown-none, grown-trans}
 use Rattle.imports.specs.Import.{State, rejected}
+use Rattle.dies.specs.Answers.{value_or}
 use Rattle.dies.specs.Past.{is_past}
 use Rattle.dies.proofs.PastLaws.{past_same}
 use Rattle.dies.proofs.NodeStepLaws.{each_append, warnings-append}
@@ -41,10 +46,10 @@ module _ {main supplementary : List ℕ} {over : List (ℕ × ℕ)} where
   -- nothing is done, but for what may be written over in the work slice
   pub grows_beside : {w w' t f u : List ℕ} {st : ImportState} → KeptBut w w' over
       → table_of main supplementary w' st.table ≡ table_of main supplementary w st.table → FilesIn main supplementary w' st.table
-      → st.status ≡ 0 → st.at ≤ top → st.warned ≤ top → length t < top → length f < top → length u < top
-      → Grows done (sheets main supplementary) over (memory w t f u) st (memory w' t f u) st
+      → st.at ≤ top → st.warned ≤ top → length t < top → length f < top → length u < top
+      → Grows done (sheets main supplementary) over (memory w t f u) st (memory w' t f u) 0 st
   unfolding table_of
-  grows_beside {w} {w'} {t} {f} {u} {st} K same F z at-fits warned-fits t-small f-small u-small = record {
+  grows_beside {w} {w'} {t} {f} {u} {st} K same F at-fits warned-fits t-small f-small u-small = record {
     records = [];
     new = [];
     laid = λ e. put_as no-records (put-none at-fits t-small);
@@ -53,7 +58,7 @@ module _ {main supplementary : List ℕ} {over : List (ℕ × ℕ)} where
     grown = λ e. grown;
     kept = λ e. K;
     ok = λ e rs ws. rw (same, append-nil rs, append-nil ws);
-    no = λ n. absurd (n z);
+    no = λ n. absurd (n refl);
   }
     where
       entries-same : entries_of main supplementary w' st.table ≡ entries_of main supplementary w st.table
@@ -71,14 +76,14 @@ module _ {main supplementary : List ℕ} {over : List (ℕ × ℕ)} where
       }
 
   -- nothing at all
-  pub grows_none : {w t f u : List ℕ} {st : ImportState} → FilesIn main supplementary w st.table → st.status ≡ 0 → st.at ≤ top → st.warned ≤ top
-      → length t < top → length f < top → length u < top → Grows done (sheets main supplementary) over (memory w t f u) st (memory w t f u) st
+  pub grows_none : {w t f u : List ℕ} {st : ImportState} → FilesIn main supplementary w st.table → st.at ≤ top → st.warned ≤ top
+      → length t < top → length f < top → length u < top → Grows done (sheets main supplementary) over (memory w t f u) st (memory w t f u) 0 st
   grows_none {w} F = grows_beside (but_refl w over) refl F
 
   -- one step, which was done, and then another
-  pub grows_then : {F G : State → Outcome State} {w t f u w₁ t₁ f₁ u₁ w₂ t₂ f₂ u₂ : List ℕ} {st st₁ st₂ : ImportState} → st₁.status ≡ 0
-      → Grows F (sheets main supplementary) over (memory w t f u) st (memory w₁ t₁ f₁ u₁) st₁ → Grows G (sheets main supplementary) over (memory w₁ t₁ f₁ u₁) st₁ (memory w₂ t₂ f₂ u₂) st₂
-      → Grows (λ s. F s >>= G) (sheets main supplementary) over (memory w t f u) st (memory w₂ t₂ f₂ u₂) st₂
+  pub grows_then : {F G : State → Outcome State} {w t f u w₁ t₁ f₁ u₁ w₂ t₂ f₂ u₂ : List ℕ} {st st₁ st₂ : ImportState} {n m : ℕ} → n ≡ 0
+      → Grows F (sheets main supplementary) over (memory w t f u) st (memory w₁ t₁ f₁ u₁) n st₁ → Grows G (sheets main supplementary) over (memory w₁ t₁ f₁ u₁) st₁ (memory w₂ t₂ f₂ u₂) m st₂
+      → Grows (λ s. F s >>= G) (sheets main supplementary) over (memory w t f u) st (memory w₂ t₂ f₂ u₂) m st₂
   unfolding ◌>>=◌
   grows_then {F} {G} {w = w} {w₁ = w₁} {st = st} {st₁ = st₁} z A B = record {
     records = A.records ++ B.records;
@@ -97,9 +102,9 @@ module _ {main supplementary : List ℕ} {over : List (ℕ × ℕ)} where
       first rs ws = ap (λ (o : Outcome State). o >>= G) (A.ok z rs ws)
 
   -- a step that is refused at once
-  pub grows_no : {F : State → Outcome State} {w t f u w₁ t₁ f₁ u₁ : List ℕ} {st st₁ : ImportState} → (st₁.status ≡ 0 → ⊥)
-      → ((rs : List Function) (ws : List Warning) → F (state_of main supplementary w st rs ws) ≡ refused st₁.status)
-      → Grows F (sheets main supplementary) over (memory w t f u) st (memory w₁ t₁ f₁ u₁) st₁
+  pub grows_no : {F : State → Outcome State} {w t f u w₁ t₁ f₁ u₁ : List ℕ} {st st₁ : ImportState} {n : ℕ} → (n ≡ 0 → ⊥)
+      → ((rs : List Function) (ws : List Warning) → F (state_of main supplementary w st rs ws) ≡ refused n)
+      → Grows F (sheets main supplementary) over (memory w t f u) st (memory w₁ t₁ f₁ u₁) n st₁
   grows_no n refuses = record {
     records = [];
     new = [];
@@ -113,8 +118,8 @@ module _ {main supplementary : List ℕ} {over : List (ℕ × ℕ)} where
   }
 
   -- a step that was refused, whatever was to follow
-  pub grows-refused : {F : State → Outcome State} (G : State → Outcome State) {w t f u w₁ t₁ f₁ u₁ : List ℕ} {st st₁ : ImportState} → (st₁.status ≡ 0 → ⊥)
-      → Grows F (sheets main supplementary) over (memory w t f u) st (memory w₁ t₁ f₁ u₁) st₁ → Grows (λ s. F s >>= G) (sheets main supplementary) over (memory w t f u) st (memory w₁ t₁ f₁ u₁) st₁
+  pub grows-refused : {F : State → Outcome State} (G : State → Outcome State) {w t f u w₁ t₁ f₁ u₁ : List ℕ} {st st₁ : ImportState} {n : ℕ} → (n ≡ 0 → ⊥)
+      → Grows F (sheets main supplementary) over (memory w t f u) st (memory w₁ t₁ f₁ u₁) n st₁ → Grows (λ s. F s >>= G) (sheets main supplementary) over (memory w t f u) st (memory w₁ t₁ f₁ u₁) n st₁
   unfolding ◌>>=◌
   grows-refused G n A = record {
     records = A.records;
@@ -129,8 +134,8 @@ module _ {main supplementary : List ℕ} {over : List (ℕ × ℕ)} where
   }
 
   -- the same step, told otherwise
-  pub grows_as : {F G : State → Outcome State} {w t f u w₁ t₁ f₁ u₁ : List ℕ} {st st₁ : ImportState} → ((s : State) → G s ≡ F s)
-      → Grows F (sheets main supplementary) over (memory w t f u) st (memory w₁ t₁ f₁ u₁) st₁ → Grows G (sheets main supplementary) over (memory w t f u) st (memory w₁ t₁ f₁ u₁) st₁
+  pub grows_as : {F G : State → Outcome State} {w t f u w₁ t₁ f₁ u₁ : List ℕ} {st st₁ : ImportState} {n : ℕ} → ((s : State) → G s ≡ F s)
+      → Grows F (sheets main supplementary) over (memory w t f u) st (memory w₁ t₁ f₁ u₁) n st₁ → Grows G (sheets main supplementary) over (memory w t f u) st (memory w₁ t₁ f₁ u₁) n st₁
   grows_as {w = w} {st = st} same A = record {
     records = A.records;
     new = A.new;
@@ -144,9 +149,9 @@ module _ {main supplementary : List ℕ} {over : List (ℕ × ℕ)} where
   }
 
   -- the same step, whatever else it may write to
-  pub grows_over : {F : State → Outcome State} {wider : List (ℕ × ℕ)} {w t f u w₁ t₁ f₁ u₁ : List ℕ} {st st₁ : ImportState}
+  pub grows_over : {F : State → Outcome State} {wider : List (ℕ × ℕ)} {w t f u w₁ t₁ f₁ u₁ : List ℕ} {st st₁ : ImportState} {n : ℕ}
       → (KeptBut w w₁ over → KeptBut w w₁ wider)
-      → Grows F (sheets main supplementary) over (memory w t f u) st (memory w₁ t₁ f₁ u₁) st₁ → Grows F (sheets main supplementary) wider (memory w t f u) st (memory w₁ t₁ f₁ u₁) st₁
+      → Grows F (sheets main supplementary) over (memory w t f u) st (memory w₁ t₁ f₁ u₁) n st₁ → Grows F (sheets main supplementary) wider (memory w t f u) st (memory w₁ t₁ f₁ u₁) n st₁
   grows_over widen A = record {
     records = A.records;
     new = A.new;
@@ -160,27 +165,37 @@ module _ {main supplementary : List ℕ} {over : List (ℕ × ℕ)} where
   }
 
   -- after a step that was done the places in the output buffers are within bounds
-  pub grows_at : {F : State → Outcome State} {w t f u w₁ t₁ f₁ u₁ : List ℕ} {st st₁ : ImportState}
-      → Grows F (sheets main supplementary) over (memory w t f u) st (memory w₁ t₁ f₁ u₁) st₁ → st₁.status ≡ 0 → (st₁.at ≤ top) × (st₁.warned ≤ top)
+  pub grows_at : {F : State → Outcome State} {w t f u w₁ t₁ f₁ u₁ : List ℕ} {st st₁ : ImportState} {n : ℕ}
+      → Grows F (sheets main supplementary) over (memory w t f u) st (memory w₁ t₁ f₁ u₁) n st₁ → n ≡ 0 → (st₁.at ≤ top) × (st₁.warned ≤ top)
   grows_at A z = (omega (arith, (A.laid z).place), omega (arith, (A.warned z).place))
+
+  -- of a refused state nothing is promised
+  pub refused_as : {F : State → Outcome State} {w t f u w₁ t₁ f₁ u₁ : List ℕ} {st st₁ st₂ : ImportState} {n : ℕ} → (n ≡ 0 → ⊥)
+      → Grows F (sheets main supplementary) over (memory w t f u) st (memory w₁ t₁ f₁ u₁) n st₁ → Grows F (sheets main supplementary) over (memory w t f u) st (memory w₁ t₁ f₁ u₁) n st₂
+  refused_as h A = grows_no h (A.no h)
+
+  pub grows-any : {F : State → Outcome State} {w t f u w₁ t₁ f₁ u₁ : List ℕ} {st : ImportState} (st₁ st₂ : ImportState) (r : Result ImportState Refusal)
+      → Grows F (sheets main supplementary) over (memory w t f u) st (memory w₁ t₁ f₁ u₁) (status_of r) (value_or st₁ r) → Grows F (sheets main supplementary) over (memory w t f u) st (memory w₁ t₁ f₁ u₁) (status_of r) (value_or st₂ r)
+  grows-any st₁ st₂ (Ok x) A = A
+  grows-any st₁ st₂ (Err e) A = refused_as (numbered e) A
 
 -- ---- those that write to nothing but what an import of ranges does
 
 module _ {main supplementary : List ℕ} where
-  pub imports_then : (q : ImportContext) {F G : State → Outcome State} {w t f u w₁ t₁ f₁ u₁ w₂ t₂ f₂ u₂ : List ℕ} {st st₁ st₂ : ImportState} → st₁.status ≡ 0
-      → Imports F (sheets main supplementary) q (memory w t f u) st (memory w₁ t₁ f₁ u₁) st₁ → Imports G (sheets main supplementary) q (memory w₁ t₁ f₁ u₁) st₁ (memory w₂ t₂ f₂ u₂) st₂
-      → Imports (λ s. F s >>= G) (sheets main supplementary) q (memory w t f u) st (memory w₂ t₂ f₂ u₂) st₂
+  pub imports_then : (q : ImportContext) {F G : State → Outcome State} {w t f u w₁ t₁ f₁ u₁ w₂ t₂ f₂ u₂ : List ℕ} {st st₁ st₂ : ImportState} {n m : ℕ} → n ≡ 0
+      → Imports F (sheets main supplementary) q (memory w t f u) st (memory w₁ t₁ f₁ u₁) n st₁ → Imports G (sheets main supplementary) q (memory w₁ t₁ f₁ u₁) st₁ (memory w₂ t₂ f₂ u₂) m st₂
+      → Imports (λ s. F s >>= G) (sheets main supplementary) q (memory w t f u) st (memory w₂ t₂ f₂ u₂) m st₂
   imports_then q {st = st} {st₁ = st₁} z A B =
       grows_then z A (grows_over (touched-as main supplementary q st.table st₁.table (A.grown z).base (A.grown z).room) B)
 
 module _ {main supplementary : List ℕ} {q : ImportContext} where
   -- a range was rejected, with warnings that were laid
   pub imports-rejected : (ws : List Warning) {w t f u u' : List ℕ} {st r : ImportState} {warned : ℕ} → ContextIn main supplementary w q st.table
-      → st.status ≡ 0 → st.at ≤ top → length t < top → length f < top
+      → st.at ≤ top → length t < top → length f < top
       → Put st.warned (warnings_bytes ws) u u' warned → Rejects st warned r
-      → Imports (λ s. done (rejected ws s)) (sheets main supplementary) q (memory w t f u) st (memory w t f u') r
+      → Imports (λ s. done (rejected ws s)) (sheets main supplementary) q (memory w t f u) st (memory w t f u') 0 r
   unfolding rejected
-  imports-rejected ws {w} {t} {f} {u} {u'} {st} {r} C z at-fits t-small f-small W R = record {
+  imports-rejected ws {w} {t} {f} {u} {u'} {st} {r} C at-fits t-small f-small W R = record {
     records = [];
     new = ws;
     laid = λ e. rw R.at (put_as no-records (put-none at-fits t-small));
@@ -189,10 +204,10 @@ module _ {main supplementary : List ℕ} {q : ImportContext} where
     grown = λ e. rw R.table (grown-none C.files f-small);
     kept = λ e. but_refl w (touched main supplementary q st.table);
     ok = λ e rs vs. rw (R.table, R.counted, append-nil rs);
-    no = λ n. absurd (n (R.status ∙ z));
+    no = λ n. absurd (n refl);
   }
 
   -- after it the tables stand for the next
-  pub imports-context : {F : State → Outcome State} {w t f u w₁ t₁ f₁ u₁ : List ℕ} {st st₁ : ImportState} → length w₁ ≡ length w → st₁.status ≡ 0
-      → ContextIn main supplementary w q st.table → Imports F (sheets main supplementary) q (memory w t f u) st (memory w₁ t₁ f₁ u₁) st₁ → ContextIn main supplementary w₁ q st₁.table
+  pub imports-context : {F : State → Outcome State} {w t f u w₁ t₁ f₁ u₁ : List ℕ} {st st₁ : ImportState} {n : ℕ} → length w₁ ≡ length w → n ≡ 0
+      → ContextIn main supplementary w q st.table → Imports F (sheets main supplementary) q (memory w t f u) st (memory w₁ t₁ f₁ u₁) n st₁ → ContextIn main supplementary w₁ q st₁.table
   imports-context size z C A = let G = A.grown z in context-kept C (A.kept z) size G.base G.room G.holds

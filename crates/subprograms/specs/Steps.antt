@@ -1,4 +1,5 @@
 -- Contract. What each step of the import of a unit promises, in terms of the definition's step.
+use Rattle.std.specs.Prelude.{Option as Maybe, Some, None}
 use Rattle.std.specs.Prelude.{◌≡◌, Bool, true, false, cond, ◌||◌, List, [], ◌∷◌, ◌++◌, ℕ, ◌+◌, eqb, length}
 use Rattle.std.proofs.Math.Option.{Option, none, some}
 use Rattle.tlv.specs.Tags.{tray_row_tag, tray_warning_tag, entry_whole}
@@ -11,6 +12,7 @@ use Rattle.buffers.specs.Buffer.{Put}
 use Rattle.buffers.specs.Table.{Kept, KeptBut}
 use Rattle.buffers.specs.Output.{Function, Warning, each_of, row_payload, warning_payload, records_bytes, warnings_bytes, about}
 use Rattle.buffers.specs.Output.{rejected_range, malformed_ranges}
+use Rattle.access.specs.declared.access.Value.{Value}
 use Rattle.access.specs.Places.{entry_here, unit_here}
 use Rattle.lines.specs.Files.{FileTable}
 use Rattle.lines.specs.Rows.{for_range}
@@ -22,7 +24,6 @@ use Rattle.imports.specs.Import.{State, ImportContext, statement_sequence_offset
 use Rattle.imports.specs.Import.{is_tombstone, is_live_range, rejected}
 use Rattle.imports.specs.Import.{import_range, import_ranges, import_subprogram, is_subprogram, descendants_of}
 use Rattle.dies.specs.declared.dies.Details.{Details}
-use Rattle.dies.specs.declared.calls.Warned.{Warned}
 use Rattle.dies.specs.Details.{entries_from, detail_bytes}
 use Rattle.dies.specs.Past.{is_past}
 use Rattle.subprograms.specs.declared.model.ImportState.{ImportState}
@@ -58,28 +59,50 @@ function_lines q e r table ws =
     declaration_if q e table (ws ++ new) own.rows >>= λ d.
     done (record { rows = lines_with r d.found own.rows; table = d.table; warnings = d.warnings })
 
--- the warning of an invalid statement sequence was laid, or it is refused
-pub record SequenceWarned (main : List ℕ) (unit p : ℕ) (requested : Option ℕ) (invalid : Bool) (at : ℕ) (u u' : List ℕ) (r : Warned) : Type 0 where
-  pub new : List Warning
-  pub ok : r.status ≡ 0 → sequence_warning (unit_here main unit) (entry_here main p) requested invalid ≡ done new
-  pub laid : r.status ≡ 0 → Put at (warnings_bytes new) u u' r.at
-  pub no : (r.status ≡ 0 → ⊥) → sequence_warning (unit_here main unit) (entry_here main p) requested invalid ≡ refused r.status
+-- the sequence that a value asks for; the number `limit` asks for none
+abbrev pub sequence_by : ℕ → Value → Option ℕ
+sequence_by limit (Value.Unsigned n) = cond (eqb n limit) none (some n)
+sequence_by limit (Value.FileNumber n) = none
+sequence_by limit (Value.Text start len) = none
+sequence_by limit (Value.UnitReference n) = none
+sequence_by limit (Value.SectionReference n) = none
+sequence_by limit (Value.SupplementaryReference n) = none
+sequence_by limit (Value.SectionOffset n) = cond (eqb n limit) none (some n)
+sequence_by limit (Value.LineOffset n) = cond (eqb n limit) none (some n)
+sequence_by limit (Value.Address n) = none
+sequence_by limit Value.Failed = none
 
--- what the definition does by F is done in memory: rows, files and warnings are laid, and the file table stands in w'; or it is refused
+-- .. where there is a value
+abbrev pub sequence_in : ℕ → Maybe Value → Option ℕ
+sequence_in limit (Some v) = sequence_by limit v
+sequence_in limit None = none
+
+-- the warning of an invalid statement sequence was laid, and the warnings go on at r; or the number n refuses it
+pub record SequenceWarned (main : List ℕ) (unit p : ℕ) (requested : Option ℕ) (invalid : Bool) (at : ℕ) (u u' : List ℕ) (n r : ℕ) : Type 0 where
+  pub new : List Warning
+  pub ok : n ≡ 0 → sequence_warning (unit_here main unit) (entry_here main p) requested invalid ≡ done new
+  pub laid : n ≡ 0 → Put at (warnings_bytes new) u u' r
+  pub no : (n ≡ 0 → ⊥) → sequence_warning (unit_here main unit) (entry_here main p) requested invalid ≡ refused n
+
+-- no rows yet
+abbrev pub lines_before : ImportState → FoundLines
+lines_before st = record { table = st.table; at = st.at; warned = st.warned; count = 0; past = st.past }
+
+-- what the definition does by F is done in memory: rows, files and warnings are laid, and the file table stands in w'; or the number n refuses it
 pub record FindsLines (F : FileTable → List Warning → Outcome FunctionLines) (main supplementary : List ℕ) (q : Context)
-    (w t f u : List ℕ) (st : ImportState) (w' t' f' u' : List ℕ) (r : FoundLines) : Type 0 where
+    (w t f u : List ℕ) (st : ImportState) (w' t' f' u' : List ℕ) (n : ℕ) (r : FoundLines) : Type 0 where
   pub rows : List LineEntry
   pub new : List Warning
-  pub count : r.status ≡ 0 → r.count ≡ length rows
-  pub laid : r.status ≡ 0 → Put st.at (lines_bytes rows) t t' r.at
-  pub past : r.status ≡ 0 → r.past ≡ (st.past || is_past st.at (length (lines_bytes rows)))
-  pub warned : r.status ≡ 0 → Put st.warned (warnings_bytes new) u u' r.warned
-  pub grown : r.status ≡ 0 → Grown main supplementary w w' f f' st.table r.table
-  pub kept : r.status ≡ 0 → KeptBut w w' (touched main supplementary q st.table)
-  pub ok : r.status ≡ 0 → (ws : List Warning)
+  pub count : n ≡ 0 → r.count ≡ length rows
+  pub laid : n ≡ 0 → Put st.at (lines_bytes rows) t t' r.at
+  pub past : n ≡ 0 → r.past ≡ (st.past || is_past st.at (length (lines_bytes rows)))
+  pub warned : n ≡ 0 → Put st.warned (warnings_bytes new) u u' r.warned
+  pub grown : n ≡ 0 → Grown main supplementary w w' f f' st.table r.table
+  pub kept : n ≡ 0 → KeptBut w w' (touched main supplementary q st.table)
+  pub ok : n ≡ 0 → (ws : List Warning)
       → F (table_of main supplementary w st.table) ws
       ≡ done (record { rows = rows; table = table_of main supplementary w' r.table; warnings = ws ++ new })
-  pub no : (r.status ≡ 0 → ⊥) → (ws : List Warning) → F (table_of main supplementary w st.table) ws ≡ refused r.status
+  pub no : (n ≡ 0 → ⊥) → (ws : List Warning) → F (table_of main supplementary w st.table) ws ≡ refused n
 
 -- ---- nodes and call sites of a record
 
@@ -98,18 +121,18 @@ details_of q r = record {
   with_lists = q.with_lists;
 }
 
--- the outcome o of the walk below a subprogram is laid, and its record with so many rows is counted; or it is refused
+-- the outcome o of the walk below a subprogram is laid, and its record with so many rows is counted; or the number n refuses it
 pub record ImportsDetails (o : Outcome Descendants) (main supplementary : List ℕ) (q : Context) (name : List ℕ) (range : AddressRange) (rows : ℕ)
-    (w t u : List ℕ) (st : ImportState) (w' t' u' : List ℕ) (r : ImportState) : Type 0 where
+    (w t u : List ℕ) (st : ImportState) (w' t' u' : List ℕ) (n : ℕ) (r : ImportState) : Type 0 where
   pub table : r.table ≡ st.table
   pub rest : Kept w w' q.ranges (walk_extent main supplementary q)
   pub descendants : Descendants
-  pub ok : r.status ≡ 0 → o ≡ done descendants
-  pub laid : r.status ≡ 0 → Put st.at (detail_bytes name range descendants) t t' r.at
-  pub past : r.status ≡ 0 → r.past ≡ (st.past || is_past st.at (length (detail_bytes name range descendants)))
-  pub warned : r.status ≡ 0 → Put st.warned (warnings_bytes descendants.warnings) u u' r.warned
-  pub counted : r.status ≡ 0 → stats_of r.stats ≡ with_function rows (length descendants.inlines) (stats_of st.stats)
-  pub no : (r.status ≡ 0 → ⊥) → o ≡ refused r.status
+  pub ok : n ≡ 0 → o ≡ done descendants
+  pub laid : n ≡ 0 → Put st.at (detail_bytes name range descendants) t t' r.at
+  pub past : n ≡ 0 → r.past ≡ (st.past || is_past st.at (length (detail_bytes name range descendants)))
+  pub warned : n ≡ 0 → Put st.warned (warnings_bytes descendants.warnings) u u' r.warned
+  pub counted : n ≡ 0 → stats_of r.stats ≡ with_function rows (length descendants.inlines) (stats_of st.stats)
+  pub no : (n ≡ 0 → ⊥) → o ≡ refused n
 
 -- ---- steps from a state to a state
 
@@ -141,32 +164,31 @@ abbrev pub memory : List ℕ → List ℕ → List ℕ → List ℕ → Memory
 memory w t f u = record { work = w; records = t; files = f; warnings = u }
 
 -- what the definition does by F is done in memory: new records, files and warnings are laid behind those before them, the rest of the state stands in the
--- work slice then, and of work nothing is written but the stretches `over`; or it is refused
-pub record Grows (F : State → Outcome State) (s : Sheets) (over : List (ℕ × ℕ)) (m : Memory) (st : ImportState) (m' : Memory) (r : ImportState)
+-- work slice then, and of work nothing is written but the stretches `over`; or the number n refuses it
+pub record Grows (F : State → Outcome State) (s : Sheets) (over : List (ℕ × ℕ)) (m : Memory) (st : ImportState) (m' : Memory) (n : ℕ) (r : ImportState)
     : Type 0 where
   pub records : List Function
   pub new : List Warning
-  pub laid : r.status ≡ 0 → Put st.at (records_bytes records) m.records m'.records r.at
-  pub past : r.status ≡ 0 → r.past ≡ (st.past || is_past st.at (length (records_bytes records)))
-  pub warned : r.status ≡ 0 → Put st.warned (warnings_bytes new) m.warnings m'.warnings r.warned
-  pub grown : r.status ≡ 0 → Grown s.main s.supplementary m.work m'.work m.files m'.files st.table r.table
-  pub kept : r.status ≡ 0 → KeptBut m.work m'.work over
-  pub ok : r.status ≡ 0 → (rs : List Function) (ws : List Warning)
+  pub laid : n ≡ 0 → Put st.at (records_bytes records) m.records m'.records r.at
+  pub past : n ≡ 0 → r.past ≡ (st.past || is_past st.at (length (records_bytes records)))
+  pub warned : n ≡ 0 → Put st.warned (warnings_bytes new) m.warnings m'.warnings r.warned
+  pub grown : n ≡ 0 → Grown s.main s.supplementary m.work m'.work m.files m'.files st.table r.table
+  pub kept : n ≡ 0 → KeptBut m.work m'.work over
+  pub ok : n ≡ 0 → (rs : List Function) (ws : List Warning)
       → F (state_of s.main s.supplementary m.work st rs ws)
       ≡ done (state_of s.main s.supplementary m'.work r (rs ++ records) (ws ++ new))
-  pub no : (r.status ≡ 0 → ⊥) → (rs : List Function) (ws : List Warning)
-      → F (state_of s.main s.supplementary m.work st rs ws) ≡ refused r.status
+  pub no : (n ≡ 0 → ⊥) → (rs : List Function) (ws : List Warning)
+      → F (state_of s.main s.supplementary m.work st rs ws) ≡ refused n
 
 -- .. and nothing but what an import of ranges writes to
-abbrev pub Imports : (State → Outcome State) → Sheets → Context → Memory → ImportState → Memory → ImportState → Type 0
-Imports F s q m st m' r = Grows F s (touched s.main s.supplementary q st.table) m st m' r
+abbrev pub Imports : (State → Outcome State) → Sheets → Context → Memory → ImportState → Memory → ℕ → ImportState → Type 0
+Imports F s q m st m' n r = Grows F s (touched s.main s.supplementary q st.table) m st m' n r
 
 -- a range was rejected; the warnings go on at `warned`
 pub record Rejects (st : ImportState) (warned : ℕ) (r : ImportState) : Type 0 where
   pub table : r.table ≡ st.table
   pub at : r.at ≡ st.at
   pub warned-is : r.warned ≡ warned
-  pub status : r.status ≡ st.status
   pub past : r.past ≡ st.past
   pub counted : stats_of r.stats ≡ with_rejected (stats_of st.stats)
 

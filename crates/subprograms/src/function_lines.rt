@@ -2,6 +2,7 @@
 ghost use Rattle.std.specs.Prelude.{◌≡◌, cond, ◌+◌, ◌-◌, ◌*◌, ◌/◌, ◌^◌, ◌≤◌, ◌<◌, eqb, length};
 ghost use Rattle.std.proofs.Math.Option.{none, some};
 ghost use Rattle.tlv.specs.Checked.{Accepted};
+ghost use Rattle.tlv.specs.Refusals.{status_of};
 ghost use Rattle.buffers.specs.Buffer.{Put, top};
 ghost use Rattle.access.specs.Places.{entry_here, unit_here};
 ghost use Rattle.rows.specs.Sizes.{entry_size};
@@ -9,29 +10,30 @@ ghost use Rattle.rows.specs.Stored.{sequence_of, entries_of};
 ghost use Rattle.collect.specs.Collects.{UnitIn};
 ghost use Rattle.references.specs.Tables.{EntryKnown};
 ghost use Rattle.imports.specs.Import.{statement_sequence_offset};
+ghost use Rattle.dies.specs.Answers.{value_or};
 ghost use Rattle.dies.specs.Past.{is_past};
 ghost use Rattle.subprograms.specs.Contexts.{ContextIn, context_of};
-ghost use Rattle.subprograms.specs.Steps.{lines_bytes, SequenceWarned, function_lines, declared_line, FindsLines};
+ghost use Rattle.subprograms.specs.Steps.{lines_bytes, sequence_in, SequenceWarned, function_lines, declared_line, lines_before, FindsLines};
 
 use crate::model::{ImportContext, ImportState};
 use access::access::Value;
-use declarations::declaring::{Declared, DeclaringState};
-use dies::calls::Warned;
+use declarations::declaration_lines::resolve_declaration_line;
+use declarations::declaring::DeclaringState;
 use files::store::StoredFiles;
-use rows::line::{ENTRY_SIZE, StatementSequence};
+use rows::line::ENTRY_SIZE;
+use tlv::bytes::Number;
 use tlv::constants::DW_AT_LLVM_STMT_SEQUENCE;
 use tlv::model::{AddressRange, LineEntry};
+use tlv::refusal::Refusal;
 use tlv::tags::ENTRY_WHOLE;
 
-// The file table and the places in the records and the warnings after a function's rows, how many these are, the refusal, 0 for none,
-// and whether the records pass the largest place.
+// The file table and the places in the records and the warnings after a function's rows, how many these are, and whether the records pass the largest place.
 #[derive(Clone, Copy)]
 pub struct FoundLines {
     pub table: StoredFiles,
     pub at: usize,
     pub warned: usize,
     pub count: usize,
-    pub status: u8,
     pub past: bool,
 }
 
@@ -41,43 +43,41 @@ fn no_sequence(main: &[u8], unit: usize) -> u64
     requires unit_in { UnitIn main.now unit }
     ensures { result ≡ 2 ^ (8 * (unit_here main.now unit).word_size) - 1 }
 {
-    if tlv::bytes::read_u8(main, unit + 20) == 4 {
+    if u8::read(main, unit + 20) == 4 {
         return 4294967295;
     }
-    18446744073709551615
+    u64::MAX
 }
 
 // The sequence that a number requests; the number `limit` requests none.
-fn sequence_unless(limit: u64, n: u64) -> StatementSequence
+fn sequence_unless(limit: u64, n: u64) -> Option<u64>
     ensures { sequence_of result ≡ cond (eqb n limit) none (some n) }
 {
-    if n == limit {
-        return StatementSequence::Unknown;
+    if n == limit { None } else { Some(n) }
+}
+
+// The sequence that a value asks for, where there is one.
+fn sequence_in(limit: u64, v: Option<Value>) -> Option<u64>
+    ensures { sequence_of result ≡ sequence_in limit v }
+{
+    match v {
+        Some(Value::Unsigned(n)) => sequence_unless(limit, n),
+        Some(Value::SectionOffset(n)) => sequence_unless(limit, n),
+        Some(Value::LineOffset(n)) => sequence_unless(limit, n),
+        _ => None,
     }
-    StatementSequence::At(n)
 }
 
 // The statement sequence that the entry at place p asks for.
-pub fn statement_sequence_offset(main: &[u8], unit: usize, p: usize) -> StatementSequence
+pub fn statement_sequence_offset(main: &[u8], unit: usize, p: usize) -> Option<u64>
     requires accepted { Accepted main.now }
     requires unit_in { UnitIn main.now unit }
     requires entry_known { EntryKnown main.now unit p }
     ensures { sequence_of result ≡ statement_sequence_offset (unit_here main.now unit) (entry_here main.now p) }
 {
     let limit = no_sequence(main, unit);
-    match access::access::attribute(main, p + ENTRY_WHOLE, DW_AT_LLVM_STMT_SEQUENCE) {
-        Value::Absent => StatementSequence::Unknown,
-        Value::Unsigned(n) => sequence_unless(limit, n),
-        Value::FileNumber(_) => StatementSequence::Unknown,
-        Value::Text { start: _, len: _ } => StatementSequence::Unknown,
-        Value::UnitReference(_) => StatementSequence::Unknown,
-        Value::SectionReference(_) => StatementSequence::Unknown,
-        Value::SupplementaryReference(_) => StatementSequence::Unknown,
-        Value::SectionOffset(n) => sequence_unless(limit, n),
-        Value::LineOffset(n) => sequence_unless(limit, n),
-        Value::Address(_) => StatementSequence::Unknown,
-        Value::Failed => StatementSequence::Unknown,
-    }
+    let value = access::access::attribute(main, p + ENTRY_WHOLE, DW_AT_LLVM_STMT_SEQUENCE);
+    sequence_in(limit, value)
 }
 
 // An invalid statement sequence warns.
@@ -86,24 +86,22 @@ fn warn_sequence(
     warnings: &mut [u8],
     unit: usize,
     p: usize,
-    requested: StatementSequence,
+    requested: Option<u64>,
     invalid: bool,
     at: usize,
-) -> Warned
+) -> Result<usize, Refusal>
     requires accepted { Accepted main.now }
     requires entry_known { EntryKnown main.now unit p }
     requires at_le_top { at ≤ top }
-    ensures { SequenceWarned main.now unit p (sequence_of requested) invalid at warnings.old warnings.new result }
+    ensures { SequenceWarned main.now unit p (sequence_of requested) invalid at warnings.old warnings.new (status_of result) (value_or at result) }
 {
-    match requested {
-        StatementSequence::Unknown => Warned { at: at, status: 0 },
-        StatementSequence::At(n) => {
-            if invalid {
-                return dies::calls::warn_about(main, warnings, unit, p, 4, n, at);
-            }
-            Warned { at: at, status: 0 }
-        }
+    let Some(n) = requested else {
+        return Ok(at);
+    };
+    if !invalid {
+        return Ok(at);
     }
+    dies::calls::warn_about(main, warnings, unit, p, 4, n, at)
 }
 
 // The n rows at `from`, as fields 42.
@@ -113,11 +111,9 @@ fn put_lines(records: &mut [u8], at: usize, work: &[u8], from: usize, n: usize) 
     ensures { Put at (lines_bytes (entries_of work.now from n)) records.old records.new result }
 {
     let mut place = at;
-    let mut i = 0;
-    while i < n {
+    for i in 0..n {
         let line = rows::line::entry_at(work, from + i * ENTRY_SIZE);
         place = buffers::output::put_line(records, place, line);
-        i += 1;
     }
     place
 }
@@ -126,7 +122,7 @@ fn put_lines(records: &mut [u8], at: usize, work: &[u8], from: usize, n: usize) 
 fn rows_past(at: usize, n: usize) -> bool
     ensures { result ≡ is_past at (21 * n) }
 {
-    (18446744073709551615 - at) / 21 < n
+    (usize::MAX - at) / 21 < n
 }
 
 // The declaration of the entry at place p as the only row, at the address `start`; none where it has no declaration.
@@ -141,71 +137,55 @@ fn declared_line<'a>(
     p: usize,
     start: u64,
     st: ImportState,
-) -> FoundLines
+) -> Result<FoundLines, Refusal>
     requires context_in { ContextIn main.now supplementary.now work.old q st.table }
     requires entry_known { EntryKnown main.now q.unit p }
     requires at_le_top { (st.at ≤ top) × (st.warned ≤ top) }
     ensures { FindsLines (declared_line (context_of main.now supplementary.now work.old q)
         (entry_here main.now p) start) main.now supplementary.now q work.old records.old
-        files.old warnings.old st work.new records.new files.new warnings.new result }
+        files.old warnings.old st work.new records.new files.new warnings.new (status_of result)
+        (value_or (lines_before st) result) }
 {
-    let places = q.places;
-    let table = st.table;
     let from = DeclaringState {
         count: 0,
-        table: table,
+        table: st.table,
         warned: st.warned,
     };
-    match declarations::declaration_lines::resolve_declaration_line(
+    let declared = resolve_declaration_line(
         main,
         supplementary,
         work,
         files,
         warnings,
-        places,
+        q.places,
         q.unit,
         p,
         from,
-    ) {
-        Declared::Refused(n) => FoundLines {
-            table: table,
+    )?;
+    let after = declared.state;
+    let Some(line) = declared.found else {
+        return Ok(FoundLines {
+            table: after.table,
             at: st.at,
-            warned: st.warned,
+            warned: after.warned,
             count: 0,
-            status: n,
             past: st.past,
-        },
-        Declared::Missing(after) => {
-            let grown = after.table;
-            FoundLines {
-                table: grown,
-                at: st.at,
-                warned: after.warned,
-                count: 0,
-                status: 0,
-                past: st.past,
-            }
-        }
-        Declared::Found { state, file, line } => {
-            let row = LineEntry {
-                address: start,
-                file: file,
-                line: line,
-                column: 0,
-            };
-            let past = rows_past(st.at, 1);
-            let placed = buffers::output::put_line(records, st.at, row);
-            let grown = state.table;
-            FoundLines {
-                table: grown,
-                at: placed,
-                warned: state.warned,
-                count: 1,
-                status: 0,
-                past: st.past | past,
-            }
-        }
-    }
+        });
+    };
+    let row = LineEntry {
+        address: start,
+        file: line.file,
+        line: line.line,
+        column: 0,
+    };
+    let past = rows_past(st.at, 1);
+    Ok(FoundLines {
+        table: after.table,
+        at: buffers::output::put_line(records, st.at, row),
+        warned: after.warned,
+        count: 1,
+        past: st.past | past,
+    })
 }
 
 // The rows of the record of a range of the entry at place p: its own, or its declaration.
@@ -220,39 +200,20 @@ pub fn function_lines<'a>(
     p: usize,
     range: AddressRange,
     st: ImportState,
-) -> FoundLines
+) -> Result<FoundLines, Refusal>
     requires context_in { ContextIn main.now supplementary.now work.old q st.table }
     requires entry_known { EntryKnown main.now q.unit p }
     requires at_le_top { (st.at ≤ top) × (st.warned ≤ top) }
     ensures { FindsLines (function_lines (context_of main.now supplementary.now work.old q)
         (entry_here main.now p) range) main.now supplementary.now q work.old records.old
-        files.old warnings.old st work.new records.new files.new warnings.new result }
+        files.old warnings.old st work.new records.new files.new warnings.new (status_of result)
+        (value_or (lines_before st) result) }
 {
     let requested = statement_sequence_offset(main, q.unit, p);
-    let lines = q.lines;
-    let own = rows::unit_lines::for_range(work, lines, range, requested);
-    let warned = warn_sequence(main, warnings, q.unit, p, requested, own.invalid, st.warned);
-    let table = st.table;
-    let stats = st.stats;
-    if warned.status != 0 {
-        return FoundLines {
-            table: table,
-            at: st.at,
-            warned: warned.at,
-            count: 0,
-            status: warned.status,
-            past: st.past,
-        };
-    }
+    let own = rows::unit_lines::for_range(work, q.lines, range, requested);
+    let warned = warn_sequence(main, warnings, q.unit, p, requested, own.invalid, st.warned)?;
     if own.count == 0 {
-        let next = ImportState {
-            table: table,
-            at: st.at,
-            warned: warned.at,
-            stats: stats,
-            status: 0,
-            past: st.past,
-        };
+        let next = ImportState { warned, ..st };
         return declared_line(
             main,
             supplementary,
@@ -267,12 +228,11 @@ pub fn function_lines<'a>(
         );
     }
     let past = rows_past(st.at, own.count);
-    FoundLines {
-        table: table,
+    Ok(FoundLines {
+        table: st.table,
         at: put_lines(records, st.at, work, own.rows, own.count),
-        warned: warned.at,
+        warned,
         count: own.count,
-        status: 0,
         past: st.past | past,
-    }
+    })
 }

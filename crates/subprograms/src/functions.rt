@@ -1,12 +1,14 @@
 // The record of one live range of a subprogram: its rows, its inline nodes, its call sites.
 ghost use Rattle.std.specs.Prelude.{◌≡◌, ◌+◌, ◌-◌, ◌/◌, ◌≤◌, ◌<◌, length};
 ghost use Rattle.tlv.specs.Tags.{entry_whole};
+ghost use Rattle.tlv.specs.Refusals.{status_of};
 ghost use Rattle.buffers.specs.Buffer.{top};
 ghost use Rattle.access.specs.Places.{entry_here};
 ghost use Rattle.rnglists.specs.Room.{range_least};
 ghost use Rattle.references.specs.Tables.{EntryKnown};
 ghost use Rattle.imports.specs.Tree.{extract_subprogram_details};
 ghost use Rattle.imports.specs.Import.{detail_context, import_range, descendants_of};
+ghost use Rattle.dies.specs.Answers.{value_or};
 ghost use Rattle.dies.specs.Details.{entries_from};
 ghost use Rattle.subprograms.specs.Contexts.{ContextIn, context_with};
 ghost use Rattle.subprograms.specs.Entries.{BeginsAt};
@@ -14,22 +16,21 @@ ghost use Rattle.subprograms.specs.Steps.{sheets, memory, details_of, ImportsDet
 
 use crate::function_lines::function_lines;
 use crate::model::{ImportContext, ImportState};
-use dies::dies::{Details, Extracted};
+use dies::dies::Details;
+use tlv::bytes::Number;
 use tlv::model::AddressRange;
+use tlv::refusal::Refusal;
 use tlv::tags::ENTRY_DEPTH;
 
 // What the walk below a subprogram is given.
 fn details_of(q: ImportContext, range: AddressRange) -> Details
     ensures { result ≡ details_of q range }
 {
-    let places = q.places;
-    let tables = places.tables;
-    let indices = places.indices;
     Details {
-        tables: tables,
+        tables: q.places.tables,
         unit: q.unit,
-        indices: indices,
-        range: range,
+        indices: q.places.indices,
+        range,
         include_inlines: q.include_inlines,
         include_call_sites: q.include_call_sites,
         ranges: q.ranges,
@@ -56,7 +57,7 @@ fn import_details<'a>(
     range: AddressRange,
     st: ImportState,
     rows: usize,
-) -> ImportState
+) -> Result<ImportState, Refusal>
     requires context_in { ContextIn main.now supplementary.now work.old q st.table }
     requires entry_known { EntryKnown main.now q.unit p }
     requires begins_at { BeginsAt main.now q.unit (p + entry_whole) below }
@@ -67,13 +68,10 @@ fn import_details<'a>(
         lists.now addresses.now work.old q) range)
         (descendants_of (entry_here main.now p).depth (entries_from main.now (p + entry_whole))))
         main.now supplementary.now q name.now range rows
-        work.old records.old warnings.old st work.new records.new warnings.new result }
+        work.old records.old warnings.old st work.new records.new warnings.new (status_of result) (value_or st result) }
 {
-    let d = details_of(q, range);
-    let depth = tlv::bytes::read_u16(main, p + ENTRY_DEPTH);
-    let table = st.table;
-    let stats = st.stats;
-    match dies::dies::extract_subprogram_details(
+    let depth = u16::read(main, p + ENTRY_DEPTH);
+    let x = dies::dies::extract_subprogram_details(
         main,
         supplementary,
         lists,
@@ -81,35 +79,20 @@ fn import_details<'a>(
         work,
         records,
         warnings,
-        d,
+        details_of(q, range),
         name,
         below,
         depth,
         st.at,
         st.warned,
-    ) {
-        Extracted::Refused(n) => ImportState {
-            table: table,
-            at: st.at,
-            warned: st.warned,
-            stats: stats,
-            status: n,
-            past: st.past,
-        },
-        Extracted::Details {
-            nodes,
-            at,
-            warned,
-            past,
-        } => ImportState {
-            table: table,
-            at: at,
-            warned: warned,
-            stats: crate::model::count_function(stats, rows, nodes),
-            status: 0,
-            past: st.past | past,
-        },
-    }
+    )?;
+    Ok(ImportState {
+        at: x.at,
+        warned: x.warned,
+        stats: crate::model::count_function(st.stats, rows, x.nodes),
+        past: st.past | x.past,
+        ..st
+    })
 }
 
 // The record of a live range of the subprogram of a name at place p; the entries below it begin at `below`.
@@ -128,30 +111,25 @@ pub fn import_range<'a>(
     below: usize,
     range: AddressRange,
     st: ImportState,
-) -> ImportState
+) -> Result<ImportState, Refusal>
     requires context_in { ContextIn main.now supplementary.now work.old q st.table }
     requires entry_known { EntryKnown main.now q.unit p }
     requires begins_at { BeginsAt main.now q.unit (p + entry_whole) below }
     requires name_bound { 16 + length name.now < 65536 }
     requires range_least_len { length lists.now / range_least ≡ q.third }
-    requires status_value { (st.status ≡ 0) × (st.at ≤ top) × (st.warned ≤ top) }
+    requires at_le_top { (st.at ≤ top) × (st.warned ≤ top) }
     ensures { Imports (import_range (context_with main.now supplementary.now lists.now addresses.now
         work.old q) (entry_here main.now p)
         (descendants_of (entry_here main.now p).depth (entries_from main.now (p + entry_whole))) name.now range)
         (sheets main.now supplementary.now) q
         (memory work.old records.old files.old warnings.old) st
-        (memory work.new records.new files.new warnings.new) result }
+        (memory work.new records.new files.new warnings.new) (status_of result) (value_or st result) }
 {
-    let table = st.table;
-    let stats = st.stats;
     let past = dies::past::is_past(st.at, 19 + name.len());
     let headed = ImportState {
-        table: table,
         at: buffers::output::put_function(records, st.at, range, name),
-        warned: st.warned,
-        stats: stats,
-        status: 0,
         past: st.past | past,
+        ..st
     };
     let l = function_lines(
         main,
@@ -164,19 +142,14 @@ pub fn import_range<'a>(
         p,
         range,
         headed,
-    );
-    let grown = l.table;
+    )?;
     let lined = ImportState {
-        table: grown,
+        table: l.table,
         at: l.at,
         warned: l.warned,
-        stats: stats,
-        status: l.status,
+        stats: st.stats,
         past: l.past,
     };
-    if l.status != 0 {
-        return lined;
-    }
     import_details(
         main,
         supplementary,

@@ -5,6 +5,7 @@ ghost use Rattle.tlv.specs.Bytes.{le_at};
 ghost use Rattle.tlv.specs.Fields.{encode};
 ghost use Rattle.tlv.specs.Grammar.{list_size_at, list_field_size};
 ghost use Rattle.tlv.specs.Checked.{Placed};
+ghost use Rattle.tlv.specs.Refusals.{status_of};
 ghost use Rattle.buffers.specs.Buffer.{Put, top};
 ghost use Rattle.buffers.specs.Output.{warning_payload, malformed_ranges};
 ghost use Rattle.access.specs.Access.{NextOwn};
@@ -13,27 +14,20 @@ ghost use Rattle.rnglists.specs.RangeLists.{decimal};
 ghost use Rattle.rnglists.specs.Room.{range_least};
 ghost use Rattle.references.specs.Tables.{EntryKnown};
 ghost use Rattle.ranges.specs.RangeTable.{own_lists, list_of};
+ghost use Rattle.dies.specs.Answers.{value_or};
 ghost use Rattle.dies.specs.Details.{EntriesKnown};
 ghost use Rattle.subprograms.specs.Contexts.{ContextIn, context_with};
 ghost use Rattle.subprograms.specs.Steps.{sheets, memory, RejectsList, below_entry, import_listed, Imports};
 
 use crate::candidates::{import_candidate, next_entry, reject};
 use crate::model::{ImportContext, ImportState};
-use access::access::Own;
-use rnglists::lists::NextRange;
-use tlv::model::AddressRange;
+use access::access::next_own;
+use rnglists::lists::next_range;
+use tlv::bytes::Number;
+use tlv::fields::FieldSpan;
+use tlv::refusal::Refusal;
 use tlv::shapes::{LIST_ADDRESSES, LIST_BASE, LIST_SIZE};
 use tlv::tags::{ENTRY_WHOLE, LIST_TAG};
-
-// The flag of a range that is dead or not.
-fn flag_of(dead: bool) -> u8
-    ensures { eqb result 1 ≡ dead }
-{
-    if dead {
-        return 1;
-    }
-    0
-}
 
 // The warning of a list's fault, whose reason is its number in decimal.
 fn put_fault(warnings: &mut [u8], at: usize, n: u8) -> usize
@@ -41,10 +35,10 @@ fn put_fault(warnings: &mut [u8], at: usize, n: u8) -> usize
         warnings.new result }
 {
     if n < 10 {
-        let digit = [48 + n];
+        let digit = [b'0' + n];
         return buffers::output::put_malformed_ranges(warnings, at, true, &digit);
     }
-    let digits = [48 + n / 10, 48 + n % 10];
+    let digits = [b'0' + n / 10, b'0' + n % 10];
     buffers::output::put_malformed_ranges(warnings, at, true, &digits)
 }
 
@@ -71,7 +65,7 @@ pub fn import_list<'a>(
     p: usize,
     start: usize,
     st: ImportState,
-) -> ImportState
+) -> Result<ImportState, Refusal>
     requires context_in { ContextIn main.now supplementary.now work.old q st.table }
     requires entry_known { EntryKnown main.now q.unit p }
     requires placed { (Placed main.now (p + entry_whole)) × EntriesKnown main.now q.unit (p + entry_whole) }
@@ -79,40 +73,25 @@ pub fn import_list<'a>(
     requires range_least_len { length lists.now / range_least ≡ q.third }
     requires list_field_size_in_bounds { start + list_field_size ≤ length main.now }
     requires fact { (le_at 1 main.now (start + list_size_at) ≡ 4) ⊎ (le_at 1 main.now (start + list_size_at) ≡ 8) }
-    requires status_value { (st.status ≡ 0) × (st.at ≤ top) × (st.warned ≤ top) }
+    requires at_le_top { (st.at ≤ top) × (st.warned ≤ top) }
     ensures { Imports (import_listed (context_with main.now supplementary.now lists.now addresses.now
         work.old q) (entry_here main.now p) (below_entry main.now p) name.now
         (list_of main.now lists.now addresses.now start))
         (sheets main.now supplementary.now) q
         (memory work.old records.old files.old warnings.old) st
-        (memory work.new records.new files.new warnings.new) result }
+        (memory work.new records.new files.new warnings.new) (status_of result) (value_or st result) }
 {
-    let place = tlv::bytes::read_u64(main, start + LIST_ADDRESSES);
-    let size = tlv::bytes::read_u8(main, start + LIST_SIZE);
+    let place = u64::read(main, start + LIST_ADDRESSES);
+    let size = u8::read(main, start + LIST_SIZE);
     let below = next_entry(main, p + ENTRY_WHOLE);
     let mut r = st;
-    let mut at = tlv::bytes::read_u64(main, start) as usize;
-    let mut base = tlv::bytes::read_u64(main, start + LIST_BASE);
+    let mut at = u64::read(main, start) as usize;
+    let mut base = u64::read(main, start + LIST_BASE);
     loop {
-        match rnglists::lists::next_range(lists, addresses, place, size, at, base) {
-            NextRange::End => {
-                return r;
-            }
-            NextRange::Fault(n) => {
-                return reject_list(warnings, r, n);
-            }
-            NextRange::Range {
-                start: from,
-                end,
-                dead,
-                next,
-                base: after,
-            } => {
-                let range = AddressRange {
-                    start: from,
-                    end: end,
-                };
-                let flag = flag_of(dead);
+        match next_range(lists, addresses, place, size, at, base) {
+            Ok(None) => return Ok(r),
+            Err(e) => return Ok(reject_list(warnings, r, e.number())),
+            Ok(Some(given)) => {
                 r = import_candidate(
                     main,
                     supplementary,
@@ -126,28 +105,25 @@ pub fn import_list<'a>(
                     name,
                     p,
                     below,
-                    range,
-                    flag,
+                    given.range,
+                    u8::from(given.dead),
                     r,
-                );
-                if r.status != 0 {
-                    return r;
-                }
-                at = next;
-                base = after;
+                )?;
+                at = given.next;
+                base = given.base;
             }
         }
     }
 }
 
 // The field 1f of the entry whose fields begin at a place; it is looked for only where the main sheet has one.
-pub fn list_field(main: &[u8], with_lists: bool, at: usize) -> Own
+pub fn list_field(main: &[u8], with_lists: bool, at: usize) -> Option<FieldSpan>
     requires placed { Placed main.now at }
     requires at_value { with_lists ≡ false → own_lists main.now at ≡ 0 }
     ensures { NextOwn main.now at list_tag result }
 {
     if with_lists {
-        return access::access::next_own(main, at, LIST_TAG);
+        return next_own(main, at, LIST_TAG);
     }
-    Own::Missing
+    None
 }

@@ -1,5 +1,5 @@
 // What an import counts and carries along.
-ghost use Rattle.std.specs.Prelude.{◌≡◌, ◌+◌, min};
+ghost use Rattle.std.specs.Prelude.{◌≡◌};
 ghost use Rattle.subprograms.specs.Stats.{stats_of, with_function, with_rejected};
 
 use declarations::declaring::Places;
@@ -7,7 +7,7 @@ use files::store::StoredFiles;
 use rows::unit_lines::StoredLines;
 
 // The statistics of document 01; each stays at its largest value.
-#[derive(Clone, Copy)]
+#[derive(Clone, Copy, Debug, PartialEq, Eq)]
 pub struct ConversionStats {
     pub functions: u64,
     pub line_rows: u64,
@@ -33,15 +33,13 @@ pub struct ImportContext {
     pub with_lists: bool,
 }
 
-// What changes from range to range: the file table, the places in the records and the warnings, the statistics, the refusal, 0 for none,
-// and whether the records pass the largest place.
+// What changes from range to range: the file table, the places in the records and the warnings, the statistics, and whether the records pass the largest place.
 #[derive(Clone, Copy)]
 pub struct ImportState {
     pub table: StoredFiles,
     pub at: usize,
     pub warned: usize,
     pub stats: ConversionStats,
-    pub status: u8,
     pub past: bool,
 }
 
@@ -57,24 +55,15 @@ pub fn no_stats() -> ConversionStats
     }
 }
 
-pub fn saturating_add(a: u64, b: u64) -> u64
-    ensures { result ≡ min (a + b) 18446744073709551615 }
-{
-    if 18446744073709551615 - a < b {
-        return 18446744073709551615;
-    }
-    a + b
-}
-
 // A record with so many rows and nodes below its root is counted.
 pub fn count_function(s: ConversionStats, rows: usize, nodes: usize) -> ConversionStats
     ensures { stats_of result ≡ with_function rows nodes (stats_of s) }
 {
     ConversionStats {
-        functions: saturating_add(s.functions, 1),
-        line_rows: saturating_add(s.line_rows, rows as u64),
-        inline_nodes: saturating_add(s.inline_nodes, nodes as u64),
-        rejected_ranges: s.rejected_ranges,
+        functions: s.functions.saturating_add(1),
+        line_rows: s.line_rows.saturating_add(rows as u64),
+        inline_nodes: s.inline_nodes.saturating_add(nodes as u64),
+        ..s
     }
 }
 
@@ -83,9 +72,7 @@ pub fn count_rejected(s: ConversionStats) -> ConversionStats
     ensures { stats_of result ≡ with_rejected (stats_of s) }
 {
     ConversionStats {
-        functions: s.functions,
-        line_rows: s.line_rows,
-        inline_nodes: s.inline_nodes,
-        rejected_ranges: saturating_add(s.rejected_ranges, 1),
+        rejected_ranges: s.rejected_ranges.saturating_add(1),
+        ..s
     }
 }

@@ -9,7 +9,7 @@ ghost use Rattle.imports.specs.Import.{is_live_range, is_tombstone};
 ghost use Rattle.ranges.specs.RangeTable.{ranges_at, range_record};
 ghost use Rattle.subprograms.specs.Text.{TextIndexed};
 
-use access::access::Own;
+use access::access::next_before_rows;
 use ranges::ranges::RANGE_RECORD;
 use tlv::model::AddressRange;
 use tlv::tags::{TEXT_TAG, UNIT_WHOLE};
@@ -23,23 +23,13 @@ pub fn index_text(main: &[u8], place: usize, work: &mut [u8], base: usize) -> us
 {
     let mut p = place + UNIT_WHOLE;
     let mut n: usize = 0;
-    loop {
-        match access::access::next_before_rows(main, p, TEXT_TAG) {
-            Own::Missing => {
-                return n;
-            }
-            Own::Field {
-                start,
-                len: _,
-                next,
-            } => {
-                let range = ranges::ranges::range_at(main, start);
-                ranges::ranges::put_range_at(work, base + n * RANGE_RECORD, range);
-                n += 1;
-                p = next;
-            }
-        }
+    while let Some(field) = next_before_rows(main, p, TEXT_TAG) {
+        let range = ranges::ranges::range_at(main, field.start);
+        ranges::ranges::put_range_at(work, base + n * RANGE_RECORD, range);
+        n += 1;
+        p = field.next;
     }
+    n
 }
 
 // Whether one of the n ranges at p holds an address.
@@ -47,14 +37,10 @@ fn holds_address(work: &[u8], p: usize, n: usize, address: u64) -> bool
     requires { p + n * range_record ≤ length work.now }
     ensures { result ≡ exists (λ t. contains t address) (ranges_at work.now p n) }
 {
-    let mut i = 0;
-    while i < n {
+    for i in 0..n {
         let text = ranges::ranges::range_at(work, p + i * RANGE_RECORD);
-        i += 1;
-        if text.start <= address {
-            if address < text.end {
-                return true;
-            }
+        if text.start <= address && address < text.end {
+            return true;
         }
     }
     false

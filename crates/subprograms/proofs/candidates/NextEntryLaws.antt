@@ -2,9 +2,11 @@
 use mathlib.Core.Path.{◌≡◌, refl, sym, ◌∙◌}
 use mathlib.Core.List.{List}
 use Prim.Native.Nat.{ℕ}
-use Rattle.tlv.specs.declared.fields.Step.{Step}
+use Rattle.std.specs.Prelude.{Some}
+use Rattle.tlv.specs.declared.fields.FieldSpan.{FieldSpan}
 use Rattle.tlv.specs.Checked.{Placed}
-use Rattle.tlv.specs.Cursor.{step_at}
+use Rattle.tlv.specs.Cursor.{step_at, field_from}
+use Rattle.tlv.proofs.FieldLaws.{is-step}
 use Rattle.tlv.proofs.PlaceFacts.{placed-next}
 use Rattle.dies.specs.Details.{EntriesKnown}
 use Rattle.dies.proofs.EntryWalkLaws.{from-other, known-other}
@@ -24,13 +26,12 @@ pub record Seeking (s : List ℕ) (p at : ℕ) : Type 0 where
 pub seeking-start : {s : List ℕ} {p : ℕ} → Placed s p → Seeking s p p
 seeking-start h = record { placed = h; begins = λ unit K. begins-here h K }
 
-pub seeking-next : {s : List ℕ} {p at : ℕ} {r : Step} {tag start len next : ℕ} → Seeking s p at → r ≡ step_at s at → r ≡ Step.Field tag start len next
-    → (tag ≡ 0x10 → ⊥) → (tag ≡ 0x17 → ⊥) → Seeking s p next
-seeking-next {s} {p} {at} {r} {tag} {start} {len} {next} S reads e h k =
-    let here : Placed s next = placed-next s at r tag start len next S.placed reads e in
+pub seeking-next : {s : List ℕ} {p at : ℕ} {f : FieldSpan} → Seeking s p at → Some f ≡ field_from s at → (f.tag ≡ 0x10 → ⊥) → (f.tag ≡ 0x17 → ⊥) → Seeking s p f.next
+seeking-next {s} {p} {at} {f} S there h k =
+    let here : Placed s f.next = placed-next s at (step_at s at) f.tag f.start f.len f.next S.placed refl (is-step s at f there) in
     record {
       placed = here;
       begins = λ unit K.
           let B = S.begins unit K in
-          begins-after B (record { placed = here; known = known-other s at r reads tag start len next e B.known h k; same = sym (from-other s at r reads tag start len next e h k) });
+          begins-after B (record { placed = here; known = known-other s at f there B.known h k; same = sym (from-other s at f there h k) });
     }

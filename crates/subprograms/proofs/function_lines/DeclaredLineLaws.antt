@@ -6,10 +6,12 @@ use mathlib.Core.Bool.{Bool, ◌||◌}
 use Prim.Native.Nat.{ℕ, ◌*◌, ◌≤◌, ◌<◌}
 use native.Mathlib.Omega.{arith}
 use lib.ListN.{length}
-use Rattle.tlv.specs.declared.model.FileIndex.{FileIndex}
+use Rattle.std.specs.Prelude.{Result, Ok, Err, Some, None}
+use Rattle.tlv.specs.declared.refusal.Refusal.{Refusal}
+use Rattle.tlv.specs.Refusals.{number_of}
+use Rattle.tlv.proofs.AnswerLaws.{numbered}
 use Rattle.tlv.specs.Outcome.{Outcome, refused, done, ◌>>=◌}
 use Rattle.tlv.specs.Fields.{encode}
-use Rattle.tlv.proofs.RefusalLaws.{refusal-number}
 use Rattle.buffers.specs.Buffer.{top, Put}
 use Rattle.buffers.specs.Table.{KeptBut}
 use Rattle.buffers.specs.Output.{Warning, row_payload, each_of}
@@ -22,8 +24,8 @@ use Rattle.collect.specs.Collects.{lines_in}
 use Rattle.collect.proofs.FrameLaws.{but_wide}
 use Rattle.references.specs.Search.{Declaring, resolve_declaration, resolve_declaration_line}
 use Rattle.references.specs.Names.{dwarf_of, place_at, start_at}
-use Rattle.references.proofs.Refusals.{refuses-declaration_line}
 use Rattle.declarations.specs.declared.declaring.DeclaringState.{DeclaringState}
+use Rattle.declarations.specs.declared.declaring.Declaration.{Declaration}
 use Rattle.declarations.specs.declared.declaring.Declared.{Declared}
 use Rattle.declarations.specs.Declarations.{declaring_at, DeclaringIn, Declares, searched}
 use Rattle.declarations.proofs.ResolveLaws.{declaration-line}
@@ -42,7 +44,7 @@ abbrev pub declaring_from : ImportState → DeclaringState
 declaring_from st = record { count = 0; table = st.table; warned = st.warned }
 
 -- the search of the declaration of the entry at p has answered r
-abbrev pub Searches : List ℕ → List ℕ → ImportContext → ImportState → ℕ → List ℕ → List ℕ → List ℕ → List ℕ → List ℕ → List ℕ → Declared → Type 0
+abbrev pub Searches : List ℕ → List ℕ → ImportContext → ImportState → ℕ → List ℕ → List ℕ → List ℕ → List ℕ → List ℕ → List ℕ → Result Declared Refusal → Type 0
 Searches main supplementary q st p w w' f f' u u' r =
     Declares (resolve_declaration 64 (dwarf_of main supplementary) (place_at main supplementary (start_at q.unit p)) (indices_in w q.places.indices))
     main supplementary w w' f f' u u' q.places (declaring_from st) r
@@ -86,12 +88,6 @@ module _ {main supplementary w : List ℕ} {q : ImportContext} (st : ImportState
         (declaring_at main supplementary w q.places (declaring_from st) ws 1)
     begun ws = declaration-line main supplementary w q.places (declaring_from st) q.unit p (indices_in w q.places.indices) ws refl
 
-    -- a refusal is no 0
-    no_zero : {f u w' f' u' : List ℕ} {n : ℕ} → Searches main supplementary q st p w w' f f' u u' (Declared.Refused n) → n ≡ 0 → ⊥
-    no_zero D z =
-        let b = refusal-number (refuses-declaration_line (dwarf_of main supplementary) (unit_here main q.unit) (entry_here main p) (indices_in w q.places.indices) (table_of main supplementary w st.table) []) (begun [] ∙ D.is 1 []) in
-        omega (arith, b.0)
-
     module _ (start : ℕ) where
       goes : (ws : List Warning) {o : Outcome Declaring}
           → resolve_declaration 64 (dwarf_of main supplementary) (place_at main supplementary (start_at q.unit p)) (indices_in w q.places.indices)
@@ -100,63 +96,57 @@ module _ {main supplementary w : List ℕ} {q : ImportContext} (st : ImportState
       unfolding declared_line lines_in
       goes ws h = ap (λ (x : Outcome Declaring). x >>= λ d. done (rows_of start d)) (begun ws ∙ h)
 
-      module _ {f u w' f' u' : List ℕ} {d : Declared} (S : Searches main supplementary q st p w w' f f' u u' d) where
-        pub finds-refused : {n : ℕ} {t t' : List ℕ} {r : FoundLines} → d ≡ Declared.Refused n → r.status ≡ n
-            → FindsLines (declared_line (context_of main supplementary w q) (entry_here main p) start) main supplementary q w t f u st w' t' f' u' r
+      module _ {f u w' f' u' : List ℕ} where
+        pub finds-refused : {e : Refusal} {t t' : List ℕ} {r : FoundLines} → Searches main supplementary q st p w w' f f' u u' (Err e)
+            → FindsLines (declared_line (context_of main supplementary w q) (entry_here main p) start) main supplementary q w t f u st w' t' f' u' (number_of e) r
         unfolding ◌>>=◌
-        finds-refused {n} {r = r} e is =
-            let D : Searches main supplementary q st p w w' f f' u u' (Declared.Refused n) = rw e at S in
-            let not_done : r.status ≡ 0 → ⊥ = λ z. no_zero D (sym is ∙ z) in
-            record {
-              rows = [];
-              new = [];
-              count = λ z. absurd (not_done z);
-              laid = λ z. absurd (not_done z);
-              past = λ z. absurd (not_done z);
-              warned = λ z. absurd (not_done z);
-              grown = λ z. absurd (not_done z);
-              kept = λ z. absurd (not_done z);
-              ok = λ z. absurd (not_done z);
-              no = λ _ ws. goes ws (D.is 1 ws) ∙ ap refused (sym is);
-            }
+        finds-refused {e} D = record {
+          rows = [];
+          new = [];
+          count = λ z. absurd (numbered e z);
+          laid = λ z. absurd (numbered e z);
+          past = λ z. absurd (numbered e z);
+          warned = λ z. absurd (numbered e z);
+          grown = λ z. absurd (numbered e z);
+          kept = λ z. absurd (numbered e z);
+          ok = λ z. absurd (numbered e z);
+          no = λ _ ws. goes ws (D.is 1 ws);
+        }
 
-        pub finds-nothing : {st' : DeclaringState} {t : List ℕ} → d ≡ Declared.Missing st' → st.at ≤ top → length t < top
-            → FindsLines (declared_line (context_of main supplementary w q) (entry_here main p) start) main supplementary q w t f u st w' t f' u'
-            (record { table = st'.table; at = st.at; warned = st'.warned; count = 0; status = 0; past = st.past })
-        unfolding ◌>>=◌ each_of
-        finds-nothing {st'} e h small =
-            let D : Searches main supplementary q st p w w' f f' u u' (Declared.Missing st') = rw e at S in
-            record {
-              rows = [];
-              new = D.new;
-              count = λ z. refl;
-              laid = λ z. put-none h small;
-              past = λ z. past_same st.past st.at h;
-              warned = λ z. D.after.put;
-              grown = λ z. D.after.grown;
-              kept = λ z. searched-touched D.rest;
-              ok = λ z ws. goes ws (D.is 1 ws);
-              no = λ n. absurd (n refl);
-            }
+        module _ {x : Declared} (D : Searches main supplementary q st p w w' f f' u u' (Ok x)) where
+          pub finds-nothing : {t : List ℕ} → x.found ≡ None → st.at ≤ top → length t < top
+              → FindsLines (declared_line (context_of main supplementary w q) (entry_here main p) start) main supplementary q w t f u st w' t f' u' 0
+              (record { table = x.state.table; at = st.at; warned = x.state.warned; count = 0; past = st.past })
+          unfolding ◌>>=◌ each_of
+          finds-nothing e h small = record {
+            rows = [];
+            new = D.new;
+            count = λ z. refl;
+            laid = λ z. put-none h small;
+            past = λ z. past_same st.past st.at h;
+            warned = λ z. D.after.put;
+            grown = λ z. D.after.grown;
+            kept = λ z. searched-touched D.rest;
+            ok = λ z ws. goes ws (rw e at (D.is 1 ws));
+            no = λ n. absurd (n refl);
+          }
 
-        pub finds-line : {st' : DeclaringState} {file : FileIndex} {line a : ℕ} {b : Bool} {t t' : List ℕ} → d ≡ Declared.Found st' file line
-            → b ≡ is_past st.at (21 * 1)
-            → Put st.at (encode 0x42 (row_payload (record { address = start; file = file; line = line; column = 0 }))) t t' a
-            → FindsLines (declared_line (context_of main supplementary w q) (entry_here main p) start) main supplementary q w t f u st w' t' f' u'
-            (record { table = st'.table; at = a; warned = st'.warned; count = 1; status = 0; past = st.past || b })
-        unfolding ◌>>=◌ each_of
-        finds-line {st'} {file} {line} e B P =
-            let D : Searches main supplementary q st p w w' f f' u u' (Declared.Found st' file line) = rw e at S in
-            record {
-              rows = record { address = start; file = file; line = line; column = 0 } ∷ [];
-              new = D.new;
-              count = λ z. refl;
-              laid = λ z. put_as (append-nil (encode 0x42 (row_payload (record { address = start; file = file; line = line; column = 0 })))) P;
-              warned = λ z. D.after.put;
-              past = λ z. ap (λ (y : Bool). st.past || y)
-                  (B ∙ ap (is_past st.at) (sym (lines-length (record { address = start; file = file; line = line; column = 0 } ∷ []))));
-              grown = λ z. D.after.grown;
-              kept = λ z. searched-touched D.rest;
-              ok = λ z ws. goes ws (D.is 1 ws);
-              no = λ n. absurd (n refl);
-            }
+          pub finds-line : {l : Declaration} {a : ℕ} {b : Bool} {t t' : List ℕ} → x.found ≡ Some l → b ≡ is_past st.at (21 * 1)
+              → Put st.at (encode 0x42 (row_payload (record { address = start; file = l.file; line = l.line; column = 0 }))) t t' a
+              → FindsLines (declared_line (context_of main supplementary w q) (entry_here main p) start) main supplementary q w t f u st w' t' f' u' 0
+              (record { table = x.state.table; at = a; warned = x.state.warned; count = 1; past = st.past || b })
+          unfolding ◌>>=◌ each_of
+          finds-line {l} e B P =
+              record {
+                rows = record { address = start; file = l.file; line = l.line; column = 0 } ∷ [];
+                new = D.new;
+                count = λ z. refl;
+                laid = λ z. put_as (append-nil (encode 0x42 (row_payload (record { address = start; file = l.file; line = l.line; column = 0 })))) P;
+                warned = λ z. D.after.put;
+                past = λ z. ap (λ (y : Bool). st.past || y)
+                    (B ∙ ap (is_past st.at) (sym (lines-length (record { address = start; file = l.file; line = l.line; column = 0 } ∷ []))));
+                grown = λ z. D.after.grown;
+                kept = λ z. searched-touched D.rest;
+                ok = λ z ws. goes ws (rw e at (D.is 1 ws));
+                no = λ n. absurd (n refl);
+              }

@@ -7,6 +7,11 @@ use mathlib.Core.Option.{Option, none, some}
 use Prim.Native.Nat.{ℕ, ◌+◌, ◌*◌, ◌≤◌, ◌<◌}
 use native.Mathlib.Omega.{arith}
 use lib.ListN.{length, drop}
+use Rattle.std.specs.Prelude.{Option as Maybe, Result, Ok, Err}
+use Rattle.tlv.specs.declared.refusal.Refusal.{Refusal}
+use Rattle.tlv.specs.Refusals.{status_of}
+use Rattle.tlv.proofs.AnswerLaws.{numbered}
+use Rattle.dies.specs.Answers.{value_or}
 use Rattle.tlv.specs.declared.model.AddressRange.{AddressRange}
 use Rattle.tlv.specs.declared.model.LineEntry.{LineEntry}
 use Rattle.tlv.specs.Outcome.{Outcome, refused, done, ◌>>=◌}
@@ -25,7 +30,6 @@ use Rattle.lines.specs.Rows.{contains, belongs, compact_line_rows, own_rows, ear
 use Rattle.files.specs.declared.index.StoredIndices.{StoredIndices}
 use Rattle.files.specs.Store.{extent, table_of}
 use Rattle.files.proofs.GrownLaws.{table_kept, files-kept, grown-none, grown-kept, grown-after}
-use Rattle.rows.specs.declared.line.StatementSequence.{StatementSequence}
 use Rattle.rows.specs.declared.unit_lines.StoredLines.{StoredLines}
 use Rattle.rows.specs.declared.unit_lines.FunctionRows.{FunctionRows}
 use Rattle.rows.specs.Sizes.{entry_size}
@@ -36,7 +40,6 @@ use Rattle.collect.specs.Collects.{lines_in}
 use Rattle.references.specs.Search.{Declaring, resolve_declaration_line}
 use Rattle.imports.specs.Import as import
 use Rattle.imports.specs.Import.{statement_sequence_offset, sequence_warning, declaration_if, lines_with}
-use Rattle.dies.specs.declared.calls.Warned.{Warned}
 use Rattle.dies.specs.Past.{is_past}
 use Rattle.dies.proofs.NodeStepLaws.{warnings-append}
 use Rattle.subprograms.specs.declared.model.ConversionStats.{ConversionStats}
@@ -132,11 +135,28 @@ module _ (q : import.ImportContext) (e : Entry) (r : AddressRange) (table : File
       go (refused n) = refl
       go (done d) = λ i. done (record { rows = row d.found i; table = d.table; warnings = d.warnings })
 
+-- of a refused answer nothing is promised
+pub finds-any : {F : FileTable → List Warning → Outcome FunctionLines} {main supplementary : List ℕ} {q : ImportContext} {w t f u : List ℕ} {st : ImportState} {w' t' f' u' : List ℕ} (l l' : FoundLines) (r : Result FoundLines Refusal)
+    → FindsLines F main supplementary q w t f u st w' t' f' u' (status_of r) (value_or l r) → FindsLines F main supplementary q w t f u st w' t' f' u' (status_of r) (value_or l' r)
+finds-any l l' (Ok x) A = A
+finds-any l l' (Err e) A = record {
+  rows = [];
+  new = [];
+  count = λ z. absurd (numbered e z);
+  laid = λ z. absurd (numbered e z);
+  past = λ z. absurd (numbered e z);
+  warned = λ z. absurd (numbered e z);
+  grown = λ z. absurd (numbered e z);
+  kept = λ z. absurd (numbered e z);
+  ok = λ z. absurd (numbered e z);
+  no = A.no;
+}
+
 -- ---- the steps of function_lines
 
-module _ {main supplementary w w₁ u u₁ : List ℕ} {q : ImportContext} (st : ImportState) {p : ℕ} {range : AddressRange} {requested : StatementSequence} {own : FunctionRows} {x : Warned}
+module _ {main supplementary w w₁ u u₁ : List ℕ} {q : ImportContext} (st : ImportState) {p : ℕ} {range : AddressRange} {requested : Maybe ℕ} {own : FunctionRows} {m x : ℕ}
     (C : ContextIn main supplementary w q st.table) (asked : sequence_of requested ≡ statement_sequence_offset (unit_here main q.unit) (entry_here main p))
-    (R : ForRange w w₁ q.lines range requested own) (W : SequenceWarned main q.unit p (sequence_of requested) own.invalid st.warned u u₁ x) where
+    (R : ForRange w w₁ q.lines range requested own) (W : SequenceWarned main q.unit p (sequence_of requested) own.invalid st.warned u u₁ m x) where
   own_is : for_range (lines_in w q.lines q.places.indices) range (statement_sequence_offset (unit_here main q.unit) (entry_here main p)) ≡ for_range (unit_lines_of w q.lines) range (sequence_of requested)
   own_is = stored_same w q.lines q.places.indices range _ ∙ ap (for_range (unit_lines_of w q.lines) range) (sym asked)
 
@@ -151,23 +171,21 @@ module _ {main supplementary w w₁ u u₁ : List ℕ} {q : ImportContext} (st :
       λ i. sequence_warning (unit_here main q.unit) (entry_here main p) (sym asked i) (same i)
 
   -- the warning is refused
-  pub finds-unwarned : {t t' f f' : List ℕ} {r : FoundLines} → (x.status ≡ 0 → ⊥) → r.status ≡ x.status
-      → FindsLines (function_lines (context_of main supplementary w q) (entry_here main p) range) main supplementary q w t f u st w₁ t' f' u₁ r
+  pub finds-unwarned : {t t' f f' : List ℕ} {r : FoundLines} → (m ≡ 0 → ⊥)
+      → FindsLines (function_lines (context_of main supplementary w q) (entry_here main p) range) main supplementary q w t f u st w₁ t' f' u₁ m r
   unfolding ◌>>=◌
-  finds-unwarned {r = r} refuses is =
-      let not_done : r.status ≡ 0 → ⊥ = λ z. refuses (sym is ∙ z) in
-      record {
-        rows = [];
-        new = [];
-        count = λ z. absurd (not_done z);
-        laid = λ z. absurd (not_done z);
-        past = λ z. absurd (not_done z);
-        warned = λ z. absurd (not_done z);
-        grown = λ z. absurd (not_done z);
-        kept = λ z. absurd (not_done z);
-        ok = λ z. absurd (not_done z);
-        no = λ _ ws. from_is (context_of main supplementary w q) (entry_here main p) range (table_of main supplementary w st.table) ws (warns-as ∙ W.no refuses) refl ∙ ap refused (sym is);
-      }
+  finds-unwarned refuses = record {
+    rows = [];
+    new = [];
+    count = λ z. absurd (refuses z);
+    laid = λ z. absurd (refuses z);
+    past = λ z. absurd (refuses z);
+    warned = λ z. absurd (refuses z);
+    grown = λ z. absurd (refuses z);
+    kept = λ z. absurd (refuses z);
+    ok = λ z. absurd (refuses z);
+    no = λ _ ws. from_is (context_of main supplementary w q) (entry_here main p) range (table_of main supplementary w st.table) ws (warns-as ∙ W.no refuses) refl;
+  }
 
   -- what the rows were written to lies apart from the file table
   written : KeptBut w w₁ ((q.lines.buffer, entry_size + q.lines.line_count * entry_size) ∷ [])
@@ -189,8 +207,8 @@ module _ {main supplementary w w₁ u u₁ : List ℕ} {q : ImportContext} (st :
   rows-within size = omega (arith, R.within, C.rows.buffer)
 
   -- the warning was laid, or there was none
-  module _ (warned : x.status ≡ 0) (size : length w₁ ≡ length w) where
-    pub warned-fits : x.at ≤ top
+  module _ (warned : m ≡ 0) (size : length w₁ ≡ length w) where
+    pub warned-fits : x ≤ top
     warned-fits = omega (arith, (W.laid warned).place)
 
     from : (ws : List Warning) {rows : List LineEntry} → entries_of w₁ own.rows own.count ≡ rows
@@ -201,8 +219,8 @@ module _ {main supplementary w w₁ u u₁ : List ℕ} {q : ImportContext} (st :
     -- the function's own rows
     pub finds-own : {t t' f : List ℕ} {a : ℕ} {b : Bool} → (own.count ≡ 0 → ⊥) → length f < top → b ≡ is_past st.at (21 * own.count)
         → Put st.at (lines_bytes (entries_of w₁ own.rows own.count)) t t' a
-        → FindsLines (function_lines (context_of main supplementary w q) (entry_here main p) range) main supplementary q w t f u st w₁ t' f u₁
-        (record { table = st.table; at = a; warned = x.at; count = own.count; status = 0; past = st.past || b })
+        → FindsLines (function_lines (context_of main supplementary w q) (entry_here main p) range) main supplementary q w t f u st w₁ t' f u₁ 0
+        (record { table = st.table; at = a; warned = x; count = own.count; past = st.past || b })
     finds-own some-rows small B P =
         let rows = entries_of w₁ own.rows own.count in
         let long : length rows ≡ own.count = entries-length w₁ own.rows own.count in
@@ -222,10 +240,10 @@ module _ {main supplementary w w₁ u u₁ : List ℕ} {q : ImportContext} (st :
         }
 
     -- the declaration, where it has none
-    pub finds-declared : {stats : ConversionStats} {t f w₂ t₂ f₂ u₂ : List ℕ} {r : FoundLines} → own.count ≡ 0
+    pub finds-declared : {stats : ConversionStats} {t f w₂ t₂ f₂ u₂ : List ℕ} {n : ℕ} {r : FoundLines} → own.count ≡ 0
         → FindsLines (declared_line (context_of main supplementary w₁ q) (entry_here main p) range.start) main supplementary q w₁ t f u₁
-        (record { table = st.table; at = st.at; warned = x.at; stats = stats; status = 0; past = st.past }) w₂ t₂ f₂ u₂ r
-        → FindsLines (function_lines (context_of main supplementary w q) (entry_here main p) range) main supplementary q w t f u st w₂ t₂ f₂ u₂ r
+        (record { table = st.table; at = st.at; warned = x; stats = stats; past = st.past }) w₂ t₂ f₂ u₂ n r
+        → FindsLines (function_lines (context_of main supplementary w q) (entry_here main p) range) main supplementary q w t f u st w₂ t₂ f₂ u₂ n r
     finds-declared {w₂ = w₂} {r = r} no_rows D =
         let none-own : entries_of w₁ own.rows own.count ≡ [] = ap (entries_of w₁ own.rows) no_rows ∙ entries-nil w₁ own.rows in
         let same : (ws : List Warning) → function_lines (context_of main supplementary w q) (entry_here main p) range (table_of main supplementary w st.table) ws

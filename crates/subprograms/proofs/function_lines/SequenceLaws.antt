@@ -9,7 +9,8 @@ use native.Mathlib.Omega.{arith}
 use lib.Dec.{eqb}
 use lib.ListN.{length, take, drop}
 use borrow.Author.Tests.{eqb-true}
-use Rattle.tlv.specs.Outcome.{◌>>=◌}
+use Rattle.std.specs.Prelude.{Option as Maybe, Some, None}
+use Rattle.tlv.specs.Outcome.{done, ◌>>=◌}
 use Rattle.tlv.specs.Bytes.{le_at}
 use Rattle.tlv.specs.Lists.{first}
 use Rattle.tlv.specs.Fields.{fields, payloads}
@@ -25,12 +26,11 @@ use Rattle.buffers.specs.Output.{kind_number, about, invalid_statement_sequence,
 use Rattle.buffers.proofs.BufferLaws.{put-none}
 use Rattle.access.specs.declared.access.Value.{Value}
 use Rattle.access.specs.Places.{own_fields, entry_here, unit_here}
-use Rattle.access.specs.Access.{Meaning, absent, unsigned, file_number, text, unit_reference, section_reference, supplementary_reference, section_offset, line_offset, address, failed, is_named, value_of, meaning_of, meant, Says}
+use Rattle.access.specs.Access.{Meaning, absent, unsigned, file_number, text, unit_reference, section_reference, supplementary_reference, section_offset, line_offset, address, failed, is_named, value_of, meaning_of, said, Says}
 use Rattle.access.proofs.IndexModel.{either}
 use Rattle.access.proofs.UnitFacts.{unit-word_size}
 use Rattle.files.specs.Pieces.{UnitPlaced}
 use Rattle.files.proofs.UnitLaws.{unit-within}
-use Rattle.rows.specs.declared.line.StatementSequence.{StatementSequence}
 use Rattle.rows.specs.Stored.{sequence_of}
 use Rattle.collect.specs.Collects.{UnitIn}
 use Rattle.collect.proofs.HeaderPlaces.{unit-stands}
@@ -38,10 +38,9 @@ use Rattle.references.specs.Search.{attribute}
 use Rattle.references.specs.Tables.{EntryKnown}
 use Rattle.references.proofs.ReferenceLaws.{attribute-says}
 use Rattle.imports.specs.Import.{sequence_if, statement_sequence_offset, sequence_warning}
-use Rattle.dies.specs.declared.calls.Warned.{Warned}
 use Rattle.dies.specs.Calls.{AboutWarned}
 use Rattle.dies.proofs.AttributeReads.{accepted-placed}
-use Rattle.subprograms.specs.Steps.{SequenceWarned}
+use Rattle.subprograms.specs.Steps.{sequence_in, SequenceWarned}
 
 -- ---- the size of a unit's word
 
@@ -78,19 +77,6 @@ module _ {s : List ℕ} {q : ℕ} (A : Accepted s) (U : UnitIn s q) where
 
 -- ---- the sequence that a value asks for
 
-abbrev pub sequence_in : ℕ → Value → Option ℕ
-sequence_in limit Value.Absent = none
-sequence_in limit (Value.Unsigned n) = cond (eqb n limit) none (some n)
-sequence_in limit (Value.FileNumber n) = none
-sequence_in limit (Value.Text start len) = none
-sequence_in limit (Value.UnitReference n) = none
-sequence_in limit (Value.SectionReference n) = none
-sequence_in limit (Value.SupplementaryReference n) = none
-sequence_in limit (Value.SectionOffset n) = cond (eqb n limit) none (some n)
-sequence_in limit (Value.LineOffset n) = cond (eqb n limit) none (some n)
-sequence_in limit (Value.Address n) = none
-sequence_in limit Value.Failed = none
-
 abbrev sequence_meant : ℕ → Meaning → Option ℕ
 sequence_meant limit absent = none
 sequence_meant limit (unsigned n) = cond (eqb n limit) none (some n)
@@ -104,18 +90,18 @@ sequence_meant limit (line_offset n) = cond (eqb n limit) none (some n)
 sequence_meant limit (address n) = none
 sequence_meant limit failed = none
 
-value-sequence : (limit : ℕ) (s : List ℕ) (v : Value) → sequence_in limit v ≡ sequence_meant limit (meant s v)
-value-sequence limit s Value.Absent = refl
-value-sequence limit s (Value.Unsigned n) = refl
-value-sequence limit s (Value.FileNumber n) = refl
-value-sequence limit s (Value.Text start len) = refl
-value-sequence limit s (Value.UnitReference n) = refl
-value-sequence limit s (Value.SectionReference n) = refl
-value-sequence limit s (Value.SupplementaryReference n) = refl
-value-sequence limit s (Value.SectionOffset n) = refl
-value-sequence limit s (Value.LineOffset n) = refl
-value-sequence limit s (Value.Address n) = refl
-value-sequence limit s Value.Failed = refl
+value-sequence : (limit : ℕ) (s : List ℕ) (v : Maybe Value) → sequence_in limit v ≡ sequence_meant limit (said s v)
+value-sequence limit s None = refl
+value-sequence limit s (Some (Value.Unsigned n)) = refl
+value-sequence limit s (Some (Value.FileNumber n)) = refl
+value-sequence limit s (Some (Value.Text start len)) = refl
+value-sequence limit s (Some (Value.UnitReference n)) = refl
+value-sequence limit s (Some (Value.SectionReference n)) = refl
+value-sequence limit s (Some (Value.SupplementaryReference n)) = refl
+value-sequence limit s (Some (Value.SectionOffset n)) = refl
+value-sequence limit s (Some (Value.LineOffset n)) = refl
+value-sequence limit s (Some (Value.Address n)) = refl
+value-sequence limit s (Some Value.Failed) = refl
 
 cond-not : (b : Bool) (x y : Option ℕ) → cond b x y ≡ cond (not b) y x
 cond-not true x y = refl
@@ -137,7 +123,7 @@ meaning-sequence u (some a) =
     either (eqb a.kind 9) (λ y. rw (eqb-true a.kind 9 y)) (λ n9.
     rw (n1, n2, n3, n4, n5, n6, n7, n8, n9))))))))))
 
-module _ {s : List ℕ} {q p limit : ℕ} {v : Value} (A : Accepted s) (K : EntryKnown s q p)
+module _ {s : List ℕ} {q p limit : ℕ} {v : Maybe Value} (A : Accepted s) (K : EntryKnown s q p)
     (says : Says s v (meaning_of (first (is_named 0x3e0c) (map attribute_of (payloads 0x18 (own_fields (fields (drop (p + 15) s))))))))
     (most : limit ≡ 2 ^ (8 * (unit_here s q).word_size) - 1) where
   pub sequence-read : {x : Option ℕ} → x ≡ sequence_in limit v → x ≡ statement_sequence_offset (unit_here s q) (entry_here s p)
@@ -150,36 +136,24 @@ module _ {s : List ℕ} {q p limit : ℕ} {v : Value} (A : Accepted s) (K : Entr
 
 -- ---- a sequence that does not exist warns
 
-module _ {main : List ℕ} {unit p at : ℕ} {u : List ℕ} {requested : StatementSequence} {invalid : Bool} where
-  -- none is asked for
-  pub warned-unasked : requested ≡ StatementSequence.Unknown → at ≤ top → length u < top
-      → SequenceWarned main unit p (sequence_of requested) invalid at u u (record { at = at; status = 0 })
+module _ {main : List ℕ} {unit p at : ℕ} {u : List ℕ} where
+  -- none is asked for, or it exists
+  pub warned-none : (requested : Maybe ℕ) (invalid : Bool) → sequence_warning (unit_here main unit) (entry_here main p) (sequence_of requested) invalid ≡ done []
+      → at ≤ top → length u < top → SequenceWarned main unit p (sequence_of requested) invalid at u u 0 at
   unfolding warnings_bytes each_of
-  warned-unasked e h k = record {
+  warned-none requested invalid e h k = record {
     new = [];
-    ok = λ z. ap (λ (r : StatementSequence). sequence_warning (unit_here main unit) (entry_here main p) (sequence_of r) invalid) e;
+    ok = λ z. e;
     laid = λ z. put-none h k;
     no = λ n. absurd (n refl);
   }
 
-  module _ {n : ℕ} (e : requested ≡ StatementSequence.At n) where
-    -- it exists
-    pub warned-valid : invalid ≡ false → at ≤ top → length u < top
-        → SequenceWarned main unit p (sequence_of requested) invalid at u u (record { at = at; status = 0 })
-    unfolding warnings_bytes each_of
-    warned-valid is h k = record {
-      new = [];
-      ok = λ z i. sequence_warning (unit_here main unit) (entry_here main p) (sequence_of (e i)) (is i);
-      laid = λ z. put-none h k;
-      no = λ n. absurd (n refl);
-    }
-
-    pub warned-about : invalid ≡ true → {u' : List ℕ} {r : Warned} → AboutWarned main unit p 4 n at u u' r
-        → SequenceWarned main unit p (sequence_of requested) invalid at u u' r
-    unfolding ◌>>=◌ kind_number
-    warned-about is W = record {
-      new = about invalid_statement_sequence W.offset n ∷ [];
-      ok = λ z. (λ i. sequence_warning (unit_here main unit) (entry_here main p) (sequence_of (e i)) (is i)) ∙ rw (W.ok z);
-      laid = λ z. W.laid z invalid_statement_sequence refl;
-      no = λ z. (λ i. sequence_warning (unit_here main unit) (entry_here main p) (sequence_of (e i)) (is i)) ∙ rw (W.no z);
-    }
+  pub warned-about : {n : ℕ} {u' : List ℕ} {m r : ℕ} → AboutWarned main unit p 4 n at u u' m r
+      → SequenceWarned main unit p (sequence_of (Some n)) true at u u' m r
+  unfolding ◌>>=◌ kind_number
+  warned-about {n} W = record {
+    new = about invalid_statement_sequence W.offset n ∷ [];
+    ok = λ z. rw (W.ok z);
+    laid = λ z. W.laid z invalid_statement_sequence refl;
+    no = λ z. rw (W.no z);
+  }

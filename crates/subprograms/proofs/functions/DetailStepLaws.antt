@@ -1,22 +1,22 @@
 -- The nodes and call sites of a record: what the walk below a subprogram is given, and what it gives back.
 use mathlib.Core.Path.{◌≡◌, refl, sym, ap, ◌∙◌}
-use mathlib.Core.Logic.{inl, inr}
 use mathlib.Core.Bool.{Bool, ◌||◌}
 use mathlib.Core.List.{List}
 use Prim.Native.Nat.{ℕ, ◌+◌, ◌≤◌}
 use native.Mathlib.Omega.{arith}
+use Rattle.std.specs.Prelude.{Result, Ok, Err}
 use Rattle.tlv.specs.declared.model.AddressRange.{AddressRange}
+use Rattle.tlv.specs.declared.refusal.Refusal.{Refusal}
+use Rattle.tlv.specs.Refusals.{number_of}
+use Rattle.tlv.proofs.AnswerLaws.{numbered}
 use Rattle.tlv.specs.Bytes.{le_at}
-use Rattle.tlv.specs.Outcome.{refused}
 use Rattle.tlv.specs.Checked.{Accepted}
 use Rattle.access.specs.Places.{entry_here}
 use Rattle.files.specs.declared.store.StoredFiles.{StoredFiles}
-use Rattle.machine.proofs.NumberLaws.{number_of}
 use Rattle.collect.specs.Collects.{lines_in}
 use Rattle.references.specs.Tables.{EntryKnown}
 use Rattle.imports.specs.Tree.{no_descendants, extract_subprogram_details}
 use Rattle.imports.specs.Import.{detail_context}
-use Rattle.imports.proofs.Refusals.{UnitNumber, refuses-details}
 use Rattle.dies.specs.declared.dies.Details.{Details}
 use Rattle.dies.specs.declared.dies.Extracted.{Extracted}
 use Rattle.dies.specs.Details.{DetailsIn, list_room, context_in, ExtractedIn, Extracts, entries_from}
@@ -50,47 +50,40 @@ module _ {main supplementary w : List ℕ} {q : ImportContext} {t : StoredFiles}
         listless = C.listless;
       }
 
-no_zero : {n : ℕ} → UnitNumber n → n ≡ 0 → ⊥
-no_zero (inl p) z = omega (arith, p.0)
-no_zero (inr p) z = omega (arith, p.0)
-
 -- what the code hands to the walk, in the definition's words
-module _ {main supplementary lists addresses w w' : List ℕ} {q : ImportContext} {files : StoredFiles} {p below depth at warned : ℕ} {name t t' u u' : List ℕ} {r : AddressRange} {d : Details} {x : Extracted}
+module _ {main supplementary lists addresses w w' : List ℕ} {q : ImportContext} {files : StoredFiles} {p below depth at warned : ℕ} {name t t' u u' : List ℕ} {r : AddressRange} {d : Details} {x : Result Extracted Refusal}
     (C : ContextIn main supplementary w q files) (K : EntryKnown main q.unit p) (is : d ≡ details_of q r) (read : depth ≡ le_at 2 main (p + 11)) where
   pub extracts-here : Extracts main supplementary lists addresses w w' d name below depth at warned t t' u u' x
       → Extracts main supplementary lists addresses w w' (details_of q r) name below (entry_here main p).depth at warned t t' u u' x
   extracts-here E = rw (is, read ∙ sym (entry_depth-here (context-accepted C) K)) at E
 
-module _ {main supplementary lists addresses w w' : List ℕ} {q : ImportContext} {name t t' u u' : List ℕ} {r : AddressRange} {x : Extracted} (p rows : ℕ) (st : ImportState) {below : ℕ}
-    (same : entries_from main below ≡ entries_from main (p + 15))
-    (E : Extracts main supplementary lists addresses w w' (details_of q r) name below (entry_here main p).depth st.at st.warned t t' u u' x) where
+module _ {main supplementary lists addresses w w' : List ℕ} {q : ImportContext} {name t t' u u' : List ℕ} {r : AddressRange} (p rows : ℕ) (st : ImportState) {below : ℕ}
+    (same : entries_from main below ≡ entries_from main (p + 15)) where
   -- the walk is refused
-  pub details-refused : {n : ℕ} → x ≡ Extracted.Refused n
+  pub details-refused : {e : Refusal} → Extracts main supplementary lists addresses w w' (details_of q r) name below (entry_here main p).depth st.at st.warned t t' u u' (Err e)
       → ImportsDetails (extract_subprogram_details (detail_context (context_with main supplementary lists addresses w q) r) (below_entry main p)) main supplementary q name r rows
-      w t u st w' t' u' (record { table = st.table; at = st.at; warned = st.warned; stats = st.stats; status = n; past = st.past })
+      w t u st w' t' u' (number_of e) st
   unfolding lines_in
-  details-refused {n} e =
-      let no : extract_subprogram_details (context_in main supplementary lists addresses w (details_of q r)) (below_entry main p) ≡ refused n = rw (e, same) at E.is in
-      let big : n ≡ 0 → ⊥ = no_zero (number_of (refuses-details _ _) no) in
-      record {
-        table = refl;
-        rest = E.rest;
-        descendants = no_descendants;
-        ok = λ z. absurd (big z);
-        laid = λ z. absurd (big z);
-        past = λ z. absurd (big z);
-        warned = λ z. absurd (big z);
-        counted = λ z. absurd (big z);
-        no = λ z. no;
-      }
+  details-refused {e} E = record {
+    table = refl;
+    rest = E.rest;
+    descendants = no_descendants;
+    ok = λ z. absurd (numbered e z);
+    laid = λ z. absurd (numbered e z);
+    past = λ z. absurd (numbered e z);
+    warned = λ z. absurd (numbered e z);
+    counted = λ z. absurd (numbered e z);
+    no = λ z. rw same at E.is;
+  }
 
   -- it is done
-  pub details-done : {nodes at warned : ℕ} {past : Bool} {stats : Stats} → x ≡ Extracted.Details nodes at warned past → stats_of stats ≡ with_function rows nodes (stats_of st.stats)
+  pub details-done : {x : Extracted} {stats : Stats} → Extracts main supplementary lists addresses w w' (details_of q r) name below (entry_here main p).depth st.at st.warned t t' u u' (Ok x)
+      → stats_of stats ≡ with_function rows x.nodes (stats_of st.stats)
       → ImportsDetails (extract_subprogram_details (detail_context (context_with main supplementary lists addresses w q) r) (below_entry main p)) main supplementary q name r rows
-      w t u st w' t' u' (record { table = st.table; at = at; warned = warned; stats = stats; status = 0; past = st.past || past })
+      w t u st w' t' u' 0 (record { table = st.table; at = x.at; warned = x.warned; stats = stats; past = st.past || x.past })
   unfolding lines_in
-  details-done {nodes} {at} {warned} {past} e counted =
-      let I : ExtractedIn main supplementary lists addresses w (details_of q r) name below (entry_here main p).depth st.at st.warned t t' u u' nodes at warned past = rw e at E.is in
+  details-done E counted =
+      let I = E.is in
       record {
         table = refl;
         rest = E.rest;

@@ -83,23 +83,23 @@ record-bytes name r rows x =
 
 -- the state after the rows
 abbrev lined_state : FoundLines → Stats → ImportState
-lined_state l stats = record { table = l.table; at = l.at; warned = l.warned; stats = stats; status = l.status; past = l.past }
+lined_state l stats = record { table = l.table; at = l.at; warned = l.warned; stats = stats; past = l.past }
 
-module _ {main supplementary w w₁ : List ℕ} (lists addresses : List ℕ) {q : Context} {t₁ t₂ f f₁ u u₁ : List ℕ} (st : ImportState) (p : ℕ) (r : AddressRange) (name : List ℕ) {headed : ℕ} {over : Bool} {l : FoundLines}
+module _ {main supplementary w w₁ : List ℕ} (lists addresses : List ℕ) {q : Context} {t₁ t₂ f f₁ u u₁ : List ℕ} (st : ImportState) (p : ℕ) (r : AddressRange) (name : List ℕ) {headed : ℕ} {over : Bool} {n : ℕ} {l : FoundLines}
     (B : over ≡ is_past st.at (19 + length name))
     (C : ContextIn main supplementary w q st.table)
     (L : FindsLines (function_lines (context_with main supplementary lists addresses w q) (entry_here main p) r) main supplementary q
-    w t₁ f u (record { table = st.table; at = headed; warned = st.warned; stats = st.stats; status = 0; past = st.past || over }) w₁ t₂ f₁ u₁ l) where
+    w t₁ f u (record { table = st.table; at = headed; warned = st.warned; stats = st.stats; past = st.past || over }) w₁ t₂ f₁ u₁ n l) where
   -- the tables stand for the walk
-  pub lined-context : l.status ≡ 0 → length w₁ ≡ length w → ContextIn main supplementary w₁ q l.table
+  pub lined-context : n ≡ 0 → length w₁ ≡ length w → ContextIn main supplementary w₁ q l.table
   lined-context z size = let G = L.grown z in context-kept C (L.kept z) size G.base G.room G.holds
 
-  pub lined-at : l.status ≡ 0 → (l.at ≤ top) × (l.warned ≤ top)
+  pub lined-at : n ≡ 0 → (l.at ≤ top) × (l.warned ≤ top)
   lined-at z = (omega (arith, (L.laid z).place), omega (arith, (L.warned z).place))
 
   module _ {t : List ℕ} (H : Put st.at (encode 0x41 (function_payload r name)) t t₁ headed) where
     -- the rows are refused
-    pub range-unlined : (l.status ≡ 0 → ⊥) → Imports (import_range (context_with main supplementary lists addresses w q) (entry_here main p) (below_entry main p) name r) (sheets main supplementary) q (memory w t f u) st (memory w₁ t₂ f₁ u₁) (lined_state l st.stats)
+    pub range-unlined : (n ≡ 0 → ⊥) → Imports (import_range (context_with main supplementary lists addresses w q) (entry_here main p) (below_entry main p) name r) (sheets main supplementary) q (memory w t f u) st (memory w₁ t₂ f₁ u₁) n st
     unfolding ◌>>=◌
     range-unlined z =
         grows_no z λ rs ws.
@@ -107,9 +107,9 @@ module _ {main supplementary w w₁ : List ℕ} (lists addresses : List ℕ) {q 
         range-parts (context_with main supplementary lists addresses w q) (entry_here main p) (below_entry main p) name r s
         ∙ ap (λ (o : Outcome FunctionLines). o >>= range_then (context_with main supplementary lists addresses w q) (below_entry main p) name r s) (L.no z ws)
 
-    module _ {w₂ t₃ u₂ : List ℕ} {r' : ImportState} (z : l.status ≡ 0) (size : length w₁ ≡ length w) (size₂ : length w₂ ≡ length w₁)
+    module _ {w₂ t₃ u₂ : List ℕ} {m : ℕ} {r' : ImportState} (z : n ≡ 0) (size : length w₁ ≡ length w) (size₂ : length w₂ ≡ length w₁)
         (D : ImportsDetails (extract_subprogram_details (detail_context (context_with main supplementary lists addresses w₁ q) r) (below_entry main p)) main supplementary q name r l.count
-        w₁ t₂ u₁ (lined_state l st.stats) w₂ t₃ u₂ r') where
+        w₁ t₂ u₁ (lined_state l st.stats) w₂ t₃ u₂ m r') where
       -- the file table stands below the walk's part
       table_below : Clear l.table.base (extent l.table) ((q.ranges, walk_extent main supplementary q) ∷ [])
       table_below =
@@ -131,7 +131,7 @@ module _ {main supplementary w w₁ : List ℕ} (lists addresses : List ℕ) {q 
           ∙ ap (λ (k : ImportContext). range_then k (below_entry main p) name r s (lines_found ws)) (sym (context-same C (L.kept z) lists addresses))
 
       -- and after the walk
-      ends_as : r'.status ≡ 0 → (rs : List Function) (ws : List Warning) → import_range (context_with main supplementary lists addresses w q) (entry_here main p) (below_entry main p) name r (state_of main supplementary w st rs ws)
+      ends_as : m ≡ 0 → (rs : List Function) (ws : List Warning) → import_range (context_with main supplementary lists addresses w q) (entry_here main p) (below_entry main p) name r (state_of main supplementary w st rs ws)
           ≡ done (state_of main supplementary w₂ r' (rs ++ (record_of name r L.rows D.descendants ∷ [])) (ws ++ (L.new ++ D.descendants.warnings)))
       unfolding ◌>>=◌ add_function
       ends_as k rs ws =
@@ -145,7 +145,7 @@ module _ {main supplementary w w₁ : List ℕ} (lists addresses : List ℕ) {q 
           ∙ ap done (state-as (rs ++ (record_of name r L.rows x ∷ [])) (sym table) (append_assoc ws L.new x.warnings) (sym stats))
 
       -- the head, the rows or the rest pass the largest place
-      passes : r'.status ≡ 0 → r'.past ≡ (st.past || is_past st.at (length (records_bytes (record_of name r L.rows D.descendants ∷ []))))
+      passes : m ≡ 0 → r'.past ≡ (st.past || is_past st.at (length (records_bytes (record_of name r L.rows D.descendants ∷ []))))
       passes k =
           let headed-past = ap (λ (y : Bool). st.past || y) (B ∙ ap (is_past st.at) (sym (head-length r name))) in
           let lined-past = past-both H st.past (lines_bytes L.rows) headed-past (L.past z) in
@@ -153,7 +153,7 @@ module _ {main supplementary w w₁ : List ℕ} (lists addresses : List ℕ) {q 
           ∙ ap (λ (bs : List ℕ). st.past || is_past st.at (length bs)) (sym (record-bytes name r L.rows D.descendants))
 
       -- the record is laid, or the walk is refused
-      pub range-imported : Imports (import_range (context_with main supplementary lists addresses w q) (entry_here main p) (below_entry main p) name r) (sheets main supplementary) q (memory w t f u) st (memory w₂ t₃ f₁ u₂) r'
+      pub range-imported : Imports (import_range (context_with main supplementary lists addresses w q) (entry_here main p) (below_entry main p) name r) (sheets main supplementary) q (memory w t f u) st (memory w₂ t₃ f₁ u₂) m r'
       unfolding ◌>>=◌
       range-imported = record {
         records = record_of name r L.rows D.descendants ∷ [];

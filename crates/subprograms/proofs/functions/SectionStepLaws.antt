@@ -44,9 +44,9 @@ module _ (main supplementary lists addresses w : List ℕ) (q : ImportContext) (
 
 -- the same step, told otherwise
 finds-as : {F G : FileTable → List Warning → Outcome FunctionLines} {main supplementary : List ℕ} {q : ImportContext} {w t f u : List ℕ} {st : ImportState}
-    {w' t' f' u' : List ℕ} {r : FoundLines}
+    {w' t' f' u' : List ℕ} {n : ℕ} {r : FoundLines}
     → ((table : FileTable) (ws : List Warning) → G table ws ≡ F table ws)
-    → FindsLines F main supplementary q w t f u st w' t' f' u' r → FindsLines G main supplementary q w t f u st w' t' f' u' r
+    → FindsLines F main supplementary q w t f u st w' t' f' u' n r → FindsLines G main supplementary q w t f u st w' t' f' u' n r
 finds-as {main = main} {supplementary = supplementary} {w = w} {st = st} same A = record {
   rows = A.rows;
   new = A.new;
@@ -61,9 +61,9 @@ finds-as {main = main} {supplementary = supplementary} {w = w} {st = st} same A 
 }
 
 -- rows that were found without sections
-pub finds-with : {main supplementary w : List ℕ} {q : ImportContext} {t f u : List ℕ} {st : ImportState} {w' t' f' u' : List ℕ} {l : FoundLines}
+pub finds-with : {main supplementary w : List ℕ} {q : ImportContext} {t f u : List ℕ} {st : ImportState} {w' t' f' u' : List ℕ} {n : ℕ} {l : FoundLines}
     (lists addresses : List ℕ) (p : ℕ) (r : AddressRange)
-    → FindsLines (function_lines (context_of main supplementary w q) (entry_here main p) r) main supplementary q w t f u st w' t' f' u' l
-    → FindsLines (function_lines (context_with main supplementary lists addresses w q) (entry_here main p) r) main supplementary q w t f u st w' t' f' u' l
+    → FindsLines (function_lines (context_of main supplementary w q) (entry_here main p) r) main supplementary q w t f u st w' t' f' u' n l
+    → FindsLines (function_lines (context_with main supplementary lists addresses w q) (entry_here main p) r) main supplementary q w t f u st w' t' f' u' n l
 finds-with {main} {supplementary} {w} {q} lists addresses p r A =
     finds-as (λ table ws. lines_same main supplementary lists addresses w q (entry_here main p) r table ws) A

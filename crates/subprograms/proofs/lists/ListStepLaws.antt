@@ -6,8 +6,12 @@ use mathlib.Core.Option.{Option, none, some}
 use Prim.Native.Nat.{ℕ, ◌+◌, ◌-◌, ◌/◌, ◌%◌, ◌≤◌, ◌<◌}
 use native.Mathlib.Omega.{arith}
 use lib.Dec.{eqb}
+use mir.Val.{bool_byte}
 use lib.ListN.{length}
 use borrow.Author.Tests.{ne_eqb, lt-ltb, le-ltb}
+use Rattle.std.specs.Prelude.{Ok, Err, Some, None}
+use Rattle.tlv.specs.declared.refusal.Refusal.{Refusal}
+use Rattle.tlv.specs.Refusals.{number_of}
 use Rattle.tlv.specs.Outcome.{Outcome, refused, done, ◌>>=◌}
 use Rattle.tlv.specs.Bytes.{le_at}
 use Rattle.tlv.specs.Fields.{encode}
@@ -15,7 +19,7 @@ use Rattle.tlv.specs.Model.{Entry, EntryRange, RangeFailure}
 use Rattle.buffers.specs.Buffer.{Put, top}
 use Rattle.buffers.specs.Output.{warning_payload, malformed_ranges}
 use Rattle.access.specs.Places.{entry_here}
-use Rattle.rnglists.specs.declared.lists.NextRange.{NextRange}
+use Rattle.rnglists.specs.declared.lists.ListRange.{ListRange}
 use Rattle.rnglists.specs.RangeLists.{ListRanges, faulty, and_before, decimal}
 use Rattle.rnglists.specs.Steps.{NextIs}
 use Rattle.imports.specs.Import.{State, rejected, import_ranges}
@@ -26,7 +30,7 @@ use Rattle.subprograms.specs.declared.model.ImportContext.{ImportContext}
 use Rattle.subprograms.specs.Contexts.{ContextIn, context_with}
 use Rattle.subprograms.specs.Steps.{sheets, memory, Imports, RejectsList, import_one, import_failing, import_listed, below_entry}
 use Rattle.subprograms.proofs.ContextLaws.{context-same}
-use Rattle.subprograms.proofs.StepLaws.{grows_none, imports_then, grows-refused, grows_as, imports-rejected, grows_at, imports-context}
+use Rattle.subprograms.proofs.StepLaws.{grows_none, refused_as, imports_then, grows-refused, grows_as, imports-rejected, grows_at, imports-context}
 use Rattle.subprograms.proofs.RangesLaws.{RangeOne, ranges-step, ranges-none, reason-put}
 
 -- ---- what the definition does
@@ -76,41 +80,36 @@ abbrev ListFrom : List ℕ → List ℕ → List ℕ → List ℕ → ImportCont
 ListFrom main supplementary lists addresses q name p w l s =
     import_listed (context_with main supplementary lists addresses w q) (entry_here main p) (below_entry main p) name l s
 
-abbrev range_of : ℕ → ℕ → Bool → EntryRange
-range_of from end dead = record { range = record { start = from; end = end }; tombstone = dead }
-
 -- whoever imports the list from place `at` on has imported all
 pub record GoingList (main supplementary lists addresses : List ℕ) (q : ImportContext) (name : List ℕ) (p start : ℕ) (w₀ t₀ f₀ u₀ : List ℕ) (st₀ : ImportState)
     (w t f u : List ℕ) (st : ImportState) (place size at base : ℕ) : Type 0 where
   pub context : ContextIn main supplementary w q st.table
   pub same : context_with main supplementary lists addresses w q ≡ context_with main supplementary lists addresses w₀ q
-  pub status : st.status ≡ 0
   pub records : st.at ≤ top
   pub warned : st.warned ≤ top
   pub work-size : length w ≡ length w₀
   pub records-size : length t ≡ length t₀
   pub files-size : length f ≡ length f₀
   pub warnings-size : length u ≡ length u₀
-  pub finish : (w' t' f' u' : List ℕ) (r : ImportState)
-      → Imports (λ s. ListFrom main supplementary lists addresses q name p w₀ (list_at lists addresses place size at base) s) (sheets main supplementary) q (memory w t f u) st (memory w' t' f' u') r
-      → Imports (λ s. ListFrom main supplementary lists addresses q name p w₀ (list_of main lists addresses start) s) (sheets main supplementary) q (memory w₀ t₀ f₀ u₀) st₀ (memory w' t' f' u') r
+  pub finish : (w' t' f' u' : List ℕ) (n : ℕ) (r : ImportState)
+      → Imports (λ s. ListFrom main supplementary lists addresses q name p w₀ (list_at lists addresses place size at base) s) (sheets main supplementary) q (memory w t f u) st (memory w' t' f' u') n r
+      → Imports (λ s. ListFrom main supplementary lists addresses q name p w₀ (list_of main lists addresses start) s) (sheets main supplementary) q (memory w₀ t₀ f₀ u₀) st₀ (memory w' t' f' u') n r
 
 module _ {main supplementary w₀ : List ℕ} {q : ImportContext} {p start : ℕ} {st₀ : ImportState} (lists addresses name t₀ f₀ u₀ : List ℕ)
     {place size at base : ℕ} where
-  pub list-start : ContextIn main supplementary w₀ q st₀.table → st₀.status ≡ 0 → st₀.at ≤ top → st₀.warned ≤ top
+  pub list-start : ContextIn main supplementary w₀ q st₀.table → st₀.at ≤ top → st₀.warned ≤ top
       → place ≡ le_at 8 main (start + 16) → size ≡ le_at 1 main (start + 24) → at ≡ le_at 8 main start → base ≡ le_at 8 main (start + 8)
       → GoingList main supplementary lists addresses q name p start w₀ t₀ f₀ u₀ st₀ w₀ t₀ f₀ u₀ st₀ place size at base
-  list-start C z a b ep es eo eb = record {
+  list-start C a b ep es eo eb = record {
     context = C;
     same = refl;
-    status = z;
     records = a;
     warned = b;
     work-size = refl;
     records-size = refl;
     files-size = refl;
     warnings-size = refl;
-    finish = λ w' t' f' u' r I. grows_as (λ s. ap (λ (l : ListRanges). ListFrom main supplementary lists addresses q name p w₀ l s) (sym whole)) I;
+    finish = λ w' t' f' u' n r I. grows_as (λ s. ap (λ (l : ListRanges). ListFrom main supplementary lists addresses q name p w₀ l s) (sym whole)) I;
   }
     where
       whole : list_at lists addresses place size at base ≡ list_of main lists addresses start
@@ -118,69 +117,68 @@ module _ {main supplementary w₀ : List ℕ} {q : ImportContext} {p start : ℕ
 
 module _ {main supplementary lists addresses : List ℕ} {q : ImportContext} {name : List ℕ} {p start : ℕ} {w₀ t₀ f₀ u₀ : List ℕ} {st₀ : ImportState}
     {w t f u : List ℕ} {st : ImportState}
-    {place size at base : ℕ} (G : GoingList main supplementary lists addresses q name p start w₀ t₀ f₀ u₀ st₀ w t f u st place size at base) {x : NextRange}
-    (N : NextIs lists addresses place size at base x) where
-  pub list_done : x ≡ NextRange.End → length t < top → length f < top → length u < top
-      → Imports (λ s. ListFrom main supplementary lists addresses q name p w₀ (list_of main lists addresses start) s) (sheets main supplementary) q (memory w₀ t₀ f₀ u₀) st₀ (memory w t f u) st
-  list_done e kt kf ku =
-      let Q : NextIs lists addresses place size at base NextRange.End = rw e at N in
-      G.finish w t f u st
-      (grows_as (λ s. ap (λ (l : ListRanges). ListFrom main supplementary lists addresses q name p w₀ l s) (sym Q.is)
+    {place size at base : ℕ} (G : GoingList main supplementary lists addresses q name p start w₀ t₀ f₀ u₀ st₀ w t f u st place size at base) where
+  pub list_done : NextIs lists addresses place size at base (Ok None) → length t < top → length f < top → length u < top
+      → Imports (λ s. ListFrom main supplementary lists addresses q name p w₀ (list_of main lists addresses start) s) (sheets main supplementary) q (memory w₀ t₀ f₀ u₀) st₀ (memory w t f u) 0 st
+  list_done N kt kf ku =
+      G.finish w t f u 0 st
+      (grows_as (λ s. ap (λ (l : ListRanges). ListFrom main supplementary lists addresses q name p w₀ l s) (sym N.is)
       ∙ listed-none (context_with main supplementary lists addresses w₀ q) (entry_here main p) (below_entry main p) name s)
-      (grows_none G.context.files G.status G.records G.warned
+      (grows_none G.context.files G.records G.warned
       kt kf ku))
 
-  pub list-failed : {n : ℕ} → x ≡ NextRange.Fault n → {u' : List ℕ} {r : ImportState} → length t < top → length f < top → RejectsList st n u u' r
-      → Imports (λ s. ListFrom main supplementary lists addresses q name p w₀ (list_of main lists addresses start) s) (sheets main supplementary) q (memory w₀ t₀ f₀ u₀) st₀ (memory w t f u') r
-  list-failed {n} e {u'} {r} kt kf R =
-      let Q : NextIs lists addresses place size at base (NextRange.Fault n) = rw e at N in
-      G.finish w t f u' r
-      (grows_as (λ s. ap (λ (l : ListRanges). ListFrom main supplementary lists addresses q name p w₀ l s) (sym Q.is)
-      ∙ listed-fault (context_with main supplementary lists addresses w₀ q) (entry_here main p) (below_entry main p) name n s Q.within)
-      (imports-rejected (malformed_ranges true (decimal n) ∷ []) G.context G.status G.records kt kf (reason-put true (decimal n) R.put)
+  pub list-failed : {e : Refusal} → NextIs lists addresses place size at base (Err e) → {n : ℕ} → n ≡ number_of e → {u' : List ℕ} {r : ImportState} → length t < top → length f < top → RejectsList st n u u' r
+      → Imports (λ s. ListFrom main supplementary lists addresses q name p w₀ (list_of main lists addresses start) s) (sheets main supplementary) q (memory w₀ t₀ f₀ u₀) st₀ (memory w t f u') 0 r
+  list-failed {e} N {n} is {u'} {r} kt kf R =
+      G.finish w t f u' 0 r
+      (grows_as (λ s. ap (λ (l : ListRanges). ListFrom main supplementary lists addresses q name p w₀ l s) (sym N.is ∙ ap faulty (sym is))
+      ∙ listed-fault (context_with main supplementary lists addresses w₀ q) (entry_here main p) (below_entry main p) name n s (rw (← is) at N.within))
+      (imports-rejected (malformed_ranges true (decimal n) ∷ []) G.context G.records kt kf (reason-put true (decimal n) R.put)
       R.rejects))
 
-  module _ {from end next after : ℕ} {dead : Bool} (e : x ≡ NextRange.Range from end dead next after) where
-    here : NextIs lists addresses place size at base (NextRange.Range from end dead next after)
-    here = rw e at N
+  module _ {x : ListRange} (N : NextIs lists addresses place size at base (Ok (Some x))) where
+    pub list-less : length lists - x.next < length lists - at
+    list-less = let z = N.within in omega (arith, z.0, z.1)
 
-    pub list-less : length lists - next < length lists - at
-    list-less = let z = here.within in omega (arith, z.0, z.1)
-
-    module _ (flag : ℕ) (ef : eqb flag 1 ≡ dead) {w' t' f' u' : List ℕ} {r : ImportState}
-        (I : Imports (RangeOne main supplementary lists addresses q name p w (record { start = from; end = end }) flag) (sheets main supplementary) q (memory w t f u) st (memory w' t' f' u') r) where
+    module _ (flag : ℕ) (ef : eqb flag 1 ≡ x.dead) {w' t' f' u' : List ℕ} {n : ℕ} {r : ImportState}
+        (I : Imports (RangeOne main supplementary lists addresses q name p w x.range flag) (sheets main supplementary) q (memory w t f u) st (memory w' t' f' u') n r) where
       turn : (s : State) → ListFrom main supplementary lists addresses q name p w₀ (list_at lists addresses place size at base) s
-          ≡ (RangeOne main supplementary lists addresses q name p w (record { start = from; end = end }) flag s
-          >>= λ t. ListFrom main supplementary lists addresses q name p w₀ (list_at lists addresses place size next after) t)
+          ≡ (RangeOne main supplementary lists addresses q name p w x.range flag s
+          >>= λ t. ListFrom main supplementary lists addresses q name p w₀ (list_at lists addresses place size x.next x.base) t)
       turn s =
-          ap (λ (l : ListRanges). ListFrom main supplementary lists addresses q name p w₀ l s) (sym here.is)
-          ∙ listed-step (context_with main supplementary lists addresses w₀ q) (entry_here main p) (below_entry main p) name (range_of from end dead)
-          (list_at lists addresses place size next after) s
-          ∙ ap (λ (k : import.ImportContext). import_one k (entry_here main p) (below_entry main p) name (range_of from end dead) s
-          >>= λ t. ListFrom main supplementary lists addresses q name p w₀ (list_at lists addresses place size next after) t) (sym G.same)
-          ∙ ap (λ (b : Bool). import_one (context_with main supplementary lists addresses w q) (entry_here main p) (below_entry main p) name (range_of from end b) s
-          >>= λ t. ListFrom main supplementary lists addresses q name p w₀ (list_at lists addresses place size next after) t) (sym ef)
+          ap (λ (l : ListRanges). ListFrom main supplementary lists addresses q name p w₀ l s) (sym N.is)
+          ∙ listed-step (context_with main supplementary lists addresses w₀ q) (entry_here main p) (below_entry main p) name (record { range = x.range; tombstone = x.dead })
+          (list_at lists addresses place size x.next x.base) s
+          ∙ ap (λ (k : import.ImportContext). import_one k (entry_here main p) (below_entry main p) name (record { range = x.range; tombstone = x.dead }) s
+          >>= λ t. ListFrom main supplementary lists addresses q name p w₀ (list_at lists addresses place size x.next x.base) t) (sym G.same)
+          ∙ ap (λ (b : Bool). import_one (context_with main supplementary lists addresses w q) (entry_here main p) (below_entry main p) name (record { range = x.range; tombstone = b }) s
+          >>= λ t. ListFrom main supplementary lists addresses q name p w₀ (list_at lists addresses place size x.next x.base) t) (sym ef)
 
-      pub list-refused : (r.status ≡ 0 → ⊥)
-          → Imports (λ s. ListFrom main supplementary lists addresses q name p w₀ (list_of main lists addresses start) s) (sheets main supplementary) q (memory w₀ t₀ f₀ u₀) st₀ (memory w' t' f' u') r
-      list-refused n =
-          G.finish w' t' f' u' r (grows_as turn
-          (grows-refused (λ s. ListFrom main supplementary lists addresses q name p w₀ (list_at lists addresses place size next after) s) n I))
+      pub list-refused : {r' : ImportState} → (n ≡ 0 → ⊥)
+          → Imports (λ s. ListFrom main supplementary lists addresses q name p w₀ (list_of main lists addresses start) s) (sheets main supplementary) q (memory w₀ t₀ f₀ u₀) st₀ (memory w' t' f' u') n r'
+      list-refused h =
+          refused_as h (G.finish w' t' f' u' n r (grows_as turn
+          (grows-refused (λ s. ListFrom main supplementary lists addresses q name p w₀ (list_at lists addresses place size x.next x.base) s) h I)))
 
-      pub list-turn : r.status ≡ 0 → length w' ≡ length w → length t' ≡ length t → length f' ≡ length f → length u' ≡ length u
-          → GoingList main supplementary lists addresses q name p start w₀ t₀ f₀ u₀ st₀ w' t' f' u' r place size next after
+      pub list-turn : n ≡ 0 → length w' ≡ length w → length t' ≡ length t → length f' ≡ length f → length u' ≡ length u
+          → GoingList main supplementary lists addresses q name p start w₀ t₀ f₀ u₀ st₀ w' t' f' u' r place size x.next x.base
       list-turn z sw st sf su = record {
         context = imports-context sw z G.context I;
         same = context-same G.context (I.kept z) lists addresses ∙ G.same;
-        status = z;
         records = (grows_at I z).0;
         warned = (grows_at I z).1;
         work-size = sw ∙ G.work-size;
         records-size = st ∙ G.records-size;
         files-size = sf ∙ G.files-size;
         warnings-size = su ∙ G.warnings-size;
-        finish = λ w'' t'' f'' u'' r'' J. G.finish w'' t'' f'' u'' r'' (grows_as turn (imports_then q z I J));
+        finish = λ w'' t'' f'' u'' m r'' J. G.finish w'' t'' f'' u'' m r'' (grows_as turn (imports_then q z I J));
       }
+
+-- ---- the flag of a range that is dead or not
+
+pub flag_is : (dead : Bool) {n : ℕ} → n ≡ bool_byte dead → eqb n 1 ≡ dead
+flag_is true e = rw e
+flag_is false e = rw e
 
 -- ---- a fault's number in decimal, as the code has its digits
 

@@ -7,6 +7,8 @@ use native.Mathlib.Omega.{arith}
 use lib.Dec.{leb, ltb, eqb}
 use lib.ListN.{length, drop, length-append}
 use borrow.Author.Tests.{lt-ltb, le-ltb, le-leb, lt-leb, eq-eqb, ne_eqb}
+use Rattle.std.specs.Prelude.{Some, None}
+use Rattle.tlv.specs.declared.fields.FieldSpan.{FieldSpan}
 use Rattle.tlv.specs.declared.model.AddressRange.{AddressRange}
 use Rattle.tlv.specs.Lists.{exists}
 use Rattle.tlv.specs.Fields.{fields, payloads}
@@ -16,7 +18,6 @@ use Rattle.tlv.specs.Checked.{Placed}
 use Rattle.tlv.proofs.PlacePromises.{placed-text}
 use Rattle.buffers.specs.Table.{chunk, Kept}
 use Rattle.buffers.proofs.TableLaws.{kept_refl, kept-wide, kept_trans}
-use Rattle.access.specs.declared.access.Own.{Own}
 use Rattle.access.specs.Places.{own_fields, unit_here}
 use Rattle.access.specs.Access.{NextOwn}
 use Rattle.access.proofs.OwnLaws.{own-field, own-placed, own-within}
@@ -112,24 +113,24 @@ module _ {s : List ℕ} {place : ℕ} (h : Placed s 0) (U : UnitIn s place) wher
     size = refl;
   }
 
-module _ {s : List ℕ} {place : ℕ} {w₀ w : List ℕ} {base p n : ℕ} {r : Own} (L : TextListing s place w₀ w base p n) (own : NextOwn s p 0x12 r) where
-  pub listing-done : r ≡ Own.Missing → TextIndexed s w₀ w place base n
-  listing-done e =
-      let none : payloads 0x12 (own_fields (fields (drop p s))) ≡ [] = sym (rw e at own.is) in
+module _ {s : List ℕ} {place : ℕ} {w₀ w : List ℕ} {base p n : ℕ} (L : TextListing s place w₀ w base p n) where
+  pub listing-done : NextOwn s p 0x12 None → TextIndexed s w₀ w place base n
+  listing-done own =
+      let none : payloads 0x12 (own_fields (fields (drop p s))) ≡ [] = sym own.is in
       let all : ranges_at w base n ≡ (unit_here s place).text =
       sym (append-nil (ranges_at w base n)) ∙ ap (λ (ps : List (List ℕ)). ranges_at w base n ++ map range_of ps) (sym none) ∙ L.left in
       record { table = all; count = sym (ranges-length w base n) ∙ ap length all; rest = L.rest }
 
-  module _ (start len next : ℕ) (e : r ≡ Own.Field start len next) where
-    long : len ≡ 16
-    long = let f = own-field s p 0x12 r start len next own e L.placed in placed-text s f.place f.step 0x12 start len next f.here f.reads f.is refl
+  module _ {f : FieldSpan} (own : NextOwn s p 0x12 (Some f)) where
+    long : f.len ≡ 16
+    long = let x = own-field s p 0x12 f own L.placed in placed-text s x.place (step_at s x.place) 0x12 f.start f.len f.next x.here refl x.is refl
 
-    pub listing-within : start + 16 ≤ length s
-    listing-within = omega (arith, long, own-within s p 0x12 r start len next own e)
+    pub listing-within : f.start + 16 ≤ length s
+    listing-within = omega (arith, long, own-within s p 0x12 f own)
 
-    text-more : text_from s p ≡ range_of (chunk s start 16) ∷ text_from s next
+    text-more : text_from s p ≡ range_of (chunk s f.start 16) ∷ text_from s f.next
     unfolding chunk
-    text-more = ap (map range_of) (sym (rw e at own.is)) ∙ rw long
+    text-more = ap (map range_of) (sym own.is) ∙ rw long
 
     -- there is room for one more
     pub listing-room : base + 16 * length (unit_here s place).text ≤ length w₀ → base + n * 16 + 16 ≤ length w
@@ -138,13 +139,13 @@ module _ {s : List ℕ} {place : ℕ} {w₀ w : List ℕ} {base p n : ℕ} {r : 
         let size = L.size in
         omega (arith, rw (text-more, length-append, ranges-length) at count)
 
-    pub listing-turn : {x : AddressRange} {w' : List ℕ} → x ≡ range_of (chunk s start 16) → PutRange w w' (base + n * 16) x → length w' ≡ length w → TextListing s place w₀ w' base next (n + 1)
+    pub listing-turn : {x : AddressRange} {w' : List ℕ} → x ≡ range_of (chunk s f.start 16) → PutRange w w' (base + n * 16) x → length w' ≡ length w → TextListing s place w₀ w' base f.next (n + 1)
     listing-turn {x} {w'} ex P same = record {
-      placed = own-placed s p 0x12 r start len next own e L.placed;
+      placed = own-placed s p 0x12 f own L.placed;
       left =
-          ap (λ (l : List AddressRange). l ++ text_from s next) (ranges-push base n P)
-          ∙ append_assoc (ranges_at w base n) (x ∷ []) (text_from s next)
-          ∙ ap (λ (y : AddressRange). ranges_at w base n ++ (y ∷ text_from s next)) ex
+          ap (λ (l : List AddressRange). l ++ text_from s f.next) (ranges-push base n P)
+          ∙ append_assoc (ranges_at w base n) (x ∷ []) (text_from s f.next)
+          ∙ ap (λ (y : AddressRange). ranges_at w base n ++ (y ∷ text_from s f.next)) ex
           ∙ ap (λ (l : List AddressRange). ranges_at w base n ++ l) (sym text-more)
           ∙ L.left;
       rest = kept_trans (kept-wide base (16 * (n + 1)) L.rest (omega arith) (omega arith)) (kept-wide base (16 * (n + 1)) P.rest (omega arith) (omega arith));

@@ -4,8 +4,8 @@ use lib.ListN.{length}
 use Rattle.subprograms.proofs.candidates.NextEntryLaws.{Seeking}
 use Rattle.subprograms.proofs.candidates.next_entry.Given as goal
 
-abbrev pub invariant-loop-tag : goal.invariant-loop-tag
-invariant-loop-tag l = Seeking l.s l.p l.at
+abbrev pub invariant-loop-field : goal.invariant-loop-field
+invariant-loop-field l = Seeking l.s l.p l.at
 
-abbrev pub decreases-loop-tag : goal.decreases-loop-tag
-decreases-loop-tag l = length l.s - l.at
+abbrev pub decreases-loop-field : goal.decreases-loop-field
+decreases-loop-field l = length l.s - l.at

@@ -7,18 +7,6 @@ use Rattle.subprograms.proofs.function_lines.put_lines.Goals as goal
 pub loop-i-init : goal.loop-i-init
 loop-i-init c = (omega arith, left-start _ _ _ (omega arith) (omega arith))
 
-pub overflow_mul-i : goal.overflow_mul-i
-overflow_mul-i c = omega arith
-
-pub overflow_add-from : goal.overflow_add-from
-overflow_add-from c = omega arith
-
-pub overflow_add-i : goal.overflow_add-i
-overflow_add-i c = omega arith
-
-pub loop-i-smaller : goal.loop-i-smaller
-loop-i-smaller c = omega arith
-
 pub loop-i-preserved : goal.loop-i-preserved
 loop-i-preserved c = (omega arith, search (left-put, lines-lay))
 

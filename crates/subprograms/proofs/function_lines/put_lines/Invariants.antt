@@ -1,5 +1,5 @@
 -- `function_lines::put_lines` meets its contract. The loop's invariant: who lays the rows from here on has laid all.
-use Prim.Native.Nat.{◌-◌, ◌≤◌}
+use Prim.Native.Nat.{◌≤◌}
 use lib.ListN.{drop}
 use Rattle.buffers.proofs.BufferLaws.{Left}
 use Rattle.rows.specs.Stored.{entries_of}
@@ -8,6 +8,3 @@ use Rattle.subprograms.proofs.function_lines.put_lines.Given as goal
 
 abbrev pub invariant-loop-i : goal.invariant-loop-i
 invariant-loop-i l = (l.i ≤ l.n) × Left l.at (lines_bytes (entries_of l.work l.from l.n)) l.initial.records l.place (lines_bytes (drop l.i (entries_of l.work l.from l.n))) l.records
-
-abbrev pub decreases-loop-i : goal.decreases-loop-i
-decreases-loop-i l = l.n - l.i

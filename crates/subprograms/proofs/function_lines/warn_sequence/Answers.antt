@@ -1,13 +1,18 @@
 -- `function_lines::warn_sequence` meets its contract.
 use native.Mathlib.Omega.{arith}
-use Rattle.subprograms.proofs.function_lines.SequenceLaws.{warned-unasked, warned-valid, warned-about}
+use mathlib.Core.Path.{refl, sym, ap, ◌∙◌}
+use mathlib.Core.Bool.{true, false, not}
+use borrow.Author.Tests.{not-true, not-false}
+use Rattle.std.specs.Prelude.{Some}
+use Rattle.rows.specs.Stored.{sequence_of}
+use Rattle.subprograms.proofs.function_lines.SequenceLaws.{warned-none, warned-about}
 use Rattle.subprograms.proofs.function_lines.warn_sequence.Goals as goal
 
-pub returns-then-invalid : goal.returns-then-invalid
-returns-then-invalid c = warned-about c.in-At.is c.if-invalid.true c.warn_about.ensures
+pub returns-in_default : goal.returns-in_default
+returns-in_default c = warned-none _ _ (rw c.in_default.is refl) (omega arith) (omega arith)
 
-pub returns-in-Unknown : goal.returns-in-Unknown
-returns-in-Unknown c = warned-unasked c.in-Unknown.is (omega arith) (omega arith)
+pub returns-then-not-invalid : goal.returns-then-not-invalid
+returns-then-not-invalid c = warned-none _ _ (rw (c.in-Some.is, not-true _ (ap not c.if-not-invalid.true)) refl) (omega arith) (omega arith)
 
-pub returns-else-invalid : goal.returns-else-invalid
-returns-else-invalid c = warned-valid c.in-At.is c.if-invalid.false (omega arith) (omega arith)
+pub returns : goal.returns
+returns c = rw (c.in-Some.is, not-false _ (ap not c.if-not-invalid.false)) (warned-about c.warn_about.ensures)

@@ -1,4 +1,4 @@
--- `model::count_function` meets its contract: each count is what `saturating_add` gives.
+-- `model::count_function` meets its contract.
 use Rattle.subprograms.proofs.model.count_function.Goals as goal
 
 pub returns : goal.returns

@@ -1,4 +1,4 @@
--- `text::index_text` meets its contract. The loop's invariant: what is written and the ranges of the fields that are left are the unit's.
+-- `text::index_text` meets its contract.
 use Prim.Native.Nat.{◌+◌, ◌*◌, ◌≤◌}
 use native.Mathlib.Omega.{arith}
 use lib.ListN.{length}
@@ -9,29 +9,29 @@ use Rattle.subprograms.proofs.text.index_text.Goals as goal
 pub overflow_add-p : goal.overflow_add-p
 overflow_add-p c = let w = text-within c.requires.placed c.requires.unit_in in omega arith
 
-pub loop-start-init : goal.loop-start-init
-loop-start-init c = search listing_start
-
-pub returns-in-Missing : goal.returns-in-Missing
-returns-in-Missing c = search listing-done
+pub loop-field-init : goal.loop-field-init
+loop-field-init c = search listing_start
 
 pub range_at-range-requires : goal.range_at-range-requires
-range_at-range-requires c = search listing-within
+range_at-range-requires c = listing-within c.loop-field.invariant c.in-Some.ensures
 
 pub overflow_mul-n : goal.overflow_mul-n
-overflow_mul-n c = let room : c.args.base + c.loop-start.n * 16 + 16 ≤ length c.loop-start.work = search listing-room in omega arith
+overflow_mul-n c = omega (arith, listing-room c.loop-field.invariant c.in-Some.ensures c.requires.place_in_bounds)
 
 pub overflow_add-base : goal.overflow_add-base
-overflow_add-base c = let room : c.args.base + c.loop-start.n * 16 + 16 ≤ length c.loop-start.work = search listing-room in omega arith
+overflow_add-base c = omega (arith, listing-room c.loop-field.invariant c.in-Some.ensures c.requires.place_in_bounds)
 
 pub put_range_at-requires : goal.put_range_at-requires
-put_range_at-requires c = search listing-room
+put_range_at-requires c = listing-room c.loop-field.invariant c.in-Some.ensures c.requires.place_in_bounds
 
 pub overflow_add-n : goal.overflow_add-n
-overflow_add-n c = let room : c.args.base + c.loop-start.n * 16 + 16 ≤ length c.loop-start.work = search listing-room in omega arith
+overflow_add-n c = omega (arith, listing-room c.loop-field.invariant c.in-Some.ensures c.requires.place_in_bounds)
 
-pub loop-start-smaller : goal.loop-start-smaller
-loop-start-smaller c = search own-less
+pub loop-field-smaller : goal.loop-field-smaller
+loop-field-smaller c = own-less _ _ _ _ c.in-Some.ensures
 
-pub loop-start-preserved : goal.loop-start-preserved
-loop-start-preserved c = search listing-turn
+pub loop-field-preserved : goal.loop-field-preserved
+loop-field-preserved c = listing-turn c.loop-field.invariant c.in-Some.ensures c.range_at-range.ensures c.put_range_at.ensures c.put_range_at.auto.work
+
+pub returns : goal.returns
+returns c = listing-done c.loop-field.invariant c.in_default.ensures

@@ -4,8 +4,8 @@ use lib.ListN.{length}
 use Rattle.subprograms.proofs.text.TextLaws.{TextListing}
 use Rattle.subprograms.proofs.text.index_text.Given as goal
 
-abbrev pub invariant-loop-start : goal.invariant-loop-start
-invariant-loop-start l = TextListing l.main l.place l.initial.work l.work l.base l.p l.n
+abbrev pub invariant-loop-field : goal.invariant-loop-field
+invariant-loop-field l = TextListing l.main l.place l.initial.work l.work l.base l.p l.n
 
-abbrev pub decreases-loop-start : goal.decreases-loop-start
-decreases-loop-start l = length l.main - l.p
+abbrev pub decreases-loop-field : goal.decreases-loop-field
+decreases-loop-field l = length l.main - l.p
