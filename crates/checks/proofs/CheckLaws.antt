@@ -6,21 +6,22 @@ use Prim.Native.Nat.{ℕ, ◌+◌, ◌*◌, ◌≤◌, ◌<◌}
 use native.Mathlib.Omega.{arith}
 use lib.Dec.{ltb, eqb}
 use lib.ListN.{length}
-use borrow.Author.Tests.{ltb-false, lt-ltb, le-ltb}
-use Rattle.tlv.specs.declared.grammar.Checked.{Checked}
+use borrow.Author.Tests.{ltb-false}
+use Rattle.std.specs.Prelude.{Result, Ok, Err, Some, None}
+use Rattle.std.specs.Prelude as std
+use Rattle.tlv.specs.declared.refusal.Refusal.{Refusal}
 use Rattle.tlv.specs.Outcome.{refused, done, ◌>>=◌}
+use Rattle.tlv.specs.Refusals.{number_of}
 use Rattle.tlv.specs.Lists.{at, map_option, is_empty}
 use Rattle.tlv.specs.Limits.{input_limit, program_limit, list_limit, field_limit, work_of_field, work_besides}
 use Rattle.tlv.specs.Fields.{fields}
 use Rattle.tlv.specs.Grammar.{check_input}
-use Rattle.tlv.specs.Checked.{checked_of, Accepted}
+use Rattle.tlv.specs.Checked.{Accepted}
 use Rattle.tlv.proofs.PlaceFacts.{accepted-count}
-use Rattle.access.specs.declared.access.Place.{Place}
 use Rattle.access.specs.Places.{unit_here, unit_places}
 use Rattle.access.specs.Access.{place_of}
 use Rattle.access.proofs.UnitFacts.{unit_of-place}
 use Rattle.checks.specs.declared.options.Options.{Options}
-use Rattle.checks.specs.declared.checks.BothChecked.{BothChecked}
 use Rattle.checks.specs.Checks.{oversize_of, NotOversize, BothAccepted, ChecksBoth, missing_of, missing_unit, short_of, WorkEnough}
 use Rattle.checks.proofs.CountLaws.{accepted-few}
 
@@ -34,51 +35,16 @@ neither false false false true e h = absurd (true≢false h)
 neither false false false false true h = absurd (true≢false h)
 neither false false false false false h = (refl, refl, refl, refl, refl)
 
-module _ (main supplementary program lists addresses : List ℕ) where
-  abbrev over : Bool
-  over = oversize_of main supplementary program lists addresses
-
-  pub oversize-main : input_limit < length main → true ≡ over
-  oversize-main h = sym (rw (lt-ltb input_limit (length main) h))
-
-  module _ (h : length main ≤ input_limit) where
-    pub oversize-supplementary : input_limit < length supplementary → true ≡ over
-    oversize-supplementary k = sym (rw (le-ltb input_limit (length main) h, lt-ltb input_limit (length supplementary) k))
-
-    module _ (k : length supplementary ≤ input_limit) where
-      pub oversize-program : program_limit < length program → true ≡ over
-      oversize-program p =
-          sym (rw (le-ltb input_limit (length main) h, le-ltb input_limit (length supplementary) k, lt-ltb program_limit (length program) p))
-
-      module _ (p : length program ≤ program_limit) where
-        pub oversize-lists : list_limit < length lists → true ≡ over
-        oversize-lists q =
-            sym (rw (
-              le-ltb input_limit (length main) h,
-              le-ltb input_limit (length supplementary) k,
-              le-ltb program_limit (length program) p,
-              lt-ltb list_limit (length lists) q,
-            ))
-
-        pub oversize-addresses : length lists ≤ list_limit → ltb list_limit (length addresses) ≡ over
-        oversize-addresses q =
-            sym (rw (
-              le-ltb input_limit (length main) h,
-              le-ltb input_limit (length supplementary) k,
-              le-ltb program_limit (length program) p,
-              le-ltb list_limit (length lists) q,
-            ))
-
-  pub not-oversize : {b : Bool} → b ≡ over → b ≡ false → NotOversize main supplementary program lists
-  not-oversize e is =
-      let n = neither (ltb input_limit (length main)) (ltb input_limit (length supplementary)) (ltb program_limit (length program)) (ltb list_limit (length lists))
-      (ltb list_limit (length addresses)) (sym e ∙ is) in
-      record {
-        main-within = ltb-false input_limit (length main) n.0;
-        supplementary-within = ltb-false input_limit (length supplementary) n.1;
-        program-within = ltb-false program_limit (length program) n.2;
-        lists-within = ltb-false list_limit (length lists) n.3;
-      }
+pub not-oversize : (main supplementary program lists addresses : List ℕ) {b : Bool} → b ≡ oversize_of main supplementary program lists addresses → b ≡ false → NotOversize main supplementary program lists
+not-oversize main supplementary program lists addresses e is =
+    let n = neither (ltb input_limit (length main)) (ltb input_limit (length supplementary)) (ltb program_limit (length program)) (ltb list_limit (length lists))
+    (ltb list_limit (length addresses)) (sym e ∙ is) in
+    record {
+      main-within = ltb-false input_limit (length main) n.0;
+      supplementary-within = ltb-false input_limit (length supplementary) n.1;
+      program-within = ltb-false program_limit (length program) n.2;
+      lists-within = ltb-false list_limit (length lists) n.3;
+    }
 
 -- ---- refusals 2 and 3
 
@@ -92,44 +58,22 @@ both-few {main} {supplementary} {size} B =
     )
 
 module _ {main supplementary : List ℕ} {size : ℕ} where
-  refused-first : {n : ℕ} → (n ≡ 0 → ⊥) → check_input size main ≡ refused n → ChecksBoth main supplementary size (BothChecked.Refused n)
+  pub both-first : {e : Refusal} → refused (number_of e) ≡ check_input size main → ChecksBoth main supplementary size (Err e)
   unfolding ◌>>=◌
-  refused-first h e = record { is = (h, λ f. rw e) }
+  both-first e = record { is = λ f. rw (← e) }
 
-  refused-second : {m n : ℕ} → (n ≡ 0 → ⊥) → check_input size main ≡ done m → check_input size supplementary ≡ refused n → ChecksBoth main supplementary size (BothChecked.Refused n)
-  unfolding ◌>>=◌
-  refused-second h em e = record { is = (h, λ f. rw (em, e)) }
+  module _ {m : ℕ} (em : done m ≡ check_input size main) where
+    pub both-second : {e : Refusal} → refused (number_of e) ≡ check_input size supplementary → ChecksBoth main supplementary size (Err e)
+    unfolding ◌>>=◌
+    both-second e = record { is = λ f. rw (← em, ← e) }
 
-  module _ {a : Checked} (ea : checked_of a ≡ check_input size main) where
-    pub both-misshapen : a ≡ Checked.Misshapen → ChecksBoth main supplementary size (BothChecked.Refused 2)
-    both-misshapen is = refused-first (λ z. omega arith) (sym ea ∙ ap checked_of is)
+    pub both-done : {n : ℕ} → done n ≡ check_input size supplementary → ChecksBoth main supplementary size (Ok (m + n))
+    both-done {n} e = record {
+      is = record { main-fields = m; supplementary-fields = n; main-accepted = sym em; supplementary-accepted = sym e; sum = refl };
+    }
 
-    pub both-limited : a ≡ Checked.PastLimit → ChecksBoth main supplementary size (BothChecked.Refused 3)
-    both-limited is = refused-first (λ z. omega arith) (sym ea ∙ ap checked_of is)
-
-    module _ {m : ℕ} (is : a ≡ Checked.Accepted m) {b : Checked} (eb : checked_of b ≡ check_input size supplementary) where
-      pub second-misshapen : b ≡ Checked.Misshapen → ChecksBoth main supplementary size (BothChecked.Refused 2)
-      second-misshapen k = refused-second (λ z. omega arith) (sym ea ∙ ap checked_of is) (sym eb ∙ ap checked_of k)
-
-      pub second-limited : b ≡ Checked.PastLimit → ChecksBoth main supplementary size (BothChecked.Refused 3)
-      second-limited k = refused-second (λ z. omega arith) (sym ea ∙ ap checked_of is) (sym eb ∙ ap checked_of k)
-
-      pub both-done : {n : ℕ} → b ≡ Checked.Accepted n → ChecksBoth main supplementary size (BothChecked.Accepted (m + n))
-      both-done {n} k = record {
-        is = record {
-          main-fields = m;
-          supplementary-fields = n;
-          main-accepted = sym ea ∙ ap checked_of is;
-          supplementary-accepted = sym eb ∙ ap checked_of k;
-          sum = refl;
-        };
-      }
-
-pub checked-few : (s : List ℕ) (size : ℕ) {a : Checked} {n : ℕ} → checked_of a ≡ check_input size s → a ≡ Checked.Accepted n → n ≤ field_limit
-checked-few s size {a} {n} e is = accepted-few s n (record { program = size; passes = sym e ∙ ap checked_of is })
-
-pub both-accepted : {main supplementary : List ℕ} {size : ℕ} {x : BothChecked} {n : ℕ} → ChecksBoth main supplementary size x → x ≡ BothChecked.Accepted n → BothAccepted main supplementary size n
-both-accepted C e = rw e at C.is
+pub checked-few : (s : List ℕ) (size : ℕ) {n : ℕ} → done n ≡ check_input size s → n ≤ field_limit
+checked-few s size {n} e = accepted-few s n (record { program = size; passes = sym e })
 
 module _ {main supplementary : List ℕ} {size n : ℕ} (B : BothAccepted main supplementary size n) where
   pub accepted-both : (Accepted main) × (Accepted supplementary)
@@ -153,20 +97,21 @@ module _ (main : List ℕ) (o : Options) where
   unfolding missing_of
   missing-all e = sym (rw e)
 
-  module _ (one : o.all ≡ false) (p : Place) (e : place_of p ≡ at (unit_places 0 (fields main)) o.ordinal) where
+  module _ (one : o.all ≡ false) where
     -- the unit is the one at the place
-    by_place : missing_of main o ≡ missing_unit main o.ordinal (map_option (unit_here main) (place_of p))
+    by_place : (p : std.Option ℕ) → place_of p ≡ at (unit_places 0 (fields main)) o.ordinal
+        → missing_of main o ≡ missing_unit main o.ordinal (map_option (unit_here main) (place_of p))
     unfolding missing_of
-    by_place = rw one (ap (missing_unit main o.ordinal) (unit_of-place main o.ordinal p e))
+    by_place p e = rw one (ap (missing_unit main o.ordinal) (unit_of-place main o.ordinal p e))
 
-    pub missing-found : {q : ℕ} → p ≡ Place.At q → false ≡ missing_of main o
+    pub missing-found : {q : ℕ} → place_of (Some q) ≡ at (unit_places 0 (fields main)) o.ordinal → false ≡ missing_of main o
     unfolding map_option
-    missing-found {q} is = sym (by_place ∙ ap (λ (x : Place). missing_unit main o.ordinal (map_option (unit_here main) (place_of x))) is)
+    missing-found {q} e = sym (by_place (Some q) e)
 
-    module _ (is : p ≡ Place.Missing) where
+    module _ (e : place_of None ≡ at (unit_places 0 (fields main)) o.ordinal) where
       none-there : missing_of main o ≡ not (is_empty main && eqb o.ordinal 0)
       unfolding map_option
-      none-there = by_place ∙ ap (λ (x : Place). missing_unit main o.ordinal (map_option (unit_here main) (place_of x))) is
+      none-there = by_place None e
 
       pub missing-filled : (length main ≡ 0 → ⊥) → true ≡ missing_of main o
       missing-filled h = sym (none-there ∙ rw (filled-length main h))

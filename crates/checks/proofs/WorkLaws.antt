@@ -1,7 +1,7 @@
 -- The work of the unit that asks for most: of one unit, of all, of those that are asked for, of an input without encodings and lists.
 use mathlib.Core.Path.{◌≡◌, refl, sym, ap, ◌∙◌}
 use mathlib.Core.Bool.{Bool, true, false, cond, not}
-use mathlib.Core.Logic.{inl, inr}
+use mathlib.Core.Logic.{◌⊎◌, inl, inr}
 use mathlib.Core.List.{List, [], ◌∷◌, map}
 use mathlib.Core.Option.{Option, none, some}
 use Prim.Native.Nat.{ℕ, ◌+◌, ◌*◌, ◌≤◌, ◌<◌, max, min}
@@ -9,20 +9,21 @@ use native.Mathlib.Nat.{mul-le-mul_left}
 use native.Mathlib.Omega.{arith}
 use lib.ListN.{length, take, drop}
 use borrow.Author.Tests.{eq-eqb, ne_eqb}
+use Rattle.std.specs.Prelude.{Some, None, is_some}
+use Rattle.std.specs.Prelude as std
 use Rattle.tlv.specs.declared.fields.Step.{Step}
+use Rattle.tlv.specs.declared.fields.FieldSpan.{FieldSpan}
 use Rattle.tlv.specs.Lists.{All, Any, at, is_none, map_option}
 use Rattle.tlv.specs.Limits.{program_limit, list_limit, work_of_field, work_of_program_byte, work_of_encoded_byte, work_of_list_byte, counted_lists, work_besides}
-use Rattle.tlv.specs.Fields.{Group, fields, payloads, head_of, payload_of, grouped, count_of}
+use Rattle.tlv.specs.Fields.{Group, end, cut, fields, payloads, head_of, payload_of, grouped, count_of}
 use Rattle.tlv.specs.Tags.{encoding_tag, list_tag}
-use Rattle.tlv.specs.Cursor.{step_at, fields_of}
+use Rattle.tlv.specs.Cursor.{step_at, field_from}
 use Rattle.tlv.specs.Checked.{Accepts, Placed, Accepted}
 use Rattle.tlv.specs.Model.{CompilationUnit, LineEncoding, encoding_of, unit_of, units}
 use Rattle.tlv.proofs.ListLaws.{all-at, all-image, given-some}
-use Rattle.tlv.proofs.CursorLaws.{fields-at, field-within, payload-length}
+use Rattle.tlv.proofs.FieldLaws.{is-step, field-within, payload-length, fields-field, no-field}
 use Rattle.tlv.proofs.PlaceFacts.{placed-start, placed-next}
 use Rattle.tlv.proofs.PlacePromises.{placed-unit}
-use Rattle.access.specs.declared.access.Own.{Own}
-use Rattle.access.specs.declared.access.Place.{Place}
 use Rattle.access.specs.Access.{NextOwn, place_of}
 use Rattle.access.specs.Places.{unit_here, unit_places, lists_from, UnitOf}
 use Rattle.access.proofs.UnitPlaceLaws.{units-places}
@@ -30,7 +31,6 @@ use Rattle.access.proofs.UnitFacts.{unit_of-place}
 use Rattle.access.proofs.ListCountLaws.{unit-lists}
 use Rattle.files.specs.Pieces.{UnitPlaced}
 use Rattle.files.proofs.FewLaws.{unit-few, grouped-few}
-use Rattle.files.proofs.UnitLaws.{first-none, first_found}
 use Rattle.collect.proofs.HeaderPlaces.{encoding-here, unit-stands}
 use Rattle.imports.specs.Answer.{work_of_byte, work_of_lists, work_of_unit, work_of_units}
 use Rattle.checks.specs.declared.layout.Counts.{Counts}
@@ -56,12 +56,6 @@ least-work false size = omega arith
 -- so many bytes times the lists that count
 pub lists-work : (bytes k : ℕ) → k ≤ counted_lists → work_of_list_byte * bytes * k ≤ work_of_list_byte * counted_lists * bytes
 lists-work bytes k h = let a = mul-le-mul_left (work_of_list_byte * bytes) h in omega arith
-
-pub lists-few : (lists bytes : ℕ) → lists < counted_lists → work_of_list_byte * bytes * lists ≡ work_of_lists lists bytes
-lists-few lists bytes h = let e : min lists counted_lists ≡ lists = omega arith in sym (ap (λ (k : ℕ). work_of_list_byte * bytes * k) e)
-
-pub lists-many : (lists bytes : ℕ) → counted_lists ≤ lists → work_of_list_byte * bytes * counted_lists ≡ work_of_lists lists bytes
-lists-many lists bytes h = let e : min lists counted_lists ≡ counted_lists = omega arith in sym (ap (λ (k : ℕ). work_of_list_byte * bytes * k) e)
 
 pub lists-most : (lists bytes : ℕ) {n : ℕ} → n ≡ work_of_lists lists bytes → n ≤ work_of_list_byte * counted_lists * bytes
 lists-most lists bytes e = omega (arith, lists-work bytes (min lists counted_lists) (omega arith))
@@ -186,14 +180,10 @@ work-plain {s} {c} o size bytes S z =
 
 -- ---- the unit at a place
 
-module _ {s : List ℕ} {p : ℕ} (U : UnitPlaced s p) {r : Own} (own : NextOwn s (p + 21) encoding_tag r) where
-  pub encoding-missing : r ≡ Own.Missing → false ≡ is_encoded (unit_here s p)
-  unfolding map_option
-  encoding-missing e = sym (rw (encoding-here U, first-none s (p + 21) encoding_tag r own e))
-
-  pub encoding-found : (start len next : ℕ) → r ≡ Own.Field start len next → true ≡ is_encoded (unit_here s p)
-  unfolding map_option
-  encoding-found start len next e = sym (rw (encoding-here U, first_found s (p + 21) encoding_tag r own start len next e))
+pub encoding-told : {s : List ℕ} {p : ℕ} (U : UnitPlaced s p) (r : std.Option FieldSpan) → NextOwn s (p + 21) encoding_tag r → is_some r ≡ is_encoded (unit_here s p)
+unfolding payload_of map_option
+encoding-told U None own = sym (rw (encoding-here U, ← own.is))
+encoding-told U (Some f) own = sym (rw (encoding-here U, ← own.is))
 
 -- the lists of the unit at a place are those behind its field 10
 pub lists-here : {s : List ℕ} {p : ℕ} (U : UnitPlaced s p) {n : ℕ} → n ≡ lists_from s (p + 21) → n ≡ (unit_here s p).lists
@@ -224,43 +214,40 @@ module _ (size bytes : ℕ) where
         omega (arith, most-least size bytes (map (unit_here s) (unit_places 0 (fields s))));
   }
 
-  module _ {s : List ℕ} {p most : ℕ} (S : Seeking s p most) (r : Step) (reads : r ≡ step_at s p) where
-    turn : work_of_units size bytes (units s) ≡ max most (work_of_units size bytes (map (unit_here s) (unit_places p (fields_of s r))))
-    turn = S.left ∙ rw (fields-at s p, ← reads)
-
-    pub seek_end : r ≡ Step.End → most ≡ work_of_units size bytes (units s)
+  module _ {s : List ℕ} {p most : ℕ} (S : Seeking s p most) where
+    pub seek-none : None ≡ field_from s p → most ≡ work_of_units size bytes (units s)
     unfolding unit_places work_of_units
-    seek_end e = let t = rw e at turn in omega (arith, S.least)
+    seek-none at = go (no-field s p at)
+      where
+        go : (fields (drop p s) ≡ end) ⊎ (fields (drop p s) ≡ cut) → most ≡ work_of_units size bytes (units s)
+        go (inl e) = let t = rw e at S.left in omega (arith, S.least)
+        go (inr e) = let t = rw e at S.left in omega (arith, S.least)
 
-    pub seek_cut : r ≡ Step.Cut → most ≡ work_of_units size bytes (units s)
-    unfolding unit_places work_of_units
-    seek_cut e = let t = rw e at turn in omega (arith, S.least)
+    module _ (f : FieldSpan) (at : Some f ≡ field_from s p) where
+      next-is : p + 3 + length (take f.len (drop f.start s)) ≡ f.next
+      next-is = let w = field-within s p f at in omega (arith, payload-length s p f at)
 
-    module _ (t start len next : ℕ) (e : r ≡ Step.Field t start len next) where
-      next-is : p + 3 + length (take len (drop start s)) ≡ next
-      next-is = let w = field-within s p r t start len next reads e in omega (arith, payload-length s p r t start len next reads e)
+      next-placed : Placed s f.next
+      next-placed = placed-next s p (step_at s p) f.tag f.start f.len f.next S.placed refl (is-step s p f at)
 
-      next-placed : Placed s next
-      next-placed = placed-next s p r t start len next S.placed reads e
-
-      pub seek-other : (t ≡ 0x10 → ⊥) → Seeking s next most
+      pub seek-other : (f.tag ≡ 0x10 → ⊥) → Seeking s f.next most
       unfolding unit_places
-      seek-other h = record { placed = next-placed; least = S.least; left = rw (e, ne_eqb t 0x10 h, next-is) at turn }
+      seek-other h = record { placed = next-placed; least = S.least; left = rw (fields-field s p f at, ne_eqb f.tag 0x10 h, next-is) at S.left }
 
-      module _ (h : t ≡ 0x10) where
+      module _ (h : f.tag ≡ 0x10) where
         pub unit-here : UnitPlaced s p
         unit-here =
-            let w = field-within s p r t start len next reads e in
-            let l : len ≡ 18 = placed-unit s p r t start len next S.placed reads e h in
-            let e₁ : start ≡ p + 3 = w.0 in
-            let e₂ : next ≡ p + 21 = omega arith in
-            record { placed = S.placed; is = sym reads ∙ e ∙ (λ i. Step.Field (h i) (e₁ i) (l i) (e₂ i)) }
+            let w = field-within s p f at in
+            let l : f.len ≡ 18 = placed-unit s p (step_at s p) f.tag f.start f.len f.next S.placed refl (is-step s p f at) h in
+            let e₁ : f.start ≡ p + 3 = w.0 in
+            let e₂ : f.next ≡ p + 21 = omega arith in
+            record { placed = S.placed; is = is-step s p f at ∙ (λ i. Step.Field (h i) (e₁ i) (l i) (e₂ i)) }
 
-        here-first : work_of_units size bytes (units s) ≡ max most (max (work_of_unit size bytes (unit_here s p)) (most_from s next))
+        here-first : work_of_units size bytes (units s) ≡ max most (max (work_of_unit size bytes (unit_here s p)) (most_from s f.next))
         unfolding unit_places work_of_units
-        here-first = rw (e, eq-eqb t 0x10 h, next-is) at turn
+        here-first = rw (fields-field s p f at, eq-eqb f.tag 0x10 h, next-is) at S.left
 
-        pub seek_unit : {k n : ℕ} → k ≡ work_of_unit size bytes (unit_here s p) → n ≡ max most k → Seeking s next n
+        pub seek_unit : {k n : ℕ} → k ≡ work_of_unit size bytes (unit_here s p) → n ≡ max most k → Seeking s f.next n
         seek_unit ek en = record { placed = next-placed; least = omega (arith, S.least); left = omega (arith, here-first) }
 
 -- ---- the units that are asked for
@@ -269,21 +256,22 @@ pub work-all : (s : List ℕ) (o : Options) (size bytes : ℕ) {n : ℕ} → o.a
 unfolding chosen_units
 work-all s o size bytes is e = e ∙ sym (rw is)
 
-module _ (s : List ℕ) (o : Options) (size bytes : ℕ) (one : o.all ≡ false) (x : Place) (e : place_of x ≡ at (unit_places 0 (fields s)) o.ordinal) where
-  by_place : work_of_units size bytes (chosen_units o (units s)) ≡ work_of_units size bytes (listed (map_option (unit_here s) (place_of x)))
+module _ (s : List ℕ) (o : Options) (size bytes : ℕ) (one : o.all ≡ false) where
+  by_place : (x : std.Option ℕ) → place_of x ≡ at (unit_places 0 (fields s)) o.ordinal
+      → work_of_units size bytes (chosen_units o (units s)) ≡ work_of_units size bytes (listed (map_option (unit_here s) (place_of x)))
   unfolding chosen_units
-  by_place = rw one (ap (λ (y : Option CompilationUnit). work_of_units size bytes (listed y)) (unit_of-place s o.ordinal x e))
+  by_place x e = rw one (ap (λ (y : Option CompilationUnit). work_of_units size bytes (listed y)) (unit_of-place s o.ordinal x e))
 
-  pub work-missing : x ≡ Place.Missing → work_of_program_byte * size ≡ work_of_units size bytes (chosen_units o (units s))
+  pub work-missing : place_of None ≡ at (unit_places 0 (fields s)) o.ordinal → work_of_program_byte * size ≡ work_of_units size bytes (chosen_units o (units s))
   unfolding map_option work_of_units
-  work-missing is = sym (rw is at by_place)
+  work-missing e = sym (by_place None e)
 
-  module _ {q : ℕ} (is : x ≡ Place.At q) where
+  module _ {q : ℕ} (e : place_of (Some q) ≡ at (unit_places 0 (fields s)) o.ordinal) where
     pub asked-placed : Accepted s → UnitPlaced s q
-    asked-placed A = unit-stands (placed-start s A.number A.is) (record { number = o.ordinal; is = sym (rw is at e) })
+    asked-placed A = unit-stands (placed-start s A.number A.is) (record { number = o.ordinal; is = sym e })
 
     pub work-one : {n : ℕ} → n ≡ work_of_unit size bytes (unit_here s q) → n ≡ work_of_units size bytes (chosen_units o (units s))
     unfolding map_option work_of_units
     work-one {n} en =
-        let a : work_of_units size bytes (chosen_units o (units s)) ≡ max (work_of_unit size bytes (unit_here s q)) (work_of_program_byte * size) = rw is at by_place in
+        let a : work_of_units size bytes (chosen_units o (units s)) ≡ max (work_of_unit size bytes (unit_here s q)) (work_of_program_byte * size) = by_place (Some q) e in
         omega (arith, unit-least size bytes (unit_here s q))

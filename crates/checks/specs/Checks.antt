@@ -1,7 +1,9 @@
 -- Contract. Refusals 1 to 5: what their tests promise.
-use Rattle.std.specs.Prelude.{◌≡◌, Bool, cond, false, ◌&&◌, ◌||◌, not, List, [], ◌∷◌, ℕ, ◌+◌, ◌*◌, ◌≤◌, ltb, eqb, length}
+use Rattle.std.specs.Prelude.{◌≡◌, Result, Ok, Err, Bool, cond, false, ◌&&◌, ◌||◌, not, List, [], ◌∷◌, ℕ, ◌+◌, ◌*◌, ◌≤◌, ltb, eqb, length}
 use Rattle.std.proofs.Math.Option.{Option, none, some}
+use Rattle.tlv.specs.declared.refusal.Refusal.{Refusal}
 use Rattle.tlv.specs.Outcome.{Outcome, refused, done, ◌>>=◌}
+use Rattle.tlv.specs.Refusals.{number_of}
 use Rattle.tlv.specs.Lists.{at, is_empty, is_none}
 use Rattle.tlv.specs.Limits.{input_limit, program_limit, list_limit, work_of_field, work_of_program_byte, work_of_encoded_byte}
 use Rattle.tlv.specs.Limits.{work_of_list_byte, counted_lists, work_besides}
@@ -11,7 +13,6 @@ use Rattle.tlv.specs.Model.{CompilationUnit, units}
 use Rattle.imports.specs.Import.{State}
 use Rattle.imports.specs.Answer.{work_of_unit}
 use Rattle.checks.specs.declared.options.Options.{Options}
-use Rattle.checks.specs.declared.checks.BothChecked.{BothChecked}
 
 -- ---- 1
 
@@ -37,12 +38,12 @@ pub record BothAccepted (main supplementary : List ℕ) (size number : ℕ) : Ty
   pub supplementary-accepted : check_input size supplementary ≡ done supplementary-fields
   pub sum : number ≡ main-fields + supplementary-fields
 
-abbrev pub CheckedAs : List ℕ → List ℕ → ℕ → BothChecked → Type 0
-CheckedAs main supplementary size (BothChecked.Accepted n) = BothAccepted main supplementary size n
-CheckedAs main supplementary size (BothChecked.Refused n) =
-    (n ≡ 0 → ⊥) × ((f : ℕ → ℕ → Outcome State) → (check_input size main >>= λ m. check_input size supplementary >>= λ s. f m s) ≡ refused n)
+abbrev pub CheckedAs : List ℕ → List ℕ → ℕ → Result ℕ Refusal → Type 0
+CheckedAs main supplementary size (Ok n) = BothAccepted main supplementary size n
+CheckedAs main supplementary size (Err e) =
+    (f : ℕ → ℕ → Outcome State) → (check_input size main >>= λ m. check_input size supplementary >>= λ s. f m s) ≡ refused (number_of e)
 
-pub record ChecksBoth (main supplementary : List ℕ) (size : ℕ) (r : BothChecked) : Type 0 where
+pub record ChecksBoth (main supplementary : List ℕ) (size : ℕ) (r : Result ℕ Refusal) : Type 0 where
   pub is : CheckedAs main supplementary size r
 
 -- ---- 4

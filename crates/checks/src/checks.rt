@@ -1,5 +1,5 @@
 // Refusals 1 to 5.
-ghost use Rattle.std.specs.Prelude.{◌≡◌, ◌+◌, ◌≤◌, max};
+ghost use Rattle.std.specs.Prelude.{◌≡◌, ◌+◌, ◌≤◌};
 ghost use Rattle.tlv.specs.Limits.{program_limit, field_limit, list_limit};
 ghost use Rattle.tlv.specs.Model.{units};
 ghost use Rattle.tlv.specs.Checked.{Accepted};
@@ -11,9 +11,10 @@ ghost use Rattle.checks.specs.Layout.{Sized};
 
 use crate::layout::Counts;
 use crate::options::Options;
-use access::access::{Own, Place};
-use tlv::fields::Step;
-use tlv::grammar::Checked;
+use access::access::{list_count, next_before_rows, unit_by_ordinal};
+use tlv::fields::next_field;
+use tlv::grammar::check_input;
+use tlv::refusal::Refusal;
 use tlv::tags::{ENCODING_TAG, UNIT_TAG, UNIT_WHOLE};
 
 // The longest input, the longest line program, and the longest list section and address table.
@@ -51,41 +52,20 @@ pub fn is_oversize(
     ensures { result ≡ oversize_of main.now supplementary.now program.now lists.now
         addresses.now }
 {
-    if INPUT_LIMIT < main.len() {
-        return true;
-    }
-    if INPUT_LIMIT < supplementary.len() {
-        return true;
-    }
-    if PROGRAM_LIMIT < program.len() {
-        return true;
-    }
-    if LIST_LIMIT < lists.len() {
-        return true;
-    }
-    LIST_LIMIT < addresses.len()
+    INPUT_LIMIT < main.len()
+        || INPUT_LIMIT < supplementary.len()
+        || PROGRAM_LIMIT < program.len()
+        || LIST_LIMIT < lists.len()
+        || LIST_LIMIT < addresses.len()
 }
 
-// The fields of both inputs, or the refusal.
-#[derive(Clone, Copy)]
-pub enum BothChecked {
-    Accepted(usize),
-    Refused(u8),
-}
-
-// Refusals 2 and 3, with a program of so many bytes: the main input before the supplementary one.
-pub fn check_both(main: &[u8], supplementary: &[u8], program: usize) -> BothChecked
+// Refusals 2 and 3, with a program of so many bytes: the main input before the supplementary one. Else how many fields both have.
+pub fn check_both(main: &[u8], supplementary: &[u8], program: usize) -> Result<usize, Refusal>
     ensures { ChecksBoth main.now supplementary.now program result }
 {
-    match tlv::grammar::check_input(main, program) {
-        Checked::Misshapen => BothChecked::Refused(2),
-        Checked::PastLimit => BothChecked::Refused(3),
-        Checked::Accepted(m) => match tlv::grammar::check_input(supplementary, program) {
-            Checked::Misshapen => BothChecked::Refused(2),
-            Checked::PastLimit => BothChecked::Refused(3),
-            Checked::Accepted(s) => BothChecked::Accepted((m + s) as usize),
-        },
-    }
+    let m = check_input(main, program)?;
+    let s = check_input(supplementary, program)?;
+    Ok((m + s) as usize)
 }
 
 // Refusal 4: there is no such unit, and the input is no package without debug data, which is empty and asked for ordinal 0.
@@ -95,14 +75,9 @@ pub fn is_missing(main: &[u8], options: Options) -> bool
     if options.all {
         return false;
     }
-    match access::access::unit_by_ordinal(main, options.ordinal) {
-        Place::At(_) => false,
-        Place::Missing => {
-            if main.len() != 0 {
-                return true;
-            }
-            options.ordinal != 0
-        }
+    match unit_by_ordinal(main, options.ordinal) {
+        Some(_) => false,
+        None => !main.is_empty() || options.ordinal != 0,
     }
 }
 
@@ -111,14 +86,7 @@ pub fn has_encoding(main: &[u8], place: usize) -> bool
     requires { UnitPlaced main.now place }
     ensures { result ≡ is_encoded (unit_here main.now place) }
 {
-    match access::access::next_before_rows(main, place + UNIT_WHOLE, ENCODING_TAG) {
-        Own::Missing => false,
-        Own::Field {
-            start: _,
-            len: _,
-            next: _,
-        } => true,
-    }
+    next_before_rows(main, place + UNIT_WHOLE, ENCODING_TAG).is_some()
 }
 
 // The work that a program of so many bytes asks for.
@@ -127,9 +95,10 @@ fn work_of_program(encoded: bool, size: usize) -> usize
     ensures { result ≡ work_of_program encoded size }
 {
     if encoded {
-        return WORK_OF_ENCODED_BYTE * size;
+        WORK_OF_ENCODED_BYTE * size
+    } else {
+        WORK_OF_PROGRAM_BYTE * size
     }
-    WORK_OF_PROGRAM_BYTE * size
 }
 
 // The work that so many range lists ask for, in a section of so many bytes (document 02, E9).
@@ -137,10 +106,7 @@ fn work_of_lists(lists: usize, bytes: usize) -> usize
     requires { bytes ≤ list_limit }
     ensures { result ≡ work_of_lists lists bytes }
 {
-    if lists < COUNTED_LISTS {
-        return WORK_OF_LIST_BYTE * bytes * lists;
-    }
-    WORK_OF_LIST_BYTE * bytes * COUNTED_LISTS
+    WORK_OF_LIST_BYTE * bytes * lists.min(COUNTED_LISTS)
 }
 
 // The work that the unit at a place asks for besides its fields.
@@ -150,7 +116,7 @@ fn work_of_unit(main: &[u8], place: usize, size: usize, bytes: usize) -> usize
     ensures { result ≡ work_of_unit size bytes (unit_here main.now place) }
 {
     let program = work_of_program(has_encoding(main, place), size);
-    program + work_of_lists(access::access::list_count(main, place + UNIT_WHOLE), bytes)
+    program + work_of_lists(list_count(main, place + UNIT_WHOLE), bytes)
 }
 
 // The work of the unit that asks for most, of all units; where there is none, that of the program.
@@ -160,39 +126,14 @@ fn most_work(main: &[u8], size: usize, bytes: usize) -> usize
     ensures { result ≡ work_of_units size bytes (units main.now) }
 {
     let mut most = WORK_OF_PROGRAM_BYTE * size;
-    let mut p: usize = 0;
-    loop {
-        match tlv::fields::field_at(main, p) {
-            Step::End => {
-                return most;
-            }
-            Step::Cut => {
-                return most;
-            }
-            Step::Field {
-                tag,
-                start: _,
-                len: _,
-                next,
-            } => {
-                if tag == UNIT_TAG {
-                    most = larger(most, work_of_unit(main, p, size, bytes));
-                    p = next;
-                } else {
-                    p = next;
-                }
-            }
+    let mut p = 0;
+    while let Some(field) = next_field(main, p) {
+        if field.tag == UNIT_TAG {
+            most = most.max(work_of_unit(main, p, size, bytes));
         }
+        p = field.next;
     }
-}
-
-fn larger(a: usize, b: usize) -> usize
-    ensures { result ≡ max a b }
-{
-    if a < b {
-        return b;
-    }
-    a
+    most
 }
 
 // The same of the units that are asked for, in an input with these counts.
@@ -213,9 +154,9 @@ pub fn work_of_units(
     if options.all {
         return most_work(main, size, bytes);
     }
-    match access::access::unit_by_ordinal(main, options.ordinal) {
-        Place::Missing => WORK_OF_PROGRAM_BYTE * size,
-        Place::At(place) => work_of_unit(main, place, size, bytes),
+    match unit_by_ordinal(main, options.ordinal) {
+        Some(place) => work_of_unit(main, place, size, bytes),
+        None => WORK_OF_PROGRAM_BYTE * size,
     }
 }
 

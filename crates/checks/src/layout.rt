@@ -8,6 +8,7 @@ ghost use Rattle.checks.specs.Checks.{is_encoded};
 ghost use Rattle.checks.specs.Layout.{TagsCounted, Sized, total_of, program_rows, LaysOut, unit_layout, RoomsSmall, TagsKnown};
 
 use crate::checks::has_encoding;
+use access::access::list_count;
 use access::index::ENTRY_RECORD;
 use access::units::UNIT_RECORD;
 use dies::sites::{CLOSED_SITE, OPEN_SITE};
@@ -18,7 +19,7 @@ use line_program::lines::{OFFSET_RECORD, SEQUENCE_LEAST};
 use ranges::ranges::RANGE_RECORD;
 use rnglists::lists::RANGE_LEAST;
 use rows::line::{ENTRY_SIZE, ROW_ROOM};
-use tlv::fields::Step;
+use tlv::fields::next_field;
 use tlv::tags::{
     ATTRIBUTE_TAG, DIRECTORY_TAG, ENCODING_TAG, ENTRY_TAG, FILE_TAG, FILE_ZERO_TAG, LIST_TAG,
     RANGE_TAG, ROW_TAG, TEXT_TAG, UNIT_TAG, UNIT_WHOLE,
@@ -83,30 +84,15 @@ pub struct Counts {
 fn count_tags(s: &[u8]) -> [usize; 32]
     ensures { TagsCounted s.now result }
 {
-    let mut counts: [usize; 32] = [0; 32];
-    let mut p: usize = 0;
-    loop {
-        match tlv::fields::field_at(s, p) {
-            Step::End => {
-                return counts;
-            }
-            Step::Cut => {
-                return counts;
-            }
-            Step::Field {
-                tag,
-                start: _,
-                len: _,
-                next,
-            } => {
-                if tag < 32 {
-                    let i = tag as usize;
-                    counts[i] = counts[i] + 1;
-                }
-                p = next;
-            }
+    let mut counts = [0usize; 32];
+    let mut p = 0;
+    while let Some(field) = next_field(s, p) {
+        if field.tag < 32 {
+            counts[field.tag as usize] += 1;
         }
+        p = field.next;
     }
+    counts
 }
 
 // For each tag that needs a table, how many fields of it the input has.
@@ -146,20 +132,20 @@ pub fn lay_out(m: Counts, s: Counts, size: usize, bytes: usize) -> Layout
         + ROW_ROOM * m.rows
         + ENTRY_SIZE;
     Layout {
-        main_entries: main_entries,
-        supplementary_units: supplementary_units,
-        supplementary_entries: supplementary_entries,
-        files: files,
-        room: room,
+        main_entries,
+        supplementary_units,
+        supplementary_entries,
+        files,
+        room,
         lines: files + room * FILE_RECORD + JOINED_LIMIT,
-        line_room: line_room,
+        line_room,
         text_room: RANGE_RECORD * m.text,
         span_room: SPAN_RECORD * (m.directories + s.directories)
             + INDEX_RECORD * (1 + m.files + s.files),
         range_room: RANGE_RECORD * (1 + m.ranges),
         stack_room: OPEN_SITE * m.entries,
         site_room: CLOSED_SITE * m.entries,
-        size: size,
+        size,
         third: bytes / RANGE_LEAST,
         with_encodings: m.encodings != 0,
         with_lists: m.lists != 0,
@@ -170,20 +156,14 @@ pub fn lay_out(m: Counts, s: Counts, size: usize, bytes: usize) -> Layout
 fn program_rows(size: usize, encoded: bool) -> usize
     ensures { result ≡ program_rows size encoded }
 {
-    if encoded {
-        return size;
-    }
-    0
+    if encoded { size } else { 0 }
 }
 
 // How many of a unit's lists can stand in the stack of ranges at once.
 fn open_lists(lists: usize) -> usize
     ensures { result ≡ open_lists lists }
 {
-    if lists < OPEN_LISTS {
-        return lists;
-    }
-    OPEN_LISTS
+    lists.min(OPEN_LISTS)
 }
 
 // The places of a unit with so many range lists, whose rows may come from the program.
@@ -197,11 +177,11 @@ fn unit_layout(l: Layout, encoded: bool, lists: usize) -> UnitLayout
     let stack = ranges + l.range_room + RANGE_RECORD * (l.third * open_lists(lists));
     let sites = stack + l.stack_room;
     UnitLayout {
-        text: text,
-        spans: spans,
-        ranges: ranges,
-        stack: stack,
-        sites: sites,
+        text,
+        spans,
+        ranges,
+        stack,
+        sites,
         keys: sites + l.site_room,
     }
 }
@@ -213,9 +193,10 @@ fn unit_lists(main: &[u8], place: usize, l: Layout) -> usize
     ensures { result ≡ (unit_here main.now place).lists }
 {
     if l.with_lists {
-        return access::access::list_count(main, place + UNIT_WHOLE);
+        list_count(main, place + UNIT_WHOLE)
+    } else {
+        0
     }
-    0
 }
 
 // Whether its rows come from the program.
@@ -224,10 +205,7 @@ fn unit_encoded(main: &[u8], place: usize, l: Layout) -> bool
     requires unit_of { (UnitOf main.now place) × (TagsKnown main.now l) }
     ensures { result ≡ is_encoded (unit_here main.now place) }
 {
-    if l.with_encodings {
-        return has_encoding(main, place);
-    }
-    false
+    l.with_encodings && has_encoding(main, place)
 }
 
 // Its places.

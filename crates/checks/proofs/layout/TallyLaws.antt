@@ -8,9 +8,10 @@ use lib.Dec.{eqb}
 use lib.ListN.{length, drop, get_or, set, replicate, length-set, get_or-replicate}
 use lib.Seq.{get_or-set_same, get_or-set_other}
 use borrow.Author.Tests.{eqb-true, eqb-false}
-use Rattle.tlv.specs.declared.fields.Step.{Step}
-use Rattle.tlv.specs.Cursor.{step_at}
-use Rattle.tlv.proofs.CursorLaws.{next-within, next-counts, next-keeps, count-end, count_cut, count-one, count-other}
+use Rattle.std.specs.Prelude.{Some, None}
+use Rattle.tlv.specs.declared.fields.FieldSpan.{FieldSpan}
+use Rattle.tlv.specs.Cursor.{field_from}
+use Rattle.tlv.proofs.FieldLaws.{next-within, next-counts, next-keeps, count-none, count-one, count-other}
 use Rattle.tlv.specs.Fields.{count_of}
 use Rattle.checks.specs.Layout.{TagsCounted, Sized}
 
@@ -29,43 +30,41 @@ tally-start s = record {
   whole = λ tag h. omega (arith, get_or-replicate {A = ℕ} 32 tag 0 0 h);
 }
 
-module _ (s : List ℕ) (p : ℕ) (counts : List ℕ) (r : Step) (T : Tallying s p counts) (at : r ≡ step_at s p) where
-  pub tally-end : r ≡ Step.End → TagsCounted s counts
-  tally-end e = record { is = λ tag h. count-end s tag p (get_or counts tag 0) (count_of tag s) r (T.whole tag h) at e }
+module _ (s : List ℕ) (p : ℕ) (counts : List ℕ) (T : Tallying s p counts) where
+  pub tally-none : None ≡ field_from s p → TagsCounted s counts
+  tally-none at = record { is = λ tag h. count-none s tag p (get_or counts tag 0) (count_of tag s) (T.whole tag h) at }
 
-  pub tally-cut : r ≡ Step.Cut → TagsCounted s counts
-  tally-cut e = record { is = λ tag h. count_cut s tag p (get_or counts tag 0) (count_of tag s) r (T.whole tag h) at e }
-
-  module _ (t start len next : ℕ) (e : r ≡ Step.Field t start len next) where
-    pub tally-other : 32 ≤ t → Tallying s next counts
+  module _ (f : FieldSpan) (at : Some f ≡ field_from s p) where
+    pub tally-other : 32 ≤ f.tag → Tallying s f.next counts
     tally-other g = record {
-      within = next-within s p r t start len next at e;
+      within = next-within s p f at;
       size = T.size;
-      few = λ tag h. next-keeps s p r t start len next at e (get_or counts tag 0) (T.few tag h);
-      whole = λ tag h. count-other s tag p (get_or counts tag 0) (count_of tag s) r (T.whole tag h) at t start len next e (λ z. omega arith);
+      few = λ tag h. next-keeps s p f at (get_or counts tag 0) (T.few tag h);
+      whole = λ tag h. count-other s tag p (get_or counts tag 0) (count_of tag s) (T.whole tag h) f at (λ z. omega arith);
     }
 
-    module _ (small : t < 32) where
+    module _ (small : f.tag < 32) where
       -- the count of a tag after the field's is one more
-      counted : (tag : ℕ) → tag < 32 → (P : ℕ → Type 0) → (tag ≡ t → P (get_or counts tag 0 + 1)) → ((tag ≡ t → ⊥) → P (get_or counts tag 0)) → P (get_or (set counts t (get_or counts t 0 + 1)) tag 0)
-      counted tag h P same other = go (eqb tag t) refl
+      counted : (tag : ℕ) → tag < 32 → (P : ℕ → Type 0) → (tag ≡ f.tag → P (get_or counts tag 0 + 1)) → ((tag ≡ f.tag → ⊥) → P (get_or counts tag 0))
+          → P (get_or (set counts f.tag (get_or counts f.tag 0 + 1)) tag 0)
+      counted tag h P same other = go (eqb tag f.tag) refl
         where
-          go : (b : Bool) → eqb tag t ≡ b → P (get_or (set counts t (get_or counts t 0 + 1)) tag 0)
+          go : (b : Bool) → eqb tag f.tag ≡ b → P (get_or (set counts f.tag (get_or counts f.tag 0 + 1)) tag 0)
           go true k =
-              let z = eqb-true tag t k in
-              rw (z, get_or-set_same counts t (get_or counts t 0 + 1) 0 (omega (arith, T.size))) (rw z at (same z))
-          go false k = let g = eqb-false tag t k in rw (get_or-set_other counts t tag (get_or counts t 0 + 1) 0 g) (other g)
+              let z = eqb-true tag f.tag k in
+              rw (z, get_or-set_same counts f.tag (get_or counts f.tag 0 + 1) 0 (omega (arith, T.size))) (rw z at (same z))
+          go false k = let g = eqb-false tag f.tag k in rw (get_or-set_other counts f.tag tag (get_or counts f.tag 0 + 1) 0 g) (other g)
 
-      pub tally-one : Tallying s next (set counts t (get_or counts t 0 + 1))
+      pub tally-one : Tallying s f.next (set counts f.tag (get_or counts f.tag 0 + 1))
       tally-one = record {
-        within = next-within s p r t start len next at e;
-        size = length-set counts t (get_or counts t 0 + 1) ∙ T.size;
-        few = λ tag h. counted tag h (λ n. n ≤ next)
-            (λ z. next-counts s p r t start len next at e (get_or counts tag 0) (T.few tag h))
-            (λ g. next-keeps s p r t start len next at e (get_or counts tag 0) (T.few tag h));
-        whole = λ tag h. counted tag h (λ n. count_of tag s ≡ n + count_of tag (drop next s))
-            (λ z. count-one s tag p (get_or counts tag 0) (count_of tag s) r (T.whole tag h) at t start len next e (sym z))
-            (λ g. count-other s tag p (get_or counts tag 0) (count_of tag s) r (T.whole tag h) at t start len next e (λ z. g (sym z)));
+        within = next-within s p f at;
+        size = length-set counts f.tag (get_or counts f.tag 0 + 1) ∙ T.size;
+        few = λ tag h. counted tag h (λ n. n ≤ f.next)
+            (λ z. next-counts s p f at (get_or counts tag 0) (T.few tag h))
+            (λ g. next-keeps s p f at (get_or counts tag 0) (T.few tag h));
+        whole = λ tag h. counted tag h (λ n. count_of tag s ≡ n + count_of tag (drop f.next s))
+            (λ z. count-one s tag p (get_or counts tag 0) (count_of tag s) (T.whole tag h) f at (sym z))
+            (λ g. count-other s tag p (get_or counts tag 0) (count_of tag s) (T.whole tag h) f at (λ z. g (sym z)));
       }
 
 -- the counts that are read off such a table

@@ -4,8 +4,8 @@ use lib.ListN.{length}
 use Rattle.checks.proofs.WorkLaws.{Seeking}
 use Rattle.checks.proofs.checks.most_work.Given as goal
 
-abbrev pub invariant-loop-tag : goal.invariant-loop-tag
-invariant-loop-tag l = Seeking l.size l.bytes l.main l.p l.most
+abbrev pub invariant-loop-field : goal.invariant-loop-field
+invariant-loop-field l = Seeking l.size l.bytes l.main l.p l.most
 
-abbrev pub decreases-loop-tag : goal.decreases-loop-tag
-decreases-loop-tag l = length l.main - l.p
+abbrev pub decreases-loop-field : goal.decreases-loop-field
+decreases-loop-field l = length l.main - l.p

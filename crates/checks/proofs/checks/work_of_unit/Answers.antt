@@ -4,17 +4,8 @@ use Rattle.files.proofs.UnitLaws.{unit-within}
 use Rattle.checks.proofs.WorkLaws.{program-work, lists-most, unit-work}
 use Rattle.checks.proofs.checks.work_of_unit.Goals as goal
 
-pub has_encoding-requires : goal.has_encoding-requires
-has_encoding-requires c = c.requires.unit_placed
-
-pub work_of_program-program-requires : goal.work_of_program-program-requires
-work_of_program-program-requires c = c.requires.size_le_program_limit.0
-
 pub overflow_add-place : goal.overflow_add-place
 overflow_add-place c = omega (arith, unit-within c.requires.unit_placed, c.well_formed)
-
-pub work_of_lists-requires : goal.work_of_lists-requires
-work_of_lists-requires c = c.requires.size_le_program_limit.1
 
 pub overflow_add-result : goal.overflow_add-result
 overflow_add-result c = omega (arith, c.requires.size_le_program_limit.0, c.requires.size_le_program_limit.1, program-work c.has_encoding.result c.args.size c.work_of_program-program.ensures, lists-most c.list_count.result c.args.bytes c.work_of_lists.ensures)

@@ -1,35 +1,23 @@
 -- `layout::count_tags` meets its contract. The loop's invariant: of each tag what is counted and what is left to count make the whole.
 use native.Mathlib.Omega.{arith}
-use Rattle.tlv.proofs.CursorLaws.{next-less}
-use Rattle.checks.proofs.layout.TallyLaws.{tally-start, tally-end, tally-cut, tally-one, tally-other}
+use Rattle.tlv.proofs.FieldLaws.{next-less}
+use Rattle.checks.proofs.layout.TallyLaws.{tally-start, tally-none, tally-one, tally-other}
 use Rattle.checks.proofs.layout.count_tags.Goals as goal
 
-pub loop-counts-init : goal.loop-counts-init
-loop-counts-init c = tally-start _
+pub loop-field-init : goal.loop-field-init
+loop-field-init c = tally-start _
 
-pub returns-in-End : goal.returns-in-End
-returns-in-End c = search tally-end
+pub loop-field-smaller-then-field-lt32 : goal.loop-field-smaller-then-field-lt32
+loop-field-smaller-then-field-lt32 c = next-less _ _ _ c.in-Some.ensures
 
-pub returns-in-Cut : goal.returns-in-Cut
-returns-in-Cut c = search tally-cut
+pub loop-field-preserved-then-field-lt32 : goal.loop-field-preserved-then-field-lt32
+loop-field-preserved-then-field-lt32 c = tally-one _ _ _ c.loop-field.invariant _ c.in-Some.ensures c.if-field-lt32.true
 
-pub bounds-counts-i : goal.bounds-counts-i
-bounds-counts-i c = omega arith
+pub loop-field-smaller : goal.loop-field-smaller
+loop-field-smaller c = next-less _ _ _ c.in-Some.ensures
 
-pub overflow_add-counts : goal.overflow_add-counts
-overflow_add-counts c = omega (arith, c.loop-counts.invariant.few c.in-Field.tag (omega arith))
+pub loop-field-preserved : goal.loop-field-preserved
+loop-field-preserved c = tally-other _ _ _ c.loop-field.invariant _ c.in-Some.ensures c.if-field-lt32.false
 
-pub bounds-counts-i-then-tag-lt32 : goal.bounds-counts-i-then-tag-lt32
-bounds-counts-i-then-tag-lt32 c = omega arith
-
-pub loop-counts-smaller-then-tag-lt32 : goal.loop-counts-smaller-then-tag-lt32
-loop-counts-smaller-then-tag-lt32 c = search next-less
-
-pub loop-counts-preserved-then-tag-lt32 : goal.loop-counts-preserved-then-tag-lt32
-loop-counts-preserved-then-tag-lt32 c = search tally-one
-
-pub loop-counts-smaller : goal.loop-counts-smaller
-loop-counts-smaller c = search next-less
-
-pub loop-counts-preserved : goal.loop-counts-preserved
-loop-counts-preserved c = search tally-other
+pub returns : goal.returns
+returns c = tally-none _ _ _ c.loop-field.invariant c.in_default.ensures

@@ -4,8 +4,8 @@ use lib.ListN.{length}
 use Rattle.checks.proofs.layout.TallyLaws.{Tallying}
 use Rattle.checks.proofs.layout.count_tags.Given as goal
 
-abbrev pub invariant-loop-counts : goal.invariant-loop-counts
-invariant-loop-counts l = Tallying l.s l.p l.counts
+abbrev pub invariant-loop-field : goal.invariant-loop-field
+invariant-loop-field l = Tallying l.s l.p l.counts
 
-abbrev pub decreases-loop-counts : goal.decreases-loop-counts
-decreases-loop-counts l = length l.s - l.p
+abbrev pub decreases-loop-field : goal.decreases-loop-field
+decreases-loop-field l = length l.s - l.p

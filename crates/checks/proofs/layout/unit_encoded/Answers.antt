@@ -1,12 +1,7 @@
 -- `layout::unit_encoded` meets its contract.
+use mathlib.Core.Path.{◌∙◌}
 use Rattle.checks.proofs.WorkLaws.{known-encoded}
 use Rattle.checks.proofs.layout.unit_encoded.Goals as goal
 
-pub has_encoding-requires : goal.has_encoding-requires
-has_encoding-requires c = c.requires.unit_placed
-
-pub returns-then-l : goal.returns-then-l
-returns-then-l c = c.has_encoding.ensures
-
-pub returns : goal.returns
-returns c = known-encoded _ _ c.requires.unit_of.0 c.requires.unit_of.1 c.if-l.false
+pub returns-else-l : goal.returns-else-l
+returns-else-l c = c.if-l.false ∙ known-encoded _ _ c.requires.unit_of.0 c.requires.unit_of.1 c.if-l.false

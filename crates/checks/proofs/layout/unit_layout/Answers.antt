@@ -3,9 +3,6 @@ use native.Mathlib.Omega.{arith}
 use Rattle.checks.proofs.LayoutLaws.{program-few, open_few, laid-unit}
 use Rattle.checks.proofs.layout.unit_layout.Goals as goal
 
-pub overflow_add-text : goal.overflow_add-text
-overflow_add-text c = omega (arith, c.requires.rooms, c.requires.size)
-
 pub overflow_mul-text : goal.overflow_mul-text
 overflow_mul-text c = omega (arith, c.requires.rooms, c.requires.size, program-few c.args.l.size c.args.encoded c.program_rows.ensures)
 

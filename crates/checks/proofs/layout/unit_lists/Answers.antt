@@ -10,5 +10,5 @@ overflow_add-place c = omega (arith, unit-within c.requires.unit_placed, c.well_
 pub returns-then-l : goal.returns-then-l
 returns-then-l c = lists-here c.requires.unit_placed c.list_count.ensures
 
-pub returns : goal.returns
-returns c = known-listed _ _ c.requires.unit_of.0 c.requires.unit_of.1 c.if-l.false
+pub returns-else-l : goal.returns-else-l
+returns-else-l c = known-listed _ _ c.requires.unit_of.0 c.requires.unit_of.1 c.if-l.false
