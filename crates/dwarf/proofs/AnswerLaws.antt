@@ -4,9 +4,12 @@ use mathlib.Core.Bool.{Bool, true, false, cond}
 use mathlib.Core.List.{List, ◌++◌}
 use Prim.Native.Nat.{ℕ, ◌≤◌, ◌<◌}
 use native.Mathlib.Omega.{arith}
-use lib.Dec.{ltb, eqb}
+use lib.Dec.{ltb}
 use lib.ListN.{length, drop, replicate}
-use borrow.Author.Tests.{ltb-false, lt-ltb, le-ltb, eq-eqb, ne_eqb, eqb-true, eqb-false}
+use borrow.Author.Tests.{ltb-false, lt-ltb, le-ltb}
+use Rattle.std.specs.Prelude.{Result, Ok, Err}
+use Rattle.tlv.specs.declared.refusal.Refusal.{Refusal}
+use Rattle.tlv.specs.Refusals.{number_of}
 use Rattle.tlv.specs.Outcome.{Outcome, refused, done, ◌>>=◌}
 use Rattle.tlv.proofs.TestLaws.{by_less}
 use Rattle.buffers.specs.Buffer.{Put}
@@ -19,34 +22,34 @@ use Rattle.imports.specs.Demand.{Lent, Finished}
 use Rattle.imports.proofs.Demand.{demand, dwarf-demand}
 use Rattle.dwarf.specs.declared.model.Imported.{Imported}
 use Rattle.dwarf.specs.declared.run.Ran.{Ran}
-use Rattle.dwarf.specs.Runs.{import_all, Written, Writes, fit_status}
+use Rattle.dwarf.specs.Runs.{import_all, Written, Writes, fit_of}
 use Rattle.dwarf.specs.Answers.{left, AgreeAll, ImportsBy, ImportsUnit, ImportsDwarf}
 
 -- ---- the refusal by the lengths
 
-module _ (r : Ran) (records files warnings : ℕ) where
-  pub fit_refused : (r.status ≡ 0 → ⊥) → r.status ≡ fit_status r records files warnings
-  unfolding fit_status
-  fit_refused h = sym (rw (ne_eqb r.status 0 h))
+module _ (run : Result Ran Refusal) (records files warnings : ℕ) where
+  pub fit_refused : {e : Refusal} → run ≡ Err e → Err e ≡ fit_of run records files warnings
+  unfolding fit_of
+  fit_refused e = rw e
 
-  module _ (z : r.status ≡ 0) where
-    pub fit-records : records < r.records → 16 ≡ fit_status r records files warnings
-    unfolding fit_status
-    fit-records h = sym (rw (eq-eqb r.status 0 z, lt-ltb records r.records h))
+  module _ {r : Ran} (e : run ≡ Ok r) where
+    pub fit-records : records < r.records → Err Refusal.ShortRecords ≡ fit_of run records files warnings
+    unfolding fit_of
+    fit-records h = rw (e, lt-ltb records r.records h)
 
     module _ (h : r.records ≤ records) where
-      pub fit-files : files < r.files → 17 ≡ fit_status r records files warnings
-      unfolding fit_status
-      fit-files k = sym (rw (eq-eqb r.status 0 z, le-ltb records r.records h, lt-ltb files r.files k))
+      pub fit-files : files < r.files → Err Refusal.ShortFiles ≡ fit_of run records files warnings
+      unfolding fit_of
+      fit-files k = rw (e, le-ltb records r.records h, lt-ltb files r.files k)
 
       module _ (k : r.files ≤ files) where
-        pub fit-warnings : warnings < r.warnings → 18 ≡ fit_status r records files warnings
-        unfolding fit_status
-        fit-warnings l = sym (rw (eq-eqb r.status 0 z, le-ltb records r.records h, le-ltb files r.files k, lt-ltb warnings r.warnings l))
+        pub fit-warnings : warnings < r.warnings → Err Refusal.ShortWarnings ≡ fit_of run records files warnings
+        unfolding fit_of
+        fit-warnings l = rw (e, le-ltb records r.records h, le-ltb files r.files k, lt-ltb warnings r.warnings l)
 
-        pub fit_all : r.warnings ≤ warnings → 0 ≡ fit_status r records files warnings
-        unfolding fit_status
-        fit_all l = sym (rw (eq-eqb r.status 0 z, le-ltb records r.records h, le-ltb files r.files k, le-ltb warnings r.warnings l))
+        pub fit_all : r.warnings ≤ warnings → Ok r ≡ fit_of run records files warnings
+        unfolding fit_of
+        fit_all l = rw (e, le-ltb records r.records h, le-ltb files r.files k, le-ltb warnings r.warnings l)
 
 -- ---- the outcome
 
@@ -67,63 +70,59 @@ over_files i s = ltb (length i.files) (length (files_bytes s.table.entries))
 abbrev over_warnings : Inputs → State → Bool
 over_warnings i s = ltb (length i.warnings) (length (warnings_bytes s.warnings))
 
--- a number by three tests, and the outcome by the same
-abbrev number_by : Bool → Bool → Bool → ℕ
-number_by a b c = cond a 16 (cond b 17 (cond c 18 0))
-
+-- the outcome by the three tests
 abbrev outcome_by : {A : Type 0} → Bool → Bool → Bool → A → Outcome A
 outcome_by a b c w = cond a (refused 16) (cond b (refused 17) (cond c (refused 18) (done w)))
 
-by_number : {A : Type 0} (a b c : Bool) (w : A) → (number_by a b c ≡ 0 → ⊥) → outcome_by a b c w ≡ refused (number_by a b c)
-by_number true b c w h = refl
-by_number false true c w h = refl
-by_number false false true w h = refl
-by_number false false false w h = absurd (h refl)
+module _ (i : Inputs) (o : Outcome State) where
+  -- all that was written fits
+  pub record Fitting (t f u : List ℕ) (r : Ran) : Type 0 where
+    pub written : Written o i.records i.files i.warnings t f u r
+    pub is : outcome_of i o ≡ done (answer.written written.state)
+    pub records : length (records_bytes written.state.records) ≤ length i.records
+    pub files : length (files_bytes written.state.table.entries) ≤ length i.files
+    pub warnings : length (warnings_bytes written.state.warnings) ≤ length i.warnings
 
-by_none : (a b c : Bool) → number_by a b c ≡ 0 → (a ≡ false) × (b ≡ false) × (c ≡ false)
-by_none true b c z = absurd (omega arith)
-by_none false true c z = absurd (omega arith)
-by_none false false true z = absurd (omega arith)
-by_none false false false z = (refl, refl, refl)
+  -- .. or the outcome is the refusal
+  abbrev pub FittingBy : List ℕ → List ℕ → List ℕ → Result Ran Refusal → Type 0
+  FittingBy t f u (Ok r) = Fitting t f u r
+  FittingBy t f u (Err e) = outcome_of i o ≡ refused (number_of e)
 
-module _ (i : Inputs) (o : Outcome State) {t f u : List ℕ} {r : Ran} (W : Writes o i.records i.files i.warnings t f u r) {n : ℕ}
-    (e : n ≡ fit_status r (length t) (length f) (length u)) where
-  -- the three tests, of a state that was written
-  abbrev tests : Written o i.records i.files i.warnings t f u r → ℕ
-  tests S = number_by (over_records i S.state) (over_files i S.state) (over_warnings i S.state)
+  module _ {t f u : List ℕ} {r : Ran} (S : Written o i.records i.files i.warnings t f u r) where
+    outcome-is : outcome_of i o ≡ outcome_by (over_records i S.state) (over_files i S.state) (over_warnings i S.state) (written S.state)
+    unfolding outcome_of ◌>>=◌ answer.fitting written
+    outcome-is = rw S.is
 
-  tested : r.status ≡ 0 → (S : Written o i.records i.files i.warnings t f u r) → n ≡ tests S
-  unfolding fit_status
-  tested z S = e ∙ rw (eq-eqb r.status 0 z, longer_is S.records, longer_is S.files, longer_is S.warnings)
+    outcome-told : outcome_of i o ≡ outcome_by (ltb (length t) r.records) (ltb (length f) r.files) (ltb (length u) r.warnings) (written S.state)
+    outcome-told = outcome-is ∙ (λ k. outcome_by (sym (longer_is S.records) k) (sym (longer_is S.files) k) (sym (longer_is S.warnings) k) (written S.state))
 
-  outcome-is : (S : Written o i.records i.files i.warnings t f u r)
-      → outcome_of i o ≡ outcome_by (over_records i S.state) (over_files i S.state) (over_warnings i S.state) (written S.state)
-  unfolding outcome_of ◌>>=◌ answer.fitting written
-  outcome-is S = rw S.is
+    fitting-done : FittingBy t f u (fit_of (Ok r) (length t) (length f) (length u))
+    unfolding fit_of
+    fitting-done = go (ltb (length t) r.records) refl (ltb (length f) r.files) refl (ltb (length u) r.warnings) refl
+      where
+        told : {a b c : Bool} → ltb (length t) r.records ≡ a → ltb (length f) r.files ≡ b → ltb (length u) r.warnings ≡ c → outcome_of i o ≡ outcome_by a b c (written S.state)
+        told ea eb ec = outcome-told ∙ (λ k. outcome_by (ea k) (eb k) (ec k) (written S.state))
 
-  status-is : (r.status ≡ 0 → ⊥) → n ≡ r.status
-  unfolding fit_status
-  status-is h = e ∙ rw (ne_eqb r.status 0 h)
+        go : (a : Bool) → ltb (length t) r.records ≡ a → (b : Bool) → ltb (length f) r.files ≡ b → (c : Bool) → ltb (length u) r.warnings ≡ c
+            → FittingBy t f u (cond a (Err Refusal.ShortRecords) (cond b (Err Refusal.ShortFiles) (cond c (Err Refusal.ShortWarnings) (Ok r))))
+        go true ea b eb c ec = told ea eb ec
+        go false ea true eb c ec = told ea eb ec
+        go false ea false eb true ec = told ea eb ec
+        go false ea false eb false ec = record {
+          written = S;
+          is = told ea eb ec;
+          records = ltb-false _ _ (sym (longer_is S.records) ∙ ea);
+          files = ltb-false _ _ (sym (longer_is S.files) ∙ eb);
+          warnings = ltb-false _ _ (sym (longer_is S.warnings) ∙ ec);
+        }
 
-  pub outcome-refused : (n ≡ 0 → ⊥) → outcome_of i o ≡ refused n
-  unfolding outcome_of ◌>>=◌
-  outcome-refused h = go (eqb r.status 0) refl
-    where
-      go : (b : Bool) → eqb r.status 0 ≡ b → outcome_of i o ≡ refused n
-      go true is =
-          let z = eqb-true r.status 0 is in
-          let S = W.ok z in
-          outcome-is S ∙ by_number (over_records i S.state) (over_files i S.state) (over_warnings i S.state) (written S.state) (λ y. h (tested z S ∙ y)) ∙ ap refused (sym (tested z S))
-      go false is =
-          let z = eqb-false r.status 0 is in
-          rw (W.no z) (ap refused (sym (status-is z)))
+  fitting-of : (t f u : List ℕ) (run : Result Ran Refusal) → Writes o i.records i.files i.warnings t f u run → FittingBy t f u (fit_of run (length t) (length f) (length u))
+  unfolding fit_of outcome_of ◌>>=◌
+  fitting-of t f u (Ok r) W = fitting-done W.is
+  fitting-of t f u (Err e) W = rw W.is
 
-  finished-status : n ≡ 0 → r.status ≡ 0
-  finished-status z = go (eqb r.status 0) refl
-    where
-      go : (b : Bool) → eqb r.status 0 ≡ b → r.status ≡ 0
-      go true is = eqb-true r.status 0 is
-      go false is = let h = eqb-false r.status 0 is in absurd (h (sym (status-is h) ∙ z))
+  pub fitted : {t f u : List ℕ} {run x : Result Ran Refusal} → Writes o i.records i.files i.warnings t f u run → x ≡ fit_of run (length t) (length f) (length u) → FittingBy t f u x
+  fitted {t} {f} {u} {run} W e = rw e (fitting-of t f u run W)
 
 -- ---- what is there after the call
 
@@ -163,58 +162,56 @@ module _ (all : Bool) (i : Inputs) where
     finished true z = dwarf-demand i l z
     finished false z = demand i l z
 
-    imports_by : {w t f u : List ℕ} (r : Imported) → left w t f u r ≡ afterwards i (import_all all i) → ImportsBy all i w t f u r
+    imports_by : {w t f u : List ℕ} (r : Result Imported Refusal) → left w t f u r ≡ afterwards i (import_all all i) → ImportsBy all i w t f u r
     imports_by r e = record {
       is = e;
       demand = λ z. subst (Finished (import_all all i) (AgreeAll all i)) (sym e) (finished all (ap (λ (a : After). a.answer.refusal) (sym e) ∙ z));
     }
 
-    pub answers-refused : {w t f u t₁ f₁ u₁ : List ℕ} {n : ℕ} {r : Ran} → Writes (import_all all i) i.records i.files i.warnings t₁ f₁ u₁ r
-        → n ≡ fit_status r (length t₁) (length f₁) (length u₁) → (n ≡ 0 → ⊥)
+    pub answers-refused : {w t f u : List ℕ} {e : Refusal} → outcome_of i (import_all all i) ≡ refused (number_of e)
         → w ≡ replicate (length i.work) 0 → t ≡ replicate (length i.records) 0 → f ≡ replicate (length i.files) 0 → u ≡ replicate (length i.warnings) 0
-        → ImportsBy all i w t f u (Imported.Refused n)
+        → ImportsBy all i w t f u (Err e)
     unfolding answer_of buffer_after
-    answers-refused {w} {t} {f} {u} {n = n} W en h ew et ef eu =
-        imports_by (Imported.Refused n)
-        ((λ k. record { answer = record { refusal = n; records = 0; files = 0; warnings = 0; stats = answer.no_stats }; records = et k; files = ef k; warnings = eu k; work = ew k })
-        ∙ sym (after_is i (import_all all i) (outcome-refused i (import_all all i) W en h)))
-
-    pub answers_done : {w t f u : List ℕ} {n : ℕ} {r : Ran} → Writes (import_all all i) i.records i.files i.warnings t f u r
-        → n ≡ fit_status r (length t) (length f) (length u) → n ≡ 0 → w ≡ replicate (length i.work) 0
-        → ImportsBy all i w t f u (Imported.Finished r.records r.files r.warnings r.stats)
-    unfolding answer_of buffer_after written
-    answers_done {w} {t} {f} {u} {n} {r} W e z ew =
-        let o : Outcome State = import_all all i in
-        let y = finished-status i o W e z in
-        let S = W.ok y in
-        let none = by_none (over_records i S.state) (over_files i S.state) (over_warnings i S.state) (sym (tested i o W e y S) ∙ z) in
-        let fits-records = ltb-false _ _ none.0 in
-        let fits-files = ltb-false _ _ none.1 in
-        let fits-warnings = ltb-false _ _ none.2 in
-        let d : outcome_of i o ≡ done (written S.state) =
-        outcome-is i o W e S ∙ (λ k. outcome_by (none.0 k) (none.1 k) (none.2 k) (written S.state)) in
-        imports_by (Imported.Finished r.records r.files r.warnings r.stats)
+    answers-refused {e = e} is ew et ef eu =
+        imports_by (Err e)
         ((λ k. record {
-          answer = record {
-            refusal = 0;
-            records = written-place S.records fits-records k;
-            files = written-place S.files fits-files k;
-            warnings = written-place S.warnings fits-warnings k;
-            stats = S.stats k;
-          };
-          records = written-whole S.records fits-records k;
-          files = written-whole S.files fits-files k;
-          warnings = written-whole S.warnings fits-warnings k;
+          answer = record { refusal = number_of e; records = 0; files = 0; warnings = 0; stats = answer.no_stats };
+          records = et k;
+          files = ef k;
+          warnings = eu k;
           work = ew k;
         })
-        ∙ sym (after_is i o d))
+        ∙ sym (after_is i (import_all all i) is))
+
+    pub answers_done : {w t f u : List ℕ} {r : Ran} {x : Imported} → Fitting i (import_all all i) t f u r
+        → x ≡ record { records = r.records; files = r.files; warnings = r.warnings; stats = r.stats } → w ≡ replicate (length i.work) 0
+        → ImportsBy all i w t f u (Ok x)
+    unfolding answer_of buffer_after written
+    answers_done {w} {t} {f} {u} {r} {x} F ex ew =
+        let S = F.written in
+        imports_by (Ok x)
+        (ap (λ (y : Imported). left w t f u (Ok y)) ex
+        ∙ (λ k. record {
+          answer = record {
+            refusal = 0;
+            records = written-place S.records F.records k;
+            files = written-place S.files F.files k;
+            warnings = written-place S.warnings F.warnings k;
+            stats = S.stats k;
+          };
+          records = written-whole S.records F.records k;
+          files = written-whole S.files F.files k;
+          warnings = written-whole S.warnings F.warnings k;
+          work = ew k;
+        })
+        ∙ sym (after_is i (import_all all i) F.is))
 
 -- ---- the entry points
 
-pub of_unit : {i : Inputs} {w t f u : List ℕ} {r : Imported} → ImportsBy false i w t f u r → ImportsUnit i w t f u r
+pub of_unit : {i : Inputs} {w t f u : List ℕ} {r : Result Imported Refusal} → ImportsBy false i w t f u r → ImportsUnit i w t f u r
 unfolding after
 of_unit I = record { is = I.is; demand = I.demand }
 
-pub of_all : {i : Inputs} {w t f u : List ℕ} {r : Imported} → ImportsBy true i w t f u r → ImportsDwarf i w t f u r
+pub of_all : {i : Inputs} {w t f u : List ℕ} {r : Result Imported Refusal} → ImportsBy true i w t f u r → ImportsDwarf i w t f u r
 unfolding after_dwarf
 of_all I = record { is = I.is; demand = I.demand }

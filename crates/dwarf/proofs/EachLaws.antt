@@ -25,7 +25,7 @@ use Rattle.imports.specs.Import.{State, import_unit, import_units}
 use Rattle.dies.specs.Details.{dwarf_with}
 use Rattle.subprograms.specs.declared.model.ImportState.{ImportState}
 use Rattle.subprograms.specs.Steps.{sheets, memory, Grows}
-use Rattle.subprograms.proofs.StepLaws.{grows_none, grows_then, grows-refused, grows_as}
+use Rattle.subprograms.proofs.StepLaws.{grows_none, grows_then, grows-refused, grows_no, grows_as}
 use Rattle.checks.specs.declared.layout.Layout.{Layout}
 use Rattle.checks.specs.Checks.{UnitEnough}
 use Rattle.dwarf.specs.declared.tables.Indexes.{Indexes}
@@ -37,17 +37,16 @@ use Rattle.dwarf.proofs.TablesLaws.{tables-kept}
 
 module _ {main supplementary : List ℕ} {over : List (ℕ × ℕ)} where
   -- after a step that was done the next can be
-  grows-ready : {F : State → Outcome State} {l : Layout} {w t f u w₁ t₁ f₁ u₁ : List ℕ} {st st₁ : ImportState} → st₁.status ≡ 0
-      → Ready main supplementary w l st → Grows F (sheets main supplementary) over (memory w t f u) st (memory w₁ t₁ f₁ u₁) st₁ → Ready main supplementary w₁ l st₁
-  grows-ready z R A =
-      let G = A.grown z in
+  grows-ready : {F : State → Outcome State} {l : Layout} {w t f u w₁ t₁ f₁ u₁ : List ℕ} {st st₁ : ImportState}
+      → Ready main supplementary w l st → Grows F (sheets main supplementary) over (memory w t f u) st (memory w₁ t₁ f₁ u₁) 0 st₁ → Ready main supplementary w₁ l st₁
+  grows-ready R A =
+      let G = A.grown refl in
       record {
         files = G.holds;
         above = omega (arith, R.above, G.base);
         below = omega (arith, R.below, G.base, G.room);
-        status = z;
-        at = omega (arith, (A.laid z).place);
-        warned = omega (arith, (A.warned z).place);
+        at = omega (arith, (A.laid refl).place);
+        warned = omega (arith, (A.warned refl).place);
       }
 
 -- ---- the place of a unit
@@ -124,7 +123,7 @@ pub record ImportingUnits (main supplementary program lists addresses : List ℕ
   pub files-size : length f ≡ length f₀
   pub warnings-size : length u ≡ length u₀
   pub before : State → Outcome State
-  pub does : Grows before (sheets main supplementary) (above_tables l (length w₀)) (memory w₀ t₀ f₀ u₀) st₀ (memory w t f u) st
+  pub does : Grows before (sheets main supplementary) (above_tables l (length w₀)) (memory w₀ t₀ f₀ u₀) st₀ (memory w t f u) 0 st
   pub left : (s : State) → import_units (dwarf_with main supplementary lists addresses) (units_from main from to) program inlines call_sites s
       ≡ (before s >>= import_units (dwarf_with main supplementary lists addresses) (units_from main k to) program inlines call_sites)
 
@@ -143,7 +142,7 @@ units-start {main} {supplementary} {program} {lists} addresses inlines call_site
   files-size = refl;
   warnings-size = refl;
   before = done;
-  does = grows_none R.files R.status R.at R.warned small tiny few;
+  does = grows_none R.files R.at R.warned small tiny few;
   left = after-done (dwarf_with main supplementary lists addresses) program inlines call_sites (units_from main from to);
 }
 
@@ -156,7 +155,7 @@ module _ {main supplementary program lists addresses : List ℕ} {l : Layout} {x
   pub record-inside : k < to → x.main.units + 24 * k + 24 ≤ length w
   record-inside h = let a = I.tables.of_main.index.units-within in let b = I.within in omega arith
 
-  pub units-end : to ≤ k → Grows whole (sheets main supplementary) (above_tables l (length w₀)) (memory w₀ t₀ f₀ u₀) st₀ (memory w t f u) st
+  pub units-end : to ≤ k → Grows whole (sheets main supplementary) (above_tables l (length w₀)) (memory w₀ t₀ f₀ u₀) st₀ (memory w t f u) 0 st
   units-end h =
       let none : to - k ≡ 0 = omega arith in
       grows_as (λ s. I.left s ∙ ap (λ (n : ℕ). I.before s >>= import_units (dwarf_with main supplementary lists addresses) (take n (drop k (units main))) program inlines call_sites) none
@@ -181,39 +180,44 @@ module _ {main supplementary program lists addresses : List ℕ} {l : Layout} {x
     pub unit-fits : UnitEnough main supplementary program lists (length w) (unit_here main p)
     unit-fits = all_fit.0
 
-    module _ {w' t' f' u' : List ℕ} {st' : ImportState}
-        (A : Grows (import_unit (dwarf_with main supplementary lists addresses) (unit_here main p) program inlines call_sites) (sheets main supplementary) (above_tables l (length w)) (memory w t f u) st (memory w' t' f' u') st') where
+    module _ {w' t' f' u' : List ℕ} {n : ℕ} {st' : ImportState}
+        (A : Grows (import_unit (dwarf_with main supplementary lists addresses) (unit_here main p) program inlines call_sites) (sheets main supplementary) (above_tables l (length w)) (memory w t f u) st (memory w' t' f' u') n st') where
       abbrev through : State → Outcome State
       through s = I.before s >>= import_unit (dwarf_with main supplementary lists addresses) (unit_here main p) program inlines call_sites
 
-      framed : Grows (import_unit (dwarf_with main supplementary lists addresses) (unit_here main p) program inlines call_sites) (sheets main supplementary) (above_tables l (length w₀)) (memory w t f u) st (memory w' t' f' u') st'
+      framed : Grows (import_unit (dwarf_with main supplementary lists addresses) (unit_here main p) program inlines call_sites) (sheets main supplementary) (above_tables l (length w₀)) (memory w t f u) st (memory w' t' f' u') n st'
       framed = rw I.size at A
 
-      passed : Grows through (sheets main supplementary) (above_tables l (length w₀)) (memory w₀ t₀ f₀ u₀) st₀ (memory w' t' f' u') st'
-      passed = grows_then I.ready.status I.does framed
+      passed : Grows through (sheets main supplementary) (above_tables l (length w₀)) (memory w₀ t₀ f₀ u₀) st₀ (memory w' t' f' u') n st'
+      passed = grows_then refl I.does framed
 
       left_after : (s : State) → whole s ≡ (through s >>= import_units (dwarf_with main supplementary lists addresses) (units_from main (k + 1) to) program inlines call_sites)
       left_after s =
           I.left s ∙ ap (λ (us : List CompilationUnit). I.before s >>= import_units (dwarf_with main supplementary lists addresses) us program inlines call_sites) first-left
           ∙ after_one (dwarf_with main supplementary lists addresses) program inlines call_sites (unit_here main p) (units_from main (k + 1) to) (I.before s)
 
-      pub units-refused : (st'.status ≡ 0 → ⊥) → Grows whole (sheets main supplementary) (above_tables l (length w₀)) (memory w₀ t₀ f₀ u₀) st₀ (memory w' t' f' u') st'
-      units-refused z = grows_as left_after (grows-refused (import_units (dwarf_with main supplementary lists addresses) (units_from main (k + 1) to) program inlines call_sites) z passed)
+      -- a refused state may be any
+      pub units-refused : {st'' : ImportState} → (n ≡ 0 → ⊥) → Grows whole (sheets main supplementary) (above_tables l (length w₀)) (memory w₀ t₀ f₀ u₀) st₀ (memory w' t' f' u') n st''
+      units-refused z =
+          let G = grows_as left_after (grows-refused (import_units (dwarf_with main supplementary lists addresses) (units_from main (k + 1) to) program inlines call_sites) z passed) in
+          grows_no z (G.no z)
 
-      pub units-turn : st'.status ≡ 0 → length w' ≡ length w → length t' ≡ length t → length f' ≡ length f → length u' ≡ length u
+    module _ {w' t' f' u' : List ℕ} {st' : ImportState}
+        (A : Grows (import_unit (dwarf_with main supplementary lists addresses) (unit_here main p) program inlines call_sites) (sheets main supplementary) (above_tables l (length w)) (memory w t f u) st (memory w' t' f' u') 0 st') where
+      pub units-turn : length w' ≡ length w → length t' ≡ length t → length f' ≡ length f → length u' ≡ length u
           → ImportingUnits main supplementary program lists addresses l x inlines call_sites from to w₀ t₀ f₀ u₀ st₀ w' t' f' u' st' (k + 1)
-      units-turn z lw lt lf lu = record {
+      units-turn lw lt lf lu = record {
         begun = let b = I.begun in omega arith;
         few = omega arith;
         within = I.within;
         fits = rw lw all_fit.1;
-        tables = tables-kept I.tables (A.kept z) lw;
-        ready = grows-ready z I.ready A;
+        tables = tables-kept I.tables (A.kept refl) lw;
+        ready = grows-ready I.ready A;
         size = lw ∙ I.size;
         records-size = lt ∙ I.records-size;
         files-size = lf ∙ I.files-size;
         warnings-size = lu ∙ I.warnings-size;
-        before = through;
-        does = passed;
-        left = left_after;
+        before = through A;
+        does = passed A;
+        left = left_after A;
       }

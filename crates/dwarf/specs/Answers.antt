@@ -1,5 +1,7 @@
 -- Contract. What the imports and the passes promise: the answer, the lent slices after every call, and demand 3 of a finished import.
-use Rattle.std.specs.Prelude.{◌≡◌, Bool, true, false, List, ℕ}
+use Rattle.std.specs.Prelude.{◌≡◌, Result, Ok, Err, Bool, true, false, List, ℕ}
+use Rattle.tlv.specs.declared.refusal.Refusal.{Refusal}
+use Rattle.tlv.specs.Refusals.{number_of}
 use Rattle.tlv.specs.Lists.{at}
 use Rattle.tlv.specs.Model.{units}
 use Rattle.buffers.specs.Output.{Function}
@@ -11,13 +13,12 @@ use Rattle.dwarf.specs.declared.model.Imported.{Imported}
 use Rattle.dwarf.specs.Runs.{import_all}
 
 -- an answer: a refusal's number is the papers'
-abbrev pub answer_given : Imported → Answer
-answer_given (Imported.Finished records files warnings stats) =
-    record { refusal = 0; records = records; files = files; warnings = warnings; stats = stats_of stats }
-answer_given (Imported.Refused n) = record { refusal = n; records = 0; files = 0; warnings = 0; stats = no_stats }
+abbrev pub answer_given : Result Imported Refusal → Answer
+answer_given (Ok x) = record { refusal = 0; records = x.records; files = x.files; warnings = x.warnings; stats = stats_of x.stats }
+answer_given (Err e) = record { refusal = number_of e; records = 0; files = 0; warnings = 0; stats = no_stats }
 
 -- what a call leaves behind: the answer r, the work slice w, the output buffers t, f and u
-abbrev pub left : List ℕ → List ℕ → List ℕ → List ℕ → Imported → After
+abbrev pub left : List ℕ → List ℕ → List ℕ → List ℕ → Result Imported Refusal → After
 left w t f u r = record { answer = answer_given r; records = t; files = f; warnings = u; work = w }
 
 -- ---- the import
@@ -28,26 +29,26 @@ AgreeAll true i = UnitsAgree (dwarf_of i) i.inlines (units i.main)
 AgreeAll false i = ChosenAgrees i (at (units i.main) i.ordinal)
 
 -- the answer, the output buffers t, f and u and the work slice w after a call that comes to o are those of the definition; and demand 3
-pub record ImportsBy (all : Bool) (i : Inputs) (w t f u : List ℕ) (r : Imported) : Type 0 where
+pub record ImportsBy (all : Bool) (i : Inputs) (w t f u : List ℕ) (r : Result Imported Refusal) : Type 0 where
   pub is : left w t f u r ≡ afterwards i (import_all all i)
   pub demand : (answer_given r).refusal ≡ 0 → Finished (import_all all i) (AgreeAll all i) (left w t f u r)
 
 -- of the import of a unit, and of all units
-pub record ImportsUnit (i : Inputs) (w t f u : List ℕ) (r : Imported) : Type 0 where
+pub record ImportsUnit (i : Inputs) (w t f u : List ℕ) (r : Result Imported Refusal) : Type 0 where
   pub is : left w t f u r ≡ after i
   pub demand : (answer_given r).refusal ≡ 0 → UnitFinished i (left w t f u r)
 
-pub record ImportsDwarf (i : Inputs) (w t f u : List ℕ) (r : Imported) : Type 0 where
+pub record ImportsDwarf (i : Inputs) (w t f u : List ℕ) (r : Result Imported Refusal) : Type 0 where
   pub is : left w t f u r ≡ after_dwarf i
   pub demand : (answer_given r).refusal ≡ 0 → DwarfFinished i (left w t f u r)
 
 -- ---- the pass that writes no output buffer: its answer and the work slice w after it are those of the definition
 
-pub record MeasuresBy (all : Bool) (i : Inputs) (w : List ℕ) (r : Imported) : Type 0 where
+pub record MeasuresBy (all : Bool) (i : Inputs) (w : List ℕ) (r : Result Imported Refusal) : Type 0 where
   pub is : record { answer = answer_given r; work = w } ≡ measuring i (import_all all i)
 
-pub record MeasuresUnit (i : Inputs) (w : List ℕ) (r : Imported) : Type 0 where
+pub record MeasuresUnit (i : Inputs) (w : List ℕ) (r : Result Imported Refusal) : Type 0 where
   pub is : record { answer = answer_given r; work = w } ≡ measure i
 
-pub record MeasuresDwarf (i : Inputs) (w : List ℕ) (r : Imported) : Type 0 where
+pub record MeasuresDwarf (i : Inputs) (w : List ℕ) (r : Result Imported Refusal) : Type 0 where
   pub is : record { answer = answer_given r; work = w } ≡ measure_dwarf i

@@ -1,6 +1,8 @@
 -- Contract. What an import promises up to refusal 15.
-use Rattle.std.specs.Prelude.{◌≡◌, Bool, cond, List, [], ℕ, ◌-◌, ◌≤◌, ltb, eqb, length, take, drop}
+use Rattle.std.specs.Prelude.{◌≡◌, Result, Ok, Err, Bool, cond, List, [], ℕ, ◌-◌, ◌≤◌, ltb, length, take, drop}
+use Rattle.tlv.specs.declared.refusal.Refusal.{Refusal}
 use Rattle.tlv.specs.Outcome.{Outcome, refused, done}
+use Rattle.tlv.specs.Refusals.{number_of}
 use Rattle.tlv.specs.Model.{CompilationUnit, units}
 use Rattle.buffers.specs.Buffer.{Put}
 use Rattle.buffers.specs.Output.{records_bytes, files_bytes, warnings_bytes}
@@ -68,7 +70,6 @@ pub record LengthsOf (st : ImportState) (r : Ran) : Type 0 where
   pub files : r.files ≡ st.table.written
   pub warnings : r.warnings ≡ st.warned
   pub stats : r.stats ≡ st.stats
-  pub status : r.status ≡ st.status
   pub past : r.past ≡ st.past
 
 -- a state was written to the output buffers
@@ -82,15 +83,20 @@ pub record Written (o : Outcome State) (t f u t' f' u' : List ℕ) (r : Ran) : T
   pub stats : stats_of r.stats ≡ state.stats
 
 -- the definition's outcome o was written to the output buffers, as far as they reach; or it is refused
-pub record Writes (o : Outcome State) (t f u t' f' u' : List ℕ) (r : Ran) : Type 0 where
-  pub ok : r.status ≡ 0 → Written o t f u t' f' u' r
-  pub no : (r.status ≡ 0 → ⊥) → o ≡ refused r.status
+abbrev pub WrittenBy : Outcome State → List ℕ → List ℕ → List ℕ → List ℕ → List ℕ → List ℕ → Result Ran Refusal → Type 0
+WrittenBy o t f u t' f' u' (Ok r) = Written o t f u t' f' u' r
+WrittenBy o t f u t' f' u' (Err e) = o ≡ refused (number_of e)
+
+pub record Writes (o : Outcome State) (t f u t' f' u' : List ℕ) (r : Result Ran Refusal) : Type 0 where
+  pub is : WrittenBy o t f u t' f' u' r
 
 -- ---- refusals 16 to 18
 
--- the refusal of a run whose output buffers have these lengths, 0 for none
-unfoldable pub fit_status : Ran → ℕ → ℕ → ℕ → ℕ
-fit_status r records files warnings =
-    cond (eqb r.status 0)
-    (cond (ltb records r.records) 16 (cond (ltb files r.files) 17 (cond (ltb warnings r.warnings) 18 0)))
-    r.status
+-- a run whose output buffers have these lengths: it, or its refusal
+unfoldable pub fit_of : Result Ran Refusal → ℕ → ℕ → ℕ → Result Ran Refusal
+fit_of (Err e) records files warnings = Err e
+fit_of (Ok r) records files warnings =
+    cond (ltb records r.records) (Err Refusal.ShortRecords)
+    (cond (ltb files r.files) (Err Refusal.ShortFiles)
+    (cond (ltb warnings r.warnings) (Err Refusal.ShortWarnings)
+    (Ok r)))

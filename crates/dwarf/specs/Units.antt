@@ -10,7 +10,6 @@ pub record Ready (main supplementary w : List ℕ) (l : Layout) (st : ImportStat
   pub files : FilesIn main supplementary w st.table
   pub above : l.files ≤ st.table.base
   pub below : st.table.base + extent st.table ≤ l.lines
-  pub status : st.status ≡ 0
   pub at : st.at ≤ top
   pub warned : st.warned ≤ top
 

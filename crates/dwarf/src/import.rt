@@ -1,64 +1,57 @@
 // The import of one unit of a main input (the Rust's import_unit) and of all its units (its import_dwarf), with a supplementary input and a line program; and
 // the pass that says how long their output buffers must be. No content and no length is ruled out. After every call work holds only 0, and after a refusal
 // so do the three output buffers.
-ghost use Rattle.std.specs.Prelude.{[], ◌<◌, ◌^◌};
+ghost use Rattle.std.specs.Prelude.{◌≡◌, [], ◌<◌, ◌^◌};
 ghost use Rattle.dwarf.specs.Runs.{inputs_of, inputs_by};
+ghost use Rattle.dwarf.specs.Lent.{SameOutputs, asked_of};
 ghost use Rattle.dwarf.specs.Answers.{ImportsBy, ImportsUnit, ImportsDwarf, MeasuresBy, MeasuresUnit, MeasuresDwarf};
 
+use crate::lent::{Inputs, Outputs};
 use crate::model::Imported;
-use crate::run::{fitting, run_cleared};
+use crate::run::{Ran, fitting, run_cleared};
 use checks::options::Options;
+use tlv::refusal::Refusal;
 
-// The import of what is asked for.
-fn import_by<'a>(
-    main: &'a [u8],
-    supplementary: &'a [u8],
-    program: &[u8],
-    lists: &[u8],
-    addresses: &[u8],
-    options: Options,
-    work: &mut [u8],
-    records: &mut [u8],
-    files: &mut [u8],
-    warnings: &mut [u8],
-) -> Imported
-    requires { options.first_file < 2 ^ 32 }
-    ensures { let i = inputs_by main.now supplementary.now program.now lists.now addresses.now options
-        work.old records.old files.old warnings.old in
-        ImportsBy options.all i work.new records.new files.new warnings.new result }
+// The answer of an import whose output buffers suffice.
+fn finished(r: Ran) -> Imported
+    ensures { result ≡ record { records = r.records; files = r.files; warnings = r.warnings; stats = r.stats } }
 {
-    let r = run_cleared(
-        main,
-        supplementary,
-        program,
-        lists,
-        addresses,
-        options,
-        work,
-        records,
-        files,
-        warnings,
-    );
-    let status = fitting(r, records.len(), files.len(), warnings.len());
-    if status != 0 {
-        buffers::table::clear(records);
-        buffers::table::clear(files);
-        buffers::table::clear(warnings);
-        return Imported::Refused(status);
-    }
-    let stats = r.stats;
-    Imported::Finished {
+    Imported {
         records: r.records,
         files: r.files,
         warnings: r.warnings,
-        stats: stats,
+        stats: r.stats,
+    }
+}
+
+// The import of what is asked for.
+fn import_by(
+    i: Inputs,
+    options: Options,
+    work: &mut [u8],
+    t: &mut Outputs,
+) -> Result<Imported, Refusal>
+    requires { options.first_file < 2 ^ 32 }
+    ensures is { ImportsBy options.all (asked_of i.entry options work.old t.old) work.new t.new.records.now
+        t.new.files.now t.new.warnings.now result }
+    ensures same { SameOutputs t.old t.new }
+{
+    let ran = run_cleared(i, options, work, t);
+    match fitting(ran, t.records.len(), t.files.len(), t.warnings.len()) {
+        Ok(r) => Ok(finished(r)),
+        Err(refusal) => {
+            buffers::table::clear(t.records);
+            buffers::table::clear(t.files);
+            buffers::table::clear(t.warnings);
+            Err(refusal)
+        }
     }
 }
 
 // Imports the unit of an ordinal; an empty main input with ordinal 0 is finished with nothing in it.
-pub fn import_unit<'a>(
-    main: &'a [u8],
-    supplementary: &'a [u8],
+pub fn import_unit(
+    main: &[u8],
+    supplementary: &[u8],
     program: &[u8],
     lists: &[u8],
     addresses: &[u8],
@@ -70,7 +63,7 @@ pub fn import_unit<'a>(
     records: &mut [u8],
     files: &mut [u8],
     warnings: &mut [u8],
-) -> Imported
+) -> Result<Imported, Refusal>
     ensures { let i = inputs_of main.now supplementary.now program.now lists.now addresses.now ordinal
         inlines call_sites first_file
         work.old records.old files.old warnings.old in
@@ -78,29 +71,30 @@ pub fn import_unit<'a>(
 {
     let options = Options {
         all: false,
-        ordinal: ordinal,
-        inlines: inlines,
-        call_sites: call_sites,
-        first_file: first_file,
+        ordinal,
+        inlines,
+        call_sites,
+        first_file,
     };
-    import_by(
+    let inputs = Inputs {
         main,
         supplementary,
         program,
         lists,
         addresses,
-        options,
-        work,
+    };
+    let mut outputs = Outputs {
         records,
         files,
         warnings,
-    )
+    };
+    import_by(inputs, options, work, &mut outputs)
 }
 
 // Imports all units in order, each from the file table that the one before it left; an empty main input is finished with nothing in it.
-pub fn import_dwarf<'a>(
-    main: &'a [u8],
-    supplementary: &'a [u8],
+pub fn import_dwarf(
+    main: &[u8],
+    supplementary: &[u8],
     program: &[u8],
     lists: &[u8],
     addresses: &[u8],
@@ -111,7 +105,7 @@ pub fn import_dwarf<'a>(
     records: &mut [u8],
     files: &mut [u8],
     warnings: &mut [u8],
-) -> Imported
+) -> Result<Imported, Refusal>
     ensures { let i = inputs_of main.now supplementary.now program.now lists.now addresses.now 0
         inlines call_sites first_file
         work.old records.old files.old warnings.old in
@@ -120,73 +114,51 @@ pub fn import_dwarf<'a>(
     let options = Options {
         all: true,
         ordinal: 0,
-        inlines: inlines,
-        call_sites: call_sites,
-        first_file: first_file,
+        inlines,
+        call_sites,
+        first_file,
     };
-    import_by(
+    let inputs = Inputs {
         main,
         supplementary,
         program,
         lists,
         addresses,
-        options,
-        work,
+    };
+    let mut outputs = Outputs {
         records,
         files,
         warnings,
-    )
+    };
+    import_by(inputs, options, work, &mut outputs)
 }
 
 // How long the output buffers of an import must be, and its statistics. The import is run on three buffers of one byte, which nobody sees: what is written
 // is cut off at their ends, and counted on.
-fn measure_by<'a>(
-    main: &'a [u8],
-    supplementary: &'a [u8],
-    program: &[u8],
-    lists: &[u8],
-    addresses: &[u8],
-    options: Options,
-    work: &mut [u8],
-) -> Imported
-    ensures { let i = inputs_by main.now supplementary.now program.now lists.now addresses.now options
-        work.old [] [] [] in
+fn measure_by(i: Inputs, options: Options, work: &mut [u8]) -> Result<Imported, Refusal>
+    ensures { let i = inputs_by i.entry.main.now i.entry.supplementary.now i.entry.program.now i.entry.lists.now
+        i.entry.addresses.now options work.old [] [] [] in
         MeasuresBy options.all i work.new result }
 {
     let mut records = [0u8; 1];
     let mut files = [0u8; 1];
     let mut warnings = [0u8; 1];
-    let run = run_cleared(
-        main,
-        supplementary,
-        program,
-        lists,
-        addresses,
-        options,
-        work,
-        &mut records,
-        &mut files,
-        &mut warnings,
-    );
-    if run.status != 0 {
-        return Imported::Refused(run.status);
+    let mut unseen = Outputs {
+        records: &mut records,
+        files: &mut files,
+        warnings: &mut warnings,
+    };
+    let r = run_cleared(i, options, work, &mut unseen)?;
+    if r.past {
+        return Err(Refusal::ShortRecords);
     }
-    if run.past {
-        return Imported::Refused(16);
-    }
-    let stats = run.stats;
-    Imported::Finished {
-        records: run.records,
-        files: run.files,
-        warnings: run.warnings,
-        stats: stats,
-    }
+    Ok(finished(r))
 }
 
 // The same of the import of a unit.
-pub fn measure_unit<'a>(
-    main: &'a [u8],
-    supplementary: &'a [u8],
+pub fn measure_unit(
+    main: &[u8],
+    supplementary: &[u8],
     program: &[u8],
     lists: &[u8],
     addresses: &[u8],
@@ -195,7 +167,7 @@ pub fn measure_unit<'a>(
     call_sites: bool,
     first_file: u32,
     work: &mut [u8],
-) -> Imported
+) -> Result<Imported, Refusal>
     ensures { let i = inputs_of main.now supplementary.now program.now lists.now addresses.now ordinal
         inlines call_sites first_file
         work.old [] [] [] in
@@ -203,26 +175,25 @@ pub fn measure_unit<'a>(
 {
     let options = Options {
         all: false,
-        ordinal: ordinal,
-        inlines: inlines,
-        call_sites: call_sites,
-        first_file: first_file,
+        ordinal,
+        inlines,
+        call_sites,
+        first_file,
     };
-    measure_by(
+    let inputs = Inputs {
         main,
         supplementary,
         program,
         lists,
         addresses,
-        options,
-        work,
-    )
+    };
+    measure_by(inputs, options, work)
 }
 
 // The same of the import of all units.
-pub fn measure_dwarf<'a>(
-    main: &'a [u8],
-    supplementary: &'a [u8],
+pub fn measure_dwarf(
+    main: &[u8],
+    supplementary: &[u8],
     program: &[u8],
     lists: &[u8],
     addresses: &[u8],
@@ -230,7 +201,7 @@ pub fn measure_dwarf<'a>(
     call_sites: bool,
     first_file: u32,
     work: &mut [u8],
-) -> Imported
+) -> Result<Imported, Refusal>
     ensures { let i = inputs_of main.now supplementary.now program.now lists.now addresses.now 0
         inlines call_sites first_file
         work.old [] [] [] in
@@ -239,17 +210,16 @@ pub fn measure_dwarf<'a>(
     let options = Options {
         all: true,
         ordinal: 0,
-        inlines: inlines,
-        call_sites: call_sites,
-        first_file: first_file,
+        inlines,
+        call_sites,
+        first_file,
     };
-    measure_by(
+    let inputs = Inputs {
         main,
         supplementary,
         program,
         lists,
         addresses,
-        options,
-        work,
-    )
+    };
+    measure_by(inputs, options, work)
 }

@@ -2,6 +2,7 @@
 #![tactic(auto)]
 
 pub mod import;
+pub mod lent;
 pub mod model;
 pub mod part;
 pub mod run;

@@ -1,14 +1,11 @@
 // What an import answers.
 use subprograms::model::ConversionStats;
 
-// The answer of an import: the lengths of what was written to the three output buffers, and the statistics; or the papers' number of the refusal.
-#[derive(Clone, Copy)]
-pub enum Imported {
-    Finished {
-        records: usize,
-        files: usize,
-        warnings: usize,
-        stats: ConversionStats,
-    },
-    Refused(u8),
+// What a finished import answers: the lengths of what was written to the three output buffers, and the statistics.
+#[derive(Clone, Copy, Debug)]
+pub struct Imported {
+    pub records: usize,
+    pub files: usize,
+    pub warnings: usize,
+    pub stats: ConversionStats,
 }

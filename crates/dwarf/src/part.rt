@@ -4,7 +4,8 @@ ghost use Rattle.tlv.specs.Checked.{Accepted};
 ghost use Rattle.collect.specs.Collects.{UnitIn};
 ghost use Rattle.dwarf.specs.Part.{PartOf};
 
-use access::access::Own;
+use access::access::next_before_rows;
+use tlv::bytes::Number;
 use tlv::shapes::PART_LENGTH;
 use tlv::tags::{PART_TAG, UNIT_WHOLE};
 
@@ -20,21 +21,9 @@ fn cut_part(start: u64, len: u64, size: usize) -> Part
     ensures { (result.start ≡ min start size) × (result.end ≡ min (start + len) size) }
 {
     let most = size as u64;
-    if most <= start {
-        return Part {
-            start: size,
-            end: size,
-        };
-    }
-    if most - start < len {
-        return Part {
-            start: start as usize,
-            end: size,
-        };
-    }
     Part {
-        start: start as usize,
-        end: (start + len) as usize,
+        start: start.min(most) as usize,
+        end: start.saturating_add(len).min(most) as usize,
     }
 }
 
@@ -44,19 +33,15 @@ pub fn program_part(main: &[u8], place: usize, size: usize) -> Part
     requires unit_in { UnitIn main.now place }
     ensures { PartOf main.now place size result }
 {
-    match access::access::next_before_rows(main, place + UNIT_WHOLE, PART_TAG) {
-        Own::Missing => Part {
+    let Some(field) = next_before_rows(main, place + UNIT_WHOLE, PART_TAG) else {
+        return Part {
             start: 0,
             end: size,
-        },
-        Own::Field {
-            start: from,
-            len: _,
-            next: _,
-        } => cut_part(
-            tlv::bytes::read_u64(main, from),
-            tlv::bytes::read_u64(main, from + PART_LENGTH),
-            size,
-        ),
-    }
+        };
+    };
+    cut_part(
+        u64::read(main, field.start),
+        u64::read(main, field.start + PART_LENGTH),
+        size,
+    )
 }

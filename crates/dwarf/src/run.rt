@@ -7,59 +7,45 @@ ghost use Rattle.imports.specs.Import.{import_units};
 ghost use Rattle.dies.specs.Details.{dwarf_with};
 ghost use Rattle.checks.specs.Checks.{BothAccepted, NotOversize, WorkEnough, chosen_units};
 ghost use Rattle.checks.specs.Layout.{Sized};
-ghost use Rattle.dwarf.specs.Runs.{inputs_by, import_all, Chooses, import_accepted, start_state, LengthsOf, Writes, fit_status};
+ghost use Rattle.dwarf.specs.Runs.{import_all, Chooses, import_accepted, start_state, LengthsOf, fit_of};
+ghost use Rattle.dwarf.specs.Lent.{SameOutputs, asked_of, WritesTo};
 
+use crate::lent::{Inputs, Outputs};
 use crate::tables::index_inputs;
 use crate::unit::import_each;
-use checks::checks::{BothChecked, check_both, is_missing, is_oversize, is_short, work_of_units};
+use checks::checks::{check_both, is_missing, is_oversize, is_short, work_of_units};
 use checks::layout::{Counts, counts_of, lay_out};
 use checks::options::Options;
 use files::store::new_files;
 use subprograms::model::{ConversionStats, ImportState, no_stats};
+use tlv::refusal::Refusal;
 
-// The full lengths of what an import writes, each at most the largest place, the statistics, the refusal, 0 for none, and whether the records pass that place.
-#[derive(Clone, Copy)]
+// The full lengths of what an import writes, each at most the largest place, the statistics, and whether the records pass that place.
+#[derive(Clone, Copy, Debug)]
 pub struct Ran {
     pub records: usize,
     pub files: usize,
     pub warnings: usize,
     pub stats: ConversionStats,
-    pub status: u8,
     pub past: bool,
 }
 
 // The units from number `from` to below `to`.
-#[derive(Clone, Copy)]
+#[derive(Clone, Copy, Debug)]
 pub struct Chosen {
     pub from: usize,
     pub to: usize,
-}
-
-fn refused(n: u8) -> Ran
-    ensures { result.status ≡ n }
-{
-    Ran {
-        records: 0,
-        files: 0,
-        warnings: 0,
-        stats: no_stats(),
-        status: n,
-        past: false,
-    }
 }
 
 // The lengths and statistics of a state.
 fn lengths_of(st: ImportState) -> Ran
     ensures { LengthsOf st result }
 {
-    let table = st.table;
-    let stats = st.stats;
     Ran {
         records: st.at,
-        files: table.written,
+        files: st.table.written,
         warnings: st.warned,
-        stats: stats,
-        status: st.status,
+        stats: st.stats,
         past: st.past,
     }
 }
@@ -75,210 +61,138 @@ fn chosen_units(options: Options, count: usize) -> Chosen
         return Chosen { from: 0, to: 0 };
     }
     let from = options.ordinal as usize;
-    Chosen {
-        from: from,
-        to: from + 1,
-    }
+    Chosen { from, to: from + 1 }
 }
 
 // The import of the units that are asked for, with work enough: the file table is begun and the tables of both inputs are made once for all.
-fn import_worked<'a>(
-    main: &'a [u8],
-    supplementary: &'a [u8],
-    program: &[u8],
-    lists: &[u8],
-    addresses: &[u8],
+fn import_worked(
+    i: Inputs,
     options: Options,
     counts: Counts,
     work: &mut [u8],
-    records: &mut [u8],
-    files: &mut [u8],
-    warnings: &mut [u8],
-) -> Ran
-    requires accepted { (Accepted main.now) × (Accepted supplementary.now) }
-    requires not_oversize { NotOversize main.now supplementary.now program.now lists.now }
-    requires sized { Sized main.now counts }
-    requires work_enough { WorkEnough main.now supplementary.now (length work.old)
-        (work_of_units (length program.now) (length lists.now) (chosen_units options (units main.now))) }
-    ensures { let us = chosen_units options (units main.now) in
-        let d = dwarf_with main.now supplementary.now lists.now addresses.now in
-        Writes (import_units d us program.now options.inlines options.call_sites (start_state options.first_file))
-        records.old files.old warnings.old records.new files.new warnings.new result }
+    t: &mut Outputs,
+) -> Result<Ran, Refusal>
+    requires accepted { (Accepted i.main.now) × (Accepted i.supplementary.now) }
+    requires not_oversize { NotOversize i.main.now i.supplementary.now i.program.now i.lists.now }
+    requires sized { Sized i.main.now counts }
+    requires work_enough { WorkEnough i.main.now i.supplementary.now (length work.old)
+        (work_of_units (length i.program.now) (length i.lists.now) (chosen_units options (units i.main.now))) }
+    ensures is { let us = chosen_units options (units i.entry.main.now) in
+        let d = dwarf_with i.entry.main.now i.entry.supplementary.now i.entry.lists.now i.entry.addresses.now in
+        WritesTo (import_units d us i.entry.program.now options.inlines options.call_sites
+        (start_state options.first_file)) t.old t.new result }
+    ensures same { SameOutputs t.old t.new }
 {
-    let others = counts_of(supplementary);
-    let l = lay_out(counts, others, program.len(), lists.len());
+    let others = counts_of(i.supplementary);
+    let l = lay_out(counts, others, i.program.len(), i.lists.len());
     let empty = new_files(
-        main,
-        supplementary,
+        i.main,
+        i.supplementary,
         work,
         l.files,
         l.room,
         options.first_file,
         0,
     );
-    let x = index_inputs(main, supplementary, program, lists, work, l);
-    let index = x.main;
-    let chosen = chosen_units(options, index.unit_count);
+    let x = index_inputs(i.main, i.supplementary, i.program, i.lists, work, l);
+    let chosen = chosen_units(options, x.main.unit_count);
     let begun = ImportState {
         table: empty,
         at: 0,
         warned: 0,
         stats: no_stats(),
-        status: 0,
         past: false,
     };
-    lengths_of(import_each(
-        main,
-        supplementary,
-        program,
-        lists,
-        addresses,
+    let st = import_each(
+        i.main,
+        i.supplementary,
+        i.program,
+        i.lists,
+        i.addresses,
         chosen.from,
         chosen.to,
         l,
         x,
         options,
         work,
-        records,
-        files,
-        warnings,
+        t.records,
+        t.files,
+        t.warnings,
         begun,
-    ))
+    )?;
+    Ok(lengths_of(st))
 }
 
 // Refusals 4 and 5, and the import of two accepted inputs with so many fields.
-fn import_accepted<'a>(
-    main: &'a [u8],
-    supplementary: &'a [u8],
-    program: &[u8],
-    lists: &[u8],
-    addresses: &[u8],
+fn import_accepted(
+    i: Inputs,
     options: Options,
     number: usize,
     work: &mut [u8],
-    records: &mut [u8],
-    files: &mut [u8],
-    warnings: &mut [u8],
-) -> Ran
-    requires both_accepted { BothAccepted main.now supplementary.now (length program.now) number }
-    requires not_oversize { NotOversize main.now supplementary.now program.now lists.now }
-    ensures { let i = inputs_by main.now supplementary.now program.now lists.now addresses.now options
-        work.old records.old files.old warnings.old in
-        Writes (import_accepted options i number)
-        records.old files.old warnings.old records.new files.new warnings.new result }
+    t: &mut Outputs,
+) -> Result<Ran, Refusal>
+    requires both_accepted { BothAccepted i.main.now i.supplementary.now (length i.program.now) number }
+    requires not_oversize { NotOversize i.main.now i.supplementary.now i.program.now i.lists.now }
+    ensures is { WritesTo (import_accepted options (asked_of i.entry options work.old t.old) number) t.old t.new result }
+    ensures same { SameOutputs t.old t.new }
 {
-    if is_missing(main, options) {
-        return refused(4);
+    if is_missing(i.main, options) {
+        return Err(Refusal::NoUnit);
     }
-    let counts = counts_of(main);
-    let most = work_of_units(main, options, counts, program.len(), lists.len());
+    let counts = counts_of(i.main);
+    let most = work_of_units(i.main, options, counts, i.program.len(), i.lists.len());
     if is_short(work, number, most) {
-        return refused(5);
+        return Err(Refusal::ShortWork);
     }
-    import_worked(
-        main,
-        supplementary,
-        program,
-        lists,
-        addresses,
-        options,
-        counts,
-        work,
-        records,
-        files,
-        warnings,
-    )
+    import_worked(i, options, counts, work, t)
 }
 
 // The import up to those refusals.
-fn run_import<'a>(
-    main: &'a [u8],
-    supplementary: &'a [u8],
-    program: &[u8],
-    lists: &[u8],
-    addresses: &[u8],
-    options: Options,
-    work: &mut [u8],
-    records: &mut [u8],
-    files: &mut [u8],
-    warnings: &mut [u8],
-) -> Ran
-    ensures { let i = inputs_by main.now supplementary.now program.now lists.now addresses.now options
-        work.old records.old files.old warnings.old in
-        Writes (import_all options.all i)
-        records.old files.old warnings.old records.new files.new warnings.new result }
+fn run_import(i: Inputs, options: Options, work: &mut [u8], t: &mut Outputs) -> Result<Ran, Refusal>
+    ensures is { WritesTo (import_all options.all (asked_of i.entry options work.old t.old)) t.old t.new result }
+    ensures same { SameOutputs t.old t.new }
 {
-    if is_oversize(main, supplementary, program, lists, addresses) {
-        return refused(1);
+    if is_oversize(i.main, i.supplementary, i.program, i.lists, i.addresses) {
+        return Err(Refusal::Oversize);
     }
-    match check_both(main, supplementary, program.len()) {
-        BothChecked::Refused(n) => refused(n),
-        BothChecked::Accepted(number) => import_accepted(
-            main,
-            supplementary,
-            program,
-            lists,
-            addresses,
-            options,
-            number,
-            work,
-            records,
-            files,
-            warnings,
-        ),
-    }
+    let number = check_both(i.main, i.supplementary, i.program.len())?;
+    import_accepted(i, options, number, work, t)
 }
 
 // The same, after which work holds only 0.
-pub fn run_cleared<'a>(
-    main: &'a [u8],
-    supplementary: &'a [u8],
-    program: &[u8],
-    lists: &[u8],
-    addresses: &[u8],
+pub fn run_cleared(
+    i: Inputs,
     options: Options,
     work: &mut [u8],
-    records: &mut [u8],
-    files: &mut [u8],
-    warnings: &mut [u8],
-) -> Ran
-    ensures { let i = inputs_by main.now supplementary.now program.now lists.now addresses.now options
-        work.old records.old files.old warnings.old in
-        (Writes (import_all options.all i)
-        records.old files.old warnings.old records.new files.new warnings.new result)
-        × (work.new ≡ replicate (length work.old) 0) }
+    t: &mut Outputs,
+) -> Result<Ran, Refusal>
+    ensures is { WritesTo (import_all options.all (asked_of i.entry options work.old t.old)) t.old t.new result }
+    ensures same { SameOutputs t.old t.new }
+    ensures cleared { work.new ≡ replicate (length work.old) 0 }
 {
-    let r = run_import(
-        main,
-        supplementary,
-        program,
-        lists,
-        addresses,
-        options,
-        work,
-        records,
-        files,
-        warnings,
-    );
+    let ran = run_import(i, options, work, t);
     buffers::table::clear(work);
-    r
+    ran
 }
 
 // Refusals 16 to 18, where there is no other: the lowest of an output buffer that is shorter than what was to be written to it.
-pub fn fitting(r: Ran, records: usize, files: usize, warnings: usize) -> u8
-    ensures { result ≡ fit_status r records files warnings }
+pub fn fitting(
+    ran: Result<Ran, Refusal>,
+    records: usize,
+    files: usize,
+    warnings: usize,
+) -> Result<Ran, Refusal>
+    ensures { result ≡ fit_of ran records files warnings }
 {
-    if r.status != 0 {
-        return r.status;
-    }
+    let r = ran?;
     if records < r.records {
-        return 16;
+        return Err(Refusal::ShortRecords);
     }
     if files < r.files {
-        return 17;
+        return Err(Refusal::ShortFiles);
     }
     if warnings < r.warnings {
-        return 18;
+        return Err(Refusal::ShortWarnings);
     }
-    0
+    Ok(r)
 }

@@ -29,9 +29,9 @@ fn index_input(s: &[u8], work: &mut [u8], units: usize, entries: usize) -> Index
     ensures { IndexesInput s.now work.old work.new units entries result }
 {
     Index {
-        units: units,
+        units,
         unit_count: access::units::index_units(s, work, units),
-        entries: entries,
+        entries,
         entry_count: access::index::index_entries(s, work, entries),
     }
 }

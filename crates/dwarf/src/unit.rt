@@ -2,9 +2,11 @@
 ghost use Rattle.std.specs.Prelude.{◌-◌, ◌≤◌, length, take, drop};
 ghost use Rattle.tlv.specs.Lists.{All};
 ghost use Rattle.tlv.specs.Model.{units};
+ghost use Rattle.tlv.specs.Refusals.{status_of};
 ghost use Rattle.access.specs.Places.{unit_here};
 ghost use Rattle.collect.specs.Collects.{UnitIn};
 ghost use Rattle.imports.specs.Import.{import_unit, import_units};
+ghost use Rattle.dies.specs.Answers.{value_or};
 ghost use Rattle.dies.specs.Details.{dwarf_with};
 ghost use Rattle.subprograms.specs.Steps.{sheets, memory, Grows};
 ghost use Rattle.checks.specs.Checks.{UnitEnough};
@@ -17,12 +19,15 @@ use crate::tables::Indexes;
 use access::units::UNIT_RECORD;
 use checks::layout::{Layout, UnitLayout, place_unit};
 use checks::options::Options;
-use collect::collect::CollectedLines;
+use collect::collect::collect_lines;
 use declarations::declaring::Places;
 use files::index::StoredIndices;
 use references::tables::Tables;
 use rows::unit_lines::StoredLines;
 use subprograms::model::{ImportContext, ImportState};
+use subprograms::units::import_unit_details;
+use tlv::bytes::Number;
+use tlv::refusal::Refusal;
 
 // Where in a record of the table of units the unit's place stands.
 const UNIT_PLACE: usize = 16;
@@ -50,25 +55,23 @@ fn unit_context(
         unit lines indices options.inlines options.call_sites result }
 {
     let text_count = subprograms::text::index_text(main, unit, work, p.text);
-    let of_main = x.main;
-    let of_supplementary = x.supplementary;
     let tables = Tables {
-        main: of_main,
-        supplementary: of_supplementary,
+        main: x.main,
+        supplementary: x.supplementary,
         keys: p.keys,
     };
     let places = Places {
-        tables: tables,
-        indices: indices,
+        tables,
+        indices,
         spans: p.spans,
         room: l.span_room,
     };
     ImportContext {
-        places: places,
-        unit: unit,
-        lines: lines,
+        places,
+        unit,
+        lines,
         text: p.text,
-        text_count: text_count,
+        text_count,
         ranges: p.ranges,
         stack: p.stack,
         sites: p.sites,
@@ -95,7 +98,7 @@ fn import_at<'a>(
     files: &mut [u8],
     warnings: &mut [u8],
     st: ImportState,
-) -> ImportState
+) -> Result<ImportState, Refusal>
     requires unit_in { UnitIn main.now place }
     requires unit_enough { UnitEnough main.now supplementary.now program.now lists.now (length work.old) (unit_here main.now place) }
     requires tables_in { TablesIn main.now supplementary.now program.now lists.now work.old l x }
@@ -105,73 +108,53 @@ fn import_at<'a>(
         Grows F
         (sheets main.now supplementary.now) (above_tables l (length work.old))
         (memory work.old records.old files.old warnings.old) st
-        (memory work.new records.new files.new warnings.new) result }
+        (memory work.new records.new files.new warnings.new) (status_of result) (value_or st result) }
 {
     let p = place_unit(main, place, l);
     let part = program_part(main, place, program.len());
-    let from = part.start;
-    let to = part.end;
-    let before = st.table;
-    match collect::collect::collect_lines(
+    let collected = collect_lines(
         main,
         supplementary,
-        &program[from..to],
+        &program[part.start..part.end],
         place,
         work,
         files,
         warnings,
-        before,
+        st.table,
         st.warned,
         l.lines,
-    ) {
-        CollectedLines::Refused(n) => {
-            let mut r = st;
-            r.status = n;
-            r
-        }
-        CollectedLines::Lines {
-            lines: stored,
-            indices,
-            table,
-            warned,
-        } => {
-            let q = unit_context(
-                main,
-                supplementary,
-                program,
-                lists,
-                work,
-                l,
-                p,
-                x,
-                place,
-                stored,
-                indices,
-                options,
-            );
-            let stats = st.stats;
-            let begun = ImportState {
-                table: table,
-                at: st.at,
-                warned: warned,
-                stats: stats,
-                status: 0,
-                past: st.past,
-            };
-            subprograms::units::import_unit_details(
-                main,
-                supplementary,
-                lists,
-                addresses,
-                work,
-                records,
-                files,
-                warnings,
-                q,
-                begun,
-            )
-        }
-    }
+    )?;
+    let q = unit_context(
+        main,
+        supplementary,
+        program,
+        lists,
+        work,
+        l,
+        p,
+        x,
+        place,
+        collected.lines,
+        collected.indices,
+        options,
+    );
+    let begun = ImportState {
+        table: collected.table,
+        warned: collected.warned,
+        ..st
+    };
+    import_unit_details(
+        main,
+        supplementary,
+        lists,
+        addresses,
+        work,
+        records,
+        files,
+        warnings,
+        q,
+        begun,
+    )
 }
 
 // The units from number `from` to below `to`, one after another; the first that is refused ends it.
@@ -191,7 +174,7 @@ pub fn import_each<'a>(
     files: &mut [u8],
     warnings: &mut [u8],
     st: ImportState,
-) -> ImportState
+) -> Result<ImportState, Refusal>
     requires from_le_to { (from ≤ to) × (to ≤ x.main.unit_count) }
     requires all { All (UnitEnough main.now supplementary.now program.now lists.now (length work.old))
         (take (to - from) (drop from (units main.now))) }
@@ -203,14 +186,12 @@ pub fn import_each<'a>(
         Grows F
         (sheets main.now supplementary.now) (above_tables l (length work.old))
         (memory work.old records.old files.old warnings.old) st
-        (memory work.new records.new files.new warnings.new) result }
+        (memory work.new records.new files.new warnings.new) (status_of result) (value_or st result) }
 {
-    let index = x.main;
-    let units = index.units;
+    let units = x.main.units;
     let mut r = st;
-    let mut k = from;
-    while k < to {
-        let place = tlv::bytes::read_u64(work, units + UNIT_RECORD * k + UNIT_PLACE) as usize;
+    for k in from..to {
+        let place = u64::read(work, units + UNIT_RECORD * k + UNIT_PLACE) as usize;
         r = import_at(
             main,
             supplementary,
@@ -226,11 +207,7 @@ pub fn import_each<'a>(
             files,
             warnings,
             r,
-        );
-        if r.status != 0 {
-            return r;
-        }
-        k += 1;
+        )?;
     }
-    r
+    Ok(r)
 }

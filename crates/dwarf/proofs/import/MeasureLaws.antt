@@ -6,6 +6,8 @@ use Prim.Native.Nat.{ℕ, ◌+◌, ◌-◌, ◌^◌}
 use lib.Dec.{ltb}
 use native.Mathlib.Omega.{arith}
 use lib.ListN.{length, replicate}
+use Rattle.std.specs.Prelude.{Result, Ok, Err}
+use Rattle.tlv.specs.declared.refusal.Refusal.{Refusal}
 use Rattle.tlv.specs.Outcome.{Outcome}
 use Rattle.buffers.specs.Buffer.{Put}
 use Rattle.buffers.specs.Output.{records_bytes}
@@ -16,7 +18,7 @@ use Rattle.imports.proofs.Sizing.{same-import, same-dwarf}
 use Rattle.dwarf.specs.declared.model.Imported.{Imported}
 use Rattle.dwarf.specs.declared.run.Ran.{Ran}
 use Rattle.dwarf.specs.Runs.{import_all, Writes}
-use Rattle.dwarf.specs.Answers.{MeasuresBy, MeasuresUnit, MeasuresDwarf}
+use Rattle.dwarf.specs.Answers.{answer_given, MeasuresBy, MeasuresUnit, MeasuresDwarf}
 
 -- the place behind an output is its length, up to the largest place
 counted : {out t t' : List ℕ} {n : ℕ} → Put 0 out t t' n → n ≡ saturated (length out)
@@ -27,44 +29,47 @@ trays-aside : (all : Bool) (i : Inputs) (a b c : List ℕ) → import_all all (w
 trays-aside true i a b c = same-dwarf i a b c
 trays-aside false i a b c = same-import i a b c
 
-module _ (all : Bool) (i : Inputs) {a b c t f u : List ℕ} {r : Ran} (W : Writes (import_all all (with_trays i a b c)) a b c t f u r) where
-  measure-is : {o : Outcome State} {w : List ℕ} {x : Answer} → import_all all (with_trays i a b c) ≡ o → x ≡ measured o → w ≡ replicate (length i.work) 0
+module _ (all : Bool) (i : Inputs) where
+  measure-is : (a b c : List ℕ) {o : Outcome State} {w : List ℕ} {x : Answer} → import_all all (with_trays i a b c) ≡ o → x ≡ measured o → w ≡ replicate (length i.work) 0
       → record { answer = x; work = w } ≡ measuring i (import_all all i)
   unfolding measuring
-  measure-is e ex ew = λ k. record { answer = (ex ∙ ap measured (sym e ∙ trays-aside all i a b c)) k; work = ew k }
+  measure-is a b c e ex ew = λ k. record { answer = (ex ∙ ap measured (sym e ∙ trays-aside all i a b c)) k; work = ew k }
 
-  pub measures-refused : {w : List ℕ} → (r.status ≡ 0 → ⊥) → w ≡ replicate (length i.work) 0 → MeasuresBy all i w (Imported.Refused r.status)
+  pub measures-refused : {a b c t f u : List ℕ} {e : Refusal} {w : List ℕ} → Writes (import_all all (with_trays i a b c)) a b c t f u (Err e) → w ≡ replicate (length i.work) 0
+      → MeasuresBy all i w (Err e)
   unfolding measured
-  measures-refused h ew = record { is = measure-is (W.no h) refl ew }
+  measures-refused {a} {b} {c} W ew = record { is = measure-is a b c W.is refl ew }
 
-  -- whether the records pass the largest place
-  past_is : {b : Bool} → (z : r.status ≡ 0) → r.past ≡ b → ltb (2 ^ 64 - 1) (length (records_bytes (W.ok z).state.records)) ≡ b
-  past_is z e =
-      let n = length (records_bytes (W.ok z).state.records) in
-      let same : n ≡ 0 + n = omega arith in
-      ap (ltb (2 ^ 64 - 1)) same ∙ sym (W.ok z).past ∙ e
+  module _ {a b c t f u : List ℕ} {r : Ran} (W : Writes (import_all all (with_trays i a b c)) a b c t f u (Ok r)) where
+    -- whether the records pass the largest place
+    past_is : {b : Bool} → r.past ≡ b → ltb (2 ^ 64 - 1) (length (records_bytes W.is.state.records)) ≡ b
+    past_is e =
+        let n = length (records_bytes W.is.state.records) in
+        let same : n ≡ 0 + n = omega arith in
+        ap (ltb (2 ^ 64 - 1)) same ∙ sym W.is.past ∙ e
 
-  pub measures_past : {w : List ℕ} → r.status ≡ 0 → r.past ≡ true → w ≡ replicate (length i.work) 0 → MeasuresBy all i w (Imported.Refused 16)
-  unfolding measured written
-  measures_past z e ew = record { is = measure-is (W.ok z).is (rw (past_is z e)) ew }
+    pub measures_past : {w : List ℕ} → r.past ≡ true → w ≡ replicate (length i.work) 0 → MeasuresBy all i w (Err Refusal.ShortRecords)
+    unfolding measured written
+    measures_past e ew = record { is = measure-is a b c W.is.is (rw (past_is e)) ew }
 
-  pub measures-done : {w : List ℕ} → r.status ≡ 0 → r.past ≡ false → w ≡ replicate (length i.work) 0
-      → MeasuresBy all i w (Imported.Finished r.records r.files r.warnings r.stats)
-  unfolding measured written
-  measures-done z e ew =
-      let S = W.ok z in
-      record {
-        is = measure-is S.is
-            (rw (past_is z e)
-            (λ k. record { refusal = 0; records = counted S.records k; files = counted S.files k; warnings = counted S.warnings k; stats = S.stats k })) ew;
-      }
+    pub measures-done : {x : Imported} {w : List ℕ} → r.past ≡ false → x ≡ record { records = r.records; files = r.files; warnings = r.warnings; stats = r.stats }
+        → w ≡ replicate (length i.work) 0 → MeasuresBy all i w (Ok x)
+    unfolding measured written
+    measures-done {x} e ex ew =
+        let S = W.is in
+        record {
+          is = measure-is a b c S.is
+              (rw (past_is e)
+              (ap (λ (y : Imported). answer_given (Ok y)) ex
+              ∙ (λ k. record { refusal = 0; records = counted S.records k; files = counted S.files k; warnings = counted S.warnings k; stats = S.stats k }))) ew;
+        }
 
 -- ---- the entry points
 
-pub of_unit : {i : Inputs} {w : List ℕ} {r : Imported} → MeasuresBy false i w r → MeasuresUnit i w r
+pub of_unit : {i : Inputs} {w : List ℕ} {r : Result Imported Refusal} → MeasuresBy false i w r → MeasuresUnit i w r
 unfolding measure
 of_unit M = record { is = M.is }
 
-pub of_all : {i : Inputs} {w : List ℕ} {r : Imported} → MeasuresBy true i w r → MeasuresDwarf i w r
+pub of_all : {i : Inputs} {w : List ℕ} {r : Result Imported Refusal} → MeasuresBy true i w r → MeasuresDwarf i w r
 unfolding measure_dwarf
 of_all M = record { is = M.is }

@@ -8,6 +8,10 @@ use Prim.Native.Nat.{ℕ, zero, suc, ◌+◌, ◌-◌, ◌*◌, ◌≤◌, ◌<�
 use native.Mathlib.Omega.{arith}
 use lib.ListN.{length, take, drop}
 use lib.Seq.{take_all}
+use Rattle.std.specs.Prelude.{Result, Ok, Err}
+use Rattle.tlv.specs.declared.refusal.Refusal.{Refusal}
+use Rattle.tlv.specs.Refusals.{number_of}
+use Rattle.tlv.proofs.AnswerLaws.{numbered}
 use Rattle.tlv.specs.Outcome.{Outcome, refused, ◌>>=◌}
 use Rattle.tlv.specs.Lists.{at}
 use Rattle.tlv.specs.Limits.{joined_limit, work_of_program_byte}
@@ -31,10 +35,8 @@ use Rattle.subprograms.specs.Stats.{stats_of}
 use Rattle.subprograms.specs.Steps.{sheets, memory, Grows, state_of}
 use Rattle.checks.specs.declared.layout.Layout.{Layout}
 use Rattle.checks.specs.declared.options.Options.{Options}
-use Rattle.checks.specs.declared.checks.BothChecked.{BothChecked}
 use Rattle.checks.specs.Layout.{LaidOut}
-use Rattle.checks.specs.Checks.{oversize_of, listed, chosen_units, CheckedAs, ChecksBoth, missing_of, missing_unit, short_of, WorkEnough}
-use Rattle.checks.proofs.CheckLaws.{both-accepted}
+use Rattle.checks.specs.Checks.{oversize_of, listed, chosen_units, ChecksBoth, missing_of, missing_unit, short_of, WorkEnough}
 use Rattle.dwarf.specs.declared.run.Ran.{Ran}
 use Rattle.dwarf.specs.declared.run.Chosen.{Chosen}
 use Rattle.dwarf.specs.declared.tables.Indexes.{Indexes}
@@ -44,11 +46,11 @@ use Rattle.dwarf.specs.Runs.{import_all, Chooses, import_accepted, start_state, 
 
 -- ---- an outcome that is another's, or a refusal
 
-module _ {o : Outcome State} {t f u t' f' u' : List ℕ} {r : Ran} where
-  writes-refused : {n : ℕ} → r.status ≡ n → (n ≡ 0 → ⊥) → o ≡ refused n → Writes o t f u t' f' u' r
-  writes-refused e h eo = record { ok = λ z. absurd (h (sym e ∙ z)); no = λ _. eo ∙ ap refused (sym e) }
+module _ {o : Outcome State} {t f u t' f' u' : List ℕ} where
+  writes-refused : {e : Refusal} → o ≡ refused (number_of e) → Writes o t f u t' f' u' (Err e)
+  writes-refused eo = record { is = eo }
 
-  writes_as : {x : Outcome State} → o ≡ x → Writes x t f u t' f' u' r → Writes o t f u t' f' u' r
+  writes_as : {x : Outcome State} {r : Result Ran Refusal} → o ≡ x → Writes x t f u t' f' u' r → Writes o t f u t' f' u' r
   writes_as e W = rw e W
 
 -- ---- which units
@@ -122,46 +124,45 @@ module _ (i : Inputs) (rest : ℕ → Outcome State) {b : Bool} (e : b ≡ overs
   checked-oversize : b ≡ true → checked i rest ≡ refused 1
   checked-oversize is = by_size ∙ ap (λ (a : Bool). cond a (refused 1) fields_first) is
 
-  module _ (is : b ≡ false) {x : BothChecked} (C : ChecksBoth i.main i.supplementary (length i.program) x) where
+  module _ (is : b ≡ false) where
     sized : checked i rest ≡ fields_first
     sized = by_size ∙ ap (λ (a : Bool). cond a (refused 1) fields_first) is
 
-    checked_refused : {n : ℕ} → x ≡ BothChecked.Refused n → (n ≡ 0 → ⊥) × (checked i rest ≡ refused n)
-    checked_refused {n} ex =
-        let no : CheckedAs i.main i.supplementary (length i.program) (BothChecked.Refused n) = rw ex at C.is in
-        (no.0, sized ∙ no.1 (λ m s. rest (m + s)))
+    checked_refused : {q : Refusal} → ChecksBoth i.main i.supplementary (length i.program) (Err q) → checked i rest ≡ refused (number_of q)
+    checked_refused C = sized ∙ C.is (λ m s. rest (m + s))
 
-    checked-accepted : {n : ℕ} → x ≡ BothChecked.Accepted n → checked i rest ≡ rest n
+    checked-accepted : {n : ℕ} → ChecksBoth i.main i.supplementary (length i.program) (Ok n) → checked i rest ≡ rest n
     unfolding ◌>>=◌
-    checked-accepted {n} ex =
-        let B = both-accepted C ex in
+    checked-accepted C =
+        let B = C.is in
         sized ∙ rw (B.main-accepted, B.supplementary-accepted, ← B.sum)
 
-module _ (o : Options) (i : Inputs) (asked : i.ordinal ≡ o.ordinal) {t f u t' f' u' : List ℕ} {r : Ran} {b : Bool}
+module _ (o : Options) (i : Inputs) (asked : i.ordinal ≡ o.ordinal) {t f u t' f' u' : List ℕ} {b : Bool}
     (e : b ≡ oversize_of i.main i.supplementary i.program i.lists i.addresses) where
-  pub run-oversize : b ≡ true → r.status ≡ 1 → Writes (import_all o.all i) t f u t' f' u' r
-  run-oversize is z = writes-refused z (λ y. omega arith) (by_tests o i asked ∙ checked-oversize i (import_accepted o i) e is)
+  pub run-oversize : b ≡ true → Writes (import_all o.all i) t f u t' f' u' (Err Refusal.Oversize)
+  run-oversize is = writes-refused (by_tests o i asked ∙ checked-oversize i (import_accepted o i) e is)
 
-  module _ (is : b ≡ false) {x : BothChecked} (C : ChecksBoth i.main i.supplementary (length i.program) x) where
-    pub run-refused : {n : ℕ} → x ≡ BothChecked.Refused n → r.status ≡ n → Writes (import_all o.all i) t f u t' f' u' r
-    run-refused ex z = let no = checked_refused i (import_accepted o i) e is C ex in writes-refused z no.0 (by_tests o i asked ∙ no.1)
+  module _ (is : b ≡ false) where
+    pub run-refused : {q : Refusal} → ChecksBoth i.main i.supplementary (length i.program) (Err q) → Writes (import_all o.all i) t f u t' f' u' (Err q)
+    run-refused C = writes-refused (by_tests o i asked ∙ checked_refused i (import_accepted o i) e is C)
 
-    pub run-accepted : {n : ℕ} → x ≡ BothChecked.Accepted n → Writes (import_accepted o i n) t f u t' f' u' r → Writes (import_all o.all i) t f u t' f' u' r
-    run-accepted ex W = writes_as (by_tests o i asked ∙ checked-accepted i (import_accepted o i) e is C ex) W
+    pub run-accepted : {n : ℕ} {r : Result Ran Refusal} → ChecksBoth i.main i.supplementary (length i.program) (Ok n) → Writes (import_accepted o i n) t f u t' f' u' r
+        → Writes (import_all o.all i) t f u t' f' u' r
+    run-accepted C W = writes_as (by_tests o i asked ∙ checked-accepted i (import_accepted o i) e is C) W
 
 -- ---- refusals 4 and 5
 
-module _ (o : Options) (i : Inputs) (n : ℕ) {t f u t' f' u' : List ℕ} {r : Ran} {a : Bool} (ea : a ≡ missing_of i.main o) where
-  pub accepted-missing : a ≡ true → r.status ≡ 4 → Writes (import_accepted o i n) t f u t' f' u' r
-  accepted-missing is z = writes-refused z (λ y. omega arith) (rw (sym ea ∙ is))
+module _ (o : Options) (i : Inputs) (n : ℕ) {t f u t' f' u' : List ℕ} {a : Bool} (ea : a ≡ missing_of i.main o) where
+  pub accepted-missing : a ≡ true → Writes (import_accepted o i n) t f u t' f' u' (Err Refusal.NoUnit)
+  accepted-missing is = writes-refused (rw (sym ea ∙ is))
 
   module _ (there : a ≡ false) {most : ℕ} {b : Bool} (ee : most ≡ work_of_units (length i.program) (length i.lists) (chosen_units o (units i.main)))
       (eb : b ≡ short_of i.work n most) where
-    pub accepted-short : b ≡ true → r.status ≡ 5 → Writes (import_accepted o i n) t f u t' f' u' r
+    pub accepted-short : b ≡ true → Writes (import_accepted o i n) t f u t' f' u' (Err Refusal.ShortWork)
     unfolding work_needed
-    accepted-short is z = writes-refused z (λ y. omega arith) (rw (sym ea ∙ there, ← ee, sym eb ∙ is))
+    accepted-short is = writes-refused (rw (sym ea ∙ there, ← ee, sym eb ∙ is))
 
-    pub accepted-long : b ≡ false
+    pub accepted-long : {r : Result Ran Refusal} → b ≡ false
         → Writes (import_units (dwarf_with i.main i.supplementary i.lists i.addresses) (chosen_units o (units i.main)) i.program i.inlines i.call_sites (start_state i.first_file)) t f u t' f' u' r
         → Writes (import_accepted o i n) t f u t' f' u' r
     unfolding work_needed answer.dwarf_of initial_state
@@ -186,7 +187,7 @@ module _ {main supplementary program lists : List ℕ} {l : Layout} {first : ℕ
     (X : IndexesInputs main supplementary program lists w₁ w₂ l x) (size : length w₂ ≡ length w₁)
     (none : stats ≡ record { functions = 0; line_rows = 0; inline_nodes = 0; rejected_ranges = 0 }) where
   abbrev begun : ImportState
-  begun = record { table = table; at = 0; warned = 0; stats = stats; status = 0; past = false }
+  begun = record { table = table; at = 0; warned = 0; stats = stats; past = false }
 
   below : table.base + extent table ≤ l.lines
   below = let a = E.base-is in let b = E.room-is in let c = L.lines in omega arith
@@ -199,7 +200,6 @@ module _ {main supplementary program lists : List ℕ} {l : Layout} {first : ℕ
     files = files-kept E.holds (but_one X.rest) (inr clear, tt) size;
     above = let a = clear in omega arith;
     below = below;
-    status = refl;
     at = omega arith;
     warned = omega arith;
   }
@@ -217,30 +217,33 @@ module _ {main supplementary program lists : List ℕ} {l : Layout} {first : ℕ
     stats = stats_of (sym none k);
   }
 
-  module _ {o : Options} {count : ℕ} {c : Chosen} (K : Chooses o count c) (many : length (units main) ≡ count) (addresses : List ℕ) (inlines call_sites : Bool) {over : List (ℕ × ℕ)}
-      {t f u w₃ t₃ f₃ u₃ : List ℕ} {st : ImportState} {r : Ran} (R : LengthsOf st r)
-      (G : Grows (import_units (dwarf_with main supplementary lists addresses) (take (c.to - c.from) (drop c.from (units main))) program inlines call_sites) (sheets main supplementary) over (memory w₂ t f u) begun (memory w₃ t₃ f₃ u₃) st) where
-    abbrev outcome : Outcome State
+  module _ {o : Options} {count : ℕ} {c : Chosen} (K : Chooses o count c) (many : length (units main) ≡ count) (addresses : List ℕ) (inlines call_sites : Bool) where
+    abbrev pub outcome : Outcome State
     outcome = import_units (dwarf_with main supplementary lists addresses) (chosen_units o (units main)) program inlines call_sites (start_state first)
 
-    told : outcome ≡ import_units (dwarf_with main supplementary lists addresses) (take (c.to - c.from) (drop c.from (units main))) program inlines call_sites (state_of main supplementary w₂ begun [] [])
+    abbrev pub asked : State → Outcome State
+    asked = import_units (dwarf_with main supplementary lists addresses) (take (c.to - c.from) (drop c.from (units main))) program inlines call_sites
+
+    told : outcome ≡ asked (state_of main supplementary w₂ begun [] [])
     told = λ k. import_units (dwarf_with main supplementary lists addresses) (sym (K.is (units main) many) k) program inlines call_sites (started k)
 
-    pub writes-units : Writes outcome t f u t₃ f₃ u₃ r
-    unfolding table_of
-    writes-units = record {
-      ok = λ e.
-          let z : st.status ≡ 0 = sym R.status ∙ e in
-          let D = G.grown z in
+    module _ {over : List (ℕ × ℕ)} {t f u w₃ t₃ f₃ u₃ : List ℕ} {st : ImportState} where
+      pub units-refused : {e : Refusal} → Grows asked (sheets main supplementary) over (memory w₂ t f u) begun (memory w₃ t₃ f₃ u₃) (number_of e) st → Writes outcome t f u t₃ f₃ u₃ (Err e)
+      units-refused {e} G = record { is = told ∙ G.no (numbered e) [] [] }
+
+      pub writes-units : {r : Ran} → LengthsOf st r → Grows asked (sheets main supplementary) over (memory w₂ t f u) begun (memory w₃ t₃ f₃ u₃) 0 st → Writes outcome t f u t₃ f₃ u₃ (Ok r)
+      unfolding table_of
+      writes-units R G =
+          let D = G.grown refl in
           record {
-            state = state_of main supplementary w₃ st G.records G.new;
-            is = told ∙ G.ok z [] [];
-            records = rw R.records (G.laid z);
-            past = R.past ∙ G.past z;
-            files = rw R.files (put_as (ap files_bytes (D.entries ∙ ap (λ (es : List FileEntry). es ++ D.new) entries_none))
-                (subst (λ (p : ℕ). Put p (files_bytes D.new) f f₃ st.table.written) E.written_is D.put));
-            warnings = rw R.warnings (G.warned z);
-            stats = ap stats_of R.stats;
-          };
-      no = λ e. told ∙ G.no (λ z. e (R.status ∙ z)) [] [] ∙ ap refused (sym R.status);
-    }
+            is = record {
+              state = state_of main supplementary w₃ st G.records G.new;
+              is = told ∙ G.ok refl [] [];
+              records = rw R.records (G.laid refl);
+              past = R.past ∙ G.past refl;
+              files = rw R.files (put_as (ap files_bytes (D.entries ∙ ap (λ (es : List FileEntry). es ++ D.new) entries_none))
+                  (subst (λ (p : ℕ). Put p (files_bytes D.new) f f₃ st.table.written) E.written_is D.put));
+              warnings = rw R.warnings (G.warned refl);
+              stats = ap stats_of R.stats;
+            };
+          }

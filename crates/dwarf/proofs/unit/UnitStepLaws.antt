@@ -7,7 +7,11 @@ use mathlib.Core.Option.{Option, none, some}
 use Prim.Native.Nat.{ℕ, ◌+◌, ◌≤◌}
 use native.Mathlib.Omega.{arith}
 use lib.ListN.{length, take, drop, length-take, length-drop}
-use Rattle.tlv.specs.Outcome.{refused, ◌>>=◌}
+use Rattle.std.specs.Prelude.{Result, Ok, Err}
+use Rattle.tlv.specs.declared.refusal.Refusal.{Refusal}
+use Rattle.tlv.specs.Outcome.{◌>>=◌}
+use Rattle.tlv.specs.Refusals.{number_of, status_of}
+use Rattle.tlv.proofs.AnswerLaws.{numbered}
 use Rattle.tlv.specs.Model.{LineEncoding, program_of}
 use Rattle.buffers.specs.Buffer.{top}
 use Rattle.buffers.specs.Table.{KeptBut}
@@ -23,13 +27,12 @@ use Rattle.files.specs.Store.{extent, table_of}
 use Rattle.files.proofs.GrownLaws.{table_kept, grown-kept, grown-trans}
 use Rattle.rows.specs.declared.unit_lines.StoredLines.{StoredLines}
 use Rattle.rows.proofs.StoredLaws.{lines-kept, ranges-kept}
-use Rattle.machine.specs.LineRows.{most_by, rows_most, collect_lines}
-use Rattle.machine.proofs.NumberLaws.{number_of}
-use Rattle.machine.proofs.UnitLines.{LineNumbers, refuses-lines}
+use Rattle.machine.specs.LineRows.{most_by, rows_most}
 use Rattle.collect.specs.declared.collect.CollectedLines.{CollectedLines}
 use Rattle.collect.specs.Collects.{UnitIn, lines_in, lines_extent, LinesRoom, CollectedIn, CollectsLines}
 use Rattle.collect.proofs.FrameLaws.{but_wide}
 use Rattle.imports.specs.Import.{import_unit_details, import_unit}
+use Rattle.dies.specs.Answers.{value_or}
 use Rattle.dies.specs.Details.{dwarf_with}
 use Rattle.dies.proofs.NodeStepLaws.{warnings-append}
 use Rattle.subprograms.specs.declared.model.ImportContext.{ImportContext}
@@ -58,11 +61,6 @@ part_room main place part program h = let a = fewer (unit_here main place).encod
 pub part-short : (a n : ℕ) (program : List ℕ) → length (take n (drop a program)) ≤ length program
 part-short a n program = rw (length-take, length-drop) (omega arith)
 
--- no number of the lines' refusals is 0
-no_zero : (n : ℕ) → n ≡ 0 → LineNumbers n → ⊥
-no_zero n z (inl p) = omega (arith, p.0)
-no_zero n z (inr p) = omega (arith, p.0)
-
 module _ {main supplementary program lists w : List ℕ} {l : Layout} {p : UnitLayout} {x : Indexes} {place : ℕ} {st : ImportState} (U : UnitIn main place)
     (P : UnitLaid main supplementary program (length w) l place p) (T : TablesIn main supplementary program lists w l x) (R : Ready main supplementary w l st) where
   module _ (part : List ℕ) (short : length part ≤ length program) where
@@ -83,7 +81,7 @@ module _ {main supplementary program lists w : List ℕ} {l : Layout} {p : UnitL
       room = let a = lines_end in let b = text-within in omega arith;
     }
 
-    module _ {w₁ f f₁ u u₁ : List ℕ} {c : CollectedLines} (K : CollectsLines main supplementary part w w₁ f f₁ u u₁ place st.table st.warned l.lines c) where
+    module _ {w₁ f f₁ u u₁ : List ℕ} {c : Result CollectedLines Refusal} (K : CollectsLines main supplementary part w w₁ f f₁ u u₁ place st.table st.warned l.lines c) where
       -- above the tables of units and entries
       low : KeptBut w w₁ (above_tables l (length w))
       low =
@@ -96,10 +94,8 @@ module _ {main supplementary program lists w : List ℕ} {l : Layout} {p : UnitL
       pub collected-low : KeptBut w w₁ (above_tables l (length w))
       collected-low = low
 
-      module _ {lines : StoredLines} {indices : StoredIndices} {t₁ : StoredFiles} {warned : ℕ} (is : c ≡ CollectedLines.Lines lines indices t₁ warned) where
-        C : CollectedIn main supplementary part w w₁ f f₁ u u₁ place st.table st.warned l.lines lines indices t₁ warned
-        C = rw is at K.is
-
+      module _ {lines : StoredLines} {indices : StoredIndices} {t₁ : StoredFiles} {warned : ℕ}
+          (C : CollectedIn main supplementary part w w₁ f f₁ u u₁ place st.table st.warned l.lines lines indices t₁ warned) where
         grown-above : l.files ≤ t₁.base
         grown-above = let a = C.grown.base in let c = R.above in omega arith
 
@@ -167,12 +163,24 @@ module _ {main supplementary program lists w : List ℕ} {l : Layout} {p : UnitL
                 (unit_here main (M.unit-is i)).entries
                 (record { table = table_same i; records = rs; warnings = ws ++ C.new; stats = stats_of st.stats })))
 
-            module _ {w₃ t t₃ f₃ u₃ : List ℕ} {r : ImportState} (size₁ : length w₁ ≡ length w) (size₂ : length w₂ ≡ length w₁)
-                (I : Imports (import_unit_details (context_with main supplementary lists addresses w₂ q) (unit_here main q.unit).entries) (sheets main supplementary) q (memory w₂ t f₁ u₁) (record { table = t₁; at = st.at; warned = warned; stats = st.stats; status = 0; past = st.past }) (memory w₃ t₃ f₃ u₃) r) where
+            abbrev begun : ImportState
+            begun = record { table = t₁; at = st.at; warned = warned; stats = st.stats; past = st.past }
+
+            abbrev Imported : List ℕ → List ℕ → List ℕ → List ℕ → List ℕ → ℕ → ImportState → Type 0
+            Imported t w₃ t₃ f₃ u₃ n r =
+                Imports (import_unit_details (context_with main supplementary lists addresses w₂ q) (unit_here main q.unit).entries) (sheets main supplementary) q
+                (memory w₂ t f₁ u₁) begun (memory w₃ t₃ f₃ u₃) n r
+
+            abbrev Done : List ℕ → List ℕ → List ℕ → List ℕ → List ℕ → ℕ → ImportState → Type 0
+            Done t w₃ t₃ f₃ u₃ n r =
+                Grows (import_unit (dwarf_with main supplementary lists addresses) (unit_here main place) program inlines call_sites) (sheets main supplementary)
+                (above_tables l (length w)) (memory w t f u) st (memory w₃ t₃ f₃ u₃) n r
+
+            module _ (size₁ : length w₁ ≡ length w) (size₂ : length w₂ ≡ length w₁) where
               -- what the subprograms' import writes lies beside the tables
-              beside : KeptBut w₂ w₃ (touched main supplementary q t₁) → KeptBut w₂ w₃ (above_tables l (length w))
+              beside : {w₃ : List ℕ} → KeptBut w₂ w₃ (touched main supplementary q t₁) → KeptBut w₂ w₃ (above_tables l (length w))
               unfolding touched
-              beside k =
+              beside {w₃} k =
                   let O = context-stands.ordered in
                   let a = grown-above in
                   let c = grown-below in
@@ -192,29 +200,30 @@ module _ {main supplementary program lists w : List ℕ} {l : Layout} {p : UnitL
                   but_wide (above_tables l (length w)) k
                   (here (omega arith) (omega arith), (here (omega arith) (omega arith), (here (omega arith) (omega arith), (here (omega arith) (omega arith), tt))))
 
-              pub unit-grows : Grows (import_unit (dwarf_with main supplementary lists addresses) (unit_here main place) program inlines call_sites) (sheets main supplementary) (above_tables l (length w)) (memory w t f u) st (memory w₃ t₃ f₃ u₃) r
-              unit-grows = record {
-                records = I.records;
-                new = C.new ++ I.new;
-                laid = I.laid;
-                past = I.past;
-                warned = λ e. put_as (warnings-append C.new I.new) (C.put then I.warned e);
-                grown = λ e. grown-trans (grown-kept C.grown (but_one M.rest) (inl table-clear, tt) size₂) (I.grown e);
-                kept = λ e. but_trans low (but_trans (let a = P.spans in let b = unit-end in let d = lines_end in let e = T.laid.lines in but_of M.rest (here (omega arith) (omega arith))) (beside (I.kept e)));
-                ok = λ e rs ws. imported rs ws ∙ I.ok e rs (ws ++ C.new) ∙ rw (append_assoc ws C.new I.new);
-                no = λ e rs ws. imported rs ws ∙ I.no e rs (ws ++ C.new);
-              }
+              module _ {w₃ t t₃ f₃ u₃ : List ℕ} where
+                unit-done : {r : ImportState} → Imported t w₃ t₃ f₃ u₃ 0 r → Done t w₃ t₃ f₃ u₃ 0 r
+                unit-done I = record {
+                  records = I.records;
+                  new = C.new ++ I.new;
+                  laid = I.laid;
+                  past = I.past;
+                  warned = λ e. put_as (warnings-append C.new I.new) (C.put then I.warned e);
+                  grown = λ e. grown-trans (grown-kept C.grown (but_one M.rest) (inl table-clear, tt) size₂) (I.grown e);
+                  kept = λ e. but_trans low (but_trans (let a = P.spans in let b = unit-end in let d = lines_end in let e = T.laid.lines in but_of M.rest (here (omega arith) (omega arith))) (beside (I.kept e)));
+                  ok = λ e rs ws. imported rs ws ∙ I.ok e rs (ws ++ C.new) ∙ rw (append_assoc ws C.new I.new);
+                  no = λ e rs ws. imported rs ws ∙ I.no e rs (ws ++ C.new);
+                }
 
-      -- ---- its lines are refused
+                pub unit-grows : (x : Result ImportState Refusal) → Imported t w₃ t₃ f₃ u₃ (status_of x) (value_or begun x) → Done t w₃ t₃ f₃ u₃ (status_of x) (value_or st x)
+                unit-grows (Ok r) I = unit-done I
+                unit-grows (Err e) I = grows_no (numbered e) (λ rs ws. imported rs ws ∙ I.no (numbered e) rs (ws ++ C.new))
 
-      module _ {n : ℕ} (is : c ≡ CollectedLines.Refused n) (same-part : part ≡ program_of (unit_here main place) program) where
-        refusing : collect_lines (unit_here main place) part (table_of main supplementary w st.table) ≡ refused n
-        refusing = rw is at K.is
+    -- ---- its lines are refused
 
-        pub unit-refused : (addresses : List ℕ) (inlines call_sites : Bool) {t t₃ f₃ u₃ w₃ : List ℕ} {r : ImportState} → r.status ≡ n
-            → Grows (import_unit (dwarf_with main supplementary lists addresses) (unit_here main place) program inlines call_sites) (sheets main supplementary) (above_tables l (length w)) (memory w t f u) st (memory w₃ t₃ f₃ u₃) r
-        unfolding import_unit ◌>>=◌
-        unit-refused addresses inlines call_sites {r = r} s =
-            let number = number_of (refuses-lines (unit_here main place) part (table_of main supplementary w st.table)) refusing in
-            let not-zero : r.status ≡ 0 → ⊥ = λ e. no_zero n (sym s ∙ e) number in
-            grows_no not-zero (λ rs ws. rw (sym same-part, refusing, s))
+    module _ {w₁ f f₁ u u₁ : List ℕ} {e : Refusal} (K : CollectsLines main supplementary part w w₁ f f₁ u u₁ place st.table st.warned l.lines (Err e))
+        (same-part : part ≡ program_of (unit_here main place) program) where
+      pub unit-refused : (addresses : List ℕ) (inlines call_sites : Bool) {t t₃ f₃ u₃ w₃ : List ℕ}
+          → Grows (import_unit (dwarf_with main supplementary lists addresses) (unit_here main place) program inlines call_sites) (sheets main supplementary) (above_tables l (length w))
+          (memory w t f u) st (memory w₃ t₃ f₃ u₃) (number_of e) st
+      unfolding import_unit ◌>>=◌
+      unit-refused addresses inlines call_sites = grows_no (numbered e) (λ rs ws. rw (sym same-part, K.is))

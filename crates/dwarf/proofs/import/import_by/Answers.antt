@@ -1,28 +1,32 @@
 -- `import::import_by` meets its contract: the answer and the buffers are the definition's, with what was written where all of it fits, else cleared.
+use mathlib.Core.List.{List}
+use Prim.Native.Nat.{ℕ, ◌<◌, ◌^◌}
 use Rattle.tlv.proofs.PlaceFacts.{slice-bytes}
 use Rattle.imports.specs.Demand.{Lent}
-use Rattle.dwarf.specs.Runs.{inputs_by}
-use Rattle.dwarf.proofs.AnswerLaws.{cleared, answers-refused, answers_done}
+use Rattle.checks.specs.declared.options.Options.{Options}
+use Rattle.dwarf.specs.declared.lent.Inputs.{Inputs}
+use Rattle.dwarf.specs.declared.lent.Outputs.{Outputs}
+use Rattle.dwarf.specs.Lent.{asked_of}
+use Rattle.dwarf.specs.Runs.{import_all}
+use Rattle.dwarf.proofs.AnswerLaws.{cleared, fitted, answers-refused, answers_done}
 use Rattle.dwarf.proofs.import.import_by.Goals as goal
 
-pub returns-then-status-ne0 : goal.returns-then-status-ne0
-returns-then-status-ne0 c = let i = inputs_by c.args.main.now c.args.supplementary.now c.args.program.now c.args.lists.now c.args.addresses.now c.args.options c.args.work.now c.args.records.now
-    c.args.files.now c.args.warnings.now in
-    let L : Lent i = record {
-      main = slice-bytes c.args.main.now c.shared_slice_known-1.given;
-      supplementary = slice-bytes c.args.supplementary.now c.shared_slice_known-2-1.given;
-      first_file = c.requires;
-    } in
-    answers-refused c.args.options.all i L c.run_cleared-r.ensures.0 c.fitting-status.ensures c.if-status-ne0.true c.run_cleared-r.ensures.1
-    (cleared c.args.records.now c.run_cleared-r.auto.records c.clear.ensures) (cleared c.args.files.now c.run_cleared-r.auto.files c.clear-then-status-ne0.ensures)
-    (cleared c.args.warnings.now c.run_cleared-r.auto.warnings c.clear-then-status-ne0-2.ensures)
+lent : (i : Inputs) (o : Options) (w : List ℕ) (t : Outputs) → o.first_file < 2 ^ 32 → Lent (asked_of i o w t)
+lent i o w t h = record {
+  main = slice-bytes i.main.now (λ k. record { fits = i.bytes.0 k });
+  supplementary = slice-bytes i.supplementary.now (λ k. record { fits = i.bytes.1 k });
+  first_file = h;
+}
 
-pub returns : goal.returns
-returns c = let i = inputs_by c.args.main.now c.args.supplementary.now c.args.program.now c.args.lists.now c.args.addresses.now c.args.options c.args.work.now c.args.records.now
-    c.args.files.now c.args.warnings.now in
-    let L : Lent i = record {
-      main = slice-bytes c.args.main.now c.shared_slice_known-1.given;
-      supplementary = slice-bytes c.args.supplementary.now c.shared_slice_known-2-1.given;
-      first_file = c.requires;
-    } in
-    answers_done c.args.options.all i L c.run_cleared-r.ensures.0 c.fitting-status.ensures c.if-status-ne0.false c.run_cleared-r.ensures.1
+pub returns-in-Err-clause-is : goal.returns-in-Err-clause-is
+returns-in-Err-clause-is c = let i = asked_of c.args.i c.args.options c.args.work.now c.args.t.now in
+    answers-refused c.args.options.all i (lent c.args.i c.args.options c.args.work.now c.args.t.now c.requires) (fitted i (import_all c.args.options.all i) c.run_cleared-ran.ensures.is c.in-Err.ensures)
+    c.run_cleared-ran.ensures.cleared
+    (cleared c.args.t.now.records.now c.run_cleared-ran.ensures.same.records-len c.clear.ensures)
+    (cleared c.args.t.now.files.now c.run_cleared-ran.ensures.same.files-len c.clear-in-Err.ensures)
+    (cleared c.args.t.now.warnings.now c.run_cleared-ran.ensures.same.warnings-len c.clear-in-Err-2.ensures)
+
+pub returns-in-Ok-clause-is : goal.returns-in-Ok-clause-is
+returns-in-Ok-clause-is c = let i = asked_of c.args.i c.args.options c.args.work.now c.args.t.now in
+    answers_done c.args.options.all i (lent c.args.i c.args.options c.args.work.now c.args.t.now c.requires) (fitted i (import_all c.args.options.all i) c.run_cleared-ran.ensures.is c.in-Ok.ensures)
+    c.finished.ensures c.run_cleared-ran.ensures.cleared

@@ -9,17 +9,17 @@ overflow_add-place c = omega (arith, part-place c.requires.accepted c.requires.u
 pub next_before_rows-requires : goal.next_before_rows-requires
 next_before_rows-requires c = part-from c.requires.accepted c.requires.unit_in
 
-pub read_u64-requires : goal.read_u64-requires
-read_u64-requires c = omega (arith, part-inside c.requires.accepted c.requires.unit_in c.next_before_rows.ensures c.in-Field.is)
+pub read-requires : goal.read-requires
+read-requires c = omega (arith, part-inside c.requires.accepted c.requires.unit_in c.in-Some.ensures)
 
-pub overflow_add-from : goal.overflow_add-from
-overflow_add-from c = omega (arith, part-inside c.requires.accepted c.requires.unit_in c.next_before_rows.ensures c.in-Field.is)
+pub overflow_add-field : goal.overflow_add-field
+overflow_add-field c = omega (arith, part-inside c.requires.accepted c.requires.unit_in c.in-Some.ensures)
 
-pub read_u64-requires-in-Field : goal.read_u64-requires-in-Field
-read_u64-requires-in-Field c = omega (arith, part-inside c.requires.accepted c.requires.unit_in c.next_before_rows.ensures c.in-Field.is)
+pub read-requires-2 : goal.read-requires-2
+read-requires-2 c = omega (arith, part-inside c.requires.accepted c.requires.unit_in c.in-Some.ensures)
 
-pub returns-in-Missing : goal.returns-in-Missing
-returns-in-Missing c = whole_part c.requires.accepted c.requires.unit_in c.next_before_rows.ensures _ c.in-Missing.is
+pub returns-in_default : goal.returns-in_default
+returns-in_default c = whole_part c.requires.accepted c.requires.unit_in _ c.in_default.ensures
 
-pub returns-in-Field : goal.returns-in-Field
-returns-in-Field c = named-part c.requires.accepted c.requires.unit_in c.next_before_rows.ensures c.in-Field.is c.read_u64.ensures c.read_u64-in-Field.ensures c.cut_part.ensures.0 c.cut_part.ensures.1
+pub returns : goal.returns
+returns c = named-part c.requires.accepted c.requires.unit_in c.in-Some.ensures c.read.ensures c.read-2.ensures c.cut_part.ensures.0 c.cut_part.ensures.1

@@ -2,5 +2,5 @@
 use Rattle.dwarf.proofs.AnswerLaws.{cleared}
 use Rattle.dwarf.proofs.run.run_cleared.Goals as goal
 
-pub returns : goal.returns
-returns c = (c.run_import-r.ensures, cleared c.args.work.now c.run_import-r.auto.work c.clear.ensures)
+pub returns-clause-cleared : goal.returns-clause-cleared
+returns-clause-cleared c = cleared c.args.work.now c.run_import-ran.auto.work c.clear.ensures

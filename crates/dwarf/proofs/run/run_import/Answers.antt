@@ -1,21 +1,24 @@
 -- `run::run_import` meets its contract: refusals 1 to 3, or what follows.
 use mathlib.Core.Path.{refl}
-use Rattle.checks.proofs.CheckLaws.{not-oversize, both-accepted}
-use Rattle.dwarf.specs.Runs.{inputs_by}
+use Rattle.tlv.proofs.AnswerLaws.{handed}
+use Rattle.checks.proofs.CheckLaws.{not-oversize}
+use Rattle.dwarf.specs.Lent.{asked_of}
 use Rattle.dwarf.proofs.run.RunLaws.{run-oversize, run-refused, run-accepted}
 use Rattle.dwarf.proofs.run.run_import.Goals as goal
 
-pub returns-then-is_oversize : goal.returns-then-is_oversize
-returns-then-is_oversize c = let i = inputs_by c.args.main.now c.args.supplementary.now c.args.program.now c.args.lists.now c.args.addresses.now c.args.options c.args.work.now c.args.records.now c.args.files.now c.args.warnings.now in run-oversize c.args.options i refl c.is_oversize.ensures c.if-is_oversize.true c.refused.ensures
+pub returns-then-is_oversize-clause-is : goal.returns-then-is_oversize-clause-is
+returns-then-is_oversize-clause-is c = run-oversize c.args.options (asked_of c.args.i c.args.options c.args.work.now c.args.t.now) refl c.is_oversize.ensures c.if-is_oversize.true
+
+pub returns-in_err-number-clause-is : goal.returns-in_err-number-clause-is
+returns-in_err-number-clause-is c = rw (handed _ _ c.from_residual.ensures.1)
+    (run-refused c.args.options (asked_of c.args.i c.args.options c.args.work.now c.args.t.now) refl c.is_oversize.ensures c.if-is_oversize.false c.in_err-number.ensures)
 
 pub import_accepted-requires-clause-both_accepted : goal.import_accepted-requires-clause-both_accepted
-import_accepted-requires-clause-both_accepted c = both-accepted c.check_both.ensures c.in-Accepted.is
+import_accepted-requires-clause-both_accepted c = c.in_ok-number.ensures.is
 
 pub import_accepted-requires-clause-not_oversize : goal.import_accepted-requires-clause-not_oversize
-import_accepted-requires-clause-not_oversize c = not-oversize c.args.main.now c.args.supplementary.now c.args.program.now c.args.lists.now c.args.addresses.now c.is_oversize.ensures c.if-is_oversize.false
+import_accepted-requires-clause-not_oversize c = not-oversize c.args.i.main.now c.args.i.supplementary.now c.args.i.program.now c.args.i.lists.now c.args.i.addresses.now c.is_oversize.ensures c.if-is_oversize.false
 
-pub returns-in-Refused : goal.returns-in-Refused
-returns-in-Refused c = let i = inputs_by c.args.main.now c.args.supplementary.now c.args.program.now c.args.lists.now c.args.addresses.now c.args.options c.args.work.now c.args.records.now c.args.files.now c.args.warnings.now in run-refused c.args.options i refl c.is_oversize.ensures c.if-is_oversize.false c.check_both.ensures c.in-Refused.is c.refused-in-Refused.ensures
-
-pub returns-in-Accepted : goal.returns-in-Accepted
-returns-in-Accepted c = let i = inputs_by c.args.main.now c.args.supplementary.now c.args.program.now c.args.lists.now c.args.addresses.now c.args.options c.args.work.now c.args.records.now c.args.files.now c.args.warnings.now in run-accepted c.args.options i refl c.is_oversize.ensures c.if-is_oversize.false c.check_both.ensures c.in-Accepted.is c.import_accepted.ensures
+pub returns-clause-is : goal.returns-clause-is
+returns-clause-is c =
+    run-accepted c.args.options (asked_of c.args.i c.args.options c.args.work.now c.args.t.now) refl c.is_oversize.ensures c.if-is_oversize.false c.in_ok-number.ensures c.import_accepted.ensures.is
