@@ -1,24 +1,18 @@
 -- The answer of an import as numbers.
 use mathlib.Core.Path.{◌≡◌, sym, subst, ap, ◌∙◌}
-use mathlib.Core.List.{List, [], ◌∷◌}
+use mathlib.Core.List.{List}
 use Prim.Native.Nat.{ℕ}
+use Rattle.std.specs.Prelude.{Result}
+use Rattle.tlv.specs.declared.refusal.Refusal.{Refusal}
 use Rattle.imports.specs.Answer.{Inputs, Answer}
 use Rattle.imports.specs.Demand.{UnitFinished, DwarfFinished}
-use Rattle.subprograms.specs.declared.model.ConversionStats.{ConversionStats}
 use Rattle.dwarf.specs.declared.model.Imported.{Imported}
 use Rattle.dwarf.specs.Answers.{answer_given, left, ImportsUnit, ImportsDwarf, MeasuresUnit, MeasuresDwarf}
 use Rattle.pezgok.specs.Exported.{answer_in, left_in, Exports, ExportsDwarf, ExportsMeasure, ExportsMeasureDwarf}
 
 -- ---- the answer as numbers
 
-module _ {x : Imported} where
-  pub told-refused : {n : ℕ} → x ≡ Imported.Refused n → answer_given x ≡ answer_in n (0 ∷ 0 ∷ 0 ∷ 0 ∷ 0 ∷ 0 ∷ 0 ∷ [])
-  told-refused e = ap answer_given e
-
-  pub told-finished : {a b c : ℕ} {s : ConversionStats} → x ≡ Imported.Finished a b c s
-      → answer_given x ≡ answer_in 0 (a ∷ b ∷ c ∷ s.functions ∷ s.line_rows ∷ s.inline_nodes ∷ s.rejected_ranges ∷ [])
-  told-finished e = ap answer_given e
-
+module _ {x : Result Imported Refusal} where
   -- the numbers stand for the answer
   module _ {i : Inputs} {w vs : List ℕ} {n : ℕ} (e : answer_given x ≡ answer_in n vs) where
     pub exports : {t f u : List ℕ} → ImportsUnit i w t f u x → Exports i w t f u vs n

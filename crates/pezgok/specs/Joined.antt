@@ -1,16 +1,11 @@
 -- Contract. What the join of symbols for callers from C promises: the same as that of `symbols`, with the answer as numbers.
 use Rattle.std.specs.Prelude.{◌≡◌, List, ℕ, length, replicate}
 use Rattle.lookup.specs.Window.{ListAfter}
-use Rattle.symbols.specs.declared.model.Joined.{Joined}
 use Rattle.symbols.specs.Symbols.{join_symbols}
-use Rattle.symbols.specs.Answers.{join_given}
 
 -- the answer that a refusal's number and a length stand for
 abbrev pub join_in : ℕ → ℕ → List ℕ → ListAfter
 join_in n size result = record { refusal = n; size = size; lent = result }
-
-pub record ToldJoined (x : Joined) (size r : ℕ) : Type 0 where
-  pub is : (result : List ℕ) → join_given x result ≡ join_in r size result
 
 pub record ExportsJoin (tray list result result' work work' : List ℕ) (size r : ℕ) : Type 0 where
   pub is : join_in r size result' ≡ join_symbols tray list result

@@ -1,17 +1,16 @@
 -- Contract. What the look-ups for callers from C promise: the same as those of `lookup`, with the answer as numbers.
-use Rattle.std.specs.Prelude.{◌≡◌, ◌≢◌, Bool, false, cond, List, ℕ, ◌-◌, ◌≤◌, eqb, get_or, take, drop, replicate}
+use Rattle.std.specs.Prelude.{◌≡◌, ◌≢◌, Result, Ok, Err, Bool, false, cond, List, ℕ, ◌-◌, ◌≤◌, eqb, get_or, take, drop, replicate}
 use Rattle.std.proofs.Math.Option.{Option, none, some}
+use Rattle.tlv.specs.declared.refusal.Refusal.{Refusal}
 use Rattle.tlv.specs.Outcome.{Outcome, refused, done}
+use Rattle.tlv.specs.Refusals.{number_of, status_of}
 use Rattle.imports.specs.Answer.{Inputs}
-use Rattle.lookup.specs.declared.model.Refusal.{Refusal}
 use Rattle.lookup.specs.declared.model.Indexed.{Indexed}
-use Rattle.lookup.specs.declared.model.Running.{Running}
 use Rattle.lookup.specs.declared.model.LookedUp.{LookedUp}
-use Rattle.lookup.specs.declared.model.Listed.{Listed}
 use Rattle.lookup.specs.Lookup.{Frames, look_up}
 use Rattle.lookup.specs.Window.{ListAfter}
 use Rattle.lookup.specs.Demand.{WrittenBy, Explained}
-use Rattle.lookup.specs.Answers.{refusal_number, frames_given, list_given}
+use Rattle.lookup.specs.Answers.{frames_given}
 use Rattle.look_index.specs.Index.{IndexOf, MakesIndex}
 use Rattle.look_index.specs.LookIn.{LooksUpIn}
 
@@ -27,14 +26,18 @@ frames_in n found chain =
     (refused n)
 
 -- none after a refusal
-abbrev pub nodes_of : Running → ℕ → ℕ
-nodes_of (Running.Found function row) n = n
-nodes_of (Running.Refused r) n = 0
+abbrev pub nodes_of : Result LookedUp Refusal → ℕ
+nodes_of (Ok x) = x.chain.nodes
+nodes_of (Err e) = 0
 
-pub record ToldFrames (x : LookedUp) (found chain : List ℕ) (r : ℕ) : Type 0 where
-  pub is : frames_given x.running x.chain ≡ frames_in r found chain
-  pub places : chain ≡ x.chain.places
-  pub nodes : get_or found 3 0 ≡ nodes_of x.running x.chain.nodes
+abbrev pub places_of : Result LookedUp Refusal → List ℕ
+places_of (Ok x) = x.chain.places
+places_of (Err e) = replicate 257 0
+
+pub record ToldFrames (x : Result LookedUp Refusal) (found chain : List ℕ) (r : ℕ) : Type 0 where
+  pub is : frames_given x ≡ frames_in r found chain
+  pub places : chain ≡ places_of x
+  pub nodes : get_or found 3 0 ≡ nodes_of x
 
 pub record ExportsLookUp (tray : List ℕ) (a : ℕ) (found chain : List ℕ) (r : ℕ) : Type 0 where
   pub is : frames_in r found chain ≡ look_up tray a
@@ -48,23 +51,29 @@ nearest_in n place = cond (eqb n 0) (done place) (refused n)
 abbrev pub list_in : ℕ → ℕ → List ℕ → ListAfter
 list_in n size lent = record { refusal = n; size = size; lent = lent }
 
-pub record ToldList (x : Listed) (size r : ℕ) : Type 0 where
-  pub is : (lent : List ℕ) → list_given x lent ≡ list_in r size lent
+-- an answer that is one number: that, and the refusal's; each is 0 where the other is not
+abbrev pub number_told : Result ℕ Refusal → ℕ
+number_told (Ok n) = n
+number_told (Err e) = 0
+
+pub record ToldNumber (x : Result ℕ Refusal) (n r : ℕ) : Type 0 where
+  pub number : n ≡ number_told x
+  pub status : r ≡ status_of x
 
 -- ---- by an index
 
 -- the refusal's number, the number of functions, whether they are in the order of their addresses
-pub record ToldIndex (x : Indexed) (n : ℕ) (rising : Bool) (r : ℕ) : Type 0 where
-  pub finished : r ≡ 0 → x ≡ Indexed.Finished n rising
-  pub refused : r ≢ 0 → (q : Refusal) × (x ≡ Indexed.Refused q) × (r ≡ refusal_number q) × (n ≡ 0) × (rising ≡ false)
+pub record ToldIndex (x : Result Indexed Refusal) (n : ℕ) (rising : Bool) (r : ℕ) : Type 0 where
+  pub finished : r ≡ 0 → x ≡ Ok (record { functions = n; rising = rising })
+  pub refused : r ≢ 0 → (q : Refusal) × (x ≡ Err q) × (r ≡ number_of q) × (n ≡ 0) × (rising ≡ false)
 
 pub record ExportsIndex (tray w w' : List ℕ) (n : ℕ) (rising : Bool) (r : ℕ) : Type 0 where
-  pub answer : Indexed
+  pub answer : Result Indexed Refusal
   pub is : MakesIndex tray w w' answer
   pub told : ToldIndex answer n rising r
 
 pub record ExportsLookUpIn (tray w : List ℕ) (n : ℕ) (rising : Bool) (a : ℕ) (found chain : List ℕ) (r : ℕ) : Type 0 where
-  pub answer : LookedUp
+  pub answer : Result LookedUp Refusal
   pub is : LooksUpIn tray w n rising a answer
   pub told : ToldFrames answer found chain r
   -- by the tray's own index it is the look-up

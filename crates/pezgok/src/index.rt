@@ -2,23 +2,21 @@
 ghost use Rattle.pezgok.specs.Looked.{ToldIndex, ExportsIndex, ExportsLookUpIn};
 
 use crate::look::tell_frames;
-use lookup::model::{Indexed, refusal_number};
+use lookup::model::Indexed;
+use tlv::refusal::Refusal;
 
-fn tell_index(answer: Indexed, functions: &mut usize, rising: &mut bool) -> u8
+fn tell_index(answer: Result<Indexed, Refusal>, functions: &mut usize, rising: &mut bool) -> u8
     ensures { ToldIndex answer functions.new rising.new result }
 {
     match answer {
-        Indexed::Refused(r) => {
+        Err(refusal) => {
             *functions = 0;
             *rising = false;
-            refusal_number(r)
+            refusal.number()
         }
-        Indexed::Finished {
-            functions: n,
-            rising: b,
-        } => {
-            *functions = n;
-            *rising = b;
+        Ok(x) => {
+            *functions = x.functions;
+            *rising = x.rising;
             0
         }
     }

@@ -9,6 +9,7 @@ ghost use Rattle.words.specs.Words.{refusal_word};
 ghost use Rattle.pezgok.specs.Exported.{answer_in, Exports, ExportsMeasure};
 
 use dwarf::model::Imported;
+use tlv::refusal::Refusal;
 
 pub mod index;
 pub mod joins;
@@ -17,28 +18,23 @@ pub mod whole;
 
 // An answer as numbers: returns the refusal's, 0 for none. `values` then has the lengths of records, files and warnings, then functions, line rows,
 // inline nodes, rejected ranges; all 0 after a refusal.
-pub fn tell(answer: Imported, values: &mut [u64; 7]) -> u8
+pub fn tell(answer: Result<Imported, Refusal>, values: &mut [u64; 7]) -> u8
     ensures { answer_given answer ≡ answer_in result values.new }
 {
     match answer {
-        Imported::Refused(refusal) => {
-            *values = [0, 0, 0, 0, 0, 0, 0];
-            refusal
+        Err(refusal) => {
+            *values = [0; 7];
+            refusal.number()
         }
-        Imported::Finished {
-            records: a,
-            files: b,
-            warnings: c,
-            stats,
-        } => {
+        Ok(finished) => {
             *values = [
-                a as u64,
-                b as u64,
-                c as u64,
-                stats.functions,
-                stats.line_rows,
-                stats.inline_nodes,
-                stats.rejected_ranges,
+                finished.records as u64,
+                finished.files as u64,
+                finished.warnings as u64,
+                finished.stats.functions,
+                finished.stats.line_rows,
+                finished.stats.inline_nodes,
+                finished.stats.rejected_ranges,
             ];
             0
         }

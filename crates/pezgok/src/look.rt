@@ -2,35 +2,53 @@
 ghost use Rattle.std.specs.Prelude.{◌≡◌};
 ghost use Rattle.lookup.specs.Lookup.{nearest_below};
 ghost use Rattle.lookup.specs.Window.{functions_inside, functions_crossing};
-ghost use Rattle.lookup.specs.Answers.{nearest_given};
-ghost use Rattle.pezgok.specs.Looked.{ToldFrames, ExportsLookUp, nearest_in, ToldList, list_in};
+ghost use Rattle.pezgok.specs.Looked.{ToldFrames, ExportsLookUp, ToldNumber, nearest_in, list_in};
 
-use lookup::model::{Listed, LookedUp, Nearest, Row, Running, refusal_number};
+use lookup::model::LookedUp;
+use tlv::refusal::Refusal;
 
 // An answer as numbers: returns the refusal's, 0 for none. `found` then has the place of the function, 1 or 0 for a row or none, its place, the number of
 // the chain's nodes, and `chain` begins with their places; all else is 0.
-pub fn tell_frames(answer: LookedUp, found: &mut [usize; 4], chain: &mut [usize; 257]) -> u8
+pub fn tell_frames(
+    answer: Result<LookedUp, Refusal>,
+    found: &mut [usize; 4],
+    chain: &mut [usize; 257],
+) -> u8
     ensures { ToldFrames answer found.new chain.new result }
 {
-    let running = answer.running;
-    let inner = answer.chain;
-    let places = inner.places;
-    let nodes = inner.nodes;
-    *chain = places;
-    match running {
-        Running::Refused(r) => {
-            *found = [0, 0, 0, 0];
-            refusal_number(r)
+    match answer {
+        Err(refusal) => {
+            *found = [0; 4];
+            *chain = [0; 257];
+            refusal.number()
         }
-        Running::Found { function, row } => {
-            match row {
-                Row::Missing => {
-                    *found = [function, 0, 0, nodes];
+        Ok(x) => {
+            let places = x.chain.places;
+            *chain = places;
+            match x.row {
+                Some(place) => {
+                    *found = [x.function, 1, place, x.chain.nodes];
                 }
-                Row::At(place) => {
-                    *found = [function, 1, place, nodes];
+                None => {
+                    *found = [x.function, 0, 0, x.chain.nodes];
                 }
             }
+            0
+        }
+    }
+}
+
+// The same of an answer that is one number; it is 0 after a refusal.
+pub fn tell_number(answer: Result<usize, Refusal>, number: &mut usize) -> u8
+    ensures { ToldNumber answer number.new result }
+{
+    match answer {
+        Err(refusal) => {
+            *number = 0;
+            refusal.number()
+        }
+        Ok(n) => {
+            *number = n;
             0
         }
     }
@@ -50,43 +68,13 @@ pub extern "C" fn pezgok_look_up(
     tell_frames(answer, found, chain)
 }
 
-fn tell_nearest(answer: Nearest, place: &mut usize) -> u8
-    ensures { nearest_given answer ≡ nearest_in result place.new }
-{
-    match answer {
-        Nearest::Refused(r) => {
-            *place = 0;
-            refusal_number(r)
-        }
-        Nearest::At(p) => {
-            *place = p;
-            0
-        }
-    }
-}
-
 // The function that ends nearest below an address.
 #[unsafe(no_mangle)]
 pub extern "C" fn pezgok_nearest_below(records: &[u8], address: u64, place: &mut usize) -> u8
     ensures { nearest_in result place.new ≡ nearest_below records.now address }
 {
     let answer = lookup::below::nearest_below(records, address);
-    tell_nearest(answer, place)
-}
-
-fn tell_list(answer: Listed, length: &mut usize) -> u8
-    ensures { ToldList answer length.new result }
-{
-    match answer {
-        Listed::Refused(r) => {
-            *length = 0;
-            refusal_number(r)
-        }
-        Listed::Finished(n) => {
-            *length = n;
-            0
-        }
-    }
+    tell_number(answer, place)
 }
 
 // The functions inside the window from `start` to below `end`.
@@ -102,7 +90,7 @@ pub extern "C" fn pezgok_functions_inside(
         ≡ functions_inside records.now (record { start = start; end = end }) list.old }
 {
     let answer = lookup::window::functions_inside(records, start, end, list);
-    tell_list(answer, length)
+    tell_number(answer, length)
 }
 
 // The functions that cross the window's edge.
@@ -118,5 +106,5 @@ pub extern "C" fn pezgok_functions_crossing(
         ≡ functions_crossing records.now (record { start = start; end = end }) list.old }
 {
     let answer = lookup::window::functions_crossing(records, start, end, list);
-    tell_list(answer, length)
+    tell_number(answer, length)
 }

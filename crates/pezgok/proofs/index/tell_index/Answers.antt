@@ -2,8 +2,8 @@
 use Rattle.pezgok.proofs.LookLaws.{index-refused, index-finished}
 use Rattle.pezgok.proofs.index.tell_index.Goals as goal
 
-pub returns-in-Refused : goal.returns-in-Refused
-returns-in-Refused c = search index-refused
+pub returns-in-Err : goal.returns-in-Err
+returns-in-Err c = rw c.in-Err.is (index-refused _ c.number.ensures)
 
-pub returns-in-Finished : goal.returns-in-Finished
-returns-in-Finished c = search index-finished
+pub returns-in-Ok : goal.returns-in-Ok
+returns-in-Ok c = rw c.in-Ok.is (index-finished c.in-Ok.x)

@@ -2,11 +2,11 @@
 use Rattle.pezgok.proofs.LookLaws.{frames-refused, frames-rowless, frames-row}
 use Rattle.pezgok.proofs.look.tell_frames.Goals as goal
 
-pub returns-in-Refused : goal.returns-in-Refused
-returns-in-Refused c = search frames-refused
+pub returns-in-Err : goal.returns-in-Err
+returns-in-Err c = rw c.in-Err.is (frames-refused _ c.number.ensures)
 
-pub returns-in-Missing : goal.returns-in-Missing
-returns-in-Missing c = search frames-rowless
+pub returns-in-None : goal.returns-in-None
+returns-in-None c = rw c.in-Ok.is (frames-rowless c.in-Ok.x c.in-None.is)
 
-pub returns-in-At : goal.returns-in-At
-returns-in-At c = search frames-row
+pub returns-in-Some : goal.returns-in-Some
+returns-in-Some c = rw c.in-Ok.is (frames-row c.in-Ok.x c.in-Some.is)
