@@ -2,17 +2,12 @@
 #![tactic(auto)]
 
 use std::io::{self, Read, Write};
-use streams::read_full;
+use streams::{answer_all, next_u32, read_full};
+use tlv::grammar::check_input;
+use tlv::refusal::Refusal;
 
 // The longest name or sheet.
 const SHEET_LIMIT: usize = 300000;
-
-// The number in the next 4 bytes.
-fn next_u32(input: &mut impl Read) -> io::Result<u32> {
-    let mut bytes = [0u8; 4];
-    read_full(input, &mut bytes)?;
-    Ok(tlv::bytes::read_u32(&bytes, 0))
-}
 
 // The next byte.
 fn next_u8(input: &mut impl Read) -> io::Result<u8> {
@@ -35,10 +30,10 @@ fn write_name(input: &mut impl Read, out: &mut impl Write, buffer: &mut [u8]) ->
 
 // The verdict on a sheet that is lent with a line program of so many bytes.
 fn write_verdict(out: &mut impl Write, input: &[u8], program: usize) -> io::Result<()> {
-    match tlv::grammar::check_input(input, program) {
-        tlv::grammar::Checked::Accepted(n) => writeln!(out, "accepted {n}"),
-        tlv::grammar::Checked::Misshapen => writeln!(out, "misshapen"),
-        tlv::grammar::Checked::PastLimit => writeln!(out, "past limit"),
+    match check_input(input, program) {
+        Ok(n) => writeln!(out, "accepted {n}"),
+        Err(Refusal::PastLimit) => writeln!(out, "past limit"),
+        Err(_) => writeln!(out, "misshapen"),
     }
 }
 
@@ -54,21 +49,22 @@ fn judge(input: &mut impl Read, out: &mut impl Write, buffer: &mut [u8]) -> io::
     Ok(true)
 }
 
-// The verdicts on all sheets of an input.
-fn judge_all(input: &mut impl Read, out: &mut impl Write, buffer: &mut [u8]) -> io::Result<()> {
-    let count = next_u32(input)?;
-    for _ in 0..count {
-        if !write_name(input, out, buffer)? {
-            return Ok(());
-        }
-        if !judge(input, out, buffer)? {
-            return writeln!(out, "longer than the buffer");
-        }
+// The next sheet's name and the verdict on it; false where one of them is longer than the buffer.
+fn judge_next(input: &mut impl Read, out: &mut impl Write, buffer: &mut [u8]) -> io::Result<bool> {
+    if !write_name(input, out, buffer)? {
+        return Ok(false);
     }
-    Ok(())
+    if !judge(input, out, buffer)? {
+        writeln!(out, "longer than the buffer")?;
+        return Ok(false);
+    }
+    Ok(true)
 }
 
 fn main(rt: HostRuntime) -> io::Result<()> {
     let mut buffer = [0u8; SHEET_LIMIT];
-    judge_all(&mut rt.reader(), &mut io::writer(&rt), &mut buffer)
+    let mut out = io::writer(&rt);
+    answer_all(&mut rt.reader(), |input| {
+        judge_next(input, &mut out, &mut buffer)
+    })
 }
