@@ -9,29 +9,26 @@ use tlv::model::{FileIndex, LineEntry};
 // A code's two digits are the row's file and line; no two rows have the same column.
 fn row(place: u16, code: u8) -> LineEntry {
     LineEntry {
-        address: place as u64,
-        file: FileIndex((code / 10) as u32),
-        line: (code % 10) as u32,
+        address: u64::from(place),
+        file: FileIndex(u32::from(code / 10)),
+        line: u32::from(code % 10),
         column: place,
     }
 }
 
 fn write_row(out: &mut impl Write, row: LineEntry) -> io::Result<()> {
-    let address = row.address;
-    let file = row.file.0;
-    let line = row.line;
-    let column = row.column;
-    write!(out, " {address}:{file}:{line}:{column}")
+    write!(
+        out,
+        " {}:{}:{}:{}",
+        row.address, row.file.0, row.line, row.column
+    )
 }
 
-fn write_left(out: &mut impl Write, rows: [LineEntry; 6], count: usize) -> io::Result<()> {
+fn write_left(out: &mut impl Write, rows: &[LineEntry], count: usize) -> io::Result<()> {
     write!(out, "{count}")?;
-    write_row(out, rows[0])?;
-    write_row(out, rows[1])?;
-    write_row(out, rows[2])?;
-    write_row(out, rows[3])?;
-    write_row(out, rows[4])?;
-    write_row(out, rows[5])?;
+    for &row in rows {
+        write_row(out, row)?;
+    }
     writeln!(out)
 }
 
@@ -40,18 +37,11 @@ fn compact(out: &mut impl Write, mut rows: [LineEntry; 6], n: usize) -> io::Resu
     requires { n ≤ 6 }
 {
     let count = normalize::compact_line_rows(&mut rows[..n]);
-    write_left(out, rows, count)
+    write_left(out, &rows, count)
 }
 
 fn rows_of(codes: [u8; 6]) -> [LineEntry; 6] {
-    [
-        row(0, codes[0]),
-        row(1, codes[1]),
-        row(2, codes[2]),
-        row(3, codes[3]),
-        row(4, codes[4]),
-        row(5, codes[5]),
-    ]
+    std::array::from_fn(|i| row(i as u16, codes[i]))
 }
 
 fn show(out: &mut impl Write, name: &str, codes: [u8; 6], n: usize) -> io::Result<()>
