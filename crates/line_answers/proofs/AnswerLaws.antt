@@ -12,7 +12,8 @@ use Rattle.tlv.specs.Lists.{Any, at}
 use Rattle.tlv.specs.Fields.{fields, fields_from, whole_fields, payloads, count_of}
 use Rattle.tlv.specs.Checked.{Accepts}
 use Rattle.tlv.specs.Limits.{joined_limit}
-use Rattle.access.specs.declared.access.Place.{Place}
+use Rattle.std.specs.Prelude.{Result, Ok, Err, Some}
+use Rattle.tlv.specs.declared.refusal.Refusal.{Refusal}
 use Rattle.access.specs.Access.{place_of}
 use Rattle.access.specs.Places.{unit_here, unit_places}
 use Rattle.files.specs.declared.store.StoredFiles.{StoredFiles}
@@ -20,7 +21,7 @@ use Rattle.files.specs.declared.index.StoredIndices.{StoredIndices}
 use Rattle.files.specs.Store.{FilesIn, Empty}
 use Rattle.files.specs.Possible.{possible_files}
 use Rattle.files.proofs.FewLaws.{tags-few, possible-few, directories-few, files-few_in, rows_few}
-use Rattle.rows.specs.declared.line.StatementSequence.{StatementSequence}
+use Rattle.std.specs.Prelude as std
 use Rattle.rows.specs.declared.unit_lines.StoredLines.{StoredLines}
 use Rattle.rows.specs.declared.unit_lines.FunctionRows.{FunctionRows}
 use Rattle.rows.specs.Selects.{RowsIn, ForRange}
@@ -30,8 +31,8 @@ use Rattle.collect.specs.declared.collect.CollectedLines.{CollectedLines}
 use Rattle.collect.specs.Collects.{UnitIn, lines_extent, LinesRoom, CollectsLines}
 use Rattle.line_answers.specs.Answers.{Room, HasRoom, CollectedRows}
 
-pub unit-in : (s : List ℕ) (r : Place) {p : ℕ} → place_of r ≡ at (unit_places 0 (fields s)) 0 → r ≡ Place.At p → UnitIn s p
-unit-in s r e is = record { number = 0; is = sym e ∙ ap place_of is }
+pub unit-in : (s : List ℕ) {p : ℕ} → place_of (Some p) ≡ at (unit_places 0 (fields s)) 0 → UnitIn s p
+unit-in s e = record { number = 0; is = sym e }
 
 -- the value of an option, or 0
 abbrev value_of : Option ℕ → ℕ
@@ -80,15 +81,12 @@ lines-room {s} {w} {w'} {program} {n} {p} {t} e U R E same =
       room = omega (arith, R.within, tags-few s n e, directories-few s p any, files-few_in s p any, rows_few s p any, most-few (unit_here s p) program);
     }
 
-pub collected-rows : {s supplementary program w w' files files' warnings warnings' : List ℕ} {p : ℕ} {t : StoredFiles} {warned free : ℕ} (r : CollectedLines)
+pub collected-rows : {s supplementary program w w' files files' warnings warnings' : List ℕ} {p : ℕ} {t : StoredFiles} {warned free : ℕ} (r : Result CollectedLines Refusal)
     → CollectsLines s supplementary program w w' files files' warnings warnings' p t warned free r → CollectedRows w' r
-collected-rows (CollectedLines.Refused n) C = record { is = tt }
-collected-rows (CollectedLines.Lines l is t warned) C = record { is = C.is.rows }
+collected-rows (Err e) C = record { is = tt }
+collected-rows (Ok r) C = record { is = C.is.rows }
 
-pub rows_of : {w : List ℕ} {r : CollectedLines} {l : StoredLines} {is : StoredIndices} {t : StoredFiles} {warned : ℕ} → CollectedRows w r → r ≡ CollectedLines.Lines l is t warned → RowsIn w l
-rows_of {w} {r} {l} {is} {t} {warned} C e = let D : CollectedRows w (CollectedLines.Lines l is t warned) = rw e at C in D.is
-
-pub rows-still : {w w' : List ℕ} {l : StoredLines} {range : AddressRange} {asked : StatementSequence} {r : FunctionRows} → RowsIn w l → ForRange w w' l range asked r → length w' ≡ length w → RowsIn w' l
+pub rows-still : {w w' : List ℕ} {l : StoredLines} {range : AddressRange} {asked : std.Option ℕ} {r : FunctionRows} → RowsIn w l → ForRange w w' l range asked r → length w' ≡ length w → RowsIn w' l
 rows-still {w} {w'} {l} R F e =
     record {
       lines = R.lines;

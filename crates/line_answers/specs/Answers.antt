@@ -1,5 +1,6 @@
 -- Contract. What the program's functions tell each other of a unit's lines: that there is room for them, and that they stand in the work slice.
-use Rattle.std.specs.Prelude.{ℕ, ◌+◌, ◌*◌, ◌≤◌, ◌<◌, ◌^◌, Bool, true, false, List}
+use Rattle.std.specs.Prelude.{Result, Ok, Err, ℕ, ◌+◌, ◌*◌, ◌≤◌, ◌<◌, ◌^◌, Bool, true, false, List}
+use Rattle.tlv.specs.declared.refusal.Refusal.{Refusal}
 use Rattle.tlv.specs.Limits.{joined_limit}
 use Rattle.rows.specs.Sizes.{row_room}
 use Rattle.rows.specs.Selects.{RowsIn}
@@ -23,9 +24,9 @@ pub record HasRoom (main program n work : ℕ) (r : Bool) : Type 0 where
   pub is : RoomBy main program n work r
 
 -- where lines were collected, they stand in w
-abbrev pub RowsBy : List ℕ → CollectedLines → Type 0
-RowsBy w (CollectedLines.Refused n) = Unit {0}
-RowsBy w (CollectedLines.Lines l is t warned) = RowsIn w l
+abbrev pub RowsBy : List ℕ → Result CollectedLines Refusal → Type 0
+RowsBy w (Err e) = Unit {0}
+RowsBy w (Ok c) = RowsIn w c.lines
 
-pub record CollectedRows (w : List ℕ) (r : CollectedLines) : Type 0 where
+pub record CollectedRows (w : List ℕ) (r : Result CollectedLines Refusal) : Type 0 where
   pub is : RowsBy w r

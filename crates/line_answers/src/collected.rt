@@ -4,10 +4,10 @@ ghost use Rattle.tlv.specs.Checked.{Accepts};
 ghost use Rattle.collect.specs.Collects.{UnitIn};
 ghost use Rattle.line_answers.specs.Answers.{Room, HasRoom, CollectedRows};
 
-use crate::main;
 use collect::collect::CollectedLines;
 use files::store::{FILE_RECORD, JOINED_LIMIT};
 use rows::line::ROW_ROOM;
+use tlv::refusal::Refusal;
 
 // The room for a byte of a program that gives rows: at most a row, and an offset of eight bytes in three.
 const BYTE_ROOM: usize = ROW_ROOM + 3;
@@ -19,16 +19,11 @@ pub fn collect_case(
     work: &mut [u8],
     files: &mut [u8],
     warnings: &mut [u8],
-) -> CollectedLines
+) -> Result<CollectedLines, Refusal>
     ensures { CollectedRows work.new result }
 {
-    match tlv::grammar::check_input(main, program.len()) {
-        tlv::grammar::Checked::Accepted(n) => collect_accepted(
-            main, program, n as usize, work, files, warnings,
-        ),
-        tlv::grammar::Checked::Misshapen => CollectedLines::Refused(2),
-        tlv::grammar::Checked::PastLimit => CollectedLines::Refused(3),
-    }
+    let n = tlv::grammar::check_input(main, program.len())?;
+    collect_accepted(main, program, n as usize, work, files, warnings)
 }
 
 // The same for an accepted sheet of n fields.
@@ -39,20 +34,17 @@ fn collect_accepted(
     work: &mut [u8],
     files: &mut [u8],
     warnings: &mut [u8],
-) -> CollectedLines
+) -> Result<CollectedLines, Refusal>
     requires { Accepts main.now n }
     ensures { CollectedRows work.new result }
 {
-    match access::access::unit_by_ordinal(main, 0) {
-        access::access::Place::At(place) => {
-            if has_room(main.len(), program.len(), n, work.len()) {
-                collect_placed(main, program, n, place, work, files, warnings)
-            } else {
-                CollectedLines::Refused(5)
-            }
-        }
-        access::access::Place::Missing => CollectedLines::Refused(4),
+    let Some(place) = access::access::unit_by_ordinal(main, 0) else {
+        return Err(Refusal::NoUnit);
+    };
+    if !has_room(main.len(), program.len(), n, work.len()) {
+        return Err(Refusal::ShortWork);
     }
+    collect_placed(main, program, n, place, work, files, warnings)
 }
 
 // The same for a unit at a place.
@@ -64,7 +56,7 @@ fn collect_placed(
     work: &mut [u8],
     files: &mut [u8],
     warnings: &mut [u8],
-) -> CollectedLines
+) -> Result<CollectedLines, Refusal>
     requires accepts { Accepts main.now n }
     requires unit_in { UnitIn main.now place }
     requires room { Room (length main.now) (length program.now) n (length work.old) }
@@ -82,18 +74,9 @@ fn collect_placed(
 fn has_room(main: usize, program: usize, n: usize, work: usize) -> bool
     ensures { HasRoom main program n work result }
 {
-    if 4294967296 <= main {
-        return false;
-    }
     if 65536 < n {
         return false;
     }
     let need = n * 108 + (JOINED_LIMIT + 82);
-    if work < need {
-        return false;
-    }
-    if (work - need) / BYTE_ROOM < program {
-        return false;
-    }
-    true
+    main < 4294967296 && need <= work && program <= (work - need) / BYTE_ROOM
 }

@@ -6,26 +6,23 @@ ghost use Rattle.rows.specs.Selects.{RowsBelow};
 use rows::line::{ENTRY_SIZE, LINE_SIZE};
 use rows::unit_lines::StoredLines;
 use std::io::{self, Write};
+use tlv::bytes::Number;
 
 // A row in the table, and room for it among a function's rows.
 const STORED: usize = LINE_SIZE + ENTRY_SIZE;
+
+const QUERY_SIZE: usize = 29;
 
 // Stores the `count` rows of a call as they come.
 fn store_rows(call: &[u8], count: usize, work: &mut [u8])
     requires line_size_in_bounds { count * line_size ≤ length call.now }
     requires line_size_in_bounds_2 { count * line_size ≤ length work.old }
 {
-    let mut i = 0;
-    while i < count {
+    for i in 0..count {
         let p = i * LINE_SIZE;
         let entry = rows::line::entry_at(call, p);
-        rows::line::put_line(
-            work,
-            p,
-            entry,
-            rows::line::sequence_at(call, p + ENTRY_SIZE),
-        );
-        i += 1;
+        let sequence = rows::line::sequence_at(call, p + ENTRY_SIZE);
+        rows::line::put_line(work, p, entry, sequence);
     }
 }
 
@@ -35,39 +32,33 @@ fn front_below(work: &[u8], l: StoredLines, range: tlv::model::AddressRange, mos
     requires most_bound { most ≤ l.line_count }
     ensures { RowsBelow work.now l range result }
 {
-    let mut i = 0;
-    while i < most {
+    for i in 0..most {
         let address = rows::line::address_at(work, l.lines + i * LINE_SIZE);
-        if range.start <= address {
+        if range.start <= address || range.end <= address {
             return i;
         }
-        if range.end <= address {
-            return i;
-        }
-        i += 1;
     }
-    i
+    most
 }
 
 // A query: start (8 bytes), end (8), whether a sequence is asked for (1), its offset (8), how many rows at the front the loop passes over at once (4);
 // false where one of those does not lie below the range.
 fn answer_query(
     out: &mut impl Write,
-    queries: &[u8],
-    p: usize,
+    query: &[u8],
     work: &mut [u8],
     l: StoredLines,
 ) -> io::Result<bool>
-    requires p_in_bounds { p + 29 ≤ length queries.now }
+    requires query_len { 29 ≤ length query.now }
     requires line_size_bound { l.lines + l.line_count * line_size ≤ l.buffer }
     requires entry_size_in_bounds { l.buffer + l.line_count * entry_size ≤ length work.old }
 {
     let range = tlv::model::AddressRange {
-        start: tlv::bytes::read_u64(queries, p),
-        end: tlv::bytes::read_u64(queries, p + 8),
+        start: u64::read(query, 0),
+        end: u64::read(query, 8),
     };
-    let asked = rows::line::sequence_at(queries, p + 16);
-    let wanted = tlv::bytes::read_u32(queries, p + 25) as usize;
+    let asked = rows::line::sequence_at(query, 16);
+    let wanted = u32::read(query, 25) as usize;
     if l.line_count < wanted {
         return Ok(false);
     }
@@ -91,12 +82,10 @@ fn answer_queries(
     requires line_size_bound { l.lines + l.line_count * line_size ≤ l.buffer }
     requires entry_size_in_bounds { l.buffer + l.line_count * entry_size ≤ length work.old }
 {
-    let mut p = 0;
-    while 29 <= queries.len() - p {
-        if !answer_query(out, queries, p, work, l)? {
+    for query in queries.chunks_exact(QUERY_SIZE) {
+        if !answer_query(out, query, work, l)? {
             return Ok(false);
         }
-        p += 29;
     }
     Ok(true)
 }
@@ -106,7 +95,7 @@ pub fn answer_front(out: &mut impl Write, call: &[u8], work: &mut [u8]) -> io::R
     if call.len() < 4 {
         return Ok(false);
     }
-    let count = tlv::bytes::read_u32(call, 0) as usize;
+    let count = u32::read(call, 0) as usize;
     let end = 4 + count * LINE_SIZE;
     if call.len() < end {
         return Ok(false);

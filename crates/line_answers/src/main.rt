@@ -6,10 +6,10 @@ ghost use Rattle.rows.specs.Selects.{RowsIn};
 
 use crate::collected::collect_case;
 use crate::output::{write_path, write_refused, write_rows};
-use collect::collect::CollectedLines;
 use rows::unit_lines::StoredLines;
 use std::io::{self, Read, Write};
-use streams::read_full;
+use streams::{answer_all, next_call, read_full};
+use tlv::bytes::Number;
 
 pub mod collected;
 mod front;
@@ -21,12 +21,10 @@ const CALL_LIMIT: usize = 16384;
 
 const WORK_SIZE: usize = 65536;
 
-// The number in the next 4 bytes.
-fn next_u32(input: &mut impl Read) -> io::Result<u32> {
-    let mut bytes = [0u8; 4];
-    read_full(input, &mut bytes)?;
-    Ok(tlv::bytes::read_u32(&bytes, 0))
-}
+// The most bytes of a unit's files, and of its warnings.
+const TRAY_SIZE: usize = 16384;
+
+const QUERY_SIZE: usize = 25;
 
 // The next byte.
 fn next_u8(input: &mut impl Read) -> io::Result<u8> {
@@ -40,25 +38,21 @@ fn next_u8(input: &mut impl Read) -> io::Result<u8> {
 // A query: start (8 bytes), end (8), whether a sequence is asked for (1), its offset (8).
 fn answer_query(
     out: &mut impl Write,
-    queries: &[u8],
-    p: usize,
+    query: &[u8],
     work: &mut [u8],
     l: StoredLines,
 ) -> io::Result<()>
-    requires p_in_bounds { p + 25 ≤ length queries.now }
+    requires query_len { 25 ≤ length query.now }
     requires rows_in { RowsIn work.old l }
     ensures { RowsIn work.new l }
 {
     let range = tlv::model::AddressRange {
-        start: tlv::bytes::read_u64(queries, p),
-        end: tlv::bytes::read_u64(queries, p + 8),
+        start: u64::read(query, 0),
+        end: u64::read(query, 8),
     };
-    let r = rows::unit_lines::for_range(work, l, range, rows::line::sequence_at(queries, p + 16));
-    if r.invalid {
-        write!(out, "\nrows 1")?;
-    } else {
-        write!(out, "\nrows 0")?;
-    }
+    let r = rows::unit_lines::for_range(work, l, range, rows::line::sequence_at(query, 16));
+    let invalid = u8::from(r.invalid);
+    write!(out, "\nrows {invalid}")?;
     write_rows(out, work, r.rows, r.count)
 }
 
@@ -70,10 +64,8 @@ fn answer_queries(
 ) -> io::Result<()>
     requires { RowsIn work.old l }
 {
-    let mut p = 0;
-    while 25 <= queries.len() - p {
-        answer_query(out, queries, p, work, l)?;
-        p += 25;
+    for query in queries.chunks_exact(QUERY_SIZE) {
+        answer_query(out, query, work, l)?;
     }
     Ok(())
 }
@@ -98,8 +90,8 @@ fn answer_rows(out: &mut impl Write, call: &[u8], work: &mut [u8]) -> io::Result
     if call.len() < 8 {
         return Ok(false);
     }
-    let start = 8 + tlv::bytes::read_u32(call, 0) as usize;
-    let end = start + tlv::bytes::read_u32(call, 4) as usize;
+    let start = 8 + u32::read(call, 0) as usize;
+    let end = start + u32::read(call, 4) as usize;
     if call.len() < end {
         return Ok(false);
     }
@@ -113,29 +105,23 @@ fn collect_rows(
     queries: &[u8],
     work: &mut [u8],
 ) -> io::Result<bool> {
-    let mut files = [0u8; 16384];
-    let mut warnings = [0u8; 16384];
-    match collect_case(main, program, work, &mut files, &mut warnings) {
-        CollectedLines::Refused(refusal) => {
+    let mut files = [0u8; TRAY_SIZE];
+    let mut warnings = [0u8; TRAY_SIZE];
+    let collected = match collect_case(main, program, work, &mut files, &mut warnings) {
+        Ok(collected) => collected,
+        Err(refusal) => {
             write_refused(out, refusal)?;
+            return Ok(true);
         }
-        CollectedLines::Lines {
-            lines: l,
-            indices: _,
-            table,
-            warned,
-        } => {
-            let written = table.written;
-            if 16384 < written {
-                return Ok(false);
-            }
-            if 16384 < warned {
-                return Ok(false);
-            }
-            write_collected(out, l, &files[..written], &warnings[..warned])?;
-            answer_queries(out, queries, work, l)?;
-        }
+    };
+    let l = collected.lines;
+    let written = collected.table.written;
+    let warned = collected.warned;
+    if TRAY_SIZE < written || TRAY_SIZE < warned {
+        return Ok(false);
     }
+    write_collected(out, l, &files[..written], &warnings[..warned])?;
+    answer_queries(out, queries, work, l)?;
     Ok(true)
 }
 
@@ -162,16 +148,10 @@ fn next_answer(
     work: &mut [u8],
 ) -> io::Result<bool> {
     let kind = next_u8(input)?;
-    let n = next_u32(input)? as usize;
-    if buffer.len() < n {
-        writeln!(out, "longer than the buffer")?;
+    let Some(call) = next_call(input, out, buffer)? else {
         return Ok(false);
-    }
-    if read_full(input, &mut buffer[..n])? < n {
-        writeln!(out, "cut off")?;
-        return Ok(false);
-    }
-    if !answer(out, kind, &buffer[..n], work)? {
+    };
+    if !answer(out, kind, call, work)? {
         writeln!(out, "no such call")?;
         return Ok(false);
     }
@@ -179,29 +159,11 @@ fn next_answer(
     Ok(true)
 }
 
-// Answers all calls of an input.
-fn answer_all(
-    input: &mut impl Read,
-    out: &mut impl Write,
-    buffer: &mut [u8],
-    work: &mut [u8],
-) -> io::Result<()> {
-    let count = next_u32(input)?;
-    for _ in 0..count {
-        if !next_answer(input, out, buffer, work)? {
-            return Ok(());
-        }
-    }
-    Ok(())
-}
-
 pub fn main(rt: HostRuntime) -> io::Result<()> {
     let mut buffer = [0u8; CALL_LIMIT];
     let mut work = [0u8; WORK_SIZE];
-    answer_all(
-        &mut rt.reader(),
-        &mut io::writer(&rt),
-        &mut buffer,
-        &mut work,
-    )
+    let mut out = io::writer(&rt);
+    answer_all(&mut rt.reader(), |input| {
+        next_answer(input, &mut out, &mut buffer, &mut work)
+    })
 }

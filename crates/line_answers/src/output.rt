@@ -4,23 +4,17 @@ ghost use Rattle.rows.specs.Sizes.{entry_size};
 
 use rows::line::ENTRY_SIZE;
 use std::io::{self, Write};
+use tlv::bytes::Number;
+use tlv::refusal::Refusal;
 
-pub fn write_refused(out: &mut impl Write, refusal: u8) -> io::Result<()> {
-    write!(out, "refused {refusal}")
+pub fn write_refused(out: &mut impl Write, refusal: Refusal) -> io::Result<()> {
+    let number = refusal.number();
+    write!(out, "refused {number}")
 }
 
 // Whether a byte of a path is written as it is.
 fn is_plain(b: u8) -> bool {
-    if b == 0x5c {
-        return false;
-    }
-    if b == 0x7c {
-        return false;
-    }
-    if b < 0x21 {
-        return false;
-    }
-    b < 0x7f
+    b.is_ascii_graphic() && b != b'\\' && b != b'|'
 }
 
 fn write_byte(out: &mut impl Write, b: u8) -> io::Result<()> {
@@ -32,10 +26,8 @@ fn write_byte(out: &mut impl Write, b: u8) -> io::Result<()> {
 }
 
 pub fn write_path(out: &mut impl Write, path: &[u8]) -> io::Result<()> {
-    let mut i = 0;
-    while i < path.len() {
-        write_byte(out, path[i])?;
-        i += 1;
+    for &b in path {
+        write_byte(out, b)?;
     }
     Ok(())
 }
@@ -43,11 +35,9 @@ pub fn write_path(out: &mut impl Write, path: &[u8]) -> io::Result<()> {
 // The numbers of a table, eight bytes each.
 pub fn write_offsets(out: &mut impl Write, table: &[u8]) -> io::Result<()> {
     write!(out, "sequences")?;
-    let mut p = 0;
-    while 8 <= table.len() - p {
-        let offset = tlv::bytes::read_u64(table, p);
+    for bytes in table.chunks_exact(8) {
+        let offset = u64::read(bytes, 0);
         write!(out, " {offset:x}")?;
-        p += 8;
     }
     Ok(())
 }
@@ -64,10 +54,8 @@ fn write_entry(out: &mut impl Write, entry: tlv::model::LineEntry) -> io::Result
 pub fn write_rows(out: &mut impl Write, work: &[u8], rows: usize, count: usize) -> io::Result<()>
     requires { rows + count * entry_size ≤ length work.now }
 {
-    let mut i = 0;
-    while i < count {
+    for i in 0..count {
         write_entry(out, rows::line::entry_at(work, rows + i * ENTRY_SIZE))?;
-        i += 1;
     }
     Ok(())
 }

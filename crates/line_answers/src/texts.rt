@@ -1,20 +1,19 @@
 // Calls of operands, line programs and paths; false where the call is cut off or has no room.
 use crate::output::{write_offsets, write_path, write_refused};
+use line_program::lines::{OFFSET_RECORD, SEQUENCE_LEAST, scan_line_sequence_offsets};
+use line_program::operand::{Operand, read_line_uleb};
 use std::io::{self, Write};
+use tlv::bytes::Number;
 
 // A place (8 bytes), then the program.
 pub fn answer_operand(out: &mut impl Write, call: &[u8]) -> io::Result<bool> {
     if call.len() < 8 {
         return Ok(false);
     }
-    let place = tlv::bytes::read_u64(call, 0) as usize;
-    match line_program::operand::read_line_uleb(&call[8..], place) {
-        line_program::operand::Operand::Value { value, next } => {
-            write!(out, "operand {value} {next}")?;
-        }
-        line_program::operand::Operand::Fault(refusal) => {
-            write_refused(out, refusal)?;
-        }
+    let place = u64::read(call, 0) as usize;
+    match read_line_uleb(&call[8..], place) {
+        Ok(Operand { value, next }) => write!(out, "operand {value} {next}")?,
+        Err(refusal) => write_refused(out, refusal)?,
     }
     Ok(true)
 }
@@ -25,8 +24,8 @@ pub fn answer_program(out: &mut impl Write, call: &[u8], work: &mut [u8]) -> io:
         return Ok(false);
     }
     let opcode_base = call[0];
-    let start = 10 + tlv::bytes::read_u8(call, 1) as usize;
-    let offset = tlv::bytes::read_u64(call, 2);
+    let start = 10 + u8::read(call, 1) as usize;
+    let offset = u64::read(call, 2);
     if call.len() < start {
         return Ok(false);
     }
@@ -48,24 +47,12 @@ fn scan(
     offset: u64,
     work: &mut [u8],
 ) -> io::Result<bool> {
-    if work.len() / 8 < program.len() / 3 {
+    if work.len() / OFFSET_RECORD < program.len() / SEQUENCE_LEAST {
         return Ok(false);
     }
-    match line_program::lines::scan_line_sequence_offsets(
-        program,
-        lengths,
-        opcode_base,
-        offset,
-        work,
-        0,
-    ) {
-        line_program::lines::Scan::Count(n) => {
-            let end = n * 8;
-            write_offsets(out, &work[..end])?;
-        }
-        line_program::lines::Scan::Fault(refusal) => {
-            write_refused(out, refusal)?;
-        }
+    match scan_line_sequence_offsets(program, lengths, opcode_base, offset, work, 0) {
+        Ok(n) => write_offsets(out, &work[..n * OFFSET_RECORD])?,
+        Err(refusal) => write_refused(out, refusal)?,
     }
     Ok(true)
 }
@@ -88,7 +75,7 @@ pub fn answer_join(out: &mut impl Write, call: &[u8], work: &mut [u8]) -> io::Re
     if call.len() < 2 {
         return Ok(false);
     }
-    let start = 2 + tlv::bytes::read_u16(call, 0) as usize;
+    let start = 2 + u16::read(call, 0) as usize;
     if call.len() < start {
         return Ok(false);
     }

@@ -1,10 +1,6 @@
--- `answer_queries` reads within the queries, and ends: what is left of them falls.
-use Rattle.std.proofs.Common.{length, ◌-◌, ◌≤◌, ◌≡◌}
+-- `answer_queries` keeps the unit's lines.
 use Rattle.rows.specs.Selects.{RowsIn}
 use Rattle.line_answers.proofs.answer_queries.Given as goal
 
-abbrev pub invariant-loop-p : goal.invariant-loop-p
-invariant-loop-p g l = l.p ≤ length l.queries × RowsIn l.work l.l × length l.work ≡ length l.initial.work
-
-abbrev pub decreases-loop-p : goal.decreases-loop-p
-decreases-loop-p g l = length l.queries - l.p
+abbrev pub invariant-loop-query : goal.invariant-loop-query
+invariant-loop-query g l = RowsIn l.work l.l

@@ -5,8 +5,5 @@ use Rattle.line_answers.proofs.answer_query.Goals as goal
 pub returns-in_err-write : goal.returns-in_err-write
 returns-in_err-write g c = search rows-still
 
-pub returns-in_err-write-2 : goal.returns-in_err-write-2
-returns-in_err-write-2 g c = search rows-still
-
 pub returns : goal.returns
 returns g c = search rows-still

@@ -9,7 +9,7 @@ use Rattle.tlv.specs.declared.model.AddressRange.{AddressRange}
 use Rattle.tlv.proofs.TestLaws.{by_less}
 use Rattle.buffers.proofs.RecordLaws.{records-length, records-at}
 use Rattle.lines.specs.Lines.{SequencedLine}
-use Rattle.rows.specs.declared.line.StatementSequence.{StatementSequence}
+use Rattle.std.specs.Prelude.{Option}
 use Rattle.rows.specs.declared.unit_lines.StoredLines.{StoredLines}
 use Rattle.rows.specs.declared.unit_lines.OwnRows.{OwnRows}
 use Rattle.rows.specs.Sizes.{entry_size, line_size}
@@ -47,6 +47,6 @@ one_more {w} {l} {range} {i} v B h e s t =
     }
 
 -- the rows that were copied lie in the slice
-pub own_room : {w w' : List ℕ} {l : StoredLines} {range : AddressRange} {asked : StatementSequence} {to : ℕ} {r : OwnRows} → Owned w w' l range asked to r
+pub own_room : {w w' : List ℕ} {l : StoredLines} {range : AddressRange} {asked : Option ℕ} {to : ℕ} {r : OwnRows} → Owned w w' l range asked to r
     → to + l.line_count * entry_size ≤ length w → length w' ≡ length w → to + r.count * entry_size ≤ length w'
 own_room O h e = omega (arith, O.within)
