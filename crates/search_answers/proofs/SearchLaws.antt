@@ -31,6 +31,8 @@ use Rattle.references.proofs.KeyLaws.{keys-in_none}
 use Rattle.references.proofs.FollowLaws.{index_kept, index-clear}
 use Rattle.references.proofs.FewKeys.{keys-few}
 use Rattle.declarations.specs.declared.declaring.Places.{Places}
+use Rattle.std.specs.Prelude.{Result}
+use Rattle.tlv.specs.declared.refusal.Refusal.{Refusal}
 use Rattle.declarations.specs.declared.declaring.Declared.{Declared}
 use Rattle.declarations.specs.Declarations.{DeclaringIn, Declares, searched}
 use Rattle.search_answers.specs.Searches.{Room, HasRoom, IndexedSheet, SearchesIn}
@@ -189,7 +191,7 @@ module _ {s t w w₁ : List ℕ} {d : Places} {files : ℕ} {table : StoredFiles
   pub declaring_in : DeclaringIn s t w₁ d (record { count = 0; table = table; warned = 0 })
   declaring_in = declaring emptied table E.base-is E.room-is E.holds
 
-  pub declared-still : {w₂ f f' u u' : List ℕ} {g : Declaring → Outcome Declaring} {r : Declared}
+  pub declared-still : {w₂ f f' u u' : List ℕ} {g : Declaring → Outcome Declaring} {r : Result Declared Refusal}
       → Declares g s t w₁ w₂ f f' u u' d (record { count = 0; table = table; warned = 0 }) r → length w₂ ≡ length w₁ → SearchesIn s t w₂ d files
   declared-still D same = searched-still emptied table E.base-is E.room-is D.rest same
 

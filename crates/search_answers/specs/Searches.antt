@@ -13,6 +13,7 @@ use Rattle.references.specs.declared.tables.Index.{Index}
 use Rattle.references.specs.Tables.{IndexIn}
 use Rattle.references.specs.Names.{SearchIn}
 use Rattle.declarations.specs.declared.declaring.Places.{Places}
+use Rattle.search_answers.specs.declared.searches.Sheets.{Sheets}
 
 -- sheets of so many bytes, of n and m fields: their files, their tables and the followed targets have room
 pub record Room (main supplementary n m work : ℕ) : Type 0 where
@@ -55,3 +56,7 @@ pub record SearchesIn (main supplementary w : List ℕ) (d : Places) (files : �
   pub supplementary-entries : d.spans + d.room ≤ d.tables.supplementary.entries
   pub room-main : (q : ℕ) → UnitOf main q → map_extent main q ≤ d.room
   pub room-supplementary : (q : ℕ) → UnitOf supplementary q → map_extent supplementary q ≤ d.room
+
+-- what the searches of these sheets need stands ready in w
+abbrev pub Ready : Sheets → List ℕ → Type 0
+Ready s w = SearchesIn s.main.now s.supplementary.now w s.places s.files

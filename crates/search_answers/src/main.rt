@@ -4,15 +4,16 @@
 ghost use Rattle.std.specs.Prelude.{◌+◌, ◌≤◌, ◌<◌, length};
 ghost use Rattle.tlv.specs.Checked.{Accepts};
 ghost use Rattle.references.specs.Tables.{EntryKnown};
-ghost use Rattle.search_answers.specs.Searches.{SearchesIn};
+ghost use Rattle.search_answers.specs.Searches.{Ready};
 
 use crate::output::{end_line, write_refused_line};
-use crate::searches::{answer_declaration, answer_name, answer_reference};
+use crate::searches::{Sheets, answer_declaration, answer_name, answer_reference};
 use crate::tables::{build_tables, has_room};
-use declarations::declaring::Places;
-use references::tables::Target;
+use references::tables::{Target, target_at};
 use std::io::{self, Read, Write};
-use streams::read_full;
+use streams::{answer_all, next_call};
+use tlv::bytes::Number;
+use tlv::grammar::check_input;
 
 pub mod output;
 mod searches;
@@ -23,69 +24,41 @@ const CALL_LIMIT: usize = 16384;
 
 const WORK_SIZE: usize = 65536;
 
-// The number in the next 4 bytes.
-fn next_u32(input: &mut impl Read) -> io::Result<u32> {
-    let mut bytes = [0u8; 4];
-    read_full(input, &mut bytes)?;
-    Ok(tlv::bytes::read_u32(&bytes, 0))
-}
-
 // A query: its kind (1 byte), the offset of an entry in the section (8).
+const QUERY_SIZE: usize = 9;
+
 fn answer_query<'a>(
     out: &mut impl Write,
-    main: &'a [u8],
-    supplementary: &'a [u8],
-    queries: &[u8],
-    p: usize,
+    query: &[u8],
     work: &mut [u8],
-    d: Places,
-    files: usize,
+    s: Sheets<'a>,
 ) -> io::Result<()>
-    requires p_in_bounds { p + 9 ≤ length queries.now }
-    requires searches_in { SearchesIn main.now supplementary.now work.old d files }
-    ensures { SearchesIn main.now supplementary.now work.new d files }
+    requires query_len { 9 ≤ length query.now }
+    requires searches_in { Ready s work.old }
+    ensures { Ready s.entry work.new }
 {
-    let kind = tlv::bytes::read_u8(queries, p);
-    let offset = tlv::bytes::read_u64(queries, p + 1);
-    let tables = d.tables;
-    match references::tables::target_at(main, work, tables.main, offset) {
-        Target::Outside => {
-            write!(out, "no entry")?;
-        }
-        Target::NoEntry(_) => {
-            write!(out, "no entry")?;
-        }
-        Target::At { place, unit } => {
-            if kind == 1 {
-                answer_name(out, main, supplementary, work, d, files, unit, place)?;
-            } else {
-                if kind == 2 {
-                    answer_reference(out, main, supplementary, work, d, files, unit, place)?;
-                } else {
-                    answer_declaration(out, main, supplementary, work, d, files, unit, place)?;
-                }
-            }
-        }
+    let offset = u64::read(query, 1);
+    let Target::At { place, unit } = target_at(s.main, work, s.places.tables.main, offset) else {
+        return write!(out, "no entry");
+    };
+    match query[0] {
+        1 => answer_name(out, work, s, unit, place),
+        2 => answer_reference(out, work, s, unit, place),
+        _ => answer_declaration(out, work, s, unit, place),
     }
-    Ok(())
 }
 
 fn answer_queries<'a>(
     out: &mut impl Write,
-    main: &'a [u8],
-    supplementary: &'a [u8],
     queries: &[u8],
     work: &mut [u8],
-    d: Places,
-    files: usize,
+    s: Sheets<'a>,
 ) -> io::Result<()>
-    requires { SearchesIn main.now supplementary.now work.old d files }
+    requires { Ready s work.old }
 {
-    let mut p = 0;
-    while 9 <= queries.len() - p {
-        answer_query(out, main, supplementary, queries, p, work, d, files)?;
+    for query in queries.chunks_exact(QUERY_SIZE) {
+        answer_query(out, query, work, s)?;
         end_line(out)?;
-        p += 9;
     }
     Ok(())
 }
@@ -103,38 +76,17 @@ fn answer_accepted<'a>(
     requires accepts { Accepts main.now n }
     requires accepts_2 { Accepts supplementary.now m }
 {
-    if has_room(main.len(), supplementary.len(), n, m, work.len()) {
-        let d = build_tables(main, supplementary, n, m, work);
-        answer_queries(out, main, supplementary, queries, work, d, n + m + 1)?;
-        return Ok(true);
+    if !has_room(main.len(), supplementary.len(), n, m, work.len()) {
+        return Ok(false);
     }
-    Ok(false)
-}
-
-// The queries of two sheets, the first of which is accepted and has n fields.
-fn answer_main<'a>(
-    out: &mut impl Write,
-    main: &'a [u8],
-    supplementary: &'a [u8],
-    n: usize,
-    queries: &[u8],
-    work: &mut [u8],
-) -> io::Result<bool>
-    requires { Accepts main.now n }
-{
-    match tlv::grammar::check_input(supplementary, 0) {
-        tlv::grammar::Checked::Accepted(m) => answer_accepted(
-            out,
-            main,
-            supplementary,
-            n,
-            m as usize,
-            queries,
-            work,
-        ),
-        tlv::grammar::Checked::Misshapen => write_refused_line(out, 2),
-        tlv::grammar::Checked::PastLimit => write_refused_line(out, 3),
-    }
+    let s = Sheets {
+        main,
+        supplementary,
+        places: build_tables(main, supplementary, n, m, work),
+        files: n + m + 1,
+    };
+    answer_queries(out, queries, work, s)?;
+    Ok(true)
 }
 
 fn answer_sheets<'a>(
@@ -144,18 +96,15 @@ fn answer_sheets<'a>(
     queries: &[u8],
     work: &mut [u8],
 ) -> io::Result<bool> {
-    match tlv::grammar::check_input(main, 0) {
-        tlv::grammar::Checked::Accepted(n) => answer_main(
-            out,
-            main,
-            supplementary,
-            n as usize,
-            queries,
-            work,
-        ),
-        tlv::grammar::Checked::Misshapen => write_refused_line(out, 2),
-        tlv::grammar::Checked::PastLimit => write_refused_line(out, 3),
-    }
+    let n = match check_input(main, 0) {
+        Ok(n) => n as usize,
+        Err(refusal) => return write_refused_line(out, refusal),
+    };
+    let m = match check_input(supplementary, 0) {
+        Ok(m) => m as usize,
+        Err(refusal) => return write_refused_line(out, refusal),
+    };
+    answer_accepted(out, main, supplementary, n, m, queries, work)
 }
 
 // The lengths of both sheets (4 bytes each), the main sheet, the supplementary one, the queries; false where the call is cut off or has no room.
@@ -163,8 +112,8 @@ fn answer(out: &mut impl Write, call: &[u8], work: &mut [u8]) -> io::Result<bool
     if call.len() < 8 {
         return Ok(false);
     }
-    let start = 8 + tlv::bytes::read_u32(call, 0) as usize;
-    let end = start + tlv::bytes::read_u32(call, 4) as usize;
+    let start = 8 + u32::read(call, 0) as usize;
+    let end = start + u32::read(call, 4) as usize;
     if call.len() < end {
         return Ok(false);
     }
@@ -178,45 +127,21 @@ fn next_answer(
     buffer: &mut [u8],
     work: &mut [u8],
 ) -> io::Result<bool> {
-    let n = next_u32(input)? as usize;
-    if buffer.len() < n {
-        writeln!(out, "longer than the buffer")?;
+    let Some(call) = next_call(input, out, buffer)? else {
         return Ok(false);
-    }
-    if read_full(input, &mut buffer[..n])? < n {
-        writeln!(out, "cut off")?;
-        return Ok(false);
-    }
-    if !answer(out, &buffer[..n], work)? {
+    };
+    if !answer(out, call, work)? {
         writeln!(out, "no such call")?;
         return Ok(false);
     }
     Ok(true)
 }
 
-// Answers all calls of an input.
-fn answer_all(
-    input: &mut impl Read,
-    out: &mut impl Write,
-    buffer: &mut [u8],
-    work: &mut [u8],
-) -> io::Result<()> {
-    let count = next_u32(input)?;
-    for _ in 0..count {
-        if !next_answer(input, out, buffer, work)? {
-            return Ok(());
-        }
-    }
-    Ok(())
-}
-
-pub fn main(rt: HostRuntime) -> io::Result<()> {
+fn main(rt: HostRuntime) -> io::Result<()> {
     let mut buffer = [0u8; CALL_LIMIT];
     let mut work = [0u8; WORK_SIZE];
-    answer_all(
-        &mut rt.reader(),
-        &mut io::writer(&rt),
-        &mut buffer,
-        &mut work,
-    )
+    let mut out = io::writer(&rt);
+    answer_all(&mut rt.reader(), |input| {
+        next_answer(input, &mut out, &mut buffer, &mut work)
+    })
 }

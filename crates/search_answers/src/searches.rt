@@ -1,110 +1,94 @@
 // The three searches from an entry, each with how many entries it read.
 ghost use Rattle.references.specs.Tables.{EntryKnown};
-ghost use Rattle.search_answers.specs.Searches.{SearchesIn};
+ghost use Rattle.search_answers.specs.Searches.{Ready};
 
 use crate::output::{write_declared, write_found};
+use declarations::declaration_lines::resolve_declaration_line_counted;
 use declarations::declaring::{DeclaringState, Places};
+use files::store::new_files;
+use references::names::resolve_name_counted;
+use references::reference_names::resolve_reference_name_counted;
 use std::io::{self, Write};
 use tlv::constants::DW_AT_CALL_ORIGIN;
+
+// Two sheets, where their tables stand in the work slice, and how many files there is room for.
+#[derive(Clone, Copy)]
+pub struct Sheets<'a> {
+    pub main: &'a [u8],
+    pub supplementary: &'a [u8],
+    pub places: Places,
+    pub files: usize,
+}
 
 // The name of an entry.
 pub fn answer_name<'a>(
     out: &mut impl Write,
-    main: &'a [u8],
-    supplementary: &'a [u8],
     work: &mut [u8],
-    d: Places,
-    files: usize,
+    s: Sheets<'a>,
     unit: usize,
     place: usize,
 ) -> io::Result<()>
-    requires searches_in { SearchesIn main.now supplementary.now work.old d files }
-    requires entry_known { EntryKnown main.now unit place }
-    ensures { SearchesIn main.now supplementary.now work.new d files }
+    requires searches_in { Ready s work.old }
+    requires entry_known { EntryKnown s.main.now unit place }
+    ensures { Ready s.entry work.new }
 {
-    let tables = d.tables;
-    let mut status: u8 = 0;
-    let mut reads: usize = 0;
-    let name = references::names::resolve_name_counted(
-        main,
-        supplementary,
-        work,
-        &mut reads,
-        &mut status,
-        tables,
-        unit,
-        place,
-    );
-    write_found(out, status, name, reads)
+    let found = resolve_name_counted(s.main, s.supplementary, work, s.places.tables, unit, place);
+    write_found(out, found)
 }
 
 // The name that its call origin refers to.
 pub fn answer_reference<'a>(
     out: &mut impl Write,
-    main: &'a [u8],
-    supplementary: &'a [u8],
     work: &mut [u8],
-    d: Places,
-    files: usize,
+    s: Sheets<'a>,
     unit: usize,
     place: usize,
 ) -> io::Result<()>
-    requires searches_in { SearchesIn main.now supplementary.now work.old d files }
-    requires entry_known { EntryKnown main.now unit place }
-    ensures { SearchesIn main.now supplementary.now work.new d files }
+    requires searches_in { Ready s work.old }
+    requires entry_known { EntryKnown s.main.now unit place }
+    ensures { Ready s.entry work.new }
 {
-    let tables = d.tables;
-    let mut status: u8 = 0;
-    let mut reads: usize = 0;
-    let name = references::reference_names::resolve_reference_name_counted(
-        main,
-        supplementary,
+    let found = resolve_reference_name_counted(
+        s.main,
+        s.supplementary,
         work,
-        &mut reads,
-        &mut status,
-        tables,
+        s.places.tables,
         unit,
         place,
         DW_AT_CALL_ORIGIN,
     );
-    write_found(out, status, name, reads)
+    write_found(out, found)
 }
 
 // Its declaration, from an empty table of files on. What would be written to the trays is not asked for: a byte each stands for them.
 pub fn answer_declaration<'a>(
     out: &mut impl Write,
-    main: &'a [u8],
-    supplementary: &'a [u8],
     work: &mut [u8],
-    d: Places,
-    files: usize,
+    s: Sheets<'a>,
     unit: usize,
     place: usize,
 ) -> io::Result<()>
-    requires searches_in { SearchesIn main.now supplementary.now work.old d files }
-    requires entry_known { EntryKnown main.now unit place }
-    ensures { SearchesIn main.now supplementary.now work.new d files }
+    requires searches_in { Ready s work.old }
+    requires entry_known { EntryKnown s.main.now unit place }
+    ensures { Ready s.entry work.new }
 {
     let mut files_tray = [0u8; 1];
     let mut warnings = [0u8; 1];
-    let mut reads: usize = 0;
-    let table = files::store::new_files(main, supplementary, work, 0, files, 1, 0);
     let from = DeclaringState {
         count: 0,
-        table: table,
+        table: new_files(s.main, s.supplementary, work, 0, s.files, 1, 0),
         warned: 0,
     };
-    let declared = declarations::declaration_lines::resolve_declaration_line_counted(
-        main,
-        supplementary,
+    let searched = resolve_declaration_line_counted(
+        s.main,
+        s.supplementary,
         work,
         &mut files_tray,
         &mut warnings,
-        &mut reads,
-        d,
+        s.places,
         unit,
         place,
         from,
     );
-    write_declared(out, declared, reads)
+    write_declared(out, searched)
 }

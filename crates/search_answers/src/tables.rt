@@ -3,7 +3,6 @@ ghost use Rattle.std.specs.Prelude.{◌+◌, ◌*◌, ◌^◌, ◌≤◌, ◌<�
 ghost use Rattle.tlv.specs.Checked.{Accepts};
 ghost use Rattle.search_answers.specs.Searches.{Room, HasRoom, IndexedSheet, SearchesIn};
 
-use crate::main;
 use access::units::UNIT_RECORD;
 use declarations::declaring::Places;
 use files::index::StoredIndices;
@@ -20,22 +19,11 @@ const ROOM_BESIDES: usize = JOINED_LIMIT + 54;
 pub fn has_room(main: usize, supplementary: usize, n: usize, m: usize, work: usize) -> bool
     ensures { HasRoom main supplementary n m work result }
 {
-    if 4294967296 <= main {
-        return false;
-    }
-    if 4294967296 <= supplementary {
-        return false;
-    }
-    if 65536 < n {
-        return false;
-    }
-    if 65536 < m {
-        return false;
-    }
-    if work < n * 110 + m * 123 + ROOM_BESIDES {
-        return false;
-    }
-    true
+    main < 4294967296
+        && supplementary < 4294967296
+        && n <= 65536
+        && m <= 65536
+        && n * 110 + m * 123 + ROOM_BESIDES <= work
 }
 
 // Writes the tables of a sheet of n fields, the entries behind the units.
@@ -50,9 +38,9 @@ fn index_sheet(s: &[u8], n: usize, work: &mut [u8], base: usize) -> Index
     let entry_count = access::index::index_entries(s, work, entries);
     Index {
         units: base,
-        unit_count: unit_count,
-        entries: entries,
-        entry_count: entry_count,
+        unit_count,
+        entries,
+        entry_count,
     }
 }
 
@@ -81,13 +69,13 @@ pub fn build_tables(
         tables: Tables {
             main: first,
             supplementary: second,
-            keys: keys,
+            keys,
         },
         indices: StoredIndices {
             base: spans,
             count: 0,
         },
-        spans: spans,
-        room: room,
+        spans,
+        room,
     }
 }
