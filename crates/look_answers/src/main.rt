@@ -1,11 +1,16 @@
 // Reads records trays and queries of them from standard input and writes what the look-ups answer (oracle/README.md says how both stand).
 #![tactic(auto)]
 
-ghost use Rattle.std.specs.Prelude.{◌+◌, ◌≤◌, length};
+ghost use Rattle.std.specs.Prelude.{◌≤◌, length};
 
-use lookup::model::{Chain, Listed, Nearest, Row, Running};
+use lookup::address::look_up;
+use lookup::below::nearest_below;
+use lookup::model::Chain;
+use lookup::window::{functions_crossing, functions_inside};
 use std::io::{self, Read, Write};
-use streams::read_full;
+use streams::{answer_all, next_call};
+use tlv::bytes::Number;
+use tlv::refusal::Refusal;
 
 // The byte that a list is filled with before it is lent.
 const FILLED: u8 = 0xa5;
@@ -19,171 +24,94 @@ const CALL_LIMIT: usize = 65536;
 // The longest list that is lent.
 const LIST_LIMIT: usize = 4096;
 
-// The number in the next 4 bytes.
-fn next_u32(input: &mut impl Read) -> io::Result<u32> {
-    let mut bytes = [0u8; 4];
-    read_full(input, &mut bytes)?;
-    Ok(tlv::bytes::read_u32(&bytes, 0))
+fn write_refused(out: &mut impl Write, e: Refusal) -> io::Result<()> {
+    write!(out, "refused {}", e.number())
 }
 
-fn end_line(out: &mut impl Write) -> io::Result<()> {
-    writeln!(out)
-}
-
-fn write_place(out: &mut impl Write, place: usize) -> io::Result<()> {
-    write!(out, " {place}")
-}
-
-fn write_refused(out: &mut impl Write, refusal: u8) -> io::Result<()> {
-    write!(out, "refused {refusal}")
-}
-
-fn write_row(out: &mut impl Write, row: Row) -> io::Result<()> {
+fn write_row(out: &mut impl Write, row: Option<usize>) -> io::Result<()> {
     match row {
-        Row::Missing => write!(out, " no row"),
-        Row::At(place) => write!(out, " row {place}"),
+        None => write!(out, " no row"),
+        Some(place) => write!(out, " row {place}"),
     }
 }
 
 // All 257 places of a chain, as far as they are not 0 or are of it.
 fn write_chain(out: &mut impl Write, chain: Chain) -> io::Result<()> {
-    let places = chain.places;
-    let nodes = chain.nodes;
     write!(out, " chain")?;
-    let mut i: usize = 0;
-    while i < 257 {
-        let place = places[i];
-        if (i < nodes) | (place != 0) {
-            write_place(out, place)?;
+    for (i, &place) in chain.places.iter().enumerate() {
+        if i < chain.nodes || place != 0 {
+            write!(out, " {place}")?;
         }
-        i += 1;
     }
     Ok(())
 }
 
 fn answer_address(out: &mut impl Write, tray: &[u8], address: u64) -> io::Result<()> {
-    let answer = lookup::address::look_up(tray, address);
-    let running = answer.running;
-    let chain = answer.chain;
-    match running {
-        Running::Refused(r) => {
-            write_refused(out, lookup::model::refusal_number(r))?;
+    match look_up(tray, address) {
+        Err(e) => {
+            write_refused(out, e)?;
+            write!(out, " chain")
         }
-        Running::Found { function, row } => {
-            write!(out, "function {function}")?;
-            write_row(out, row)?;
+        Ok(found) => {
+            write!(out, "function {}", found.function)?;
+            write_row(out, found.row)?;
+            write_chain(out, found.chain)
         }
     }
-    write_chain(out, chain)
 }
 
 fn answer_nearest(out: &mut impl Write, tray: &[u8], address: u64) -> io::Result<()> {
-    let answer = lookup::below::nearest_below(tray, address);
-    match answer {
-        Nearest::Refused(r) => write_refused(out, lookup::model::refusal_number(r)),
-        Nearest::At(place) => write!(out, "function {place}"),
+    match nearest_below(tray, address) {
+        Err(e) => write_refused(out, e),
+        Ok(place) => write!(out, "function {place}"),
     }
-}
-
-fn fill(list: &mut [u8]) {
-    let n = list.len();
-    let mut i: usize = 0;
-    while i < n {
-        list[i] = FILLED;
-        i += 1;
-    }
-}
-
-fn write_byte(out: &mut impl Write, b: u8) -> io::Result<()> {
-    write!(out, "{b:02x}")
 }
 
 // All bytes of a list that was lent.
 fn write_bytes(out: &mut impl Write, list: &[u8]) -> io::Result<()> {
-    let mut i: usize = 0;
-    while i < list.len() {
-        write_byte(out, list[i])?;
-        i += 1;
+    for b in list {
+        write!(out, "{b:02x}")?;
     }
     Ok(())
 }
 
-fn write_listed(out: &mut impl Write, listed: Listed) -> io::Result<()> {
-    match listed {
-        Listed::Refused(r) => write_refused(out, lookup::model::refusal_number(r)),
-        Listed::Finished(n) => write!(out, "list {n}"),
-    }
-}
-
-fn answer_inside(
+// What a query of a window answers, and all of the list that was lent for it, of so many bytes.
+fn answer_window<F: FnOnce(&mut [u8]) -> Result<usize, Refusal>>(
     out: &mut impl Write,
-    tray: &[u8],
-    start: u64,
-    end: u64,
     list: &mut [u8],
-) -> io::Result<()> {
-    fill(list);
-    let listed = lookup::window::functions_inside(tray, start, end, list);
-    write_listed(out, listed)?;
-    write!(out, " ")?;
-    write_bytes(out, list)
-}
-
-fn answer_crossing(
-    out: &mut impl Write,
-    tray: &[u8],
-    start: u64,
-    end: u64,
-    list: &mut [u8],
-) -> io::Result<()> {
-    fill(list);
-    let listed = lookup::window::functions_crossing(tray, start, end, list);
-    write_listed(out, listed)?;
-    write!(out, " ")?;
-    write_bytes(out, list)
-}
-
-// The functions inside a window, or those that cross its edge, in so many bytes of the list.
-fn answer_window(
-    out: &mut impl Write,
-    tray: &[u8],
-    inside: bool,
-    start: u64,
-    end: u64,
-    wanted: usize,
-    list: &mut [u8],
-) -> io::Result<()> {
-    if list.len() < wanted {
+    room: usize,
+    query: F,
+) -> io::Result<()>
+    requires { F.IsAlwaysCallable query }
+{
+    if list.len() < room {
         return write!(out, "longer than the list");
     }
-    if inside {
-        answer_inside(out, tray, start, end, &mut list[..wanted])
-    } else {
-        answer_crossing(out, tray, start, end, &mut list[..wanted])
+    let lent = &mut list[..room];
+    lent.fill(FILLED);
+    match query(lent) {
+        Err(e) => write_refused(out, e)?,
+        Ok(n) => write!(out, "list {n}")?,
     }
+    write!(out, " ")?;
+    write_bytes(out, lent)
 }
 
-fn answer_query(
-    out: &mut impl Write,
-    tray: &[u8],
-    queries: &[u8],
-    p: usize,
-    list: &mut [u8],
-) -> io::Result<()>
-    requires { p + 19 ≤ length queries.now }
+fn answer_query(out: &mut impl Write, tray: &[u8], query: &[u8], list: &mut [u8]) -> io::Result<()>
+    requires { 19 ≤ length query.now }
 {
-    let kind = tlv::bytes::read_u8(queries, p);
-    let first = tlv::bytes::read_u64(queries, p + 1);
-    let second = tlv::bytes::read_u64(queries, p + 9);
-    let wanted = tlv::bytes::read_u16(queries, p + 17) as usize;
-    if kind == 1 {
-        answer_address(out, tray, first)
-    } else {
-        if kind == 2 {
-            answer_nearest(out, tray, first)
-        } else {
-            answer_window(out, tray, kind == 3, first, second, wanted, list)
-        }
+    let first = u64::read(query, 1);
+    let second = u64::read(query, 9);
+    let room = u16::read(query, 17) as usize;
+    match query[0] {
+        1 => answer_address(out, tray, first),
+        2 => answer_nearest(out, tray, first),
+        3 => answer_window(out, list, room, |lent| {
+            functions_inside(tray, first, second, lent)
+        }),
+        _ => answer_window(out, list, room, |lent| {
+            functions_crossing(tray, first, second, lent)
+        }),
     }
 }
 
@@ -193,11 +121,9 @@ fn answer_queries(
     queries: &[u8],
     list: &mut [u8],
 ) -> io::Result<()> {
-    let mut p = 0;
-    while QUERY_SIZE <= queries.len() - p {
-        answer_query(out, tray, queries, p, list)?;
-        end_line(out)?;
-        p += QUERY_SIZE;
+    for query in queries.chunks_exact(QUERY_SIZE) {
+        answer_query(out, tray, query, list)?;
+        writeln!(out)?;
     }
     Ok(())
 }
@@ -207,7 +133,7 @@ fn answer(out: &mut impl Write, call: &[u8], list: &mut [u8]) -> io::Result<bool
     if call.len() < 4 {
         return Ok(false);
     }
-    let end = 4 + tlv::bytes::read_u32(call, 0) as usize;
+    let end = 4 + u32::read(call, 0) as usize;
     if call.len() < end {
         return Ok(false);
     }
@@ -222,45 +148,21 @@ fn next_answer(
     buffer: &mut [u8],
     list: &mut [u8],
 ) -> io::Result<bool> {
-    let n = next_u32(input)? as usize;
-    if buffer.len() < n {
-        writeln!(out, "longer than the buffer")?;
+    let Some(call) = next_call(input, out, buffer)? else {
         return Ok(false);
-    }
-    if read_full(input, &mut buffer[..n])? < n {
-        writeln!(out, "cut off")?;
-        return Ok(false);
-    }
-    if !answer(out, &buffer[..n], list)? {
+    };
+    if !answer(out, call, list)? {
         writeln!(out, "no such call")?;
         return Ok(false);
     }
     Ok(true)
 }
 
-// Answers all calls of an input.
-fn answer_all(
-    input: &mut impl Read,
-    out: &mut impl Write,
-    buffer: &mut [u8],
-    list: &mut [u8],
-) -> io::Result<()> {
-    let count = next_u32(input)?;
-    for _ in 0..count {
-        if !next_answer(input, out, buffer, list)? {
-            return Ok(());
-        }
-    }
-    Ok(())
-}
-
 fn main(rt: HostRuntime) -> io::Result<()> {
     let mut buffer = [0u8; CALL_LIMIT];
     let mut list = [0u8; LIST_LIMIT];
-    answer_all(
-        &mut rt.reader(),
-        &mut io::writer(&rt),
-        &mut buffer,
-        &mut list,
-    )
+    let mut out = io::writer(&rt);
+    answer_all(&mut rt.reader(), |input| {
+        next_answer(input, &mut out, &mut buffer, &mut list)
+    })
 }

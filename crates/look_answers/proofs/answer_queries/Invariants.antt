@@ -1,9 +1,0 @@
--- `answer_queries` reads within the queries, and ends: what is left of them falls.
-use Rattle.std.proofs.Common.{length, ◌-◌, ◌≤◌}
-use Rattle.look_answers.proofs.answer_queries.Given as goal
-
-abbrev pub invariant-loop-p : goal.invariant-loop-p
-invariant-loop-p g l = l.p ≤ length l.queries
-
-abbrev pub decreases-loop-p : goal.decreases-loop-p
-decreases-loop-p g l = length l.queries - l.p
