@@ -3,13 +3,13 @@
 
 ghost use Rattle.std.specs.Prelude.{◌≤◌, IfOk, length};
 
-use dwarf::model::Imported;
 use std::fs;
 use std::io::{self, Write};
 use std::rt::Files;
 use streams::read_full;
 use subprograms::model::ConversionStats;
-use tlv::fields::Step;
+use tlv::bytes::Number;
+use tlv::fields::next_field;
 use tlv::tags::{
     TRAY_FILE_TAG, TRAY_FUNCTION_TAG, TRAY_NODE_TAG, TRAY_RANGE_TAG, TRAY_ROW_TAG, TRAY_SITE_TAG,
 };
@@ -40,27 +40,9 @@ fn read_file(rt: &impl Files, name: &str, buffer: &mut [u8]) -> io::Result<usize
     }
 }
 
-fn write_space(out: &mut impl Write) -> io::Result<()> {
-    out.write_all(b" ")
-}
-
-fn write_hex(out: &mut impl Write, n: u64) -> io::Result<()> {
-    write_space(out)?;
-    write!(out, "{n:x}")
-}
-
-fn write_decimal(out: &mut impl Write, n: u64) -> io::Result<()> {
-    write_space(out)?;
-    write!(out, "{n}")
-}
-
 fn write_text(out: &mut impl Write, s: &[u8]) -> io::Result<()> {
-    write_space(out)?;
+    out.write_all(b" ")?;
     out.write_all(s)
-}
-
-fn end_line(out: &mut impl Write) -> io::Result<()> {
-    out.write_all(b"\n")
 }
 
 // 41: start, end, name.
@@ -68,12 +50,10 @@ fn write_function(out: &mut impl Write, p: &[u8]) -> io::Result<()> {
     if p.len() < 16 {
         return Ok(());
     }
-    let start = tlv::bytes::read_u64(p, 0);
     out.write_all(b"function ")?;
-    write!(out, "{start:x}")?;
-    write_hex(out, tlv::bytes::read_u64(p, 8))?;
+    write!(out, "{:x} {:x}", u64::read(p, 0), u64::read(p, 8))?;
     write_text(out, &p[16..])?;
-    end_line(out)
+    writeln!(out)
 }
 
 // 42: address, file, line, column.
@@ -81,13 +61,9 @@ fn write_row(out: &mut impl Write, p: &[u8]) -> io::Result<()> {
     if p.len() < ROW_SIZE {
         return Ok(());
     }
-    let address = tlv::bytes::read_u64(p, 0);
     out.write_all(b"row ")?;
-    write!(out, "{address:x}")?;
-    write_decimal(out, tlv::bytes::read_u32(p, 8) as u64)?;
-    write_decimal(out, tlv::bytes::read_u32(p, 12) as u64)?;
-    write_decimal(out, tlv::bytes::read_u16(p, ROW_COLUMN) as u64)?;
-    end_line(out)
+    write!(out, "{:x} {}", u64::read(p, 0), u32::read(p, 8))?;
+    writeln!(out, " {} {}", u32::read(p, 12), u16::read(p, ROW_COLUMN))
 }
 
 // 43: depth, call file, call line, name.
@@ -95,13 +71,16 @@ fn write_inline(out: &mut impl Write, p: &[u8]) -> io::Result<()> {
     if p.len() < 10 {
         return Ok(());
     }
-    let depth = tlv::bytes::read_u16(p, 0);
     out.write_all(b"inline ")?;
-    write!(out, "{depth}")?;
-    write_decimal(out, tlv::bytes::read_u32(p, 2) as u64)?;
-    write_decimal(out, tlv::bytes::read_u32(p, 6) as u64)?;
+    write!(
+        out,
+        "{} {} {}",
+        u16::read(p, 0),
+        u32::read(p, 2),
+        u32::read(p, 6)
+    )?;
     write_text(out, &p[10..])?;
-    end_line(out)
+    writeln!(out)
 }
 
 // 44: start, end.
@@ -109,11 +88,8 @@ fn write_range(out: &mut impl Write, p: &[u8]) -> io::Result<()> {
     if p.len() < 16 {
         return Ok(());
     }
-    let start = tlv::bytes::read_u64(p, 0);
     out.write_all(b"range ")?;
-    write!(out, "{start:x}")?;
-    write_hex(out, tlv::bytes::read_u64(p, 8))?;
-    end_line(out)
+    writeln!(out, "{:x} {:x}", u64::read(p, 0), u64::read(p, 8))
 }
 
 // 45: return offset, pattern count, pattern. A site without a pattern ends after its offset.
@@ -121,13 +97,12 @@ fn write_site(out: &mut impl Write, p: &[u8]) -> io::Result<()> {
     if p.len() < 9 {
         return Ok(());
     }
-    let address = tlv::bytes::read_u64(p, 0);
     out.write_all(b"site ")?;
-    write!(out, "{address:x}")?;
-    if tlv::bytes::read_u8(p, 8) != 0 {
+    write!(out, "{:x}", u64::read(p, 0))?;
+    if p[8] != 0 {
         write_text(out, &p[9..])?;
     }
-    end_line(out)
+    writeln!(out)
 }
 
 // 40: directory length, directory, basename; its number in the table goes before them.
@@ -135,7 +110,7 @@ fn write_file(out: &mut impl Write, p: &[u8], number: u64) -> io::Result<()> {
     if p.len() < 2 {
         return Ok(());
     }
-    let split = 2 + tlv::bytes::read_u16(p, 0) as usize;
+    let split = 2 + u16::read(p, 0) as usize;
     if p.len() < split {
         return Ok(());
     }
@@ -143,24 +118,22 @@ fn write_file(out: &mut impl Write, p: &[u8], number: u64) -> io::Result<()> {
     write!(out, "{number}")?;
     write_text(out, &p[2..split])?;
     write_text(out, &p[split..])?;
-    end_line(out)
+    writeln!(out)
 }
 
 // 46: kind, then two numbers, or of kinds 1 and 2 the reason.
 fn write_warning(out: &mut impl Write, p: &[u8]) -> io::Result<()> {
-    if p.len() < 1 {
+    let Some(&kind) = p.first() else {
         return Ok(());
-    }
-    let kind = tlv::bytes::read_u8(p, 0);
+    };
     out.write_all(b"warning ")?;
     write!(out, "{kind}")?;
     if kind < 3 {
         write_text(out, &p[1..])?;
     } else if 17 <= p.len() {
-        write_hex(out, tlv::bytes::read_u64(p, 1))?;
-        write_hex(out, tlv::bytes::read_u64(p, 9))?;
+        write!(out, " {:x} {:x}", u64::read(p, 1), u64::read(p, 9))?;
     }
-    end_line(out)
+    writeln!(out)
 }
 
 // The line of a field of an output buffer.
@@ -179,47 +152,24 @@ fn write_field(out: &mut impl Write, tag: u8, p: &[u8], number: u64) -> io::Resu
 // A line for each field; the fields have numbers from `first` on.
 fn write_fields(out: &mut impl Write, s: &[u8], first: u64) -> io::Result<()> {
     let mut number = first;
-    let mut p: usize = 0;
-    loop {
-        match tlv::fields::field_at(s, p) {
-            Step::End => {
-                return Ok(());
-            }
-            Step::Cut => {
-                return Ok(());
-            }
-            Step::Field {
-                tag,
-                start,
-                len: _,
-                next,
-            } => {
-                write_field(out, tag, &s[start..next], number)?;
-                if number < 4294967296 {
-                    number += 1;
-                }
-                p = next;
-            }
-        }
+    let mut p = 0;
+    while let Some(field) = next_field(s, p) {
+        write_field(out, field.tag, &s[field.start..field.next], number)?;
+        number = number.saturating_add(1);
+        p = field.next;
     }
+    Ok(())
 }
 
 fn write_stats(out: &mut impl Write, s: ConversionStats) -> io::Result<()> {
-    let functions = s.functions;
     out.write_all(b"stats ")?;
-    write!(out, "{functions}")?;
-    write_decimal(out, s.line_rows)?;
-    write_decimal(out, s.inline_nodes)?;
-    write_decimal(out, s.rejected_ranges)?;
-    end_line(out)
+    write!(out, "{} {}", s.functions, s.line_rows)?;
+    writeln!(out, " {} {}", s.inline_nodes, s.rejected_ranges)
 }
 
 // The part of a buffer that was written.
 fn written(buffer: &[u8], n: usize) -> &[u8] {
-    if buffer.len() < n {
-        return buffer;
-    }
-    &buffer[..n]
+    &buffer[..n.min(buffer.len())]
 }
 
 // There is no file for a list section and none for an address table: both are empty.
@@ -248,21 +198,15 @@ fn list<'a>(
         &mut files,
         &mut warnings,
     ) {
-        Imported::Refused(r) => {
+        Err(refusal) => {
             out.write_all(b"refused ")?;
-            write!(out, "{r}")?;
-            end_line(out)
+            writeln!(out, "{}", refusal.number())
         }
-        Imported::Finished {
-            records: a,
-            files: b,
-            warnings: c,
-            stats,
-        } => {
-            write_fields(out, written(&records, a), 0)?;
-            write_fields(out, written(&files, b), 1)?;
-            write_fields(out, written(&warnings, c), 0)?;
-            write_stats(out, stats)
+        Ok(done) => {
+            write_fields(out, written(&records, done.records), 0)?;
+            write_fields(out, written(&files, done.files), 1)?;
+            write_fields(out, written(&warnings, done.warnings), 0)?;
+            write_stats(out, done.stats)
         }
     }
 }
