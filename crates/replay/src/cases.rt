@@ -2,6 +2,8 @@
 
 use std::io;
 use streams::read_full;
+use subprograms::model::ConversionStats;
+use tlv::bytes::Number;
 
 // What a case asks besides its inputs' bytes: all units or that of the ordinal; the lengths are those of the inputs, of work and of the output buffers.
 // The lengths of the list section and the address table stand behind the other inputs, where `sections` says that the case has them; else both are 0.
@@ -24,57 +26,49 @@ pub struct Case {
     pub warnings: usize,
 }
 
-// A recorded answer, without the bytes that follow it.
+// A recorded answer, without the bytes that follow it; the refusal's number is 0 for none.
 #[derive(Clone, Copy)]
 pub struct Answer {
     pub refusal: u8,
     pub records: usize,
     pub files: usize,
     pub warnings: usize,
-    pub functions: u64,
-    pub line_rows: u64,
-    pub inline_nodes: u64,
-    pub rejected_ranges: u64,
-}
-
-// A case whose inputs were read; or they are cut off or too large.
-#[derive(Clone, Copy)]
-pub enum Read {
-    Whole(Case),
-    Cut,
+    pub stats: ConversionStats,
 }
 
 pub fn case_of(head: &[u8; 45]) -> Case {
-    let switches = tlv::bytes::read_u8(head, 20);
+    let switches = u8::read(head, 20);
     Case {
-        main: tlv::bytes::read_u32(head, 0),
-        supplementary: tlv::bytes::read_u32(head, 4),
-        program: tlv::bytes::read_u32(head, 8),
+        main: u32::read(head, 0),
+        supplementary: u32::read(head, 4),
+        program: u32::read(head, 8),
         lists: 0,
         addresses: 0,
-        ordinal: tlv::bytes::read_u64(head, 12),
+        ordinal: u64::read(head, 12),
         all: switches / 4 % 2 == 1,
         inlines: switches % 2 == 1,
         call_sites: switches / 2 % 2 == 1,
         sections: switches / 8 % 2 == 1,
-        first_file: tlv::bytes::read_u32(head, 21),
-        work: tlv::bytes::read_u64(head, 25) as usize,
-        records: tlv::bytes::read_u32(head, 33) as usize,
-        files: tlv::bytes::read_u32(head, 37) as usize,
-        warnings: tlv::bytes::read_u32(head, 41) as usize,
+        first_file: u32::read(head, 21),
+        work: u64::read(head, 25) as usize,
+        records: u32::read(head, 33) as usize,
+        files: u32::read(head, 37) as usize,
+        warnings: u32::read(head, 41) as usize,
     }
 }
 
 pub fn answer_of(head: &[u8; 57]) -> Answer {
     Answer {
-        refusal: tlv::bytes::read_u8(head, 0),
-        records: tlv::bytes::read_u64(head, 1) as usize,
-        files: tlv::bytes::read_u64(head, 9) as usize,
-        warnings: tlv::bytes::read_u64(head, 17) as usize,
-        functions: tlv::bytes::read_u64(head, 25),
-        line_rows: tlv::bytes::read_u64(head, 33),
-        inline_nodes: tlv::bytes::read_u64(head, 41),
-        rejected_ranges: tlv::bytes::read_u64(head, 49),
+        refusal: u8::read(head, 0),
+        records: u64::read(head, 1) as usize,
+        files: u64::read(head, 9) as usize,
+        warnings: u64::read(head, 17) as usize,
+        stats: ConversionStats {
+            functions: u64::read(head, 25),
+            line_rows: u64::read(head, 33),
+            inline_nodes: u64::read(head, 41),
+            rejected_ranges: u64::read(head, 49),
+        },
     }
 }
 
@@ -91,35 +85,41 @@ fn read_at(cases: &mut impl io::Read, inputs: &mut [u8], at: usize, n: usize) ->
     Ok(n <= came)
 }
 
-// Reads the list section and the address table to a place of the inputs, and says their lengths.
+// Reads the list section and the address table to a place of the inputs, and says their lengths; none where they are cut off or too large.
 fn read_sections(
     cases: &mut impl io::Read,
     c: Case,
     inputs: &mut [u8],
     at: usize,
-) -> io::Result<Read> {
+) -> io::Result<Option<Case>> {
     let mut head = [0u8; 8];
     if read_full(cases, &mut head)? < 8 {
-        return Ok(Read::Cut);
+        return Ok(None);
     }
-    let mut with = c;
-    with.lists = tlv::bytes::read_u32(&head, 0);
-    with.addresses = tlv::bytes::read_u32(&head, 4);
+    let with = Case {
+        lists: u32::read(&head, 0),
+        addresses: u32::read(&head, 4),
+        ..c
+    };
     let n = with.lists as usize + with.addresses as usize;
     if read_at(cases, inputs, at, n)? {
-        return Ok(Read::Whole(with));
+        return Ok(Some(with));
     }
-    Ok(Read::Cut)
+    Ok(None)
 }
 
-// Reads the inputs of a case, one behind the other from the front.
-pub fn read_inputs(cases: &mut impl io::Read, c: Case, inputs: &mut [u8]) -> io::Result<Read> {
+// Reads the inputs of a case, one behind the other from the front; none where they are cut off or too large.
+pub fn read_inputs(
+    cases: &mut impl io::Read,
+    c: Case,
+    inputs: &mut [u8],
+) -> io::Result<Option<Case>> {
     let n = c.main as usize + c.supplementary as usize + c.program as usize;
     if !read_at(cases, inputs, 0, n)? {
-        return Ok(Read::Cut);
+        return Ok(None);
     }
     if c.sections {
         return read_sections(cases, c, inputs, n);
     }
-    Ok(Read::Whole(c))
+    Ok(Some(c))
 }

@@ -1,18 +1,18 @@
 // Holds what a pass or an import gave to a recorded answer.
 use crate::cases::Answer;
+use crate::runs::Lent;
 use dwarf::model::Imported;
+use std::fmt;
 use std::io::{self, Read};
 use streams::read_full;
-use subprograms::model::ConversionStats;
+use tlv::refusal::Refusal;
 
 // What stands in the output buffers and in work before a call.
 pub const FILLED: u8 = 0xa5;
 
-// What became of a case.
+// In what a case differs from its recorded answer.
 #[derive(Clone, Copy)]
-pub enum Verdict {
-    End,
-    Same,
+pub enum Difference {
     Refusal,
     Lengths,
     Statistics,
@@ -24,42 +24,24 @@ pub enum Verdict {
     Cut,
 }
 
+impl fmt::Display for Difference {
+    fn fmt<W: fmt::Write>(&self, f: &mut fmt::Formatter<W>) -> fmt::Result {
+        match self {
+            Difference::Refusal => write!(f, "refusal"),
+            Difference::Lengths => write!(f, "lengths"),
+            Difference::Statistics => write!(f, "statistics"),
+            Difference::Bytes => write!(f, "bytes written"),
+            Difference::Past => write!(f, "bytes past a length"),
+            Difference::Fill => write!(f, "buffers after a refusal"),
+            Difference::Work => write!(f, "work"),
+            Difference::Pass => write!(f, "the pass that writes no buffer"),
+            Difference::Cut => write!(f, "the files are cut off or too large"),
+        }
+    }
+}
+
 fn holds_only(buffer: &[u8], b: u8) -> bool {
-    let mut i = 0;
-    while i < buffer.len() {
-        if buffer[i] != b {
-            return false;
-        }
-        i += 1;
-    }
-    true
-}
-
-fn same_bytes(a: &[u8], b: &[u8]) -> bool {
-    if a.len() != b.len() {
-        return false;
-    }
-    let mut i = 0;
-    while i < a.len() {
-        if a[i] != b[i] {
-            return false;
-        }
-        i += 1;
-    }
-    true
-}
-
-fn same_stats(s: ConversionStats, a: Answer) -> bool {
-    if s.functions != a.functions {
-        return false;
-    }
-    if s.line_rows != a.line_rows {
-        return false;
-    }
-    if s.inline_nodes != a.inline_nodes {
-        return false;
-    }
-    s.rejected_ranges == a.rejected_ranges
+    buffer.iter().all(|&x| x == b)
 }
 
 // Whether a buffer begins with the n bytes that come next in the file of answers, and is as it was behind them.
@@ -68,23 +50,23 @@ fn judge_buffer(
     expected: &mut [u8],
     buffer: &[u8],
     n: usize,
-) -> io::Result<Verdict> {
+) -> io::Result<Option<Difference>> {
     if expected.len() < n {
-        return Ok(Verdict::Cut);
+        return Ok(Some(Difference::Cut));
     }
     if buffer.len() < n {
-        return Ok(Verdict::Lengths);
+        return Ok(Some(Difference::Lengths));
     }
     if read_full(answers, &mut expected[..n])? < n {
-        return Ok(Verdict::Cut);
+        return Ok(Some(Difference::Cut));
     }
-    if !same_bytes(&expected[..n], &buffer[..n]) {
-        return Ok(Verdict::Bytes);
+    if &expected[..n] != &buffer[..n] {
+        return Ok(Some(Difference::Bytes));
     }
     if !holds_only(&buffer[n..], FILLED) {
-        return Ok(Verdict::Past);
+        return Ok(Some(Difference::Past));
     }
-    Ok(Verdict::Same)
+    Ok(None)
 }
 
 // The three buffers of a finished import.
@@ -92,123 +74,90 @@ fn judge_buffers(
     answers: &mut impl Read,
     a: Answer,
     expected: &mut [u8],
-    records: &[u8],
-    files: &[u8],
-    warnings: &[u8],
-) -> io::Result<Verdict> {
-    let first = judge_buffer(answers, expected, records, a.records)?;
-    let Verdict::Same = first else {
-        return Ok(first);
-    };
-    let second = judge_buffer(answers, expected, files, a.files)?;
-    let Verdict::Same = second else {
-        return Ok(second);
-    };
-    judge_buffer(answers, expected, warnings, a.warnings)
+    t: &Lent,
+) -> io::Result<Option<Difference>> {
+    if let Some(what) = judge_buffer(answers, expected, t.records, a.records)? {
+        return Ok(Some(what));
+    }
+    if let Some(what) = judge_buffer(answers, expected, t.files, a.files)? {
+        return Ok(Some(what));
+    }
+    judge_buffer(answers, expected, t.warnings, a.warnings)
 }
 
 fn judge_finished(
     answers: &mut impl Read,
     a: Answer,
-    lengths: [usize; 3],
-    stats: ConversionStats,
+    r: Imported,
     expected: &mut [u8],
-    records: &[u8],
-    files: &[u8],
-    warnings: &[u8],
-) -> io::Result<Verdict> {
+    t: &Lent,
+) -> io::Result<Option<Difference>> {
     if a.refusal != 0 {
-        return Ok(Verdict::Refusal);
+        return Ok(Some(Difference::Refusal));
     }
-    if lengths[0] != a.records || lengths[1] != a.files || lengths[2] != a.warnings {
-        return Ok(Verdict::Lengths);
+    if r.records != a.records || r.files != a.files || r.warnings != a.warnings {
+        return Ok(Some(Difference::Lengths));
     }
-    if !same_stats(stats, a) {
-        return Ok(Verdict::Statistics);
+    if r.stats != a.stats {
+        return Ok(Some(Difference::Statistics));
     }
-    judge_buffers(answers, a, expected, records, files, warnings)
+    judge_buffers(answers, a, expected, t)
 }
 
-fn judge_refused(a: Answer, n: u8, records: &[u8], files: &[u8], warnings: &[u8]) -> Verdict {
+fn judge_refused(a: Answer, n: u8, t: &Lent) -> Option<Difference> {
     if a.refusal != n {
-        return Verdict::Refusal;
+        return Some(Difference::Refusal);
     }
-    if holds_only(records, 0) && holds_only(files, 0) && holds_only(warnings, 0) {
-        return Verdict::Same;
+    if holds_only(t.records, 0) && holds_only(t.files, 0) && holds_only(t.warnings, 0) {
+        return None;
     }
-    Verdict::Fill
+    Some(Difference::Fill)
 }
 
+// What an import gave; none where all is as recorded.
 pub fn judge(
     answers: &mut impl Read,
     a: Answer,
-    r: Imported,
+    r: Result<Imported, Refusal>,
     expected: &mut [u8],
-    work: &[u8],
-    records: &[u8],
-    files: &[u8],
-    warnings: &[u8],
-) -> io::Result<Verdict> {
-    if !holds_only(work, 0) {
-        return Ok(Verdict::Work);
+    t: &Lent,
+) -> io::Result<Option<Difference>> {
+    if !holds_only(t.work, 0) {
+        return Ok(Some(Difference::Work));
     }
     match r {
-        Imported::Refused(n) => Ok(judge_refused(a, n, records, files, warnings)),
-        Imported::Finished {
-            records: x,
-            files: y,
-            warnings: z,
-            stats,
-        } => judge_finished(
-            answers,
-            a,
-            [x, y, z],
-            stats,
-            expected,
-            records,
-            files,
-            warnings,
-        ),
+        Err(refusal) => Ok(judge_refused(a, refusal.number(), t)),
+        Ok(finished) => judge_finished(answers, a, finished, expected, t),
     }
 }
 
 // Whether the lengths that the pass says are those of a recorded answer; where a buffer was too short, whether it says so of that one first.
-fn are_lengths(a: Answer, said: [usize; 3], lent: [usize; 3]) -> bool {
+fn are_lengths(a: Answer, said: Imported, lent: [usize; 3]) -> bool {
     if a.refusal == 0 {
-        return said[0] == a.records && said[1] == a.files && said[2] == a.warnings;
+        return said.records == a.records && said.files == a.files && said.warnings == a.warnings;
     }
     if a.refusal == 16 {
-        return said[0] > lent[0];
+        return said.records > lent[0];
     }
-    if said[0] > lent[0] {
+    if said.records > lent[0] {
         return false;
     }
     if a.refusal == 17 {
-        return said[1] > lent[1];
+        return said.files > lent[1];
     }
-    if said[1] > lent[1] {
+    if said.files > lent[1] {
         return false;
     }
-    a.refusal == 18 && said[2] > lent[2]
+    a.refusal == 18 && said.warnings > lent[2]
 }
 
 // Whether the pass says what is recorded, of an import into buffers of these lengths: the refusal where it is no buffer's, else the lengths and statistics.
-pub fn judge_pass(a: Answer, r: Imported, work: &[u8], lent: [usize; 3]) -> bool {
+pub fn judge_pass(a: Answer, r: Result<Imported, Refusal>, work: &[u8], lent: [usize; 3]) -> bool {
     if !holds_only(work, 0) {
         return false;
     }
     match r {
-        Imported::Refused(n) => a.refusal == n && (n < 16 || 18 < n),
-        Imported::Finished {
-            records: x,
-            files: y,
-            warnings: z,
-            stats,
-        } => {
-            if a.refusal == 0 && !same_stats(stats, a) {
-                return false;
-            }
-            are_lengths(a, [x, y, z], lent)
-        }
+        Err(refusal) => a.refusal == refusal.number() && !(16..=18).contains(&a.refusal),
+        Ok(said) => (a.refusal != 0 || said.stats == a.stats) && are_lengths(a, said, lent),
     }
 }

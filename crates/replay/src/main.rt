@@ -5,9 +5,9 @@
 
 ghost use Rattle.std.specs.Prelude.{◌≡◌, length};
 
-use cases::{answer_of, case_of, read_inputs};
-use judge::Verdict;
-use runs::cut_case;
+use cases::{Answer, Case, answer_of, case_of, read_inputs};
+use judge::Difference;
+use runs::{Lent, run_case};
 use std::fs;
 use std::io::{self, Read, Write};
 use std::rt::Files;
@@ -20,93 +20,54 @@ mod runs;
 // The most bytes of a case's inputs, and of each output.
 const LARGE: usize = 65536;
 
+// The most bytes of work.
+const WORK_SIZE: usize = 98304;
+
+// The most cases of a file.
+const CASE_LIMIT: u64 = 1000000;
+
+// What comes next in a file of cases: a case with its answer, the end, or one that is cut off or too large.
+enum Next {
+    Case(Case, Answer),
+    End,
+    Cut,
+}
+
 // The next case of a file of cases, with its answer from a file of answers.
 fn next_case(
     cases: &mut impl Read,
     answers: &mut impl Read,
     inputs: &mut [u8],
-    expected: &mut [u8],
-    work: &mut [u8],
-    records: &mut [u8],
-    files: &mut [u8],
-    warnings: &mut [u8],
-) -> io::Result<Verdict> {
+) -> io::Result<Next> {
     let mut head = [0u8; 45];
     if read_full(cases, &mut head)? < 45 {
-        return Ok(Verdict::End);
+        return Ok(Next::End);
     }
     let mut answer = [0u8; 57];
     if read_full(answers, &mut answer)? < 57 {
-        return Ok(Verdict::Cut);
+        return Ok(Next::Cut);
     }
-    let cases::Read::Whole(c) = read_inputs(cases, case_of(&head), inputs)? else {
-        return Ok(Verdict::Cut);
+    let Some(c) = read_inputs(cases, case_of(&head), inputs)? else {
+        return Ok(Next::Cut);
     };
-    cut_case(
-        answers,
-        c,
-        answer_of(&answer),
-        inputs,
-        expected,
-        work,
-        records,
-        files,
-        warnings,
-    )
-}
-
-fn write_difference(out: &mut impl Write, number: u64, what: &str) -> io::Result<()> {
-    writeln!(out, " case {number} differs: {what}")
-}
-
-// Writes what became of case `number`; true where there may be a next one.
-fn write_verdict(out: &mut impl Write, number: u64, v: Verdict) -> io::Result<bool> {
-    match v {
-        Verdict::Same => {
-            return Ok(true);
-        }
-        Verdict::End => {
-            writeln!(out, " {number} cases, all as recorded")?;
-        }
-        Verdict::Refusal => {
-            write_difference(out, number, "refusal")?;
-        }
-        Verdict::Lengths => {
-            write_difference(out, number, "lengths")?;
-        }
-        Verdict::Statistics => {
-            write_difference(out, number, "statistics")?;
-        }
-        Verdict::Bytes => {
-            write_difference(out, number, "bytes written")?;
-        }
-        Verdict::Past => {
-            write_difference(out, number, "bytes past a length")?;
-        }
-        Verdict::Fill => {
-            write_difference(out, number, "buffers after a refusal")?;
-        }
-        Verdict::Work => {
-            write_difference(out, number, "work")?;
-        }
-        Verdict::Pass => {
-            write_difference(out, number, "the pass that writes no buffer")?;
-        }
-        Verdict::Cut => {
-            write_difference(out, number, "the files are cut off or too large")?;
-        }
+    if WORK_SIZE < c.work {
+        return Ok(Next::Cut);
     }
-    Ok(false)
+    Ok(Next::Case(c, answer_of(&answer)))
 }
 
 // Zeros for work. Its own function: a caller's proof sees only the length.
-fn work_buffer() -> [u8; 98304]
-    ensures { 98304 ≡ length result }
+fn work_buffer() -> [u8; WORK_SIZE]
+    ensures { WORK_SIZE ≡ length result }
 {
-    [0; 98304]
+    [0; WORK_SIZE]
 }
 
-// The cases of two open files, at most a million.
+fn write_difference(out: &mut impl Write, number: u64, what: Difference) -> io::Result<()> {
+    writeln!(out, " case {number} differs: {what}")
+}
+
+// The cases of two open files, each over buffers of its lengths: an output buffer is no longer than ours, which hold every recorded output.
 fn replay_cases(
     out: &mut impl Write,
     cases: &mut impl Read,
@@ -118,22 +79,21 @@ fn replay_cases(
     let mut records = [0u8; LARGE];
     let mut files = [0u8; LARGE];
     let mut warnings = [0u8; LARGE];
-    let mut number: u64 = 0;
-    while number < 1000000 {
-        let v = next_case(
-            cases,
-            answers,
-            &mut inputs,
-            &mut expected,
-            &mut work,
-            &mut records,
-            &mut files,
-            &mut warnings,
-        )?;
-        if !write_verdict(out, number, v)? {
-            return Ok(());
+    for number in 0..CASE_LIMIT {
+        let (c, a) = match next_case(cases, answers, &mut inputs)? {
+            Next::Case(c, a) => (c, a),
+            Next::End => return writeln!(out, " {number} cases, all as recorded"),
+            Next::Cut => return write_difference(out, number, Difference::Cut),
+        };
+        let mut t = Lent {
+            work: &mut work[..c.work.min(WORK_SIZE)],
+            records: &mut records[..c.records.min(LARGE)],
+            files: &mut files[..c.files.min(LARGE)],
+            warnings: &mut warnings[..c.warnings.min(LARGE)],
+        };
+        if let Some(what) = run_case(answers, c, a, &inputs, &mut expected, &mut t)? {
+            return write_difference(out, number, what);
         }
-        number += 1;
     }
     Ok(())
 }

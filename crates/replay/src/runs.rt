@@ -1,55 +1,39 @@
 // Runs a case: the pass that writes no buffer, then the import.
-ghost use Rattle.std.specs.Prelude.{◌≤◌};
-
 use crate::cases::{Answer, Case};
-use crate::judge::{FILLED, Verdict, judge, judge_pass};
+use crate::judge::{Difference, FILLED, judge, judge_pass};
 use dwarf::model::Imported;
 use std::io::{self, Read};
+use tlv::refusal::Refusal;
 
-fn lesser(a: usize, b: usize) -> usize
-    ensures { result ≤ b }
-{
-    if a < b {
-        return a;
-    }
-    b
+// What a case's import reads.
+#[derive(Clone, Copy)]
+pub struct Inputs<'a> {
+    pub main: &'a [u8],
+    pub supplementary: &'a [u8],
+    pub program: &'a [u8],
+    pub lists: &'a [u8],
+    pub addresses: &'a [u8],
 }
 
-fn fill(buffer: &mut [u8], b: u8) {
-    let n = buffer.len();
-    let mut i = 0;
-    while i < n {
-        buffer[i] = b;
-        i += 1;
-    }
-}
-
-// What stands before a call.
-fn fill_buffers(work: &mut [u8], records: &mut [u8], files: &mut [u8], warnings: &mut [u8]) {
-    fill(work, FILLED);
-    fill(records, FILLED);
-    fill(files, FILLED);
-    fill(warnings, FILLED);
+// What it writes: work and the three output buffers.
+#[derive(Drop)]
+pub struct Lent<'a> {
+    pub work: &'a mut [u8],
+    pub records: &'a mut [u8],
+    pub files: &'a mut [u8],
+    pub warnings: &'a mut [u8],
 }
 
 // The pass of a case, with work filled.
-fn measure_case<'a>(
-    c: Case,
-    main: &'a [u8],
-    supplementary: &'a [u8],
-    program: &[u8],
-    lists: &[u8],
-    addresses: &[u8],
-    work: &mut [u8],
-) -> Imported {
-    fill(work, FILLED);
+fn measure_case(c: Case, i: Inputs, work: &mut [u8]) -> Result<Imported, Refusal> {
+    work.fill(FILLED);
     if c.all {
         return dwarf::import::measure_dwarf(
-            main,
-            supplementary,
-            program,
-            lists,
-            addresses,
+            i.main,
+            i.supplementary,
+            i.program,
+            i.lists,
+            i.addresses,
             c.inlines,
             c.call_sites,
             c.first_file,
@@ -57,11 +41,11 @@ fn measure_case<'a>(
         );
     }
     dwarf::import::measure_unit(
-        main,
-        supplementary,
-        program,
-        lists,
-        addresses,
+        i.main,
+        i.supplementary,
+        i.program,
+        i.lists,
+        i.addresses,
         c.ordinal,
         c.inlines,
         c.call_sites,
@@ -71,152 +55,85 @@ fn measure_case<'a>(
 }
 
 // The import of a case, with the buffers filled.
-fn import_case<'a>(
-    c: Case,
-    main: &'a [u8],
-    supplementary: &'a [u8],
-    program: &[u8],
-    lists: &[u8],
-    addresses: &[u8],
-    work: &mut [u8],
-    records: &mut [u8],
-    files: &mut [u8],
-    warnings: &mut [u8],
-) -> Imported {
-    fill_buffers(work, records, files, warnings);
+fn import_case(c: Case, i: Inputs, t: &mut Lent) -> Result<Imported, Refusal> {
+    t.work.fill(FILLED);
+    t.records.fill(FILLED);
+    t.files.fill(FILLED);
+    t.warnings.fill(FILLED);
     if c.all {
         return dwarf::import::import_dwarf(
-            main,
-            supplementary,
-            program,
-            lists,
-            addresses,
+            i.main,
+            i.supplementary,
+            i.program,
+            i.lists,
+            i.addresses,
             c.inlines,
             c.call_sites,
             c.first_file,
-            work,
-            records,
-            files,
-            warnings,
+            t.work,
+            t.records,
+            t.files,
+            t.warnings,
         );
     }
     dwarf::import::import_unit(
-        main,
-        supplementary,
-        program,
-        lists,
-        addresses,
+        i.main,
+        i.supplementary,
+        i.program,
+        i.lists,
+        i.addresses,
         c.ordinal,
         c.inlines,
         c.call_sites,
         c.first_file,
-        work,
-        records,
-        files,
-        warnings,
+        t.work,
+        t.records,
+        t.files,
+        t.warnings,
     )
 }
 
 // A case over its inputs and over buffers of its lengths: the pass, then the import.
-fn run_both<'a>(
+fn run_both(
     answers: &mut impl Read,
     c: Case,
     a: Answer,
-    main: &'a [u8],
-    supplementary: &'a [u8],
-    program: &[u8],
-    lists: &[u8],
-    addresses: &[u8],
+    i: Inputs,
     expected: &mut [u8],
-    work: &mut [u8],
-    records: &mut [u8],
-    files: &mut [u8],
-    warnings: &mut [u8],
-) -> io::Result<Verdict> {
-    let said = measure_case(c, main, supplementary, program, lists, addresses, work);
-    if !judge_pass(a, said, work, [records.len(), files.len(), warnings.len()]) {
-        return Ok(Verdict::Pass);
+    t: &mut Lent,
+) -> io::Result<Option<Difference>> {
+    let said = measure_case(c, i, t.work);
+    let lengths = [t.records.len(), t.files.len(), t.warnings.len()];
+    if !judge_pass(a, said, t.work, lengths) {
+        return Ok(Some(Difference::Pass));
     }
-    let r = import_case(
-        c,
-        main,
-        supplementary,
-        program,
-        lists,
-        addresses,
-        work,
-        records,
-        files,
-        warnings,
-    );
-    judge(answers, a, r, expected, work, records, files, warnings)
+    let r = import_case(c, i, t);
+    judge(answers, a, r, expected, t)
 }
 
 // A case whose inputs were read, over those and over buffers of its lengths.
-fn run_case(
+pub fn run_case(
     answers: &mut impl Read,
     c: Case,
     a: Answer,
     inputs: &[u8],
     expected: &mut [u8],
-    work: &mut [u8],
-    records: &mut [u8],
-    files: &mut [u8],
-    warnings: &mut [u8],
-) -> io::Result<Verdict> {
+    t: &mut Lent,
+) -> io::Result<Option<Difference>> {
     let main = c.main as usize;
     let second = main + c.supplementary as usize;
     let third = second + c.program as usize;
     let fourth = third + c.lists as usize;
     let end = fourth + c.addresses as usize;
     if inputs.len() < end {
-        return Ok(Verdict::Cut);
+        return Ok(Some(Difference::Cut));
     }
-    run_both(
-        answers,
-        c,
-        a,
-        &inputs[..main],
-        &inputs[main..second],
-        &inputs[second..third],
-        &inputs[third..fourth],
-        &inputs[fourth..end],
-        expected,
-        work,
-        records,
-        files,
-        warnings,
-    )
-}
-
-// The buffers of a case: an output buffer is no longer than ours, which hold every recorded output.
-pub fn cut_case(
-    answers: &mut impl Read,
-    c: Case,
-    a: Answer,
-    inputs: &[u8],
-    expected: &mut [u8],
-    work: &mut [u8],
-    records: &mut [u8],
-    files: &mut [u8],
-    warnings: &mut [u8],
-) -> io::Result<Verdict> {
-    let w = c.work;
-    if work.len() < w {
-        return Ok(Verdict::Cut);
-    }
-    let x = lesser(c.records, records.len());
-    let y = lesser(c.files, files.len());
-    let z = lesser(c.warnings, warnings.len());
-    run_case(
-        answers,
-        c,
-        a,
-        inputs,
-        expected,
-        &mut work[..w],
-        &mut records[..x],
-        &mut files[..y],
-        &mut warnings[..z],
-    )
+    let i = Inputs {
+        main: &inputs[..main],
+        supplementary: &inputs[main..second],
+        program: &inputs[second..third],
+        lists: &inputs[third..fourth],
+        addresses: &inputs[fourth..end],
+    };
+    run_both(answers, c, a, i, expected, t)
 }
