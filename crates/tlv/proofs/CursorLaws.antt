@@ -10,28 +10,27 @@ use lib.Dec.{leb, ltb}
 use lib.ListN.{length, take, drop, get_or, length-drop}
 use lib.Seq.{drop-drop, get_or-drop, length-take-le}
 use borrow.Author.Tests.{le-leb, lt-leb, lt-ltb, le-ltb, eq-eqb, ne_eqb}
-use Rattle.tlv.specs.declared.fields.Step.{Step}
 use Rattle.tlv.specs.Bytes.{le, le_at}
 use Rattle.tlv.specs.Fields.{FieldList, end, cut, more, fields_from, fields, whole_fields, payloads}
-use Rattle.tlv.specs.Cursor.{step_at, fields_of}
+use Rattle.tlv.specs.Cursor.{Step, field_here, cut_short, nothing_left, step_at, fields_of}
 
 -- ---- the four cases of a step, each from the tests that lead there
 
 module _ (s : List ℕ) (p : ℕ) where
-  pub step_end : length s ≤ p → step_at s p ≡ Step.End
+  pub step_end : length s ≤ p → step_at s p ≡ nothing_left
   unfolding step_at
   step_end h = rw (le-leb (length s) p h)
 
-  pub step-short : p < length s → length s - p < 3 → step_at s p ≡ Step.Cut
+  pub step-short : p < length s → length s - p < 3 → step_at s p ≡ cut_short
   unfolding step_at
   step-short h k = rw (lt-leb (length s) p h, lt-ltb (length s - p) 3 k)
 
-  pub step_cut : p < length s → 3 ≤ length s - p → length s - (p + 3) < le_at 2 s (p + 1) → step_at s p ≡ Step.Cut
+  pub step_cut : p < length s → 3 ≤ length s - p → length s - (p + 3) < le_at 2 s (p + 1) → step_at s p ≡ cut_short
   unfolding step_at
   step_cut h k g = rw (lt-leb (length s) p h, le-ltb (length s - p) 3 k, lt-leb (le_at 2 s (p + 1)) (length s - (p + 3)) g)
 
   pub step_field : p < length s → 3 ≤ length s - p → le_at 2 s (p + 1) ≤ length s - (p + 3)
-      → step_at s p ≡ Step.Field (get_or s p 0) (p + 3) (le_at 2 s (p + 1)) (p + 3 + le_at 2 s (p + 1))
+      → step_at s p ≡ field_here (get_or s p 0) (p + 3) (le_at 2 s (p + 1)) (p + 3 + le_at 2 s (p + 1))
   unfolding step_at
   step_field h k g = rw (lt-leb (length s) p h, le-ltb (length s - p) 3 k, le-leb (le_at 2 s (p + 1)) (length s - (p + 3)) g)
 
@@ -77,9 +76,9 @@ fields-at s p = go (drop p s) refl
 
 -- what a step says of its places
 abbrev Within : List ℕ → ℕ → Step → Type 0
-Within s p Step.End = Unit
-Within s p Step.Cut = Unit
-Within s p (Step.Field t start n next) = (start ≡ p + 3) × (next ≡ start + n) × (next ≤ length s)
+Within s p nothing_left = Unit
+Within s p cut_short = Unit
+Within s p (field_here t start n next) = (start ≡ p + 3) × (next ≡ start + n) × (next ≤ length s)
 
 within : (s : List ℕ) (p : ℕ) → Within s p (step_at s p)
 within s p =
@@ -97,18 +96,18 @@ within s p =
     ]
 
 -- where bytes are left, a step is no end
-pub never-end : (s : List ℕ) (p : ℕ) → p < length s → step_at s p ≡ Step.End → ⊥
+pub never-end : (s : List ℕ) (p : ℕ) → p < length s → step_at s p ≡ nothing_left → ⊥
 unfolding step_at
 never-end s p h e = go (ltb (length s - p) 3) (leb (le_at 2 s (p + 1)) (length s - (p + 3))) (rw (lt-leb (length s) p h) at e)
   where
-    go : (a b : Bool) → cond a Step.Cut (cond b (Step.Field (get_or s p 0) (p + 3) (le_at 2 s (p + 1)) (p + 3 + le_at 2 s (p + 1))) Step.Cut) ≡ Step.End → ⊥
+    go : (a b : Bool) → cond a cut_short (cond b (field_here (get_or s p 0) (p + 3) (le_at 2 s (p + 1)) (p + 3 + le_at 2 s (p + 1))) cut_short) ≡ nothing_left → ⊥
     go true b x = cc
     go false true x = cc
     go false false x = cc
 
 -- ---- a step that is a field: its payload is whole, and its next place is further on, within the string
 
-module _ (s : List ℕ) (p : ℕ) (r : Step) (t start n next : ℕ) (at : r ≡ step_at s p) (e : r ≡ Step.Field t start n next) where
+module _ (s : List ℕ) (p : ℕ) (r : Step) (t start n next : ℕ) (at : r ≡ step_at s p) (e : r ≡ field_here t start n next) where
   pub field-within : (start ≡ p + 3) × (next ≡ start + n) × (next ≤ length s)
   field-within = subst (Within s p) (sym at ∙ e) (within s p)
 
@@ -142,9 +141,9 @@ module _ (s : List ℕ) (P : ℕ → FieldList → Type 0) (at-end : (p : ℕ) �
     → P next (fields (drop next s)) → P p (more (record { tag = t; payload = take n (drop start s) }) (fields (drop next s)))) where
   -- one step, where it holds at every later place
   one : (p : ℕ) (r : Step) → r ≡ step_at s p → ((next : ℕ) → length s - next < length s - p → P next (fields (drop next s))) → P p (fields_of s r)
-  one p Step.End at rest = at-end p
-  one p Step.Cut at rest = at_cut p
-  one p (Step.Field t start n next) at rest =
+  one p nothing_left at rest = at-end p
+  one p cut_short at rest = at_cut p
+  one p (field_here t start n next) at rest =
       let w = field-within s p _ t start n next at refl in
       at_field p t start n next w.0 w.1 w.2 (payload-length s p _ t start n next at refl) (rest next (next-less s p _ t start n next at refl))
 
@@ -161,15 +160,15 @@ module _ (s : List ℕ) (tag p n m : ℕ) (r : Step) (inv : m ≡ n + length (pa
   turn : m ≡ n + length (payloads tag (whole_fields (fields_of s r)))
   turn = inv ∙ rw (fields-at s p, ← at)
 
-  pub count-end : r ≡ Step.End → n ≡ m
+  pub count-end : r ≡ nothing_left → n ≡ m
   unfolding whole_fields payloads
   count-end e = let here = rw e at turn in omega arith
 
-  pub count_cut : r ≡ Step.Cut → n ≡ m
+  pub count_cut : r ≡ cut_short → n ≡ m
   unfolding whole_fields payloads
   count_cut e = let here = rw e at turn in omega arith
 
-  module _ (t start len next : ℕ) (e : r ≡ Step.Field t start len next) where
+  module _ (t start len next : ℕ) (e : r ≡ field_here t start len next) where
     pub count-one : t ≡ tag → m ≡ n + 1 + length (payloads tag (whole_fields (fields (drop next s))))
     unfolding whole_fields payloads
     count-one h = let here = rw (e, eq-eqb t tag h) at turn in omega arith

@@ -7,22 +7,21 @@ use native.Mathlib.Omega.{arith}
 use lib.ListN.{length, take, drop}
 use borrow.Author.Tests.{eq-eqb, ne_eqb}
 use Rattle.std.specs.Prelude.{Some, None}
-use Rattle.tlv.specs.declared.fields.Step.{Step}
 use Rattle.tlv.specs.declared.fields.FieldSpan.{FieldSpan}
 use Rattle.tlv.specs.Fields.{FieldList, end, cut, more, fields, whole_fields, payloads}
-use Rattle.tlv.specs.Cursor.{step_at, fields_of, span_of, field_from}
+use Rattle.tlv.specs.Cursor.{Step, field_here, cut_short, nothing_left, step_at, fields_of, span_of, field_from}
 use Rattle.tlv.proofs.CursorLaws as cursor
 
-spanned : (r : Step) (f : FieldSpan) → Some f ≡ span_of r → r ≡ Step.Field f.tag f.start f.len f.next
+spanned : (r : Step) (f : FieldSpan) → Some f ≡ span_of r → r ≡ field_here f.tag f.start f.len f.next
 unfolding span_of
-spanned Step.End f e = cc
-spanned Step.Cut f e = cc
-spanned (Step.Field t start n next) f e = cc
+spanned nothing_left f e = cc
+spanned cut_short f e = cc
+spanned (field_here t start n next) f e = cc
 
 -- ---- there is a field
 
 module _ (s : List ℕ) (p : ℕ) (f : FieldSpan) (at : Some f ≡ field_from s p) where
-  pub is-step : step_at s p ≡ Step.Field f.tag f.start f.len f.next
+  pub is-step : step_at s p ≡ field_here f.tag f.start f.len f.next
   is-step = spanned (step_at s p) f at
 
   pub field-within : (f.start ≡ p + 3) × (f.next ≡ f.start + f.len) × (f.next ≤ length s)
@@ -53,28 +52,28 @@ module _ (s : List ℕ) (p : ℕ) (f : FieldSpan) (at : Some f ≡ field_from s 
 
 -- ---- there is none
 
-no-span : (r : Step) → None ≡ span_of r → (r ≡ Step.End) ⊎ (r ≡ Step.Cut)
+no-span : (r : Step) → None ≡ span_of r → (r ≡ nothing_left) ⊎ (r ≡ cut_short)
 unfolding span_of
-no-span Step.End e = inl refl
-no-span Step.Cut e = inr refl
-no-span (Step.Field t start n next) e = cc
+no-span nothing_left e = inl refl
+no-span cut_short e = inr refl
+no-span (field_here t start n next) e = cc
 
 module _ (s : List ℕ) (p : ℕ) (at : None ≡ field_from s p) where
-  pub no-step : (step_at s p ≡ Step.End) ⊎ (step_at s p ≡ Step.Cut)
+  pub no-step : (step_at s p ≡ nothing_left) ⊎ (step_at s p ≡ cut_short)
   no-step = no-span (step_at s p) at
 
   -- where bytes are left, it is cut
-  pub cut-here : p < length s → step_at s p ≡ Step.Cut
+  pub cut-here : p < length s → step_at s p ≡ cut_short
   cut-here h = ending p no-step h
     where
-      ending : (q : ℕ) → (step_at s q ≡ Step.End) ⊎ (step_at s q ≡ Step.Cut) → q < length s → step_at s q ≡ Step.Cut
+      ending : (q : ℕ) → (step_at s q ≡ nothing_left) ⊎ (step_at s q ≡ cut_short) → q < length s → step_at s q ≡ cut_short
       ending q (inl e) k = absurd (cursor.never-end s q k e)
       ending q (inr e) k = e
 
   pub no-field : (fields (drop p s) ≡ end) ⊎ (fields (drop p s) ≡ cut)
   no-field = go no-step
     where
-      go : (step_at s p ≡ Step.End) ⊎ (step_at s p ≡ Step.Cut) → (fields (drop p s) ≡ end) ⊎ (fields (drop p s) ≡ cut)
+      go : (step_at s p ≡ nothing_left) ⊎ (step_at s p ≡ cut_short) → (fields (drop p s) ≡ end) ⊎ (fields (drop p s) ≡ cut)
       go (inl e) = inl (cursor.fields-at s p ∙ ap (fields_of s) e)
       go (inr e) = inr (cursor.fields-at s p ∙ ap (fields_of s) e)
 

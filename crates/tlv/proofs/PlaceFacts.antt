@@ -10,16 +10,15 @@ use lib.ListN.{length, drop, get_or}
 use mir.Syntax.{w8}
 use mir.Val.{Fits}
 use borrow.Author.Tests.{eqb-true}
-use Rattle.tlv.specs.declared.fields.Step.{Step}
 use Rattle.tlv.specs.declared.grammar.Context.{Context}
 use Rattle.std.specs.Prelude.{Result, Ok}
 use Rattle.tlv.specs.declared.refusal.Refusal.{Refusal}
-use Rattle.tlv.specs.Refusals.{outcome_of}
+use Rattle.tlv.specs.Refusals.{as_outcome}
 use Rattle.tlv.specs.Outcome.{done}
 use Rattle.tlv.specs.Lists.{Any, exists}
 use Rattle.tlv.specs.Bytes.{Bytes}
 use Rattle.tlv.specs.Fields.{Field, FieldList, end, cut, more, fields, whole_fields}
-use Rattle.tlv.specs.Cursor.{step_at}
+use Rattle.tlv.specs.Cursor.{Step, field_here, cut_short, step_at}
 use Rattle.tlv.specs.Grammar.{start, after, may_follow, shaped, limited, next, check_from, check_input}
 use Rattle.tlv.specs.Checked.{Accepts, field_in, Placed}
 use Rattle.tlv.proofs.TestLaws.{by_test}
@@ -33,7 +32,7 @@ use Rattle.tlv.proofs.AcceptedCounts.{next-count}
 -- ---- an accepted sheet
 
 -- an answer that accepts
-pub accepted-done : (s : List ℕ) (r : Result ℕ Refusal) (program n : ℕ) → outcome_of r ≡ check_input program s → r ≡ Ok n → Accepts s n
+pub accepted-done : (s : List ℕ) (r : Result ℕ Refusal) (program n : ℕ) → as_outcome r ≡ check_input program s → r ≡ Ok n → Accepts s n
 accepted-done s r program n e is = record { program = program; passes = rw is at (sym e) }
 
 -- the fields that are checked are counted
@@ -68,7 +67,7 @@ pub placed-passed : (s : List ℕ) (p : ℕ) → Bytes s → (h : Placed s p) �
 placed-passed s p b h = checked-passed h.context (fields (drop p s)) h.count (fields-bytes 0 (drop p s) (all_drop (λ x. x < 256) p s b)) h.passes
 
 -- no field is cut off there
-pub placed-whole : (s : List ℕ) (p : ℕ) (r : Step) → Placed s p → r ≡ step_at s p → r ≡ Step.Cut → ⊥
+pub placed-whole : (s : List ℕ) (p : ℕ) (r : Step) → Placed s p → r ≡ step_at s p → r ≡ cut_short → ⊥
 unfolding check_from
 placed-whole s p r h at e = refused-not (rw (fields-at s p, ← at, e) at h.passes)
 
@@ -95,7 +94,7 @@ next-previous c f = by_test Last (eqb f.tag 0x10) (λ e. refl) (λ e. by_test La
 
 -- ---- the field at a place
 
-module _ (s : List ℕ) (p : ℕ) (r : Step) (t start len past : ℕ) (h : Placed s p) (at : r ≡ step_at s p) (e : r ≡ Step.Field t start len past) where
+module _ (s : List ℕ) (p : ℕ) (r : Step) (t start len past : ℕ) (h : Placed s p) (at : r ≡ step_at s p) (e : r ≡ field_here t start len past) where
   both : (shaped h.context (field_in s t start len) ≡ true) × (limited h.context (field_in s t start len) ≡ true)
       × (check_from (next h.context (field_in s t start len)) (fields (drop past s)) ≡ done h.count)
   unfolding check_from

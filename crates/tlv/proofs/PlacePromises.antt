@@ -7,10 +7,9 @@ use native.Mathlib.Omega.{arith}
 use lib.Dec.{leb, ltb, eqb}
 use lib.ListN.{length, take, drop}
 use borrow.Author.Tests.{leb-true, eqb-true}
-use Rattle.tlv.specs.declared.fields.Step.{Step}
 use Rattle.tlv.specs.Bytes.{le_at}
 use Rattle.tlv.specs.Limits.{field_limit, string_limit, reason_limit}
-use Rattle.tlv.specs.Cursor.{step_at}
+use Rattle.tlv.specs.Cursor.{Step, field_here, step_at}
 use Rattle.tlv.specs.Grammar.{may_follow, payload_shaped, payload_limited, shaped, limited, encoding_field_size, part_field_size, row_field_size}
 use Rattle.tlv.specs.Tags.{encoding_tag, part_tag}
 use Rattle.tlv.specs.Checked.{Placed}
@@ -39,7 +38,7 @@ least_of t =
     (cond (eqb t 0x1f) 25
     0))))))))))))
 
-module _ (s : List ℕ) (p : ℕ) (r : Step) (t start len past : ℕ) (h : Placed s p) (at : r ≡ step_at s p) (e : r ≡ Step.Field t start len past) where
+module _ (s : List ℕ) (p : ℕ) (r : Step) (t start len past : ℕ) (h : Placed s p) (at : r ≡ step_at s p) (e : r ≡ field_here t start len past) where
   shape : payload_shaped h.context t (take len (drop start s)) ≡ true
   unfolding shaped
   shape = and_right (may_follow h.context.previous t) (payload_shaped h.context t (take len (drop start s))) (placed-shaped s p r t start len past h at e)

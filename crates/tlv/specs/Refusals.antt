@@ -34,9 +34,9 @@ number_of Refusal.ShortResult = 27
 
 module _ {A : Type 0} where
   -- a value, or the refusal's number
-  abbrev pub outcome_of : Result A Refusal → Outcome A
-  outcome_of (Ok a) = done a
-  outcome_of (Err e) = refused (number_of e)
+  abbrev pub as_outcome : Result A Refusal → Outcome A
+  as_outcome (Ok a) = done a
+  as_outcome (Err e) = refused (number_of e)
 
   -- the number of the refusal; 0 is none
   abbrev pub status_of : Result A Refusal → ℕ

@@ -1,7 +1,7 @@
 // Which sheets are accepted: the first bad field decides, and in one field 2 (misshapen) goes before 3 (past limit).
 ghost use Rattle.std.specs.Prelude.{◌≡◌, true, ◌+◌, ◌≤◌, length, take, drop};
 ghost use Rattle.tlv.specs.Grammar.{payload_shaped, payload_limited, shaped, limited, next, check_input};
-ghost use Rattle.tlv.specs.Refusals.{outcome_of};
+ghost use Rattle.tlv.specs.Refusals.{as_outcome};
 ghost use Rattle.tlv.specs.Checked.{judged_of};
 
 use crate::bytes::Number;
@@ -46,6 +46,7 @@ pub struct Context {
 pub fn payload_shaped(c: Context, tag: u8, payload: &[u8]) -> bool
     ensures { result ≡ payload_shaped c tag payload.now }
 {
+    // Stays a match: each tag has a shape of its own.
     match tag {
         UNIT_TAG => unit_shaped(c, payload),
         COMPILATION_TAG => true,
@@ -72,6 +73,7 @@ pub fn payload_limited(c: Context, tag: u8, payload: &[u8]) -> bool
     requires { payload_shaped c tag payload.now ≡ true }
     ensures { result ≡ payload_limited c tag payload.now }
 {
+    // Stays a match: each tag has a limit of its own.
     match tag {
         UNIT_TAG => c.units < UNIT_LIMIT,
         COMPILATION_TAG => payload.len() <= STRING_LIMIT,
@@ -97,6 +99,7 @@ pub fn next(c: Context, tag: u8, payload: &[u8]) -> Context
         count: c.count + 1,
         ..c
     };
+    // Stays a match: each tag leaves a context of its own.
     match tag {
         UNIT_TAG => {
             let offset = u64::read(payload, 0);
@@ -146,7 +149,7 @@ fn judge(c: Context, tag: u8, payload: &[u8]) -> Result<Context, Refusal>
 
 // What becomes of an input (document 01: a sheet), with the length of the line program that is lent with it: the number of its fields, or why not.
 pub fn check_input(s: &[u8], program: usize) -> Result<u64, Refusal>
-    ensures { outcome_of result ≡ check_input program s.now }
+    ensures { as_outcome result ≡ check_input program s.now }
 {
     let mut p: usize = 0;
     let mut c = Context {
@@ -161,6 +164,7 @@ pub fn check_input(s: &[u8], program: usize) -> Result<u64, Refusal>
         program: program as u64,
         encoded: false,
     };
+    // Stays a loop: each field's own length moves the place, and bytes that are left tell a cut field from the end.
     while p < s.len() {
         let Some(field) = next_field(s, p) else {
             return Err(Refusal::Misshapen);

@@ -55,7 +55,7 @@ pub fn unit_shaped(c: Context, payload: &[u8]) -> bool
     let size = u64::read(payload, 8);
     let version = u8::read(payload, 16);
     let word = u8::read(payload, 17);
-    let room = 18446744073709551615 - offset;
+    let room = u64::MAX - offset;
     (2 <= version)
         & (version <= 5)
         & ((word == 4) | (word == 8))
@@ -161,6 +161,7 @@ pub fn entry_shaped(c: Context, payload: &[u8]) -> bool
 pub fn value_shaped(kind: u8, n: usize) -> bool
     ensures { result ≡ value_shaped kind n }
 {
+    // Stays a match: the kinds are the sheet's own table.
     match kind {
         3 => true,
         10 => n == 0,
