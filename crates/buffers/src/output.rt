@@ -16,6 +16,7 @@ use tlv::tags::{
 };
 
 // A byte. Past the tray's end nothing is laid, and the place goes on.
+// Stays beside `put`: it puts the bytes of a number that meets the end one by one.
 pub fn put_u8(buffer: &mut [u8], at: usize, b: u8) -> usize
     ensures { Put at (b ∷ []) buffer.old buffer.new result }
 {
