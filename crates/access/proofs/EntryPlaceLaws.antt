@@ -4,12 +4,11 @@ use mathlib.Core.List.{List, map}
 use Prim.Native.Nat.{ℕ, ◌+◌}
 use native.Mathlib.Omega.{arith}
 use lib.ListN.{drop}
-use Rattle.tlv.specs.declared.fields.Step.{Step}
 use Rattle.tlv.specs.Lists.{first, map_option}
 use Rattle.tlv.specs.Bytes.{le_at}
 use Rattle.tlv.specs.Fields.{fields, payloads, payload_of}
 use Rattle.tlv.specs.Model.{attribute_of, entry_range_of, failure_of, range_list_of, entry_of}
-use Rattle.tlv.specs.Cursor.{step_at}
+use Rattle.tlv.specs.Cursor.{Step, field_here, step_at}
 use Rattle.tlv.specs.Checked.{Placed}
 use Rattle.tlv.proofs.CursorLaws.{fields-field}
 use Rattle.tlv.proofs.ShapeLaws.{number_at, number-first}
@@ -19,7 +18,7 @@ use Rattle.access.specs.declared.access.Value.{Value}
 use Rattle.access.specs.Places.{own_fields, entry_here}
 use Rattle.access.specs.Access.{is_named, meaning_of, Says}
 
-module _ (s : List ℕ) (p : ℕ) (r : Step) (t start len next : ℕ) (reads : r ≡ step_at s p) (e : r ≡ Step.Field t start len next) where
+module _ (s : List ℕ) (p : ℕ) (r : Step) (t start len next : ℕ) (reads : r ≡ step_at s p) (e : r ≡ field_here t start len next) where
   pub entry-attributes : (entry_here s p).attributes ≡ map attribute_of (payloads 0x18 (own_fields (fields (drop next s))))
   unfolding entry_here entry_of
   entry-attributes = rw (fields-field s p r t start len next reads e)

@@ -6,18 +6,17 @@ use native.Mathlib.Omega.{arith}
 use borrow.Author.Tests.{eq-eqb, ne_eqb}
 use lib.ListN.{length}
 use Rattle.std.specs.Prelude.{Some, None}
-use Rattle.tlv.specs.declared.fields.Step.{Step}
 use Rattle.tlv.specs.declared.fields.FieldSpan.{FieldSpan}
 use Rattle.tlv.specs.Lists.{take_while}
 use Rattle.tlv.specs.Fields.{FieldList, whole_fields, payloads}
 use Rattle.tlv.specs.Model.{unit_of}
-use Rattle.tlv.specs.Cursor.{step_at, field_from}
+use Rattle.tlv.specs.Cursor.{Step, field_here, step_at, field_from}
 use Rattle.tlv.proofs.CursorLaws.{fields-field}
 use Rattle.tlv.proofs.FieldLaws.{is-step, at-none, next-counts}
 use Rattle.access.specs.Places.{unit_fields, unit_here, lists_from}
 
 module _ (s : List ℕ) (p : ℕ) (r : Step) (at : r ≡ step_at s p) where
-  module _ (t start len next : ℕ) (e : r ≡ Step.Field t start len next) where
+  module _ (t start len next : ℕ) (e : r ≡ field_here t start len next) where
     pub lists-unit : t ≡ 0x10 → lists_from s p ≡ 0
     unfolding lists_from unit_fields take_while whole_fields payloads
     lists-unit h = rw (fields-field s p r t start len next at e, eq-eqb t 0x10 h)

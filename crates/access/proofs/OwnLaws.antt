@@ -7,11 +7,10 @@ use native.Mathlib.Omega.{arith}
 use lib.ListN.{length, drop}
 use borrow.Author.Tests.{eq-eqb, ne_eqb}
 use Rattle.std.specs.Prelude.{Some, None}
-use Rattle.tlv.specs.declared.fields.Step.{Step}
 use Rattle.tlv.specs.declared.fields.FieldSpan.{FieldSpan}
 use Rattle.tlv.specs.Lists.{take_while}
 use Rattle.tlv.specs.Fields.{FieldList, fields, whole_fields, payloads}
-use Rattle.tlv.specs.Cursor.{step_at, field_from}
+use Rattle.tlv.specs.Cursor.{field_here, step_at, field_from}
 use Rattle.tlv.specs.Checked.{Placed}
 use Rattle.tlv.proofs.FieldLaws.{is-step, at-none, fields-field, field-within, next-keeps}
 use Rattle.tlv.proofs.PlaceFacts.{placed-next}
@@ -80,7 +79,7 @@ pub record OwnField (s : List ℕ) (t : ℕ) (f : FieldSpan) : Type 0 where
   pub here : Placed s place
   pub reads : Some f ≡ field_from s place
   pub tagged : f.tag ≡ t
-  pub is : step_at s place ≡ Step.Field t f.start f.len f.next
+  pub is : step_at s place ≡ field_here t f.start f.len f.next
 
 module _ (s : List ℕ) (p tag : ℕ) (f : FieldSpan) (own : NextOwn s p tag (Some f)) where
   pub own-within : (f.start + f.len ≤ length s) × (p < f.next) × (f.next ≤ length s)

@@ -7,14 +7,13 @@ use native.Mathlib.Omega.{arith}
 use lib.Dec.{eqb}
 use lib.ListN.{length, take, drop}
 use borrow.Author.Tests.{eqb-true}
-use Rattle.tlv.specs.declared.fields.Step.{Step}
 use Rattle.tlv.specs.Lists.{All, take_while, at, map_option}
 use Rattle.tlv.specs.Bytes.{le_at}
 use Rattle.tlv.specs.Fields.{Field, FieldList, end, cut, more, fields, whole_fields, grouped, payloads, payload_of}
 use Rattle.tlv.specs.Grammar.{shaped, limited, next, check_from}
 use Rattle.tlv.specs.Tags.{encoding_tag, part_tag}
 use Rattle.tlv.specs.Model.{range_of, header_of, encoding_of, part_of, directory_of, file_of, row_of, unit_of, units}
-use Rattle.tlv.specs.Cursor.{step_at, fields_of}
+use Rattle.tlv.specs.Cursor.{Step, field_here, cut_short, nothing_left, step_at, fields_of}
 use Rattle.tlv.specs.Checked.{field_in, Placed}
 use Rattle.tlv.proofs.TestLaws.{by_test}
 use Rattle.tlv.proofs.ListLaws.{all-at, given-some}
@@ -35,7 +34,7 @@ pub record UnitAt (s : List ℕ) (q : ℕ) : Type 0 where
   pub start : ℕ
   pub len : ℕ
   pub next : ℕ
-  pub is : step_at s q ≡ Step.Field 0x10 start len next
+  pub is : step_at s q ≡ field_here 0x10 start len next
 
 -- fields that begin with one of tag t come from a step that is a field of tag t
 abbrev Begins : ℕ → FieldList → Type 0
@@ -43,10 +42,10 @@ Begins t end = ⊥
 Begins t cut = ⊥
 Begins t (more f fs) = f.tag ≡ t
 
-begun : (s : List ℕ) (q t : ℕ) (r : Step) → r ≡ step_at s q → Begins t (fields_of s r) → (start : ℕ) × (len : ℕ) × (past : ℕ) × (step_at s q ≡ Step.Field t start len past)
-begun s q t Step.End reads h = absurd h
-begun s q t Step.Cut reads h = absurd h
-begun s q t (Step.Field u start len past) reads h = (start, len, past, rw h at (sym reads))
+begun : (s : List ℕ) (q t : ℕ) (r : Step) → r ≡ step_at s q → Begins t (fields_of s r) → (start : ℕ) × (len : ℕ) × (past : ℕ) × (step_at s q ≡ field_here t start len past)
+begun s q t nothing_left reads h = absurd h
+begun s q t cut_short reads h = absurd h
+begun s q t (field_here u start len past) reads h = (start, len, past, rw h at (sym reads))
 
 module _ (s : List ℕ) (p t start n past : ℕ) (within : past ≤ length s)
     (here : fields (drop p s) ≡ more (field_in s t start n) (fields (drop past s))) (h : Placed s p) where
@@ -116,7 +115,7 @@ own_is : (fs : FieldList) → (grouped 0x17 (unit_fields fs)).before ≡ own_fie
 unfolding unit_fields own_fields
 own_is fs = before-is 0x17 (take_while (λ f. not (eqb f.tag 0x10)) (whole_fields fs)) ∙ before-both 0x17 0x10 (whole_fields fs)
 
-module _ (s : List ℕ) (p : ℕ) (r : Step) (t start len next : ℕ) (reads : r ≡ step_at s p) (e : r ≡ Step.Field t start len next) where
+module _ (s : List ℕ) (p : ℕ) (r : Step) (t start len next : ℕ) (reads : r ≡ step_at s p) (e : r ≡ field_here t start len next) where
   pub unit-directory : (unit_here s p).directory ≡ payload_of 0x11 (own_fields (fields (drop next s)))
   unfolding unit_here unit_of
   unit-directory = rw (fields-field s p r t start len next reads e, own_is)

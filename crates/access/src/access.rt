@@ -20,6 +20,7 @@ fn next_of(s: &[u8], p: usize, tag: u8, rows_end: bool) -> Option<FieldSpan>
     ensures { NextOwn s.now p tag result }
 {
     let mut at = p;
+    // Stays a loop: each field's own length moves the place, so nothing is counted.
     while let Some(field) = next_field(s, at) {
         if field.tag == ENTRY_TAG || field.tag == UNIT_TAG {
             return None;
@@ -67,6 +68,7 @@ pub fn next_row(s: &[u8], p: usize) -> Option<FieldSpan>
 }
 
 // The value of an attribute.
+// Stays an enum: the ten kinds of the sheet, the failed one among them, are data.
 #[derive(Clone, Copy, Debug)]
 pub enum Value {
     Unsigned(u64),
@@ -86,6 +88,7 @@ pub enum Value {
 fn number_value(kind: u8, n: u64) -> Value
     ensures { result ≡ number_value kind n }
 {
+    // Stays a match: the kinds are the sheet's own table.
     match kind {
         1 => Value::Unsigned(n),
         2 => Value::FileNumber(n),
@@ -128,6 +131,7 @@ pub fn attribute(s: &[u8], p: usize, name: u16) -> Option<Value>
         (first (is_named name) (map attribute_of (payloads attribute_tag (own_fields (fields (drop p s.now))))))) }
 {
     let mut at = p;
+    // Stays a loop: each field's own length moves the place, so nothing is counted.
     while let Some(field) = next_field(s, at) {
         if field.tag != ATTRIBUTE_TAG {
             return None;
@@ -146,6 +150,7 @@ pub fn unit_by_ordinal(s: &[u8], ordinal: u64) -> Option<usize>
 {
     let mut p: usize = 0;
     let mut left = ordinal;
+    // Stays a loop: each field's own length moves the place; what is counted is what was found.
     while let Some(field) = next_field(s, p) {
         if field.tag == UNIT_TAG {
             if left == 0 {
@@ -164,6 +169,7 @@ pub fn list_count(s: &[u8], p: usize) -> usize
 {
     let mut at = p;
     let mut n: usize = 0;
+    // Stays a loop: each field's own length moves the place; what is counted is what was found.
     while let Some(field) = next_field(s, at) {
         if field.tag == UNIT_TAG {
             return n;

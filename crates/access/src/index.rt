@@ -37,6 +37,7 @@ pub fn index_entries(s: &[u8], work: &mut [u8], base: usize) -> usize
     let mut n: usize = 0;
     let mut unit: usize = 0;
     let mut offset: u64 = 0;
+    // Stays a loop: each field's own length moves the place; what is counted is what was found.
     while let Some(field) = next_field(s, p) {
         if field.tag == UNIT_TAG {
             offset = u64::read(s, field.start);

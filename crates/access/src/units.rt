@@ -33,6 +33,7 @@ pub fn index_units(s: &[u8], work: &mut [u8], base: usize) -> usize
 {
     let mut p: usize = 0;
     let mut n: usize = 0;
+    // Stays a loop: each field's own length moves the place; what is counted is what was found.
     while let Some(field) = next_field(s, p) {
         if field.tag == UNIT_TAG {
             let offset = u64::read(s, field.start);

@@ -6,10 +6,9 @@ use native.Mathlib.Omega.{arith}
 use native.Mathlib.Decide.{dec_le}
 use lib.ListN.{length, get_or}
 use Rattle.std.specs.Prelude.{Some}
-use Rattle.tlv.specs.declared.fields.Step.{Step}
 use Rattle.tlv.specs.Grammar.{row_field_size}
 use Rattle.tlv.specs.Bytes.{le_at}
-use Rattle.tlv.specs.Cursor.{step_at, span_of, field_from}
+use Rattle.tlv.specs.Cursor.{field_here, step_at, span_of, field_from}
 use Rattle.tlv.specs.Checked.{Placed}
 use Rattle.tlv.proofs.CursorLaws.{step-short, step_cut, step_field}
 use Rattle.tlv.proofs.PlaceFacts.{placed-whole}
@@ -30,7 +29,7 @@ module _ (s : List ℕ) (p : ℕ) (here : Placed s p) (inside : p < length s) (r
     | no h ↦ absurd (placed-whole s p (step_at s p) here refl (step_cut s p inside long (omega arith)))
   ]
 
-  step : step_at s p ≡ Step.Field (get_or s p 0) (p + 3) (le_at 2 s (p + 1)) (p + 3 + le_at 2 s (p + 1))
+  step : step_at s p ≡ field_here (get_or s p 0) (p + 3) (le_at 2 s (p + 1)) (p + 3 + le_at 2 s (p + 1))
   step = step_field s p inside long whole
 
   size : le_at 2 s (p + 1) ≡ row_field_size
@@ -39,7 +38,7 @@ module _ (s : List ℕ) (p : ℕ) (here : Placed s p) (inside : p < length s) (r
   behind : p + 3 + le_at 2 s (p + 1) ≡ p + (3 + row_field_size)
   behind = omega (arith, size)
 
-  row_step : step_at s p ≡ Step.Field 0x16 (p + 3) row_field_size (p + (3 + row_field_size))
+  row_step : step_at s p ≡ field_here 0x16 (p + 3) row_field_size (p + (3 + row_field_size))
   row_step = rw (behind, size, row) at step
 
   row_field : Some (record { tag = 0x16; start = p + 3; len = row_field_size; next = p + (3 + row_field_size) }) ≡ field_from s p
