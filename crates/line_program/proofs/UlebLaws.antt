@@ -90,7 +90,8 @@ module _ (s : List ℕ) (at v m k p b : ℕ) (R : Reading s at v m k p) (h : p <
   here : (j : ℕ) → k ≡ j → uleb (drop at s) ≡ shifted v m (uleb_within j (b ∷ drop (p + 1) s))
   here j z = R.goes ∙ (λ i. shifted v m (uleb_within (z i) (drop_at s p b h e i)))
 
-  value_read : (j : ℕ) → k ≡ j → uleb_within j (b ∷ drop (p + 1) s) ≡ done (record { value = b; rest = drop (p + 1) s }) → Reads s at (Ok (record { value = v + b * m; next = p + 1 }))
+  value_read : (j : ℕ) → k ≡ j → uleb_within j (b ∷ drop (p + 1) s) ≡ done (record { value = b; rest = drop (p + 1) s })
+      → Reads s at (Ok (record { value = v + b * m; next = p + 1 }))
   value_read j z f = record {
     is =
         let q : v + b * m ≡ v + m * b = omega (arith, mul_comm b m) in
@@ -121,7 +122,8 @@ module _ (s : List ℕ) (at v m k p b : ℕ) (R : Reading s at v m k p) (h : p <
   turn_more n l =
       let z : k ≡ suc (k - 1) = omega arith in
       let a : m * 128 * 128 ^ (k - 1) ≡ 2 ^ 63
-      = mul_assoc m 128 (128 ^ (k - 1)) ∙ ap (λ (x : ℕ). m * x) (mul_comm 128 (128 ^ (k - 1)) ∙ sym (pow-suc 128 (k - 1)) ∙ ap (λ (x : ℕ). 128 ^ x) (sym z)) ∙ R.scaled in
+      = mul_assoc m 128 (128 ^ (k - 1)) ∙ ap (λ (x : ℕ). m * x) (mul_comm 128 (128 ^ (k - 1)) ∙ sym (pow-suc 128 (k - 1))
+      ∙ ap (λ (x : ℕ). 128 ^ x) (sym z)) ∙ R.scaled in
       let t : b % 128 * m ≤ 127 * m = mul-le-mul_right m (omega arith) in
       record {
         goes = (rw (le-ltb b 128 l) at (here (suc (k - 1)) z)) ∙ shifted_more v m (b % 128) (uleb_within (k - 1) (drop (p + 1) s));

@@ -1,4 +1,4 @@
--- An operand that is passed over is the one that would be read.
+-- Theorem. An operand that is passed over is the one that would be read: the law of the trait TenthByte, with its proof, which an impl cites.
 use mathlib.Core.Path.{◌≡◌, refl}
 use mathlib.Core.Bool.{Bool, true, false, cond}
 use mathlib.Core.List.{List, [], ◌∷◌}

@@ -66,6 +66,7 @@ fn skip_standard(program: &[u8], lengths: &[u8], opcode: u8, at: usize) -> Resul
     requires { (at ≤ length program.now) × (0 < opcode) }
     ensures { SkipsTo program.now at result (skip_operands (kinds_by lengths.now opcode) (drop at program.now)) }
 {
+    // Stays a match: the Standard's own table.
     match opcode {
         9 => take_line_bytes(program, 2, at),
         1 | 6 | 7 | 8 | 10 | 11 => Ok(at),
@@ -113,7 +114,7 @@ pub fn scan_line_sequence_offsets(
     let mut p: usize = 0;
     let mut n: usize = 0;
     let mut from = program_offset;
-    // Stays a loop: each instruction's own length moves the place.
+    // Stays a loop: each instruction's own length moves the place; the sequences are counted as they end.
     while p < program.len() {
         match skip_instruction(program, lengths, opcode_base, p)? {
             Skipped::To(next) => {

@@ -20,7 +20,9 @@ pub write-requires : goal.write-requires
 write-requires c = let P = rw c.in-Ended.is at c.in_ok-next.ensures in scan-room c.loop-p.invariant c.loop-p-test.true P c.requires
 
 pub returns-in_err-next : goal.returns-in_err-next
-returns-in_err-next c = let p = err_from_is_err_and c.from_residual.result c.from_residual.ensures.1 in rw (p.1, p.2) (scan-err c.loop-p.invariant c.loop-p-test.true c.in_err-next.ensures)
+returns-in_err-next c =
+    let p = err_from_is_err_and c.from_residual.result c.from_residual.ensures.1 in
+    rw (p.1, p.2) (scan-err c.loop-p.invariant c.loop-p-test.true c.in_err-next.ensures)
 
 pub loop-p-smaller : goal.loop-p-smaller
 loop-p-smaller c = let P = rw c.in-Ended.is at c.in_ok-next.ensures in omega (arith, P.within.0)

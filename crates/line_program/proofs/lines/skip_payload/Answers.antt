@@ -5,7 +5,9 @@ use Rattle.line_program.proofs.InstructionLaws.{payload-none, payload-err, paylo
 use Rattle.line_program.proofs.lines.skip_payload.Goals as goal
 
 pub returns-in_err-next : goal.returns-in_err-next
-returns-in_err-next c = let p = err_from_is_err_and c.from_residual.result c.from_residual.ensures.1 in rw (p.1, p.2) (payload-err _ _ _ (omega arith) c.in_err-next.ensures)
+returns-in_err-next c =
+    let p = err_from_is_err_and c.from_residual.result c.from_residual.ensures.1 in
+    rw (p.1, p.2) (payload-err _ _ _ (omega arith) c.in_err-next.ensures)
 
 pub returns-then-opcode-eq1 : goal.returns-then-opcode-eq1
 returns-then-opcode-eq1 c = payload-end _ _ _ (omega arith) c.in_ok-next.ensures (omega arith) (omega arith)

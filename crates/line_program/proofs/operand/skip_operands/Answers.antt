@@ -13,7 +13,9 @@ loop-preserved c =
     (omega arith, rw (← e) (going_next c.loop.invariant.1 (omega arith) c.in_ok-p.ensures))
 
 pub returns-in_err-p : goal.returns-in_err-p
-returns-in_err-p c = let p = err_from_is_err_and c.from_residual.result c.from_residual.ensures.1 in rw (p.1, p.2) (going_err c.loop.invariant.1 (omega arith) c.in_err-p.ensures)
+returns-in_err-p c =
+    let p = err_from_is_err_and c.from_residual.result c.from_residual.ensures.1 in
+    rw (p.1, p.2) (going_err c.loop.invariant.1 (omega arith) c.in_err-p.ensures)
 
 pub returns : goal.returns
 returns c = going_done c.loop.invariant.1 (omega arith)
