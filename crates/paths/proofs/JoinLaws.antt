@@ -94,8 +94,10 @@ module _ (w : List ℕ) (at n : ℕ) (c : List ℕ) (room : at + n + 1 + length 
         (laid-after w w' c at n (length c) (e ∙ ap (λ (x : ℕ). overlay x c w) q) (omega arith) (omega arith))
 
     module _ (z : n ≡ 0 → ⊥) (y : length c ≡ 0 → ⊥) where
-      both : {b : Bool} → (ends_with slash (chunk w at n) || starts_with slash c) ≡ b → append_path (chunk w at n) c ≡ cond b (chunk w at n ++ c) (chunk w at n ++ (slash ∷ c))
-      both e = append_both (chunk w at n) c (omega (arith, path-length)) (omega arith) ∙ ap (λ (b : Bool). cond b (chunk w at n ++ c) (chunk w at n ++ (slash ∷ c))) e
+      both : {b : Bool} → (ends_with slash (chunk w at n) || starts_with slash c) ≡ b
+          → append_path (chunk w at n) c ≡ cond b (chunk w at n ++ c) (chunk w at n ++ (slash ∷ c))
+      both e = append_both (chunk w at n) c (omega (arith, path-length)) (omega arith)
+          ∙ ap (λ (b : Bool). cond b (chunk w at n ++ c) (chunk w at n ++ (slash ∷ c))) e
 
       ends : ends_with slash (chunk w at n) ≡ eqb (get_or w (at + n - 1) 0) slash
       ends =
@@ -111,7 +113,8 @@ module _ (w : List ℕ) (at n : ℕ) (c : List ℕ) (room : at + n + 1 + length 
 
       pub append_starts : get_or c 0 0 ≡ slash → w' ≡ overlay (at + n) c w → Laid w w' at (n + length c) (append_path (chunk w at n) c)
       append_starts k e =
-          laid_as (both (ap (λ (b : Bool). ends_with slash (chunk w at n) || b) (sym (starts_first c y) ∙ eq-eqb (get_or c 0 0) slash k) ∙ or-true (ends_with slash (chunk w at n))))
+          laid_as (both (ap (λ (b : Bool). ends_with slash (chunk w at n) || b) (sym (starts_first c y) ∙ eq-eqb (get_or c 0 0) slash k)
+          ∙ or-true (ends_with slash (chunk w at n))))
           (laid-after w w' c at n (n + length c) e (omega arith) refl)
 
       pub append-slash : (get_or w (at + n - 1) 0 ≡ slash → ⊥) → (get_or c 0 0 ≡ slash → ⊥) → w' ≡ overlay (at + n + 1) c (set w (at + n) slash)
@@ -122,7 +125,8 @@ module _ (w : List ℕ) (at n : ℕ) (c : List ℕ) (room : at + n + 1 + length 
 
 -- ---- two components
 
-pub append_two : (w w₁ w₂ : List ℕ) (at n m r : ℕ) (d o : List ℕ) → Laid w w₁ at m (append_path (chunk w at n) d) → Laid w₁ w₂ at r (append_path (chunk w₁ at m) o)
+pub append_two : (w w₁ w₂ : List ℕ) (at n m r : ℕ) (d o : List ℕ) → Laid w w₁ at m (append_path (chunk w at n) d)
+    → Laid w₁ w₂ at r (append_path (chunk w₁ at m) o)
     → Laid w w₂ at r (append_path (append_path (chunk w at n) d) o)
 append_two w w₁ w₂ at n m r d o L M =
     let e : append_path (chunk w₁ at m) o ≡ append_path (append_path (chunk w at n) d) o = ap (λ (l : List ℕ). append_path l o) L.path in
