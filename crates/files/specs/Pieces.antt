@@ -8,10 +8,9 @@ use Rattle.tlv.specs.Refusals as refusals
 use Rattle.tlv.specs.Outcome.{Outcome, refused, done, ◌>>=◌}
 use Rattle.tlv.specs.Bytes.{le_at}
 use Rattle.tlv.specs.Limits.{string_limit}
-use Rattle.tlv.specs.declared.fields.Step.{Step}
 use Rattle.tlv.specs.Lists.{map_option}
 use Rattle.tlv.specs.Fields.{fields, payloads, payload_of}
-use Rattle.tlv.specs.Cursor.{step_at}
+use Rattle.tlv.specs.Cursor.{field_here, step_at}
 use Rattle.tlv.specs.Checked.{Placed}
 use Rattle.tlv.specs.Model.{CompilationUnit, LineHeader, header_of, directory_of, file_of}
 use Rattle.tlv.specs.declared.model.DebugSource.{DebugSource}
@@ -108,7 +107,7 @@ version_in s p = (or_header (map_option header_of (payload_of header_tag (own_fi
 -- a unit's field stands at p in an accepted sheet
 pub record UnitPlaced (s : List ℕ) (p : ℕ) : Type 0 where
   pub placed : Placed s p
-  pub is : step_at s p ≡ Step.Field unit_tag (p + field_head) 18 (p + unit_whole)
+  pub is : step_at s p ≡ field_here unit_tag (p + field_head) 18 (p + unit_whole)
 
 -- a unit's place, its header's version, its compilation directory, and its directories' spans in a table of the work slice
 pub record FileUnitIn (s w : List ℕ) (u : FileUnit) : Type 0 where

@@ -75,6 +75,7 @@ fn intern_files(
     let mut table = t;
     let mut count = n;
     let mut p = unit.place + UNIT_WHOLE;
+    // Stays a loop: each field's own length moves the place; what is counted is what was found.
     while let Some(field) = next_before_rows(s, p, FILE_TAG) {
         let file = Span {
             start: field.start,

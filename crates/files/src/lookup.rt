@@ -24,6 +24,7 @@ fn nth_file(s: &[u8], p: usize, n: u64) -> Option<FieldSpan>
 {
     let mut at = p;
     let mut left = n;
+    // Stays a loop: each field's own length moves the place; what is counted is what was found.
     while let Some(field) = next_before_rows(s, at, FILE_TAG) {
         if left == 0 {
             return Some(field);

@@ -52,6 +52,7 @@ fn index_directories(s: &[u8], p: usize, work: &mut [u8], base: usize) -> usize
 {
     let mut at = p;
     let mut n: usize = 0;
+    // Stays a loop: each field's own length moves the place; what is counted is what was found.
     while let Some(field) = next_before_rows(s, at, DIRECTORY_TAG) {
         let directory = Span {
             start: field.start,
