@@ -59,14 +59,6 @@ module _ {w : List ℕ} {l : StoredLines} (r : AddressRange) (asked : Maybe ℕ)
   }
 
   module _ (f : t ≡ true) (e : Maybe LineEntry) (E : option_to_list e ≡ earlier_row (unit_lines_of w l) r (sequence_of asked)) where
-    pub front_none : e ≡ None → Fronted w w l r asked count (record { rows = l.buffer + entry_size; count = count })
-    front_none is = record {
-      rows = rw (← s, f, ← E, is);
-      from = omega arith;
-      within = omega arith;
-      rest = kept_refl w l.buffer entry_size;
-    }
-
     pub front_put : {w' : List ℕ} {x : LineEntry} → e ≡ Some x → PutEntry w w' l.buffer x → Fronted w w' l r asked count (record { rows = l.buffer; count = count + 1 })
     unfolding entries_of
     front_put {w'} {x} is P =

@@ -83,9 +83,6 @@ pub record Covered (w : List ℕ) (base n : ℕ) (s : Option ℕ) (a i : ℕ) : 
   pub most : i ≤ n
   pub left : first (covers_at s a) (ranges_of w base n) ≡ first (covers_at s a) (drop i (ranges_of w base n))
 
-pub cover-start : (w : List ℕ) (base n : ℕ) (s : Option ℕ) (a : ℕ) → Covered w base n s a 0
-cover-start w base n s a = record { most = omega arith; left = refl }
-
 module _ {w : List ℕ} {base n a i : ℕ} {s : Option ℕ} (C : Covered w base n s a i) where
   module _ {t : Bool} (h : i < n) (e : t ≡ covers_at s a (range_at w (base + i * range_size))) where
     pub cover_next : t ≡ false → Covered w base n s a (i + 1)

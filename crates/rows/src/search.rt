@@ -14,6 +14,7 @@ pub fn lower_bound(work: &[u8], base: usize, n: usize, address: u64) -> usize
 {
     let mut lo = 0;
     let mut hi = n;
+    // Stays a loop: the rows are bytes of the work slice, which no method of slices searches by halves.
     while lo < hi {
         let mid = lo + (hi - lo) / 2;
         if address_at(work, base + mid * LINE_SIZE) < address {

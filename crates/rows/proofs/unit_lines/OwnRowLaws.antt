@@ -27,13 +27,6 @@ use Rattle.rows.proofs.StoredLaws.{sequence-kept, line_kept, line-sequence, line
 
 -- ---- the test of a row
 
-pub takes-not : {address start : ℕ} (b : Bool) → address < start → false ≡ (leb start address && b)
-takes-not {address} {start} b h = rw (lt-leb start address h)
-
-pub takes-by : (asked : Option ℕ) (w : List ℕ) (p : ℕ) {address start : ℕ} {own : Option ℕ} {t : Bool}
-    → start ≤ address → own ≡ stored_sequence w p → t ≡ belongs asked own → t ≡ (leb start address && belongs asked (stored_sequence w p))
-takes-by asked w p {address} {start} h q e = rw (le-leb start address h) (e ∙ ap (belongs asked) q)
-
 -- ---- the loop
 
 -- what the loop gives from row i on, behind the `count` rows copied so far, is what it gives from the front

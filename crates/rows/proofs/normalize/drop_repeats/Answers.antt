@@ -12,6 +12,13 @@ returns-then-n-eq0-clause-dropped g c = λ equal tests. dropped-nothing (λ b. b
 pub loop-i-init : goal.loop-i-init
 loop-i-init g c = (omega arith, λ equal tests. dropping-start (λ b. b) c.args.size equal c.args.work.now c.args.base c.args.n (omega arith))
 
+pub repeats-requires : goal.repeats-requires
+repeats-requires g c =
+    let order : c.loop-i.last < c.loop-i.i = c.loop-i.invariant.0 in
+    let last_in = inside c.loop-i.last c.args.n c.args.size (omega arith) in
+    let i_in = inside c.loop-i.i c.args.n c.args.size (omega arith) in
+    c.requires.may_test _ _ _ (omega arith) (omega arith)
+
 pub loop-i-preserved : goal.loop-i-preserved
 loop-i-preserved g c =
     let order : c.loop-i.last < c.loop-i.i = c.loop-i.invariant.0 in
