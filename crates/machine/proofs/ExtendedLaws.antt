@@ -2,7 +2,7 @@
 use Rattle.std.proofs.Common.{Result, Ok, Err, Option, Some, None, ◌≡◌, ℕ, ◌+◌, ◌-◌, ◌^◌, ◌<◌, ◌≤◌, Bool, true, false, cond, ltb, leb, List, length, get_or, take, drop, sym, refl, ap, ◌∙◌, arith, length-drop, drop_of_length-le, le-ltb, lt-ltb, eq-eqb, ne_eqb, leb-true}
 use Rattle.tlv.specs.Outcome.{Outcome, refused, done, ◌>>=◌}
 use Rattle.tlv.specs.declared.refusal.Refusal.{Refusal}
-use Rattle.tlv.specs.Refusals.{outcome_of}
+use Rattle.tlv.specs.Refusals.{as_outcome}
 use Rattle.tlv.proofs.OutcomeLaws.{done-is, refused-not}
 use Rattle.line_program.specs.declared.operand.Operand.{Operand}
 use Rattle.line_program.specs.Scan.{Reads, SkipsTo, OffsetIs}
@@ -29,11 +29,12 @@ turns-earlier early (Err f) h T = record { is = T.is; within = tt }
 -- ---- an address
 
 module _ {e : Encoding} {r : Registers} {s : List ℕ} {from : ℕ} (next : ℕ) where
-  pub address-past : OffsetIs None (span s from next) → Turns e r s from (Err Refusal.LineAddress) (done (record { instruction = set_address (span s from next); rest = drop next s }))
+  pub address-past : OffsetIs None (span s from next)
+      → Turns e r s from (Err Refusal.LineAddress) (done (record { instruction = set_address (span s from next); rest = drop next s }))
   unfolding turn execute ◌>>=◌
   address-past past = record { is = rw (← move_past r (span s from next) past); within = tt }
 
-  pub address-steps : {a : ℕ} (m : Result Registers Refusal) → OffsetIs (Some a) (span s from next) → from ≤ next → next ≤ length s → outcome_of m ≡ move_to a r
+  pub address-steps : {a : ℕ} (m : Result Registers Refusal) → OffsetIs (Some a) (span s from next) → from ≤ next → next ≤ length s → as_outcome m ≡ move_to a r
       → Turns e r s from (quiet_of m next) (done (record { instruction = set_address (span s from next); rest = drop next s }))
   unfolding turn execute ◌>>=◌
   address-steps m O h k moves = record { is = quiet-turn s next m ∙ rw (moves, O.0); within = quiet-within s next from m h k }

@@ -3,7 +3,7 @@ use Rattle.std.proofs.Common.{Ok, Err, Result, ◌≡◌, ℕ, ◌+◌, ◌-◌,
 use borrow.Author.Tests.{lt-leb}
 use Rattle.tlv.specs.Outcome.{refused, done}
 use Rattle.tlv.specs.declared.refusal.Refusal.{Refusal}
-use Rattle.tlv.specs.Refusals.{outcome_of}
+use Rattle.tlv.specs.Refusals.{as_outcome}
 use Rattle.machine.specs.declared.registers.Encoding.{Encoding}
 use Rattle.machine.specs.declared.registers.Registers.{Registers}
 use Rattle.machine.specs.Machine.{move_to, advance, add_line, add_special_line}
@@ -16,11 +16,11 @@ abbrev no_address : Result Registers Refusal
 no_address = Err Refusal.LineAddress
 
 module _ (r : Registers) (a : ℕ) where
-  pub move_falls : a < r.address → outcome_of no_address ≡ move_to a r
+  pub move_falls : a < r.address → as_outcome no_address ≡ move_to a r
   unfolding move_to
   move_falls h = rw (lt-leb r.address a h)
 
-  pub move_past : 2 ^ 64 ≤ a → outcome_of no_address ≡ move_to a r
+  pub move_past : 2 ^ 64 ≤ a → as_outcome no_address ≡ move_to a r
   unfolding move_to
   move_past h = go (leb r.address a)
     where
@@ -38,13 +38,13 @@ module _ (r : Registers) (a : ℕ) where
 -- ---- advances: l is the length of an instruction, n how many operations
 
 module _ (e : Encoding) (r : Registers) (n l : ℕ) (is : l ≡ e.minimum_instruction_length) where
-  pub advance-past : 2 ^ 64 ≤ l * n → outcome_of no_address ≡ advance (line_encoding e) n r
+  pub advance-past : 2 ^ 64 ≤ l * n → as_outcome no_address ≡ advance (line_encoding e) n r
   unfolding advance
   advance-past h =
       let m : l * n ≡ e.minimum_instruction_length * n = ap (λ (x : ℕ). x * n) is in
       move_past r _ (omega arith)
 
-  pub advance-by : (m : Result Registers Refusal) → outcome_of m ≡ move_to (r.address + l * n) r → outcome_of m ≡ advance (line_encoding e) n r
+  pub advance-by : (m : Result Registers Refusal) → as_outcome m ≡ move_to (r.address + l * n) r → as_outcome m ≡ advance (line_encoding e) n r
   unfolding advance
   advance-by m p = rw is at p
 

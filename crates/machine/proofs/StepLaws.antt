@@ -4,7 +4,7 @@ use borrow.Author.Tests.{lt-leb}
 use Rattle.tlv.specs.Outcome.{Outcome, refused, done, ◌>>=◌}
 use Rattle.tlv.specs.Bytes.{le_at}
 use Rattle.tlv.specs.declared.refusal.Refusal.{Refusal}
-use Rattle.tlv.specs.Refusals.{number_of, outcome_of}
+use Rattle.tlv.specs.Refusals.{number_of, as_outcome}
 use Rattle.tlv.proofs.OutcomeLaws.{done-is, refused-not}
 use Rattle.line_program.specs.declared.operand.Operand.{Operand}
 use Rattle.line_program.specs.Standard.{Operand as Number, SignedOperand, unsigned}
@@ -32,12 +32,12 @@ abbrev turned : List ℕ → Executed → Outcome Turn
 turned rest y = done (record { registers = y.registers; rows = y.rows; rest = rest })
 
 module _ (s : List ℕ) (next : ℕ) where
-  pub quiet-turn : (m : Result Registers Refusal) → turn_of s (quiet_of m next) ≡ ((outcome_of m >>= quiet) >>= turned (drop next s))
+  pub quiet-turn : (m : Result Registers Refusal) → turn_of s (quiet_of m next) ≡ ((as_outcome m >>= quiet) >>= turned (drop next s))
   unfolding ◌>>=◌
   quiet-turn (Ok r) = refl
   quiet-turn (Err f) = refl
 
-  plain-is : (m : Result Registers Refusal) → turn_of s (plain_of m next) ≡ ((outcome_of m >>= appends) >>= turned (drop next s))
+  plain-is : (m : Result Registers Refusal) → turn_of s (plain_of m next) ≡ ((as_outcome m >>= appends) >>= turned (drop next s))
   unfolding ◌>>=◌
   plain-is (Ok r) = refl
   plain-is (Err f) = refl
@@ -54,7 +54,7 @@ module _ (s : List ℕ) (next : ℕ) where
 
 module _ {e : Encoding} {r : Registers} {next : ℕ} where
   pub special-steps : {n : ℕ} {l : Registers} (m : Result Registers Refusal) → l ≡ add_special_line (line_encoding e) n r
-      → outcome_of m ≡ advance (line_encoding e) (n / e.line_range) l → Executes e r (special n) next (plain_of m next)
+      → as_outcome m ≡ advance (line_encoding e) (n / e.line_range) l → Executes e r (special n) next (plain_of m next)
   unfolding turn execute ◌>>=◌
   special-steps m line moves = record {
     turns = λ s h. record {
@@ -63,7 +63,7 @@ module _ {e : Encoding} {r : Registers} {next : ℕ} where
     };
   }
 
-  pub const_steps : (m : Result Registers Refusal) → outcome_of m ≡ advance (line_encoding e) ((255 - e.opcode_base) / e.line_range) r
+  pub const_steps : (m : Result Registers Refusal) → as_outcome m ≡ advance (line_encoding e) ((255 - e.opcode_base) / e.line_range) r
       → Executes e r const_add_pc next (quiet_of m next)
   unfolding turn execute ◌>>=◌
   const_steps m moves = record {
@@ -81,7 +81,7 @@ module _ {e : Encoding} {r : Registers} {s : List ℕ} {at : ℕ} where
   unsigned-fault F R = record { is = rw (← R.is); within = tt }
 
   module _ {o : Operand} (R : Reads s at (Ok o)) where
-    pub advance-steps : (m : Result Registers Refusal) → outcome_of m ≡ advance (line_encoding e) o.value r
+    pub advance-steps : (m : Result Registers Refusal) → as_outcome m ≡ advance (line_encoding e) o.value r
         → Turns e r s at (quiet_of m o.next) (read_unsigned advance_pc (drop at s))
     unfolding turn execute ◌>>=◌
     advance-steps m moves = record {
@@ -146,7 +146,7 @@ module _ {e : Encoding} {r : Registers} {s : List ℕ} {at : ℕ} where
   half_cut h = record { is = rw (length-drop at s, lt-leb 2 (length s - at) h); within = tt }
 
   pub half_steps : {n : ℕ} (m : Result Registers Refusal) → at ≤ length s → 2 ≤ length s - at → n ≡ le_at 2 s at
-      → outcome_of m ≡ move_to (r.address + n) r → Turns e r s at (quiet_of m (at + 2)) (read_half (drop at s))
+      → as_outcome m ≡ move_to (r.address + n) r → Turns e r s at (quiet_of m (at + 2)) (read_half (drop at s))
   unfolding turn execute ◌>>=◌ le_at
   half_steps m h two value moves = record {
     is = quiet-turn s (at + 2) m ∙ rw (length-drop at s, le-leb 2 (length s - at) two, ← value, drop-drop 2 at s, moves);

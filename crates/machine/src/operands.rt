@@ -27,7 +27,7 @@ pub fn read_line_sleb(program: &[u8], at: usize) -> Result<Operand, Refusal>
     let mut scale: u64 = 1;
     let mut left: u64 = 9;
     let mut p = at;
-    // Stays a loop: each byte says whether another one follows.
+    // Stays a loop: a byte says whether another follows, and the tenth has a rule of its own.
     loop {
         if program.len() <= p {
             return Err(Refusal::Cut);

@@ -1,6 +1,6 @@
 // What an instruction does to the registers of the line number state machine (the Standard, 6.2.2 and 6.2.5.1).
 ghost use Rattle.std.specs.Prelude.{◌≡◌, ◌+◌, ◌-◌, ◌/◌, ◌%◌, ◌^◌, ◌<◌};
-ghost use Rattle.tlv.specs.Refusals.{outcome_of};
+ghost use Rattle.tlv.specs.Refusals.{as_outcome};
 ghost use Rattle.machine.specs.Machine.{move_to, advance, add_special_line};
 ghost use Rattle.machine.specs.Steps.{line_encoding};
 
@@ -34,7 +34,7 @@ pub struct Registers {
 
 // The registers at an address.
 pub fn move_to(r: Registers, address: u64) -> Result<Registers, Refusal>
-    ensures { outcome_of result ≡ move_to address r }
+    ensures { as_outcome result ≡ move_to address r }
 {
     if address < r.address {
         return Err(Refusal::LineAddress);
@@ -44,7 +44,7 @@ pub fn move_to(r: Registers, address: u64) -> Result<Registers, Refusal>
 
 // The registers n bytes further on.
 pub fn move_by(r: Registers, n: u64) -> Result<Registers, Refusal>
-    ensures { outcome_of result ≡ move_to (r.address + n) r }
+    ensures { as_outcome result ≡ move_to (r.address + n) r }
 {
     let Some(address) = r.address.checked_add(n) else {
         return Err(Refusal::LineAddress);
@@ -54,7 +54,7 @@ pub fn move_by(r: Registers, n: u64) -> Result<Registers, Refusal>
 
 // The registers n operations further on.
 pub fn advance(e: Encoding, r: Registers, n: u64) -> Result<Registers, Refusal>
-    ensures { outcome_of result ≡ advance (line_encoding e) n r }
+    ensures { as_outcome result ≡ advance (line_encoding e) n r }
 {
     let Some(bytes) = u64::from(e.minimum_instruction_length).checked_mul(n) else {
         return Err(Refusal::LineAddress);
@@ -65,7 +65,7 @@ pub fn advance(e: Encoding, r: Registers, n: u64) -> Result<Registers, Refusal>
 // The registers as far on as the special opcode of an adjusted opcode moves them.
 pub fn advance_special(e: Encoding, r: Registers, adjusted: u8) -> Result<Registers, Refusal>
     requires { 0 < e.line_range }
-    ensures { outcome_of result ≡ advance (line_encoding e) (adjusted / e.line_range) r }
+    ensures { as_outcome result ≡ advance (line_encoding e) (adjusted / e.line_range) r }
 {
     advance(e, r, u64::from(adjusted / e.line_range))
 }

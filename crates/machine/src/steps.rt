@@ -148,6 +148,7 @@ pub fn step_standard(
     ensures { Turns e r program.now at result
         (read_standard (opcodes_with e lengths.now) opcode (drop at program.now)) }
 {
+    // Stays a match: the Standard's own table.
     match opcode {
         1 => Ok(Stepped::Plain {
             registers: r,

@@ -156,7 +156,8 @@ module _ {e : Encoding} {ls s : List ℕ} {r : Registers} {at : ℕ} {q : Regist
     abbrev Does : Result Stepped Refusal → Type 0
     Does k = Turns e q s (p + 1) k (read_instruction (machine_of e ls (length s)) (get_or s p 0) (drop (p + 1) s))
 
-    turned : {k : Result Stepped Refusal} → Does k → (turn_of s k >>= onward (machine_of e ls (length s))) ≡ rest_rows (machine_of e ls (length s)) r (drop at s)
+    turned : {k : Result Stepped Refusal} → Does k
+        → (turn_of s k >>= onward (machine_of e ls (length s))) ≡ rest_rows (machine_of e ls (length s)) r (drop at s)
     turned T =
         ap (λ (y : Outcome Turn). y >>= onward (machine_of e ls (length s))) T.is
         ∙ sym (rows-turn e ls (length s) q (get_or s p 0) (drop (p + 1) s))
@@ -174,11 +175,13 @@ module _ {e : Encoding} {ls s : List ℕ} {r : Registers} {at : ℕ} {q : Regist
     pub running-less : {v : Registers} {next : ℕ} → Does (Ok (Stepped.Quiet v next)) → length s - next < length s - p
     running-less T = omega (arith, T.within.0)
 
-    pub running-plain : {v : Registers} {next : ℕ} → Does (Ok (Stepped.Plain v next)) → Emits (machine_of e ls (length s)) s r at (Ok (Some (Emitted.Plain v next)))
+    pub running-plain : {v : Registers} {next : ℕ} → Does (Ok (Stepped.Plain v next))
+        → Emits (machine_of e ls (length s)) s r at (Ok (Some (Emitted.Plain v next)))
     unfolding ◌>>=◌
     running-plain T = record { is = turned T; within = (omega (arith, R.from, T.within.0), T.within.1) }
 
-    pub running-ended : {v : Registers} {next : ℕ} → Does (Ok (Stepped.Ended v next)) → Emits (machine_of e ls (length s)) s r at (Ok (Some (Emitted.Ended v next)))
+    pub running-ended : {v : Registers} {next : ℕ} → Does (Ok (Stepped.Ended v next))
+        → Emits (machine_of e ls (length s)) s r at (Ok (Some (Emitted.Ended v next)))
     unfolding ◌>>=◌
     running-ended T = record { is = turned T; within = (omega (arith, R.from, T.within.0), T.within.1) }
 

@@ -17,7 +17,8 @@ overflow_mul-value c = let f = roomy c.loop-p.scale c.loop-p.left c.loop-p.invar
 
 pub overflow_add-value : goal.overflow_add-value
 overflow_add-value c = let f = roomy c.loop-p.scale c.loop-p.left c.loop-p.invariant.scaled c.if-left-eq0.false in
-    let t : c.from-byte.result % 128 * c.loop-p.scale ≤ 127 * c.loop-p.scale = mul-le-mul_right c.loop-p.scale (omega arith) in omega (arith, c.loop-p.invariant.below)
+    let t : c.from-byte.result % 128 * c.loop-p.scale ≤ 127 * c.loop-p.scale = mul-le-mul_right c.loop-p.scale (omega arith) in
+    omega (arith, c.loop-p.invariant.below)
 
 pub loop-p-preserved : goal.loop-p-preserved
 loop-p-preserved c = search signed-more

@@ -11,4 +11,5 @@ pub returns-in_err-operations : goal.returns-in_err-operations
 returns-in_err-operations c = rw (handed _ _ c.from_residual.ensures.1) (unsigned-fault _ c.in_err-operations.ensures)
 
 pub returns-in_err-registers : goal.returns-in_err-registers
-returns-in_err-registers c = rw (handed _ _ c.from_residual-in_err-registers.ensures.1) (advance-steps c.in_ok-operations.ensures (Err _) c.in_err-registers.ensures)
+returns-in_err-registers c = rw (handed _ _ c.from_residual-in_err-registers.ensures.1)
+    (advance-steps c.in_ok-operations.ensures (Err _) c.in_err-registers.ensures)

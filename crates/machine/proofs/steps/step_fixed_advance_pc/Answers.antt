@@ -8,7 +8,8 @@ pub returns : goal.returns
 returns c = half_steps (Ok _) c.requires (omega arith) (c.from.ensures ∙ c.read.ensures) c.in_ok-registers.ensures
 
 pub returns-in_err-registers : goal.returns-in_err-registers
-returns-in_err-registers c = rw (handed _ _ c.from_residual.ensures.1) (half_steps (Err _) c.requires (omega arith) (c.from.ensures ∙ c.read.ensures) c.in_err-registers.ensures)
+returns-in_err-registers c = rw (handed _ _ c.from_residual.ensures.1)
+    (half_steps (Err _) c.requires (omega arith) (c.from.ensures ∙ c.read.ensures) c.in_err-registers.ensures)
 
 pub returns-then-program-at-lt2 : goal.returns-then-program-at-lt2
 returns-then-program-at-lt2 c = search half_cut
