@@ -3,7 +3,7 @@ use Rattle.std.specs.Prelude.{Result, Ok, Err, Option, Some, None, ℕ, ◌+◌,
 use Rattle.tlv.specs.Outcome.{Outcome, refused, done}
 use Rattle.tlv.specs.Model.{EntryRange}
 use Rattle.tlv.specs.declared.refusal.Refusal.{Refusal}
-use Rattle.tlv.specs.Refusals.{number_of, outcome_of}
+use Rattle.tlv.specs.Refusals.{number_of, as_outcome}
 use Rattle.line_program.specs.declared.operand.Operand.{Operand}
 use Rattle.line_program.specs.Scan.{operand_of}
 use Rattle.rnglists.specs.declared.entries.ListEntry.{ListEntry}
@@ -65,7 +65,7 @@ pub record SaysPair (top from a b : ℕ) (r : Result Meant Refusal) : Type 0 whe
 
 -- r is the address of an index of the table, from a place on
 pub record FindsAddress (table : List ℕ) (place size i : ℕ) (r : Result ℕ Refusal) : Type 0 where
-  pub is : outcome_of r ≡ address_at size (drop place table) i
+  pub is : as_outcome r ≡ address_at size (drop place table) i
 
 -- r is what an entry says, whatever follows it
 pub record Says (table : List ℕ) (place size from : ℕ) (e : ListEntry) (r : Result Meant Refusal) : Type 0 where

@@ -12,6 +12,7 @@ use tlv::refusal::Refusal;
 pub const RANGE_LEAST: usize = 3;
 
 // What an entry says: the list ends; the base address changes; a range, and whether it is dead.
+// Stays an enum: after the end, another base and a range a list goes on in three ways.
 #[derive(Clone, Copy)]
 pub enum Meant {
     End,

@@ -110,7 +110,8 @@ module _ {s : List ℕ} {at size : ℕ} where
 
 -- ---- an entry
 
-entry-by : (s : List ℕ) (at size k : ℕ) → at < length s → k ≡ get_or s at 0 → k ≤ 7 → read_entry size (drop at s) ≡ read_operands size k (drop (at + 1) s) (slots (first_slot k) (second_slot k))
+entry-by : (s : List ℕ) (at size k : ℕ) → at < length s → k ≡ get_or s at 0 → k ≤ 7
+    → read_entry size (drop at s) ≡ read_operands size k (drop (at + 1) s) (slots (first_slot k) (second_slot k))
 unfolding read_entry
 entry-by s at size k l g h = rw (drop_at s at k l g, known-slots k h)
 

@@ -125,11 +125,13 @@ module _ {table : List ℕ} {place size from : ℕ} {e : ListEntry} where
   unfolding meaning_of
   says-pair k t S = record { is = S.is size t ∙ sym (rw k) }
 
-  pub says-between : {r : Result Meant Refusal} {top : ℕ} → e.kind ≡ 6 → top ≡ largest size → SaysBounded top e.first e.second r → Says table place size from e r
+  pub says-between : {r : Result Meant Refusal} {top : ℕ} → e.kind ≡ 6 → top ≡ largest size → SaysBounded top e.first e.second r
+      → Says table place size from e r
   unfolding meaning_of
   says-between k t S = record { is = S.is size t ∙ sym (rw k) }
 
-  pub says-length : {r : Result Meant Refusal} {top : ℕ} → (e.kind ≡ 0 → ⊥) → (e.kind ≡ 1 → ⊥) → (e.kind ≡ 2 → ⊥) → (e.kind ≡ 3 → ⊥) → (e.kind ≡ 4 → ⊥) → (e.kind ≡ 5 → ⊥) → (e.kind ≡ 6 → ⊥)
+  pub says-length : {r : Result Meant Refusal} {top : ℕ} → (e.kind ≡ 0 → ⊥) → (e.kind ≡ 1 → ⊥) → (e.kind ≡ 2 → ⊥) → (e.kind ≡ 3 → ⊥) → (e.kind ≡ 4 → ⊥)
+      → (e.kind ≡ 5 → ⊥) → (e.kind ≡ 6 → ⊥)
       → top ≡ largest size → SaysBounded top e.first (e.first + e.second) r → Says table place size from e r
   unfolding meaning_of
   says-length n0 n1 n2 n3 n4 n5 n6 t S =
@@ -153,7 +155,8 @@ module _ {table : List ℕ} {place size from : ℕ} {e : ListEntry} where
     unfolding meaning_of ◌>>=◌
     found-base k = record { is = sym (rw (k, ← F.is)) }
 
-    pub found-length : {r : Result Meant Refusal} {top : ℕ} → e.kind ≡ 3 → top ≡ largest size → SaysBounded top x (x + e.second) r → Says table place size from e r
+    pub found-length : {r : Result Meant Refusal} {top : ℕ} → e.kind ≡ 3 → top ≡ largest size → SaysBounded top x (x + e.second) r
+        → Says table place size from e r
     unfolding meaning_of ◌>>=◌
     found-length k t S = record { is = S.is size t ∙ sym (rw (k, ← F.is)) }
 

@@ -29,8 +29,10 @@ pub left-start : (s addresses : List ℕ) (place size at base : ℕ) → Left s 
 left-start s addresses place size at base = record { goes = refl; behind = omega arith }
 
 module _ {s addresses : List ℕ} {place size at base p from : ℕ} (L : Left s addresses place size at base p from) where
-  left_by : (o : Outcome RawEntry) → o ≡ read_entry size (drop p s) → ranges_in size (drop place addresses) base (drop at s) ≡ ranges_from (ranges_in size (drop place addresses)) size (drop place addresses) from o
-  left_by o e = L.goes ∙ ranges-step size (drop place addresses) from (drop p s) ∙ ap (ranges_from (ranges_in size (drop place addresses)) size (drop place addresses) from) (sym e)
+  left_by : (o : Outcome RawEntry) → o ≡ read_entry size (drop p s)
+      → ranges_in size (drop place addresses) base (drop at s) ≡ ranges_from (ranges_in size (drop place addresses)) size (drop place addresses) from o
+  left_by o e = L.goes ∙ ranges-step size (drop place addresses) from (drop p s)
+      ∙ ap (ranges_from (ranges_in size (drop place addresses)) size (drop place addresses) from) (sym e)
 
   pub next-fault : {f : Refusal} → ReadsEntry s p size (Err f) → NextIs s addresses place size at base (Err f)
   next-fault {f} R = record { is = sym (left_by (refused (number_of f)) R.is); within = (refusal-number (refuses-entry size (drop p s)) (sym R.is)).0 }

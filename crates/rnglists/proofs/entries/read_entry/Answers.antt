@@ -8,7 +8,8 @@ pub returns-in_err-first : goal.returns-in_err-first
 returns-in_err-first c = rw (handed _ _ c.from_residual.ensures.1) (entry_first (omega arith) refl (omega arith) c.in_err-first.ensures)
 
 pub returns-in_err-second : goal.returns-in_err-second
-returns-in_err-second c = rw (handed _ _ c.from_residual-in_err-second.ensures.1) (entry-second (omega arith) refl (omega arith) c.in_ok-first.ensures c.in_err-second.ensures)
+returns-in_err-second c = rw (handed _ _ c.from_residual-in_err-second.ensures.1)
+    (entry-second (omega arith) refl (omega arith) c.in_ok-first.ensures c.in_err-second.ensures)
 
 pub returns : goal.returns
 returns c = entry_read (omega arith) refl (omega arith) c.in_ok-first.ensures c.in_ok-second.ensures

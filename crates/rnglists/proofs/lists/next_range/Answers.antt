@@ -7,7 +7,8 @@ pub returns-in_err-entry : goal.returns-in_err-entry
 returns-in_err-entry c = rw (handed _ _ c.from_residual.ensures.1) (next-fault c.loop-entry.invariant (rw c.of-width.ensures at c.in_err-entry.ensures))
 
 pub returns-in_err-meaning_of : goal.returns-in_err-meaning_of
-returns-in_err-meaning_of c = rw (handed _ _ c.from_residual-in_err-meaning_of.ensures.1) (meant-fault c.loop-entry.invariant (rw c.of-width.ensures at c.in_ok-entry.ensures) (rw c.of-width.ensures at c.in_err-meaning_of.ensures))
+returns-in_err-meaning_of c = rw (handed _ _ c.from_residual-in_err-meaning_of.ensures.1)
+    (meant-fault c.loop-entry.invariant (rw c.of-width.ensures at c.in_ok-entry.ensures) (rw c.of-width.ensures at c.in_err-meaning_of.ensures))
 
 pub returns-in-End : goal.returns-in-End
 returns-in-End c = meant-end c.loop-entry.invariant (rw c.of-width.ensures at c.in_ok-entry.ensures) (rw (c.in-End.is, c.of-width.ensures) at c.in_ok-meaning_of.ensures)
