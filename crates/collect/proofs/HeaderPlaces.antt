@@ -6,14 +6,13 @@ use Prim.Native.Nat.{ℕ, ◌+◌, ◌-◌, ◌≤◌}
 use native.Mathlib.Omega.{arith}
 use lib.ListN.{take, drop}
 use Rattle.std.specs.Prelude.{Some, None}
-use Rattle.tlv.specs.declared.fields.Step.{Step}
 use Rattle.tlv.specs.declared.fields.FieldSpan.{FieldSpan}
 use Rattle.tlv.specs.Bytes.{le_at}
 use Rattle.tlv.specs.Lists.{at, map_option}
 use Rattle.tlv.specs.Fields.{payload_of, fields}
 use Rattle.tlv.specs.Tags.{encoding_tag}
 use Rattle.tlv.specs.Model.{header_of, encoding_of, units}
-use Rattle.tlv.specs.Cursor.{step_at}
+use Rattle.tlv.specs.Cursor.{field_here, step_at}
 use Rattle.tlv.specs.Checked.{Placed}
 use Rattle.tlv.proofs.CursorLaws.{field-within}
 use Rattle.tlv.proofs.ShapeLaws.{number_at, number-first}
@@ -50,7 +49,7 @@ module _ {s : List ℕ} {p : ℕ} (h : Placed s 0) (U : UnitIn s p) where
       let l = placed-unit s p (step_at s p) 0x10 a.start a.len a.next a.placed refl a.is refl in
       let e₁ : a.start ≡ p + 3 = w.0 in
       let e₂ : a.next ≡ p + 21 = omega arith in
-      record { placed = a.placed; is = a.is ∙ (λ i. Step.Field 0x10 (e₁ i) (l i) (e₂ i)) }
+      record { placed = a.placed; is = a.is ∙ (λ i. field_here 0x10 (e₁ i) (l i) (e₂ i)) }
 
   unit-is : at (units s) U.number ≡ some (unit_here s p)
   unfolding map_option

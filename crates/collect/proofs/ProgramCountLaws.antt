@@ -70,15 +70,6 @@ module _ {e : Encoding} {ls s : List ℕ} {r : Registers} {at lines opened n : �
       within = plain.within.1;
     }
 
-    pub program-plain_ahead : (at < next) × (next ≤ length s)
-    program-plain_ahead = plain.within
-
-    pub program-plain_less : length s - next < length s - at
-    program-plain_less = omega (arith, plain.within.0, plain.within.1)
-
-    pub program-plain-small : (opened + 1 ≤ length s) × (at < next)
-    program-plain-small = (omega (arith, C.small, plain.within.0, plain.within.1), plain.within.0)
-
   module _ {v : Registers} {next : ℕ} (ended : Emits (machine_of e ls (length s)) s r at (Ok (Some (Emitted.Ended v next)))) where
     pub program-ended : (i : Registers) → i ≡ initial → CountingProgram e ls s i next (lines + opened) 0 (n + 1)
     unfolding count_rows
@@ -88,12 +79,3 @@ module _ {e : Encoding} {ls s : List ℕ} {r : Registers} {at lines opened n : �
       small = omega (arith, C.small, ended.within.0);
       within = ended.within.1;
     }
-
-    pub program-ended_ahead : (at < next) × (next ≤ length s)
-    program-ended_ahead = ended.within
-
-    pub program-ended_less : length s - next < length s - at
-    program-ended_less = omega (arith, ended.within.0, ended.within.1)
-
-    pub program-ended-small : (lines + opened ≤ length s) × (n + 1 ≤ length s)
-    program-ended-small = (omega (arith, C.small, ended.within.0, ended.within.1), omega (arith, C.small, ended.within.0, ended.within.1))

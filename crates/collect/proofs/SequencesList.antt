@@ -37,10 +37,6 @@ module _ (w : List ℕ) (b n i : ℕ) where
 
 -- ---- one record
 
-pub sequence-put : {w w' : List ℕ} {p offsets n k : ℕ} {r : AddressRange} {o : Maybe ℕ} → sequence_of o ≡ at (offsets_at w offsets n) k
-    → PutSequenceRange w w' p r o → SequencePut w w' p offsets n (record { range = r; sequence = k })
-sequence-put {r = r} e P = record { is = P.range ∙ (λ i. record { range = r; statement_sequence = e i }); rest = P.rest }
-
 -- ---- the loop
 
 -- where the open sequence starts, once it has a row

@@ -38,12 +38,6 @@ use Rattle.collect.specs.Converts.{unit_at, header_in, ConversionIn, zero_of, li
 
 -- ---- what the code finds
 
-pub is-listed : {count n : ℕ} → n < count → SoughtFile.Unnamed ≡ listed_of count n
-is-listed {count} {n} h = rw (lt-ltb n count h)
-
-pub not_listed : {count n : ℕ} → count ≤ n → SoughtFile.Missing ≡ listed_of count n
-not_listed {count} {n} h = rw (le-ltb n count h)
-
 module _ (c : Conversion) (n : ℕ) {r : SoughtFile} where
   pub sought_zero : c.unit.version ≤ 4 → n ≡ 0 → r ≡ zero_of c.zero → r ≡ sought_of c n
   unfolding sought_of

@@ -4,7 +4,7 @@ use mathlib.Core.Bool.{Bool, true, false, cond}
 use mathlib.Core.Logic.{inl, inr}
 use mathlib.Core.List.{List, [], ◌∷◌}
 use mathlib.Core.Option.{none}
-use Prim.Native.Nat.{ℕ, suc, ◌+◌, ◌*◌, ◌≤◌}
+use Prim.Native.Nat.{ℕ, suc, ◌+◌, ◌*◌}
 use native.Mathlib.Omega.{arith}
 use lib.Dec.{leb}
 use lib.ListN.{length}
@@ -21,7 +21,7 @@ use Rattle.files.specs.declared.spans.FileUnit.{FileUnit}
 use Rattle.files.specs.declared.store.StoredFiles.{StoredFiles}
 use Rattle.files.specs.declared.header.InternedFiles.{InternedFiles}
 use Rattle.files.specs.Pieces.{header_here, UnitPlaced, Described}
-use Rattle.files.specs.Store.{extent, table_of, FilesIn, Grown}
+use Rattle.files.specs.Store.{extent, table_of, FilesIn}
 use Rattle.files.specs.Interns.{Listed, MapRoom, InternsHeader, indexed_of, map_extent}
 use Rattle.files.proofs.GrownLaws.{unit_kept, files-kept, table_kept, grown-after}
 use Rattle.collect.specs.Stages.{UnitRoom, InternsUnit}

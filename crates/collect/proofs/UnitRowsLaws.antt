@@ -11,7 +11,7 @@ use Rattle.tlv.specs.Outcome.{Outcome, refused, ◌>>=◌}
 use Rattle.tlv.specs.Grammar.{row_field_size}
 use Rattle.tlv.specs.Checked.{Placed}
 use Rattle.tlv.specs.Model.{LineRow, row_of}
-use Rattle.buffers.specs.Table.{Kept, Clear, KeptBut}
+use Rattle.buffers.specs.Table.{Clear, KeptBut}
 use Rattle.buffers.proofs.TableLaws.{kept_refl, kept-wide}
 use Rattle.buffers.proofs.RecordLaws.{records-length, records-but}
 use Rattle.rows.specs.Sizes.{line_size, row_room}
@@ -22,8 +22,8 @@ use Rattle.collect.specs.declared.source.RowSource.{RowSource}
 use Rattle.collect.specs.declared.source.UnitRows.{UnitRows}
 use Rattle.collect.specs.declared.source.GatheredRows.{GatheredRows}
 use Rattle.collect.specs.Passes.{rows_from, count_rows, count_all, counted_of}
-use Rattle.collect.specs.Tables.{table_rows, TableGathered, GathersRows}
-use Rattle.collect.specs.Sources.{program_in, source_rows, most_rows, SourceWithin, rows_here, RowsReady, UnitGathered, GathersUnit, FindsFault}
+use Rattle.collect.specs.Tables.{table_rows, GathersRows}
+use Rattle.collect.specs.Sources.{program_in, source_rows, most_rows, SourceWithin, rows_here, RowsReady, GathersUnit, FindsFault}
 
 -- ---- from the row fields
 
@@ -32,19 +32,6 @@ module _ (main program w : List ℕ) (p lines : ℕ) (source : RowSource) (is : 
       → GathersUnit (source_rows main program p source) main w w p lines (most_rows main program p source) (Err e)
   unfolding ◌>>=◌
   fields-fault counted = record { is = rw is (sym counted); rest = kept_refl w lines _ }
-
-  pub fields-rows : {k : CountedRows} → Placed main p → counted_of (Ok k) ≡ count_rows (rows_from main p) 0 0 0
-      → GathersUnit (source_rows main program p source) main w w p lines (most_rows main program p source)
-      (Ok (record { lines = k.lines; sequences = k.sequences; rows = UnitRows.Fields }))
-  fields-rows h counted = record {
-    is = record {
-      is = rw is;
-      counted = record { is = sym counted };
-      few = rw is (omega arith);
-      ready = record { placed = h; above = tt };
-    };
-    rest = kept_refl w lines _;
-  }
 
 -- ---- from the program
 
@@ -83,9 +70,6 @@ module _ (main program w : List ℕ) (p lines : ℕ) (source : RowSource) {e : E
 -- ---- the fault of rows comes first
 
 module _ {x : Outcome (List LineRow)} {main w w' : List ℕ} {p free most : ℕ} (later : ℕ) where
-  pub fault-found : {e : Refusal} → GathersUnit x main w w' p free most (Err e) → FindsFault x w w' free most later (number_of e)
-  fault-found {e} G = let k : count_all x ≡ refused (number_of e) = G.is in record { is = rw k; rest = G.rest }
-
   pub fault-later : {r : GatheredRows} → GathersUnit x main w w' p free most (Ok r) → FindsFault x w w' free most later later
   unfolding ◌>>=◌
   fault-later G = record { is = rw (G.is.is, G.is.counted.is); rest = G.rest }

@@ -55,10 +55,8 @@ fn collect_rows(
     finish_lines(
         main,
         supplementary,
-        gathered.rows,
+        gathered,
         c,
-        gathered.lines,
-        gathered.sequences,
         work,
         files,
         warnings,

@@ -15,7 +15,7 @@ ghost use Rattle.collect.specs.Stages.{StoresLines, FinishesLines};
 
 use crate::collect::CollectedLines;
 use crate::convert::{Conversion, Converting};
-use crate::source::{UnitRows, collect_unit_sequences, convert_unit_rows};
+use crate::source::{GatheredRows, UnitRows, collect_unit_sequences, convert_unit_rows};
 use files::store::StoredFiles;
 use rows::line::{LINE_SIZE, RANGE_SIZE};
 use rows::unit_lines::StoredLines;
@@ -65,14 +65,12 @@ fn store_lines(
     }
 }
 
-// Converts the unit's n rows, and stores its lines and its m sequences.
+// Converts the unit's rows that were gathered, and stores its lines and its sequences.
 pub fn finish_lines(
     main: &[u8],
     supplementary: &[u8],
-    rows: UnitRows,
+    given: GatheredRows,
     c: Conversion,
-    n: usize,
-    m: usize,
     work: &mut [u8],
     files: &mut [u8],
     warnings: &mut [u8],
@@ -81,25 +79,25 @@ pub fn finish_lines(
 ) -> Result<CollectedLines, Refusal>
     requires conversion_in { ConversionIn main.now supplementary.now work.old c (record { table = t; count = 0; warned = warned }) }
     requires rows_ready { RowsReady main.now work.old (c.unit.place + unit_whole)
-        (c.lines + line_size * length (rows_here main.now work.old (c.unit.place + unit_whole) rows)) rows }
-    requires rows_counted { RowsCounted (rows_here main.now work.old (c.unit.place + unit_whole) rows) n m }
-    requires entry_size_in_bounds { c.lines + row_room * length (rows_here main.now work.old (c.unit.place + unit_whole) rows) + entry_size ≤ length work.old }
-    ensures { FinishesLines (done (rows_here main.now work.old (c.unit.place + unit_whole) rows))
-        (length (rows_here main.now work.old (c.unit.place + unit_whole) rows)) main.now
+        (c.lines + line_size * length (rows_here main.now work.old (c.unit.place + unit_whole) given.rows)) given.rows }
+    requires rows_counted { RowsCounted (rows_here main.now work.old (c.unit.place + unit_whole) given.rows) given.lines given.sequences }
+    requires entry_size_in_bounds { c.lines + row_room * length (rows_here main.now work.old (c.unit.place + unit_whole) given.rows) + entry_size ≤ length work.old }
+    ensures { FinishesLines (done (rows_here main.now work.old (c.unit.place + unit_whole) given.rows))
+        (length (rows_here main.now work.old (c.unit.place + unit_whole) given.rows)) main.now
         supplementary.now work.old work.new files.old files.new warnings.old
         warnings.new c t warned result }
 {
     let begun = Converting {
         table: t,
         count: 0,
-        warned: warn_mismatch(warnings, warned, m, c.offset_count),
+        warned: warn_mismatch(warnings, warned, given.sequences, c.offset_count),
     };
     let st = convert_unit_rows(
         main,
         supplementary,
-        rows,
+        given.rows,
         c,
-        n,
+        given.lines,
         work,
         files,
         warnings,
@@ -109,7 +107,7 @@ pub fn finish_lines(
     let lines = store_lines(
         main,
         p,
-        rows,
+        given.rows,
         work,
         c.offsets,
         c.offset_count,

@@ -31,6 +31,7 @@ pub fn count_rows(s: &[u8], p: usize) -> Result<CountedRows, Refusal>
     let mut lines = 0;
     let mut opened = 0;
     let mut sequences = 0;
+    // Stays a loop: each field's own length moves the place; what is counted is what was found.
     while let Some(field) = access::access::next_row(s, at) {
         let kind = u8::read(s, field.start + ROW_KIND);
         if kind == 2 {
@@ -97,6 +98,7 @@ pub fn collect_sequences(
     let mut opened = false;
     let mut start = 0;
     let mut count = 0;
+    // Stays a loop: each field's own length moves the place; what is counted is what was found.
     while let Some(field) = access::access::next_row(s, at) {
         let kind = u8::read(s, field.start + ROW_KIND);
         let address = u64::read(s, field.start);

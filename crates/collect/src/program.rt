@@ -68,6 +68,7 @@ pub fn gather_program_rows(
     let mut opened = 0;
     let mut sequences = 0;
     let mut count = 0;
+    // Stays a loop: each instruction's own length moves the place; the rows are counted as they come.
     while let Some(emitted) = next_row(program, lengths, e, registers, at)? {
         let to = base + count * ROW_FIELD;
         count += 1;

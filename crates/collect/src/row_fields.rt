@@ -50,13 +50,11 @@ pub fn convert_rows(
     let mut sequence = 0;
     let mut more = left;
     let mut state = st;
-    loop {
+    // Stays a loop: each field's own length moves the place; what is counted is what was found.
+    while let Some(field) = access::access::next_row(main, at) {
         if more == 0 {
             return Ok(state);
         }
-        let Some(field) = access::access::next_row(main, at) else {
-            return Ok(state);
-        };
         at = field.next;
         let row = read_row(main, field.start, sequence);
         if u8::read(main, field.start + ROW_KIND) == 1 {
@@ -69,4 +67,5 @@ pub fn convert_rows(
             more -= 1;
         }
     }
+    Ok(state)
 }

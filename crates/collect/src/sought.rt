@@ -8,6 +8,7 @@ use files::spans::Span;
 use tlv::fields::FieldSpan;
 
 // What a header has at a file number that the unit's map has no number for: nothing, a file with no path, or file 0 before version 5.
+// Stays an enum: each of the three is answered in a way of its own.
 #[derive(Clone, Copy)]
 pub enum SoughtFile {
     Missing,

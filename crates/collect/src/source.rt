@@ -23,6 +23,7 @@ use tlv::refusal::Refusal;
 use tlv::tags::ENCODING_TAG;
 
 // The unit's row fields, or the line program; its opcode lengths are the bytes of the main input from one place to below another.
+// Stays an enum: a unit with no line program has row fields, so no case is an absence.
 #[derive(Clone, Copy, Debug)]
 pub enum RowSource {
     Fields,
@@ -96,6 +97,7 @@ pub fn gather_unit_rows(
     ensures { GathersUnit (source_rows main.now program.now p source) main.now work.old
         work.new p lines (most_rows main.now program.now p source) result }
 {
+    // Stays a match: rows as fields and rows of a program are gathered by functions of their own.
     match source {
         RowSource::Fields => {
             let counted = count_rows(main, p)?;
@@ -161,6 +163,7 @@ pub fn convert_unit_rows(
         supplementary.now work.old work.new files.old files.new warnings.old
         warnings.new c st left result }
 {
+    // Stays a match: why the two walks stay apart stands in table.rt.
     match rows {
         UnitRows::Fields => {
             convert_rows(main, supplementary, c, left, work, files, warnings, st)
@@ -195,6 +198,7 @@ pub fn collect_unit_sequences(
     requires none_in_bounds { base + range_size * length (sequences_from (rows_here main.now work.old p rows) 0 none) ≤ length work.old }
     ensures { SequencesIn (rows_here main.now work.old p rows) work.old work.new offsets n base result }
 {
+    // Stays a match: why the two walks stay apart stands in table.rt.
     match rows {
         UnitRows::Fields => collect_sequences(main, p, work, offsets, n, base),
         UnitRows::Table { at, count } => collect_table_sequences(at, count, work, offsets, n, base),

@@ -1,4 +1,5 @@
 // The walks over a table of rows in the work slice. What they write there lies below the table.
+// Stays beside the walks over row fields: those read a sheet that nothing writes, so one walk over both would need a law that the rows stay, and be longer.
 ghost use Rattle.std.proofs.Math.Option.{none};
 ghost use Rattle.std.specs.Prelude.{◌+◌, ◌*◌, ◌≤◌, length};
 ghost use Rattle.tlv.specs.Grammar.{row_field_size};

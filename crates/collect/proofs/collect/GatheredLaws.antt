@@ -22,7 +22,6 @@ use Rattle.files.proofs.GrownLaws.{unit_kept, table_kept, files-kept, grown-afte
 use Rattle.rows.specs.Sizes.{entry_size, row_room}
 use Rattle.collect.specs.declared.collect.CollectedLines.{CollectedLines}
 use Rattle.collect.specs.declared.convert.Conversion.{Conversion}
-use Rattle.collect.specs.declared.source.UnitRows.{UnitRows}
 use Rattle.collect.specs.declared.source.GatheredRows.{GatheredRows}
 use Rattle.collect.specs.Passes.{count_all}
 use Rattle.collect.specs.Sources.{rows_here, UnitGathered, GathersUnit}
@@ -97,9 +96,6 @@ module _ {x : Outcome (List LineRow)} {most : ℕ} {main supplementary w w₁ : 
 
     abbrev given : List LineRow
     given = rows_here main w₁ (c.unit.place + 21) k.rows
-
-    pub gathered-room : c.lines + row_room * most + entry_size ≤ length w → length w₁ ≡ length w → c.lines + row_room * length given + entry_size ≤ length w₁
-    gathered-room room size = omega (arith, gathered.few)
 
     finish-same : (y : Outcome Collected) → finish_rows (done given) main supplementary w₁ c t ≡ y → finish_rows x main supplementary w c t ≡ y
     unfolding ◌>>=◌

@@ -9,9 +9,8 @@ use lib.ListN.{length, set}
 use Rattle.std.specs.Prelude.{Option as Maybe, Some, None, Result, Ok, Err}
 use Rattle.files.specs.declared.store.AddedFile.{AddedFile}
 use Rattle.tlv.specs.declared.refusal.Refusal.{Refusal}
-use Rattle.tlv.specs.Refusals.{number_of}
 use Rattle.tlv.specs.declared.model.FileIndex.{FileIndex}
-use Rattle.tlv.specs.Outcome.{refused, done, ◌>>=◌}
+use Rattle.tlv.specs.Outcome.{done, ◌>>=◌}
 use Rattle.tlv.specs.Model.{CompilationUnit, LineHeader, HeaderFile, file_of}
 use Rattle.tlv.proofs.OutcomeLaws.{done-is, with_done}
 use Rattle.buffers.specs.Buffer.{top}
@@ -23,7 +22,6 @@ use Rattle.paths.specs.Paths.{file_entry}
 use Rattle.lines.specs.Files.{FileTable, FileIndices, Interned, add_file, intern_entry, intern_file, get, insert_index}
 use Rattle.lines.specs.Lines.{convert_row}
 use Rattle.files.specs.declared.spans.Span.{Span}
-use Rattle.files.specs.declared.store.StoredFiles.{StoredFiles}
 use Rattle.files.specs.Pieces.{span_in, FileUnitIn}
 use Rattle.files.specs.Store.{extent, table_of, FilesIn, Grown}
 use Rattle.files.specs.Indices.{index_of, indices_of, indices_in, Inserted}

@@ -61,22 +61,6 @@ module _ {rows : List LineRow} {main supplementary w : List ℕ} {c : Conversion
   rows-counted : RunCounted rows (record { lines = n; sequences = m })
   rows-counted = count-done rows (record { lines = n; sequences = m }) K.is
 
-  pub begun-conversion : (noted : ℕ) → ConversionIn main supplementary w c (record { table = t; count = 0; warned = noted })
-  begun-conversion noted = record {
-    placed = C.placed;
-    files = C.files;
-    unit = C.unit;
-    listed = C.listed;
-    zero = C.zero;
-    unnamed = C.unnamed;
-    all = C.all;
-    table = C.table;
-    offsets = C.offsets;
-    directories = C.directories;
-    indices = C.indices;
-    lines = C.lines;
-  }
-
   pub conversion-room : c.lines + row_room * length rows + entry_size ≤ length w → c.lines + 0 * line_size + n * line_size ≤ length w
   conversion-room h = let a = rows-counted.all in omega arith
 

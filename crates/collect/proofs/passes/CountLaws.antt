@@ -21,9 +21,6 @@ pub record CountingRows (s : List ℕ) (p at lines opened n : ℕ) : Type 0 wher
   pub same : count_rows (rows_from s p) 0 0 0 ≡ count_rows (rows_from s at) lines opened n
   pub small : lines + opened + n ≤ at
 
-pub counting-start : {s : List ℕ} {p : ℕ} → Placed s p → CountingRows s p p 0 0 0
-counting-start h = record { placed = h; same = refl; small = omega arith }
-
 module _ (s : List ℕ) (p at lines opened n : ℕ) (inv : CountingRows s p at lines opened n) where
   pub counting_done : NextOwn s at 0x16 None → counted_of (Ok (record { lines = lines; sequences = n })) ≡ count_rows (rows_from s p) 0 0 0
   unfolding count_rows

@@ -8,7 +8,6 @@ use lib.ListN.{length, drop}
 use borrow.Author.Tests.{eq-eqb, ne_eqb}
 use Rattle.std.specs.Prelude.{Some, None, Ok, Err}
 use Rattle.tlv.specs.declared.refusal.Refusal.{Refusal}
-use Rattle.tlv.specs.Refusals.{number_of}
 use Rattle.tlv.specs.Outcome.{Outcome, refused, done, ◌>>=◌}
 use Rattle.tlv.specs.Bytes.{le_at}
 use Rattle.tlv.specs.Grammar.{row_line_at, row_column_at, row_kind_at, row_field_size}
@@ -25,7 +24,7 @@ use Rattle.machine.specs.Steps.{machine_of, Emits}
 use Rattle.collect.specs.Tables.{table_rows, RowPut, GathersRows}
 use Rattle.collect.specs.Sources.{program_in}
 use Rattle.collect.proofs.ProgramCountLaws.{CountingProgram, no-range, no-operation, program-start, program-done, program-fault}
-use Rattle.collect.proofs.ProgramCountLaws.{program-plain, program-plain_ahead, program-ended, program-ended_ahead}
+use Rattle.collect.proofs.ProgramCountLaws.{program-plain, program-ended}
 
 -- ---- one row
 
@@ -144,17 +143,11 @@ module _ {e : Encoding} {ls s w₀ w : List ℕ} {base : ℕ} {r : Registers} {a
         }
 
   module _ {v : Registers} {next : ℕ} (plain : Emits (machine_of e ls (length s)) s r at (Ok (Some (Emitted.Plain v next)))) where
-    pub gather-plain-room : (base + count * row_field_size + row_field_size ≤ length w) × (count + 1 ≤ length s)
-    gather-plain-room = let few = G.few in let room = G.room in let x = program-plain_ahead G.counting plain in (omega arith, omega arith)
-
     pub gather-plain : {w' : List ℕ} → RowPut w w' (base + count * row_field_size) (appended_row v 0) → length w' ≡ length w
         → GatheringProgram e ls s w₀ w' base v next lines (opened + 1) n (count + 1)
     gather-plain P same = grown P same plain.within.0 plain.within.1 (program-plain G.counting plain) plain.is
 
   module _ {v : Registers} {next : ℕ} (ended : Emits (machine_of e ls (length s)) s r at (Ok (Some (Emitted.Ended v next)))) where
-    pub gather-ended-room : (base + count * row_field_size + row_field_size ≤ length w) × (count + 1 ≤ length s)
-    gather-ended-room = let few = G.few in let room = G.room in let x = program-ended_ahead G.counting ended in (omega arith, omega arith)
-
     pub gather-ended : {w' : List ℕ} (i : Registers) → RowPut w w' (base + count * row_field_size) (appended_row v 1) → length w' ≡ length w → i ≡ initial
         → GatheringProgram e ls s w₀ w' base i next (lines + opened) 0 (n + 1) (count + 1)
     gather-ended i P same z = grown P same ended.within.0 ended.within.1 (program-ended G.counting ended i z) (rw z ended.is)

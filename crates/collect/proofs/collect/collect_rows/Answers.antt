@@ -1,9 +1,8 @@
 -- `collect::collect_rows` meets its contract: the rows are gathered, and then finished.
 use native.Mathlib.Omega.{arith}
-use mathlib.Core.Path.{◌∙◌}
 use Rattle.files.proofs.UnitLaws.{unit-next, unit-within}
 use Rattle.tlv.proofs.AnswerLaws.{handed}
-use Rattle.collect.proofs.collect.GatheredLaws.{gathered-conversion, gathered-fault, gathered, gathered-room, gathered-finish}
+use Rattle.collect.proofs.collect.GatheredLaws.{gathered-conversion, gathered-fault, gathered-finish}
 use Rattle.collect.proofs.collect.collect_rows.Goals as goal
 
 pub overflow_add-p : goal.overflow_add-p

@@ -1,6 +1,5 @@
 -- `interned::intern_unit` meets its contract: the unit's directories, and its map behind them.
 use native.Mathlib.Omega.{arith}
-use borrow.Author.Rules.{rules}
 use Rattle.tlv.proofs.AnswerLaws.{handed}
 use Rattle.collect.proofs.UnitInternLaws.{described-files, described-placed, described-listed, described-room, interned-refused, interned_done}
 use Rattle.collect.proofs.interned.intern_unit.Goals as goal

@@ -3,7 +3,6 @@ use Prim.Native.Nat.{◌+◌, ◌*◌, ◌≤◌, ◌<◌}
 use native.Mathlib.Omega.{arith}
 use lib.ListN.{length}
 use Rattle.tlv.specs.Grammar.{row_field_size}
-use Rattle.access.proofs.OwnLaws.{own-less}
 use Rattle.rows.specs.Sizes.{range_size}
 use Rattle.collect.proofs.RowsFromLaws.{row_within, row-ahead}
 use Rattle.collect.proofs.passes.SequencesLaws.{collecting-start, collecting-done, collecting-room, collecting-put, collecting-empty, collecting-more, collecting-open}

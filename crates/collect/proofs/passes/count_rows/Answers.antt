@@ -3,9 +3,8 @@ use Prim.Native.Nat.{◌+◌, ◌≤◌, ◌<◌}
 use native.Mathlib.Omega.{arith}
 use lib.ListN.{length}
 use Rattle.tlv.specs.Grammar.{row_field_size}
-use Rattle.access.proofs.OwnLaws.{own-less}
 use Rattle.collect.proofs.RowsFromLaws.{row_within, row-ahead}
-use Rattle.collect.proofs.passes.CountLaws.{counting-start, counting_done, counting-failed, counting-end, counting-plain}
+use Rattle.collect.proofs.passes.CountLaws.{counting_done, counting-failed, counting-end, counting-plain}
 use Rattle.collect.proofs.passes.count_rows.Goals as goal
 
 pub read-kind-requires : goal.read-kind-requires

@@ -1,9 +1,8 @@
 -- `program::gather_program_rows` meets its contract: the rows that were written, and those from here on, are the program's.
 use native.Mathlib.Omega.{arith}
 use Rattle.tlv.proofs.AnswerLaws.{handed}
-use Rattle.collect.proofs.ProgramCountLaws.{program-plain_less, program-plain-small, program-ended_less, program-ended-small}
 use Rattle.collect.proofs.program.GatherLaws.{gather-range, gather-operation, gather-start, gather-fault, gather-end}
-use Rattle.collect.proofs.program.GatherLaws.{gather-plain-room, gather-plain, gather-ended-room, gather-ended}
+use Rattle.collect.proofs.program.GatherLaws.{gather-plain, gather-ended}
 use Rattle.collect.proofs.program.gather_program_rows.Goals as goal
 use Rattle.collect.proofs.program.gather_program_rows.Goals.{then-e-eq0-via-then-e-eq0, then-e-eq0-via-else-e-eq0+then-e-ne1}
 

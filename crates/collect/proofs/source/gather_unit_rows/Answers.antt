@@ -1,7 +1,7 @@
 -- `source::gather_unit_rows` meets its contract: by the source.
 use native.Mathlib.Omega.{arith}
 use Rattle.tlv.proofs.AnswerLaws.{handed}
-use Rattle.collect.proofs.UnitRowsLaws.{fields-fault, fields-rows, part-within, most-program, program-fault, program-rows}
+use Rattle.collect.proofs.UnitRowsLaws.{fields-fault, part-within, most-program, program-rows}
 use Rattle.collect.proofs.source.gather_unit_rows.Goals as goal
 
 pub overflow_mul-at : goal.overflow_mul-at

@@ -1,6 +1,6 @@
 -- `source::row_fault` meets its contract.
 use Rattle.tlv.specs.Refusals.{number_of}
-use Rattle.collect.proofs.UnitRowsLaws.{fault-found, fault-later}
+use Rattle.collect.proofs.UnitRowsLaws.{fault-later}
 use Rattle.collect.proofs.source.row_fault.Goals as goal
 
 pub returns-in-Ok : goal.returns-in-Ok

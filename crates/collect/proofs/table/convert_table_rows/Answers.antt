@@ -1,6 +1,5 @@
 -- `table::convert_table_rows` meets its contract: the rows that are left, with what the others have become, give what was asked.
 use native.Mathlib.Omega.{arith}
-use mathlib.Core.Path.{◌∙◌}
 use Rattle.tlv.proofs.AnswerLaws.{handed}
 use Rattle.collect.proofs.table.TableConvertLaws.{table-start, table-full, table-over, table-within, table-ended, table-known}
 use Rattle.collect.proofs.table.TableConvertLaws.{table-refused, table_more, table-holds}
