@@ -11,7 +11,7 @@ use Rattle.std.specs.Prelude.{Some, None, SomeIff, ok_or}
 use Rattle.std.specs.declared.option.Option.{Option as Given}
 use Rattle.tlv.specs.declared.model.DebugSource.{DebugSource}
 use Rattle.tlv.specs.declared.refusal.Refusal.{Refusal}
-use Rattle.tlv.specs.Refusals.{outcome_of}
+use Rattle.tlv.specs.Refusals.{as_outcome}
 use Rattle.tlv.specs.Lists.{Any, exists}
 use Rattle.tlv.specs.Bytes.{le_at}
 use Rattle.tlv.specs.Fields.{fields}
@@ -132,7 +132,7 @@ module _ {s : List ℕ} (q : ℕ) (accepted : Placed s 0) (listed : UnitOf s q) 
 
   -- an offset of the unit added to it
   pub offset_sum : (own o : ℕ) → own ≡ le_at 8 s (q + 3) → (r : Given ℕ) → SomeIff r (own + o < 2 ^ 64) (own + o)
-      → outcome_of (ok_or r Refusal.Overflow) ≡ absolute_entry_offset (unit_here s q) o
+      → as_outcome (ok_or r Refusal.Overflow) ≡ absolute_entry_offset (unit_here s q) o
   unfolding absolute_entry_offset
   offset_sum own o eo None h = let is : (unit_here s q).offset ≡ own = unit_offset ∙ sym eo in rw (is, le-ltb (own + o) (2 ^ 64) (omega (arith, h)))
   offset_sum own o eo (Some n) h = let is : (unit_here s q).offset ≡ own = unit_offset ∙ sym eo in rw (is, lt-ltb (own + o) (2 ^ 64) h.0, h.1)

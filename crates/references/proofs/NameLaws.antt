@@ -266,22 +266,9 @@ module _ {main supplementary : List ℕ} (q p : ℕ) {at : EntryAt} (is : at ≡
 
 -- ---- what was found by its bytes
 
-pub found_none : (name : List ℕ) → length name ≡ 0 → None ≡ found_name name
-found_none [] e = refl
-found_none (b ∷ bs) e = absurd (omega arith)
-
-pub found_some : (name : List ℕ) → (length name ≡ 0 → ⊥) → Some name ≡ found_name name
-found_some [] h = absurd (h refl)
-found_some (b ∷ bs) h = refl
-
--- and the other way
 pub found-length : (name : List ℕ) {r : List ℕ} → Some r ≡ found_name name → length name ≡ 0 → ⊥
 found-length [] is e = let z : ◌≡◌ {A = ℕ} 0 1 = cc in omega arith
 found-length (b ∷ bs) is e = omega arith
-
-pub found-is : (name : List ℕ) {r : List ℕ} → Some r ≡ found_name name → r ≡ name
-found-is [] is = let z : ◌≡◌ {A = ℕ} 0 1 = cc in absurd (omega arith)
-found-is (b ∷ bs) is = cc
 
 pub missing-length : (name : List ℕ) → None ≡ found_name name → length name ≡ 0
 missing-length [] is = refl

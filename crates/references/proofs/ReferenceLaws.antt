@@ -8,7 +8,6 @@ use native.Mathlib.Omega.{arith}
 use lib.Dec.{eqb}
 use lib.ListN.{length, take, drop}
 use borrow.Author.Tests.{eq-eqb, ne_eqb, eqb-true, eqb-false}
-use Rattle.tlv.specs.declared.fields.Step.{Step}
 use Rattle.tlv.specs.declared.grammar.Context.{Context}
 use Rattle.tlv.specs.Outcome.{Outcome, refused, done}
 use Rattle.tlv.specs.Lists.{All, first}
@@ -16,7 +15,7 @@ use Rattle.tlv.specs.Bytes.{le_at}
 use Rattle.tlv.specs.Fields.{Field, FieldList, end, cut, more, fields, payloads}
 use Rattle.tlv.specs.Grammar.{shaped, limited, next, check_from}
 use Rattle.tlv.specs.Model.{Attribute, attribute_of}
-use Rattle.tlv.specs.Cursor.{step_at, fields_of}
+use Rattle.tlv.specs.Cursor.{Step, field_here, cut_short, nothing_left, step_at, fields_of}
 use Rattle.tlv.specs.Checked.{field_in, Placed}
 use Rattle.tlv.proofs.ListLaws.{any_one}
 use Rattle.tlv.proofs.CursorLaws.{fields-at, fields-field, field-within, row-ind}
@@ -40,22 +39,22 @@ use Rattle.references.specs.Tables.{EntryKnown, reference_of, reference_in, name
 -- an entry's field stands at p, in an accepted sheet
 pub record EntryStands (s : List ℕ) (p : ℕ) : Type 0 where
   pub placed : Placed s p
-  pub step : step_at s p ≡ Step.Field 0x17 (p + 3) 12 (p + 15)
+  pub step : step_at s p ≡ field_here 0x17 (p + 3) 12 (p + 15)
 
 -- the step at the place of a field 17
-step-entry : (s : List ℕ) (p : ℕ) (f : Field) (fs : FieldList) → Placed s p → fields (drop p s) ≡ more f fs → f.tag ≡ 0x17 → step_at s p ≡ Step.Field 0x17 (p + 3) 12 (p + 15)
+step-entry : (s : List ℕ) (p : ℕ) (f : Field) (fs : FieldList) → Placed s p → fields (drop p s) ≡ more f fs → f.tag ≡ 0x17 → step_at s p ≡ field_here 0x17 (p + 3) 12 (p + 15)
 step-entry s p f fs h at is = sym (go (step_at s p) refl)
   where
-    go : (r : Step) → r ≡ step_at s p → Step.Field 0x17 (p + 3) 12 (p + 15) ≡ r
-    go Step.End reads =
+    go : (r : Step) → r ≡ step_at s p → field_here 0x17 (p + 3) 12 (p + 15) ≡ r
+    go nothing_left reads =
         let none : end ≡ more f fs = sym (fields-at s p ∙ ap (fields_of s) (sym reads)) ∙ at in
         let z : ◌≡◌ {A = ℕ} 0 1 = cc in
         absurd (omega arith)
-    go Step.Cut reads =
+    go cut_short reads =
         let none : cut ≡ more f fs = sym (fields-at s p ∙ ap (fields_of s) (sym reads)) ∙ at in
         let z : ◌≡◌ {A = ℕ} 0 1 = cc in
         absurd (omega arith)
-    go (Step.Field t start n past) reads =
+    go (field_here t start n past) reads =
         let w = field-within s p _ t start n past reads refl in
         let same : more (field_in s t start n) (fields (drop past s)) ≡ more f fs = sym (fields-field s p _ t start n past reads refl) ∙ at in
         let first : field_in s t start n ≡ f = cc in
@@ -100,7 +99,7 @@ module _ {s : List ℕ} {q p : ℕ} (accepted : Placed s 0) (known : EntryKnown 
   entry-placed = stands.placed
 
   -- what the cursor reads at the place of an entry
-  pub entry-step : step_at s p ≡ Step.Field 0x17 (p + 3) 12 (p + 15)
+  pub entry-step : step_at s p ≡ field_here 0x17 (p + 3) 12 (p + 15)
   entry-step = stands.step
 
   -- the fields behind it

@@ -12,6 +12,7 @@ use tlv::refusal::Refusal;
 use tlv::tags::ENTRY_WHOLE;
 
 // A reference to another entry.
+// Stays an enum: of the Rust's three kinds, each is followed in its own way, and most attributes are none.
 #[derive(Clone, Copy)]
 pub enum Reference {
     Missing,

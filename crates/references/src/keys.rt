@@ -26,6 +26,7 @@ fn is_key(work: &[u8], p: usize, source: DebugSource, offset: u64) -> bool
         return false;
     }
     let first = u8::read(work, p);
+    // Stays a match: any byte but 0 is read as the supplementary sheet's.
     match source {
         DebugSource::Main => first == 0,
         DebugSource::Supplementary => first != 0,
@@ -36,6 +37,7 @@ fn is_key(work: &[u8], p: usize, source: DebugSource, offset: u64) -> bool
 fn source_byte(source: DebugSource) -> u8
     ensures { result ≡ source_byte source }
 {
+    // Stays a match: the byte that is_key reads back.
     match source {
         DebugSource::Main => 0,
         DebugSource::Supplementary => 1,
@@ -43,13 +45,11 @@ fn source_byte(source: DebugSource) -> u8
 }
 
 // Whether n targets are kept in chains: a few are found as fast by a look at each, and a link numbers no more.
+#[tactic(auto, unfolding(crate::specs::Keys::many))]
 fn is_many(n: usize) -> bool
     ensures { result ≡ many n }
 {
-    if n <= 64 {
-        return false;
-    }
-    n < 4294967296
+    64 < n && n < 4294967296
 }
 
 // How many chains there are.
@@ -57,9 +57,7 @@ fn chain_count(x: Tables) -> usize
     requires { keys_from x < 18446744073709551616 }
     ensures { result ≡ chain_count x }
 {
-    let m = x.main;
-    let s = x.supplementary;
-    m.entry_count + s.entry_count + 1
+    x.main.entry_count + x.supplementary.entry_count + 1
 }
 
 // The chain of an offset, of n.
@@ -83,9 +81,7 @@ fn is_scanned(work: &[u8], base: usize, n: usize, source: DebugSource, offset: u
     requires { base + n * key_record ≤ length work.now }
     ensures { result ≡ exists (same_key (key_in source offset)) (keys_at work.now base n) }
 {
-    let mut i = n;
-    while 0 < i {
-        i -= 1;
+    for i in (0..n).rev() {
         if is_key(work, base + i * KEY_RECORD, source, offset) {
             return true;
         }
@@ -103,6 +99,7 @@ pub fn is_visited(work: &[u8], x: Tables, n: usize, source: DebugSource, offset:
     }
     let c = chain_of(chain_count(x), offset);
     let mut k = u32::read(work, x.keys + c * CHAIN_HEAD) as usize;
+    // Stays a loop: each target's own link says which is next, so nothing is counted.
     while k != 0 {
         let p = keys_from(x) + (k - 1) * KEY_RECORD;
         if is_key(work, p, source, offset) {
@@ -137,10 +134,8 @@ fn chain_keys(work: &mut [u8], x: Tables, n: usize)
 {
     let base = keys_from(x);
     fill_zero(work, x.keys, base);
-    let mut i = 0;
-    while i < n {
+    for i in 0..n {
         chain_key(work, x, i);
-        i += 1;
     }
 }
 

@@ -5,8 +5,8 @@ ghost use Rattle.access.specs.Places.{entry_here, unit_here};
 ghost use Rattle.references.specs.Search.{resolve_name};
 ghost use Rattle.references.specs.Reads.{counted_name, name_reads, ReadsWithin};
 ghost use Rattle.references.specs.Tables.{EntryKnown, bytes_of};
-ghost use Rattle.references.specs.Names.{dwarf_of, search_source, place_at, Stands, Aims, SearchIn, name_given, found_name, Gives, referred_name, resolve_absolute_name};
-ghost use Rattle.references.specs.Names.{start_at, Resolved};
+ghost use Rattle.references.specs.Names.{dwarf_of, search_source, place_at, Stands, Aims, SearchIn, name_given, found_name, Gives};
+ghost use Rattle.references.specs.Names.{referred_name, resolve_absolute_name, start_at, Resolved};
 
 use crate::attributes::own_name;
 use crate::keys::{is_visited, push_key};

@@ -1,7 +1,7 @@
 // Where an attribute's reference leads.
 ghost use Rattle.std.specs.Prelude.{◌≡◌, ◌+◌, ◌-◌, ◌<◌, length};
 ghost use Rattle.tlv.specs.Checked.{Placed};
-ghost use Rattle.tlv.specs.Refusals.{outcome_of};
+ghost use Rattle.tlv.specs.Refusals.{as_outcome};
 ghost use Rattle.access.specs.Places.{unit_here, UnitOf};
 ghost use Rattle.files.specs.Pieces.{source_in};
 ghost use Rattle.references.specs.Search.{absolute_entry_offset};
@@ -36,6 +36,7 @@ pub struct OffsetAt {
 }
 
 // How a search goes on from a reference: not at all; at an entry of the same unit, by its offset in the section; or at an offset of a section.
+// Stays an enum: a search that ends, goes on in the unit or goes on anywhere has a rule of its own each.
 #[derive(Clone, Copy)]
 pub enum Way {
     Nothing,
@@ -68,7 +69,7 @@ pub fn index_of(x: Tables, input: DebugSource) -> Index
 pub fn absolute_entry_offset(s: &[u8], unit: usize, offset: u64) -> Result<u64, Refusal>
     requires placed { Placed s.now 0 }
     requires listed { UnitOf s.now unit }
-    ensures { outcome_of result ≡ absolute_entry_offset (unit_here s.now unit) offset }
+    ensures { as_outcome result ≡ absolute_entry_offset (unit_here s.now unit) offset }
 {
     u64::read(s, unit + UNIT_OFFSET)
         .checked_add(offset)

@@ -5,12 +5,6 @@ use native.Mathlib.Omega.{arith}
 use Rattle.references.proofs.ReferenceLaws.{entry_next, entry-inside, name-absent, name-text, name-refused, text-inside}
 use Rattle.references.proofs.attributes.name_at.Goals as goal
 
-pub overflow_add-p : goal.overflow_add-p
-overflow_add-p c = omega (arith, entry-inside c.requires.placed c.requires.entry_known)
-
-pub attribute-requires : goal.attribute-requires
-attribute-requires c = search entry_next
-
 pub overflow_add-result : goal.overflow_add-result
 overflow_add-result c = let inside = text-inside _ c.requires.placed c.requires.entry_known c.attribute.ensures c.in-Some.is c.in-Text.is in
     omega arith
@@ -26,3 +20,9 @@ returns-in_default-value c = name-refused _ c.requires.placed c.requires.entry_k
 
 pub returns-in-Text : goal.returns-in-Text
 returns-in-Text c = name-text _ c.requires.placed c.requires.entry_known c.attribute.ensures c.in-Some.is c.in-Text.is refl
+
+pub attribute-requires : goal.attribute-requires
+attribute-requires c = search entry_next
+
+pub overflow_add-p : goal.overflow_add-p
+overflow_add-p c = omega (arith, entry-inside c.requires.placed c.requires.entry_known)

@@ -4,6 +4,3 @@ use Rattle.references.proofs.keys.is_scanned.Given as goal
 
 abbrev pub invariant-loop-i : goal.invariant-loop-i
 invariant-loop-i l = Looking l.work l.base l.n l.source l.offset l.i
-
-abbrev pub decreases-loop-i : goal.decreases-loop-i
-decreases-loop-i l = l.i

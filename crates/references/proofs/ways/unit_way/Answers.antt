@@ -33,8 +33,5 @@ target_in-requires-clause-target_value c = way_sum c.args.offset c.requires.sear
 pub returns-in_default : goal.returns-in_default
 returns-in_default c = way_no-entry c.args.offset c.requires.search_in c.requires.stands c.input_of-s.ensures.result_value c.in_ok-target.ensures _ c.is_visited.ensures c.if-is_visited.false c.in_default.ensures
 
-pub overflow_add-next : goal.overflow_add-next
-overflow_add-next c = omega arith
-
 pub returns : goal.returns
 returns c = way-entry c.args.offset c.requires.search_in c.requires.stands c.input_of-s.ensures.result_value c.in_ok-target.ensures _ c.is_visited.ensures c.if-is_visited.false c.in-Some.ensures c.requires.possible_key

@@ -9,17 +9,8 @@ reference_at-requires-clause-placed c = placed_at c.requires.search_in c.args.at
 pub reference_at-requires-clause-entry_known : goal.reference_at-requires-clause-entry_known
 reference_at-requires-clause-entry_known c = rw c.input_of-s.ensures.result_value c.requires.stands.known
 
-pub unit_way-requires-clause-search_in : goal.unit_way-requires-clause-search_in
-unit_way-requires-clause-search_in c = c.requires.search_in
-
-pub unit_way-requires-clause-stands : goal.unit_way-requires-clause-stands
-unit_way-requires-clause-stands c = c.requires.stands
-
 pub unit_way-requires-clause-possible_key : goal.unit_way-requires-clause-possible_key
 unit_way-requires-clause-possible_key c = possible-unit c.requires.search_in _ c.requires.stands (reference-is _ c.requires.search_in c.requires.stands c.input_of-s.ensures.result_value c.reference_at.ensures c.in-Unit.is)
-
-pub unit_way-requires-clause-depth_bound : goal.unit_way-requires-clause-depth_bound
-unit_way-requires-clause-depth_bound c = c.requires.depth_bound
 
 pub returns-then-x-eq0 : goal.returns-then-x-eq0
 returns-then-x-eq0 c = way_no-units _ c.requires.search_in c.requires.stands c.input_of-s.ensures.result_value c.reference_at.ensures _ c.in-Supplementary.is c.if-x-eq0.true
