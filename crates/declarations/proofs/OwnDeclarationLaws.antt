@@ -13,7 +13,7 @@ use Rattle.tlv.specs.declared.model.FileIndex.{FileIndex}
 use Rattle.std.specs.Prelude.{Some, None, Result, Ok, Err}
 use Rattle.std.specs.declared.option.Option.{Option as Given}
 use Rattle.tlv.specs.declared.refusal.Refusal.{Refusal}
-use Rattle.tlv.specs.Refusals.{outcome_of}
+use Rattle.tlv.specs.Refusals.{as_outcome}
 use Rattle.tlv.specs.Outcome.{Outcome, ◌>>=◌}
 use Rattle.tlv.specs.Lists.{is_none}
 use Rattle.tlv.specs.Bytes.{bytes_of}
@@ -161,10 +161,10 @@ module _ {main supplementary w : List ℕ} {d : Places} {st : DeclaringState} (D
 -- ---- a warning
 
 module _ {s : List ℕ} {q p kind number : ℕ} {warnings : List ℕ} {st : DeclaringState} where
-  pub warns-refused : {warnings' : List ℕ} {n : Refusal} → outcome_of (Err n) ≡ absolute_entry_offset (unit_here s q) (entry_here s p).offset → Warns s q p kind number warnings warnings' st (Err n)
+  pub warns-refused : {warnings' : List ℕ} {n : Refusal} → as_outcome (Err n) ≡ absolute_entry_offset (unit_here s q) (entry_here s p).offset → Warns s q p kind number warnings warnings' st (Err n)
   warns-refused e = record { is = sym e }
 
-  pub warns-written : {warnings' : List ℕ} {n r : ℕ} → outcome_of (Ok n) ≡ absolute_entry_offset (unit_here s q) (entry_here s p).offset
+  pub warns-written : {warnings' : List ℕ} {n r : ℕ} → as_outcome (Ok n) ≡ absolute_entry_offset (unit_here s q) (entry_here s p).offset
       → Put st.warned (encode 0x46 ((kind ∷ []) ++ bytes_of 8 n ++ bytes_of 8 number)) warnings warnings' r
       → Warns s q p kind number warnings warnings' st (none_found (record { count = st.count; table = st.table; warned = r }))
   warns-written {n = n} e P = record { is = (record { offset = n; is = sym e; put = P; count = refl; table = refl }, refl) }

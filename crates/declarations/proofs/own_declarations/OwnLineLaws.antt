@@ -14,7 +14,7 @@ use Rattle.std.specs.Prelude.{Some, None, is_some, SomeIff, ok_or}
 use Rattle.std.specs.declared.option.Option.{Option as Given}
 use Rattle.tlv.specs.declared.fields.FieldSpan.{FieldSpan}
 use Rattle.tlv.specs.declared.refusal.Refusal.{Refusal}
-use Rattle.tlv.specs.Refusals.{outcome_of}
+use Rattle.tlv.specs.Refusals.{as_outcome}
 use Rattle.access.specs.Places.{entry_here, unit_here}
 use Rattle.access.specs.Access.{NextOwn}
 use Rattle.access.proofs.UnitFacts.{unit-header, unit-offset}
