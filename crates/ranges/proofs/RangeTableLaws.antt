@@ -2,7 +2,7 @@
 use mathlib.Core.Path.{◌≡◌, refl, sym, ap, ◌∙◌}
 use mathlib.Core.Logic.{◌⊎◌, inl, inr}
 use mathlib.Core.List.{List, [], ◌∷◌, ◌++◌, append_assoc, append-nil}
-use mathlib.Core.Bool.{Bool, true, false, ◌&&◌, ◌||◌}
+use mathlib.Core.Bool.{Bool, true, false, cond, ◌&&◌, ◌||◌}
 use Prim.Native.Nat.{ℕ, ◌+◌, ◌-◌, ◌*◌, ◌≤◌, ◌<◌, min, max}
 use native.Mathlib.Nat.{add-zero}
 use native.Mathlib.Omega.{arith}
@@ -12,6 +12,7 @@ use borrow.Author.Tests.{lt-ltb, le-ltb, le-leb, lt-leb}
 use Rattle.tlv.specs.declared.model.AddressRange.{AddressRange}
 use Rattle.tlv.specs.Addresses.{Nonempty}
 use Rattle.tlv.specs.Bytes.{le_at}
+use Rattle.tlv.specs.Lists.{exists}
 use Rattle.tlv.specs.Model.{range_of}
 use Rattle.buffers.specs.Output.{range_bytes, each_of}
 use Rattle.buffers.specs.Table.{chunk, Apart as Beside, Kept, Clear, KeptBut, Wrote}
@@ -91,29 +92,38 @@ pub ranges-push : {w w' : List ℕ} {r : AddressRange} (p o : ℕ) → PutRange 
 unfolding ranges_at
 ranges-push {w} {w'} {r} p o P = records-push range_of 16 p o r P.rest P.value
 
--- ---- whether a range lies inside one of some
+-- ---- whether one of some passes a test: none of the first i does
 
-pub record Lying (w : List ℕ) (p n : ℕ) (x : AddressRange) (i : ℕ) : Type 0 where
-  pub within : i ≤ n
-  pub rest : lies_in (ranges_at w p n) x ≡ lies_in (drop i (ranges_at w p n)) x
+pub record Passing (test : AddressRange → Bool) (w : List ℕ) (p n i : ℕ) : Type 0 where
+  pub rest : exists test (ranges_at w p n) ≡ exists test (drop i (ranges_at w p n))
 
-pub lying-start : (w : List ℕ) (p n : ℕ) (x : AddressRange) → Lying w p n x 0
-lying-start w p n x = record { within = omega arith; rest = refl }
+pub passing-start : (test : AddressRange → Bool) (w : List ℕ) (p n : ℕ) → Passing test w p n 0
+passing-start test w p n = record { rest = refl }
 
-module _ {w : List ℕ} {p n : ℕ} {x : AddressRange} {i : ℕ} (L : Lying w p n x i) where
-  pub lying-end : n ≤ i → false ≡ lies_in (ranges_at w p n) x
-  lying-end h = sym (L.rest ∙ ap (λ (l : List AddressRange). lies_in l x) (ranges-end w p n i h))
+module _ {test : AddressRange → Bool} {w : List ℕ} {p n i : ℕ} (L : Passing test w p n i) where
+  pub passing-end : n ≤ i → false ≡ exists test (ranges_at w p n)
+  unfolding exists
+  passing-end h = sym (L.rest ∙ ap (λ (l : List AddressRange). exists test l) (ranges-end w p n i h))
 
-  module _ (h : i < n) {m : AddressRange} (em : m ≡ range_of (chunk w (p + i * 16) 16)) where
-    turn : lies_in (ranges_at w p n) x ≡ (leb m.start x.start && leb x.end m.end) || lies_in (drop (i + 1) (ranges_at w p n)) x
-    turn = L.rest ∙ ap (λ (l : List AddressRange). lies_in l x) (ranges-cons w p n i h) ∙ rw em
+  module _ (h : i < n) {m : AddressRange} (em : m ≡ range_of (chunk w (p + i * 16) 16)) {b : Bool} (eb : b ≡ test m) where
+    turn : exists test (ranges_at w p n) ≡ cond b true (exists test (drop (i + 1) (ranges_at w p n)))
+    unfolding exists
+    turn = L.rest ∙ ap (λ (l : List AddressRange). exists test l) (ranges-cons w p n i h) ∙ rw (← em, ← eb)
 
-    pub lying-hit : m.start ≤ x.start → x.end ≤ m.end → true ≡ lies_in (ranges_at w p n) x
-    lying-hit l k = sym (turn ∙ rw (le-leb m.start x.start l, le-leb x.end m.end k))
+    pub passing-hit : b ≡ true → true ≡ exists test (ranges_at w p n)
+    passing-hit e = sym (turn ∙ rw e)
 
-    pub lying-miss : (m.start ≤ x.start) × (m.end < x.end) ⊎ (x.start < m.start) → Lying w p n x (i + 1)
-    lying-miss (inl q) = record { within = omega arith; rest = turn ∙ rw (le-leb m.start x.start q.0, lt-leb x.end m.end q.1) }
-    lying-miss (inr l) = record { within = omega arith; rest = turn ∙ rw (lt-leb m.start x.start l) }
+    pub passing-miss : b ≡ false → Passing test w p n (i + 1)
+    passing-miss e = record { rest = turn ∙ rw e }
+
+pub lies-exists : (rs : List AddressRange) (x : AddressRange) → lies_in rs x ≡ exists (λ r. leb r.start x.start && leb x.end r.end) rs
+unfolding exists
+lies-exists [] x = refl
+lies-exists (r ∷ rs) x = rw (lies-exists rs x) (go (leb r.start x.start && leb x.end r.end))
+  where
+    go : (b : Bool) → (b || exists (λ q. leb q.start x.start && leb x.end q.end) rs) ≡ cond b true (exists (λ q. leb q.start x.start && leb x.end q.end) rs)
+    go true = refl
+    go false = refl
 
 -- ---- one range more, by a pass in place: o ranges are written, and `held` is in hand
 

@@ -1,2 +1,3 @@
 pub mod RangeTable
 pub mod Stays
+pub mod Passing

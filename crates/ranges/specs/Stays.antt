@@ -1,4 +1,4 @@
--- A range in a table, and that it stays where something apart from it is written.
+-- Theorem. A range stays where something apart from it is written: the law of the trait Record for ranges, with its proof, which an impl cites.
 use Rattle.std.proofs.Common.{◌≡◌, ℕ, List}
 use Rattle.tlv.specs.Model.{range_of}
 use Rattle.ranges.specs.declared.order.Stored.{Stored}

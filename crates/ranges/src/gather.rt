@@ -39,6 +39,7 @@ pub fn gather_ranges(s: &[u8], at: usize, work: &mut [u8], q: usize, m: usize, t
 {
     let mut p = at;
     let mut n: usize = 0;
+    // Stays a loop: each field's own length moves the place, so nothing is counted.
     while let Some(field) = next_own(s, p, RANGE_TAG) {
         n = put_fitting(work, q, m, to, n, range_at(s, field.start));
         p = field.next;
@@ -67,6 +68,7 @@ pub fn gather_list(
     let mut at = offset as usize;
     let mut from = base;
     let mut n: usize = 0;
+    // Stays a loop: each entry's own length moves the place, so nothing is counted.
     while let Some(found) = next_range(lists, addresses, place, size, at, from)? {
         n = put_fitting(work, q, m, to, n, found.range);
         at = found.next;
