@@ -1,25 +1,19 @@
 -- The test of a records tray's form, field by field.
 use mathlib.Core.Path.{◌≡◌, sym, ◌∙◌}
-use mathlib.Core.Bool.{Bool, true, false, ◌&&◌, ◌||◌, not}
+use mathlib.Core.Bool.{Bool, true, false, ◌&&◌, not}
 use mathlib.Core.List.{List}
-use Prim.Native.Nat.{ℕ, ◌+◌, ◌≤◌, ◌<◌}
-use native.Mathlib.Omega.{arith}
-use lib.Dec.{leb, ltb, eqb}
+use Prim.Native.Nat.{ℕ, ◌≤◌, ◌<◌}
+use lib.Dec.{eqb}
 use lib.ListN.{length, take, drop}
-use borrow.Author.Tests.{le-leb, lt-leb, leb-true, eq-eqb, ne_eqb, not-true, not-false}
 use Rattle.std.specs.Prelude.{Some, None}
 use Rattle.tlv.specs.declared.fields.FieldSpan.{FieldSpan}
 use Rattle.tlv.specs.Lists.{exists}
-use Rattle.tlv.specs.Bytes.{le_at}
 use Rattle.tlv.specs.Fields.{fields}
 use Rattle.tlv.specs.Cursor.{field_from}
 use Rattle.tlv.specs.Checked.{field_in}
-use Rattle.tlv.proofs.TestLaws.{and_left, and_right}
 use Rattle.tlv.proofs.CursorLaws.{step_end, fields-at}
 use Rattle.tlv.proofs.FieldLaws.{cut-here, fields-field}
-use Rattle.tlv.proofs.ShapeLaws.{part_length, number_at, number-first}
-use Rattle.buffers.specs.Reader.{records_after, range_formed, records_formed, depth_after, records_form}
-use Rattle.buffers.specs.Output.{tray_row_size}
+use Rattle.buffers.specs.Reader.{records_after, records_formed, depth_after, records_form}
 
 -- ---- a turn of the loop: v is the answer for all, and a turn begins at place p
 

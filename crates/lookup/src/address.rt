@@ -96,7 +96,7 @@ pub fn chain_at(s: &[u8], own: usize, address: u64) -> Chain
     let mut places = [0; CHAIN_MOST];
     let mut nodes = 0;
     let mut p = own;
-    // Stays a loop: each field's own length moves the place, so nothing is counted.
+    // Stays a loop: each field's own length moves the place; what is counted is what was found.
     while let Some(field) = next_field(s, p) {
         if field.tag == TRAY_FUNCTION_TAG {
             break;

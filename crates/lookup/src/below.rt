@@ -1,6 +1,6 @@
 // The function that ends nearest below an address.
 ghost use Rattle.std.specs.Prelude.{◌≡◌};
-ghost use Rattle.tlv.specs.Refusals.{outcome_of};
+ghost use Rattle.tlv.specs.Refusals.{as_outcome};
 ghost use Rattle.lookup.specs.Lookup.{nearest_below};
 ghost use Rattle.lookup.specs.Walk.{Stands, NearestFound};
 
@@ -34,7 +34,7 @@ fn ending_below(s: &[u8], address: u64) -> Option<usize>
 
 // The function that ends nearest below an address: the latest end at or below it, the first in the tray among equals.
 pub fn nearest_below(s: &[u8], address: u64) -> Result<usize, Refusal>
-    ensures { outcome_of result ≡ nearest_below s.now address }
+    ensures { as_outcome result ≡ nearest_below s.now address }
 {
     if !check_records(s) {
         return Err(Refusal::MisshapenRecords);

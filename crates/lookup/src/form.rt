@@ -81,6 +81,7 @@ fn range_field_formed(payload: &[u8]) -> bool
 pub fn payload_formed(depth: u64, tag: u8, payload: &[u8]) -> bool
     ensures { result ≡ records_formed depth tag payload.now }
 {
+    // Stays a match: each tag has a shape of its own.
     match tag {
         TRAY_FUNCTION_TAG => function_formed(payload),
         TRAY_ROW_TAG => payload.len() == ROW_SIZE,
@@ -97,6 +98,7 @@ pub fn depth_after(depth: u64, tag: u8, payload: &[u8]) -> u64
     requires { records_formed depth tag payload.now ≡ true }
     ensures { result ≡ depth_after depth (record { tag = tag; payload = payload.now }) }
 {
+    // Stays a match: each tag sets the depth in its own way.
     match tag {
         TRAY_FUNCTION_TAG => 0,
         TRAY_NODE_TAG => u16::read(payload, 0) as u64 + 1,

@@ -1,5 +1,5 @@
 // Look-ups in a records tray: what is running at an address.
-#![tactic(auto)]
+#![tactic(auto, using(crate::proofs::StepLaws::goes_on, crate::proofs::StepLaws::lies_within))]
 
 pub mod address;
 pub mod below;

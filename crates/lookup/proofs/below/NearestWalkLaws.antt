@@ -10,14 +10,14 @@ use native.Mathlib.Decide.{dec_le}
 use lib.Dec.{leb, ltb}
 use lib.ListN.{take, drop}
 use borrow.Author.Tests.{ltb-true, ltb-false, lt-ltb, le-ltb, le-leb, lt-leb, not-true, not-false}
-use Rattle.std.specs.Prelude.{Option, Some, None, Ok, Err}
+use Rattle.std.specs.Prelude.{Option, Some, None, Err}
 use Rattle.std.specs.Option.{ok_or}
 use Rattle.tlv.specs.declared.fields.FieldSpan.{FieldSpan}
 use Rattle.tlv.specs.declared.refusal.Refusal.{Refusal}
 use Rattle.tlv.specs.declared.model.AddressRange.{AddressRange}
 use Rattle.tlv.specs.Lists.{map_option}
 use Rattle.tlv.specs.Outcome.{◌>>=◌}
-use Rattle.tlv.specs.Refusals.{outcome_of}
+use Rattle.tlv.specs.Refusals.{as_outcome}
 use Rattle.tlv.specs.Cursor.{field_from}
 use Rattle.tlv.specs.Checked.{field_in}
 use Rattle.tlv.specs.Fields.{fields}
@@ -125,15 +125,15 @@ module _ (s : List ℕ) (a p latest : ℕ) (n : Option ℕ) (v : math.Option ℕ
 -- ---- the whole
 
 module _ (s : List ℕ) (a : ℕ) (b : Bool) (form : b ≡ records_form 0 0 (fields s)) where
-  pub nearest-misshapen : not b ≡ true → outcome_of {A = ℕ} (Err Refusal.MisshapenRecords) ≡ nearest_below s a
+  pub nearest-misshapen : not b ≡ true → as_outcome {A = ℕ} (Err Refusal.MisshapenRecords) ≡ nearest_below s a
   unfolding nearest_below functions_of ◌>>=◌
   nearest-misshapen h = rw (← form, not-true b h)
 
-  pub nearest-well : (r : Option ℕ) → not b ≡ false → NearestFound s a r → outcome_of (ok_or r Refusal.NoFunction) ≡ nearest_below s a
+  pub nearest-well : (r : Option ℕ) → not b ≡ false → NearestFound s a r → as_outcome (ok_or r Refusal.NoFunction) ≡ nearest_below s a
   unfolding nearest_below functions_of ◌>>=◌ map_option
   nearest-well r h e = rw (← form, not-false b h) (go r (ending_below a (functions_at s)) e)
     where
-      go : (r : Option ℕ) (o : math.Option GroupAt) → place_of r ≡ placed o → outcome_of (ok_or r Refusal.NoFunction) ≡ qualifying (λ f. f.place) o
+      go : (r : Option ℕ) (o : math.Option GroupAt) → place_of r ≡ placed o → as_outcome (ok_or r Refusal.NoFunction) ≡ qualifying (λ f. f.place) o
       go (Some p) (some g) k = cc
       go (Some p) none k = cc
       go None (some g) k = cc

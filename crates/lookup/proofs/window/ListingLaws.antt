@@ -1,32 +1,29 @@
 -- A window's functions, laid field by field, and the list as a whole.
 use mathlib.Core.Path.{◌≡◌, refl, sym, ap, subst, ◌∙◌}
-use mathlib.Core.Bool.{Bool, true, false, cond, ◌&&◌, not}
+use mathlib.Core.Bool.{Bool, true, false, cond, not}
 use mathlib.Core.List.{List, [], ◌∷◌, ◌++◌}
-use Prim.Native.Nat.{ℕ, ◌+◌, ◌-◌, ◌≤◌, ◌<◌, min, max}
+use Prim.Native.Nat.{ℕ, ◌+◌, ◌-◌, ◌≤◌, ◌<◌}
 use native.Mathlib.Omega.{arith}
-use lib.Dec.{ltb}
-use lib.ListN.{length, take, drop, length-drop}
-use lib.Seq.{length-take-le}
+use lib.ListN.{length, take, drop}
 use borrow.Author.Tests.{lt-ltb, le-ltb, not-true, not-false}
-use Rattle.std.specs.Prelude.{Some, None, Result, Ok, Err}
+use Rattle.std.specs.Prelude.{Some, None, Result, Ok}
 use Rattle.tlv.specs.declared.fields.FieldSpan.{FieldSpan}
 use Rattle.tlv.specs.declared.refusal.Refusal.{Refusal}
 use Rattle.tlv.specs.declared.model.AddressRange.{AddressRange}
 use Rattle.tlv.specs.Outcome.{refused, done, ◌>>=◌}
 use Rattle.tlv.specs.Lists.{All, filter, is_empty}
-use Rattle.tlv.specs.Bytes.{Bytes, le_at}
+use Rattle.tlv.specs.Bytes.{Bytes}
 use Rattle.tlv.specs.Fields.{fields, encode}
 use Rattle.tlv.specs.Cursor.{field_from}
 use Rattle.tlv.specs.Model.{range_of}
 use Rattle.tlv.specs.Refusals.{number_of}
 use Rattle.tlv.proofs.FieldLaws.{field-within, payload-length}
-use Rattle.tlv.proofs.ShapeLaws.{number_at, number-first}
 use Rattle.buffers.specs.Buffer.{Put}
 use Rattle.buffers.specs.Output.{each_of}
 use Rattle.buffers.specs.Reader.{records_form}
 use Rattle.buffers.proofs.BufferLaws.{put-length, put_whole, put-lost, put-fits, Left, left-put}
 use Rattle.lookup.specs.Tray.{FieldAt, GroupAt, fields_at, function_range, functions_at, functions_of}
-use Rattle.lookup.specs.Window.{inside, crosses, fitting, ListAfter, listed_in, function_fields, listing}
+use Rattle.lookup.specs.Window.{fitting, ListAfter, listed_in, function_fields, listing}
 use Rattle.lookup.specs.Means.{StandsIn}
 use Rattle.lookup.specs.Listing.{wanted_bytes, LaidPart, Cleared}
 use Rattle.lookup.specs.Answers.{list_given}

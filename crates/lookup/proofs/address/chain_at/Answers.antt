@@ -1,7 +1,5 @@
 -- `address::chain_at` meets its contract.
-use native.Mathlib.Omega.{arith}
 use borrow.Author.Rules.{rules}
-use Rattle.tlv.proofs.FieldLaws.{next-less}
 use Rattle.lookup.proofs.OwnLaws.{own-stands_next, node-first}
 use Rattle.lookup.proofs.address.ChainWalkLaws.{gather-start, chain-none, chain-function, chain-other, chain-leaves}
 use Rattle.lookup.proofs.address.ChainWalkLaws.{chain-deeper, chain-room, chain-passes, chain-takes}
@@ -20,14 +18,8 @@ node_holds-requires c = search (own-stands_next, c.in-Some.ensures)
 pub bounds-places-nodes : goal.bounds-places-nodes
 bounds-places-nodes c = search (chain-room, c.in-Some.ensures)
 
-pub loop-field-smaller-then-node_holds : goal.loop-field-smaller-then-node_holds
-loop-field-smaller-then-node_holds c = next-less _ _ _ c.in-Some.ensures
-
 pub loop-field-preserved-then-node_holds : goal.loop-field-preserved-then-node_holds
 loop-field-preserved-then-node_holds c = (search (own-stands_next, c.in-Some.ensures), search (chain-takes, c.in-Some.ensures))
-
-pub loop-field-smaller-else-depth-nodes-2 : goal.loop-field-smaller-else-depth-nodes-2
-loop-field-smaller-else-depth-nodes-2 c = next-less _ _ _ c.in-Some.ensures
 
 pub loop-field-preserved-else-depth-nodes-2 : goal.loop-field-preserved-else-depth-nodes-2
 loop-field-preserved-else-depth-nodes-2 c = (
@@ -37,9 +29,6 @@ loop-field-preserved-else-depth-nodes-2 c = (
     | else-depth-nodes-2-via-else-depth-nodes-2 w ↦ search (chain-deeper, c.in-Some.ensures)
   ],
 )
-
-pub loop-field-smaller : goal.loop-field-smaller
-loop-field-smaller c = next-less _ _ _ c.in-Some.ensures
 
 pub loop-field-preserved : goal.loop-field-preserved
 loop-field-preserved c = (search (own-stands_next, c.in-Some.ensures), search (chain-other, c.in-Some.ensures))

@@ -1,7 +1,6 @@
 -- `address::function_at` meets its contract.
 use mathlib.Core.Path.{refl}
 use borrow.Author.Rules.{rules}
-use Rattle.tlv.proofs.FieldLaws.{next-less, payload-within}
 use Rattle.lookup.specs.Tray.{functions_at}
 use Rattle.lookup.proofs.StepLaws.{stands-next, function-long}
 use Rattle.lookup.proofs.address.WalkLaws.{found-none, found-other, found-not, found_here}
@@ -12,14 +11,8 @@ pub loop-field-init : goal.loop-field-init
 unfolding functions_at
 loop-field-init c = (search rules, refl)
 
-pub payload_of-requires : goal.payload_of-requires
-payload_of-requires c = payload-within _ _ _ c.in-Some.ensures
-
 pub holds_at-requires : goal.holds_at-requires
 holds_at-requires c = search (rules, function-long, c.in-Some.ensures)
-
-pub loop-field-smaller : goal.loop-field-smaller
-loop-field-smaller c = next-less _ _ _ c.in-Some.ensures
 
 pub loop-field-preserved : goal.loop-field-preserved
 loop-field-preserved c = (

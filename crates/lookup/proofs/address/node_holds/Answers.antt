@@ -1,7 +1,6 @@
 -- `address::node_holds` meets its contract.
 use mathlib.Core.Path.{refl}
 use borrow.Author.Rules.{rules}
-use Rattle.tlv.proofs.FieldLaws.{next-less, payload-within}
 use Rattle.lookup.proofs.OwnLaws.{own-stands_next, range-long}
 use Rattle.lookup.proofs.address.WalkLaws.{held-none, held-function, held-node, held-other, held-not, held-this}
 use Rattle.lookup.proofs.address.node_holds.Goals as goal
@@ -10,9 +9,6 @@ use Rattle.lookup.proofs.address.node_holds.Goals.{else-field-eq-TRAY_RANGE_TAG-
 
 pub loop-field-init : goal.loop-field-init
 loop-field-init c = (search rules, refl)
-
-pub payload_of-requires : goal.payload_of-requires
-payload_of-requires c = payload-within _ _ _ c.in-Some.ensures
 
 pub holds_at-requires : goal.holds_at-requires
 holds_at-requires c = search (rules, range-long, c.in-Some.ensures)
@@ -25,9 +21,6 @@ returns-then-field-eq-TRAY_FUNCTION_TAG c = elim c.then-field-eq-TRAY_FUNCTION_T
 
 pub returns-then-holds_at : goal.returns-then-holds_at
 returns-then-holds_at c = search (held-this, c.in-Some.ensures, c.if-holds_at.ensures)
-
-pub loop-field-smaller : goal.loop-field-smaller
-loop-field-smaller c = next-less _ _ _ c.in-Some.ensures
 
 pub loop-field-preserved : goal.loop-field-preserved
 loop-field-preserved c = (

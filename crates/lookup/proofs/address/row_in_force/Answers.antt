@@ -1,7 +1,6 @@
 -- `address::row_in_force` meets its contract.
 use mathlib.Core.Path.{sym}
 use borrow.Author.Rules.{rules}
-use Rattle.tlv.proofs.FieldLaws.{next-less}
 use Rattle.lookup.proofs.OwnLaws.{own-stands_next, row_first, row-long}
 use Rattle.lookup.proofs.address.WalkLaws.{or-none, row-none, row-function, row_other, row-above, row-taken}
 use Rattle.lookup.proofs.address.row_in_force.Goals as goal
@@ -16,14 +15,8 @@ returns-then-field-eq-TRAY_FUNCTION_TAG c = search (row-function, c.in-Some.ensu
 pub read-requires : goal.read-requires
 read-requires c = search (row_first, c.in-Some.ensures)
 
-pub loop-field-smaller-then-read-address : goal.loop-field-smaller-then-read-address
-loop-field-smaller-then-read-address c = next-less _ _ _ c.in-Some.ensures
-
 pub loop-field-preserved-then-read-address : goal.loop-field-preserved-then-read-address
 loop-field-preserved-then-read-address c = (search (own-stands_next, c.in-Some.ensures), search (row-taken, row-long, c.in-Some.ensures))
-
-pub loop-field-smaller : goal.loop-field-smaller
-loop-field-smaller c = next-less _ _ _ c.in-Some.ensures
 
 pub loop-field-preserved : goal.loop-field-preserved
 loop-field-preserved c = (

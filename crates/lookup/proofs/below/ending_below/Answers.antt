@@ -1,7 +1,6 @@
 -- `below::ending_below` meets its contract.
 use mathlib.Core.Path.{refl}
 use borrow.Author.Rules.{rules}
-use Rattle.tlv.proofs.FieldLaws.{next-less, payload-within}
 use Rattle.lookup.specs.Tray.{functions_at}
 use Rattle.lookup.proofs.StepLaws.{stands-next, function-long}
 use Rattle.lookup.proofs.below.NearestWalkLaws.{nearest-none, nearest-other, nearest-above, nearest-takes, nearest-leaves}
@@ -12,20 +11,11 @@ pub loop-field-init : goal.loop-field-init
 unfolding functions_at
 loop-field-init c = (search rules, refl, refl)
 
-pub payload_of-requires : goal.payload_of-requires
-payload_of-requires c = payload-within _ _ _ c.in-Some.ensures
-
 pub range_of-end-requires : goal.range_of-end-requires
 range_of-end-requires c = search (rules, function-long, c.in-Some.ensures)
 
-pub loop-field-smaller-then-end-address : goal.loop-field-smaller-then-end-address
-loop-field-smaller-then-end-address c = next-less _ _ _ c.in-Some.ensures
-
 pub loop-field-preserved-then-end-address : goal.loop-field-preserved-then-end-address
 loop-field-preserved-then-end-address c = (search (stands-next, c.in-Some.ensures), search (nearest-takes, c.in-Some.ensures), tt)
-
-pub loop-field-smaller-else-latest-end : goal.loop-field-smaller-else-latest-end
-loop-field-smaller-else-latest-end c = next-less _ _ _ c.in-Some.ensures
 
 pub loop-field-preserved-else-latest-end : goal.loop-field-preserved-else-latest-end
 loop-field-preserved-else-latest-end c = (
@@ -36,9 +26,6 @@ loop-field-preserved-else-latest-end c = (
   ],
   search rules,
 )
-
-pub loop-field-smaller : goal.loop-field-smaller
-loop-field-smaller c = next-less _ _ _ c.in-Some.ensures
 
 pub loop-field-preserved : goal.loop-field-preserved
 loop-field-preserved c = (search (stands-next, c.in-Some.ensures), search (nearest-other, c.in-Some.ensures), search rules)

@@ -1,7 +1,7 @@
 -- `window::put_functions` meets its contract: who lays the fields from here on has laid all.
 use native.Mathlib.Omega.{arith}
 use borrow.Author.Rules.{rules}
-use Rattle.tlv.proofs.FieldLaws.{next-less, next-within, payload-within}
+use Rattle.tlv.proofs.FieldLaws.{next-within}
 use Rattle.buffers.proofs.BufferLaws.{left-start, left-same, left-done}
 use Rattle.lookup.specs.Tray.{functions_at}
 use Rattle.lookup.proofs.StepLaws.{stands-next, function-long}
@@ -13,9 +13,6 @@ pub loop-field-init : goal.loop-field-init
 unfolding functions_at
 loop-field-init g c = record { stands = search rules; left = λ test t. left-start _ _ _ (omega arith) (omega arith) }
 
-pub payload_of-requires : goal.payload_of-requires
-payload_of-requires g c = payload-within _ _ _ c.in-Some.ensures
-
 pub range_of-requires : goal.range_of-requires
 range_of-requires g c = search (rules, function-long, c.in-Some.ensures)
 
@@ -25,18 +22,12 @@ put_part-at-requires-clause-p_le_next g c = part-below _ _ _ c.in-Some.ensures
 pub put_part-at-requires-clause-next_in_bounds : goal.put_part-at-requires-clause-next_in_bounds
 put_part-at-requires-clause-next_in_bounds g c = next-within _ _ _ c.in-Some.ensures
 
-pub loop-field-smaller-then-is_wanted : goal.loop-field-smaller-then-is_wanted
-loop-field-smaller-then-is_wanted g c = next-less _ _ _ c.in-Some.ensures
-
 pub loop-field-preserved-then-is_wanted : goal.loop-field-preserved-then-is_wanted
 loop-field-preserved-then-is_wanted g c = record {
   stands = search (stands-next, c.in-Some.ensures);
   left = λ test t. left_laid _ test _ _ _ _ _ (c.loop-field.invariant.left test t) c.in-Some.ensures c.if-field-eq-TRAY_FUNCTION_TAG.true c.payload_of.ensures
       c.range_of.ensures (t _ _ (search rules, search rules) c.is_wanted.ensures) c.if-is_wanted.true c.put_part-at.ensures;
 }
-
-pub loop-field-smaller : goal.loop-field-smaller
-loop-field-smaller g c = next-less _ _ _ c.in-Some.ensures
 
 pub loop-field-preserved : goal.loop-field-preserved
 loop-field-preserved g c = record {
