@@ -7,11 +7,10 @@ use native.Mathlib.Omega.{arith}
 use lib.Dec.{eqb}
 use lib.ListN.{length, take, drop}
 use borrow.Author.Tests.{eqb-true, eqb-false}
-use Rattle.tlv.specs.declared.fields.Step.{Step}
 use Rattle.tlv.specs.Lists.{Any, All}
 use Rattle.tlv.specs.Bytes.{le_at}
 use Rattle.tlv.specs.Fields.{Field, FieldList, more, fields, whole_fields, payloads}
-use Rattle.tlv.specs.Cursor.{step_at}
+use Rattle.tlv.specs.Cursor.{field_here, step_at}
 use Rattle.tlv.specs.Checked.{field_in}
 use Rattle.tlv.proofs.ListLaws.{all_map}
 use Rattle.tlv.proofs.CursorLaws.{fields-field, field-within, payload-length, row-ind}
@@ -30,7 +29,7 @@ one_less : (m : ℕ) (f : Field) (fs : FieldList) → length (payloads m (whole_
 unfolding whole_fields payloads
 one_less m f fs = either (eqb f.tag m) (λ y. rw y (omega arith)) (λ n. rw n (omega arith))
 
-module _ (s : List ℕ) (q start len next : ℕ) (is : step_at s q ≡ Step.Field 0x10 start len next) where
+module _ (s : List ℕ) (q start len next : ℕ) (is : step_at s q ≡ field_here 0x10 start len next) where
   here : fields (drop q s) ≡ more (field_in s 0x10 start len) (fields (drop next s))
   here = fields-field s q _ 0x10 start len next refl is
 

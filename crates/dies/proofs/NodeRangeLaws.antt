@@ -5,12 +5,11 @@ use mathlib.Core.List.{List, [], ◌∷◌, map}
 use mathlib.Core.Option.{Option, none, some}
 use Prim.Native.Nat.{ℕ, ◌+◌, ◌-◌, ◌*◌}
 use lib.ListN.{drop}
-use Rattle.tlv.specs.declared.fields.Step.{Step}
 use Rattle.tlv.specs.declared.model.AddressRange.{AddressRange}
 use Rattle.tlv.specs.Lists.{map_option}
 use Rattle.tlv.specs.Fields.{fields, payload_of}
 use Rattle.tlv.specs.Model.{RangeList, EntryRange, range_list_of}
-use Rattle.tlv.specs.Cursor.{step_at}
+use Rattle.tlv.specs.Cursor.{Step, field_here, step_at}
 use Rattle.access.specs.Places.{own_fields, entry_here}
 use Rattle.access.proofs.EntryPlaceLaws.{entry-ranges, entry-failure, entry-list}
 use Rattle.rnglists.specs.RangeLists.{die_ranges_by}
@@ -22,7 +21,7 @@ use Rattle.dies.specs.Details.{dwarf_with}
 use Rattle.dies.specs.FrameStack.{open_in, Top}
 
 -- what is read of the entry at a place is what the fields behind its field give
-pub read_here : (main supplementary lists addresses : List ℕ) (p : ℕ) (r : Step) (t start len next : ℕ) → r ≡ step_at main p → r ≡ Step.Field t start len next
+pub read_here : (main supplementary lists addresses : List ℕ) (p : ℕ) (r : Step) (t start len next : ℕ) → r ≡ step_at main p → r ≡ field_here t start len next
     → die_ranges (dwarf_with main supplementary lists addresses) (entry_here main p) ≡ read_at lists addresses main next
 unfolding die_ranges
 read_here main supplementary lists addresses p r t start len next reads e =

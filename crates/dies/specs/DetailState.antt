@@ -1,5 +1,6 @@
 -- Contract. What the walk over the entries below a subprogram has done, as it stands in memory, and what each of its steps promises.
-use Rattle.std.specs.Prelude.{◌≡◌, Result, Ok, Err, Bool, not, ◌||◌, ◌⊎◌, List, [], ◌∷◌, ◌++◌, map, ℕ, zero, suc, ◌+◌, ◌-◌, ◌*◌, ◌≤◌, ◌<◌, eqb, length, drop}
+use Rattle.std.specs.Prelude.{Result, Ok, Err}
+use Rattle.std.specs.Prelude.{◌≡◌, Bool, not, ◌||◌, ◌⊎◌, List, [], ◌∷◌, ◌++◌, map, ℕ, zero, suc, ◌+◌, ◌-◌, ◌*◌, ◌≤◌, ◌<◌, eqb, length, drop}
 use Rattle.tlv.specs.Tags.{entry_tag, list_tag, range_tag, tray_site_tag, unit_tag, entry_whole}
 use Rattle.tlv.specs.Constants.{dw_at_call_origin}
 use Rattle.tlv.specs.declared.model.AddressRange.{AddressRange}

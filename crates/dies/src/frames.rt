@@ -44,6 +44,7 @@ pub fn finish_inlines(st: Open, depth: u16) -> Left
 {
     let mut n = st.n;
     let mut used = st.used;
+    // Stays a while: the count at which it stops is the answer.
     while 0 < n {
         let t = st.frames[n - 1];
         if t.depth < depth {
@@ -56,7 +57,7 @@ pub fn finish_inlines(st: Open, depth: u16) -> Left
 }
 
 // Where the ranges of the innermost open node begin in the stack; with none open these are the function's own, at 0.
-pub fn innermost(st: &Open) -> usize
+pub(crate) fn innermost(st: &Open) -> usize
     requires { Ready st.now }
     ensures { Top st.now result }
 {

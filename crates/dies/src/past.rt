@@ -6,7 +6,7 @@ ghost use Rattle.dies.specs.Past.{is_past, node_size};
 pub fn is_past(at: usize, n: usize) -> bool
     ensures { result ≡ is_past at n }
 {
-    18446744073709551615 - at < n
+    usize::MAX - at < n
 }
 
 // Whether a node does whose name has so many bytes, with k ranges, behind so many nodes; before the first stands the root, with the function's name.

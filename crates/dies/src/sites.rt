@@ -42,6 +42,7 @@ pub struct LaidSites {
 }
 
 // An address that an attribute is; a failed one has no value.
+// Stays an enum: three ways, no Option and no Result.
 #[derive(Clone, Copy)]
 pub enum Address {
     Missing,
@@ -93,6 +94,7 @@ pub fn finish_call_sites(
 {
     let mut opened = n;
     let mut closed = m;
+    // Stays a while: the counts at which it stops are the answer.
     while 0 < opened {
         let at = stack + (opened - 1) * OPEN_SITE;
         if u16::read(work, at) < depth {

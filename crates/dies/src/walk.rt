@@ -89,29 +89,23 @@ fn collect_entry<'a>(
     let depth = u16::read(main, p + ENTRY_DEPTH);
     let c = close(main, supplementary, work, d, s, depth);
     let tag = u16::read(main, p + ENTRY_KIND);
-    if tag == DW_TAG_CALL_SITE {
-        if d.include_call_sites {
-            return make_call_site(main, supplementary, work, d, p, c);
-        }
-        return Ok(c);
+    if tag == DW_TAG_CALL_SITE && d.include_call_sites {
+        return make_call_site(main, supplementary, work, d, p, c);
     }
-    if tag == DW_TAG_INLINED_SUBROUTINE {
-        if d.include_inlines {
-            return make_inline_node(
-                main,
-                supplementary,
-                lists,
-                addresses,
-                work,
-                records,
-                warnings,
-                d,
-                name,
-                p,
-                c,
-            );
-        }
-        return Ok(c);
+    if tag == DW_TAG_INLINED_SUBROUTINE && d.include_inlines {
+        return make_inline_node(
+            main,
+            supplementary,
+            lists,
+            addresses,
+            work,
+            records,
+            warnings,
+            d,
+            name,
+            p,
+            c,
+        );
     }
     Ok(c)
 }
@@ -144,6 +138,7 @@ pub fn collect_entries<'a>(
 {
     let mut r = s;
     let mut at = p;
+    // Stays a loop: each field's own length moves the place, so nothing is counted.
     while let Some(field) = next_field(main, at) {
         if field.tag == UNIT_TAG {
             return Ok(r);
