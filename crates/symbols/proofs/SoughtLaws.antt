@@ -172,32 +172,6 @@ module _ (w : List ℕ) (p n a lo hi : ℕ) (apart : Apart (ranges_at w p n)) (s
   pub middle-above : x.end ≤ a → Sought w p n a (lo + (hi - lo) / 2 + 1) hi
   middle-above k = sought-above w p n apart a lo hi s (lo + (hi - lo) / 2) x (omega arith) (omega arith) is k
 
--- ---- a look at each range
-
-pub record Looked (w : List ℕ) (p n a i : ℕ) : Type 0 where
-  pub within : i ≤ n
-  pub rest : exists (holds a) (ranges_at w p n) ≡ exists (holds a) (drop i (ranges_at w p n))
-
-pub looked-start : (w : List ℕ) (p n a : ℕ) → Looked w p n a 0
-looked-start w p n a = record { within = omega arith; rest = refl }
-
-module _ {w : List ℕ} {p n a i : ℕ} (s : Looked w p n a i) where
-  pub looked_none : n ≤ i → false ≡ exists (holds a) (ranges_at w p n)
-  unfolding exists
-  looked_none h = sym (s.rest ∙ ap (λ (l : List AddressRange). exists (holds a) l) (ranges-end w p n i h))
-
-  module _ (h : i < n) {x : AddressRange} (is : x ≡ range_of (chunk w (p + i * 16) 16)) where
-    turn : exists (holds a) (ranges_at w p n) ≡ cond (holds a x) true (exists (holds a) (drop (i + 1) (ranges_at w p n)))
-    unfolding exists
-    turn = s.rest ∙ ap (λ (l : List AddressRange). exists (holds a) l) (ranges-cons w p n i h) ∙ rw is
-
-    pub looked-found : x.start ≤ a → a < x.end → true ≡ exists (holds a) (ranges_at w p n)
-    looked-found l k = sym (turn ∙ rw (holds-true a x l k))
-
-    pub looked-past : (x.start ≤ a) × (x.end ≤ a) ⊎ (a < x.start) → Looked w p n a (i + 1)
-    looked-past (inl q) = record { within = omega arith; rest = turn ∙ rw (holds-false a x (inl q.1)) }
-    looked-past (inr l) = record { within = omega arith; rest = turn ∙ rw (holds-false a x (inr l)) }
-
 -- ---- both parts of a table
 
 exists-both : (a : ℕ) (rs ss : List AddressRange) → exists (holds a) (rs ++ ss) ≡ cond (exists (holds a) rs) true (exists (holds a) ss)

@@ -13,7 +13,7 @@ use crate::join::is_held;
 use lookup::form::payload_of;
 use lookup::window::range_of;
 use ranges::order::order_ranges;
-use ranges::ranges::{RANGE_RECORD, add_range, merge_ranges, put_range_at, range_at};
+use ranges::ranges::{RANGE_RECORD, add_range, any_range, merge_ranges, put_range_at, range_at};
 use tlv::fields::next_field;
 use tlv::model::AddressRange;
 use tlv::tags::TRAY_FUNCTION_TAG;
@@ -59,13 +59,7 @@ fn among(work: &[u8], p: usize, n: usize, address: u64) -> bool
     requires { p + n * range_record ≤ length work.now }
     ensures { result ≡ exists (holds address) (ranges_at work.now p n) }
 {
-    for i in 0..n {
-        let r = range_at(work, p + i * RANGE_RECORD);
-        if r.start <= address && address < r.end {
-            return true;
-        }
-    }
-    false
+    any_range(work, p, n, |r| r.start <= address && address < r.end)
 }
 
 // The same where the first m are apart.
@@ -95,7 +89,7 @@ fn gather_functions(s: &[u8], work: &mut [u8]) -> Option<usize>
 {
     let mut p: usize = 0;
     let mut n: usize = 0;
-    // Stays a loop: each field's own length moves the place, so nothing is counted.
+    // Stays a loop: each field's own length moves the place; what is counted is what was found.
     while let Some(field) = next_field(s, p) {
         if field.tag == TRAY_FUNCTION_TAG {
             if work.len() - n * RANGE_RECORD < RANGE_RECORD {

@@ -1,12 +1,7 @@
--- `extents::among` meets its contract. The loop's invariant: whether one from here on holds the address is whether one of all does.
-use Rattle.symbols.proofs.SoughtLaws.{looked_none, looked-found, looked-past}
+-- `extents::among` meets its contract.
+use borrow.Author.Rules.{rules}
+use Rattle.lookup.specs.Lookup.{holds}
 use Rattle.symbols.proofs.extents.among.Goals as goal
 
-pub returns-then-address-r : goal.returns-then-address-r
-returns-then-address-r c = search looked-found
-
-pub loop-i-preserved : goal.loop-i-preserved
-loop-i-preserved c = looked-past c.loop-i.invariant c.loop-i-test.true c.range_at-r.ensures c.else-r-address.either
-
 pub returns : goal.returns
-returns c = search looked_none
+returns c = c.any_range.ensures.is (holds c.args.address) (λ r b fits post. search rules)

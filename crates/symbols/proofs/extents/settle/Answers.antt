@@ -3,9 +3,6 @@ use native.Mathlib.Omega.{arith}
 use Rattle.symbols.proofs.ExtentLaws.{reordered-filled, settled}
 use Rattle.symbols.proofs.extents.settle.Goals as goal
 
-pub merge_ranges-requires-clause-range_record_in_bounds : goal.merge_ranges-requires-clause-range_record_in_bounds
-merge_ranges-requires-clause-range_record_in_bounds c = omega arith
-
 pub merge_ranges-requires-clause-all : goal.merge_ranges-requires-clause-all
 merge_ranges-requires-clause-all c = search reordered-filled
 
