@@ -1,4 +1,4 @@
--- What stands apart from what is written stays.
+-- Theorem. What stands apart from what is written stays: the law of the trait Record for extents, with its proof, which an impl cites.
 use Rattle.std.proofs.Common.{◌≡◌, ℕ, List, ◌+◌, arith, inl, inr}
 use mathlib.Core.Logic.{⊎_elim}
 use Rattle.buffers.specs.Table.{Apart, Kept}
