@@ -7,9 +7,8 @@ use Prim.Native.Nat.{ℕ, ◌+◌}
 use native.Mathlib.Omega.{arith}
 use lib.ListN.{length, take, drop}
 use Rattle.std.specs.Prelude.{Some, None}
-use Rattle.tlv.specs.declared.fields.Step.{Step}
 use Rattle.tlv.specs.declared.fields.FieldSpan.{FieldSpan}
-use Rattle.tlv.specs.Cursor.{step_at, span_of, field_from}
+use Rattle.tlv.specs.Cursor.{field_here, step_at, span_of, field_from}
 use Rattle.tlv.specs.Outcome.{Outcome}
 use Rattle.tlv.specs.Bytes.{le_at}
 use Rattle.tlv.specs.Lists.{map_option}
@@ -53,7 +52,7 @@ empty_none [] h = refl
 empty_none (x ∷ xs) h = absurd (omega arith)
 
 -- a field that stands at a place
-span : (s : List ℕ) (p t start len next : ℕ) → step_at s p ≡ Step.Field t start len next → Some (record { tag = t; start = start; len = len; next = next }) ≡ field_from s p
+span : (s : List ℕ) (p t start len next : ℕ) → step_at s p ≡ field_here t start len next → Some (record { tag = t; start = start; len = len; next = next }) ≡ field_from s p
 unfolding span_of
 span s p t start len next e = rw e
 

@@ -54,6 +54,11 @@ name-found : (name : List ℕ) {x : List ℕ} → Some x ≡ found_name name →
 name-found [] e = cc
 name-found (b ∷ bs) e = refl
 
+-- a name that was found is the bytes that were given
+pub found-is : (name : List ℕ) {r : List ℕ} → Some r ≡ found_name name → r ≡ name
+found-is [] is = let z : ◌≡◌ {A = ℕ} 0 1 = cc in absurd (omega arith)
+found-is (b ∷ bs) is = cc
+
 module _ (x : import.ImportContext) (e : Entry) (below : List Entry) (s : State) where
   entry_other : (e.tag ≡ 0x2e → ⊥) → import_entry x e below s ≡ done s
   unfolding import_entry
@@ -160,11 +165,12 @@ module _ {main supplementary w : List ℕ} (lists addresses : List ℕ) {q : Imp
           searched
 
       pub name-given : {x : List ℕ} → Some x ≡ found_name name → {w₂ t₂ f₂ u₂ : List ℕ} {m : ℕ} {r : ImportState}
-          → Imports (import_by_failure (context_with main supplementary lists addresses w₁ q) (entry_here main p) (below_entry main p) name (die_ranges (dwarf_with main supplementary lists addresses) (entry_here main p)).failure) (sheets main supplementary) q (memory w₁ t f u) st (memory w₂ t₂ f₂ u₂) m r
+          → Imports (import_by_failure (context_with main supplementary lists addresses w₁ q) (entry_here main p) (below_entry main p) x (die_ranges (dwarf_with main supplementary lists addresses) (entry_here main p)).failure) (sheets main supplementary) q (memory w₁ t f u) st (memory w₂ t₂ f₂ u₂) m r
           → Imports (import_entry (context_with main supplementary lists addresses w q) (entry_here main p) (below_entry main p)) (sheets main supplementary) q (memory w t f u) st (memory w₂ t₂ f₂ u₂) m r
-      name-given e I =
+      name-given {x} e I =
           grows_as
           (λ s. entry_named (context_with main supplementary lists addresses w q) (entry_here main p) (below_entry main p) s (tag_is C K ∙ is) (same_name ∙ given-done st' name R.is z) (name-found name e)
-          ∙ ap (λ (x : import.ImportContext). done s >>= import_by_failure x (entry_here main p) (below_entry main p) name (die_ranges (dwarf_with main supplementary lists addresses) (entry_here main p)).failure)
-          (sym (context-same C (walk-written C R.rest) lists addresses)))
+          ∙ ap (λ (y : import.ImportContext). done s >>= import_by_failure y (entry_here main p) (below_entry main p) name (die_ranges (dwarf_with main supplementary lists addresses) (entry_here main p)).failure)
+          (sym (context-same C (walk-written C R.rest) lists addresses))
+          ∙ ap (λ (y : List ℕ). done s >>= import_by_failure (context_with main supplementary lists addresses w₁ q) (entry_here main p) (below_entry main p) y (die_ranges (dwarf_with main supplementary lists addresses) (entry_here main p)).failure) (sym (found-is name e)))
           (imports_then q refl searched I)

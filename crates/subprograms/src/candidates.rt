@@ -39,6 +39,7 @@ pub fn next_entry(s: &[u8], p: usize) -> usize
     ensures { (unit : ℕ) → EntriesKnown s.now unit p → BeginsAt s.now unit p result }
 {
     let mut at = p;
+    // Stays a loop: each field's own length moves the place, so nothing is counted.
     while let Some(field) = next_field(s, at) {
         if field.tag == UNIT_TAG || field.tag == ENTRY_TAG {
             return at;
@@ -135,6 +136,7 @@ fn import_ranges<'a>(
     let mut r = st;
     let mut at = p + ENTRY_WHOLE;
     let mut below = at;
+    // Stays a loop: each field's own length moves the place, so nothing is counted.
     while let Some(field) = next_own(main, at, RANGE_TAG) {
         let range = ranges::ranges::range_at(main, field.start);
         let flag = u8::read(main, field.start + 16);

@@ -44,7 +44,7 @@ fn no_sequence(main: &[u8], unit: usize) -> u64
     ensures { result ≡ 2 ^ (8 * (unit_here main.now unit).word_size) - 1 }
 {
     if u8::read(main, unit + 20) == 4 {
-        return 4294967295;
+        return 0xffff_ffff;
     }
     u64::MAX
 }

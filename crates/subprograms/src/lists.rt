@@ -87,6 +87,7 @@ pub fn import_list<'a>(
     let mut r = st;
     let mut at = u64::read(main, start) as usize;
     let mut base = u64::read(main, start + LIST_BASE);
+    // Stays a loop: the list's own bytes move the place and the base, and a fault ends it too.
     loop {
         match next_range(lists, addresses, place, size, at, base) {
             Ok(None) => return Ok(r),

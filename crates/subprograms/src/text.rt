@@ -23,6 +23,7 @@ pub fn index_text(main: &[u8], place: usize, work: &mut [u8], base: usize) -> us
 {
     let mut p = place + UNIT_WHOLE;
     let mut n: usize = 0;
+    // Stays a loop: each field's own length moves the place; what is counted is what was found.
     while let Some(field) = next_before_rows(main, p, TEXT_TAG) {
         let range = ranges::ranges::range_at(main, field.start);
         ranges::ranges::put_range_at(work, base + n * RANGE_RECORD, range);

@@ -114,8 +114,8 @@ fn import_entry<'a>(
         (memory work.old records.old files.old warnings.old) st
         (memory work.new records.new files.new warnings.new) (status_of result) (value_or st result) }
 {
-    let name = resolve_name(main, supplementary, work, q.places.tables, q.unit, p)?;
-    let Some(_) = found_name(name) else {
+    let found = resolve_name(main, supplementary, work, q.places.tables, q.unit, p)?;
+    let Some(name) = found_name(found) else {
         return Ok(st);
     };
     import_named(
@@ -166,6 +166,7 @@ pub fn import_unit_details<'a>(
 {
     let mut r = st;
     let mut at = q.unit + UNIT_WHOLE;
+    // Stays a loop: each field's own length moves the place, so nothing is counted.
     while let Some(field) = next_field(main, at) {
         if field.tag == UNIT_TAG {
             return Ok(r);
