@@ -11,13 +11,12 @@ use lib.ListN.{length, take, drop}
 use borrow.Author.Tests.{eq-eqb, ne_eqb}
 use Rattle.std.specs.Prelude.{Some, None, is_some}
 use Rattle.std.specs.Prelude as std
-use Rattle.tlv.specs.declared.fields.Step.{Step}
 use Rattle.tlv.specs.declared.fields.FieldSpan.{FieldSpan}
 use Rattle.tlv.specs.Lists.{All, Any, at, is_none, map_option}
 use Rattle.tlv.specs.Limits.{program_limit, list_limit, work_of_field, work_of_program_byte, work_of_encoded_byte, work_of_list_byte, counted_lists, work_besides}
 use Rattle.tlv.specs.Fields.{Group, end, cut, fields, payloads, head_of, payload_of, grouped, count_of}
 use Rattle.tlv.specs.Tags.{encoding_tag, list_tag}
-use Rattle.tlv.specs.Cursor.{step_at, field_from}
+use Rattle.tlv.specs.Cursor.{field_here, step_at, field_from}
 use Rattle.tlv.specs.Checked.{Accepts, Placed, Accepted}
 use Rattle.tlv.specs.Model.{CompilationUnit, LineEncoding, encoding_of, unit_of, units}
 use Rattle.tlv.proofs.ListLaws.{all-at, all-image, given-some}
@@ -241,7 +240,7 @@ module _ (size bytes : ℕ) where
             let l : f.len ≡ 18 = placed-unit s p (step_at s p) f.tag f.start f.len f.next S.placed refl (is-step s p f at) h in
             let e₁ : f.start ≡ p + 3 = w.0 in
             let e₂ : f.next ≡ p + 21 = omega arith in
-            record { placed = S.placed; is = is-step s p f at ∙ (λ i. Step.Field (h i) (e₁ i) (l i) (e₂ i)) }
+            record { placed = S.placed; is = is-step s p f at ∙ (λ i. field_here (h i) (e₁ i) (l i) (e₂ i)) }
 
         here-first : work_of_units size bytes (units s) ≡ max most (max (work_of_unit size bytes (unit_here s p)) (most_from s f.next))
         unfolding unit_places work_of_units

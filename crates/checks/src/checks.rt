@@ -127,6 +127,7 @@ fn most_work(main: &[u8], size: usize, bytes: usize) -> usize
 {
     let mut most = WORK_OF_PROGRAM_BYTE * size;
     let mut p = 0;
+    // Stays a loop: each field's own length moves the place, so nothing is counted.
     while let Some(field) = next_field(main, p) {
         if field.tag == UNIT_TAG {
             most = most.max(work_of_unit(main, p, size, bytes));

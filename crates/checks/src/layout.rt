@@ -86,6 +86,7 @@ fn count_tags(s: &[u8]) -> [usize; 32]
 {
     let mut counts = [0usize; 32];
     let mut p = 0;
+    // Stays a loop: each field's own length moves the place; what is counted is what was found.
     while let Some(field) = next_field(s, p) {
         if field.tag < 32 {
             counts[field.tag as usize] += 1;
