@@ -25,6 +25,7 @@ fn finished(r: Ran) -> Imported
 }
 
 // The import of what is asked for.
+// Stays apart from measure_by: they share run_cleared, and what differs is what becomes of the buffers and of refusals 16 to 18.
 fn import_by(
     i: Inputs,
     options: Options,
@@ -49,6 +50,7 @@ fn import_by(
 }
 
 // Imports the unit of an ordinal; an empty main input with ordinal 0 is finished with nothing in it.
+// Stays with its parameters apart, as the three after it: they are the C interface's, and the names are the Rust's, each with its theorem.
 pub fn import_unit(
     main: &[u8],
     supplementary: &[u8],

@@ -31,6 +31,7 @@ pub struct Ran {
 }
 
 // The units from number `from` to below `to`.
+// Stays a struct: the definition speaks of its two numbers, and nothing walks it.
 #[derive(Clone, Copy, Debug)]
 pub struct Chosen {
     pub from: usize,
