@@ -9,7 +9,7 @@ use borrow.Author.Tests.{ne_eqb}
 use Rattle.std.specs.Prelude.{Result, Ok, Err, Some, None}
 use Rattle.tlv.specs.declared.refusal.Refusal.{Refusal}
 use Rattle.tlv.specs.Outcome.{Outcome}
-use Rattle.tlv.specs.Refusals.{number_of, outcome_of}
+use Rattle.tlv.specs.Refusals.{number_of, as_outcome}
 use Rattle.tlv.proofs.AnswerLaws.{numbered}
 use Rattle.lookup.specs.declared.model.LookedUp.{LookedUp}
 use Rattle.lookup.specs.declared.model.Indexed.{Indexed}
@@ -46,7 +46,7 @@ exports-look_up (Err q) L T = record {
 
 -- ---- one number
 
-pub nearest-told : (x : Result ℕ Refusal) {r place : ℕ} {o : Outcome ℕ} → ToldNumber x place r → outcome_of x ≡ o → nearest_in r place ≡ o
+pub nearest-told : (x : Result ℕ Refusal) {r place : ℕ} {o : Outcome ℕ} → ToldNumber x place r → as_outcome x ≡ o → nearest_in r place ≡ o
 nearest-told (Ok n) T e = rw (T.status, T.number) e
 nearest-told (Err q) T e = rw (T.status, T.number, ne_eqb (number_of q) 0 (numbered q)) e
 

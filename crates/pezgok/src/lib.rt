@@ -42,6 +42,7 @@ pub fn tell(answer: Result<Imported, Refusal>, values: &mut [u64; 7]) -> u8
 }
 
 // Imports the unit of an ordinal and tells the answer.
+// Stays with its parameters apart and a number for an answer, as each function for C: include/pezgok.h declares it so.
 #[unsafe(no_mangle)]
 pub extern "C" fn pezgok_import<'a>(
     main: &'a [u8],
