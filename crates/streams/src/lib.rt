@@ -14,6 +14,7 @@ pub fn read_full<R: Read>(input: &mut R, buffer: &mut [u8]) -> io::Result<usize>
     ensures short { IfOk result (λ n. n < length buffer.new → IsAtEnd (R.remaining input.new)) }
 {
     let mut done = 0;
+    // Stays a loop: each read says how many bytes came.
     while done < buffer.len() {
         let n = input.read(&mut buffer[done..])?;
         if n == 0 {
