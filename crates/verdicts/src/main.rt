@@ -33,7 +33,8 @@ fn write_verdict(out: &mut impl Write, input: &[u8], program: usize) -> io::Resu
     match check_input(input, program) {
         Ok(n) => writeln!(out, "accepted {n}"),
         Err(Refusal::PastLimit) => writeln!(out, "past limit"),
-        Err(_) => writeln!(out, "misshapen"),
+        Err(Refusal::Misshapen) => writeln!(out, "misshapen"),
+        Err(e) => writeln!(out, "refused {}", e.number()),
     }
 }
 
