@@ -125,6 +125,7 @@ fn collect_rows(
     Ok(true)
 }
 
+// Stays a match: the kind is a byte of the input, and each kind has its own layout.
 fn answer(out: &mut impl Write, kind: u8, call: &[u8], work: &mut [u8]) -> io::Result<bool> {
     match kind {
         1 => texts::answer_operand(out, call),
