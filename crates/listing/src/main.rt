@@ -138,6 +138,7 @@ fn write_warning(out: &mut impl Write, p: &[u8]) -> io::Result<()> {
 
 // The line of a field of an output buffer.
 fn write_field(out: &mut impl Write, tag: u8, p: &[u8], number: u64) -> io::Result<()> {
+    // Stays a match: each tag has a line of its own form.
     match tag {
         TRAY_FILE_TAG => write_file(out, p, number),
         TRAY_FUNCTION_TAG => write_function(out, p),
@@ -153,6 +154,7 @@ fn write_field(out: &mut impl Write, tag: u8, p: &[u8], number: u64) -> io::Resu
 fn write_fields(out: &mut impl Write, s: &[u8], first: u64) -> io::Result<()> {
     let mut number = first;
     let mut p = 0;
+    // Stays a loop: each field's own length moves the place, so nothing is counted.
     while let Some(field) = next_field(s, p) {
         write_field(out, field.tag, &s[field.start..field.next], number)?;
         number = number.saturating_add(1);
