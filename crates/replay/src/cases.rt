@@ -27,6 +27,7 @@ pub struct Case {
 }
 
 // A recorded answer, without the bytes that follow it; the refusal's number is 0 for none.
+// Stays a number: it is a byte of the file of answers, and may be any.
 #[derive(Clone, Copy)]
 pub struct Answer {
     pub refusal: u8,

@@ -27,6 +27,7 @@ const WORK_SIZE: usize = 98304;
 const CASE_LIMIT: u64 = 1000000;
 
 // What comes next in a file of cases: a case with its answer, the end, or one that is cut off or too large.
+// Stays an enum: the end and a file that is cut off are told apart.
 enum Next {
     Case(Case, Answer),
     End,
