@@ -107,14 +107,9 @@ KINDS = {
 
 
 def stays(file, number):
-    """A line beside the place, above it or at its end, says why it stays."""
-    rows = SOURCES[file].split("\n")
-    above = number - 1
-    found = "// Stays" in rows[number - 1]
-    while 0 < above and (rows[above - 1].lstrip().startswith(("//", "#[")) or rows[above - 1].rstrip().endswith(("let", "="))):
-        found = found or "// Stays" in rows[above - 1]
-        above -= 1
-    return found
+    """A line beside the place, in it or up to five lines above, says why it stays."""
+    rows = SOURCES[file].split("\n")[max(0, number - 6) : number]
+    return any("// Stays" in row for row in rows)
 
 
 def main():
