@@ -1,6 +1,7 @@
--- Answers that can be a refusal: no number is 0, and what `?` hands on.
-use mathlib.Core.Path.{◌≡◌, ap}
-use Rattle.std.specs.Prelude.{Result, Ok, Err}
+-- Answers that can be a refusal: no number is 0, what `?` hands on, and what `ok_or` makes of an answer that may be missing.
+use mathlib.Core.Path.{◌≡◌, refl, sym, ap}
+use Prim.Native.Nat.{ℕ}
+use Rattle.std.specs.Prelude.{Option, Some, None, Result, Ok, Err, ok_or}
 use Rattle.std.specs.Result.{IsErrAnd}
 use native.Mathlib.Omega.{arith}
 use Rattle.tlv.specs.declared.refusal.Refusal.{Refusal}
@@ -40,3 +41,17 @@ numbered Refusal.ShortResult z = omega arith
 pub handed : {T : Type 0} (r : Result T Refusal) (e : Refusal) → IsErrAnd r (λ x. x ≡ e) → r ≡ Err e
 handed (Ok v) e h = absurd h
 handed (Err x) e h = ap Err h
+
+-- ---- `ok_or`
+
+ok-err : {A : Type 0} {v : A} {e : Refusal} → ◌≡◌ {A = Result A Refusal} (Ok v) (Err e) → ⊥
+ok-err h = let z : ◌≡◌ {A = ℕ} 0 1 = cc in omega arith
+
+module _ {A : Type 0} where
+  pub ok-some : (r : Option A) {v : A} (e : Refusal) → Ok v ≡ ok_or r e → r ≡ Some v
+  ok-some None e h = absurd (ok-err h)
+  ok-some (Some x) e h = cc
+
+  pub err-none : (r : Option A) {e e' : Refusal} → Err e' ≡ ok_or r e → (r ≡ None) × (e' ≡ e)
+  err-none None h = (refl, cc)
+  err-none (Some x) h = absurd (ok-err (sym h))

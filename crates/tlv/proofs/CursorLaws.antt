@@ -160,14 +160,6 @@ module _ (s : List ℕ) (tag p n m : ℕ) (r : Step) (inv : m ≡ n + length (pa
   turn : m ≡ n + length (payloads tag (whole_fields (fields_of s r)))
   turn = inv ∙ rw (fields-at s p, ← at)
 
-  pub count-end : r ≡ nothing_left → n ≡ m
-  unfolding whole_fields payloads
-  count-end e = let here = rw e at turn in omega arith
-
-  pub count_cut : r ≡ cut_short → n ≡ m
-  unfolding whole_fields payloads
-  count_cut e = let here = rw e at turn in omega arith
-
   module _ (t start len next : ℕ) (e : r ≡ field_here t start len next) where
     pub count-one : t ≡ tag → m ≡ n + 1 + length (payloads tag (whole_fields (fields (drop next s))))
     unfolding whole_fields payloads

@@ -6,7 +6,7 @@ use Prim.Native.Nat.{ℕ, ◌+◌, ◌-◌, ◌<◌, ◌≤◌}
 use native.Mathlib.Omega.{arith}
 use lib.ListN.{length, take, drop}
 use borrow.Author.Tests.{eq-eqb, ne_eqb}
-use Rattle.std.specs.Prelude.{Some, None}
+use Rattle.std.specs.Prelude.{Option, Some, None}
 use Rattle.tlv.specs.declared.fields.FieldSpan.{FieldSpan}
 use Rattle.tlv.specs.Fields.{FieldList, end, cut, more, fields, whole_fields, payloads}
 use Rattle.tlv.specs.Cursor.{Step, field_here, cut_short, nothing_left, step_at, fields_of, span_of, field_from}
@@ -49,6 +49,19 @@ module _ (s : List ℕ) (p : ℕ) (f : FieldSpan) (at : Some f ≡ field_from s 
   -- the fields from the place on begin with that field
   pub fields-field : fields (drop p s) ≡ more (record { tag = f.tag; payload = take f.len (drop f.start s) }) (fields (drop f.next s))
   fields-field = cursor.fields-field s p (step_at s p) f.tag f.start f.len f.next refl is-step
+
+-- ---- what a call of next_field gave: a crate whose src/lib.rt names these in its `tactic(auto, using(..))` leaves the measure and the bounds of a walk over
+-- fields to the check
+
+module _ (s : List ℕ) (p : ℕ) (r : Option FieldSpan) (f : FieldSpan) (at : r ≡ field_from s p) (is : r ≡ Some f) where
+  given : Some f ≡ field_from s p
+  given = rw is at at
+
+  pub goes_on : length s - f.next < length s - p
+  goes_on = next-less s p f given
+
+  pub lies_within : f.start + f.len ≤ length s
+  lies_within = payload-within s p f given
 
 -- ---- there is none
 

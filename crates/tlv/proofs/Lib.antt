@@ -18,3 +18,4 @@ pub mod PlaceFacts
 pub mod PlacePromises
 pub mod AnswerLaws
 pub mod FieldLaws
+pub mod OrLaws

@@ -67,3 +67,6 @@ module _ (c : Context) (p : List ℕ) where
   pub list-long : payload_shaped c 0x1f p ≡ true → length p ≡ 25
   unfolding payload_shaped list_shaped
   list-long s = eqb-true _ _ (search and_left)
+
+-- of the payloads in which a limit or the next context reads
+pub ruleset lengths = (unit-long, entry-long, attribute-long)

@@ -1,5 +1,5 @@
 -- The places of an accepted sheet: its start is one, the next of one is one, and the field at one passes and may follow the one before it.
-use mathlib.Core.Path.{◌≡◌, refl, sym}
+use mathlib.Core.Path.{◌≡◌, refl}
 use mathlib.Core.Bool.{Bool, true, false≢true}
 use mathlib.Core.Logic.{◌⊎◌, inl, inr}
 use mathlib.Core.List.{List, [], ◌∷◌}
@@ -11,9 +11,6 @@ use mir.Syntax.{w8}
 use mir.Val.{Fits}
 use borrow.Author.Tests.{eqb-true}
 use Rattle.tlv.specs.declared.grammar.Context.{Context}
-use Rattle.std.specs.Prelude.{Result, Ok}
-use Rattle.tlv.specs.declared.refusal.Refusal.{Refusal}
-use Rattle.tlv.specs.Refusals.{as_outcome}
 use Rattle.tlv.specs.Outcome.{done}
 use Rattle.tlv.specs.Lists.{Any, exists}
 use Rattle.tlv.specs.Bytes.{Bytes}
@@ -30,10 +27,6 @@ use Rattle.tlv.proofs.AcceptedGroups.{passed-both, fields-bytes, checked-passed}
 use Rattle.tlv.proofs.AcceptedCounts.{next-count}
 
 -- ---- an accepted sheet
-
--- an answer that accepts
-pub accepted-done : (s : List ℕ) (r : Result ℕ Refusal) (program n : ℕ) → as_outcome r ≡ check_input program s → r ≡ Ok n → Accepts s n
-accepted-done s r program n e is = record { program = program; passes = rw is at (sym e) }
 
 -- the fields that are checked are counted
 counted : (c : Context) (fs : FieldList) (n : ℕ) → check_from c fs ≡ done n → n ≡ c.count + length (whole_fields fs)

@@ -1,35 +1,16 @@
 -- The tests of each field's payload, the `len` bytes of s from `start` on, say what the grammar says of it.
-use mathlib.Core.Path.{◌≡◌, refl, sym, ◌∙◌}
-use mathlib.Core.Bool.{Bool, true, false, cond, ◌||◌}
-use mathlib.Core.List.{List, [], ◌∷◌}
+use mathlib.Core.Path.{◌≡◌, sym, ◌∙◌}
+use mathlib.Core.List.{List}
 use Prim.Native.Nat.{ℕ, ◌+◌, ◌-◌, ◌^◌, ◌≤◌, ◌<◌}
 use native.Mathlib.Nat.{add-zero}
 use native.Mathlib.Omega.{arith}
 use native.Mathlib.Decide.{dec_le}
-use lib.Dec.{leb, ltb, eqb}
+use lib.Dec.{leb, ltb}
 use lib.ListN.{length, take, drop, length-drop}
 use lib.Seq.{length-take-le}
 use borrow.Author.Tests.{le-leb, lt-leb, lt-ltb, le-ltb}
-use Rattle.tlv.specs.Lists.{exists}
 use Rattle.tlv.specs.Bytes.{le_at}
 use Rattle.tlv.proofs.WidthLaws.{le_at-part}
-
--- ---- one of a list, as tests that are joined from the left
-
-abbrev any_from : Bool → ℕ → List ℕ → Bool
-any_from b t [] = b
-any_from b t (x ∷ xs) = any_from (b || eqb t x) t xs
-
-any-starting : (b : Bool) (t : ℕ) (xs : List ℕ) → any_from b t xs ≡ cond b true (exists (eqb t) xs)
-unfolding exists
-any-starting true t [] = refl
-any-starting false t [] = refl
-any-starting true t (x ∷ xs) = any-starting true t xs
-any-starting false t (x ∷ xs) = any-starting (eqb t x) t xs
-
-pub any_of : (t x : ℕ) (xs : List ℕ) → any_from (eqb t x) t xs ≡ exists (eqb t) (x ∷ xs)
-unfolding exists
-any_of t x xs = any-starting (eqb t x) t xs
 
 -- a sum that fits, tested with no sum
 pub room-leb : (a b : ℕ) → a < 2 ^ 64 → leb b (18446744073709551615 - a) ≡ ltb (a + b) (2 ^ 64)

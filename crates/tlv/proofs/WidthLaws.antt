@@ -58,11 +58,6 @@ bytes_of-append (suc j) k n = rw (suc-add j k, pow-succ', ← div-div-eq-div-mul
 pub bytes_of-add : (j k n : ℕ) → bytes_of (j + k) n ≡ bytes_of j (n % 256 ^ j) ++ bytes_of k (n / 256 ^ j)
 bytes_of-add j k n = rw bytes_of-low (bytes_of-append j k n)
 
--- two bytes
-pub bytes_of-two : (n : ℕ) → n < 65536 → bytes_of 2 n ≡ (n % 256 ∷ []) ++ (n / 256 ∷ [])
-unfolding bytes_of
-bytes_of-two n h = let e : n / 256 % 256 ≡ n / 256 = omega arith in rw e
-
 -- ---- a part of a byte string: the n bytes of s from place p on
 
 pub drop_take : {A : Type 0} (j n : ℕ) (l : List A) → drop j (take n l) ≡ take (n - j) (drop j l)

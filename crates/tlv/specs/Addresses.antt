@@ -5,6 +5,7 @@ use Rattle.tlv.specs.declared.model.AddressRange.{AddressRange}
 abbrev pub RangeHolds : AddressRange → ℕ → Type 0
 RangeHolds r a = (r.start ≤ a) × (a < r.end)
 
+-- Stays a clause: an `AddressRange` may be empty elsewhere, as one that a list gives before it is looked at.
 abbrev pub Nonempty : AddressRange → Type 0
 Nonempty r = r.start < r.end
 

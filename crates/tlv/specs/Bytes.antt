@@ -1,10 +1,14 @@
 -- Definition. Numbers in bytes, lowest byte first (document 01: "Numbers in layouts are little-endian").
-use Rattle.std.specs.Prelude.{List, [], ◌∷◌, ℕ, zero, suc, ◌+◌, ◌*◌, ◌/◌, ◌%◌, ◌<◌, take, drop}
+use Rattle.std.specs.Prelude.{List, [], ◌∷◌, ℕ, zero, suc, ◌+◌, ◌*◌, ◌/◌, ◌%◌, ◌<◌, take, drop, get_or}
 use Rattle.tlv.specs.Lists.{All}
 
 -- what a slice of bytes is, as a list of numbers
 abbrev pub Bytes : List ℕ → Type 0
 Bytes s = All (λ b. b < 256) s
+
+-- the same as a fact with at most one proof, as a ghost field has to be
+abbrev pub AreBytes : List ℕ → Type 0
+AreBytes s = (k : ℕ) → get_or s k 0 < 256
 
 -- the number whose bytes are bs
 abbrev pub le : List ℕ → ℕ

@@ -15,16 +15,19 @@ unfoldable pub judged_of : Context → Field → Result Context Refusal
 judged_of c f = cond (shaped c f) (cond (limited c f) (Ok (next c f)) (Err Refusal.PastLimit)) (Err Refusal.Misshapen)
 
 -- a sheet is accepted, with a line program of some length, and has n fields
+-- Stays a clause: it has a number, of which there may be more than one, and a ghost field has at most one proof.
 pub record Accepts (s : List ℕ) (n : ℕ) : Type 0 where
   pub program : ℕ
   pub passes : check_input program s ≡ done n
 
 -- .. and has some number of fields
+-- Stays a clause, for the same reason.
 pub record Accepted (s : List ℕ) : Type 0 where
   pub number : ℕ
   pub is : Accepts s number
 
 -- p is the place of a field of an accepted sheet, or its end: the fields from p on pass after what stands before them
+-- Stays a clause: it has a context and a number, of which there may be more than one, and a ghost field has at most one proof.
 pub record Placed (s : List ℕ) (p : ℕ) : Type 0 where
   pub context : Context
   pub count : ℕ

@@ -3,6 +3,7 @@ pub mod Constants
 pub mod Outcome
 pub mod Refusals
 pub mod Addresses
+pub mod RangeTests
 pub mod Lists
 pub mod Bytes
 pub mod Limits

@@ -3,9 +3,7 @@ ghost use Rattle.std.specs.Prelude.{◌≡◌};
 ghost use Rattle.tlv.specs.Cursor.{field_from};
 
 use crate::bytes::Number;
-
-// What a field begins with: its tag and the length of its payload.
-pub const FIELD_HEAD: usize = 3;
+use crate::tags::FIELD_HEAD;
 
 // A whole field: its payload is the `len` bytes from `start` on, and `next` is past it.
 #[derive(Clone, Copy, Debug)]

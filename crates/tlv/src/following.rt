@@ -8,74 +8,44 @@ use crate::tags::{
 };
 
 // Whether a field of a tag may stand after one of the tag `previous`.
+#[tactic(auto, unfolding(crate::specs::Grammar::after, crate::specs::Grammar::may_follow, crate::specs::Lists::exists))]
 pub fn may_follow(previous: u8, tag: u8) -> bool
     ensures { result ≡ may_follow previous tag }
 {
+    // Stays a match: the order of the tags is the sheet's own table.
     match previous {
-        UNIT_TAG => (tag == UNIT_TAG)
-            | (tag == COMPILATION_TAG)
-            | (tag == TEXT_TAG)
-            | (tag == HEADER_TAG)
-            | (tag == ENTRY_TAG),
-        COMPILATION_TAG => (tag == UNIT_TAG)
-            | (tag == TEXT_TAG)
-            | (tag == HEADER_TAG)
-            | (tag == ENTRY_TAG),
-        TEXT_TAG => (tag == UNIT_TAG)
-            | (tag == TEXT_TAG)
-            | (tag == HEADER_TAG)
-            | (tag == ENTRY_TAG),
-        HEADER_TAG => (tag == UNIT_TAG)
-            | (tag == ENCODING_TAG)
-            | (tag == PART_TAG)
-            | (tag == DIRECTORY_TAG)
-            | (tag == FILE_ZERO_TAG)
-            | (tag == FILE_TAG)
-            | (tag == ROW_TAG)
-            | (tag == ENTRY_TAG),
-        ENCODING_TAG => (tag == UNIT_TAG)
-            | (tag == PART_TAG)
-            | (tag == DIRECTORY_TAG)
-            | (tag == FILE_ZERO_TAG)
-            | (tag == FILE_TAG)
-            | (tag == ROW_TAG)
-            | (tag == ENTRY_TAG),
-        PART_TAG => (tag == UNIT_TAG)
-            | (tag == DIRECTORY_TAG)
-            | (tag == FILE_ZERO_TAG)
-            | (tag == FILE_TAG)
-            | (tag == ROW_TAG)
-            | (tag == ENTRY_TAG),
-        DIRECTORY_TAG => (tag == UNIT_TAG)
-            | (tag == DIRECTORY_TAG)
-            | (tag == FILE_ZERO_TAG)
-            | (tag == FILE_TAG)
-            | (tag == ROW_TAG)
-            | (tag == ENTRY_TAG),
-        FILE_ZERO_TAG => (tag == UNIT_TAG)
-            | (tag == FILE_TAG)
-            | (tag == ROW_TAG)
-            | (tag == ENTRY_TAG),
-        FILE_TAG => (tag == UNIT_TAG) | (tag == FILE_TAG) | (tag == ROW_TAG) | (tag == ENTRY_TAG),
-        ROW_TAG => (tag == UNIT_TAG) | (tag == ROW_TAG) | (tag == ENTRY_TAG),
-        ENTRY_TAG => (tag == UNIT_TAG)
-            | (tag == ENTRY_TAG)
-            | (tag == ATTRIBUTE_TAG)
-            | (tag == RANGE_TAG)
-            | (tag == FAILURE_TAG)
-            | (tag == LIST_TAG),
-        ATTRIBUTE_TAG => (tag == UNIT_TAG)
-            | (tag == ENTRY_TAG)
-            | (tag == ATTRIBUTE_TAG)
-            | (tag == RANGE_TAG)
-            | (tag == FAILURE_TAG)
-            | (tag == LIST_TAG),
-        RANGE_TAG => (tag == UNIT_TAG)
-            | (tag == ENTRY_TAG)
-            | (tag == RANGE_TAG)
-            | (tag == FAILURE_TAG),
-        FAILURE_TAG => (tag == UNIT_TAG) | (tag == ENTRY_TAG),
-        LIST_TAG => (tag == UNIT_TAG) | (tag == ENTRY_TAG),
+        UNIT_TAG => matches!(
+            tag,
+            UNIT_TAG | COMPILATION_TAG | TEXT_TAG | HEADER_TAG | ENTRY_TAG
+        ),
+        COMPILATION_TAG | TEXT_TAG => matches!(tag, UNIT_TAG | TEXT_TAG | HEADER_TAG | ENTRY_TAG),
+        HEADER_TAG => matches!(
+            tag,
+            UNIT_TAG
+                | ENCODING_TAG
+                | PART_TAG
+                | DIRECTORY_TAG
+                | FILE_ZERO_TAG
+                | FILE_TAG
+                | ROW_TAG
+                | ENTRY_TAG
+        ),
+        ENCODING_TAG => matches!(
+            tag,
+            UNIT_TAG | PART_TAG | DIRECTORY_TAG | FILE_ZERO_TAG | FILE_TAG | ROW_TAG | ENTRY_TAG
+        ),
+        PART_TAG | DIRECTORY_TAG => matches!(
+            tag,
+            UNIT_TAG | DIRECTORY_TAG | FILE_ZERO_TAG | FILE_TAG | ROW_TAG | ENTRY_TAG
+        ),
+        FILE_ZERO_TAG | FILE_TAG => matches!(tag, UNIT_TAG | FILE_TAG | ROW_TAG | ENTRY_TAG),
+        ROW_TAG => matches!(tag, UNIT_TAG | ROW_TAG | ENTRY_TAG),
+        ENTRY_TAG | ATTRIBUTE_TAG => matches!(
+            tag,
+            UNIT_TAG | ENTRY_TAG | ATTRIBUTE_TAG | RANGE_TAG | FAILURE_TAG | LIST_TAG
+        ),
+        RANGE_TAG => matches!(tag, UNIT_TAG | ENTRY_TAG | RANGE_TAG | FAILURE_TAG),
+        FAILURE_TAG | LIST_TAG => matches!(tag, UNIT_TAG | ENTRY_TAG),
         _ => tag == UNIT_TAG,
     }
 }

@@ -7,10 +7,13 @@ ghost use Rattle.tlv.specs.Checked.{judged_of};
 use crate::bytes::Number;
 use crate::fields::next_field;
 use crate::following::may_follow;
+use crate::kinds::TEXT_KIND;
 use crate::refusal::Refusal;
 use crate::shapes::{
-    attribute_shaped, directory_shaped, encoding_shaped, entry_shaped, failure_shaped, file_shaped,
-    header_shaped, list_shaped, part_shaped, range_shaped, row_shaped, text_shaped, unit_shaped,
+    ATTRIBUTE_KIND, ATTRIBUTE_VALUE, DIRECTORY_TEXT, FAILURE_REASON, FILE_TEXT, OWN_DEPTH,
+    UNIT_LENGTH, UNIT_VERSION, attribute_shaped, directory_shaped, encoding_shaped, entry_shaped,
+    failure_shaped, file_shaped, header_shaped, list_shaped, part_shaped, range_shaped, row_shaped,
+    text_shaped, unit_shaped,
 };
 use crate::tags::{
     ATTRIBUTE_TAG, COMPILATION_TAG, DIRECTORY_TAG, ENCODING_TAG, ENTRY_TAG, FAILURE_TAG, FILE_TAG,
@@ -28,7 +31,7 @@ const REASON_LIMIT: usize = 4096;
 const DEPTH_LIMIT: u16 = 1024;
 
 // What the fields so far leave to check the next one against.
-#[derive(Clone, Copy)]
+#[derive(Clone, Copy, Debug)]
 pub struct Context {
     pub previous: u8, // the tag of the last field, 0 before the first
     pub count: u64, // fields so far
@@ -55,8 +58,7 @@ pub fn payload_shaped(c: Context, tag: u8, payload: &[u8]) -> bool
         ENCODING_TAG => encoding_shaped(payload),
         PART_TAG => part_shaped(c, payload),
         DIRECTORY_TAG => directory_shaped(payload),
-        FILE_TAG => file_shaped(payload),
-        FILE_ZERO_TAG => file_shaped(payload),
+        FILE_TAG | FILE_ZERO_TAG => file_shaped(payload),
         ROW_TAG => row_shaped(c, payload),
         ENTRY_TAG => entry_shaped(c, payload),
         ATTRIBUTE_TAG => attribute_shaped(payload),
@@ -68,7 +70,7 @@ pub fn payload_shaped(c: Context, tag: u8, payload: &[u8]) -> bool
 }
 
 // Whether a payload that is shaped is within the limits.
-#[tactic(auto, unfolding(crate::specs::Grammar::payload_limited, crate::specs::Grammar::payload_shaped, crate::specs::Grammar::entry_shaped, crate::specs::Grammar::attribute_shaped))]
+#[tactic(auto, using(crate::proofs::PayloadFacts::lengths), unfolding(crate::specs::Grammar::payload_limited))]
 pub fn payload_limited(c: Context, tag: u8, payload: &[u8]) -> bool
     requires { payload_shaped c tag payload.now ≡ true }
     ensures { result ≡ payload_limited c tag payload.now }
@@ -77,18 +79,20 @@ pub fn payload_limited(c: Context, tag: u8, payload: &[u8]) -> bool
     match tag {
         UNIT_TAG => c.units < UNIT_LIMIT,
         COMPILATION_TAG => payload.len() <= STRING_LIMIT,
-        DIRECTORY_TAG => payload.len() <= STRING_LIMIT + 1,
-        FILE_TAG => payload.len() <= STRING_LIMIT + 9,
-        FILE_ZERO_TAG => payload.len() <= STRING_LIMIT + 9,
-        ENTRY_TAG => u16::read(payload, 8) <= DEPTH_LIMIT,
-        ATTRIBUTE_TAG => (u8::read(payload, 2) != 3) | (payload.len() <= STRING_LIMIT + 3),
-        FAILURE_TAG => payload.len() <= REASON_LIMIT + 1,
+        DIRECTORY_TAG => payload.len() <= STRING_LIMIT + DIRECTORY_TEXT,
+        FILE_TAG | FILE_ZERO_TAG => payload.len() <= STRING_LIMIT + FILE_TEXT,
+        ENTRY_TAG => u16::read(payload, OWN_DEPTH) <= DEPTH_LIMIT,
+        ATTRIBUTE_TAG => {
+            u8::read(payload, ATTRIBUTE_KIND) != TEXT_KIND
+                || payload.len() <= STRING_LIMIT + ATTRIBUTE_VALUE
+        }
+        FAILURE_TAG => payload.len() <= REASON_LIMIT + FAILURE_REASON,
         _ => true,
     }
 }
 
 // The context after a field that has passed.
-#[tactic(auto, unfolding(crate::specs::Grammar::next, crate::specs::Grammar::shaped, crate::specs::Grammar::limited, crate::specs::Grammar::payload_shaped, crate::specs::Grammar::payload_limited, crate::specs::Grammar::unit_shaped, crate::specs::Grammar::entry_shaped))]
+#[tactic(auto, using(crate::proofs::PayloadFacts::lengths), unfolding(crate::specs::Grammar::next, crate::specs::Grammar::shaped))]
 pub fn next(c: Context, tag: u8, payload: &[u8]) -> Context
     requires shaped { shaped c (record { tag = tag; payload = payload.now }) ≡ true }
     requires limited { limited c (record { tag = tag; payload = payload.now }) ≡ true }
@@ -103,12 +107,12 @@ pub fn next(c: Context, tag: u8, payload: &[u8]) -> Context
     match tag {
         UNIT_TAG => {
             let offset = u64::read(payload, 0);
-            let length = u64::read(payload, 8);
+            let length = u64::read(payload, UNIT_LENGTH);
             Context {
                 units: c.units + 1,
                 end: offset + length,
                 length,
-                version: u8::read(payload, 16),
+                version: u8::read(payload, UNIT_VERSION),
                 offset: 0,
                 depth: 0,
                 encoded: false,
@@ -117,11 +121,11 @@ pub fn next(c: Context, tag: u8, payload: &[u8]) -> Context
         }
         ENTRY_TAG => Context {
             offset: u64::read(payload, 0) + 1,
-            depth: u16::read(payload, 8) as u64 + 1,
+            depth: u16::read(payload, OWN_DEPTH) as u64 + 1,
             ..after
         },
         _ => Context {
-            encoded: (tag == ENCODING_TAG) | c.encoded,
+            encoded: tag == ENCODING_TAG || c.encoded,
             ..after
         },
     }
@@ -148,6 +152,7 @@ fn judge(c: Context, tag: u8, payload: &[u8]) -> Result<Context, Refusal>
 }
 
 // What becomes of an input (document 01: a sheet), with the length of the line program that is lent with it: the number of its fields, or why not.
+#[tactic(auto, using(crate::proofs::FieldLaws::goes_on, crate::proofs::FieldLaws::lies_within))]
 pub fn check_input(s: &[u8], program: usize) -> Result<u64, Refusal>
     ensures { as_outcome result ≡ check_input program s.now }
 {
@@ -166,9 +171,7 @@ pub fn check_input(s: &[u8], program: usize) -> Result<u64, Refusal>
     };
     // Stays a loop: each field's own length moves the place, and bytes that are left tell a cut field from the end.
     while p < s.len() {
-        let Some(field) = next_field(s, p) else {
-            return Err(Refusal::Misshapen);
-        };
+        let field = next_field(s, p).ok_or(Refusal::Misshapen)?;
         c = judge(c, field.tag, &s[field.start..field.start + field.len])?;
         p = field.next;
     }

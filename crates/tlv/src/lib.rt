@@ -6,6 +6,7 @@ pub mod constants;
 pub mod fields;
 pub mod following;
 pub mod grammar;
+pub mod kinds;
 pub mod model;
 pub mod refusal;
 pub mod shapes;

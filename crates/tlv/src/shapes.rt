@@ -1,11 +1,59 @@
 // The shapes of payloads, a predicate for each tag.
 ghost use Rattle.std.specs.Prelude.{◌≡◌};
-ghost use Rattle.tlv.specs.Grammar.{unit_shaped, text_shaped, header_shaped, encoding_shaped, part_shaped, directory_shaped, file_shaped};
+ghost use Rattle.tlv.specs.Grammar.{is_version, is_word, unit_shaped, text_shaped, header_shaped, encoding_shaped, part_shaped, directory_shaped, file_shaped};
 ghost use Rattle.tlv.specs.Grammar.{row_shaped, entry_shaped, value_shaped, attribute_shaped, range_shaped, failure_shaped, list_shaped};
 
 use crate::bytes::Number;
 use crate::grammar::Context;
-use crate::tags::RANGE_TAG;
+use crate::kinds::{ADDRESS_KIND, FAILED_KIND, TEXT_KIND, UNSIGNED_KIND};
+use crate::tags::{ENTRY_DEPTH, ENTRY_WHOLE, FIELD_HEAD, RANGE_TAG};
+
+// Where the numbers of a unit stand in its payload behind its offset, and the payload's length: its word size is at the end.
+pub const UNIT_LENGTH: usize = 8;
+
+pub const UNIT_VERSION: usize = UNIT_LENGTH + 8;
+
+const UNIT_WORD: usize = UNIT_VERSION + 1;
+
+const UNIT_FIELD: usize = UNIT_WORD + 1;
+
+// The length of the payload of an executable range.
+const TEXT_FIELD: usize = 16;
+
+// The same of a line header: behind its opcode base stand the lengths of the opcodes, as many as there are.
+pub const HEADER_LENGTH: usize = 8;
+
+pub const HEADER_VERSION: usize = HEADER_LENGTH + 8;
+
+pub const HEADER_WORD: usize = HEADER_VERSION + 1;
+
+pub const HEADER_OPCODES: usize = HEADER_WORD + 1;
+
+pub const HEADER_LEAST: usize = HEADER_OPCODES + 1;
+
+// Where the texts of a directory and of a file begin, behind a flag, and a file's directory.
+pub const DIRECTORY_TEXT: usize = 1;
+
+pub const FILE_DIRECTORY: usize = 1;
+
+pub const FILE_TEXT: usize = FILE_DIRECTORY + 8;
+
+// Where an attribute's kind and value stand, behind its name.
+pub const ATTRIBUTE_KIND: usize = 2;
+
+pub const ATTRIBUTE_VALUE: usize = ATTRIBUTE_KIND + 1;
+
+// Where a range's tombstone flag stands, at the payload's end, and where the reason of a failure begins, behind its stage.
+pub const RANGE_TOMBSTONE: usize = 16;
+
+const RANGE_FIELD: usize = RANGE_TOMBSTONE + 1;
+
+pub const FAILURE_REASON: usize = 1;
+
+// Where an entry's depth stands in its payload, and the payload's length.
+pub const OWN_DEPTH: usize = ENTRY_DEPTH - FIELD_HEAD;
+
+const ENTRY_FIELD: usize = ENTRY_WHOLE - FIELD_HEAD;
 
 // The field of a line encoding: where the default statement flag stands, and the length of its payload.
 const ENCODING_FLAG: usize = 2;
@@ -40,46 +88,56 @@ pub const ROW_KIND: usize = ROW_COLUMN + 2;
 pub const ROW_FIELD: usize = ROW_KIND + 1;
 
 // The whole field: its tag, its length and its payload.
-pub const ROW_WHOLE: usize = 3 + ROW_FIELD;
+pub const ROW_WHOLE: usize = FIELD_HEAD + ROW_FIELD;
 
 // The shape of each field's payload.
+
+// The versions of DWARF that a sheet may have.
+fn is_version(n: u8) -> bool
+    ensures { result ≡ is_version n }
+{
+    2 <= n && n <= 5
+}
+
+// The sizes of an offset, or of an address.
+fn is_word(n: u8) -> bool
+    ensures { result ≡ is_word n }
+{
+    n == 4 || n == 8
+}
 
 #[tactic(auto, unfolding(crate::specs::Grammar::unit_shaped))]
 pub fn unit_shaped(c: Context, payload: &[u8]) -> bool
     ensures { result ≡ unit_shaped c payload.now }
 {
-    if payload.len() != 18 {
+    if payload.len() != UNIT_FIELD {
         return false;
     }
     let offset = u64::read(payload, 0);
-    let size = u64::read(payload, 8);
-    let version = u8::read(payload, 16);
-    let word = u8::read(payload, 17);
+    let size = u64::read(payload, UNIT_LENGTH);
+    let version = u8::read(payload, UNIT_VERSION);
+    let word = u8::read(payload, UNIT_WORD);
     let room = u64::MAX - offset;
-    (2 <= version)
-        & (version <= 5)
-        & ((word == 4) | (word == 8))
-        & (size <= room)
-        & (c.end <= offset)
+    is_version(version) && is_word(word) && size <= room && c.end <= offset
 }
 
 #[tactic(auto, unfolding(crate::specs::Grammar::text_shaped))]
 pub fn text_shaped(payload: &[u8]) -> bool
     ensures { result ≡ text_shaped payload.now }
 {
-    payload.len() == 16
+    payload.len() == TEXT_FIELD
 }
 
 #[tactic(auto, unfolding(crate::specs::Grammar::header_shaped))]
 pub fn header_shaped(payload: &[u8]) -> bool
     ensures { result ≡ header_shaped payload.now }
 {
-    if payload.len() < 19 {
+    if payload.len() < HEADER_LEAST {
         return false;
     }
-    let version = u8::read(payload, 16);
-    let word = u8::read(payload, 17);
-    (2 <= version) & (version <= 5) & ((word == 4) | (word == 8))
+    let version = u8::read(payload, HEADER_VERSION);
+    let word = u8::read(payload, HEADER_WORD);
+    is_version(version) && is_word(word)
 }
 
 #[tactic(auto, unfolding(crate::specs::Grammar::encoding_shaped))]
@@ -112,7 +170,7 @@ pub fn part_shaped(c: Context, payload: &[u8]) -> bool
 pub fn directory_shaped(payload: &[u8]) -> bool
     ensures { result ≡ directory_shaped payload.now }
 {
-    if payload.len() < 1 {
+    if payload.len() < DIRECTORY_TEXT {
         return false;
     }
     u8::read(payload, 0) <= 1
@@ -122,7 +180,7 @@ pub fn directory_shaped(payload: &[u8]) -> bool
 pub fn file_shaped(payload: &[u8]) -> bool
     ensures { result ≡ file_shaped payload.now }
 {
-    if payload.len() < 9 {
+    if payload.len() < FILE_TEXT {
         return false;
     }
     u8::read(payload, 0) <= 1
@@ -146,26 +204,25 @@ pub fn row_shaped(c: Context, payload: &[u8]) -> bool
 pub fn entry_shaped(c: Context, payload: &[u8]) -> bool
     ensures { result ≡ entry_shaped c payload.now }
 {
-    if payload.len() != 12 {
+    if payload.len() != ENTRY_FIELD {
         return false;
     }
     let offset = u64::read(payload, 0);
-    let depth = u16::read(payload, 8) as u64;
-    (c.offset <= offset)
-        & (offset < c.length)
-        & (depth <= c.depth)
-        & ((1 <= depth) | (c.depth == 0))
+    let depth = u16::read(payload, OWN_DEPTH) as u64;
+    c.offset <= offset && offset < c.length && depth <= c.depth && (1 <= depth || c.depth == 0)
 }
 
 // The value of an attribute by its kind and its length.
+#[tactic(auto, unfolding(crate::specs::Grammar::value_shaped))]
 pub fn value_shaped(kind: u8, n: usize) -> bool
     ensures { result ≡ value_shaped kind n }
 {
     // Stays a match: the kinds are the sheet's own table.
     match kind {
-        3 => true,
-        10 => n == 0,
-        _ => (1 <= kind) & (kind <= 9) & (n == 8),
+        TEXT_KIND => true,
+        UNSIGNED_KIND..=ADDRESS_KIND => n == 8,
+        FAILED_KIND => n == 0,
+        _ => false,
     }
 }
 
@@ -173,31 +230,34 @@ pub fn value_shaped(kind: u8, n: usize) -> bool
 pub fn attribute_shaped(payload: &[u8]) -> bool
     ensures { result ≡ attribute_shaped payload.now }
 {
-    if payload.len() < 3 {
+    if payload.len() < ATTRIBUTE_VALUE {
         return false;
     }
-    value_shaped(u8::read(payload, 2), payload.len() - 3)
+    value_shaped(
+        u8::read(payload, ATTRIBUTE_KIND),
+        payload.len() - ATTRIBUTE_VALUE,
+    )
 }
 
 #[tactic(auto, unfolding(crate::specs::Grammar::range_shaped))]
 pub fn range_shaped(payload: &[u8]) -> bool
     ensures { result ≡ range_shaped payload.now }
 {
-    if payload.len() != 17 {
+    if payload.len() != RANGE_FIELD {
         return false;
     }
-    u8::read(payload, 16) <= 1
+    u8::read(payload, RANGE_TOMBSTONE) <= 1
 }
 
 #[tactic(auto, unfolding(crate::specs::Grammar::failure_shaped))]
 pub fn failure_shaped(previous: u8, payload: &[u8]) -> bool
     ensures { result ≡ failure_shaped previous payload.now }
 {
-    if payload.len() < 1 {
+    if payload.len() < FAILURE_REASON {
         return false;
     }
     let stage = u8::read(payload, 0);
-    (stage <= 1) & ((stage == 1) | (previous != RANGE_TAG))
+    stage <= 1 && (stage == 1 || previous != RANGE_TAG)
 }
 
 #[tactic(auto, unfolding(crate::specs::Grammar::list_shaped))]
@@ -208,5 +268,5 @@ pub fn list_shaped(c: Context, payload: &[u8]) -> bool
         return false;
     }
     let size = u8::read(payload, LIST_SIZE);
-    (c.version == LIST_VERSION) & ((size == 4) | (size == 8))
+    c.version == LIST_VERSION && is_word(size)
 }
