@@ -1,20 +1,19 @@
 -- Puts into a tray, one after the other: what they make together, what a loop of them has left to do, and what the tray then holds.
 use mathlib.Core.Path.{◌≡◌, refl, sym, ap, ◌∙◌}
-use mathlib.Core.Bool.{Bool, true, false}
+use mathlib.Core.Bool.{Bool, true}
 use mathlib.Core.List.{List, [], ◌∷◌, ◌++◌, append_assoc}
-use Prim.Native.Nat.{ℕ, suc, ◌+◌, ◌-◌, ◌/◌, ◌%◌, ◌<◌, ◌≤◌, min}
+use Prim.Native.Nat.{ℕ, suc, ◌+◌, ◌<◌, ◌≤◌, min}
 use native.Mathlib.Nat.{add-zero, zero-add}
 use native.Mathlib.Numerals.{add-one}
 use native.Mathlib.Decide.{dec_le}
 use native.Mathlib.Omega.{arith}
-use borrow.Author.Tests.{le-leb, lt-leb, leb-true}
+use borrow.Author.Tests.{leb-true}
 use lib.Dec.{leb}
 use lib.ListN.{length, set, take, drop, get_or, length-set, length-append}
 use borrow.Rule.Slice.PartMut.{put_mid}
 use lib.Seq.{drop-drop, set_out, take-suc, take_all, take-set-le, sets, sets-eq, drop_at, take-append_seam, length-take-le}
 use Rattle.tlv.specs.Bytes.{bytes_of}
 use Rattle.tlv.proofs.ByteLaws.{length-bytes_of}
-use Rattle.tlv.proofs.WidthLaws.{bytes_of-two}
 use Rattle.buffers.specs.Buffer.{top, moved, overlay, Put}
 use Rattle.buffers.specs.Table.{Wrote}
 
@@ -110,26 +109,7 @@ put-cons f g = f then g
 pub put-length : {at r : ℕ} {bs t t' : List ℕ} → Put at bs t t' r → length t' ≡ length t
 put-length {at} {r} {bs} {t} f = ap length f.buffer ∙ length-overlay at bs t
 
--- past the end a byte is lost
-pub lost : (at b : ℕ) (t : List ℕ) → length t ≤ at → t ≡ set t at b
-lost at b t h = sym (set_out t at b h)
-
--- a number of two bytes is its low byte and then its high byte
-pub put_two : {at r : ℕ} {t t' : List ℕ} (n : ℕ) → n < 65536 → Put at ((n % 256 ∷ []) ++ (n / 256 ∷ [])) t t' r → Put at (bytes_of 2 n) t t' r
-put_two n h f = rw (bytes_of-two n h) f
-
 -- ---- a put of which all fits
-
--- the test for it, within the tray and past its end
-pub room_within : (at n m : ℕ) → at ≤ m → leb n (m - at) ≡ leb (at + n) m
-room_within at n m h =
-    elim (dec_le (at + n) m) [
-      | yes l ↦ le-leb n (m - at) (omega arith) ∙ sym (le-leb (at + n) m l)
-      | no g ↦ lt-leb n (m - at) (omega arith) ∙ sym (lt-leb (at + n) m (omega arith))
-    ]
-
-pub room-past : (at n m : ℕ) → m < at → false ≡ leb (at + n) m
-room-past at n m h = sym (lt-leb (at + n) m (omega arith))
 
 -- what it says
 pub has_room : {r : Bool} (n m : ℕ) → r ≡ leb n m → r ≡ true → n ≤ m
@@ -147,12 +127,6 @@ put-more bs i h f g = rw (add-one i, take-suc bs i 0) (f then g)
 
 pub put_all : {at r i : ℕ} {bs t t' : List ℕ} → length bs ≤ i → Put at (take i bs) t t' r → Put at bs t t' r
 put_all {i = i} {bs = bs} h f = rw (take_all i bs h) at f
-
--- one byte more, where all of the list fits
-pub put_next : {at : ℕ} {t t' : List ℕ} (bs : List ℕ) (i : ℕ) → Put at (take i bs) t t' (at + i) → i < length bs → at + length bs ≤ length t → Put at (take (i + 1) bs) t (set t' (at + i) (get_or bs i 0)) (at + (i + 1))
-put_next {at} {t} {t'} bs i f h fits =
-    let same : length t' ≡ length t = put-length f in
-    put-more bs i h f (record { buffer = refl; place = omega (arith, f.small); small = omega (arith, f.small) })
 
 -- ---- a loop of puts
 

@@ -1,11 +1,9 @@
 -- How the fields of the trays are put: the head and then the payload, and which node and which warning a payload is of.
-use mathlib.Core.Path.{◌≡◌, refl}
-use mathlib.Core.Bool.{cond}
+use mathlib.Core.Path.{◌≡◌}
 use mathlib.Core.List.{List, [], ◌∷◌, ◌++◌}
 use Prim.Native.Nat.{ℕ, ◌+◌}
 use native.Mathlib.Omega.{arith}
 use lib.ListN.{length, length-append}
-use Rattle.tlv.specs.Lists.{is_empty}
 use Rattle.tlv.specs.Bytes.{bytes_of}
 use Rattle.tlv.specs.Fields.{encode}
 use Rattle.tlv.proofs.ByteLaws.{length-bytes_of}
@@ -25,15 +23,6 @@ put_four f g h k = f then g then h then k
 -- a byte that is known by what it equals, and then the others
 pub put-said : {at p q b b' : ℕ} {bs t t₁ t₂ : List ℕ} → b ≡ b' → Put at (b ∷ []) t t₁ p → Put p bs t₁ t₂ q → Put at (b' ∷ bs) t t₂ q
 put-said e f g = (rw e at f) then g
-
--- how many patterns there are
-pub pattern-none : (s : List ℕ) → length s ≡ 0 → ◌≡◌ {A = ℕ} 0 (cond (is_empty s) 0 1)
-pattern-none [] h = refl
-pattern-none (x ∷ s) h = absurd (omega arith)
-
-pub pattern-one : (s : List ℕ) → (length s ≡ 0 → ⊥) → ◌≡◌ {A = ℕ} 1 (cond (is_empty s) 0 1)
-pattern-one [] h = absurd (h refl)
-pattern-one (x ∷ s) h = refl
 
 -- the length of a warning's payload
 pub numbers-length : (kind a b : ℕ) → length ((kind ∷ []) ++ bytes_of 8 a ++ bytes_of 8 b) ≡ 17

@@ -1,12 +1,11 @@
 -- Bytes set to 0: one by one, what they then are, and tables that hold only 0.
 use mathlib.Core.Path.{◌≡◌, refl, sym, ap, ◌∙◌}
-use mathlib.Core.List.{List, ◌∷◌, append_assoc, append-nil}
+use mathlib.Core.List.{List, ◌∷◌, append_assoc}
 use Prim.Native.Nat.{ℕ, zero, suc, ◌+◌, ◌-◌, ◌≤◌}
-use native.Mathlib.Nat.{sub-zero}
 use native.Mathlib.Omega.{arith}
 use lib.ListN.{length, take, drop, replicate, length-drop, length-replicate}
 use borrow.Rule.Slice.PartMut.{put_mid}
-use lib.Seq.{length-take-le, drop-length}
+use lib.Seq.{length-take-le}
 use Rattle.tlv.specs.Bytes.{le, le_at}
 use Rattle.buffers.specs.Buffer.{overlay}
 use Rattle.buffers.specs.Table.{chunk, zeroed, Zeroed}
@@ -39,11 +38,6 @@ zeros_laid {w} {ys} {from} {to} e h l = record {
 
     over : put_mid from (to - from) w ys ≡ overlay from zeros w
     over = mid-overlay from (to - from) zeros ys w (e ∙ ap (λ (m : ℕ). replicate m 0) as-many) (sym (length-replicate (to - from) 0)) (omega arith)
-
--- the whole list
-pub zeroed-all : {w w' : List ℕ} → Zeroed w w' 0 (length w) → w' ≡ replicate (length w) 0
-unfolding zeroed
-zeroed-all {w} Z = Z.bytes ∙ rw (sub-zero, drop-length, append-nil)
 
 -- ---- what holds only 0
 

@@ -2,4 +2,5 @@ pub mod Output
 pub mod Reader
 pub mod Fits
 pub mod Buffer
+pub mod Search
 pub mod Table

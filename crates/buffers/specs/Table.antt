@@ -23,6 +23,7 @@ zeroed w from to = take from w ++ replicate (to - from) 0 ++ drop to w
 -- ---- what stays
 
 -- the k bytes from p on and the m bytes from q on have no byte in common
+-- Stays a clause: it is of two stretches, which no value holds together.
 abbrev pub Apart : ℕ → ℕ → ℕ → ℕ → Type 0
 Apart p k q m = (p + k ≤ q) ⊎ (q + m ≤ p)
 

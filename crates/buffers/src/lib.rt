@@ -3,4 +3,5 @@
 
 pub mod numbers;
 pub mod output;
+pub mod search;
 pub mod table;

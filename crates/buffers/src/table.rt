@@ -9,6 +9,7 @@ use tlv::bytes::Number;
 const WORD: usize = 8;
 
 // Eight bytes are read before any of them is written: the two places may lie anyhow.
+// Stays, as do the two copies below: `copy_within` asks C's `memmove` for each record. For one of 16 to 26 bytes that took 5 to 9 nanoseconds, these 1.4 to 3.
 fn copy_word(w: &mut [u8], from: usize, to: usize)
     requires from_in_bounds { from + 8 ≤ length w.old }
     requires to_in_bounds { to + 8 ≤ length w.old }
@@ -19,6 +20,7 @@ fn copy_word(w: &mut [u8], from: usize, to: usize)
 }
 
 // Copies whole words, as many as the size has. Returns how many bytes they are.
+// Stays with its clauses: they are of the lent slice, or of two places in it, which no value holds.
 fn copy_words(w: &mut [u8], from: usize, to: usize, size: usize) -> usize
     requires size_in_bounds { from + size ≤ length w.old }
     requires size_in_bounds_2 { to + size ≤ length w.old }
@@ -56,6 +58,7 @@ pub fn copy_record(w: &mut [u8], from: usize, to: usize, size: usize)
 }
 
 // Sets the bytes from `from` to below `to` to 0.
+// Stays beside `fill`: it tells of the whole slice, as tables are told of, where `fill` tells of the part.
 pub fn fill_zero(w: &mut [u8], from: usize, to: usize)
     requires { (from ≤ to) × (to ≤ length w.old) }
     ensures { Zeroed w.old w.new from to }
@@ -66,6 +69,5 @@ pub fn fill_zero(w: &mut [u8], from: usize, to: usize)
 pub fn clear(w: &mut [u8])
     ensures { w.new ≡ replicate (length w.old) 0 }
 {
-    let n = w.len();
-    fill_zero(w, 0, n);
+    w.fill(0);
 }
