@@ -89,9 +89,6 @@ module _ (s : List ℕ) (p tag : ℕ) (f : FieldSpan) (own : NextOwn s p tag (So
   pub own-less : length s - f.next < length s - p
   own-less = let w = own-within in omega arith
 
-  pub own-tag : f.tag ≡ tag
-  own-tag = own.stands.tagged
-
   module _ (h : Placed s p) where
     pub own-field : OwnField s tag f
     own-field = let w = own.stands in record { place = w.place; here = w.placed h; reads = w.reads; tagged = w.tagged; is = rw w.tagged at (is-step s w.place f w.reads) }

@@ -11,8 +11,13 @@ ghost use Rattle.access.specs.Access.{NextOwn, is_named, number_value, value_of,
 
 use tlv::bytes::Number;
 use tlv::fields::{FieldSpan, next_field};
-use tlv::shapes::{ROW_FIELD, ROW_WHOLE};
-use tlv::tags::{ATTRIBUTE_TAG, ENTRY_TAG, LIST_TAG, ROW_TAG, UNIT_TAG};
+use tlv::kinds::{
+    ADDRESS_KIND, FAILED_KIND, FILE_KIND, LINE_OFFSET_KIND, SECTION_OFFSET_KIND,
+    SECTION_REFERENCE_KIND, SUPPLEMENTARY_REFERENCE_KIND, TEXT_KIND, UNIT_REFERENCE_KIND,
+    UNSIGNED_KIND,
+};
+use tlv::shapes::{ATTRIBUTE_KIND, ATTRIBUTE_VALUE, ROW_FIELD, ROW_WHOLE};
+use tlv::tags::{ATTRIBUTE_TAG, ENTRY_TAG, FIELD_HEAD, LIST_TAG, ROW_TAG, UNIT_TAG};
 
 // The next field of a tag, from a place on, before the next entry or unit, or before the first row where `rows_end` says so.
 fn next_of(s: &[u8], p: usize, tag: u8, rows_end: bool) -> Option<FieldSpan>
@@ -59,7 +64,7 @@ pub fn next_row(s: &[u8], p: usize) -> Option<FieldSpan>
     if p < s.len() && s[p] == ROW_TAG {
         return Some(FieldSpan {
             tag: ROW_TAG,
-            start: p + 3,
+            start: p + FIELD_HEAD,
             len: ROW_FIELD,
             next: p + ROW_WHOLE,
         });
@@ -90,14 +95,14 @@ fn number_value(kind: u8, n: u64) -> Value
 {
     // Stays a match: the kinds are the sheet's own table.
     match kind {
-        1 => Value::Unsigned(n),
-        2 => Value::FileNumber(n),
-        4 => Value::UnitReference(n),
-        5 => Value::SectionReference(n),
-        6 => Value::SupplementaryReference(n),
-        7 => Value::SectionOffset(n),
-        8 => Value::LineOffset(n),
-        9 => Value::Address(n),
+        UNSIGNED_KIND => Value::Unsigned(n),
+        FILE_KIND => Value::FileNumber(n),
+        UNIT_REFERENCE_KIND => Value::UnitReference(n),
+        SECTION_REFERENCE_KIND => Value::SectionReference(n),
+        SUPPLEMENTARY_REFERENCE_KIND => Value::SupplementaryReference(n),
+        SECTION_OFFSET_KIND => Value::SectionOffset(n),
+        LINE_OFFSET_KIND => Value::LineOffset(n),
+        ADDRESS_KIND => Value::Address(n),
         _ => Value::Failed,
     }
 }
@@ -109,16 +114,16 @@ fn value_at(s: &[u8], start: usize, len: usize) -> Value
     requires s_value { attribute_shaped (take len (drop start s.now)) ≡ true }
     ensures { Says s.now (Some result) (value_of (attribute_of (take len (drop start s.now)))) }
 {
-    let kind = u8::read(s, start + 2);
-    let at = start + 3;
-    let left = len - 3;
-    if kind == 3 {
+    let kind = u8::read(s, start + ATTRIBUTE_KIND);
+    let at = start + ATTRIBUTE_VALUE;
+    let left = len - ATTRIBUTE_VALUE;
+    if kind == TEXT_KIND {
         return Value::Text {
             start: at,
             len: left,
         };
     }
-    if kind == 10 {
+    if kind == FAILED_KIND {
         return Value::Failed;
     }
     number_value(kind, u64::read(s, at))

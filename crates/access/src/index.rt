@@ -7,6 +7,7 @@ ghost use Rattle.buffers.specs.Table.{records};
 ghost use Rattle.access.specs.Index.{indexed_of, PutEntry, Indexed, Rising, lookup, lower_than, found_of, entry_record};
 
 use buffers::numbers::Written;
+use buffers::search::lower_bound;
 use tlv::bytes::Number;
 use tlv::fields::next_field;
 use tlv::tags::{ENTRY_TAG, UNIT_TAG};
@@ -27,6 +28,7 @@ fn put_entry(work: &mut [u8], p: usize, offset: u64, place: usize, unit: usize)
 }
 
 // Writes a record for each field 17 of an accepted sheet, and returns their number.
+// Stays apart from `index_units`: each entry's record needs the unit that was met last, so the two walks carry other things.
 pub fn index_entries(s: &[u8], work: &mut [u8], base: usize) -> usize
     requires placed { Placed s.now 0 }
     requires s_len_bound { length s.now < 2 ^ 32 }
@@ -65,18 +67,7 @@ fn lower_entry(work: &[u8], base: usize, n: usize, offset: u64) -> usize
     requires rising { Rising (records indexed_of 16 work.now base n) }
     ensures { result ≡ lower_than offset (records indexed_of 16 work.now base n) }
 {
-    // Stays a search by hand: the records lie as bytes in the work slice, which no method of slices reaches.
-    let mut lo: usize = 0;
-    let mut hi = n;
-    while lo < hi {
-        let mid = lo + (hi - lo) / 2;
-        if u64::read(work, base + mid * ENTRY_RECORD) < offset {
-            lo = mid + 1;
-        } else {
-            hi = mid;
-        }
-    }
-    lo
+    lower_bound(n, |i| u64::read(work, base + i * ENTRY_RECORD) < offset)
 }
 
 // The entry of an offset, of a table of n records.

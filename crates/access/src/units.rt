@@ -10,6 +10,7 @@ ghost use Rattle.access.specs.Units.{unit_of24, PutUnit, IndexedUnits, containin
 use buffers::numbers::Written;
 use tlv::bytes::Number;
 use tlv::fields::next_field;
+use tlv::shapes::UNIT_LENGTH;
 use tlv::tags::UNIT_TAG;
 
 // Bytes of a record of the table.
@@ -26,6 +27,7 @@ fn put_unit(work: &mut [u8], p: usize, offset: u64, size: u64, place: usize)
 }
 
 // Writes a record for each field 10 of an accepted sheet, and returns their number.
+// Stays apart from `index_entries`: an entry's record needs the unit that was met last, which this walk would carry for nothing.
 pub fn index_units(s: &[u8], work: &mut [u8], base: usize) -> usize
     requires placed { Placed s.now 0 }
     requires s_in_bounds { base + unit_record * length (unit_places 0 (fields s.now)) ≤ length work.old }
@@ -37,7 +39,7 @@ pub fn index_units(s: &[u8], work: &mut [u8], base: usize) -> usize
     while let Some(field) = next_field(s, p) {
         if field.tag == UNIT_TAG {
             let offset = u64::read(s, field.start);
-            let size = u64::read(s, field.start + 8);
+            let size = u64::read(s, field.start + UNIT_LENGTH);
             put_unit(work, base + n * UNIT_RECORD, offset, size, p);
             n += 1;
         }

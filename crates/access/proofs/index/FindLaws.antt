@@ -1,9 +1,9 @@
--- A search in a table of entries whose offsets ascend: the two steps of it, and what it finds.
+-- A search in a table of entries whose offsets ascend: where it turns, and what it finds.
 use mathlib.Core.Path.{◌≡◌, refl, sym, ap, ◌∙◌}
 use mathlib.Core.Bool.{Bool, true, false, cond}
 use mathlib.Core.List.{List, [], ◌∷◌}
 use mathlib.Core.Option.{Option, none, some}
-use Prim.Native.Nat.{ℕ, zero, suc, ◌+◌, ◌*◌, ◌<◌, ◌≤◌}
+use Prim.Native.Nat.{ℕ, zero, suc, ◌+◌, ◌-◌, ◌*◌, ◌<◌, ◌≤◌}
 use native.Mathlib.Omega.{arith}
 use lib.Dec.{eqb}
 use lib.ListN.{length, drop, get_or}
@@ -80,7 +80,7 @@ lookup-hit o k (e ∷ es) r =
 -- ---- a turn of the search: entry i of the table has the offset v
 
 module _ (w : List ℕ) (base n o : ℕ) where
-  pub lower-most : lower_than o (records indexed_of 16 w base n) ≤ n
+  lower-most : lower_than o (records indexed_of 16 w base n) ≤ n
   lower-most = omega (arith, lower-length o (records indexed_of 16 w base n), records-length indexed_of 16 w base n)
 
   module _ (i v : ℕ) (h : i < n) (is : v ≡ le_at 8 w (base + i * 16)) where
@@ -91,11 +91,20 @@ module _ (w : List ℕ) (base n o : ℕ) where
     in_table : i < length (records indexed_of 16 w base n)
     in_table = rw (records-length indexed_of 16 w base n) h
 
-    pub go_up : Rising (records indexed_of 16 w base n) → v < o → i + 1 ≤ lower_than o (records indexed_of 16 w base n)
+    go_up : Rising (records indexed_of 16 w base n) → v < o → i + 1 ≤ lower_than o (records indexed_of 16 w base n)
     go_up r l = omega (arith, above o (indexed_of []) 0 (records indexed_of 16 w base n) i r in_table (rw offset-is l))
 
-    pub go_down : o ≤ v → lower_than o (records indexed_of 16 w base n) ≤ i
+    go_down : o ≤ v → lower_than o (records indexed_of 16 w base n) ≤ i
     go_down l = not-above o (indexed_of []) (records indexed_of 16 w base n) i in_table (rw offset-is l)
+
+  -- a search that turns at m found the number of lower ones
+  pub lower-turn : (m : ℕ) → Rising (records indexed_of 16 w base n) → m ≤ n → (0 < m → le_at 8 w (base + (m - 1) * 16) < o) → (m < n → o ≤ le_at 8 w (base + m * 16))
+      → m ≡ lower_than o (records indexed_of 16 w base n)
+  lower-turn m r le passed next =
+      let most = lower-most in
+      let up : m ≤ lower_than o (records indexed_of 16 w base n) = by_less _ 0 m (λ h. omega (arith, go_up (m - 1) _ (omega arith) refl r (passed h))) (λ h. omega arith) in
+      let down : lower_than o (records indexed_of 16 w base n) ≤ m = by_less _ m n (λ h. go_down m _ h refl (next h)) (λ h. omega arith) in
+      omega arith
 
   -- ---- what is found: i is the place of o in the table
 

@@ -1,5 +1,4 @@
 -- `access::next_of` meets its contract. The loop's invariant: the payloads of the tag from here on are those from p on.
-use Rattle.tlv.proofs.FieldLaws.{next-less}
 use Rattle.access.proofs.OwnLaws.{own-end, own-over, own-found, own_row, own-next}
 use Rattle.access.proofs.access.next_of.Goals as goal
 
@@ -11,9 +10,6 @@ returns-then-field-tag c = search (own-found, c.in-Some.ensures)
 
 pub returns-then-field-eq-ROW_TAG : goal.returns-then-field-eq-ROW_TAG
 returns-then-field-eq-ROW_TAG c = search (own_row, c.in-Some.ensures, c.requires)
-
-pub loop-field-smaller : goal.loop-field-smaller
-loop-field-smaller c = search (next-less, c.in-Some.ensures)
 
 pub loop-field-preserved : goal.loop-field-preserved
 loop-field-preserved c = search (own-next, c.in-Some.ensures)

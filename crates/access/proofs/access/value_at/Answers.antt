@@ -14,8 +14,8 @@ read-requires c = search number-inside
 pub returns : goal.returns
 returns c = search says-number
 
-pub returns-then-kind-eq10 : goal.returns-then-kind-eq10
-returns-then-kind-eq10 c = search says-failed
+pub returns-then-kind-eq-FAILED_KIND : goal.returns-then-kind-eq-FAILED_KIND
+returns-then-kind-eq-FAILED_KIND c = search says-failed
 
-pub returns-then-kind-eq3 : goal.returns-then-kind-eq3
-returns-then-kind-eq3 c = search says-text
+pub returns-then-kind-eq-TEXT_KIND : goal.returns-then-kind-eq-TEXT_KIND
+returns-then-kind-eq-TEXT_KIND c = search says-text

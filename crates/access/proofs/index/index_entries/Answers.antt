@@ -2,7 +2,6 @@
 use Prim.Native.Nat.{◌+◌, ◌*◌, ◌^◌, ◌≤◌, ◌<◌}
 use native.Mathlib.Omega.{arith}
 use lib.ListN.{length}
-use Rattle.tlv.proofs.FieldLaws.{next-less}
 use Rattle.access.proofs.IndexLaws.{indexing-start, indexing_end, unit-read, entry_read, sum_fits, entry-room, turn-unit, turn-entry, turn-other}
 use Rattle.access.proofs.index.index_entries.Goals as goal
 
@@ -11,9 +10,6 @@ returns c = search (indexing_end, c.in_default.ensures)
 
 pub read-offset-requires : goal.read-offset-requires
 read-offset-requires c = search (unit-read, c.in-Some.ensures)
-
-pub loop-field-smaller-then-field-eq-UNIT_TAG : goal.loop-field-smaller-then-field-eq-UNIT_TAG
-loop-field-smaller-then-field-eq-UNIT_TAG c = search (next-less, c.in-Some.ensures)
 
 pub loop-field-preserved-then-field-eq-UNIT_TAG : goal.loop-field-preserved-then-field-eq-UNIT_TAG
 loop-field-preserved-then-field-eq-UNIT_TAG c = search (turn-unit, c.in-Some.ensures)
@@ -50,14 +46,8 @@ pub overflow_add-n : goal.overflow_add-n
 overflow_add-n c = let room : c.args.base + c.loop-field.n * 16 + 16 ≤ length c.loop-field.work = search (entry-room, c.in-Some.ensures) in
     omega arith
 
-pub loop-field-smaller-then-field-eq-ENTRY_TAG : goal.loop-field-smaller-then-field-eq-ENTRY_TAG
-loop-field-smaller-then-field-eq-ENTRY_TAG c = search (next-less, c.in-Some.ensures)
-
 pub loop-field-preserved-then-field-eq-ENTRY_TAG : goal.loop-field-preserved-then-field-eq-ENTRY_TAG
 loop-field-preserved-then-field-eq-ENTRY_TAG c = search (turn-entry, c.in-Some.ensures)
-
-pub loop-field-smaller : goal.loop-field-smaller
-loop-field-smaller c = search (next-less, c.in-Some.ensures)
 
 pub loop-field-preserved : goal.loop-field-preserved
 loop-field-preserved c = search (turn-other, c.in-Some.ensures)

@@ -2,7 +2,6 @@
 use Prim.Native.Nat.{◌+◌, ◌*◌, ◌≤◌}
 use native.Mathlib.Omega.{arith}
 use lib.ListN.{length}
-use Rattle.tlv.proofs.FieldLaws.{next-less}
 use Rattle.access.proofs.UnitsLaws.{listing_start, listing-end, offset_read, length-read, unit-room, turn-listed, turn-passed}
 use Rattle.access.proofs.units.index_units.Goals as goal
 
@@ -34,14 +33,8 @@ pub overflow_add-n : goal.overflow_add-n
 overflow_add-n c = let room : c.args.base + c.loop-field.n * 24 + 24 ≤ length c.loop-field.work = search (unit-room, c.in-Some.ensures) in
     omega arith
 
-pub loop-field-smaller-then-field-eq-UNIT_TAG : goal.loop-field-smaller-then-field-eq-UNIT_TAG
-loop-field-smaller-then-field-eq-UNIT_TAG c = search (next-less, c.in-Some.ensures)
-
 pub loop-field-preserved-then-field-eq-UNIT_TAG : goal.loop-field-preserved-then-field-eq-UNIT_TAG
 loop-field-preserved-then-field-eq-UNIT_TAG c = search (turn-listed, c.in-Some.ensures)
-
-pub loop-field-smaller : goal.loop-field-smaller
-loop-field-smaller c = search (next-less, c.in-Some.ensures)
 
 pub loop-field-preserved : goal.loop-field-preserved
 loop-field-preserved c = search (turn-passed, c.in-Some.ensures)
