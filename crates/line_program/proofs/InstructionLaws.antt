@@ -5,20 +5,22 @@ use mathlib.Core.Logic.{◌⊎◌, ⊎_elim}
 use mathlib.Core.List.{List, [], ◌∷◌}
 use Prim.Native.Nat.{ℕ, zero, suc, ◌+◌, ◌-◌, ◌^◌, ◌≤◌, ◌<◌}
 use native.Mathlib.Omega.{arith}
-use borrow.Author.Tests.{lt-ltb, le-ltb, le-leb, lt-leb, eq-eqb, ne_eqb}
+use borrow.Author.Tests.{lt-ltb, le-ltb, le-leb, lt-leb, eq-eqb, ne_eqb, leb-true}
 use lib.Dec.{leb, ltb, eqb}
-use lib.ListN.{length, get_or, drop, length-drop, drop_of_length-le}
+use lib.ListN.{length, get_or, take, drop, length-drop, drop_of_length-le}
 use lib.Seq.{drop-drop}
 use Rattle.tlv.specs.Outcome.{Outcome, refused, done, ◌>>=◌}
+use Rattle.tlv.proofs.OutcomeLaws.{done-is, refused-not}
 use Rattle.std.specs.Prelude.{Result, Ok, Err}
 use Rattle.tlv.specs.declared.refusal.Refusal.{Refusal}
 use Rattle.line_program.specs.declared.operand.Operand.{Operand}
 use Rattle.line_program.specs.declared.operand.Skipped.{Skipped}
-use Rattle.line_program.specs.Standard.{OperandKind, half, Passed}
-use Rattle.line_program.specs.Program.{bare, counted_kinds, operand_kinds, skip_operand, skip_operands, take_line_bytes, extended_body, extended, skip}
-use Rattle.line_program.specs.Scan.{over, kinds_by, Reads, Passes, SkipsTo}
+use Rattle.line_program.specs.declared.lines.Extended.{Extended}
+use Rattle.line_program.specs.Standard.{Operand as Number, OperandKind, half, Passed}
+use Rattle.line_program.specs.Program.{bare, counted_kinds, operand_kinds, skip_operand, skip_operands, place_of, take_line_bytes, uleb, extended_body, extended, skip}
+use Rattle.line_program.specs.Scan.{over, kinds_by, Reads, ReadsExtended, Passes, SkipsTo, ExtendedParts, extended_parts, read_extended}
 use Rattle.line_program.proofs.UlebLaws.{drop_at}
-use Rattle.line_program.proofs.SkipLaws.{passes-earlier, passes-as, skips-as}
+use Rattle.line_program.proofs.SkipLaws.{passes-as, skips-as}
 
 -- ---- n bytes
 
@@ -47,46 +49,99 @@ module _ (s : List ℕ) (n at : ℕ) (h : at ≤ length s) where
 
 -- ---- an extended instruction
 
-pub payload-none : (s : List ℕ) (n at : ℕ) → length s ≤ at → Passes s (at - 1) (Err Refusal.CutExtended) (extended_body (length s) n (drop at s))
-unfolding extended_body
-payload-none s n at h = record { is = sym (ap (extended_body (length s) n) (drop_of_length-le s {i = at} h)); within = tt }
-
-abbrev ending : Bool → List ℕ → Outcome Passed
-ending e s = done (record { ends = e; rest = s })
-
--- the bytes after the opcode were passed over
-module _ (s : List ℕ) (n at : ℕ) (h : at < length s) where
-  body_at : {x : Outcome (List ℕ)} → x ≡ take_line_bytes (length s) (n - 1) (drop (at + 1) s)
-      → extended_body (length s) n (drop at s) ≡ (x >>= ending (eqb (get_or s at 0) 1))
-  unfolding extended_body
-  body_at {x} e = rw e (ap (extended_body (length s) n) (drop_at s at (get_or s at 0) h refl))
-
-  pub payload-err : {f : Refusal} → SkipsTo s (at + 1) (Err f) (taken s (n - 1) (at + 1)) → Passes s (at - 1) (Err f) (extended_body (length s) n (drop at s))
-  unfolding ◌>>=◌
-  payload-err Q = record { is = sym (body_at Q.is); within = tt }
-
-  module _ {q : ℕ} (Q : SkipsTo s (at + 1) (Ok q) (taken s (n - 1) (at + 1))) where
-    pub payload-end : 0 < at → get_or s at 0 ≡ 1 → Passes s (at - 1) (Ok (Skipped.Ended q)) (extended_body (length s) n (drop at s))
-    unfolding ◌>>=◌
-    payload-end z k = record { is = sym (rw (eq-eqb (get_or s at 0) 1 k) at (body_at Q.is)); within = (omega (arith, Q.within.0), Q.within.1) }
-
-    pub payload-to : (get_or s at 0 ≡ 1 → ⊥) → Passes s (at - 1) (Ok (Skipped.To q)) (extended_body (length s) n (drop at s))
-    unfolding ◌>>=◌
-    payload-to k = record { is = sym (rw (ne_eqb (get_or s at 0) 1 k) at (body_at Q.is)); within = (omega (arith, Q.within.0), Q.within.1) }
+-- where the bytes that were taken end
+taken-end : (s : List ℕ) (n at next : ℕ) → at ≤ length s → next ≤ length s → done (drop next s) ≡ taken s n at → next ≡ at + n
+unfolding take_line_bytes
+taken-end s n at next h k is = go (leb n (length (drop at s))) refl (ltb (place_of (length s) (drop at s) + n) (2 ^ 64)) is
+  where
+    go : (b : Bool) → leb n (length (drop at s)) ≡ b → (c : Bool)
+        → done (drop next s) ≡ cond b (done (drop n (drop at s))) (cond c (refused 7) (refused 12)) → next ≡ at + n
+    go true f c is =
+        let z : length (drop next s) ≡ length (drop n (drop at s)) = ap (λ (l : List ℕ). length l) (done-is is) in
+        let most = leb-true n (length (drop at s)) f in
+        omega (arith, length-drop next s, length-drop at s, length-drop n (drop at s))
+    go false f true is = refused-not (sym is)
+    go false f false is = refused-not (sym is)
 
 module _ {s : List ℕ} {at : ℕ} where
-  pub extended-err : {f : Refusal} → Reads s at (Err f) → Passes s at (Err f) (extended (length s) (drop at s))
-  unfolding extended ◌>>=◌
-  extended-err Q = record { is = rw (← Q.is); within = tt }
+  pub read-fault : {f : Refusal} → Reads s at (Err f) → ReadsExtended s at (Err f)
+  unfolding read_extended ◌>>=◌
+  read-fault R = record { is = rw (← R.is) refl; within = tt }
 
-  pub extended-zero : {o : Operand} → Reads s at (Ok o) → o.value ≡ 0 → Passes s at (Err Refusal.ZeroExtended) (extended (length s) (drop at s))
-  unfolding extended ◌>>=◌
-  extended-zero {o} Q z = record { is = rw (← Q.is, eq-eqb o.value 0 z); within = tt }
+  module _ {o : Operand} (R : Reads s at (Ok o)) where
+    pub read-zero : o.value ≡ 0 → ReadsExtended s at (Err Refusal.ZeroExtended)
+    unfolding read_extended ◌>>=◌
+    read-zero z = record { is = rw (← R.is, eq-eqb o.value 0 z) refl; within = tt }
 
-  pub extended-payload : {o : Operand} {q : Result Skipped Refusal} → Reads s at (Ok o) → (o.value ≡ 0 → ⊥)
-      → Passes s (o.next - 1) q (extended_body (length s) o.value (drop o.next s)) → Passes s at q (extended (length s) (drop at s))
-  unfolding extended ◌>>=◌
-  extended-payload {o} {q} Q z P = passes-as (rw (← Q.is, ne_eqb o.value 0 z)) (passes-earlier at q P (omega (arith, Q.within.0)))
+    module _ (n : (o.value ≡ 0 → ⊥)) where
+      parts_at : read_extended (length s) (drop at s) ≡ extended_parts (length s) o.value (drop o.next s)
+      unfolding read_extended ◌>>=◌
+      parts_at = rw (← R.is, ne_eqb o.value 0 n) refl
+
+      pub read-cut : length s ≤ o.next → ReadsExtended s at (Err Refusal.CutExtended)
+      unfolding extended_parts
+      read-cut h = record { is = sym (parts_at ∙ ap (extended_parts (length s) o.value) (drop_of_length-le s {i = o.next} h)); within = tt }
+
+      module _ (h : o.next < length s) where
+        body_at : extended_parts (length s) o.value (drop o.next s)
+            ≡ (taken s (o.value - 1) (o.next + 1)
+            >>= λ rest. done (record { opcode = get_or s o.next 0; operand = take (o.value - 1) (drop (o.next + 1) s); rest = rest }))
+        unfolding extended_parts
+        body_at = ap (extended_parts (length s) o.value) (drop_at s o.next (get_or s o.next 0) h refl)
+
+        pub read-past : {f : Refusal} → SkipsTo s (o.next + 1) (Err f) (taken s (o.value - 1) (o.next + 1)) → ReadsExtended s at (Err f)
+        unfolding ◌>>=◌
+        read-past Q = record { is = rw (parts_at, body_at, ← Q.is) refl; within = tt }
+
+        pub read-all : {next : ℕ} → SkipsTo s (o.next + 1) (Ok next) (taken s (o.value - 1) (o.next + 1))
+            → ReadsExtended s at (Ok (record { opcode = get_or s o.next 0; from = o.next + 1; next = next }))
+        unfolding ◌>>=◌
+        read-all {next} Q =
+            let z : next - (o.next + 1) ≡ o.value - 1 = omega (arith, taken-end s (o.value - 1) (o.next + 1) next (omega arith) Q.within.1 Q.is) in
+            record {
+              is = rw (parts_at, body_at, ← Q.is, z) refl;
+              within = (omega (arith, R.within.0), Q.within.0, Q.within.1);
+            }
+
+-- of an instruction that is read it is passed on whether it ends the sequence
+abbrev passed : ExtendedParts → Passed
+passed x = record { ends = eqb x.opcode 1; rest = x.rest }
+
+extended-read : (whole : ℕ) (s : List ℕ) → extended whole s ≡ (read_extended whole s >>= λ x. done (passed x))
+unfolding extended read_extended extended_body extended_parts ◌>>=◌
+extended-read whole s = from_length (uleb s)
+  where
+    from_bytes : (n : ℕ) (l : List ℕ) → extended_body whole n l ≡ (extended_parts whole n l >>= λ x. done (passed x))
+    from_bytes n [] = refl
+    from_bytes n (b ∷ l) = go (take_line_bytes whole (n - 1) l)
+      where
+        go : (x : Outcome (List ℕ)) → (x >>= λ rest. done (record { ends = eqb b 1; rest = rest }))
+            ≡ ((x >>= λ rest. done (record { opcode = b; operand = take (n - 1) l; rest = rest })) >>= λ y. done (passed y))
+        go (refused k) = refl
+        go (done rest) = refl
+
+    from_length : (x : Outcome Number) → (x >>= λ o. cond (eqb o.value 0) (refused 9) (extended_body whole o.value o.rest))
+        ≡ ((x >>= λ o. cond (eqb o.value 0) (refused 9) (extended_parts whole o.value o.rest)) >>= λ y. done (passed y))
+    from_length (refused k) = refl
+    from_length (done o) = go (eqb o.value 0)
+      where
+        go : (b : Bool) → cond b (refused 9) (extended_body whole o.value o.rest) ≡ (cond b (refused 9) (extended_parts whole o.value o.rest) >>= λ y. done (passed y))
+        go true = refl
+        go false = from_bytes o.value o.rest
+
+module _ {s : List ℕ} {at : ℕ} where
+  pub extended-fault : {f : Refusal} → ReadsExtended s at (Err f) → Passes s at (Err f) (extended (length s) (drop at s))
+  unfolding ◌>>=◌
+  extended-fault R = record { is = rw (extended-read, ← R.is) refl; within = tt }
+
+  module _ {x : Extended} (R : ReadsExtended s at (Ok x)) where
+    pub extended-end : x.opcode ≡ 1 → Passes s at (Ok (Skipped.Ended x.next)) (extended (length s) (drop at s))
+    unfolding ◌>>=◌
+    extended-end e = record { is = rw (extended-read, ← R.is, eq-eqb x.opcode 1 e) refl; within = (omega (arith, R.within.0, R.within.1), R.within.2) }
+
+    pub extended-to : (x.opcode ≡ 1 → ⊥) → Passes s at (Ok (Skipped.To x.next)) (extended (length s) (drop at s))
+    unfolding ◌>>=◌
+    extended-to n = record { is = rw (extended-read, ← R.is, ne_eqb x.opcode 1 n) refl; within = (omega (arith, R.within.0, R.within.1), R.within.2) }
 
 -- ---- a standard instruction
 

@@ -1,26 +1,20 @@
 -- Passing over operands: what a place and its outcome promise, and one law for each way through a function.
 use mathlib.Core.Path.{◌≡◌, refl, sym, ap, ◌∙◌}
-use mathlib.Core.Bool.{Bool, true, false, cond, not, and-false}
+use mathlib.Core.Bool.{Bool, true, false}
 use mathlib.Core.List.{List, [], ◌∷◌}
-use Prim.Native.Nat.{ℕ, zero, suc, ◌+◌, ◌-◌, ◌*◌, ◌%◌, ◌≤◌, ◌<◌}
+use Prim.Native.Nat.{ℕ, zero, suc, ◌+◌, ◌-◌, ◌%◌, ◌≤◌, ◌<◌}
 use native.Mathlib.Omega.{arith}
-use borrow.Author.Tests.{lt-ltb, le-ltb, lt-leb, le-leb, ltb-true, ltb-false, eq-eqb, ne_eqb, not-true, not-false}
-use lib.Dec.{leb, ltb, eqb}
+use borrow.Author.Tests.{lt-ltb, le-ltb, eq-eqb}
 use lib.ListN.{length, get_or, drop, replicate, drop_of_length-le}
 use Rattle.tlv.specs.Outcome.{Outcome, refused, done, ◌>>=◌}
 use Rattle.std.specs.Prelude.{Result, Ok, Err}
 use Rattle.line_program.specs.declared.operand.Skipped.{Skipped}
-use Rattle.line_program.specs.Standard.{Operand as Number, SignedOperand, unsigned, signed, Passed}
-use Rattle.line_program.specs.Program.{uleb_within, uleb, is_sign, signed_byte, sleb_within, sleb, counted_kinds, skip_operand, skip_operands}
+use Rattle.line_program.specs.Standard.{unsigned, signed, Passed}
+use Rattle.line_program.specs.Program.{counted_kinds, skip_operand, skip_operands}
 use Rattle.tlv.specs.declared.refusal.Refusal.{Refusal}
 use Rattle.line_program.specs.Passing.{pass_within}
 use Rattle.line_program.specs.Scan.{over, Passes, SkipsTo}
 use Rattle.line_program.proofs.UlebLaws.{drop_at}
-
-pub passes-earlier : {s : List ℕ} {p : ℕ} {o : Outcome Passed} (q : ℕ) (r : Result Skipped Refusal) → Passes s p r o → q ≤ p → Passes s q r o
-passes-earlier q (Ok (Skipped.To n)) P h = record { is = P.is; within = (omega (arith, P.within.0), P.within.1) }
-passes-earlier q (Ok (Skipped.Ended n)) P h = record { is = P.is; within = (omega (arith, P.within.0), P.within.1) }
-passes-earlier q (Err e) P h = record { is = P.is; within = tt }
 
 -- the same of another outcome that is the same
 pub passes-as : {s : List ℕ} {p : ℕ} {r : Result Skipped Refusal} {o u : Outcome Passed} → u ≡ o → Passes s p r o → Passes s p r u

@@ -1,5 +1,6 @@
 -- Contract. What the functions of a line program promise: a place stands for the bytes from there on.
-use Rattle.std.specs.Prelude.{ℕ, Result, Ok, Err, Option, Some, None, ◌+◌, ◌*◌, ◌/◌, ◌^◌, ◌≤◌, ◌<◌, ◌≡◌, true, false, List, [], length, drop}
+use Rattle.std.specs.Prelude.{ℕ, Result, Ok, Err, Option, Some, None, ◌+◌, ◌*◌, ◌/◌, ◌^◌, ◌≤◌, ◌<◌, ◌≡◌, true, false}
+use Rattle.std.specs.Prelude.{◌-◌, List, [], ◌∷◌, length, take, drop, cond, eqb, slice_range}
 use Rattle.tlv.specs.Bytes.{le}
 use Rattle.tlv.specs.Refusals.{number_of}
 use Rattle.tlv.specs.Outcome.{Outcome, refused, done, ◌>>=◌}
@@ -7,10 +8,11 @@ use Rattle.tlv.specs.Model.{LineHeader}
 use Rattle.buffers.specs.Table.{records, Kept}
 use Rattle.line_program.specs.declared.operand.Operand.{Operand}
 use Rattle.line_program.specs.declared.operand.Skipped.{Skipped}
+use Rattle.line_program.specs.declared.lines.Extended.{Extended}
 use Rattle.tlv.specs.declared.refusal.Refusal.{Refusal}
 use Rattle.line_program.specs.declared.lines.Header.{Header}
 use Rattle.line_program.specs.Standard.{Operand as Number, OperandKind, Passed}
-use Rattle.line_program.specs.Program.{uleb, operand_kinds}
+use Rattle.line_program.specs.Program.{uleb, operand_kinds, take_line_bytes}
 
 -- ---- an operand
 
@@ -26,6 +28,34 @@ OperandWithin s at (Err e) = Unit
 pub record Reads (s : List ℕ) (at : ℕ) (r : Result Operand Refusal) : Type 0 where
   pub is : operand_of s r ≡ uleb (drop at s)
   pub within : OperandWithin s at r
+
+-- ---- an extended instruction
+
+-- as it is read, once for the scan and for the machine: its opcode, the bytes of its operand, and what follows it
+pub record ExtendedParts : Type 0 where
+  pub opcode : ℕ
+  pub operand : List ℕ
+  pub rest : List ℕ
+
+unfoldable pub extended_parts : ℕ → ℕ → List ℕ → Outcome ExtendedParts
+extended_parts whole n [] = refused 8
+extended_parts whole n (b ∷ s) = take_line_bytes whole (n - 1) s >>= λ rest. done (record { opcode = b; operand = take (n - 1) s; rest = rest })
+
+unfoldable pub read_extended : ℕ → List ℕ → Outcome ExtendedParts
+read_extended whole s = uleb s >>= λ o. cond (eqb o.value 0) (refused 9) (extended_parts whole o.value o.rest)
+
+-- what one that the code hands out means
+abbrev pub extended_in : List ℕ → Result Extended Refusal → Outcome ExtendedParts
+extended_in s (Ok x) = done (record { opcode = x.opcode; operand = slice_range s x.from x.next; rest = drop x.next s })
+extended_in s (Err e) = refused (number_of e)
+
+abbrev pub ExtendedWithin : List ℕ → ℕ → Result Extended Refusal → Type 0
+ExtendedWithin s at (Ok x) = (at + 2 ≤ x.from) × (x.from ≤ x.next) × (x.next ≤ length s)
+ExtendedWithin s at (Err e) = Unit {0}
+
+pub record ReadsExtended (s : List ℕ) (at : ℕ) (r : Result Extended Refusal) : Type 0 where
+  pub is : extended_in s r ≡ read_extended (length s) (drop at s)
+  pub within : ExtendedWithin s at r
 
 -- ---- an instruction that is passed over
 

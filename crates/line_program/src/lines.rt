@@ -1,8 +1,8 @@
 // Line programs (the Rust's convert/dwarf/lines.rs): operands, skipping, where sequences begin. The faults are document 01's refusals 7 to 12.
 ghost use Rattle.std.specs.Prelude.{◌≡◌, ◌+◌, ◌*◌, ◌-◌, ◌/◌, ◌≤◌, ◌<◌, [], length, get_or, drop};
-ghost use Rattle.line_program.specs.Program.{skip_operands, extended_body, extended, skip};
+ghost use Rattle.line_program.specs.Program.{skip_operands, extended, skip};
 ghost use Rattle.line_program.specs.Program.{scan_line_sequence_offsets, initial_length, version_bytes, program_offset, line_sequence_offsets};
-ghost use Rattle.line_program.specs.Scan.{Passes, SkipsTo, Scanned, OffsetIs, kinds_by, header_with, offset_record, sequence_least};
+ghost use Rattle.line_program.specs.Scan.{ReadsExtended, Passes, SkipsTo, Scanned, OffsetIs, kinds_by, header_with, offset_record, sequence_least};
 
 use crate::operand::{Skipped, read_line_uleb, skip_counted, take_line_bytes};
 use buffers::numbers::Written;
@@ -23,31 +23,45 @@ pub struct Header {
     pub opcode_base: u8,
 }
 
-// Passes over the n bytes of an extended instruction, of which the first is its opcode, at `at`; a byte of the length stands before it.
-fn skip_payload(program: &[u8], n: u64, at: usize) -> Result<Skipped, Refusal>
-    requires { (0 < at) × (at ≤ length program.now) × (0 < n) }
-    ensures { Passes program.now (at - 1) result (extended_body (length program.now) n (drop at program.now)) }
+// The opcode of an extended instruction that ends a sequence (DW_LNE_end_sequence), and of one that sets the address (DW_LNE_set_address).
+pub const END_SEQUENCE: u8 = 1;
+
+pub const SET_ADDRESS: u8 = 2;
+
+// An extended instruction: its opcode, and from where to below where its operand stands, which ends it.
+#[derive(Clone, Copy, Debug, PartialEq, Eq, Hash)]
+pub struct Extended {
+    pub opcode: u8,
+    pub from: usize,
+    pub next: usize,
+}
+
+// What follows the zero byte of an extended instruction: a length, and so many bytes, of which the first is the opcode.
+pub fn read_extended(program: &[u8], at: usize) -> Result<Extended, Refusal>
+    ensures { ReadsExtended program.now at result }
 {
-    if program.len() <= at {
+    let length = read_line_uleb(program, at)?;
+    if length.value == 0 {
+        return Err(Refusal::ZeroExtended);
+    }
+    if program.len() <= length.next {
         return Err(Refusal::CutExtended);
     }
-    let opcode = program[at];
-    let next = take_line_bytes(program, n - 1, at + 1)?;
-    if opcode == 1 {
-        return Ok(Skipped::Ended(next));
-    }
-    Ok(Skipped::To(next))
+    let opcode = program[length.next];
+    let from = length.next + 1;
+    let next = take_line_bytes(program, length.value - 1, from)?;
+    Ok(Extended { opcode, from, next })
 }
 
 // Passes over what follows the zero byte of an extended instruction.
 fn skip_extended(program: &[u8], at: usize) -> Result<Skipped, Refusal>
     ensures { Passes program.now at result (extended (length program.now) (drop at program.now)) }
 {
-    let length = read_line_uleb(program, at)?;
-    if length.value == 0 {
-        return Err(Refusal::ZeroExtended);
+    let instruction = read_extended(program, at)?;
+    if instruction.opcode == END_SEQUENCE {
+        return Ok(Skipped::Ended(instruction.next));
     }
-    skip_payload(program, length.value, length.next)
+    Ok(Skipped::To(instruction.next))
 }
 
 // How many operands a header gives to an opcode: none to one past its table.
@@ -55,10 +69,7 @@ pub fn operand_count(lengths: &[u8], opcode: u8) -> u8
     requires { 0 < opcode }
     ensures { result ≡ get_or lengths.now (opcode - 1) 0 }
 {
-    match lengths.get((opcode - 1) as usize) {
-        Some(&n) => n,
-        None => 0,
-    }
+    lengths.get((opcode - 1) as usize).copied().unwrap_or(0)
 }
 
 // Passes over what follows a standard opcode.
@@ -122,10 +133,9 @@ pub fn scan_line_sequence_offsets(
             }
             Skipped::Ended(next) => {
                 from.write(work, base + n * OFFSET_RECORD);
-                let Some(after) = program_offset.checked_add(next as u64) else {
-                    return Err(Refusal::Overflow);
-                };
-                from = after;
+                from = program_offset
+                    .checked_add(next as u64)
+                    .ok_or(Refusal::Overflow)?;
                 n += 1;
                 p = next;
             }
@@ -175,8 +185,6 @@ pub fn line_sequence_offsets(
     ensures { Scanned program.now work.old work.new base result
         (line_sequence_offsets (header_with header lengths.now) program.now) }
 {
-    let Some(offset) = header.program_offset() else {
-        return Err(Refusal::Overflow);
-    };
+    let offset = header.program_offset().ok_or(Refusal::Overflow)?;
     scan_line_sequence_offsets(program, lengths, header.opcode_base, offset, work, base)
 }

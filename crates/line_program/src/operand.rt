@@ -131,6 +131,7 @@ fn skip_operand<B: TenthByte>(program: &[u8], at: usize) -> Result<usize, Refusa
     }
 }
 
+// Stays a clause: the place moves with each instruction, so a type of a program and a place in it would be made anew at each step.
 // Passes over n unsigned operands.
 pub fn skip_operands(program: &[u8], n: u8, at: usize) -> Result<usize, Refusal>
     requires { at ≤ length program.now }
@@ -159,9 +160,7 @@ pub fn take_line_bytes(program: &[u8], n: u64, at: usize) -> Result<usize, Refus
     requires { at ≤ length program.now }
     ensures { SkipsTo program.now at result (take_line_bytes (length program.now) n (drop at program.now)) }
 {
-    let Some(end) = (at as u64).checked_add(n) else {
-        return Err(Refusal::Overflow);
-    };
+    let end = (at as u64).checked_add(n).ok_or(Refusal::Overflow)?;
     if (program.len() as u64) < end {
         return Err(Refusal::Cut);
     }

@@ -7,14 +7,6 @@ use Rattle.line_program.proofs.operand.read_line_uleb.Goals as goal
 pub loop-p-init : goal.loop-p-init
 loop-p-init c = reading-start _ _
 
-pub overflow_mul-result : goal.overflow_mul-result
-overflow_mul-result c = let l = c.loop-p in
-    omega (arith, fits_last l.value l.scale l.left c.from-byte.result l.invariant.scaled l.invariant.below (omega arith) (omega arith) (omega arith))
-
-pub overflow_add-result : goal.overflow_add-result
-overflow_add-result c = let l = c.loop-p in
-    omega (arith, fits_last l.value l.scale l.left c.from-byte.result l.invariant.scaled l.invariant.below (omega arith) (omega arith) (omega arith))
-
 pub overflow_mul-result-then-byte-lt128-2 : goal.overflow_mul-result-then-byte-lt128-2
 overflow_mul-result-then-byte-lt128-2 c = let l = c.loop-p in
     omega (arith, fits_more l.value l.scale l.left c.from-byte.result l.invariant.scaled l.invariant.below c.if-left-eq0.false (omega arith))

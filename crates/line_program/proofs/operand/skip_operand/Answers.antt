@@ -4,9 +4,6 @@ use Rattle.line_program.specs.Program.{skip_operand}
 use Rattle.line_program.proofs.SkipLaws.{passing-start, passing-cut, passing-overflow, passing-tenth, passing-overlong, passing-end, passing-more}
 use Rattle.line_program.proofs.operand.skip_operand.Goals as goal
 
-pub loop-p-init : goal.loop-p-init
-loop-p-init g c = passing-start _ (skip_operand g.B.TenthByte.kind) _ _ g.met.B.TenthByte.passes
-
 pub returns-then-not-fits : goal.returns-then-not-fits
 returns-then-not-fits g c = let f = sym c.fits.ensures ∙ c.if-not-fits.true in search passing-overflow
 

@@ -1,11 +1,8 @@
 -- `operand::skip_operands` meets its contract. What is left of the operands is passed over as all are.
-use Rattle.std.proofs.Common.{◌≡◌, ◌+◌, ◌-◌, rules, arith}
+use Rattle.std.proofs.Common.{◌≡◌, ◌+◌, ◌-◌, arith}
 use Rattle.std.proofs.lemmas.Result.{err_from_is_err_and}
 use Rattle.line_program.proofs.SkipLaws.{going_start, going_done, going_err, going_next}
 use Rattle.line_program.proofs.operand.skip_operands.Goals as goal
-
-pub loop-init : goal.loop-init
-loop-init c = let e : c.args.n - 0 ≡ c.args.n = omega arith in (omega arith, rw e (going_start _ _ _ (omega arith)))
 
 pub loop-preserved : goal.loop-preserved
 loop-preserved c =
