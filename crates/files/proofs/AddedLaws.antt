@@ -23,7 +23,10 @@ use Rattle.paths.proofs.PathBounds.{append_path-length}
 use Rattle.lines.specs.Files.{file_index, place_of, append_file, add_file_at, add_file}
 use Rattle.files.specs.declared.pieces.FilePieces.{FilePieces}
 use Rattle.files.specs.declared.store.StoredFiles.{StoredFiles}
-use Rattle.std.specs.Prelude.{Some, None, Result, Ok, Err}
+use Rattle.std.specs.Prelude.{Some, None, SomeIff, ok_or, Result, Ok, Err}
+use Rattle.std.specs.Result.{result_ok}
+use Rattle.std.proofs.lemmas.Option.{none-some}
+use Rattle.std.specs.declared.option.Option.{Option as Given}
 use Rattle.tlv.specs.declared.refusal.Refusal.{Refusal}
 use Rattle.files.specs.declared.store.AddedFile.{AddedFile}
 use Rattle.files.specs.declared.store.LaidHash.{LaidHash}
@@ -150,6 +153,10 @@ adds-laid {main} {supplementary} {w} {w₁} {w₂} {files} {files'} {t} {e} {l} 
     go (Err x) G = G
 
 -- the numbers are used up
+pub past-numbers : {n : ℕ} (r : Given ℕ) (e : Refusal) → SomeIff r (n < 2 ^ 32) n → Err e ≡ ok_or r Refusal.FilesFull → (e ≡ Refusal.FilesFull) × (4294967295 < n)
+past-numbers None e h x = (search x, omega (arith, h))
+past-numbers (Some n) e h x = absurd (none-some n (ap result_ok x))
+
 pub full-adds : {main supplementary w files : List ℕ} {t : StoredFiles} {e : FileEntry} → place_of e (entries_of main supplementary w t) ≡ none → 4294967295 < t.first + t.count
     → Adds main supplementary w w files files t e (Err Refusal.FilesFull)
 unfolding add_file append_file table_of

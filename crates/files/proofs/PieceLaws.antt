@@ -194,9 +194,6 @@ module _ {s w : List ℕ} {u : FileUnit} (U : FileUnitIn s w u) where
 -- ---- the compilation directory before it
 
 module _ (s : List ℕ) (version : ℕ) (a : Span) (n : ℕ) (d : Span) (b : Bool) (eb : b ≡ needs_compilation version n (span_in s d)) where
-  pub before-needed : b ≡ true → SpanIn s a → Before s version a n d a
-  before-needed t A = record { is = rw (← eb, t); string = A }
-
   pub before-none : b ≡ false → Before s version a n d (record { start = 0; len = 0 })
   unfolding chunk
   before-none t = record { is = rw (← eb, t); string = no_span-in s }

@@ -10,6 +10,7 @@ use Rattle.tlv.specs.Bytes.{le_at}
 use Rattle.tlv.specs.Fields.{fields, payloads, payload_of, head_of}
 use Rattle.tlv.specs.Model.{header_of, directory_of}
 use Rattle.tlv.specs.Cursor.{step_at}
+use Rattle.tlv.specs.declared.model.DebugSource.{DebugSource}
 use Rattle.tlv.specs.Checked.{Placed}
 use Rattle.tlv.proofs.CursorLaws.{next-within}
 use Rattle.tlv.proofs.ShapeLaws.{number_at}
@@ -102,10 +103,10 @@ module _ {s : List ℕ} {p : ℕ} (U : UnitPlaced s p) where
       → base + 8 * length (payloads 0x14 (own_fields (fields (drop (p + 21) s)))) ≤ length w
   directories-room base w h = let e = directories-count in omega arith
 
-  pub described : {w w' : List ℕ} {base n : ℕ} (v : ℕ) {a : Span} → v ≡ version_in s (p + 21) → CompilationIn s (p + 21) a → DirectoriesIn s w w' (p + 21) base n
-      → Described s w w' p base (record { place = p; version = v; compilation = a; directories = base; directory_count = n })
+  pub described : {w w' : List ℕ} {base n : ℕ} (source : DebugSource) (v : ℕ) {a : Span} → v ≡ version_in s (p + 21) → CompilationIn s (p + 21) a → DirectoriesIn s w w' (p + 21) base n
+      → Described s w w' source p base (record { source = source; place = p; version = v; compilation = a; directories = base; directory_count = n })
   unfolding header_here version_in
-  described {w} {w'} {base} {n} v {a} ev C D = record {
+  described {w} {w'} {base} {n} source v {a} ev C D = record {
     unit = record {
       version = rw (unit-header s p (step_at s p) 0x10 (p + 3) 18 (p + 21) refl U.is) ev;
       compilation = rw (unit-directory s p (step_at s p) 0x10 (p + 3) 18 (p + 21) refl U.is) C.is;
@@ -114,6 +115,7 @@ module _ {s : List ℕ} {p : ℕ} (U : UnitPlaced s p) where
       spans = D.spans;
       within = D.within;
     };
+    source-is = refl;
     place = refl;
     directories = refl;
     count = sym (spanned-length s w' base n) ∙ ap length D.is ∙ sym directories-count;

@@ -33,6 +33,7 @@ pub record FileSpanIn (s : List ℕ) (a : Span) : Type 0 where
   pub short : a.len ≤ 9 + string_limit
 
 -- the files of a unit are ones that an import can meet
+-- Stays a clause: that a file is among others can have two proofs, so no ghost field may hold it.
 pub record Listed (main supplementary : List ℕ) (u : CompilationUnit) (h : LineHeader) : Type 0 where
   pub possible : (f : HeaderFile) (e : FileEntry) → Any (λ x. f ≡ x) (with_zero u.file_zero u.files) → file_entry u h f ≡ done (some e)
       → Possible main supplementary e

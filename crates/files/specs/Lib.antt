@@ -1,4 +1,5 @@
 pub mod Pieces
+pub mod Sheets
 pub mod Hash
 pub mod Possible
 pub mod Store

@@ -41,10 +41,13 @@ file_in s p = record {
 }
 
 -- a span is a string of the sheet
+-- Stays a clause: spans stand as numbers in tables of the work slice too, where no type can hold the sheet beside them.
 pub record SpanIn (s : List ℕ) (a : Span) : Type 0 where
   pub within : a.start + a.len ≤ length s
   pub short : a.len ≤ string_limit
 
+-- the same of the pieces of a file
+-- Stays a clause: the table of files says it of each of its records, which are bytes of the work slice.
 pub record PiecesIn (s : List ℕ) (p : FilePieces) : Type 0 where
   pub compilation : SpanIn s p.compilation
   pub directory : SpanIn s p.directory
@@ -105,11 +108,13 @@ unfoldable pub version_in : List ℕ → ℕ → ℕ
 version_in s p = (or_header (map_option header_of (payload_of header_tag (own_fields (fields (drop p s)))))).version
 
 -- a unit's field stands at p in an accepted sheet
+-- Stays a clause: it speaks of a sheet's bytes, and which of the two sheets it is a caller picks by a source.
 pub record UnitPlaced (s : List ℕ) (p : ℕ) : Type 0 where
   pub placed : Placed s p
   pub is : step_at s p ≡ field_here unit_tag (p + field_head) 18 (p + unit_whole)
 
 -- a unit's place, its header's version, its compilation directory, and its directories' spans in a table of the work slice
+-- Stays a clause: it speaks of the work slice, which each write changes.
 pub record FileUnitIn (s w : List ℕ) (u : FileUnit) : Type 0 where
   pub version : u.version ≡ (header_here s u.place).version
   pub compilation : span_in s u.compilation ≡ or_empty (unit_here s u.place).directory
@@ -119,8 +124,9 @@ pub record FileUnitIn (s w : List ℕ) (u : FileUnit) : Type 0 where
   pub within : u.directories + u.directory_count * 8 ≤ length w
 
 -- the unit at p was described, its directories' spans written at base
-pub record Described (s w w' : List ℕ) (p base : ℕ) (r : FileUnit) : Type 0 where
+pub record Described (s w w' : List ℕ) (source : DebugSource) (p base : ℕ) (r : FileUnit) : Type 0 where
   pub unit : FileUnitIn s w' r
+  pub source-is : r.source ≡ source
   pub place : r.place ≡ p
   pub directories : r.directories ≡ base
   pub count : r.directory_count ≡ length (unit_here s p).directories

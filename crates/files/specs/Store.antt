@@ -95,6 +95,7 @@ unfoldable pub table_of : List ℕ → List ℕ → List ℕ → StoredFiles →
 table_of main supplementary w t = record { first = t.first; entries = entries_of main supplementary w t }
 
 -- the files are different and possible ones, their hashes are theirs, and each chain has all files of its bucket, the newest first
+-- Stays a clause: it speaks of the work slice, which each write changes.
 pub record FilesIn (main supplementary w : List ℕ) (t : StoredFiles) : Type 0 where
   pub pieces : (i : ℕ) → i < t.count → PiecesIn (source_in main supplementary (source_of (record_in w t i))) (pieces_of (record_in w t i))
   pub hashed : (i : ℕ) → i < t.count → stored_hash (record_in w t i) ≡ hash_of (stored_file main supplementary (record_in w t i))

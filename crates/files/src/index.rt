@@ -22,6 +22,7 @@ pub struct StoredIndices {
 }
 
 // Writes a record of the map: the table's number of a file, if it has one.
+// Stays apart from rows' put_sequence: a contract over any width and its reading would be longer than both.
 pub fn put_index(work: &mut [u8], p: usize, index: Option<FileIndex>)
     requires { p + 5 ≤ length work.old }
     ensures { PutIndex work.old work.new p (number_of index) }

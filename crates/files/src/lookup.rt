@@ -3,18 +3,19 @@ ghost use Rattle.std.proofs.Math.Option.{some};
 ghost use Rattle.tlv.specs.Outcome.{done};
 ghost use Rattle.tlv.specs.Checked.{Placed};
 ghost use Rattle.access.specs.Places.{unit_here};
-ghost use Rattle.files.specs.Pieces.{source_in, file_in, PiecesIn, header_here, UnitPlaced, FileUnitIn};
+ghost use Rattle.files.specs.Pieces.{file_in, PiecesIn, header_here, UnitPlaced, FileUnitIn};
+ghost use Rattle.files.specs.Sheets.{sheet_in};
 ghost use Rattle.files.specs.Store.{table_of, FilesIn};
 ghost use Rattle.files.specs.Reached.{number_in, nth_number, NthFile, Found, LookedUp};
 
 use crate::index::FileNumber;
 use crate::pieces::{FilePieces, file_pieces};
-use crate::sheets::sheet_of;
+use crate::sheets::Sheets;
 use crate::spans::{FileUnit, Span};
 use crate::store::{FILE_RECORD, StoredFiles, find_file, lay_file};
 use access::access::next_before_rows;
 use tlv::fields::FieldSpan;
-use tlv::model::{DebugSource, FileIndex};
+use tlv::model::FileIndex;
 use tlv::tags::{FILE_TAG, UNIT_WHOLE};
 
 // The n-th field of a file, from a place on.
@@ -37,90 +38,71 @@ fn nth_file(s: &[u8], p: usize, n: u64) -> Option<FieldSpan>
 
 // The table's number of the file of pieces of s; its directory is laid in the table's scratch.
 fn look_up_pieces(
-    main: &[u8],
-    supplementary: &[u8],
+    d: Sheets,
     s: &[u8],
     p: FilePieces,
     work: &mut [u8],
     t: StoredFiles,
 ) -> Option<FileIndex>
-    requires files_in { FilesIn main.now supplementary.now work.old t }
+    requires files_in { FilesIn d.main.now d.supplementary.now work.old t }
     requires pieces_in { PiecesIn s.now p }
-    ensures { Found main.now supplementary.now work.old work.new t
-        (number_in (table_of main.now supplementary.now work.old t) (done (some (file_in s.now p)))) result }
+    ensures { Found d.entry.main.now d.entry.supplementary.now work.old work.new t
+        (number_in (table_of d.entry.main.now d.entry.supplementary.now work.old t) (done (some (file_in s.now p)))) result }
 {
     let at = t.base + t.room * FILE_RECORD;
     let start = p.base.start;
     let past = start + p.base.len;
     let l = lay_file(s, p, work, at);
-    let Some(i) = find_file(
-        main,
-        supplementary,
-        work,
-        t,
-        l.hash,
-        at,
-        l.n,
-        &s[start..past],
-    ) else {
-        return None;
-    };
+    let i = find_file(d, work, t, l, at, &s[start..past])?;
     Some(FileIndex(t.first + i as u32))
 }
 
 // The table's number of the n-th file of a unit of s.
 fn look_up_nth(
-    main: &[u8],
-    supplementary: &[u8],
+    d: Sheets,
     s: &[u8],
     unit: FileUnit,
     n: u64,
     work: &mut [u8],
     t: StoredFiles,
 ) -> Option<FileIndex>
-    requires files_in { FilesIn main.now supplementary.now work.old t }
+    requires files_in { FilesIn d.main.now d.supplementary.now work.old t }
     requires file_unit_in { FileUnitIn s.now work.old unit }
     requires unit_placed { UnitPlaced s.now unit.place }
-    ensures { Found main.now supplementary.now work.old work.new t
+    ensures { Found d.entry.main.now d.entry.supplementary.now work.old work.new t
         (nth_number (unit_here s.now unit.place) (header_here s.now unit.place)
-        (table_of main.now supplementary.now work.old t) n) result }
+        (table_of d.entry.main.now d.entry.supplementary.now work.old t) n) result }
 {
-    let Some(field) = nth_file(s, unit.place + UNIT_WHOLE, n) else {
-        return None;
-    };
+    let field = nth_file(s, unit.place + UNIT_WHOLE, n)?;
     let file = Span {
         start: field.start,
         len: field.len,
     };
-    let Ok(Some(p)) = file_pieces(s, work, unit, file) else {
-        return None;
-    };
-    look_up_pieces(main, supplementary, s, p, work, t)
+    let p = file_pieces(s, work, unit, file).ok()??;
+    look_up_pieces(d, s, p, work, t)
 }
 
 // The table's number for one of DWARF's, of a unit whose files are in the table: before version 5 there is no file 0.
 pub fn look_up_file(
-    main: &[u8],
-    supplementary: &[u8],
-    source: DebugSource,
+    d: Sheets,
     unit: FileUnit,
     number: FileNumber,
     work: &mut [u8],
     t: StoredFiles,
 ) -> Option<FileIndex>
-    requires files_in { FilesIn main.now supplementary.now work.old t }
-    requires file_unit_in { FileUnitIn (source_in main.now supplementary.now source) work.old unit }
-    requires unit_placed { UnitPlaced (source_in main.now supplementary.now source) unit.place }
-    ensures { LookedUp main.now supplementary.now work.old work.new t
-        (source_in main.now supplementary.now source) unit number result }
+    requires files_in { FilesIn d.main.now d.supplementary.now work.old t }
+    requires file_unit_in { FileUnitIn (sheet_in d unit.source) work.old unit }
+    requires unit_placed { UnitPlaced (sheet_in d unit.source) unit.place }
+    ensures { LookedUp d.entry.main.now d.entry.supplementary.now work.old work.new t
+        (sheet_in d.entry unit.source) unit number result }
 {
-    let s = sheet_of(main, supplementary, source);
+    let s = d.of(unit.source);
     let n = number.0;
     if unit.version <= 4 {
         if n == 0 {
             return None;
         }
-        return look_up_nth(main, supplementary, s, unit, n - 1, work, t);
+        return look_up_nth(d, s, unit, n - 1, work, t);
     }
-    look_up_nth(main, supplementary, s, unit, n, work, t)
+    look_up_nth(d, s, unit, n, work, t)
 }

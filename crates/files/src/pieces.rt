@@ -10,6 +10,7 @@ ghost use Rattle.files.specs.Pieces.{span_in, file_in, SpanIn, PiecesIn, header_
 use crate::spans::{FileUnit, SPAN_RECORD, Span};
 use tlv::bytes::Number;
 use tlv::refusal::Refusal;
+use tlv::shapes::{DIRECTORY_TEXT, FILE_DIRECTORY, FILE_TEXT};
 
 // A file's path: its name is `base`; its directory is joined from the others, which may be empty.
 #[derive(Clone, Copy, Debug)]
@@ -101,8 +102,8 @@ fn directory_at(s: &[u8], work: &[u8], unit: FileUnit, index: u64) -> Result<Spa
         return Err(Refusal::Decoder);
     }
     Ok(Span {
-        start: start + 1,
-        len: len - 1,
+        start: start + DIRECTORY_TEXT,
+        len: len - DIRECTORY_TEXT,
     })
 }
 
@@ -161,8 +162,8 @@ pub fn file_pieces(
         return Err(Refusal::Decoder);
     }
     let path = Span {
-        start: file.start + 9,
-        len: file.len - 9,
+        start: file.start + FILE_TEXT,
+        len: file.len - FILE_TEXT,
     };
     let parts = path_parts(s, path);
     if parts.base.len == 0 {
@@ -177,7 +178,7 @@ pub fn file_pieces(
             base: parts.base,
         }));
     }
-    let number = u64::read(s, file.start + 1);
+    let number = u64::read(s, file.start + FILE_DIRECTORY);
     relative_pieces(s, work, unit, number, parts)
 }
 

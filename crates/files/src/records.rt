@@ -8,8 +8,9 @@ ghost use Rattle.files.specs.Store.{pieces_of, source_of, stored_file, StoredAt,
 
 use crate::joined::{bytes_at, is_joined};
 use crate::pieces::FilePieces;
-use crate::sheets::sheet_of;
+use crate::sheets::Sheets;
 use crate::spans::{Span, put_span};
+use crate::store::LaidHash;
 use buffers::numbers::Written;
 use tlv::bytes::Number;
 use tlv::model::DebugSource;
@@ -72,31 +73,23 @@ fn is_pieces(s: &[u8], p: FilePieces, work: &[u8], at: usize, n: usize, base: &[
     is_joined(work, at, n, &s[c0..c1], &s[d0..d1], &s[o0..o1])
 }
 
-// Whether the record at p is of the file whose directory is the n bytes at `at`, and whose name is base.
-pub fn is_file(
-    main: &[u8],
-    supplementary: &[u8],
-    work: &[u8],
-    p: usize,
-    hash: u64,
-    at: usize,
-    n: usize,
-    base: &[u8],
-) -> bool
-    requires stored_at { StoredAt main.now supplementary.now work.now p }
-    requires n_in_bounds { at + n ≤ length work.now }
-    requires hash_value { hash ≡ hash_of (record { directory = chunk work.now at n; basename = base.now }) }
-    ensures { result ≡ same_file (record { directory = chunk work.now at n; basename = base.now })
-        (stored_file main.now supplementary.now (chunk work.now p 41)) }
+// Whether the record at p is of the file whose directory was laid at `at`, and whose name is base.
+pub fn is_file(d: Sheets, work: &[u8], p: usize, l: LaidHash, at: usize, base: &[u8]) -> bool
+    requires stored_at { StoredAt d.main.now d.supplementary.now work.now p }
+    requires n_in_bounds { at + l.n ≤ length work.now }
+    requires hash_value { l.hash ≡ hash_of (record { directory = chunk work.now at l.n; basename = base.now }) }
+    ensures { result ≡ same_file (record { directory = chunk work.now at l.n; basename = base.now })
+        (stored_file d.entry.main.now d.entry.supplementary.now (chunk work.now p 41)) }
 {
-    if u32::read(work, p + 33) as u64 != hash {
+    if u32::read(work, p + 33) as u64 != l.hash {
         return false;
     }
-    let s = sheet_of(main, supplementary, get_source(work, p));
-    is_pieces(s, get_pieces(work, p), work, at, n, base)
+    let s = d.of(get_source(work, p));
+    is_pieces(s, get_pieces(work, p), work, at, l.n, base)
 }
 
 // Writes the pieces of a record.
+// Stays a clause: that a sheet is so short only the table of files knows, beside the work slice.
 fn put_pieces(s: &[u8], work: &mut [u8], at: usize, p: FilePieces)
     requires at_in_bounds { at + 41 ≤ length work.old }
     requires pieces_in { PiecesIn s.now p }

@@ -1,15 +1,28 @@
-// The sheet of a source.
+// Both sheets of an import.
 ghost use Rattle.std.specs.Prelude.{◌≡◌};
 ghost use Rattle.files.specs.Pieces.{source_in};
+ghost use Rattle.tlv.specs.Bytes.{AreBytes};
 
 use tlv::model::DebugSource;
 
-pub fn sheet_of<'a>(main: &'a [u8], supplementary: &'a [u8], source: DebugSource) -> &'a [u8]
-    ensures { result.now ≡ source_in main.now supplementary.now source }
-{
-    // Stays a match: a sheet is picked by its source here, once for this crate.
-    match source {
-        DebugSource::Main => main,
-        DebugSource::Supplementary => supplementary,
+// The sheets of the main and of the supplementary debug data.
+// Stays bare: it holds slices.
+#[derive(Clone, Copy)]
+pub struct Sheets<'a> {
+    pub main: &'a [u8],
+    pub supplementary: &'a [u8],
+    ghost bytes: { AreBytes main.now × AreBytes supplementary.now },
+}
+
+impl<'a> Sheets<'a> {
+    // The sheet of a source.
+    pub fn of(self, source: DebugSource) -> &'a [u8]
+        ensures { result.now ≡ source_in self.entry.main.now self.entry.supplementary.now source }
+    {
+        // Stays a match: a sheet is picked by its source here, once for all crates.
+        match source {
+            DebugSource::Main => self.main,
+            DebugSource::Supplementary => self.supplementary,
+        }
     }
 }

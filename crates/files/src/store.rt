@@ -4,7 +4,8 @@ ghost use Rattle.std.proofs.Math.Option.{none};
 ghost use Rattle.tlv.specs.Limits.{joined_limit};
 ghost use Rattle.buffers.specs.Table.{chunk};
 ghost use Rattle.lines.specs.Files.{place_of};
-ghost use Rattle.files.specs.Pieces.{source_in, file_in, PiecesIn};
+ghost use Rattle.files.specs.Pieces.{file_in, PiecesIn};
+ghost use Rattle.files.specs.Sheets.{sheet_in};
 ghost use Rattle.files.specs.Hash.{hash_of};
 ghost use Rattle.files.specs.Possible.{possible_files, Possible};
 ghost use Rattle.files.specs.Store.{extent, Linked, LaidFile, LaidAt, FilesIn, file_record, found_of, entries_of, Empty, Adds};
@@ -12,7 +13,7 @@ ghost use Rattle.files.specs.Store.{extent, Linked, LaidFile, LaidAt, FilesIn, f
 use crate::hash::hash_bytes;
 use crate::pieces::{FilePieces, lay_directory};
 use crate::records::{is_file, put_record};
-use crate::sheets::sheet_of;
+use crate::sheets::Sheets;
 use buffers::numbers::Written;
 use tlv::bytes::Number;
 use tlv::grammar::STRING_LIMIT;
@@ -54,29 +55,27 @@ pub struct LaidHash {
     pub hash: u64,
 }
 
-// The place of the file whose directory is the n bytes at `at`, and whose name is base.
+// The place of the file whose directory was laid at `at`, and whose name is base.
 pub fn find_file(
-    main: &[u8],
-    supplementary: &[u8],
+    d: Sheets,
     work: &[u8],
     t: StoredFiles,
-    hash: u64,
+    l: LaidHash,
     at: usize,
-    n: usize,
     base: &[u8],
 ) -> Option<usize>
-    requires files_in { FilesIn main.now supplementary.now work.now t }
-    requires n_in_bounds { at + n ≤ length work.now }
-    requires hash_value { hash ≡ hash_of (record { directory = chunk work.now at n; basename = base.now }) }
-    ensures { found_of result ≡ place_of (record { directory = chunk work.now at n; basename = base.now })
-        (entries_of main.now supplementary.now work.now t) }
+    requires files_in { FilesIn d.main.now d.supplementary.now work.now t }
+    requires n_in_bounds { at + l.n ≤ length work.now }
+    requires hash_value { l.hash ≡ hash_of (record { directory = chunk work.now at l.n; basename = base.now }) }
+    ensures { found_of result ≡ place_of (record { directory = chunk work.now at l.n; basename = base.now })
+        (entries_of d.entry.main.now d.entry.supplementary.now work.now t) }
 {
-    let bucket = (hash % t.room as u64) as usize;
+    let bucket = (l.hash % t.room as u64) as usize;
     let mut k = u32::read(work, t.base + bucket * FILE_HEAD) as usize;
     // Stays a loop: each record names the one before it in its chain, so nothing is counted.
     while k != 0 {
         let p = t.base + t.room * FILE_HEAD + (k - 1) * FILE_BODY;
-        if is_file(main, supplementary, work, p, hash, at, n, base) {
+        if is_file(d, work, p, l, at, base) {
             return Some(k - 1);
         }
         k = u32::read(work, p + 37) as usize;
@@ -116,8 +115,7 @@ fn link_file(
 
 // Adds a file that is not in the table, of pieces of the source's sheet; its directory is the n bytes at the table's scratch.
 fn append_file(
-    main: &[u8],
-    supplementary: &[u8],
+    d: Sheets,
     source: DebugSource,
     p: FilePieces,
     work: &mut [u8],
@@ -125,19 +123,20 @@ fn append_file(
     t: StoredFiles,
     l: LaidHash,
 ) -> Result<AddedFile, Refusal>
-    requires files_in { FilesIn main.now supplementary.now work.old t }
-    requires pieces_in { PiecesIn (source_in main.now supplementary.now source) p }
-    requires possible { Possible main.now supplementary.now (file_in (source_in main.now supplementary.now source) p) }
-    requires laid_file { LaidFile work.old t l.n l.hash (file_in (source_in main.now supplementary.now source) p) }
-    requires t_value { place_of (file_in (source_in main.now supplementary.now source) p)
-        (entries_of main.now supplementary.now work.old t) ≡ none }
-    ensures { Adds main.now supplementary.now work.old work.new files.old files.new t
-        (file_in (source_in main.now supplementary.now source) p) result }
+    requires files_in { FilesIn d.main.now d.supplementary.now work.old t }
+    requires pieces_in { PiecesIn (sheet_in d source) p }
+    requires possible { Possible d.main.now d.supplementary.now (file_in (sheet_in d source) p) }
+    requires laid_file { LaidFile work.old t l.n l.hash (file_in (sheet_in d source) p) }
+    requires t_value { place_of (file_in (sheet_in d source) p)
+        (entries_of d.main.now d.supplementary.now work.old t) ≡ none }
+    ensures { Adds d.entry.main.now d.entry.supplementary.now work.old work.new files.old files.new t
+        (file_in (sheet_in d.entry source) p) result }
 {
-    let Some(number) = t.first.checked_add(t.count as u32) else {
-        return Err(Refusal::FilesFull);
-    };
-    let s = sheet_of(main, supplementary, source);
+    let number = t
+        .first
+        .checked_add(t.count as u32)
+        .ok_or(Refusal::FilesFull)?;
+    let s = d.of(source);
     let at = t.base + t.room * FILE_RECORD;
     let end = at + l.n;
     let start = p.base.start;
@@ -170,59 +169,48 @@ pub fn lay_file(s: &[u8], p: FilePieces, work: &mut [u8], at: usize) -> LaidHash
 
 // Adds the file of pieces of the source's sheet, unless the table has it, and gives its number.
 pub fn add_file(
-    main: &[u8],
-    supplementary: &[u8],
+    d: Sheets,
     source: DebugSource,
     p: FilePieces,
     work: &mut [u8],
     files: &mut [u8],
     t: StoredFiles,
 ) -> Result<AddedFile, Refusal>
-    requires files_in { FilesIn main.now supplementary.now work.old t }
-    requires pieces_in { PiecesIn (source_in main.now supplementary.now source) p }
-    requires possible { Possible main.now supplementary.now (file_in (source_in main.now supplementary.now source) p) }
-    ensures { Adds main.now supplementary.now work.old work.new files.old files.new t
-        (file_in (source_in main.now supplementary.now source) p) result }
+    requires files_in { FilesIn d.main.now d.supplementary.now work.old t }
+    requires pieces_in { PiecesIn (sheet_in d source) p }
+    requires possible { Possible d.main.now d.supplementary.now (file_in (sheet_in d source) p) }
+    ensures { Adds d.entry.main.now d.entry.supplementary.now work.old work.new files.old files.new t
+        (file_in (sheet_in d.entry source) p) result }
 {
-    let s = sheet_of(main, supplementary, source);
+    let s = d.of(source);
     let at = t.base + t.room * FILE_RECORD;
     let start = p.base.start;
     let past = start + p.base.len;
     let l = lay_file(s, p, work, at);
-    match find_file(
-        main,
-        supplementary,
-        work,
-        t,
-        l.hash,
-        at,
-        l.n,
-        &s[start..past],
-    ) {
+    match find_file(d, work, t, l, at, &s[start..past]) {
         Some(i) => Ok(AddedFile {
             table: t,
             number: FileIndex(t.first + i as u32),
         }),
-        None => append_file(main, supplementary, source, p, work, files, t, l),
+        None => append_file(d, source, p, work, files, t, l),
     }
 }
 
 // An empty table at base, whose first file gets the number `first` and is written at the place `written` of the files tray.
 pub fn new_files(
-    main: &[u8],
-    supplementary: &[u8],
+    d: Sheets,
     work: &mut [u8],
     base: usize,
     room: usize,
     first: u32,
     written: usize,
 ) -> StoredFiles
-    requires supplementary_len_bound { length (possible_files main.now supplementary.now) < room }
+    requires supplementary_len_bound { length (possible_files d.main.now d.supplementary.now) < room }
     requires room_bound { room < 2 ^ 32 }
     requires joined_limit_in_bounds { base + (room * file_record + joined_limit) ≤ length work.old }
-    requires main_len_bound { length main.now < 2 ^ 32 }
-    requires supplementary_len_bound_2 { length supplementary.now < 2 ^ 32 }
-    ensures { Empty main.now supplementary.now work.old work.new base room first written result }
+    requires main_len_bound { length d.main.now < 2 ^ 32 }
+    requires supplementary_len_bound_2 { length d.supplementary.now < 2 ^ 32 }
+    ensures { Empty d.entry.main.now d.entry.supplementary.now work.old work.new base room first written result }
 {
     buffers::table::fill_zero(work, base, base + room * FILE_HEAD);
     StoredFiles {

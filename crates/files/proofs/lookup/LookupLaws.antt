@@ -12,6 +12,8 @@ use borrow.Author.Tests.{le-leb, lt-leb}
 use Rattle.tlv.specs.declared.model.FileIndex.{FileIndex}
 use Rattle.std.specs.Prelude.{Some, None, Result, Ok, Err}
 use Rattle.std.specs.Prelude as std
+use Rattle.std.specs.Result.{result_ok}
+use Rattle.std.proofs.lemmas.Option.{none-some, same_Some}
 use Rattle.tlv.specs.declared.refusal.Refusal.{Refusal}
 use Rattle.tlv.specs.declared.fields.FieldSpan.{FieldSpan}
 use Rattle.tlv.specs.Outcome.{done}
@@ -144,6 +146,11 @@ pub nth-missing : {main supplementary w s : List ℕ} {p n : ℕ} {t : StoredFil
 unfolding map_option
 nth-missing {main} {supplementary} {w} {t = t} U N F = found_none F (number_is U N (table_of main supplementary w t))
 
+-- the value that a result keeps
+pub is-ok : {A : Type 0} (m : Result A Refusal) (v : A) → Some v ≡ result_ok m → m ≡ Ok v
+is-ok (Ok x) v e = ap Ok (same_Some x v (sym e))
+is-ok (Err x) v e = absurd (none-some v (sym e))
+
 module _ {s : List ℕ} {u : FileUnit} {n : ℕ} {f : FieldSpan} (U : UnitPlaced s u.place) (N : NthFile s (u.place + 21) n (Some f)) where
   named-is : {m : Result (std.Option FilePieces) Refusal} → Pieced s u (record { start = f.start; len = f.len }) m → (t : FileTable)
       → nth_number (unit_here s u.place) (header_here s u.place) t n ≡ number_in t (named_of s m)
@@ -151,9 +158,11 @@ module _ {s : List ℕ} {u : FileUnit} {n : ℕ} {f : FieldSpan} (U : UnitPlaced
   named-is P t = number_is U N t ∙ rw (← P.is)
 
   module _ {main supplementary w : List ℕ} {t : StoredFiles} where
-    pub nth-failed : {x : Refusal} → Pieced s u (record { start = f.start; len = f.len }) (Err x) → FilesIn main supplementary w t
+    pub nth-failed : (m : Result (std.Option FilePieces) Refusal) → Pieced s u (record { start = f.start; len = f.len }) m → None ≡ result_ok m
+        → FilesIn main supplementary w t
         → Found main supplementary w w t (nth_number (unit_here s u.place) (header_here s u.place) (table_of main supplementary w t) n) None
-    nth-failed P F = found_none F (named-is P (table_of main supplementary w t))
+    nth-failed (Ok v) P e F = absurd (none-some v e)
+    nth-failed (Err x) P e F = found_none F (named-is P (table_of main supplementary w t))
 
     pub nth-unnamed : Pieced s u (record { start = f.start; len = f.len }) (Ok None) → FilesIn main supplementary w t
         → Found main supplementary w w t (nth_number (unit_here s u.place) (header_here s u.place) (table_of main supplementary w t) n) None

@@ -11,27 +11,27 @@ pub loop-field-init : goal.loop-field-init
 loop-field-init c = interning-start c.requires.files_in c.requires.file_unit_in c.requires.unit_placed c.requires.map_room c.requires.n_bound (omega arith)
 
 pub intern_at-requires-clause-file_span_in : goal.intern_at-requires-clause-file_span_in
-intern_at-requires-clause-file_span_in c = file-within c.loop-field.invariant (rw c.sheet_of-s.ensures at c.in-Some.ensures)
+intern_at-requires-clause-file_span_in c = file-within c.loop-field.invariant (rw c.of-s.ensures at c.in-Some.ensures)
 
 pub intern_at-requires-clause-of_unit : goal.intern_at-requires-clause-of_unit
-intern_at-requires-clause-of_unit c = file_of-unit c.loop-field.invariant (rw c.sheet_of-s.ensures at c.in-Some.ensures)
+intern_at-requires-clause-of_unit c = file_of-unit c.loop-field.invariant (rw c.of-s.ensures at c.in-Some.ensures)
 
 pub intern_at-requires-clause-t_bound : goal.intern_at-requires-clause-t_bound
-intern_at-requires-clause-t_bound c = file-room c.loop-field.invariant (rw c.sheet_of-s.ensures at c.in-Some.ensures)
+intern_at-requires-clause-t_bound c = file-room c.loop-field.invariant (rw c.of-s.ensures at c.in-Some.ensures)
 
 pub loop-field-smaller : goal.loop-field-smaller
-loop-field-smaller c = search (own-less, (rw c.sheet_of-s.ensures at c.in-Some.ensures))
+loop-field-smaller c = search (own-less, (rw c.of-s.ensures at c.in-Some.ensures))
 
 pub loop-field-preserved : goal.loop-field-preserved
 loop-field-preserved c =
-    let turn = interning_turn c.loop-field.invariant (rw c.sheet_of-s.ensures at c.in-Some.ensures) c.in_ok-added.added c.in_ok-added.ensures c.intern_at.auto.work c.intern_at.auto.files in
+    let turn = interning_turn c.loop-field.invariant (rw c.of-s.ensures at c.in-Some.ensures) c.in_ok-added.added c.in_ok-added.ensures c.intern_at.auto.work c.intern_at.auto.files in
     elim c.match-added.branch [
       | in-Some-added w ↦ rw w.table-is (rw w.in-Some-added.is at turn)
       | in_default-added w ↦ rw w.table-is (rw w.in_default-added.is at turn)
     ]
 
 pub returns-in_err-added : goal.returns-in_err-added
-returns-in_err-added c = rw (handed _ _ c.from_residual.ensures.1) (interning-refused c.loop-field.invariant (rw c.sheet_of-s.ensures at c.in-Some.ensures) c.in_err-added.ensures)
+returns-in_err-added c = rw (handed _ _ c.from_residual.ensures.1) (interning-refused c.loop-field.invariant (rw c.of-s.ensures at c.in-Some.ensures) c.in_err-added.ensures)
 
 pub returns : goal.returns
-returns c = search (interning_over, (rw c.sheet_of-s.ensures at c.in_default.ensures))
+returns c = search (interning_over, (rw c.of-s.ensures at c.in_default.ensures))

@@ -5,19 +5,19 @@ use Rattle.files.proofs.InternLaws.{pieces-possible, interns-failed, interns-unn
 use Rattle.files.proofs.intern.intern_file.Goals as goal
 
 pub returns-in_err-p : goal.returns-in_err-p
-returns-in_err-p c = rw (handed _ _ c.from_residual.ensures.1) (interns-failed (rw c.sheet_of-s.ensures at c.in_err-p.ensures))
+returns-in_err-p c = rw (handed _ _ c.from_residual.ensures.1) (interns-failed (rw c.of-s.ensures at c.in_err-p.ensures))
 
 pub returns-in_default : goal.returns-in_default
-returns-in_default c = interns-unnamed (rw (c.sheet_of-s.ensures, c.in_default.is) at c.in_ok-p.ensures) c.requires.files_in (omega arith)
+returns-in_default c = interns-unnamed (rw (c.of-s.ensures, c.in_default.is) at c.in_ok-p.ensures) c.requires.files_in (omega arith)
 
 pub add_file-requires-clause-pieces_in : goal.add_file-requires-clause-pieces_in
-add_file-requires-clause-pieces_in c = (rw (c.sheet_of-s.ensures, c.in-Some.is) at c.in_ok-p.ensures).within
+add_file-requires-clause-pieces_in c = (rw (c.of-s.ensures, c.in-Some.is) at c.in_ok-p.ensures).within
 
 pub add_file-requires-clause-possible : goal.add_file-requires-clause-possible
-add_file-requires-clause-possible c = pieces-possible (rw (c.sheet_of-s.ensures, c.in-Some.is) at c.in_ok-p.ensures) c.requires.listed c.requires.of_unit
+add_file-requires-clause-possible c = pieces-possible (rw (c.of-s.ensures, c.in-Some.is) at c.in_ok-p.ensures) c.requires.listed c.requires.of_unit
 
 pub returns-in_err-added : goal.returns-in_err-added
-returns-in_err-added c = rw (handed _ _ c.from_residual-in_err-added.ensures.1) (interns_full (rw (c.sheet_of-s.ensures, c.in-Some.is) at c.in_ok-p.ensures) c.in_err-added.ensures)
+returns-in_err-added c = rw (handed _ _ c.from_residual-in_err-added.ensures.1) (interns_full (rw (c.of-s.ensures, c.in-Some.is) at c.in_ok-p.ensures) c.in_err-added.ensures)
 
 pub returns : goal.returns
-returns c = interns-number (rw (c.sheet_of-s.ensures, c.in-Some.is) at c.in_ok-p.ensures) c.in_ok-added.ensures
+returns c = interns-number (rw (c.of-s.ensures, c.in-Some.is) at c.in_ok-p.ensures) c.in_ok-added.ensures

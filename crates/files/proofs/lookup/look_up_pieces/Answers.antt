@@ -13,15 +13,15 @@ pub find_file-requires-clause-hash_value : goal.find_file-requires-clause-hash_v
 find_file-requires-clause-hash_value c = c.lay_file-l.ensures.hashed ∙ ap hash_of (sym (laid-is _ _ c.lay_file-l.ensures))
 
 pub overflow_cast-result : goal.overflow_cast-result
-overflow_cast-result c = let small = found_number c.requires.files_in c.lay_file-l.ensures (laid-is _ _ c.lay_file-l.ensures) c.in-Some.ensures in
+overflow_cast-result c = let small = found_number c.requires.files_in c.lay_file-l.ensures (laid-is _ _ c.lay_file-l.ensures) c.in_ok-i.ensures in
     omega arith
 
 pub overflow_add-result : goal.overflow_add-result
-overflow_add-result c = let small = found_number c.requires.files_in c.lay_file-l.ensures (laid-is _ _ c.lay_file-l.ensures) c.in-Some.ensures in
+overflow_add-result c = let small = found_number c.requires.files_in c.lay_file-l.ensures (laid-is _ _ c.lay_file-l.ensures) c.in_ok-i.ensures in
     omega arith
 
 pub returns : goal.returns
-returns c = found_at c.requires.files_in c.lay_file-l.ensures (laid-is _ _ c.lay_file-l.ensures) (omega arith) c.in-Some.ensures
+returns c = found_at c.requires.files_in c.lay_file-l.ensures (laid-is _ _ c.lay_file-l.ensures) (omega arith) c.in_ok-i.ensures
 
-pub returns-in_default : goal.returns-in_default
-returns-in_default c = found-missing c.requires.files_in c.lay_file-l.ensures (laid-is _ _ c.lay_file-l.ensures) (omega arith) c.in_default.ensures
+pub returns-in_err-i : goal.returns-in_err-i
+returns-in_err-i c = rw c.from_residual.ensures (found-missing c.requires.files_in c.lay_file-l.ensures (laid-is _ _ c.lay_file-l.ensures) (omega arith) c.in_err-i.ensures)

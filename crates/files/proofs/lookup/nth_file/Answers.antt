@@ -7,9 +7,6 @@ use Rattle.files.proofs.lookup.nth_file.Goals as goal
 pub returns-then-left-eq0 : goal.returns-then-left-eq0
 returns-then-left-eq0 c = search (passing-found, c.in-Some.ensures)
 
-pub loop-field-smaller : goal.loop-field-smaller
-loop-field-smaller c = search (own-less, c.in-Some.ensures)
-
 pub loop-field-preserved : goal.loop-field-preserved
 loop-field-preserved c = search (passing-next, c.in-Some.ensures)
 

@@ -8,10 +8,6 @@ use Rattle.files.proofs.spans.header_version.Goals as goal
 pub returns-in_default : goal.returns-in_default
 returns-in_default c = search (version-none, c.in_default.ensures)
 
-pub overflow_add-field : goal.overflow_add-field
-overflow_add-field c = let read : c.in-Some.field.start + 16 + 1 ≤ length c.args.s.now = search (version-read, c.in-Some.ensures) in
-    omega arith
-
 pub read-requires : goal.read-requires
 read-requires c = search (version-read, c.in-Some.ensures)
 

@@ -17,15 +17,9 @@ overflow_add-base c = let room : c.args.base + c.loop-field.n * 8 + 8 ≤ length
 pub put_span-requires-clause-p_in_bounds : goal.put_span-requires-clause-p_in_bounds
 put_span-requires-clause-p_in_bounds c = search (listing-room, c.in-Some.ensures)
 
-pub put_span-requires-clause-len_bound : goal.put_span-requires-clause-len_bound
-put_span-requires-clause-len_bound c = search (listing-small, c.in-Some.ensures)
-
 pub overflow_add-n : goal.overflow_add-n
 overflow_add-n c = let room : c.args.base + c.loop-field.n * 8 + 8 ≤ length c.loop-field.work = search (listing-room, c.in-Some.ensures) in
     omega arith
-
-pub loop-field-smaller : goal.loop-field-smaller
-loop-field-smaller c = search (own-less, c.in-Some.ensures)
 
 pub loop-field-preserved : goal.loop-field-preserved
 loop-field-preserved c = search (listing_step, c.in-Some.ensures)

@@ -5,13 +5,13 @@ use Rattle.files.proofs.ChainLaws.{searching-start, record_at, searching_step, s
 use Rattle.files.proofs.store.find_file.Goals as goal
 
 pub overflow_mul-bucket : goal.overflow_mul-bucket
-overflow_mul-bucket c = let h = head-before c.args.t.room c.args.hash (omega arith) in omega arith
+overflow_mul-bucket c = let h = head-before c.args.t.room c.args.l.hash (omega arith) in omega arith
 
 pub overflow_add-t : goal.overflow_add-t
-overflow_add-t c = let h = head-before c.args.t.room c.args.hash (omega arith) in omega arith
+overflow_add-t c = let h = head-before c.args.t.room c.args.l.hash (omega arith) in omega arith
 
 pub read-k-requires : goal.read-k-requires
-read-k-requires c = let h = head-before c.args.t.room c.args.hash (omega arith) in omega arith
+read-k-requires c = let h = head-before c.args.t.room c.args.l.hash (omega arith) in omega arith
 
 pub is_file-requires-clause-stored_at : goal.is_file-requires-clause-stored_at
 is_file-requires-clause-stored_at c = record_at c.requires.files_in _ c.loop-k.invariant c.loop-k-test.true
