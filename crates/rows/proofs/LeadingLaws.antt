@@ -1,7 +1,7 @@
 -- Sorted rows: how many at the front are below an address, what holds of those and of the others, and the two steps of a search by halves.
 use mathlib.Core.Path.{◌≡◌, refl, ap}
 use mathlib.Core.List.{List, [], ◌∷◌}
-use Prim.Native.Nat.{ℕ, zero, suc, ◌+◌, ◌*◌, ◌≤◌, ◌<◌}
+use Prim.Native.Nat.{ℕ, zero, suc, ◌+◌, ◌-◌, ◌*◌, ◌≤◌, ◌<◌}
 use native.Mathlib.Omega.{arith}
 use lib.ListN.{length, drop, get_or}
 use lib.Seq.{drop-nil}
@@ -83,12 +83,25 @@ module _ (w : List ℕ) (base n a : ℕ) where
 
     -- a turn of the search: row i has the address v
     module _ (v : ℕ) (is : v ≡ (line_at w (base + i * line_size)).entry.address) where
-      pub go_up : Sorted 0 (lines_of w base n) → v < a → i + 1 ≤ leading a (lines_of w base n)
+      go_up : Sorted 0 (lines_of w base n) → v < a → i + 1 ≤ leading a (lines_of w base n)
       go_up s l = omega (arith, above a (line_of []) 0 (lines_of w base n) i s in_table (rw (address_is, ← is) l))
 
-      pub go_down : a ≤ v → leading a (lines_of w base n) ≤ i
+      go_down : a ≤ v → leading a (lines_of w base n) ≤ i
       go_down l = not-above a (line_of []) (lines_of w base n) i in_table (rw (address_is, ← is) l)
 
     -- what the place of a row says of its address
     pub row_below : i < leading a (lines_of w base n) → (line_at w (base + i * line_size)).entry.address < a
     row_below l = by_less _ (line_at w (base + i * line_size)).entry.address a (λ g. g) (λ g. absurd (omega (arith, go_down _ refl g)))
+
+  -- where the rows turn from below the address to at least it is how many are below
+  pub leading-turn : Sorted 0 (lines_of w base n) → (r : ℕ) → r ≤ n
+      → (0 < r → (line_at w (base + (r - 1) * line_size)).entry.address < a)
+      → (r < n → a ≤ (line_at w (base + r * line_size)).entry.address)
+      → r ≡ leading a (lines_of w base n)
+  leading-turn s r h passed next = omega (arith, least, most)
+    where
+      least : r ≤ leading a (lines_of w base n)
+      least = by_less _ 0 r (λ l. omega (arith, go_up (r - 1) (omega arith) _ refl s (passed l))) (λ l. omega arith)
+
+      most : leading a (lines_of w base n) ≤ r
+      most = by_less _ r n (λ l. go_down r l _ refl (next l)) (λ l. omega (arith, leading-most))

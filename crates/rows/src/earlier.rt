@@ -74,9 +74,7 @@ fn earlier_row(
     requires { RowsIn work.now l }
     ensures { option_to_list result ≡ earlier_row (unit_lines_of work.now l) range (sequence_of asked) }
 {
-    let Some(own) = covering_sequence(work, l, range.start, asked) else {
-        return None;
-    };
+    let own = covering_sequence(work, l, range.start, asked)?;
     last_before(work, l, range.start, asked.or(own))
 }
 

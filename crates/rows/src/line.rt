@@ -45,6 +45,7 @@ pub fn sequence_at(work: &[u8], p: usize) -> Option<u64>
     None
 }
 
+// Stays a clause: that a row lies in the work slice cannot be a type's fact, since the slice is lent and written.
 // The address of the row at p.
 pub fn address_at(work: &[u8], p: usize) -> u64
     requires { p + line_size ≤ length work.now }
@@ -76,6 +77,7 @@ pub fn put_entry(work: &mut [u8], p: usize, entry: tlv::model::LineEntry)
     entry.column.write(work, p + COLUMN);
 }
 
+// Stays apart from files' put_index: there a number has 4 bytes and a type of its own, and a trait over both would be longer than they are.
 fn put_sequence(work: &mut [u8], p: usize, sequence: Option<u64>)
     requires { p + sequence_size ≤ length work.old }
     ensures { PutSequence work.old work.new p sequence }

@@ -11,6 +11,7 @@ use crate::line::{ENTRY_SIZE, LINE_SIZE, address_at, sequence_at};
 use tlv::bytes::Number;
 
 // Whether the rows at p and q have the same file and line.
+// Stays by hand: rows with another address or column count as alike, which a derived `==` would tell apart.
 fn same_line(work: &[u8], p: usize, q: usize) -> bool
     requires entry_size_in_bounds { p + entry_size ≤ length work.now }
     requires entry_size_in_bounds_2 { q + entry_size ≤ length work.now }
@@ -20,7 +21,8 @@ fn same_line(work: &[u8], p: usize, q: usize) -> bool
         && u32::read(work, p + 12) == u32::read(work, q + 12)
 }
 
-// Whether the unit's rows at p and q are the same in each field.
+// Whether the unit's rows at p and q are the same in each field but the column.
+// Stays by hand: the column does not count, which a derived `==` would compare too.
 fn same_row(work: &[u8], p: usize, q: usize) -> bool
     requires line_size_in_bounds { p + line_size ≤ length work.now }
     requires line_size_in_bounds_2 { q + line_size ≤ length work.now }
@@ -36,6 +38,7 @@ fn drop_repeats<F: Fn(&[u8], usize, usize) -> bool>(
     work: &mut [u8],
     base: usize,
     n: usize,
+    // Stays a number: the size of a record, whose bytes lie among others.
     size: usize,
     repeats: F,
 ) -> usize

@@ -12,16 +12,5 @@ pub fn lower_bound(work: &[u8], base: usize, n: usize, address: u64) -> usize
     requires sorted { Sorted 0 (lines_of work.now base n) }
     ensures { result ≡ leading address (lines_of work.now base n) }
 {
-    let mut lo = 0;
-    let mut hi = n;
-    // Stays a loop: the rows are bytes of the work slice, which no method of slices searches by halves.
-    while lo < hi {
-        let mid = lo + (hi - lo) / 2;
-        if address_at(work, base + mid * LINE_SIZE) < address {
-            lo = mid + 1;
-        } else {
-            hi = mid;
-        }
-    }
-    lo
+    buffers::search::lower_bound(n, |i| address_at(work, base + i * LINE_SIZE) < address)
 }

@@ -3,7 +3,7 @@ use Rattle.rows.proofs.earlier.EarlierLaws.{earlier-some, earlier-none}
 use Rattle.rows.proofs.earlier.earlier_row.Goals as goal
 
 pub returns : goal.returns
-returns c = earlier-some _ _ _ c.args.asked c.in-Some.own c.last_before.result c.in-Some.ensures (rw c.or.ensures at c.last_before.ensures)
+returns c = earlier-some _ _ _ c.args.asked c.in_ok-own.own c.last_before.result c.in_ok-own.ensures (rw c.or.ensures at c.last_before.ensures)
 
-pub returns-in_default : goal.returns-in_default
-returns-in_default c = earlier-none _ _ _ _ c.in_default.ensures
+pub returns-in_err-own : goal.returns-in_err-own
+returns-in_err-own c = rw c.from_residual.ensures (earlier-none _ _ _ _ c.in_err-own.ensures)

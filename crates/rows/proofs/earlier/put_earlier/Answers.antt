@@ -1,9 +1,6 @@
 -- `earlier::put_earlier` meets its contract.
-use Rattle.rows.proofs.ForRangeLaws.{front_not, front_put}
+use Rattle.rows.proofs.ForRangeLaws.{front_put}
 use Rattle.rows.proofs.earlier.put_earlier.Goals as goal
-
-pub returns-then-not-starts_late : goal.returns-then-not-starts_late
-returns-then-not-starts_late c = front_not _ _ c.requires.count_bound c.starts_late.ensures c.if-not-starts_late.true
 
 pub returns : goal.returns
 returns c = front_put _ _ c.requires.count_bound c.starts_late.ensures c.if-not-starts_late.false c.earlier_row.result c.earlier_row.ensures c.in-Some.is c.put_entry.ensures

@@ -1,19 +1,8 @@
 -- `unit_lines::for_range` meets its contract. With 0 in place of `below` too: `none_below`.
 use mathlib.Core.Path.{ap}
 use mathlib.Core.Bool.{not}
-use borrow.Author.Rules.{rules}
-use Rattle.rows.proofs.FrontLaws.{none_below}
 use Rattle.rows.proofs.ForRangeLaws.{rows-in_kept, for-missing, for-found}
 use Rattle.rows.proofs.unit_lines.for_range.Goals as goal
-
-pub own_rows-own-requires-clause-line_size_bound : goal.own_rows-own-requires-clause-line_size_bound
-own_rows-own-requires-clause-line_size_bound c = search (rules, none_below)
-
-pub own_rows-own-requires-clause-entry_size_in_bounds : goal.own_rows-own-requires-clause-entry_size_in_bounds
-own_rows-own-requires-clause-entry_size_in_bounds c = search (rules, none_below)
-
-pub own_rows-own-requires-clause-rows_below : goal.own_rows-own-requires-clause-rows_below
-own_rows-own-requires-clause-rows_below c = search (rules, none_below)
 
 pub put_earlier-fronted-requires-clause-rows_in : goal.put_earlier-fronted-requires-clause-rows_in
 put_earlier-fronted-requires-clause-rows_in c = rows-in_kept c.own_rows-own.ensures.rest c.requires c.own_rows-own.auto.work
