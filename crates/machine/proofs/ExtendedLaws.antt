@@ -1,13 +1,12 @@
 -- Extended instructions, and any instruction: one law for each way through a function.
-use Rattle.std.proofs.Common.{Result, Ok, Err, Option, Some, None, ◌≡◌, ℕ, ◌+◌, ◌-◌, ◌^◌, ◌<◌, ◌≤◌, Bool, true, false, cond, ltb, leb, List, length, get_or, take, drop, sym, refl, ap, ◌∙◌, arith, length-drop, drop_of_length-le, le-ltb, lt-ltb, eq-eqb, ne_eqb, leb-true}
+use Rattle.std.proofs.Common.{Result, Ok, Err, Some, None, ◌≡◌, ℕ, ◌-◌, ◌<◌, ◌≤◌, Bool, true, false, cond, eqb, List, [], ◌∷◌, slice_range, length, take, drop, refl, ◌∙◌, arith, le-ltb, lt-ltb, eq-eqb, ne_eqb}
 use Rattle.tlv.specs.Outcome.{Outcome, refused, done, ◌>>=◌}
 use Rattle.tlv.specs.declared.refusal.Refusal.{Refusal}
 use Rattle.tlv.specs.Refusals.{as_outcome}
-use Rattle.tlv.proofs.OutcomeLaws.{done-is, refused-not}
-use Rattle.line_program.specs.declared.operand.Operand.{Operand}
-use Rattle.line_program.specs.Scan.{Reads, SkipsTo, OffsetIs}
-use Rattle.line_program.specs.Program.{place_of, take_line_bytes}
-use Rattle.line_program.proofs.UlebLaws.{drop_at}
+use Rattle.line_program.specs.declared.lines.Extended.{Extended}
+use Rattle.line_program.specs.Standard.{Operand as Number}
+use Rattle.line_program.specs.Scan.{ReadsExtended, OffsetIs, ExtendedParts, extended_parts, read_extended as parts_in}
+use Rattle.line_program.specs.Program.{uleb, take_line_bytes}
 use Rattle.machine.specs.declared.registers.Encoding.{Encoding}
 use Rattle.machine.specs.declared.registers.Registers.{Registers}
 use Rattle.machine.specs.declared.steps.Stepped.{Stepped}
@@ -39,83 +38,62 @@ module _ {e : Encoding} {r : Registers} {s : List ℕ} {from : ℕ} (next : ℕ)
   unfolding turn execute ◌>>=◌
   address-steps m O h k moves = record { is = quiet-turn s next m ∙ rw (moves, O.0); within = quiet-within s next from m h k }
 
--- ---- the bytes of an extended instruction
-
--- where the bytes that were taken end
-taken-end : (s : List ℕ) (n at next : ℕ) → at ≤ length s → next ≤ length s → done (drop next s) ≡ take_line_bytes (length s) n (drop at s) → next ≡ at + n
-unfolding take_line_bytes
-taken-end s n at next h k is = go (leb n (length (drop at s))) refl (ltb (place_of (length s) (drop at s) + n) (2 ^ 64)) is
-  where
-    go : (b : Bool) → leb n (length (drop at s)) ≡ b → (c : Bool)
-        → done (drop next s) ≡ cond b (done (drop n (drop at s))) (cond c (refused 7) (refused 12)) → next ≡ at + n
-    go true f c is =
-        let z : length (drop next s) ≡ length (drop n (drop at s)) = ap (λ (l : List ℕ). length l) (done-is is) in
-        let most = leb-true n (length (drop at s)) f in
-        omega (arith, length-drop next s, length-drop at s, length-drop n (drop at s))
-    go false f true is = refused-not (sym is)
-    go false f false is = refused-not (sym is)
-
-module _ (e : Encoding) (r : Registers) (s : List ℕ) (n at : ℕ) where
-  abbrev Body : Result Stepped Refusal → Type 0
-  Body q = Turns e r s at q (read_extended_body (length s) n (drop at s))
-
-  pub body_none : length s ≤ at → Body (Err Refusal.CutExtended)
-  unfolding turn read_extended_body ◌>>=◌
-  body_none h = record { is = rw (drop_of_length-le s {i = at} h); within = tt }
-
-  -- the opcode, and what follows it
-  body_at : at < length s → read_extended_body (length s) n (drop at s)
-      ≡ (take_line_bytes (length s) (n - 1) (drop (at + 1) s)
-      >>= λ rest. done (record { instruction = extended_instruction (get_or s at 0) (take (n - 1) (drop (at + 1) s)); rest = rest }))
-  unfolding read_extended_body
-  body_at h = ap (read_extended_body (length s) n) (drop_at s at (get_or s at 0) h refl)
-
-  pub body-fault : {f : Refusal} → at < length s → SkipsTo s (at + 1) (Err f) (take_line_bytes (length s) (n - 1) (drop (at + 1) s)) → Body (Err f)
-  unfolding turn ◌>>=◌
-  body-fault h P = record { is = rw (body_at h, ← P.is); within = tt }
-
-  module _ {next : ℕ} (h : at < length s) (P : SkipsTo s (at + 1) (Ok next) (take_line_bytes (length s) (n - 1) (drop (at + 1) s))) where
-    body_is : read_extended_body (length s) n (drop at s) ≡ done
-        (record { instruction = extended_instruction (get_or s at 0) (take (n - 1) (drop (at + 1) s)); rest = drop next s })
-    unfolding ◌>>=◌
-    body_is = rw (body_at h, ← P.is)
-
-    bytes-taken : next - (at + 1) ≡ n - 1
-    bytes-taken = omega (arith, taken-end s (n - 1) (at + 1) next (omega arith) P.within.1 P.is)
-
-    pub body_end : get_or s at 0 ≡ 1 → Body (Ok (Stepped.Ended r next))
-    unfolding turn execute extended_instruction ◌>>=◌
-    body_end one = record { is = rw (body_is, one); within = (omega (arith, P.within.0), P.within.1) }
-
-    pub body-address : {q : Result Stepped Refusal} → get_or s at 0 ≡ 2 → Turns e r s (at + 1) q
-        (done (record { instruction = set_address (span s (at + 1) next); rest = drop next s })) → Body q
-    unfolding extended_instruction
-    body-address {q} two T =
-        let z : take (next - (at + 1)) (drop (at + 1) s) ≡ take (n - 1) (drop (at + 1) s) = ap (λ (m : ℕ). take m (drop (at + 1) s)) bytes-taken in
-        turns-earlier {at = at + 1} at q (omega arith) (rw (body_is, two, ← z) T)
-
-    pub body-other : (get_or s at 0 ≡ 1 → ⊥) → (get_or s at 0 ≡ 2 → ⊥) → Body (Ok (Stepped.Quiet r next))
-    unfolding turn execute extended_instruction ◌>>=◌
-    body-other n1 n2 = record {
-      is = rw (body_is, ne_eqb (get_or s at 0) 1 n1, ne_eqb (get_or s at 0) 2 n2);
-      within = (omega (arith, P.within.0), P.within.1);
-    }
-
 -- ---- what follows a zero byte
 
-module _ {e : Encoding} {r : Registers} {s : List ℕ} {at : ℕ} where
-  pub extended-fault : {f : Refusal} → Reads s at (Err f) → Turns e r s at (Err f) (read_extended (length s) (drop at s))
-  unfolding turn read_extended ◌>>=◌
-  extended-fault R = record { is = rw (← R.is); within = tt }
+abbrev read_of : ExtendedParts → Read
+read_of x = record { instruction = extended_instruction x.opcode x.operand; rest = x.rest }
 
-  pub extended-zero : {o : Operand} → Reads s at (Ok o) → o.value ≡ 0 → Turns e r s at (Err Refusal.ZeroExtended) (read_extended (length s) (drop at s))
-  unfolding turn read_extended ◌>>=◌
-  extended-zero {o} R z = record { is = rw (← R.is, eq-eqb o.value 0 z); within = tt }
+-- what is read is the instruction of the parts
+extended-read : (whole : ℕ) (s : List ℕ) → read_extended whole s ≡ (parts_in whole s >>= λ x. done (read_of x))
+unfolding read_extended parts_in read_extended_body extended_parts ◌>>=◌
+extended-read whole s = from_length (uleb s)
+  where
+    from_bytes : (n : ℕ) (l : List ℕ) → read_extended_body whole n l ≡ (extended_parts whole n l >>= λ x. done (read_of x))
+    from_bytes n [] = refl
+    from_bytes n (b ∷ l) = go (take_line_bytes whole (n - 1) l)
+      where
+        go : (x : Outcome (List ℕ)) → (x >>= λ rest. done (record { instruction = extended_instruction b (take (n - 1) l); rest = rest }))
+            ≡ ((x >>= λ rest. done (record { opcode = b; operand = take (n - 1) l; rest = rest })) >>= λ y. done (read_of y))
+        go (refused k) = refl
+        go (done rest) = refl
 
-  pub extended-body : {o : Operand} {q : Result Stepped Refusal} → Reads s at (Ok o) → (o.value ≡ 0 → ⊥)
-      → Turns e r s o.next q (read_extended_body (length s) o.value (drop o.next s)) → Turns e r s at q (read_extended (length s) (drop at s))
-  unfolding read_extended ◌>>=◌
-  extended-body {o} {q} R z T = turns-earlier {at = o.next} at q (omega (arith, R.within.0)) (rw (← R.is, ne_eqb o.value 0 z) T)
+    from_length : (x : Outcome Number) → (x >>= λ o. cond (eqb o.value 0) (refused 9) (read_extended_body whole o.value o.rest))
+        ≡ ((x >>= λ o. cond (eqb o.value 0) (refused 9) (extended_parts whole o.value o.rest)) >>= λ y. done (read_of y))
+    from_length (refused k) = refl
+    from_length (done o) = go (eqb o.value 0)
+      where
+        go : (b : Bool) → cond b (refused 9) (read_extended_body whole o.value o.rest) ≡ (cond b (refused 9) (extended_parts whole o.value o.rest) >>= λ y. done (read_of y))
+        go true = refl
+        go false = from_bytes o.value o.rest
+
+abbrev Extends : Encoding → Registers → List ℕ → ℕ → Result Stepped Refusal → Type 0
+Extends e r s at q = Turns e r s at q (read_extended (length s) (drop at s))
+
+module _ {s : List ℕ} {at : ℕ} where
+  pub extended-fault : {e : Encoding} {r : Registers} {f : Refusal} → ReadsExtended s at (Err f) → Extends e r s at (Err f)
+  unfolding turn ◌>>=◌
+  extended-fault R = record { is = rw (extended-read, ← R.is) refl; within = tt }
+
+  module _ {x : Extended} (R : ReadsExtended s at (Ok x)) where
+    read_is : read_extended (length s) (drop at s) ≡ done (record { instruction = extended_instruction x.opcode (slice_range s x.from x.next); rest = drop x.next s })
+    unfolding ◌>>=◌
+    read_is = rw (extended-read, ← R.is) refl
+
+    within : (at ≤ x.next) × (x.next ≤ length s)
+    within = (omega (arith, R.within.0, R.within.1), R.within.2)
+
+    pub extended-end : {e : Encoding} {r : Registers} → x.opcode ≡ 1 → Extends e r s at (Ok (Stepped.Ended r x.next))
+    unfolding turn execute extended_instruction ◌>>=◌
+    extended-end one = record { is = rw (read_is, one); within = within }
+
+    pub extended-address : {e : Encoding} {r : Registers} {q : Result Stepped Refusal} → x.opcode ≡ 2
+        → Turns e r s x.from q (done (record { instruction = set_address (span s x.from x.next); rest = drop x.next s })) → Extends e r s at q
+    unfolding extended_instruction
+    extended-address {e} {r} {q} two T = turns-earlier {at = x.from} at q (omega (arith, R.within.0)) (rw (read_is, two) T)
+
+    pub extended-other : {e : Encoding} {r : Registers} → (x.opcode ≡ 1 → ⊥) → (x.opcode ≡ 2 → ⊥) → Extends e r s at (Ok (Stepped.Quiet r x.next))
+    unfolding turn execute extended_instruction ◌>>=◌
+    extended-other n1 n2 = record { is = rw (read_is, ne_eqb x.opcode 1 n1, ne_eqb x.opcode 2 n2); within = within }
 
 -- ---- any instruction
 

@@ -1,5 +1,5 @@
 -- The registers after a move and after a line is added: one law for each way through a function.
-use Rattle.std.proofs.Common.{Ok, Err, Result, ◌≡◌, ℕ, ◌+◌, ◌-◌, ◌*◌, ◌/◌, ◌%◌, ◌^◌, ◌<◌, ◌≤◌, Bool, true, false, cond, ◌&&◌, ltb, leb, refl, ap, mul-le-mul, arith, le-ltb, lt-ltb, le-leb}
+use Rattle.std.proofs.Common.{Err, Result, ◌≡◌, ℕ, ◌+◌, ◌-◌, ◌*◌, ◌%◌, ◌^◌, ◌<◌, ◌≤◌, Bool, true, false, cond, ◌&&◌, ltb, leb, refl, ap, arith, le-ltb, lt-ltb, le-leb}
 use borrow.Author.Tests.{lt-leb}
 use Rattle.tlv.specs.Outcome.{refused, done}
 use Rattle.tlv.specs.declared.refusal.Refusal.{Refusal}

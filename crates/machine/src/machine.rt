@@ -38,6 +38,7 @@ pub enum Emitted {
 }
 
 // The registers at the beginning of a sequence.
+// Stays a function of its own: the Standard begins file and line at 1, which no derived Default does, and `default()` would not say so.
 pub fn initial() -> Registers
     ensures { result ≡ initial }
 {

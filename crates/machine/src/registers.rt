@@ -46,9 +46,7 @@ pub fn move_to(r: Registers, address: u64) -> Result<Registers, Refusal>
 pub fn move_by(r: Registers, n: u64) -> Result<Registers, Refusal>
     ensures { as_outcome result ≡ move_to (r.address + n) r }
 {
-    let Some(address) = r.address.checked_add(n) else {
-        return Err(Refusal::LineAddress);
-    };
+    let address = r.address.checked_add(n).ok_or(Refusal::LineAddress)?;
     Ok(Registers { address, ..r })
 }
 
@@ -56,12 +54,13 @@ pub fn move_by(r: Registers, n: u64) -> Result<Registers, Refusal>
 pub fn advance(e: Encoding, r: Registers, n: u64) -> Result<Registers, Refusal>
     ensures { as_outcome result ≡ advance (line_encoding e) n r }
 {
-    let Some(bytes) = u64::from(e.minimum_instruction_length).checked_mul(n) else {
-        return Err(Refusal::LineAddress);
-    };
+    let bytes = u64::from(e.minimum_instruction_length)
+        .checked_mul(n)
+        .ok_or(Refusal::LineAddress)?;
     move_by(r, bytes)
 }
 
+// Stays a clause: a header's encoding is read with a range of 0 too, which is refused only once its program begins.
 // The registers as far on as the special opcode of an adjusted opcode moves them.
 pub fn advance_special(e: Encoding, r: Registers, adjusted: u8) -> Result<Registers, Refusal>
     requires { 0 < e.line_range }

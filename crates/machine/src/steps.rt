@@ -63,6 +63,7 @@ fn step_advance_line(
 }
 
 // 4, set_file.
+// Stays apart from step_set_column: they differ in the field alone, and a closure that sets it would need a law of its own.
 fn step_set_file(program: &[u8], e: Encoding, r: Registers, at: usize) -> Result<Stepped, Refusal>
     ensures { Turns e r program.now at result (read_unsigned set_file (drop at program.now)) }
 {
@@ -77,7 +78,6 @@ fn step_set_file(program: &[u8], e: Encoding, r: Registers, at: usize) -> Result
 }
 
 // 5, set_column.
-// Stays beside step_set_file: they differ in the field alone, and a closure that sets it would need a law of its own.
 fn step_set_column(program: &[u8], e: Encoding, r: Registers, at: usize) -> Result<Stepped, Refusal>
     ensures { Turns e r program.now at result (read_unsigned set_column (drop at program.now)) }
 {

@@ -1,7 +1,6 @@
 -- The loop of read_line_sleb: what is read so far, and what is left.
 use Rattle.std.proofs.Common.{Ok, Err, ◌⊎◌, inl, inr, ◌≡◌, ℕ, zero, suc, ◌+◌, ◌-◌, ◌*◌, ◌%◌, ◌^◌, ◌<◌, ◌≤◌, cond, leb, List, [], ◌∷◌, length, get_or, drop, sym, refl, ap, ◌∙◌, mul-le-mul_right, mod-eq_of_lt, mul_assoc, mul_comm, pow-suc, mul-add, arith, drop_of_length-le, le-ltb, lt-ltb, ne_eqb, le-leb}
 use native.Mathlib.Nat.{add-mul-mod_self_left}
-use borrow.Author.Tests.{lt-leb}
 use Rattle.tlv.specs.Outcome.{Outcome, refused, done, ◌>>=◌}
 use Rattle.tlv.specs.declared.refusal.Refusal.{Refusal}
 use Rattle.line_program.specs.Standard.{Operand as Number, SignedOperand}

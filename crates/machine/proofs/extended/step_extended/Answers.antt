@@ -1,17 +1,20 @@
--- `extended::step_extended` meets its contract: a length, then as many bytes.
-use Rattle.std.proofs.Common.{rules, arith}
+-- `extended::step_extended` meets its contract: what is read, by its opcode.
+use Rattle.std.proofs.Common.{rules}
 use Rattle.tlv.proofs.AnswerLaws.{handed}
-use Rattle.machine.proofs.ExtendedLaws.{extended-zero, extended-body, extended-fault}
+use Rattle.machine.proofs.ExtendedLaws.{extended-fault, extended-end, extended-address, extended-other}
 use Rattle.machine.proofs.extended.step_extended.Goals as goal
 
-pub returns-then-length-eq0 : goal.returns-then-length-eq0
-returns-then-length-eq0 c = extended-zero c.in_ok-length.ensures (omega arith)
+pub returns-in_err-instruction : goal.returns-in_err-instruction
+returns-in_err-instruction c = rw (handed _ _ c.from_residual.ensures.1) (extended-fault c.in_err-instruction.ensures)
 
-pub step_body-requires : goal.step_body-requires
-step_body-requires c = (omega arith, c.in_ok-length.ensures.within.1)
+pub step_set_address-requires : goal.step_set_address-requires
+step_set_address-requires c = let z = c.in_ok-instruction.ensures.within in (z.1, z.2)
 
-pub returns : goal.returns
-returns c = extended-body c.in_ok-length.ensures (search rules) c.step_body.ensures
+pub returns-in-1 : goal.returns-in-1
+returns-in-1 c = extended-end c.in_ok-instruction.ensures c.in-1.is
 
-pub returns-in_err-length : goal.returns-in_err-length
-returns-in_err-length c = rw (handed _ _ c.from_residual.ensures.1) (extended-fault c.in_err-length.ensures)
+pub returns-in-2 : goal.returns-in-2
+returns-in-2 c = extended-address c.in_ok-instruction.ensures c.in-2.is c.step_set_address.ensures
+
+pub returns-in_default : goal.returns-in_default
+returns-in_default c = extended-other c.in_ok-instruction.ensures (search rules) (search rules)

@@ -1,6 +1,6 @@
 -- `machine::next_row` meets its contract: the loop's invariant: the rows from here on are those that were asked for.
 use Rattle.tlv.proofs.AnswerLaws.{handed}
-use Rattle.machine.proofs.machine.RowLaws.{running-start, running-less, running-quiet, running-plain, running-ended, running-fault, running-end}
+use Rattle.machine.proofs.machine.RowLaws.{running-less, running-quiet, running-plain, running-ended, running-fault, running-end}
 use Rattle.machine.proofs.machine.next_row.Goals as goal
 
 pub loop-p-smaller : goal.loop-p-smaller

@@ -1,8 +1,8 @@
 -- `operands::read_line_sleb` meets its contract: the value so far, what a bit more is worth, and what is left.
-use Rattle.std.proofs.Common.{◌<◌, get_or, ◌*◌, ◌%◌, ◌≤◌, mul-le-mul_right, arith}
+use Rattle.std.proofs.Common.{◌<◌, ◌*◌, ◌%◌, ◌≤◌, mul-le-mul_right, arith}
 use Rattle.line_program.proofs.UlebLaws.{roomy}
 use Rattle.machine.proofs.operands.SlebLaws.{signed-start, signed_cut, signed-zero, signed-minus, signed-long}
-use Rattle.machine.proofs.operands.SlebLaws.{signed-overflow, signed-tenth-fits, signed-room, signed-end, signed-more}
+use Rattle.machine.proofs.operands.SlebLaws.{signed-overflow, signed-room, signed-end, signed-more}
 use Rattle.machine.proofs.operands.read_line_sleb.Goals as goal
 
 pub loop-p-init : goal.loop-p-init
