@@ -9,6 +9,10 @@ use Rattle.line_program.specs.Scan.{operand_of}
 use Rattle.rnglists.specs.declared.entries.ListEntry.{ListEntry}
 use Rattle.rnglists.specs.declared.lists.Meant.{Meant}
 use Rattle.rnglists.specs.declared.lists.ListRange.{ListRange}
+use Rattle.rnglists.specs.declared.lists.ListField.{ListField}
+use Rattle.rnglists.specs.Sizes.{width_of}
+use Rattle.tlv.specs.Bytes.{le_at}
+use Rattle.tlv.specs.Grammar.{list_base_at, list_addresses_at, list_size_at}
 use Rattle.rnglists.specs.Standard.{Slot, nothing, number, address, RawEntry, Meaning, ends, base, bounded}
 use Rattle.rnglists.specs.RangeLists.{read_operand, read_entry, address_at, largest, bounded_by, offset_pair, meaning_of, ListRanges, faulty, and_before}
 use Rattle.rnglists.specs.RangeLists.{ranges_in}
@@ -72,6 +76,13 @@ pub record Says (table : List ℕ) (place size from : ℕ) (e : ListEntry) (r : 
   pub is : meaning_given r ≡ meaning_of size (drop place table) from (raw_entry e [])
 
 -- ---- a list, a range at a time
+
+-- f is what the field 1f says whose payload starts at a place
+pub record FieldIs (s : List ℕ) (start : ℕ) (f : ListField) : Type 0 where
+  pub offset : f.offset ≡ le_at 8 s start
+  pub base : f.base ≡ le_at 8 s (start + list_base_at)
+  pub addresses : f.addresses ≡ le_at 8 s (start + list_addresses_at)
+  pub size : width_of f.size ≡ le_at 1 s (start + list_size_at)
 
 -- what the next range and the list behind it give
 abbrev pub ranges_of : List ℕ → List ℕ → ℕ → Result (Option ListRange) Refusal → ListRanges

@@ -17,6 +17,7 @@ pub struct ListEntry {
     pub next: usize,
 }
 
+// Stays a clause: the place moves with each operand, so a type of the lists and a place in them would be made anew at each step.
 // A target address.
 fn read_address(lists: &[u8], at: usize, size: AddressSize) -> Result<Operand, Refusal>
     requires { at ≤ length lists.now }

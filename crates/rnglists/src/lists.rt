@@ -1,27 +1,65 @@
 // A range list, a range at a time (DWARF 5, 2.17.3).
-ghost use Rattle.std.specs.Prelude.{◌≡◌, ◌⊎◌, ◌+◌};
+ghost use Rattle.std.specs.Prelude.{◌≡◌, ◌⊎◌, ◌+◌, ◌≤◌, length};
+ghost use Rattle.tlv.specs.Bytes.{AreBytes, le_at};
+ghost use Rattle.tlv.specs.Grammar.{list_size_at, list_field_size};
 ghost use Rattle.rnglists.specs.Sizes.{width_of};
-ghost use Rattle.rnglists.specs.Steps.{SaysBounded, SaysPair, FindsAddress, Says, NextIs};
+ghost use Rattle.rnglists.specs.Steps.{SaysBounded, SaysPair, FindsAddress, Says, FieldIs, NextIs};
 
 use crate::entries::{ListEntry, read_entry};
 use crate::sizes::AddressSize;
+use tlv::bytes::Number;
 use tlv::model::AddressRange;
 use tlv::refusal::Refusal;
+use tlv::shapes::{LIST_ADDRESSES, LIST_BASE, LIST_SIZE};
+
+// The range lists of an import, and the table of addresses that they refer to.
+// Stays bare: the two slices may hold gigabytes, and no program prints them.
+#[derive(Clone, Copy)]
+pub struct RangeLists<'a> {
+    pub lists: &'a [u8],
+    pub addresses: &'a [u8],
+    ghost bytes: { AreBytes lists.now × AreBytes addresses.now },
+}
 
 // The fewest bytes of a list that give a range.
 pub const RANGE_LEAST: usize = 3;
 
 // What an entry says: the list ends; the base address changes; a range, and whether it is dead.
 // Stays an enum: after the end, another base and a range a list goes on in three ways.
-#[derive(Clone, Copy)]
+#[derive(Clone, Copy, Debug, PartialEq, Eq)]
 pub enum Meant {
     End,
     Base(u64),
     Range { range: AddressRange, dead: bool },
 }
 
+// What a field 1f says of a list: its place, the base address there, the place that indices of addresses count from, and how many bytes an address takes.
+#[derive(Clone, Copy, Debug)]
+pub struct ListField {
+    pub offset: u64,
+    pub base: u64,
+    pub addresses: u64,
+    pub size: AddressSize,
+}
+
+impl ListField {
+    // That of the field whose payload starts at a place.
+    pub fn read(s: &[u8], start: usize) -> ListField
+        requires in_bounds { start + list_field_size ≤ length s.now }
+        requires size_known { (le_at 1 s.now (start + list_size_at) ≡ 4) ⊎ (le_at 1 s.now (start + list_size_at) ≡ 8) }
+        ensures { FieldIs s.now start result }
+    {
+        ListField {
+            offset: u64::read(s, start),
+            base: u64::read(s, start + LIST_BASE),
+            addresses: u64::read(s, start + LIST_ADDRESSES),
+            size: AddressSize::of(u8::read(s, start + LIST_SIZE)),
+        }
+    }
+}
+
 // A range of a list, and whether it is dead, with the place and the base address behind it.
-#[derive(Clone, Copy)]
+#[derive(Clone, Copy, Debug, PartialEq, Eq)]
 pub struct ListRange {
     pub range: AddressRange,
     pub dead: bool,
@@ -135,39 +173,38 @@ fn meaning_of(
     }
 }
 
-// The next range of the list at a place, from a base address; none at the list's end.
-pub fn next_range(
-    lists: &[u8],
-    addresses: &[u8],
-    place: u64,
-    size: u8,
-    at: usize,
-    base: u64,
-) -> Result<Option<ListRange>, Refusal>
-    requires { (size ≡ 4) ⊎ (size ≡ 8) }
-    ensures { NextIs lists.now addresses.now place size at base result }
-{
-    let width = AddressSize::of(size);
-    let mut p = at;
-    let mut base = base;
-    // Stays a loop: each entry's own length moves the place.
-    loop {
-        let entry = read_entry(lists, p, width)?;
-        match meaning_of(addresses, place, width, base, entry)? {
-            Meant::End => {
-                return Ok(None);
-            }
-            Meant::Base(next) => {
-                base = next;
-                p = entry.next;
-            }
-            Meant::Range { range, dead } => {
-                return Ok(Some(ListRange {
-                    range,
-                    dead,
-                    next: entry.next,
-                    base,
-                }));
+impl<'a> RangeLists<'a> {
+    // The next range of the list at a place, from a base address; none at the list's end.
+    pub fn next_range(
+        self,
+        place: u64,
+        size: AddressSize,
+        at: usize,
+        base: u64,
+    ) -> Result<Option<ListRange>, Refusal>
+        ensures { NextIs self.entry.lists.now self.entry.addresses.now place (width_of size) at base result }
+    {
+        let mut p = at;
+        let mut base = base;
+        // Stays a loop: each entry's own length moves the place.
+        loop {
+            let entry = read_entry(self.lists, p, size)?;
+            match meaning_of(self.addresses, place, size, base, entry)? {
+                Meant::End => {
+                    return Ok(None);
+                }
+                Meant::Base(next) => {
+                    base = next;
+                    p = entry.next;
+                }
+                Meant::Range { range, dead } => {
+                    return Ok(Some(ListRange {
+                        range,
+                        dead,
+                        next: entry.next,
+                        base,
+                    }));
+                }
             }
         }
     }

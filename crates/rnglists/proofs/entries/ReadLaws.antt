@@ -1,5 +1,5 @@
 -- Reading an entry: the branches of the code, each with the definition's.
-use mathlib.Core.Path.{◌≡◌, refl, sym, ap, subst, ◌∙◌}
+use mathlib.Core.Path.{◌≡◌, refl, sym, ◌∙◌}
 use mathlib.Core.Logic.{◌⊎◌, inl, inr}
 use mathlib.Core.Bool.{Bool, true, false, cond, ◌||◌}
 use mathlib.Core.List.{List}
@@ -17,7 +17,7 @@ use Rattle.tlv.specs.Bytes.{le_at}
 use Rattle.line_program.specs.declared.operand.Operand.{Operand}
 use Rattle.line_program.specs.Scan.{Reads, OperandWithin as OperandRead}
 use Rattle.line_program.proofs.UlebLaws.{drop_at}
-use Rattle.rnglists.specs.Standard.{Slot, nothing, number, address, Slots, slots, slots_of}
+use Rattle.rnglists.specs.Standard.{nothing, number, address, Slots, slots, slots_of}
 use Rattle.rnglists.specs.RangeLists.{read_operand, read_operands, read_entry}
 use Rattle.rnglists.specs.Steps.{OperandWithin, ReadsOperand, first_slot, second_slot, ReadsEntry}
 use Rattle.rnglists.proofs.EntryLaws.{KindIs, kind0, kind1, kind2, kind3, kind4, kind5, kind6, kind7, other, kind-is}

@@ -1,5 +1,5 @@
 -- What an entry says: the branches of the code, each with the definition's.
-use mathlib.Core.Path.{◌≡◌, sym, ap, ◌∙◌}
+use mathlib.Core.Path.{◌≡◌, sym, ◌∙◌}
 use mathlib.Core.Logic.{◌⊎◌, inl, inr}
 use mathlib.Core.Bool.{true, false}
 use mathlib.Core.List.{List}
@@ -80,7 +80,7 @@ length-wide {top} {a} {n} g (inr h) = bounded-end {top = top} {a = a} {b = a + n
 
 -- ---- an address of the table
 
-some_width : (a : AddressSize) → 0 < width_of a
+pub some_width : (a : AddressSize) → 0 < width_of a
 some_width AddressSize.Four = omega arith
 some_width AddressSize.Eight = omega arith
 

@@ -1,6 +1,5 @@
 -- The loop of next_range: what is left of the list gives what was asked from the start.
 use mathlib.Core.Path.{◌≡◌, refl, sym, ap, ◌∙◌}
-use mathlib.Core.Logic.{◌⊎◌, inl, inr}
 use mathlib.Core.Bool.{Bool}
 use mathlib.Core.List.{List, []}
 use Prim.Native.Nat.{ℕ, ◌-◌, ◌≤◌, ◌<◌}
@@ -55,18 +54,10 @@ module _ {s addresses : List ℕ} {place size at base p from : ℕ} (L : Left s 
     pub meant-base : {c : ℕ} → Says addresses place size from e (Ok (Meant.Base c)) → Left s addresses place size at base e.next c
     meant-base {c} S = record { goes = said (Ok (Meant.Base c)) S; behind = omega (arith, L.behind, R.within) }
 
-    pub meant-range : {x : AddressRange} {d : Bool} → (size ≡ 4) ⊎ (size ≡ 8) → Says addresses place size from e (Ok (Meant.Range x d))
+    pub meant-range : {x : AddressRange} {d : Bool} → 0 < size → Says addresses place size from e (Ok (Meant.Range x d))
         → NextIs s addresses place size at base (Ok (Some (record { range = x; dead = d; next = e.next; base = from })))
     unfolding meaning_of
     meant-range {x} {d} w S =
         let z = bounded-size size (drop place addresses) from (drop p s) (raw_entry e (drop e.next s)) (record { range = x; tombstone = d })
-        (some_size w) (sym R.is) (sym S.is) in
+        (omega arith) (sym R.is) (sym S.is) in
         record { is = sym (said (Ok (Meant.Range x d)) S); within = (omega (arith, z, length-drop e.next s, length-drop p s, L.behind, R.within), R.within.1) }
-      where
-        some_size : {n : ℕ} → (n ≡ 4) ⊎ (n ≡ 8) → 1 ≤ n
-        some_size (inl h) = omega arith
-        some_size (inr h) = omega arith
-
--- each turn is further on
-pub turn-less : {s : List ℕ} {size p : ℕ} {e : ListEntry} → ReadsEntry s p size (Ok e) → length s - e.next < length s - p
-turn-less R = omega (arith, R.within)

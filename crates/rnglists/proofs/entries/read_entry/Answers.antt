@@ -1,6 +1,6 @@
 -- `entries::read_entry` meets its contract.
 use Rattle.tlv.proofs.AnswerLaws.{handed}
-use Rattle.std.proofs.Common.{refl, rules, arith}
+use Rattle.std.proofs.Common.{refl, arith}
 use Rattle.rnglists.proofs.entries.ReadLaws.{entry-none, entry-unknown, entry_first, entry-second, entry_read}
 use Rattle.rnglists.proofs.entries.read_entry.Goals as goal
 

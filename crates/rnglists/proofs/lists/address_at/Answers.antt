@@ -1,6 +1,6 @@
 -- `lists::address_at` meets its contract.
 use Rattle.std.proofs.Common.{arith}
-use Rattle.rnglists.proofs.lists.MeaningLaws.{address-none, index-past, index-room, index-found}
+use Rattle.rnglists.proofs.lists.MeaningLaws.{address-none, index-past, index-found}
 use Rattle.rnglists.proofs.lists.address_at.Goals as goal
 
 pub returns-then-len-place : goal.returns-then-len-place
