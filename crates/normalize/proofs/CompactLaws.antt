@@ -1,28 +1,16 @@
 -- Rows compacted where they are: what the loop keeps, over a list of rows.
 use mathlib.Core.Path.{◌≡◌, refl, sym, ap, ◌∙◌}
-use mathlib.Core.Logic.{◌≢◌}
 use mathlib.Core.Bool.{Bool, true, false}
 use mathlib.Core.List.{List, [], ◌∷◌, ◌++◌, append_assoc, append-nil}
 use Prim.Native.Nat.{ℕ, ◌+◌, ◌-◌, ◌≤◌, ◌<◌}
 use native.Mathlib.Numerals.{add-one}
 use native.Mathlib.Omega.{arith}
-use lib.Dec.{eqb}
 use lib.ListN.{length, take, drop, get_or, set, length-set, take-append-drop, drop_of_length-le}
 use lib.Seq.{length-take-le, drop-cons, take-suc-set, drop-set-lt, drop-drop, get_or-drop, get_or-set_same}
-use borrow.Author.Tests.{eq-eqb, ne_eqb}
 use Rattle.tlv.specs.declared.model.LineEntry.{LineEntry}
 use Rattle.lines.specs.Lines.{same_line, drop_after, drop_neighbours}
 use Rattle.lines.specs.Rows.{compact_line_rows}
 use Rattle.normalize.specs.Compacts.{CompactsRows}
-
--- ---- the test
-
-module _ (a b : LineEntry) where
-  pub files-differ : a.file.0 ≢ b.file.0 → eqb a.file.0 b.file.0 ≡ same_line a b
-  files-differ h = rw (ne_eqb a.file.0 b.file.0 h)
-
-  pub lines-decide : a.file.0 ≡ b.file.0 → eqb a.line b.line ≡ same_line a b
-  lines-decide h = rw (eq-eqb a.file.0 b.file.0 h)
 
 -- ---- the loop, of any list
 

@@ -8,10 +8,11 @@ ghost use Rattle.normalize.specs.Compacts.{CompactsRows};
 use tlv::model::LineEntry;
 
 // Whether two rows have the same file and line.
+// Stays by hand: the address and the column do not count, which a derived `==` would compare too.
 fn same_line(a: LineEntry, b: LineEntry) -> bool
     ensures { result ≡ same_line a b }
 {
-    a.file.0 == b.file.0 && a.line == b.line
+    a.file == b.file && a.line == b.line
 }
 
 // Of each run of rows with one file and line the first is kept, moved down in place. Returns how many are left.
