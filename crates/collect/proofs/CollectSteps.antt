@@ -127,7 +127,7 @@ module _ {main supplementary program w files warnings : List ℕ} {p warned free
 -- ---- a unit with a header
 
 -- its header is there
-pub header-there : {main : List ℕ} {p start len : ℕ} → HeaderIn main p start len → (unit_here main p).header ≡ some (header_here main p)
+pub header-there : {main payload : List ℕ} {p : ℕ} → HeaderIn main p payload → (unit_here main p).header ≡ some (header_here main p)
 header-there H = H.is ∙ ap some (sym (header_is H))
 
 module _ {main : List ℕ} {p : ℕ} (h : Placed main 0) (U : UnitIn main p) where
@@ -137,13 +137,13 @@ module _ {main : List ℕ} {p : ℕ} (h : Placed main 0) (U : UnitIn main p) whe
   pub rows-placed : Placed main (p + 21)
   rows-placed = unit-next (unit-stands h U)
 
-  module _ {start len : ℕ} (H : HeaderIn main p start len) where
-    module _ {source : RowSource} (F : SourceFound main (p + 21) start len source) where
+  module _ {payload : List ℕ} (H : HeaderIn main p payload) where
+    module _ {program : List ℕ} {source : RowSource} (F : SourceFound main (p + 21) payload program source) where
       -- the source that was found is that of its rows
-      pub source-here : (program : List ℕ) → source_rows main program (p + 21) source ≡ line_rows (unit_here main p) (header_here main p) program
-      source-here program =
-          F.is (unit_here main p) program (encoding-here (unit-stands h U)) (rows-here (unit-stands h U))
+      pub source-here : source_rows main (p + 21) source ≡ line_rows (unit_here main p) (header_here main p) program
+      source-here =
+          F.is (unit_here main p) (encoding-here (unit-stands h U)) (rows-here (unit-stands h U))
           ∙ ap (λ (x : LineHeader). line_rows (unit_here main p) x program) (sym (header_is H))
 
-      pub most-here : (program : List ℕ) → most_rows main program (p + 21) source ≡ rows_most (unit_here main p) program
-      most-here program = F.most (unit_here main p) program (encoding-here (unit-stands h U)) (rows-here (unit-stands h U))
+      pub most-here : most_rows main (p + 21) source ≡ rows_most (unit_here main p) program
+      most-here = F.most (unit_here main p) (encoding-here (unit-stands h U)) (rows-here (unit-stands h U))

@@ -46,7 +46,7 @@ module _ {main supplementary w w' : List ℕ} {c : Conversion} {st : Converting}
       let b = C.offsets in
       let d = C.directories in
       let i = C.indices in
-      records-but le 8 c.offsets c.offset_count K (inr (omega arith), (inl (omega arith), (inl (omega arith), tt)))
+      records-but le 8 c.offsets.base c.offsets.count K (inr (omega arith), (inl (omega arith), (inl (omega arith), tt)))
 
   pub lines_same : lines_of w' c.lines st.count ≡ lines_of w c.lines st.count
   lines_same =
@@ -68,6 +68,7 @@ module _ {main supplementary w w' : List ℕ} {c : Conversion} {st : Converting}
       record {
         placed = C.placed;
         files = G.holds;
+        source = C.source;
         unit = unit_kept C.unit K (inr (omega arith), (inl (omega arith), (inl (omega arith), tt))) size;
         listed = C.listed;
         zero = C.zero;

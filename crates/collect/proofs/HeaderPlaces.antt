@@ -4,10 +4,10 @@ use mathlib.Core.List.{List}
 use mathlib.Core.Option.{none, some}
 use Prim.Native.Nat.{ℕ, ◌+◌, ◌-◌, ◌≤◌}
 use native.Mathlib.Omega.{arith}
-use lib.ListN.{take, drop}
+use lib.ListN.{length, take, drop, length-take, length-drop}
 use Rattle.std.specs.Prelude.{Some, None}
+use Rattle.std.proofs.Math.Seq.{take-length}
 use Rattle.tlv.specs.declared.fields.FieldSpan.{FieldSpan}
-use Rattle.tlv.specs.Bytes.{le_at}
 use Rattle.tlv.specs.Lists.{at, map_option}
 use Rattle.tlv.specs.Fields.{payload_of, fields}
 use Rattle.tlv.specs.Tags.{encoding_tag}
@@ -15,8 +15,6 @@ use Rattle.tlv.specs.Model.{header_of, encoding_of, units}
 use Rattle.tlv.specs.Cursor.{field_here, step_at}
 use Rattle.tlv.specs.Checked.{Placed}
 use Rattle.tlv.proofs.CursorLaws.{field-within}
-use Rattle.tlv.proofs.ShapeLaws.{number_at, number-first}
-use Rattle.tlv.proofs.WidthLaws.{drop_part}
 use Rattle.tlv.proofs.PlacePromises.{placed-unit, placed-header}
 use Rattle.access.specs.Places.{unit_here, own_fields}
 use Rattle.access.specs.Access.{NextOwn}
@@ -36,7 +34,7 @@ use Rattle.collect.specs.Stages.{HeaderRead, HeaderIn}
 -- ---- the unit
 
 -- the header of the unit
-pub header_is : {s : List ℕ} {p start len : ℕ} → HeaderIn s p start len → header_here s p ≡ header_of (take len (drop start s))
+pub header_is : {s payload : List ℕ} {p : ℕ} → HeaderIn s p payload → header_here s p ≡ header_of payload
 unfolding header_here
 header_is H = rw H.is
 
@@ -56,8 +54,8 @@ module _ {s : List ℕ} {p : ℕ} (h : Placed s 0) (U : UnitIn s p) where
   unit-is = units-at s U.number ∙ ap (map_option (unit_here s)) U.is
 
   -- its files are ones that an import can meet
-  pub unit-listed : {start len : ℕ} (supplementary : List ℕ) → HeaderIn s p start len → Listed s supplementary (unit_here s p) (header_here s p)
-  unit-listed {start} {len} supplementary H = rw (header_is H) (listed s supplementary U.number (unit_here s p) (header_of (take len (drop start s))) unit-is H.is)
+  pub unit-listed : {payload : List ℕ} (supplementary : List ℕ) → HeaderIn s p payload → Listed s supplementary (unit_here s p) (header_here s p)
+  unit-listed {payload} supplementary H = rw (header_is H) (listed s supplementary U.number (unit_here s p) (header_of payload) unit-is H.is)
 
 -- its rows are those behind its field
 pub rows-here : {s : List ℕ} {p : ℕ} → UnitPlaced s p → (unit_here s p).rows ≡ rows_from s (p + 21)
@@ -79,26 +77,34 @@ module _ {s : List ℕ} {p : ℕ} (U : UnitPlaced s p) where
   unfolding map_option
   header-none own = header-first ∙ ap (map_option header_of) (first-none s (p + 21) 0x13 own)
 
-  pub header-found : {f : FieldSpan} → NextOwn s (p + 21) 0x13 (Some f) → HeaderIn s p f.start f.len
-  unfolding map_option
-  header-found {f} own =
-      let x = own-field s (p + 21) 0x13 f own (unit-next U) in
-      record {
-        is = header-first ∙ ap (map_option header_of) (first_found s (p + 21) 0x13 f own);
-        long = placed-header s x.place (step_at s x.place) 0x13 f.start f.len f.next x.here refl x.is refl;
-        within = (own-within s (p + 21) 0x13 f own).0;
-      }
+  module _ {f : FieldSpan} (own : NextOwn s (p + 21) 0x13 (Some f)) where
+    pub header-within : f.start + f.len ≤ length s
+    header-within = (own-within s (p + 21) 0x13 f own).0
+
+    pub header-found : HeaderIn s p (take (f.start + f.len - f.start) (drop f.start s))
+    unfolding map_option
+    header-found =
+        let x = own-field s (p + 21) 0x13 f own (unit-next U) in
+        let long = placed-header s x.place (step_at s x.place) 0x13 f.start f.len f.next x.here refl x.is refl in
+        let fits = header-within in
+        let e : f.start + f.len - f.start ≡ f.len = omega arith in
+        rw e (record {
+          is = header-first ∙ ap (map_option header_of) (first_found s (p + 21) 0x13 f own);
+          long = omega (arith, length-take f.len (drop f.start s), length-drop f.start s, long);
+        })
+
+-- the opcode lengths, cut out of the payload
+pub lengths-are : (s : List ℕ) → take (length s - 19) (drop 19 s) ≡ drop 19 s
+lengths-are s = ap (λ (k : ℕ). take k (drop 19 s)) (sym (length-drop 19 s)) ∙ take-length (drop 19 s)
 
 -- what was read of a header, with its opcode lengths, is the header
-pub header-with : {s : List ℕ} {start : ℕ} {r : Header} (len : ℕ) → HeaderRead s start r → 19 ≤ len
-    → header_with r (take (start + len - (start + 19)) (drop (start + 19) s)) ≡ header_of (take len (drop start s))
+pub header-with : {s : List ℕ} {r : Header} → HeaderRead s r → header_with r (take (length s - 19) (drop 19 s)) ≡ header_of s
 unfolding header_of
-header-with {s} {start} {r} len R l =
-    let e : start + len - (start + 19) ≡ len - 19 = omega arith in
-    let o : r.offset ≡ le_at 8 (take len (drop start s)) 0 = sym (number-first s start len 8 r.offset (omega arith) R.offset) in
-    let n : r.header_length ≡ le_at 8 (take len (drop start s)) 8 = sym (number_at s start len 8 8 r.header_length (omega arith) R.header-length) in
-    let v : r.version ≡ le_at 1 (take len (drop start s)) 16 = sym (number_at s start len 1 16 r.version (omega arith) R.version) in
-    let w : r.word_size ≡ le_at 1 (take len (drop start s)) 17 = sym (number_at s start len 1 17 r.word_size (omega arith) R.word_size) in
-    let b : r.opcode_base ≡ le_at 1 (take len (drop start s)) 18 = sym (number_at s start len 1 18 r.opcode_base (omega arith) R.opcode_base-is) in
-    let ls : take (start + len - (start + 19)) (drop (start + 19) s) ≡ drop 19 (take len (drop start s)) = ap (λ (k : ℕ). take k (drop (start + 19) s)) e ∙ sym (drop_part s start len 19) in
-    λ i. record { offset = o i; header_length = n i; version = v i; word_size = w i; opcode_base = b i; opcode_lengths = ls i }
+header-with {s} R = λ i. record {
+  offset = R.offset i;
+  header_length = R.header-length i;
+  version = R.version i;
+  word_size = R.word_size i;
+  opcode_base = R.opcode_base-is i;
+  opcode_lengths = lengths-are s i;
+}

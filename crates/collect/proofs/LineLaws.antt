@@ -5,7 +5,7 @@ use Prim.Native.Nat.{ℕ, ◌+◌, ◌*◌, ◌≤◌, ◌<◌, ◌^◌}
 use native.Mathlib.Omega.{arith}
 use lib.ListN.{length}
 use borrow.Author.Tests.{lt-ltb, le-ltb}
-use Rattle.std.specs.Prelude.{Option as Maybe, Some}
+use Rattle.std.specs.Prelude.{Option as Maybe}
 use Rattle.tlv.specs.declared.model.FileIndex.{FileIndex}
 use Rattle.tlv.specs.Grammar.{row_field_size, row_line_at, row_column_at}
 use Rattle.tlv.specs.Lists.{at}
@@ -19,16 +19,14 @@ use Rattle.buffers.proofs.BufferLaws.{put-none, put_as}
 use Rattle.buffers.proofs.ChunkLaws.{le_at-chunk, le_at-front}
 use Rattle.buffers.proofs.OutputLaws.{put-about}
 use Rattle.buffers.proofs.TableLaws.{kept_refl}
-use Rattle.lines.specs.Files.{get}
 use Rattle.lines.specs.Lines.{raw_line, convert_line}
-use Rattle.files.specs.Indices.{indices_in, number_of}
 use Rattle.rows.specs.Sizes.{line_size}
 use Rattle.rows.specs.Stored.{sequence_of, PutLine}
 use Rattle.rows.proofs.StoredLaws.{lines-push}
 use Rattle.collect.specs.declared.convert.Conversion.{Conversion}
 use Rattle.collect.specs.declared.convert.Converting.{Converting}
 use Rattle.collect.specs.declared.convert.Row.{Row}
-use Rattle.collect.specs.Converts.{offsets_of, raw_of, LineAppended, LineConverted, KnownConverted}
+use Rattle.collect.specs.Converts.{offsets_of, raw_of, LineAppended, LineConverted}
 
 -- ---- warnings
 
@@ -56,10 +54,6 @@ module _ {w : List ℕ} {c : Conversion} {r : Row} {file : FileIndex} where
     is = λ table indices. rw (lt-ltb r.line (2 ^ 32) h, lines-push c.lines count P, e);
     rest = P.rest;
   }
-
-  -- the file's number is the map's
-  pub line_known : {w' : List ℕ} {count : ℕ} → number_of (Some file) ≡ get (indices_in w c.indices) r.file.0 → LineAppended w w' c r file count → KnownConverted w w' c r count
-  line_known found A = record { file = file; known = sym found; line = A }
 
   pub line-put : {w' warnings : List ℕ} {st : Converting} → LineAppended w w' c r file st.count → st.warned ≤ top → length warnings < top
       → LineConverted w w' warnings warnings c st r file (record { table = st.table; count = st.count + 1; warned = st.warned })

@@ -1,7 +1,7 @@
 -- One step of a walk over the rows of a unit: the next field of a row is the first row, and the others follow it.
 use mathlib.Core.Path.{◌≡◌, refl, ap, sym}
 use mathlib.Core.List.{List, [], ◌∷◌, map}
-use Prim.Native.Nat.{ℕ, ◌+◌, ◌≤◌, ◌<◌}
+use Prim.Native.Nat.{ℕ, ◌+◌, ◌≤◌}
 use native.Mathlib.Omega.{arith}
 use lib.ListN.{length, take, drop}
 use Rattle.std.specs.Prelude.{Some, None}
@@ -26,10 +26,6 @@ module _ (s : List ℕ) (p : ℕ) where
     pub rows_next : rows_from s p ≡ row_of (take f.len (drop f.start s)) ∷ rows_from s f.next
     unfolding rows_from
     rows_next = ap (map row_of) (sym own.is)
-
-    -- a place with a row after it lies inside
-    pub row-ahead : p < length s
-    row-ahead = let w = own-within s p 0x16 f own in omega arith
 
     module _ (h : Placed s p) where
       pub row-long : f.len ≡ row_field_size

@@ -10,8 +10,7 @@ use native.Mathlib.Omega.{arith}
 use lib.Dec.{ltb, eqb}
 use lib.ListN.{length}
 use borrow.Author.Tests.{eq-eqb, ne_eqb, lt-ltb, le-ltb}
-use Rattle.std.specs.Prelude.{Option as Maybe, Some, None}
-use Rattle.tlv.specs.declared.model.AddressRange.{AddressRange}
+use Rattle.std.specs.Prelude.{Some, None}
 use Rattle.tlv.specs.Lists.{at}
 use Rattle.tlv.specs.Bytes.{le, le_at}
 use Rattle.tlv.specs.Model.{LineRow}
@@ -22,7 +21,7 @@ use Rattle.line_program.specs.Scan.{offsets_at}
 use Rattle.lines.specs.Lines.{RawSequence}
 use Rattle.files.proofs.PieceLaws.{at_some, at_none}
 use Rattle.rows.specs.Sizes.{range_size}
-use Rattle.rows.specs.Stored.{sequence_of, range_of, range_at, ranges_of, PutSequenceRange}
+use Rattle.rows.specs.Stored.{sequence_of, range_of, range_at, ranges_of}
 use Rattle.rows.proofs.StoredLaws.{ranges-nil}
 use Rattle.collect.specs.Passes.{start_or, sequences_from, with_offset, SequencePut, SequencesIn}
 

@@ -10,6 +10,7 @@ use lib.Dec.{leb}
 use lib.ListN.{length}
 use Rattle.std.specs.Prelude.{Result, Ok, Err}
 use Rattle.tlv.specs.declared.refusal.Refusal.{Refusal}
+use Rattle.tlv.specs.declared.model.DebugSource.{DebugSource}
 use Rattle.tlv.specs.Outcome.{done, ◌>>=◌}
 use Rattle.tlv.specs.Model.{CompilationUnit, LineHeader, HeaderFile}
 use Rattle.tlv.proofs.OutcomeLaws.{done-is, with_done}
@@ -20,12 +21,16 @@ use Rattle.lines.specs.Files.{FileTable, FileIndices, intern_file, Indexed, inte
 use Rattle.files.specs.declared.spans.FileUnit.{FileUnit}
 use Rattle.files.specs.declared.store.StoredFiles.{StoredFiles}
 use Rattle.files.specs.declared.header.InternedFiles.{InternedFiles}
-use Rattle.files.specs.Pieces.{header_here, UnitPlaced, Described}
+use Rattle.files.specs.Pieces.{source_in, header_here, Described}
 use Rattle.files.specs.Store.{extent, table_of, FilesIn}
-use Rattle.files.specs.Interns.{Listed, MapRoom, InternsHeader, indexed_of, map_extent}
+use Rattle.files.specs.Interns.{MapRoom, InternsHeader, indexed_of, map_extent}
 use Rattle.files.proofs.GrownLaws.{unit_kept, files-kept, table_kept, grown-after}
 use Rattle.collect.specs.Stages.{UnitRoom, InternsUnit}
 use Rattle.collect.proofs.FrameLaws.{but_wide}
+
+-- the sheet of the main source
+pub main-sheet : (main supplementary : List ℕ) (x : DebugSource) → x ≡ DebugSource.Main → source_in main supplementary x ≡ main
+main-sheet main supplementary x e = rw e
 
 -- ---- how many numbers the map has
 
@@ -51,16 +56,10 @@ module _ (u : CompilationUnit) (h : LineHeader) where
 
 -- ---- the steps
 
-module _ {main supplementary w w₁ : List ℕ} {p : ℕ} {t : StoredFiles} {base : ℕ} {u : FileUnit} (D : Described main w w₁ p base u) (F : FilesIn main supplementary w t) (R : UnitRoom main w t p base)
+module _ {main supplementary w w₁ : List ℕ} {p : ℕ} {t : StoredFiles} {base : ℕ} {u : FileUnit} (D : Described main w w₁ DebugSource.Main p base u) (F : FilesIn main supplementary w t) (R : UnitRoom main w t p base)
     (size : length w₁ ≡ length w) where
   pub described-files : FilesIn main supplementary w₁ t
   described-files = files-kept F (but_one D.rest) (inl R.table, tt) size
-
-  pub described-placed : UnitPlaced main p → UnitPlaced main u.place
-  described-placed U = rw D.place U
-
-  pub described-listed : Listed main supplementary (unit_here main p) (header_here main p) → Listed main supplementary (unit_here main u.place) (header_here main u.place)
-  described-listed L = rw D.place L
 
   pub described-room : MapRoom main w₁ t u (base + u.directory_count * 8)
   described-room =
@@ -102,6 +101,7 @@ module _ {main supplementary w w₁ : List ℕ} {p : ℕ} {t : StoredFiles} {bas
           after = record {
             grown = grown-after F (but_one D.rest) (inl R.table, tt) after.0;
             described = unit_kept D.unit I.rest (inr (omega arith), (inl (omega arith), tt)) (omega arith);
+            source = D.source-is;
             place = D.place;
             directories = D.directories;
             count = D.count;

@@ -1,2 +1,1 @@
 mod CountLaws
-mod SequencesLaws

@@ -1,8 +1,10 @@
 -- Contract. What the conversion of a row promises: the file of a row, its line and its sequence.
-use Rattle.std.specs.Prelude.{ℕ, ◌+◌, ◌*◌, ◌≤◌, ◌≡◌, Bool, true, false, cond, ◌⊎◌, List, [], ◌∷◌, leb, ltb, eqb, length, Option as Maybe, Some, None, Result, Ok, Err}
+use Rattle.std.specs.Prelude.{ℕ, ◌+◌, ◌*◌, ◌≤◌, ◌≡◌, Bool, true, false, cond, ◌⊎◌, List, [], ◌∷◌, leb, ltb, eqb, length}
+use Rattle.std.specs.Prelude.{Option as Maybe, Some, None, Result, Ok, Err}
 use Rattle.std.proofs.Math.Option.{none, some}
 use Rattle.tlv.specs.Tags.{file_zero_tag, unit_whole}
 use Rattle.tlv.specs.declared.model.FileIndex.{FileIndex}
+use Rattle.tlv.specs.declared.model.DebugSource.{DebugSource}
 use Rattle.tlv.specs.declared.refusal.Refusal.{Refusal}
 use Rattle.tlv.specs.Refusals.{number_of}
 use Rattle.tlv.specs.Outcome.{refused, done}
@@ -37,7 +39,7 @@ header_in main c = header_here main c.unit.place
 
 -- the offsets of the unit's sequences
 abbrev pub offsets_of : List ℕ → Conversion → List ℕ
-offsets_of w c = offsets_at w c.offsets c.offset_count
+offsets_of w c = offsets_at w c.offsets.base c.offsets.count
 
 -- where a number of the header has no number of the table, its file has no path; but for file 0 before version 5, which may not have been looked at
 pub record Unnamed (u : CompilationUnit) (h : LineHeader) (is : FileIndices) : Type 0 where
@@ -54,16 +56,18 @@ converted_in main supplementary w c st warnings = record {
 }
 
 -- the file table, the sequences' offsets, the directories' spans, the unit's map and its lines stand one above the other in w, and the unit is described there
+-- Stays a clause: it speaks of the work slice, which each write changes.
 pub record ConversionIn (main supplementary w : List ℕ) (c : Conversion) (st : Converting) : Type 0 where
   pub placed : UnitPlaced main c.unit.place
   pub files : FilesIn main supplementary w st.table
+  pub source : c.unit.source ≡ DebugSource.Main
   pub unit : FileUnitIn main w c.unit
   pub listed : Listed main supplementary (unit_at main c) (header_in main c)
   pub zero : NextOwn main (c.unit.place + unit_whole) file_zero_tag c.zero
   pub unnamed : Unnamed (unit_at main c) (header_in main c) (indices_in w c.indices)
   pub all : c.indices.count ≡ cond (leb (header_in main c).version 4) 1 0 + length (unit_at main c).files
-  pub table : st.table.base + extent st.table ≤ c.offsets
-  pub offsets : c.offsets + c.offset_count * offset_record ≤ c.unit.directories
+  pub table : st.table.base + extent st.table ≤ c.offsets.base
+  pub offsets : c.offsets.base + c.offsets.count * offset_record ≤ c.unit.directories
   pub directories : c.unit.directories + c.unit.directory_count * 8 ≤ c.indices.base
   pub indices : c.indices.base + c.indices.count * index_record ≤ c.lines
   pub lines : c.lines + st.count * line_size ≤ length w

@@ -1,5 +1,5 @@
 -- Contract. Where the rows of a unit come from: its row fields, or the line program (document 02, E8).
-use Rattle.std.specs.Prelude.{ℕ, ◌+◌, ◌-◌, ◌*◌, ◌≤◌, ◌≡◌, List, length, take, drop, eqb, Result, Ok, Err}
+use Rattle.std.specs.Prelude.{ℕ, ◌+◌, ◌*◌, ◌≤◌, ◌≡◌, List, length, drop, eqb, Result, Ok, Err}
 use Rattle.tlv.specs.declared.refusal.Refusal.{Refusal}
 use Rattle.tlv.specs.Refusals.{number_of}
 use Rattle.tlv.specs.Outcome.{Outcome, refused, done}
@@ -18,7 +18,7 @@ use Rattle.machine.specs.Machine.{program_rows}
 use Rattle.machine.specs.Steps.{line_encoding, opcodes_with}
 use Rattle.machine.specs.LineRows.{line_rows, rows_most}
 use Rattle.collect.specs.declared.source.RowSource.{RowSource}
-use Rattle.collect.specs.declared.source.UnitRows.{UnitRows}
+use Rattle.collect.specs.declared.unit_rows.UnitRows.{UnitRows}
 use Rattle.collect.specs.declared.source.GatheredRows.{GatheredRows}
 use Rattle.collect.specs.Passes.{Counted, rows_from, count_all, RowsCounted}
 use Rattle.collect.specs.Tables.{table_rows}
@@ -28,22 +28,14 @@ unfoldable pub program_in : Encoding → List ℕ → List ℕ → Outcome (List
 program_in e lengths program = program_rows (line_encoding e) (opcodes_with e lengths) program
 
 -- the rows of the unit whose fields follow place p
-abbrev pub source_rows : List ℕ → List ℕ → ℕ → RowSource → Outcome (List LineRow)
-source_rows main program p RowSource.Fields = done (rows_from main p)
-source_rows main program p (RowSource.Program e from to) = program_in e (take (to - from) (drop from main)) program
+abbrev pub source_rows : List ℕ → ℕ → RowSource → Outcome (List LineRow)
+source_rows main p RowSource.Fields = done (rows_from main p)
+source_rows main p (RowSource.Program e lengths program) = program_in e lengths.now program.now
 
 -- how many rows there can be, for the room of their tables
-abbrev pub most_rows : List ℕ → List ℕ → ℕ → RowSource → ℕ
-most_rows main program p RowSource.Fields = length (rows_from main p)
-most_rows main program p (RowSource.Program e from to) = length program
-
--- the opcode lengths lie in the sheet
-abbrev pub WithinBy : List ℕ → RowSource → Type 0
-WithinBy main RowSource.Fields = Unit {0}
-WithinBy main (RowSource.Program e from to) = (from ≤ to) × (to ≤ length main)
-
-pub record SourceWithin (main : List ℕ) (source : RowSource) : Type 0 where
-  pub is : WithinBy main source
+abbrev pub most_rows : List ℕ → ℕ → RowSource → ℕ
+most_rows main p RowSource.Fields = length (rows_from main p)
+most_rows main p (RowSource.Program e lengths program) = length program.now
 
 -- the numbers of the encoding whose payload starts at a place
 pub record EncodingRead (s : List ℕ) (start base : ℕ) (e : Encoding) : Type 0 where
@@ -54,44 +46,43 @@ pub record EncodingRead (s : List ℕ) (start base : ℕ) (e : Encoding) : Type 
   pub line-range : e.line_range ≡ le_at 1 s (start + 4)
   pub opcode_base-is : e.opcode_base ≡ base
 
--- the source of the rows, and how many there can be, of any unit whose fields follow p and whose header is the payload of len bytes from `start` on
-pub record SourceFound (main : List ℕ) (p start len : ℕ) (source : RowSource) : Type 0 where
-  pub within : SourceWithin main source
-  pub is : (u : CompilationUnit) (program : List ℕ) → u.encoding ≡ map_option encoding_of (payload_of encoding_tag (own_fields (fields (drop p main))))
-      → u.rows ≡ rows_from main p → source_rows main program p source ≡ line_rows u (header_of (take len (drop start main))) program
-  pub most : (u : CompilationUnit) (program : List ℕ) → u.encoding ≡ map_option encoding_of (payload_of encoding_tag (own_fields (fields (drop p main))))
-      → u.rows ≡ rows_from main p → most_rows main program p source ≡ rows_most u program
+-- the source of the rows, and how many there can be, of any unit whose fields follow p, with its header's payload and its program
+pub record SourceFound (main : List ℕ) (p : ℕ) (payload program : List ℕ) (source : RowSource) : Type 0 where
+  pub is : (u : CompilationUnit) → u.encoding ≡ map_option encoding_of (payload_of encoding_tag (own_fields (fields (drop p main))))
+      → u.rows ≡ rows_from main p → source_rows main p source ≡ line_rows u (header_of payload) program
+  pub most : (u : CompilationUnit) → u.encoding ≡ map_option encoding_of (payload_of encoding_tag (own_fields (fields (drop p main))))
+      → u.rows ≡ rows_from main p → most_rows main p source ≡ rows_most u program
 
 -- ---- the rows that were gathered
 
-abbrev pub rows_here : List ℕ → List ℕ → ℕ → UnitRows → List LineRow
-rows_here main w p UnitRows.Fields = rows_from main p
-rows_here main w p (UnitRows.Table at count) = table_rows w at count
+abbrev pub rows_here : List ℕ → List ℕ → UnitRows → List LineRow
+rows_here main w (UnitRows.Fields p) = rows_from main p
+rows_here main w (UnitRows.Table r) = table_rows w r.at r.count
 
--- a table stands in w, and not below a place
-abbrev pub TableAbove : List ℕ → ℕ → UnitRows → Type 0
-TableAbove w low UnitRows.Fields = Unit {0}
-TableAbove w low (UnitRows.Table at count) = (low ≤ at) × (at + count * row_field_size ≤ length w)
+-- fields of an accepted sheet are left, or a table stands in w, and not below a place
+abbrev pub ReadyBy : List ℕ → List ℕ → ℕ → UnitRows → Type 0
+ReadyBy main w low (UnitRows.Fields p) = Placed main p
+ReadyBy main w low (UnitRows.Table r) = (low ≤ r.at) × (r.at + r.count * row_field_size ≤ length w)
 
 -- they can be walked over while the bytes below a place are written
-pub record RowsReady (main w : List ℕ) (p low : ℕ) (rows : UnitRows) : Type 0 where
-  pub placed : Placed main p
-  pub above : TableAbove w low rows
+-- Stays a clause: it speaks of the work slice, which each write changes.
+pub record RowsReady (main w : List ℕ) (low : ℕ) (rows : UnitRows) : Type 0 where
+  pub is : ReadyBy main w low rows
 
 -- they were counted, and stand above the lines that they can become
-pub record UnitGathered (x : Outcome (List LineRow)) (main w : List ℕ) (p lines most n m : ℕ) (rows : UnitRows) : Type 0 where
-  pub is : x ≡ done (rows_here main w p rows)
-  pub counted : RowsCounted (rows_here main w p rows) n m
-  pub few : length (rows_here main w p rows) ≤ most
-  pub ready : RowsReady main w p (lines + line_size * length (rows_here main w p rows)) rows
+pub record UnitGathered (x : Outcome (List LineRow)) (main w : List ℕ) (lines most n m : ℕ) (rows : UnitRows) : Type 0 where
+  pub is : x ≡ done (rows_here main w rows)
+  pub counted : RowsCounted (rows_here main w rows) n m
+  pub few : length (rows_here main w rows) ≤ most
+  pub ready : RowsReady main w (lines + line_size * length (rows_here main w rows)) rows
 
-abbrev pub GathersUnitBy : Outcome (List LineRow) → List ℕ → List ℕ → ℕ → ℕ → ℕ → Result GatheredRows Refusal → Type 0
-GathersUnitBy x main w p lines most (Ok r) = UnitGathered x main w p lines most r.lines r.sequences r.rows
-GathersUnitBy x main w p lines most (Err e) = count_all x ≡ refused (number_of e)
+abbrev pub GathersUnitBy : Outcome (List LineRow) → List ℕ → List ℕ → ℕ → ℕ → Result GatheredRows Refusal → Type 0
+GathersUnitBy x main w lines most (Ok r) = UnitGathered x main w lines most r.lines r.sequences r.rows
+GathersUnitBy x main w lines most (Err e) = count_all x ≡ refused (number_of e)
 
 -- there are `most` of them at most; a fault too keeps what lies outside the room of the lines
-pub record GathersUnit (x : Outcome (List LineRow)) (main w w' : List ℕ) (p lines most : ℕ) (r : Result GatheredRows Refusal) : Type 0 where
-  pub is : GathersUnitBy x main w' p lines most r
+pub record GathersUnit (x : Outcome (List LineRow)) (main w w' : List ℕ) (lines most : ℕ) (r : Result GatheredRows Refusal) : Type 0 where
+  pub is : GathersUnitBy x main w' lines most r
   pub rest : Kept w w' lines (row_room * most)
 
 -- the fault of rows, or else a later one

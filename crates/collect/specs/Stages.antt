@@ -1,8 +1,9 @@
 -- Contract. What the steps of collect_lines promise, each of what stands in the work slice before and after it.
-use Rattle.std.specs.Prelude.{ℕ, ◌+◌, ◌*◌, ◌≤◌, ◌≡◌, List, [], ◌∷◌, map, length, take, drop, Result, Ok, Err}
+use Rattle.std.specs.Prelude.{ℕ, ◌+◌, ◌*◌, ◌≤◌, ◌≡◌, List, [], ◌∷◌, map, length, Result, Ok, Err}
 use Rattle.std.proofs.Math.Option.{none, some}
 use Rattle.tlv.specs.Tags.{file_zero_tag, unit_whole}
 use Rattle.tlv.specs.declared.refusal.Refusal.{Refusal}
+use Rattle.tlv.specs.declared.model.DebugSource.{DebugSource}
 use Rattle.tlv.specs.Refusals.{number_of}
 use Rattle.tlv.specs.Outcome.{Outcome, refused, done, ◌>>=◌}
 use Rattle.tlv.specs.Bytes.{le_at}
@@ -19,6 +20,7 @@ use Rattle.lines.specs.Files.{FileTable, FileIndices, Indexed, intern_header_fil
 use Rattle.lines.specs.Lines.{Run, run_rows, convert_rows, sort_rows, same_row, drop_neighbours, Collected, mismatch, unit_lines}
 use Rattle.files.specs.declared.index.StoredIndices.{StoredIndices}
 use Rattle.files.specs.declared.spans.FileUnit.{FileUnit}
+use Rattle.files.specs.declared.sheets.Sheets.{Sheets}
 use Rattle.files.specs.declared.store.StoredFiles.{StoredFiles}
 use Rattle.files.specs.Pieces.{header_here, FileUnitIn}
 use Rattle.files.specs.Store.{extent, table_of, FilesIn, Grown}
@@ -28,40 +30,34 @@ use Rattle.rows.specs.declared.unit_lines.StoredLines.{StoredLines}
 use Rattle.rows.specs.Sizes.{entry_size, line_size, range_size, row_room}
 use Rattle.rows.specs.Stored.{lines_of, ranges_of}
 use Rattle.rows.specs.Selects.{RowsIn}
-use Rattle.machine.specs.LineRows.{line_rows, rows_most}
 use Rattle.collect.specs.declared.collect.CollectedLines.{CollectedLines}
 use Rattle.collect.specs.declared.interned.InternedUnit.{InternedUnit}
 use Rattle.collect.specs.declared.convert.Conversion.{Conversion}
-use Rattle.collect.specs.declared.source.RowSource.{RowSource}
+use Rattle.collect.specs.declared.passes.StoredOffsets.{StoredOffsets}
 use Rattle.collect.specs.Passes.{sequences_from, with_offset}
-use Rattle.collect.specs.Sources.{source_rows, most_rows, SourceWithin}
 use Rattle.collect.specs.Converts.{unit_at, header_in, offsets_of}
 use Rattle.collect.specs.Collects.{UnitIn, LinesRoom, lines_in}
 
 -- ---- the header
 
--- the numbers of the header whose payload starts at a place
-pub record HeaderRead (s : List ℕ) (start : ℕ) (r : Header) : Type 0 where
-  pub offset : r.offset ≡ le_at 8 s start
-  pub header-length : r.header_length ≡ le_at 8 s (start + 8)
-  pub version : r.version ≡ le_at 1 s (start + 16)
-  pub word_size : r.word_size ≡ le_at 1 s (start + 17)
-  pub opcode_base-is : r.opcode_base ≡ le_at 1 s (start + 18)
+-- the numbers of the header whose payload is s
+pub record HeaderRead (s : List ℕ) (r : Header) : Type 0 where
+  pub offset : r.offset ≡ le_at 8 s 0
+  pub header-length : r.header_length ≡ le_at 8 s 8
+  pub version : r.version ≡ le_at 1 s 16
+  pub word_size : r.word_size ≡ le_at 1 s 17
+  pub opcode_base-is : r.opcode_base ≡ le_at 1 s 18
 
--- the unit at place p has a header, whose payload is the len bytes from `start` on
-pub record HeaderIn (s : List ℕ) (p start len : ℕ) : Type 0 where
-  pub is : (unit_here s p).header ≡ some (header_of (take len (drop start s)))
-  pub long : 19 ≤ len
-  pub within : start + len ≤ length s
+-- the unit at place p has a header, and this is its payload
+pub record HeaderIn (s : List ℕ) (p : ℕ) (payload : List ℕ) : Type 0 where
+  pub is : (unit_here s p).header ≡ some (header_of payload)
+  pub long : 19 ≤ length payload
 
--- a unit with a header, the source of its rows, the file table, and room for the unit's lines
-pub record UnitFound (main supplementary program w : List ℕ) (t : StoredFiles) (p start len : ℕ) (source : RowSource) (free : ℕ) : Type 0 where
+-- a unit with a header, the file table, and room for the unit's lines
+pub record UnitFound (main supplementary program w : List ℕ) (t : StoredFiles) (p : ℕ) (payload : List ℕ) (free : ℕ) : Type 0 where
   pub placed : Placed main 0
   pub unit : UnitIn main p
-  pub header : HeaderIn main p start len
-  pub within : SourceWithin main source
-  pub source_is : source_rows main program (p + unit_whole) source ≡ line_rows (unit_here main p) (header_here main p) program
-  pub most : most_rows main program (p + unit_whole) source ≡ rows_most (unit_here main p) program
+  pub header : HeaderIn main p payload
   pub files : FilesIn main supplementary w t
   pub room : LinesRoom main w program t p free
 
@@ -81,6 +77,7 @@ pub record UnitInterned (main supplementary w w' files files' : List ℕ) (p : �
     (indices : StoredIndices) (t' : StoredFiles) : Type 0 where
   pub grown : Grown main supplementary w w' files files' t t'
   pub described : FileUnitIn main w' unit
+  pub source : unit.source ≡ DebugSource.Main
   pub place : unit.place ≡ p
   pub directories : unit.directories ≡ base
   pub count : unit.directory_count ≡ length (unit_here main p).directories
@@ -100,16 +97,16 @@ pub record InternsUnit (main supplementary w w' files files' : List ℕ) (p : �
 -- ---- the unit's rows
 
 -- a unit's conversion, with its lines behind its map
-pub record ConversionOf (main : List ℕ) (unit : FileUnit) (indices : StoredIndices) (offsets count : ℕ) (r : Conversion) : Type 0 where
+pub record ConversionOf (sheets : Sheets) (unit : FileUnit) (indices : StoredIndices) (offsets : StoredOffsets) (r : Conversion) : Type 0 where
   pub is : r ≡ record {
+    sheets = sheets;
     unit = unit;
     zero = r.zero;
     indices = indices;
     offsets = offsets;
-    offset_count = count;
     lines = indices.base + indices.count * index_record;
   }
-  pub zero : NextOwn main (unit.place + unit_whole) file_zero_tag r.zero
+  pub zero : NextOwn sheets.main.now (unit.place + unit_whole) file_zero_tag r.zero
 
 -- the sequences of a unit's rows were written behind its `count` lines, and these sorted and freed of equal neighbours
 pub record StoresLines (given : List LineRow) (w w' : List ℕ) (offsets n lines count : ℕ) (r : StoredLines) : Type 0 where

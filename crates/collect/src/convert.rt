@@ -1,5 +1,5 @@
 // Rows become lines of the unit: the file of each is found or interned; a row that has none, or too large a line, gives a warning.
-ghost use Rattle.std.specs.Prelude.{◌≡◌, ◌+◌, ◌*◌, ◌≤◌, ◌<◌, length};
+ghost use Rattle.std.specs.Prelude.{◌≡◌, ◌+◌, ◌*◌, ◌≤◌, ◌<◌, ◌^◌, length};
 ghost use Rattle.std.proofs.Math.Option.{none};
 ghost use Rattle.line_program.specs.Scan.{offset_record};
 ghost use Rattle.lines.specs.Files.{get};
@@ -7,28 +7,32 @@ ghost use Rattle.files.specs.Indices.{indices_in, index_record};
 ghost use Rattle.rows.specs.Sizes.{line_size};
 ghost use Rattle.collect.specs.Converts.{ConversionIn, sought_of, LineAppended, LineConverted, ConvertsKnown, RowConverts};
 
+use crate::passes::{StoredOffsets, sequence_offset};
 use crate::sought::{SoughtFile, sought_file};
 use files::index::{FileNumber, StoredIndices};
+use files::intern::intern_file;
+use files::sheets::Sheets;
 use files::spans::{FileUnit, Span};
 use files::store::StoredFiles;
 use rows::line::LINE_SIZE;
 use tlv::fields::FieldSpan;
-use tlv::model::{DebugSource, FileIndex, LineEntry};
+use tlv::model::{FileIndex, LineEntry};
 use tlv::refusal::Refusal;
 
-// The unit, its file 0 before version 5, its map of file numbers, the table of its sequences' offsets, and where its lines go.
+// Both sheets, the unit, its file 0 before version 5, its map of file numbers, the table of its sequences' offsets, and where its lines go.
+// Stays bare: it holds slices.
 #[derive(Clone, Copy)]
-pub struct Conversion {
+pub struct Conversion<'a> {
+    pub sheets: Sheets<'a>,
     pub unit: FileUnit,
     pub zero: Option<FieldSpan>,
     pub indices: StoredIndices,
-    pub offsets: usize,
-    pub offset_count: usize,
+    pub offsets: StoredOffsets,
     pub lines: usize,
 }
 
 // The file table, how many lines there are, and how many bytes of warnings were written.
-#[derive(Clone, Copy)]
+#[derive(Clone, Copy, Debug)]
 pub struct Converting {
     pub table: StoredFiles,
     pub count: usize,
@@ -36,7 +40,7 @@ pub struct Converting {
 }
 
 // A row with the number of its sequence.
-#[derive(Clone, Copy)]
+#[derive(Clone, Copy, Debug)]
 pub struct Row {
     pub address: u64,
     pub file: FileNumber,
@@ -46,13 +50,14 @@ pub struct Row {
 }
 
 // Appends the line of a row whose file has a number and whose line fits 32 bits.
+// Stays a clause: a bound of the work slice, which is lent.
 fn append_line(c: Conversion, row: Row, index: FileIndex, work: &mut [u8], count: usize)
-    requires offset_record_in_bounds { c.offsets + c.offset_count * offset_record ≤ length work.old }
+    requires offset_record_in_bounds { c.offsets.base + c.offsets.count * offset_record ≤ length work.old }
     requires line_size_in_bounds { c.lines + count * line_size + line_size ≤ length work.old }
-    requires line_bound { row.line < 4294967296 }
-    ensures { LineAppended work.old work.new c row index count }
+    requires line_bound { row.line < 2 ^ 32 }
+    ensures { LineAppended work.old work.new c.entry row index count }
 {
-    let offset = crate::passes::sequence_offset(work, c.offsets, c.offset_count, row.sequence);
+    let offset = sequence_offset(work, c.offsets, row.sequence);
     let entry = LineEntry {
         address: row.address,
         file: index,
@@ -63,6 +68,7 @@ fn append_line(c: Conversion, row: Row, index: FileIndex, work: &mut [u8], count
 }
 
 // Appends the line of a row whose file has a number; a line past 32 bits warns.
+// Stays a clause: a bound of the work slice, which is lent.
 fn convert_line(
     c: Conversion,
     row: Row,
@@ -71,9 +77,9 @@ fn convert_line(
     warnings: &mut [u8],
     st: Converting,
 ) -> Converting
-    requires offset_record_in_bounds { c.offsets + c.offset_count * offset_record ≤ length work.old }
+    requires offset_record_in_bounds { c.offsets.base + c.offsets.count * offset_record ≤ length work.old }
     requires line_size_in_bounds { c.lines + st.count * line_size + line_size ≤ length work.old }
-    ensures { LineConverted work.old work.new warnings.old warnings.new c st row index result }
+    ensures { LineConverted work.old work.new warnings.old warnings.new c.entry st row index result }
 {
     if row.line < 4294967296 {
         append_line(c, row, index, work, st.count);
@@ -90,8 +96,6 @@ fn convert_line(
 
 // Converts a row of file 0 before version 5, which has no number yet.
 fn convert_zero(
-    main: &[u8],
-    supplementary: &[u8],
     c: Conversion,
     row: Row,
     file: Span,
@@ -100,24 +104,14 @@ fn convert_zero(
     warnings: &mut [u8],
     st: Converting,
 ) -> Result<Converting, Refusal>
-    requires conversion_in { ConversionIn main.now supplementary.now work.old c st }
+    requires conversion_in { ConversionIn c.sheets.main.now c.sheets.supplementary.now work.old c st }
     requires line_size_in_bounds { c.lines + st.count * line_size + line_size ≤ length work.old }
     requires file_value { get (indices_in work.old c.indices) row.file.0 ≡ none }
     requires file_value_2 { SoughtFile.Zero file ≡ sought_of c row.file.0 }
-    ensures { RowConverts main.now supplementary.now work.old work.new files.old
-        files.new warnings.old warnings.new c st row result }
+    ensures { RowConverts c.entry.sheets.main.now c.entry.sheets.supplementary.now work.old work.new files.old
+        files.new warnings.old warnings.new c.entry st row result }
 {
-    let Some(added) = files::intern::intern_file(
-        main,
-        supplementary,
-        DebugSource::Main,
-        c.unit,
-        file,
-        work,
-        files,
-        st.table,
-    )?
-    else {
+    let Some(added) = intern_file(c.sheets, c.unit, file, work, files, st.table)? else {
         return Ok(st);
     };
     files::index::insert_index(work, c.indices, row.file, added.number);
@@ -130,8 +124,6 @@ fn convert_zero(
 
 // Converts a row whose file has no number in the unit's map.
 fn convert_unknown(
-    main: &[u8],
-    supplementary: &[u8],
     c: Conversion,
     row: Row,
     work: &mut [u8],
@@ -139,11 +131,11 @@ fn convert_unknown(
     warnings: &mut [u8],
     st: Converting,
 ) -> Result<Converting, Refusal>
-    requires conversion_in { ConversionIn main.now supplementary.now work.old c st }
+    requires conversion_in { ConversionIn c.sheets.main.now c.sheets.supplementary.now work.old c st }
     requires line_size_in_bounds { c.lines + st.count * line_size + line_size ≤ length work.old }
     requires file_value { get (indices_in work.old c.indices) row.file.0 ≡ none }
-    ensures { RowConverts main.now supplementary.now work.old work.new files.old
-        files.new warnings.old warnings.new c st row result }
+    ensures { RowConverts c.entry.sheets.main.now c.entry.sheets.supplementary.now work.old work.new files.old
+        files.new warnings.old warnings.new c.entry st row result }
 {
     match sought_file(c, row.file) {
         SoughtFile::Missing => Ok(Converting {
@@ -151,16 +143,12 @@ fn convert_unknown(
             ..st
         }),
         SoughtFile::Unnamed => Ok(st),
-        SoughtFile::Zero(file) => {
-            convert_zero(main, supplementary, c, row, file, work, files, warnings, st)
-        }
+        SoughtFile::Zero(file) => { convert_zero(c, row, file, work, files, warnings, st) }
     }
 }
 
 // Converts a row.
 pub fn convert_row(
-    main: &[u8],
-    supplementary: &[u8],
     c: Conversion,
     row: Row,
     work: &mut [u8],
@@ -168,13 +156,13 @@ pub fn convert_row(
     warnings: &mut [u8],
     st: Converting,
 ) -> Result<Converting, Refusal>
-    requires conversion_in { ConversionIn main.now supplementary.now work.old c st }
+    requires conversion_in { ConversionIn c.sheets.main.now c.sheets.supplementary.now work.old c st }
     requires line_size_in_bounds { c.lines + st.count * line_size + line_size ≤ length work.old }
-    ensures { RowConverts main.now supplementary.now work.old work.new files.old
-        files.new warnings.old warnings.new c st row result }
+    ensures { RowConverts c.entry.sheets.main.now c.entry.sheets.supplementary.now work.old work.new files.old
+        files.new warnings.old warnings.new c.entry st row result }
 {
     let Some(index) = files::index::get_index(work, c.indices, row.file) else {
-        return convert_unknown(main, supplementary, c, row, work, files, warnings, st);
+        return convert_unknown(c, row, work, files, warnings, st);
     };
     Ok(convert_line(c, row, index, work, warnings, st))
 }
@@ -182,9 +170,9 @@ pub fn convert_row(
 // Appends the line of a row whose file has a number in the unit's map and whose line fits 32 bits; whether it did.
 pub fn convert_known(c: Conversion, row: Row, work: &mut [u8], count: usize) -> bool
     requires index_record_in_bounds { c.indices.base + c.indices.count * index_record ≤ length work.old }
-    requires offset_record_in_bounds { c.offsets + c.offset_count * offset_record ≤ length work.old }
+    requires offset_record_in_bounds { c.offsets.base + c.offsets.count * offset_record ≤ length work.old }
     requires line_size_in_bounds { c.lines + count * line_size + line_size ≤ length work.old }
-    ensures { ConvertsKnown work.old work.new c row count result }
+    ensures { ConvertsKnown work.old work.new c.entry row count result }
 {
     let Some(index) = files::index::get_index(work, c.indices, row.file) else {
         return false;

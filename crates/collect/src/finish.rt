@@ -15,7 +15,9 @@ ghost use Rattle.collect.specs.Stages.{StoresLines, FinishesLines};
 
 use crate::collect::CollectedLines;
 use crate::convert::{Conversion, Converting};
-use crate::source::{GatheredRows, UnitRows, collect_unit_sequences, convert_unit_rows};
+use crate::source::GatheredRows;
+use crate::unit_rows::UnitRows;
+use crate::walks::{collect_sequences, convert_rows};
 use files::store::StoredFiles;
 use rows::line::{LINE_SIZE, RANGE_SIZE};
 use rows::unit_lines::StoredLines;
@@ -33,26 +35,18 @@ fn warn_mismatch(warnings: &mut [u8], warned: usize, sequences: usize, offsets: 
 }
 
 // Writes the unit's sequences behind its lines, sorts these and drops equal neighbours. A table of its rows may be overwritten by the sort.
-fn store_lines(
-    main: &[u8],
-    p: usize,
-    rows: UnitRows,
-    work: &mut [u8],
-    offsets: usize,
-    n: usize,
-    lines: usize,
-    count: usize,
-) -> StoredLines
-    requires rows_ready { RowsReady main.now work.old p (lines + count * line_size
-        + range_size * length (sequences_from (rows_here main.now work.old p rows) 0 none)) rows }
-    requires offset_record_bound { offsets + n * offset_record ≤ lines }
-    requires entry_size_in_bounds { lines + count * row_room + range_size * length (sequences_from
-        (rows_here main.now work.old p rows) 0 none) + entry_size ≤ length work.old }
-    ensures { StoresLines (rows_here main.now work.old p rows) work.old
-        work.new offsets n lines count result }
+fn store_lines(c: Conversion, rows: UnitRows, work: &mut [u8], count: usize) -> StoredLines
+    requires rows_ready { RowsReady c.sheets.main.now work.old (c.lines + count * line_size
+        + range_size * length (sequences_from (rows_here c.sheets.main.now work.old rows) 0 none)) rows }
+    requires offset_record_bound { c.offsets.base + c.offsets.count * offset_record ≤ c.lines }
+    requires entry_size_in_bounds { c.lines + count * row_room + range_size * length (sequences_from
+        (rows_here c.sheets.main.now work.old rows) 0 none) + entry_size ≤ length work.old }
+    ensures { StoresLines (rows_here c.entry.sheets.main.now work.old rows) work.old
+        work.new c.entry.offsets.base c.entry.offsets.count c.entry.lines count result }
 {
+    let lines = c.lines;
     let sequences = lines + count * LINE_SIZE;
-    let sequence_count = collect_unit_sequences(main, p, rows, work, offsets, n, sequences);
+    let sequence_count = collect_sequences(c.sheets.main, rows, work, c.offsets, sequences);
     let buffer = sequences + sequence_count * RANGE_SIZE;
     rows::sort::sort_rows(work, lines, buffer, count);
     let line_count = rows::normalize::dedup_rows(work, lines, count);
@@ -67,8 +61,6 @@ fn store_lines(
 
 // Converts the unit's rows that were gathered, and stores its lines and its sequences.
 pub fn finish_lines(
-    main: &[u8],
-    supplementary: &[u8],
     given: GatheredRows,
     c: Conversion,
     work: &mut [u8],
@@ -77,43 +69,23 @@ pub fn finish_lines(
     t: StoredFiles,
     warned: usize,
 ) -> Result<CollectedLines, Refusal>
-    requires conversion_in { ConversionIn main.now supplementary.now work.old c (record { table = t; count = 0; warned = warned }) }
-    requires rows_ready { RowsReady main.now work.old (c.unit.place + unit_whole)
-        (c.lines + line_size * length (rows_here main.now work.old (c.unit.place + unit_whole) given.rows)) given.rows }
-    requires rows_counted { RowsCounted (rows_here main.now work.old (c.unit.place + unit_whole) given.rows) given.lines given.sequences }
-    requires entry_size_in_bounds { c.lines + row_room * length (rows_here main.now work.old (c.unit.place + unit_whole) given.rows) + entry_size ≤ length work.old }
-    ensures { FinishesLines (done (rows_here main.now work.old (c.unit.place + unit_whole) given.rows))
-        (length (rows_here main.now work.old (c.unit.place + unit_whole) given.rows)) main.now
-        supplementary.now work.old work.new files.old files.new warnings.old
-        warnings.new c t warned result }
+    requires conversion_in { ConversionIn c.sheets.main.now c.sheets.supplementary.now work.old c (record { table = t; count = 0; warned = warned }) }
+    requires rows_ready { RowsReady c.sheets.main.now work.old
+        (c.lines + line_size * length (rows_here c.sheets.main.now work.old given.rows)) given.rows }
+    requires rows_counted { RowsCounted (rows_here c.sheets.main.now work.old given.rows) given.lines given.sequences }
+    requires entry_size_in_bounds { c.lines + row_room * length (rows_here c.sheets.main.now work.old given.rows) + entry_size ≤ length work.old }
+    ensures { FinishesLines (done (rows_here c.entry.sheets.main.now work.old given.rows))
+        (length (rows_here c.entry.sheets.main.now work.old given.rows)) c.entry.sheets.main.now
+        c.entry.sheets.supplementary.now work.old work.new files.old files.new warnings.old
+        warnings.new c.entry t warned result }
 {
     let begun = Converting {
         table: t,
         count: 0,
-        warned: warn_mismatch(warnings, warned, given.sequences, c.offset_count),
+        warned: warn_mismatch(warnings, warned, given.sequences, c.offsets.count),
     };
-    let st = convert_unit_rows(
-        main,
-        supplementary,
-        given.rows,
-        c,
-        given.lines,
-        work,
-        files,
-        warnings,
-        begun,
-    )?;
-    let p = c.unit.place + UNIT_WHOLE;
-    let lines = store_lines(
-        main,
-        p,
-        given.rows,
-        work,
-        c.offsets,
-        c.offset_count,
-        c.lines,
-        st.count,
-    );
+    let st = convert_rows(given.rows, c, given.lines, work, files, warnings, begun)?;
+    let lines = store_lines(c, given.rows, work, st.count);
     Ok(CollectedLines {
         lines,
         indices: c.indices,

@@ -15,6 +15,20 @@ use tlv::model::AddressRange;
 use tlv::refusal::Refusal;
 use tlv::shapes::ROW_KIND;
 
+// The kinds of a row: one of a sequence, one that ends it, and one that could not be read.
+pub const PLAIN_ROW: u8 = 0;
+
+pub const END_ROW: u8 = 1;
+
+pub const FAILED_ROW: u8 = 2;
+
+// Where the table of the offsets of a unit's sequences stands in the work slice.
+#[derive(Clone, Copy, Debug)]
+pub struct StoredOffsets {
+    pub base: usize,
+    pub count: usize,
+}
+
 // How many rows stand in finished sequences, and how many sequences are finished.
 #[derive(Clone, Copy, Debug)]
 pub struct CountedRows {
@@ -34,11 +48,11 @@ pub fn count_rows(s: &[u8], p: usize) -> Result<CountedRows, Refusal>
     // Stays a loop: each field's own length moves the place; what is counted is what was found.
     while let Some(field) = access::access::next_row(s, at) {
         let kind = u8::read(s, field.start + ROW_KIND);
-        if kind == 2 {
+        if kind == FAILED_ROW {
             return Err(Refusal::Decoder);
         }
         at = field.next;
-        if kind == 1 {
+        if kind == END_ROW {
             lines += opened;
             opened = 0;
             sequences += 1;
@@ -49,13 +63,13 @@ pub fn count_rows(s: &[u8], p: usize) -> Result<CountedRows, Refusal>
     Ok(CountedRows { lines, sequences })
 }
 
-// The offset of the sequence of a number, of n offsets at base.
-pub fn sequence_offset(work: &[u8], base: usize, n: usize, sequence: usize) -> Option<u64>
-    requires { base + n * offset_record ≤ length work.now }
-    ensures { sequence_of result ≡ at (offsets_at work.now base n) sequence }
+// The offset of the sequence of a number.
+pub fn sequence_offset(work: &[u8], offsets: StoredOffsets, sequence: usize) -> Option<u64>
+    requires { offsets.base + offsets.count * offset_record ≤ length work.now }
+    ensures { sequence_of result ≡ at (offsets_at work.now offsets.base offsets.count) sequence }
 {
-    if sequence < n {
-        return Some(u64::read(work, base + sequence * OFFSET_RECORD));
+    if sequence < offsets.count {
+        return Some(u64::read(work, offsets.base + sequence * OFFSET_RECORD));
     }
     None
 }
@@ -63,59 +77,15 @@ pub fn sequence_offset(work: &[u8], base: usize, n: usize, sequence: usize) -> O
 // Writes at p the record of the sequence of a number, with its offset.
 pub fn put_sequence_record(
     work: &mut [u8],
-    offsets: usize,
-    n: usize,
+    offsets: StoredOffsets,
     sequence: usize,
     p: usize,
-    start: u64,
-    end: u64,
+    range: AddressRange,
 )
-    requires offset_record_bound { offsets + n * offset_record ≤ p }
+    requires offset_record_bound { offsets.base + offsets.count * offset_record ≤ p }
     requires range_size_in_bounds { p + range_size ≤ length work.old }
-    ensures { SequencePut work.old work.new p offsets n
-        (record { range = record { start = start; end = end }; sequence = sequence }) }
+    ensures { SequencePut work.old work.new p offsets.base offsets.count (record { range = range; sequence = sequence }) }
 {
-    let offset = sequence_offset(work, offsets, n, sequence);
-    rows::line::put_sequence_range(work, p, AddressRange { start, end }, offset);
-}
-
-// Writes a record for each sequence of the row fields of the unit whose fields follow place p, and returns their number.
-pub fn collect_sequences(
-    s: &[u8],
-    p: usize,
-    work: &mut [u8],
-    offsets: usize,
-    n: usize,
-    base: usize,
-) -> usize
-    requires placed { Placed s.now p }
-    requires offset_record_bound { offsets + n * offset_record ≤ base }
-    requires none_in_bounds { base + range_size * length (sequences_from (rows_from s.now p) 0 none) ≤ length work.old }
-    ensures { SequencesIn (rows_from s.now p) work.old work.new offsets n base result }
-{
-    let mut at = p;
-    let mut k = 0;
-    let mut opened = false;
-    let mut start = 0;
-    let mut count = 0;
-    // Stays a loop: each field's own length moves the place; what is counted is what was found.
-    while let Some(field) = access::access::next_row(s, at) {
-        let kind = u8::read(s, field.start + ROW_KIND);
-        let address = u64::read(s, field.start);
-        at = field.next;
-        if kind == 1 {
-            if start < address {
-                let to = base + count * RANGE_SIZE;
-                put_sequence_record(work, offsets, n, k, to, start, address);
-                count += 1;
-            }
-            k += 1;
-            opened = false;
-            start = 0;
-        } else if !opened {
-            start = address;
-            opened = true;
-        }
-    }
-    count
+    let offset = sequence_offset(work, offsets, sequence);
+    rows::line::put_sequence_range(work, p, range, offset);
 }

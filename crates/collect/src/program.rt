@@ -5,6 +5,7 @@ ghost use Rattle.machine.specs.Machine.{appended_row};
 ghost use Rattle.collect.specs.Tables.{RowPut, GathersRows};
 ghost use Rattle.collect.specs.Sources.{program_in};
 
+use crate::passes::{END_ROW, PLAIN_ROW};
 use buffers::numbers::Written;
 use machine::machine::{Emitted, initial, next_row};
 use machine::registers::{Encoding, Registers};
@@ -13,11 +14,6 @@ use tlv::shapes::{ROW_COLUMN, ROW_FIELD, ROW_KIND, ROW_LINE};
 
 // The largest column that a row has: a larger one is written so.
 const LAST_COLUMN: u64 = 65535;
-
-// The kinds of a row.
-const PLAIN_ROW: u8 = 0;
-
-const END_ROW: u8 = 1;
 
 // How many rows stand in finished sequences, how many sequences are finished, and how many rows there are in all.
 #[derive(Clone, Copy, Debug)]

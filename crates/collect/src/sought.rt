@@ -9,7 +9,7 @@ use tlv::fields::FieldSpan;
 
 // What a header has at a file number that the unit's map has no number for: nothing, a file with no path, or file 0 before version 5.
 // Stays an enum: each of the three is answered in a way of its own.
-#[derive(Clone, Copy)]
+#[derive(Clone, Copy, Debug)]
 pub enum SoughtFile {
     Missing,
     Unnamed,
@@ -39,7 +39,7 @@ fn listed_file(indices: StoredIndices, file: FileNumber) -> SoughtFile
 
 // The header's file of a number that the unit's map has no number for.
 pub fn sought_file(c: Conversion, file: FileNumber) -> SoughtFile
-    ensures { result ≡ sought_of c file.0 }
+    ensures { result ≡ sought_of c.entry file.0 }
 {
     if c.unit.version <= 4 && file.0 == 0 {
         return zero_file(c.zero);

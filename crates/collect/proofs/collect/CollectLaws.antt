@@ -4,7 +4,7 @@ use mathlib.Core.Logic.{inl, inr}
 use mathlib.Core.List.{List, [], ◌∷◌}
 use Prim.Native.Nat.{ℕ, ◌+◌, ◌*◌, ◌/◌, ◌≤◌}
 use native.Mathlib.Omega.{arith}
-use lib.ListN.{length, take, drop}
+use lib.ListN.{length}
 use Rattle.std.specs.Prelude.{Result, Ok, Err}
 use Rattle.tlv.specs.declared.refusal.Refusal.{Refusal}
 use Rattle.tlv.specs.Refusals.{number_of}
@@ -22,6 +22,7 @@ use Rattle.lines.specs.Files.{Indexed, intern_header_files}
 use Rattle.lines.specs.Lines.{Run, run_rows, Collected}
 use Rattle.files.specs.declared.index.StoredIndices.{StoredIndices}
 use Rattle.files.specs.declared.spans.FileUnit.{FileUnit}
+use Rattle.files.specs.declared.sheets.Sheets.{Sheets}
 use Rattle.files.specs.declared.store.StoredFiles.{StoredFiles}
 use Rattle.files.specs.Pieces.{header_here, UnitPlaced}
 use Rattle.files.specs.Store.{extent, table_of, FilesIn}
@@ -31,27 +32,36 @@ use Rattle.files.proofs.UnnamedLaws.{unnamed}
 use Rattle.files.proofs.GrownLaws.{files-kept, table_kept, grown-trans, grown-after}
 use Rattle.files.specs.Interns.{map_extent}
 use Rattle.rows.specs.Sizes.{entry_size, row_room}
-use Rattle.machine.specs.LineRows.{line_rows, collect_lines}
+use Rattle.machine.specs.LineRows.{line_rows, rows_most, collect_lines}
 use Rattle.collect.specs.declared.collect.CollectedLines.{CollectedLines}
 use Rattle.collect.specs.declared.interned.InternedUnit.{InternedUnit}
 use Rattle.collect.specs.declared.convert.Conversion.{Conversion}
 use Rattle.collect.specs.declared.source.RowSource.{RowSource}
-use Rattle.collect.specs.Sources.{source_rows, most_rows, FindsFault}
+use Rattle.collect.specs.Sources.{source_rows, most_rows, SourceFound, FindsFault}
 use Rattle.collect.specs.Converts.{ConversionIn}
 use Rattle.collect.specs.Collects.{lines_extent, CollectsBy, CollectsLines}
 use Rattle.collect.specs.Stages.{UnitFound, UnitRoom, UnitInterned, InternsUnit, ConversionOf, finish_rows, FinishesBy, FinishesLines}
 use Rattle.collect.proofs.FrameLaws.{but_wide}
 use Rattle.collect.proofs.HeaderPlaces.{header_is, unit-stands, unit-listed}
-use Rattle.collect.proofs.CollectSteps.{header-there, collects-first, collects_program-refused, collects_files-refused, collects_end}
+use Rattle.collect.proofs.CollectSteps.{source-here, most-here, header-there, collects-first, collects_program-refused, collects_files-refused, collects_end}
 use Rattle.collect.proofs.UnitInternLaws.{indices-length}
 
-module _ {main supplementary program w : List ℕ} {p start len : ℕ} {source : RowSource} {free : ℕ} {t : StoredFiles}
-    (B : UnitFound main supplementary program w t p start len source free) where
+module _ (d : Sheets) {program w payload : List ℕ} {p free : ℕ} {source : RowSource} {t : StoredFiles}
+    (B : UnitFound d.main.now d.supplementary.now program w t p payload free) (F : SourceFound d.main.now (p + 21) payload program source) where
+  abbrev main : List ℕ
+  main = d.main.now
+
+  abbrev supplementary : List ℕ
+  supplementary = d.supplementary.now
+
   stands : UnitPlaced main p
   stands = unit-stands B.placed B.unit
 
   abbrev most : ℕ
-  most = most_rows main program (p + 21) source
+  most = most_rows main (p + 21) source
+
+  most_is : most ≡ rows_most (unit_here main p) program
+  most_is = most-here B.placed B.unit B.header F
 
   pub found-placed : Placed main (p + 21)
   found-placed = unit-next stands
@@ -59,25 +69,25 @@ module _ {main supplementary program w : List ℕ} {p start len : ℕ} {source :
   -- its rows have room
   pub fault-room : free + row_room * most ≤ length w
   unfolding lines_extent
-  fault-room = let a = B.room.room in let m = B.most in omega arith
+  fault-room = let a = B.room.room in let m = most_is in omega arith
 
   fault-fits : free + row_room * most ≤ free + lines_extent main p program
   unfolding lines_extent
-  fault-fits = let m = B.most in omega arith
+  fault-fits = let m = most_is in omega arith
 
   -- their fault comes first
-  fault-is : {w₁ w₂ : List ℕ} {n f : ℕ} → FindsFault (source_rows main program (p + 21) source) w₁ w₂ free most n f
+  fault-is : {w₁ w₂ : List ℕ} {n f : ℕ} → FindsFault (source_rows main (p + 21) source) w₁ w₂ free most n f
       → ((rows : List LineRow) → line_rows (unit_here main p) (header_here main p) program ≡ done rows → (run : Run) → run_rows rows 0 [] ≡ done run
       → collect_lines (unit_here main p) program (table_of main supplementary w t) ≡ refused n)
       → collect_lines (unit_here main p) program (table_of main supplementary w t) ≡ refused f
-  fault-is {n = n} F later =
+  fault-is {n = n} X later =
       collects-first (unit_here main p) program (table_of main supplementary w t) (header_here main p) (header-there B.header) n later
-      ∙ ap refused (sym (rw B.source_is at F.is))
+      ∙ ap refused (sym (rw (source-here B.placed B.unit B.header F) at X.is))
 
-  fault-rest : {w₁ w₂ : List ℕ} {n f : ℕ} → FindsFault (source_rows main program (p + 21) source) w₁ w₂ free most n f
+  fault-rest : {w₁ w₂ : List ℕ} {n f : ℕ} → FindsFault (source_rows main (p + 21) source) w₁ w₂ free most n f
       → KeptBut w w₁ ((t.base, extent t) ∷ (free, lines_extent main p program) ∷ [])
       → KeptBut w w₂ ((t.base, extent t) ∷ (free, lines_extent main p program) ∷ [])
-  fault-rest F K = but_trans K (but_of F.rest (there (here (omega arith) fault-fits)))
+  fault-rest X K = but_trans K (but_of X.rest (there (here (omega arith) fault-fits)))
 
   -- its program's sequences have room
   pub scan-room : free + length program / 3 * 8 ≤ length w
@@ -88,25 +98,25 @@ module _ {main supplementary program w : List ℕ} {p start len : ℕ} {source :
   unfolding lines_extent
   scanned-fits = omega arith
 
-  scanned-rest : {w₁ : List ℕ} {r : Result ℕ Refusal} → Scanned program w w₁ free r (line_sequence_offsets (header_of (take len (drop start main))) program)
+  scanned-rest : {w₁ : List ℕ} {r : Result ℕ Refusal} → Scanned program w w₁ free r (line_sequence_offsets (header_of payload) program)
       → KeptBut w w₁ ((t.base, extent t) ∷ (free, lines_extent main p program) ∷ [])
   scanned-rest S = but_of S.rest (there (here (omega arith) scanned-fits))
 
   -- its program is at fault, or its rows
   pub collected-fault : {w₁ w₂ files files' warnings warnings' : List ℕ} {warned : ℕ} {e f : Refusal}
-      → Scanned program w w₁ free (Err e) (line_sequence_offsets (header_of (take len (drop start main))) program)
-      → FindsFault (source_rows main program (p + 21) source) w₁ w₂ free most (number_of e) (number_of f)
+      → Scanned program w w₁ free (Err e) (line_sequence_offsets (header_of payload) program)
+      → FindsFault (source_rows main (p + 21) source) w₁ w₂ free most (number_of e) (number_of f)
       → CollectsLines main supplementary program w w₂ files files' warnings warnings' p t warned free (Err f)
-  collected-fault {e = e} S F =
+  collected-fault {e = e} S X =
       let o : line_sequence_offsets (header_here main p) program ≡ refused (number_of e) = rw (header_is B.header) (sym S.is) in
       record {
-        is = fault-is F (λ rows l run ran. collects_program-refused (unit_here main p) program (table_of main supplementary w t) (header_here main p)
+        is = fault-is X (λ rows l run ran. collects_program-refused (unit_here main p) program (table_of main supplementary w t) (header_here main p)
             (header-there B.header) rows l run ran (number_of e) o);
-        rest = fault-rest F (scanned-rest S);
+        rest = fault-rest X (scanned-rest S);
       }
 
   module _ {w₁ : List ℕ} {k : ℕ}
-      (S : Scanned program w w₁ free (Ok k) (line_sequence_offsets (header_of (take len (drop start main))) program)) (size : length w₁ ≡ length w) where
+      (S : Scanned program w w₁ free (Ok k) (line_sequence_offsets (header_of payload) program)) (size : length w₁ ≡ length w) where
     offsets-few : k * 8 ≤ length program / 3 * 8
     offsets-few = let few : CountWithin program (Ok k) = S.within in omega arith
 
@@ -144,15 +154,15 @@ module _ {main supplementary program w : List ℕ} {p start len : ℕ} {source :
     -- a file of its header has no number, or its rows are at fault
     pub collected-unnumbered : {w₂ w₃ files files₀ files₁ files' warnings warnings' : List ℕ} {warned : ℕ} {e f : Refusal}
         → InternsUnit main supplementary w₁ w₂ files files₁ p t (free + k * 8) (Err e)
-        → FindsFault (source_rows main program (p + 21) source) w₂ w₃ free most (number_of e) (number_of f)
+        → FindsFault (source_rows main (p + 21) source) w₂ w₃ free most (number_of e) (number_of f)
         → CollectsLines main supplementary program w w₃ files₀ files' warnings warnings' p t warned free (Err f)
-    collected-unnumbered {e = e} I F =
+    collected-unnumbered {e = e} I X =
         let i : intern_header_files (unit_here main p) (header_here main p) (table_of main supplementary w t) ≡ refused (number_of e)
         = rw (← table-scanned) (sym I.is) in
         record {
-          is = fault-is F (λ rows l run ran. collects_files-refused (unit_here main p) program (table_of main supplementary w t) (header_here main p)
+          is = fault-is X (λ rows l run ran. collects_files-refused (unit_here main p) program (table_of main supplementary w t) (header_here main p)
               (header-there B.header) rows l run ran (offsets_at w₁ free k) offsets_are (number_of e) i);
-          rest = fault-rest F (interned_rest I);
+          rest = fault-rest X (interned_rest I);
         }
 
     module _ {w₂ files files₁ : List ℕ} {u : FileUnit} {is : StoredIndices} {t' : StoredFiles}
@@ -173,7 +183,7 @@ module _ {main supplementary program w : List ℕ} {p start len : ℕ} {source :
           let b = interned.map in
           let c = interned.count in
           let d = interned.few in
-          let g = B.most in
+          let g = most_is in
           omega arith
 
       pub interned-fits : is.base + is.count * 5 ≤ length w
@@ -183,12 +193,15 @@ module _ {main supplementary program w : List ℕ} {p start len : ℕ} {source :
       unfolding indices_of
       map-length = sym (records-length index_of 5 w₂ is.base is.count)
 
-      module _ {cv : Conversion} (M : ConversionOf main u is free k cv) where
+      module _ {cv : Conversion} (M : ConversionOf d u is (record { base = free; count = k }) cv) where
         made : Conversion
-        made = record { unit = u; zero = cv.zero; indices = is; offsets = free; offset_count = k; lines = is.base + is.count * 5 }
+        made = record { sheets = d; unit = u; zero = cv.zero; indices = is; offsets = record { base = free; count = k }; lines = is.base + is.count * 5 }
 
         place_is : cv.unit.place ≡ p
         place_is = ap (λ (x : Conversion). x.unit.place) M.is ∙ interned.place
+
+        sheet-is : cv.sheets.main.now ≡ main
+        sheet-is = ap (λ (x : Conversion). x.sheets.main.now) M.is
 
         conversion-made : (warned : ℕ) → length w₂ ≡ length w → ConversionIn main supplementary w₂ made (record { table = t'; count = 0; warned = warned })
         unfolding made
@@ -204,6 +217,7 @@ module _ {main supplementary program w : List ℕ} {p start len : ℕ} {source :
             record {
               placed = rw interned.place stands;
               files = interned.grown.holds;
+              source = interned.source;
               unit = interned.described;
               listed = rw interned.place (unit-listed B.placed B.unit supplementary B.header);
               zero = M.zero;
@@ -216,33 +230,33 @@ module _ {main supplementary program w : List ℕ} {p start len : ℕ} {source :
               lines = omega arith;
             }
 
-        pub conversion-in : (warned : ℕ) → length w₂ ≡ length w → ConversionIn main supplementary w₂ cv (record { table = t'; count = 0; warned = warned })
+        pub conversion-in : (warned : ℕ) → length w₂ ≡ length w → ConversionIn cv.sheets.main.now cv.sheets.supplementary.now w₂ cv (record { table = t'; count = 0; warned = warned })
         unfolding made
-        conversion-in warned last = subst (λ (x : Conversion). ConversionIn main supplementary w₂ x (record { table = t'; count = 0; warned = warned })) (sym M.is) (conversion-made warned last)
+        conversion-in warned last = subst (λ (x : Conversion). ConversionIn x.sheets.main.now x.sheets.supplementary.now w₂ x (record { table = t'; count = 0; warned = warned })) (sym M.is) (conversion-made warned last)
 
-        pub conversion-fits : length w₂ ≡ length w → cv.lines + row_room * most_rows main program (cv.unit.place + 21) source + entry_size ≤ length w₂
+        pub conversion-fits : length w₂ ≡ length w → cv.lines + row_room * most_rows cv.sheets.main.now (cv.unit.place + 21) source + entry_size ≤ length w₂
         conversion-fits last =
             let l : cv.lines ≡ is.base + is.count * 5 = ap (λ (x : Conversion). x.lines) M.is in
             let all = interned-room in
             let room = B.room.room in
-            rw place_is (omega arith)
+            rw (place_is, sheet-is) (omega arith)
 
         offsets-kept : offsets_at w₂ free k ≡ offsets_at w₁ free k
         offsets-kept = let below = B.room.table in records-but le 8 free k I.rest (inr (omega arith), (inl (omega arith), tt))
 
-        end_is : (y : Outcome Collected) → finish_rows (source_rows main program (u.place + 21) source) main supplementary w₂ made t' ≡ y
+        end_is : (y : Outcome Collected) → finish_rows (source_rows main (u.place + 21) source) main supplementary w₂ made t' ≡ y
             → collect_lines (unit_here main p) program (table_of main supplementary w t) ≡ y
         unfolding made
         end_is y f =
             collects_end (unit_here main p) program (table_of main supplementary w t) (header_here main p) (header-there B.header) (offsets_at w₁ free k)
             offsets_are (record { table = table_of main supplementary w₂ t'; indices = indices_in w₂ is }) files-are y
-            (rw (interned.place, offsets-kept, B.source_is) at f)
+            (rw (interned.place, offsets-kept, source-here B.placed B.unit B.header F) at f)
 
         abbrev end-rows : Outcome (List LineRow)
-        end-rows = source_rows main program (u.place + 21) source
+        end-rows = source_rows main (u.place + 21) source
 
         abbrev end-most : ℕ
-        end-most = most_rows main program (u.place + 21) source
+        end-most = most_rows main (u.place + 21) source
 
         end_rest : {w₃ files₂ warnings warnings' : List ℕ} {warned : ℕ} {r₃ : Result CollectedLines Refusal}
             → FinishesLines end-rows end-most main supplementary w₂ w₃ files₁ files₂ warnings warnings' made t' warned r₃
@@ -283,12 +297,13 @@ module _ {main supplementary program w : List ℕ} {p start len : ℕ} {source :
             }
 
         pub collected-end : {w₃ files₂ warnings warnings' : List ℕ} {warned : ℕ} {r₃ : Result CollectedLines Refusal}
-            → FinishesLines (source_rows main program (cv.unit.place + 21) source) (most_rows main program (cv.unit.place + 21) source) main supplementary
+            → FinishesLines (source_rows cv.sheets.main.now (cv.unit.place + 21) source) (most_rows cv.sheets.main.now (cv.unit.place + 21) source)
+            cv.sheets.main.now cv.sheets.supplementary.now
             w₂ w₃ files₁ files₂ warnings warnings' cv t' warned r₃
             → CollectsLines main supplementary program w w₃ files files₂ warnings warnings' p t warned free r₃
         unfolding made
         collected-end {w₃} {files₂} {warnings} {warnings'} {warned} {r₃} E =
-            let L = subst (λ (x : Conversion). FinishesLines (source_rows main program (x.unit.place + 21) source)
-            (most_rows main program (x.unit.place + 21) source) main supplementary w₂ w₃ files₁ files₂ warnings warnings' x t' warned r₃) M.is E in
+            let L = subst (λ (x : Conversion). FinishesLines (source_rows x.sheets.main.now (x.unit.place + 21) source)
+            (most_rows x.sheets.main.now (x.unit.place + 21) source) x.sheets.main.now x.sheets.supplementary.now w₂ w₃ files₁ files₂ warnings warnings' x t' warned r₃) M.is E in
             let K = end_rest L in
             record { is = by_end w₃ files₂ warnings warnings' warned r₃ L.is K; rest = K }

@@ -39,7 +39,7 @@ finish-fault (done rows) f k main supplementary w c t = rw (count-refused rows f
 
 module _ {x : Outcome (List LineRow)} {most : ℕ} {main supplementary w w₁ : List ℕ} {c : Conversion} {t : StoredFiles} {warned : ℕ}
     (C : ConversionIn main supplementary w c (record { table = t; count = 0; warned = warned })) {r : Result GatheredRows Refusal}
-    (G : GathersUnit x main w w₁ (c.unit.place + 21) c.lines most r) where
+    (G : GathersUnit x main w w₁ c.lines most r) where
   table_below : t.base + extent t ≤ c.lines
   table_below =
       let a = C.table in
@@ -57,7 +57,7 @@ module _ {x : Outcome (List LineRow)} {most : ℕ} {main supplementary w w₁ : 
       let b = C.offsets in
       let d = C.directories in
       let i = C.indices in
-      records-kept le 8 c.offsets c.offset_count G.rest (inl (omega arith))
+      records-kept le 8 c.offsets.base c.offsets.count G.rest (inl (omega arith))
 
   pub gathered-conversion : length w₁ ≡ length w → ConversionIn main supplementary w₁ c (record { table = t; count = 0; warned = warned })
   gathered-conversion size =
@@ -66,6 +66,7 @@ module _ {x : Outcome (List LineRow)} {most : ℕ} {main supplementary w w₁ : 
       record {
         placed = C.placed;
         files = files-kept C.files (but_one G.rest) (inl table_below, tt) size;
+        source = C.source;
         unit = unit_kept C.unit (but_one G.rest) (inl (omega arith), tt) size;
         listed = C.listed;
         zero = C.zero;
@@ -86,16 +87,16 @@ module _ {x : Outcome (List LineRow)} {most : ℕ} {main supplementary w w₁ : 
 
 module _ {x : Outcome (List LineRow)} {most : ℕ} {main supplementary w w₁ : List ℕ} {c : Conversion} {t : StoredFiles} {warned : ℕ}
     (C : ConversionIn main supplementary w c (record { table = t; count = 0; warned = warned })) where
-  pub gathered-fault : {files files' warnings warnings' : List ℕ} {e : Refusal} → GathersUnit x main w w₁ (c.unit.place + 21) c.lines most (Err e)
+  pub gathered-fault : {files files' warnings warnings' : List ℕ} {e : Refusal} → GathersUnit x main w w₁ c.lines most (Err e)
       → FinishesLines x most main supplementary w w₁ files files' warnings warnings' c t warned (Err e)
   gathered-fault {e = e} G = record { is = finish-fault x (number_of e) G.is main supplementary w c t; rest = gathered-rest C G }
 
-  module _ {k : GatheredRows} (G : GathersUnit x main w w₁ (c.unit.place + 21) c.lines most (Ok k)) where
-    pub gathered : UnitGathered x main w₁ (c.unit.place + 21) c.lines most k.lines k.sequences k.rows
+  module _ {k : GatheredRows} (G : GathersUnit x main w w₁ c.lines most (Ok k)) where
+    pub gathered : UnitGathered x main w₁ c.lines most k.lines k.sequences k.rows
     gathered = G.is
 
     abbrev given : List LineRow
-    given = rows_here main w₁ (c.unit.place + 21) k.rows
+    given = rows_here main w₁ k.rows
 
     finish-same : (y : Outcome Collected) → finish_rows (done given) main supplementary w₁ c t ≡ y → finish_rows x main supplementary w c t ≡ y
     unfolding ◌>>=◌

@@ -74,10 +74,10 @@ module _ {rows : List LineRow} {main supplementary w : List ℕ} {c : Conversion
   notes : List Warning
   notes = mismatch rows-counted.run.count (length (offsets_of w c))
 
-  notes-are : notes ≡ mismatch m c.offset_count
+  notes-are : notes ≡ mismatch m c.offsets.count
   unfolding notes
   notes-are =
-      let k : length (offsets_of w c) ≡ c.offset_count = records-length le 8 w c.offsets c.offset_count in
+      let k : length (offsets_of w c) ≡ c.offsets.count = records-length le 8 w c.offsets.base c.offsets.count in
       let s : rows-counted.run.count ≡ m = rows-counted.count in
       λ i. mismatch (s i) (k i)
 
@@ -149,7 +149,7 @@ module _ {rows : List LineRow} {main supplementary w : List ℕ} {c : Conversion
           let f = sequences-few in
           omega arith
 
-      module _ {w₂ : List ℕ} {l : StoredLines} (S : StoresLines rows w₁ w₂ c.offsets c.offset_count c.lines st.count l) where
+      module _ {w₂ : List ℕ} {l : StoredLines} (S : StoresLines rows w₁ w₂ c.offsets.base c.offsets.count c.lines st.count l) where
         table_below : st.table.base + extent st.table ≤ c.lines
         table_below =
             let H = rows-converted.holds in
@@ -186,7 +186,7 @@ module _ {rows : List LineRow} {main supplementary w : List ℕ} {c : Conversion
               warnings = notes ++ rows-converted.new;
             }))
 
-        pub finishes-done : {warnings : List ℕ} → Put warned (warnings_bytes (mismatch m c.offset_count)) warnings warnings₁ noted → length w₂ ≡ length w₁
+        pub finishes-done : {warnings : List ℕ} → Put warned (warnings_bytes (mismatch m c.offsets.count)) warnings warnings₁ noted → length w₂ ≡ length w₁
             → FinishesLines (done rows) (length rows) main supplementary w w₂ files files₁ warnings warnings₂ c t warned
             (Ok (record { lines = l; indices = c.indices; table = st.table; warned = st.warned }))
         finishes-done W size =

@@ -7,7 +7,6 @@ use Prim.Native.Nat.{ℕ, ◌+◌, ◌*◌, ◌≤◌}
 use native.Mathlib.Omega.{arith}
 use lib.ListN.{length, length-map}
 use Rattle.tlv.specs.Model.{LineRow}
-use Rattle.buffers.specs.Table.{Apart}
 use Rattle.buffers.proofs.TableLaws.{here, kept-wide, kept_trans}
 use Rattle.buffers.proofs.RecordLaws.{records-but}
 use Rattle.line_program.specs.Scan.{offsets_at}
@@ -24,9 +23,6 @@ use Rattle.collect.proofs.FrameLaws.{kept-one}
 module _ {rows : List LineRow} {w w₁ : List ℕ} {offsets n m : ℕ} (lines count : ℕ) (S : SequencesIn rows w w₁ offsets n (lines + count * line_size) m) where
   pub sequences-counted : m ≡ length (sequences_from rows 0 none)
   sequences-counted = sym (ranges-length w₁ (lines + count * line_size) m) ∙ ap length S.is ∙ length-map (sequences_from rows 0 none) (with_offset (offsets_at w offsets n))
-
-  pub buffer-apart : Apart lines (count * line_size) (lines + count * line_size + m * range_size) (count * line_size)
-  buffer-apart = inl (omega arith)
 
   module _ {w₂ w₃ : List ℕ} {r : ℕ} (T : SortedRows w₁ w₂ lines (lines + count * line_size + m * range_size) count) (D : Deduped w₂ w₃ lines count r) where
     entries-are : lines_of w₃ lines r ≡ drop_neighbours same_row (sort_rows (lines_of w lines count))

@@ -1,10 +1,11 @@
 -- Where the rows of a unit come from: the source that is found is the one of its rows.
 use mathlib.Core.Path.{◌≡◌, refl, sym, ap, ◌∙◌}
 use mathlib.Core.List.{List}
-use Prim.Native.Nat.{ℕ, ◌+◌, ◌-◌, ◌≤◌}
+use Prim.Native.Nat.{ℕ, ◌+◌, ◌≤◌}
 use native.Mathlib.Omega.{arith}
 use lib.Dec.{eqb}
 use lib.ListN.{length, take, drop}
+use denote.Bor.{Bor}
 use Rattle.std.specs.Prelude.{Some, None}
 use Rattle.tlv.specs.declared.fields.FieldSpan.{FieldSpan}
 use Rattle.tlv.specs.Grammar.{encoding_flag_at, encoding_field_size}
@@ -15,7 +16,6 @@ use Rattle.tlv.specs.Model.{header_of, encoding_of}
 use Rattle.tlv.specs.Cursor.{step_at}
 use Rattle.tlv.specs.Checked.{Placed}
 use Rattle.tlv.proofs.ShapeLaws.{number_at, number-first}
-use Rattle.tlv.proofs.WidthLaws.{drop_part}
 use Rattle.tlv.proofs.PlacePromises.{placed-encoding}
 use Rattle.access.specs.Access.{NextOwn}
 use Rattle.access.proofs.OwnLaws.{own-within, own-field}
@@ -32,12 +32,11 @@ use Rattle.collect.specs.Sources.{program_in, EncodingRead, SourceFound}
 
 module _ {main : List ℕ} {p : ℕ} where
   -- no encoding
-  pub source-fields : (start len : ℕ) → NextOwn main p encoding_tag None → SourceFound main p start len RowSource.Fields
+  pub source-fields : (payload program : List ℕ) → NextOwn main p encoding_tag None → SourceFound main p payload program RowSource.Fields
   unfolding line_rows rows_most map_option
-  source-fields start len own = record {
-    within = record { is = tt };
-    is = λ u program enc rows. rw (enc, first-none main p encoding_tag own, rows);
-    most = λ u program enc rows. rw (enc, first-none main p encoding_tag own, rows);
+  source-fields payload program own = record {
+    is = λ u enc rows. rw (enc, first-none main p encoding_tag own, rows);
+    most = λ u enc rows. rw (enc, first-none main p encoding_tag own, rows);
   }
 
   module _ (h : Placed main p) {field : FieldSpan} (own : NextOwn main p encoding_tag (Some field)) where
@@ -66,23 +65,17 @@ module _ {main : List ℕ} {p : ℕ} where
           let k : q.line_range ≡ le_at 1 (take field.len (drop field.start main)) 4 = sym (number_at main field.start field.len 1 4 q.line_range (omega arith) R.line-range) in
           λ i. record { minimum_instruction_length = n i; maximum_operations = o i; default_is_stmt = s i; line_base = g i; line_range = k i }
 
-      module _ (start len : ℕ) (long : 19 ≤ len) (within : start + len ≤ length main) (base : b ≡ le_at 1 main (start + 18)) where
-        opcodes-are : opcodes_with q (take (start + len - (start + 19)) (drop (start + 19) main)) ≡ opcodes_of (header_of (take len (drop start main)))
+      module _ (payload : List ℕ) (base : b ≡ le_at 1 payload 18) where
+        opcodes-are : opcodes_with q (drop 19 payload) ≡ opcodes_of (header_of payload)
         unfolding header_of
-        opcodes-are =
-            let z : start + len - (start + 19) ≡ len - 19 = omega arith in
-            let o : q.opcode_base ≡ le_at 1 (take len (drop start main)) 18
-            = sym (number_at main start len 1 18 q.opcode_base (omega arith) (R.opcode_base-is ∙ base)) in
-            let ls : take (start + len - (start + 19)) (drop (start + 19) main) ≡ drop 19 (take len (drop start main))
-            = ap (λ (k : ℕ). take k (drop (start + 19) main)) z ∙ sym (drop_part main start len 19) in
-            λ i. record { base = o i; lengths = ls i }
+        opcodes-are = let o : q.opcode_base ≡ le_at 1 payload 18 = R.opcode_base-is ∙ base in λ i. record { base = o i; lengths = drop 19 payload }
 
         -- an encoding: the program's rows
-        pub source-program : SourceFound main p start len (RowSource.Program q (start + 19) (start + len))
+        pub source-program : (lengths program : Bor (List ℕ)) → lengths.now ≡ drop 19 payload
+            → SourceFound main p payload program.now (RowSource.Program q lengths program)
         unfolding line_rows rows_most map_option program_in
-        source-program = record {
-          within = record { is = (omega arith, within) };
-          is = λ u program enc rows. rw (enc, first_found main p encoding_tag field own)
-              (λ i. program_rows (encoding-is i) (opcodes-are i) program);
-          most = λ u program enc rows. rw (enc, first_found main p encoding_tag field own);
+        source-program lengths program cut = record {
+          is = λ u enc rows. rw (enc, first_found main p encoding_tag field own, cut)
+              (λ i. program_rows (encoding-is i) (opcodes-are i) program.now);
+          most = λ u enc rows. rw (enc, first_found main p encoding_tag field own);
         }

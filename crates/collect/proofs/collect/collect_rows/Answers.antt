@@ -1,12 +1,8 @@
 -- `collect::collect_rows` meets its contract: the rows are gathered, and then finished.
-use native.Mathlib.Omega.{arith}
-use Rattle.files.proofs.UnitLaws.{unit-next, unit-within}
+use Rattle.files.proofs.UnitLaws.{unit-next}
 use Rattle.tlv.proofs.AnswerLaws.{handed}
 use Rattle.collect.proofs.collect.GatheredLaws.{gathered-conversion, gathered-fault, gathered-finish}
 use Rattle.collect.proofs.collect.collect_rows.Goals as goal
-
-pub overflow_add-p : goal.overflow_add-p
-overflow_add-p c = let w = unit-within c.requires.conversion_in.placed in omega (arith, w, c.well_formed.0)
 
 pub gather_unit_rows-requires-clause-placed : goal.gather_unit_rows-requires-clause-placed
 gather_unit_rows-requires-clause-placed c = unit-next c.requires.conversion_in.placed

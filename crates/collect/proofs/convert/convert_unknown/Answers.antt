@@ -1,14 +1,10 @@
 -- `convert::convert_unknown` meets its contract.
-use mathlib.Core.Path.{sym, ◌∙◌}
 use native.Mathlib.Omega.{arith}
 use Rattle.collect.proofs.ConvertLaws.{row-missing, row-unnamed}
 use Rattle.collect.proofs.convert.convert_unknown.Goals as goal
 
 pub returns-in-Unnamed : goal.returns-in-Unnamed
 returns-in-Unnamed c = row-unnamed c.requires.conversion_in c.args.row c.requires.file_value (omega arith) (omega arith) (omega arith) c.sought_file.ensures c.in-Unnamed.is
-
-pub convert_zero-requires-clause-file_value_2 : goal.convert_zero-requires-clause-file_value_2
-convert_zero-requires-clause-file_value_2 c = sym c.in-Zero.is ∙ c.sought_file.ensures
 
 pub returns-in-Missing : goal.returns-in-Missing
 returns-in-Missing c = row-missing c.requires.conversion_in c.args.row c.requires.file_value (omega arith) c.sought_file.ensures c.in-Missing.is c.put_warning.ensures

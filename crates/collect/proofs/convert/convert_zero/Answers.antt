@@ -1,29 +1,21 @@
 -- `convert::convert_zero` meets its contract.
 use native.Mathlib.Omega.{arith}
 use Rattle.tlv.proofs.AnswerLaws.{handed}
+use Rattle.collect.proofs.UnitInternLaws.{main-sheet}
 use Rattle.collect.proofs.convert.ZeroRowLaws.{zero-asked, zero-refused, zero-unnamed, zero_number}
 use Rattle.collect.proofs.convert.convert_zero.Goals as goal
 
-pub intern_file-requires-clause-files_in : goal.intern_file-requires-clause-files_in
-intern_file-requires-clause-files_in c = (zero-asked c.requires.conversion_in c.args.row c.requires.file_value c.requires.file_value_2).0
-
-pub intern_file-requires-clause-file_unit_in : goal.intern_file-requires-clause-file_unit_in
-intern_file-requires-clause-file_unit_in c = (zero-asked c.requires.conversion_in c.args.row c.requires.file_value c.requires.file_value_2).1.0
-
 pub intern_file-requires-clause-file_span_in : goal.intern_file-requires-clause-file_span_in
-intern_file-requires-clause-file_span_in c = (zero-asked c.requires.conversion_in c.args.row c.requires.file_value c.requires.file_value_2).1.1.0
+intern_file-requires-clause-file_span_in c = rw (main-sheet c.args.c.sheets.main.now c.args.c.sheets.supplementary.now _ c.requires.conversion_in.source) ((zero-asked c.requires.conversion_in c.args.row c.requires.file_value c.requires.file_value_2).1.1.0)
 
 pub intern_file-requires-clause-of_unit : goal.intern_file-requires-clause-of_unit
-intern_file-requires-clause-of_unit c = (zero-asked c.requires.conversion_in c.args.row c.requires.file_value c.requires.file_value_2).1.1.1.0
-
-pub intern_file-requires-clause-listed : goal.intern_file-requires-clause-listed
-intern_file-requires-clause-listed c = (zero-asked c.requires.conversion_in c.args.row c.requires.file_value c.requires.file_value_2).1.1.1.1
+intern_file-requires-clause-of_unit c = rw (main-sheet c.args.c.sheets.main.now c.args.c.sheets.supplementary.now _ c.requires.conversion_in.source) ((zero-asked c.requires.conversion_in c.args.row c.requires.file_value c.requires.file_value_2).1.1.1.0)
 
 pub returns-in_err-added : goal.returns-in_err-added
-returns-in_err-added c = rw (handed _ _ c.from_residual.ensures.1) (zero-refused c.requires.conversion_in c.args.row c.requires.file_value c.requires.file_value_2 c.in_err-added.ensures)
+returns-in_err-added c = rw (handed _ _ c.from_residual.ensures.1) (zero-refused c.requires.conversion_in c.args.row c.requires.file_value c.requires.file_value_2 (rw (main-sheet c.args.c.sheets.main.now c.args.c.sheets.supplementary.now _ c.requires.conversion_in.source) at c.in_err-added.ensures))
 
 pub returns-in_default : goal.returns-in_default
-returns-in_default c = zero-unnamed c.requires.conversion_in c.args.row c.requires.file_value c.requires.file_value_2 (rw c.in_default.is at c.in_ok-added.ensures) c.intern_file.auto.work (omega (arith, c.well_formed.1.1.1.1.1.1.1.1.0)) (omega (arith, c.well_formed.1.1.1.1.1.1.1.0))
+returns-in_default c = zero-unnamed c.requires.conversion_in c.args.row c.requires.file_value c.requires.file_value_2 (rw ((main-sheet c.args.c.sheets.main.now c.args.c.sheets.supplementary.now _ c.requires.conversion_in.source), c.in_default.is) at c.in_ok-added.ensures) c.intern_file.auto.work (omega (arith, c.well_formed.1.1.1.1.1.1.0)) (omega (arith, c.well_formed.1.1.1.1.1.0))
 
 pub returns : goal.returns
-returns c = zero_number c.requires.conversion_in c.args.row c.requires.file_value c.requires.file_value_2 c.requires.line_size_in_bounds c.intern_file.auto.work (rw c.in-Some.is at c.in_ok-added.ensures) c.insert_index.ensures c.insert_index.auto.work c.convert_line.ensures c.convert_line.auto.work
+returns c = zero_number c.requires.conversion_in c.args.row c.requires.file_value c.requires.file_value_2 c.requires.line_size_in_bounds c.intern_file.auto.work (rw ((main-sheet c.args.c.sheets.main.now c.args.c.sheets.supplementary.now _ c.requires.conversion_in.source), c.in-Some.is) at c.in_ok-added.ensures) c.insert_index.ensures c.insert_index.auto.work c.convert_line.ensures c.convert_line.auto.work

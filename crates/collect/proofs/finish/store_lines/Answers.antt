@@ -1,28 +1,20 @@
 -- `finish::store_lines` meets its contract: the sequences stand behind the lines, which are sorted and freed of equal neighbours.
 use native.Mathlib.Omega.{arith}
-use Rattle.collect.proofs.finish.StoreLaws.{sequences-counted, buffer-apart, stored_lines}
+use Rattle.collect.proofs.finish.StoreLaws.{sequences-counted, stored_lines}
 use Rattle.collect.proofs.finish.store_lines.Goals as goal
 
 pub overflow_mul-buffer : goal.overflow_mul-buffer
-overflow_mul-buffer c = let k = sequences-counted c.args.lines c.args.count c.collect_unit_sequences-sequence_count.ensures in
+overflow_mul-buffer c = let k = sequences-counted c.args.c.lines c.args.count c.collect_sequences-sequence_count.ensures in
     omega arith
 
 pub overflow_add-buffer : goal.overflow_add-buffer
-overflow_add-buffer c = let k = sequences-counted c.args.lines c.args.count c.collect_unit_sequences-sequence_count.ensures in
-    omega arith
-
-pub sort_rows-requires-clause-line_size_in_bounds : goal.sort_rows-requires-clause-line_size_in_bounds
-sort_rows-requires-clause-line_size_in_bounds c = let k = sequences-counted c.args.lines c.args.count c.collect_unit_sequences-sequence_count.ensures in
+overflow_add-buffer c = let k = sequences-counted c.args.c.lines c.args.count c.collect_sequences-sequence_count.ensures in
     omega arith
 
 pub sort_rows-requires-clause-line_size_in_bounds_2 : goal.sort_rows-requires-clause-line_size_in_bounds_2
-sort_rows-requires-clause-line_size_in_bounds_2 c = let k = sequences-counted c.args.lines c.args.count c.collect_unit_sequences-sequence_count.ensures in
+sort_rows-requires-clause-line_size_in_bounds_2 c = let k = sequences-counted c.args.c.lines c.args.count c.collect_sequences-sequence_count.ensures in
     omega arith
 
-pub sort_rows-requires-clause-apart : goal.sort_rows-requires-clause-apart
-sort_rows-requires-clause-apart c = let k = sequences-counted c.args.lines c.args.count c.collect_unit_sequences-sequence_count.ensures in
-    buffer-apart c.args.lines c.args.count c.collect_unit_sequences-sequence_count.ensures
-
 pub returns : goal.returns
-returns c = stored_lines c.args.lines c.args.count c.collect_unit_sequences-sequence_count.ensures c.sort_rows.ensures c.dedup_rows-line_count.ensures
+returns c = stored_lines c.args.c.lines c.args.count c.collect_sequences-sequence_count.ensures c.sort_rows.ensures c.dedup_rows-line_count.ensures
     c.requires.entry_size_in_bounds (omega arith)

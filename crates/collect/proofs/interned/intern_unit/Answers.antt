@@ -1,23 +1,14 @@
 -- `interned::intern_unit` meets its contract: the unit's directories, and its map behind them.
 use native.Mathlib.Omega.{arith}
 use Rattle.tlv.proofs.AnswerLaws.{handed}
-use Rattle.collect.proofs.UnitInternLaws.{described-files, described-placed, described-listed, described-room, interned-refused, interned_done}
+use Rattle.collect.proofs.UnitInternLaws.{main-sheet, described-files, interned-refused, interned_done}
 use Rattle.collect.proofs.interned.intern_unit.Goals as goal
 
 pub intern_header_files-requires-clause-files_in : goal.intern_header_files-requires-clause-files_in
 intern_header_files-requires-clause-files_in c = described-files c.file_unit-unit.ensures c.requires.files_in c.requires.unit_room c.file_unit-unit.auto.work
 
-pub intern_header_files-requires-clause-unit_placed : goal.intern_header_files-requires-clause-unit_placed
-intern_header_files-requires-clause-unit_placed c = described-placed c.file_unit-unit.ensures c.requires.files_in c.requires.unit_room c.file_unit-unit.auto.work c.requires.unit_placed
-
-pub intern_header_files-requires-clause-listed : goal.intern_header_files-requires-clause-listed
-intern_header_files-requires-clause-listed c = described-listed c.file_unit-unit.ensures c.requires.files_in c.requires.unit_room c.file_unit-unit.auto.work c.requires.listed
-
-pub intern_header_files-requires-clause-map_room : goal.intern_header_files-requires-clause-map_room
-intern_header_files-requires-clause-map_room c = described-room c.file_unit-unit.ensures c.requires.files_in c.requires.unit_room c.file_unit-unit.auto.work
-
 pub returns-in_err-interned : goal.returns-in_err-interned
-returns-in_err-interned c = rw (handed _ _ c.from_residual.ensures.1) (interned-refused c.file_unit-unit.ensures c.requires.files_in c.requires.unit_room c.file_unit-unit.auto.work c.in_err-interned.ensures)
+returns-in_err-interned c = rw (handed _ _ c.from_residual.ensures.1) (interned-refused c.file_unit-unit.ensures c.requires.files_in c.requires.unit_room c.file_unit-unit.auto.work (rw (main-sheet c.args.d.main.now c.args.d.supplementary.now _ c.file_unit-unit.ensures.source-is) at c.in_err-interned.ensures))
 
 pub returns : goal.returns
-returns c = interned_done c.file_unit-unit.ensures c.requires.files_in c.requires.unit_room c.file_unit-unit.auto.work c.in_ok-interned.ensures (omega arith)
+returns c = interned_done c.file_unit-unit.ensures c.requires.files_in c.requires.unit_room c.file_unit-unit.auto.work (rw (main-sheet c.args.d.main.now c.args.d.supplementary.now _ c.file_unit-unit.ensures.source-is) at c.in_ok-interned.ensures) (omega arith)

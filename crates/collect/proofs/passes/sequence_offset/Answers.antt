@@ -5,5 +5,5 @@ use Rattle.collect.proofs.passes.sequence_offset.Goals as goal
 pub returns : goal.returns
 returns c = search offset-unknown
 
-pub returns-then-sequence-n : goal.returns-then-sequence-n
-returns-then-sequence-n c = search offset-known
+pub returns-then-sequence-offsets : goal.returns-then-sequence-offsets
+returns-then-sequence-offsets c = search offset-known

@@ -1,5 +1,4 @@
 -- `program::gather_program_rows` meets its contract: the rows that were written, and those from here on, are the program's.
-use native.Mathlib.Omega.{arith}
 use Rattle.tlv.proofs.AnswerLaws.{handed}
 use Rattle.collect.proofs.program.GatherLaws.{gather-range, gather-operation, gather-start, gather-fault, gather-end}
 use Rattle.collect.proofs.program.GatherLaws.{gather-plain, gather-ended}
@@ -8,9 +7,6 @@ use Rattle.collect.proofs.program.gather_program_rows.Goals.{then-e-eq0-via-then
 
 pub loop-emitted-init : goal.loop-emitted-init
 loop-emitted-init c = gather-start _ _ _ _ _ _ c.if-e-eq0.false c.if-e-ne1.false c.initial-registers.ensures c.requires
-
-pub next_row-requires : goal.next_row-requires
-next_row-requires c = (omega (arith, c.if-e-eq0.false), c.loop-emitted.invariant.counting.within)
 
 pub returns-then-e-eq0 : goal.returns-then-e-eq0
 returns-then-e-eq0 c = elim c.then-e-eq0.branch [

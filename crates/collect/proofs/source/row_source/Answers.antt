@@ -1,4 +1,5 @@
 -- `source::row_source` meets its contract: the first field 1d of the unit, if it has one.
+use Rattle.collect.proofs.HeaderPlaces.{lengths-are}
 use Rattle.collect.proofs.source.SourceLaws.{encoding-within, source-fields, source-program}
 use Rattle.collect.proofs.source.row_source.Goals as goal
 
@@ -9,4 +10,4 @@ pub read_encoding-requires : goal.read_encoding-requires
 read_encoding-requires c = encoding-within c.requires.placed c.in-Some.ensures
 
 pub returns : goal.returns
-returns c = source-program c.requires.placed c.in-Some.ensures _ _ c.read_encoding.ensures _ _ c.requires.le_len c.requires.len_in_bounds c.read-opcode_base.ensures
+returns c = source-program c.requires.placed c.in-Some.ensures _ _ c.read_encoding.ensures _ c.read-opcode_base.ensures _ c.args.program (lengths-are c.args.header.now)

@@ -1,1 +1,2 @@
 mod ConvertingLaws
+mod CollectingLaws

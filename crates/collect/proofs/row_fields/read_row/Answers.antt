@@ -1,6 +1,0 @@
--- `row_fields::read_row` meets its contract.
-use Rattle.collect.proofs.LineLaws.{row_read}
-use Rattle.collect.proofs.row_fields.read_row.Goals as goal
-
-pub returns : goal.returns
-returns c = search row_read

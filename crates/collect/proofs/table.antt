@@ -1,2 +1,0 @@
-mod TableConvertLaws
-mod TableSequenceLaws
