@@ -237,12 +237,3 @@ module _ {w w₀ : List ℕ} {x : Tables} {base : ℕ} (n : ℕ) (eb : base ≡ 
         keys = λ j. S.keys j ∙ keys-clear (keys_from x) j (but_one Z.rest) (inr (omega arith), tt);
         rest = kept_trans (kept-wide x.keys (chain_count x * 4 + n * 13) Z.rest (omega arith) (omega arith)) S.rest;
       }
-
-pub chaining-turn : {w₀ w w' : List ℕ} {x : Tables} {n i : ℕ} → Chaining w₀ w x n i → i < n → Chains w w' x (i + 1) → length w' ≡ length w → Chaining w₀ w' x n (i + 1)
-chaining-turn {x = x} {n} S h J size = record {
-  left = omega arith;
-  chained = J.chained;
-  keys = λ j. J.keys j ∙ S.keys j;
-  rest = kept_trans S.rest (kept-wide x.keys (chain_count x * 4 + n * 13) J.rest (omega arith) (omega arith));
-  size = size ∙ S.size;
-}

@@ -101,12 +101,12 @@ module _ {main supplementary w : List ℕ} {x : Tables} {n : ℕ} (S : SearchIn 
 
   -- a reference to an offset of the own unit can be remembered
   pub possible-unit : {at : EntryAt} {o : ℕ} (name : ℕ) → Stands main supplementary at
-      → reference_of (attribute (entry_here (source_in main supplementary at.input) at.place) name) ≡ Reference.Unit o
+      → reference_of (attribute (entry_here (source_in main supplementary at.input) at.place) name) ≡ Some (Reference.Unit o)
       → PossibleKey main supplementary (key_in at.source ((unit_here (source_in main supplementary at.input) at.unit).offset + o))
   possible-unit {at} {o} name A is = go at.input A.known A.sourced is
     where
       go : (input : DebugSource) → EntryKnown (source_in main supplementary input) at.unit at.place → Sourced input at.source
-          → reference_of (attribute (entry_here (source_in main supplementary input) at.place) name) ≡ Reference.Unit o
+          → reference_of (attribute (entry_here (source_in main supplementary input) at.place) name) ≡ Some (Reference.Unit o)
           → PossibleKey main supplementary (key_in at.source ((unit_here (source_in main supplementary input) at.unit).offset + o))
       go DebugSource.Main known sourced is = rw sourced (possible-main_unit name S.main-index.accepted known is)
       go DebugSource.Supplementary known sourced is = possible-supplementary_unit name S.supplementary-index.accepted known at.source is

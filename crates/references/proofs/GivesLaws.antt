@@ -17,7 +17,11 @@ use Rattle.buffers.proofs.TableLaws.{kept_refl, kept_trans}
 use Rattle.access.proofs.IndexModel.{either}
 use Rattle.files.specs.Pieces.{source_in}
 use Rattle.references.specs.declared.tables.Tables.{Tables}
-use Rattle.references.specs.declared.tables.Target.{Target}
+use Rattle.std.specs.Prelude.{Result, Ok, Err, Some, None}
+use Rattle.std.specs.declared.option.Option.{Option as Given}
+use Rattle.tlv.specs.declared.refusal.Refusal.{Refusal}
+use Rattle.tlv.specs.Refusals.{number_of}
+use Rattle.access.specs.declared.index.EntryPlace.{EntryPlace}
 use Rattle.references.specs.declared.ways.EntryAt.{EntryAt}
 use Rattle.references.specs.declared.ways.OffsetAt.{OffsetAt}
 use Rattle.references.specs.Search.{Trail, DieKey, same_key, is_visited, visit, visit_entry, unit_containing, units_in, follow_in, follow_absolute, Named}
@@ -88,7 +92,7 @@ key_at at = record { source = search_source at.source; offset = at.target }
 
 -- where the search stands at an entry
 abbrev entry_there : OffsetAt → ℕ → ℕ → EntryAt
-entry_there at p q = record { input = at.input; source = at.source; unit = q; place = p; depth = at.depth }
+entry_there at p q = record { input = at.input; source = at.source; unit = q; place = p; left = at.left }
 
 -- an offset that was not followed yet
 module _ {main supplementary w : List ℕ} {x : Tables} {n : ℕ} {at : OffsetAt} {v : Bool} (S : SearchIn main supplementary w x n) (A : Aims main supplementary at)
@@ -108,24 +112,26 @@ module _ {main supplementary w : List ℕ} {x : Tables} {n : ℕ} {at : OffsetAt
   unfolding resolve_absolute_name follow_absolute is_visited
   absolute-seen few z y = gives_nothing (absolute depth main supplementary at) S few z (rw (visited, y))
 
-  module _ {s : List ℕ} (new : v ≡ false) (is : s ≡ source_in main supplementary at.input) {r : Target} (L : Leads s at.target r) where
+  module _ {s : List ℕ} (new : v ≡ false) (is : s ≡ source_in main supplementary at.input) {r : Result (Given EntryPlace) Refusal} (L : Leads s at.target r) where
     follows : {o : Option CompilationUnit} → unit_containing (units (source_in main supplementary at.input)) at.target ≡ o
         → (t : Trail) → t.visited ≡ keys_at w (keys_from x) n
         → follow_absolute (dwarf_of main supplementary) (search_source at.input) (search_source at.source) t at.target ≡ follow_in (search_source at.input) (key_at at) t o
     unfolding follow_absolute is_visited
     follows found t same = rw (same, visited, new, units_in-is main supplementary at.input, found)
 
-    pub absolute-no-entry : (q : ℕ) → r ≡ Target.NoEntry q → {a : ℕ} → a ≤ n + 1 → Gives (absolute depth main supplementary at) main supplementary x w n a w n a 13 []
+    pub absolute-no-entry : (e : Refusal) → r ≡ Err e → {a : ℕ} → a ≤ n + 1 → Gives (absolute depth main supplementary at) main supplementary x w n a w n a (number_of e) []
     unfolding resolve_absolute_name ◌>>=◌
-    absolute-no-entry q to {a} few =
+    absolute-no-entry e to {a} few =
         let leads = rw (is, to) at L in
-        gives-refused (absolute depth main supplementary at) S few (λ z. omega arith) (rw (follows leads.is.0 (trail_at w (keys_from x) n a) refl, leads.is.1))
+        let none = leads.is.1 in
+        rw leads.is.0
+        (gives-refused (absolute depth main supplementary at) S few (λ z. omega arith) (rw (follows none.containing (trail_at w (keys_from x) n a) refl, none.missing)))
 
-    pub absolute-stands : (p q : ℕ) → r ≡ Target.At p q → Stands main supplementary (entry_there at p q)
-    absolute-stands p q to = let leads = rw (is, to) at L in record { known = leads.is.2; sourced = A.sourced }
+    pub absolute-stands : (f : EntryPlace) → r ≡ Ok (Some f) → Stands main supplementary (entry_there at f.place f.unit)
+    absolute-stands f to = let leads = rw (is, to) at L in record { known = leads.is.2; sourced = A.sourced }
 
     module _ {w₁ : List ℕ} (P : Pushed w w₁ x n (key_in at.source at.target)) where
-      pub absolute-outside : {a st : ℕ} → r ≡ Target.Outside → length w₁ ≡ length w → a ≤ n + 1 → st ≡ 0
+      pub absolute-outside : {a st : ℕ} → r ≡ Ok None → length w₁ ≡ length w → a ≤ n + 1 → st ≡ 0
           → Gives (absolute depth main supplementary at) main supplementary x w n a w₁ (n + 1) a st []
       unfolding resolve_absolute_name ◌>>=◌
       absolute-outside {a} to size few z =
@@ -134,13 +140,13 @@ module _ {main supplementary w : List ℕ} {x : Tables} {n : ℕ} {at : OffsetAt
           (rw (follows leads.is (trail_at w (keys_from x) n a) refl)
           (ap (λ (key : DieKey). after (visit (trail_at w (keys_from x) n a) key) (done (record { trail = visit (trail_at w (keys_from x) n a) key; name = [] }))) (key-source at.source at.target)))
 
-      pub absolute-at : (p q : ℕ) → r ≡ Target.At p q → {w₂ name : List ℕ} {n₂ a b st : ℕ}
-          → Gives (counted_name depth (dwarf_of main supplementary) (place_at main supplementary (entry_there at p q))) main supplementary x w₁ (n + 1) (a + 1) w₂ n₂ b st name
+      pub absolute-at : (f : EntryPlace) → r ≡ Ok (Some f) → {w₂ name : List ℕ} {n₂ a b st : ℕ}
+          → Gives (counted_name depth (dwarf_of main supplementary) (place_at main supplementary (entry_there at f.place f.unit))) main supplementary x w₁ (n + 1) (a + 1) w₂ n₂ b st name
           → Gives (absolute depth main supplementary at) main supplementary x w n a w₂ n₂ b st name
       unfolding resolve_absolute_name ◌>>=◌
-      absolute-at p q to {a = a} G =
+      absolute-at f to {a = a} G =
           let leads = rw (is, to) at L in
-          let inner : Trail → Counted Named = counted_name depth (dwarf_of main supplementary) (place_at main supplementary (entry_there at p q)) in
+          let inner : Trail → Counted Named = counted_name depth (dwarf_of main supplementary) (place_at main supplementary (entry_there at f.place f.unit)) in
           gives-pushed S A.possible (sym seen ∙ new) P (absolute depth main supplementary at) inner
           (rw (follows leads.is.0 (trail_at w (keys_from x) n a) refl, leads.is.1)
           (ap (λ (key : DieKey). inner (visit_entry (trail_at w (keys_from x) n a) key)) (key-source at.source at.target)))

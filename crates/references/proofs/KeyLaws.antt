@@ -23,6 +23,8 @@ use Rattle.buffers.proofs.TableLaws.{kept_trans, kept-wide, le_at-kept, but_one}
 use Rattle.access.specs.Places.{entry_here, unit_here, unit_places}
 use Rattle.access.proofs.UnitPlaceLaws.{units-places}
 use Rattle.access.proofs.IndexModel.{either}
+use Rattle.std.specs.Prelude.{Some, None}
+use Rattle.std.specs.declared.option.Option.{Option as Given}
 use Rattle.references.specs.declared.attributes.Reference.{Reference}
 use Rattle.references.specs.declared.tables.Tables.{Tables}
 use Rattle.references.specs.Search.{DebugSource as Source, DieKey, main_source, supplementary_source, same_source, same_key, attribute}
@@ -186,17 +188,17 @@ record Referring (o : Option Attribute) (kind value : ℕ) : Type 0 where
   kind-is : one.kind ≡ kind
   value-is : one.value ≡ value
 
-abbrev Refers : Option Attribute → Reference → Type 0
-Refers o Reference.Missing = Unit {0}
-Refers o (Reference.Unit v) = Referring o 4 v
-Refers o (Reference.Section v) = Referring o 5 v
-Refers o (Reference.Supplementary v) = Referring o 6 v
+abbrev Refers : Option Attribute → Given Reference → Type 0
+Refers o None = Unit {0}
+Refers o (Some (Reference.Unit v)) = Referring o 4 v
+Refers o (Some (Reference.Section v)) = Referring o 5 v
+Refers o (Some (Reference.Supplementary v)) = Referring o 6 v
 
 refers : (o : Option Attribute) → Refers o (reference_of o)
 unfolding reference_of
 refers none = tt
 refers (some a) =
-    let R : Reference → Type 0 = Refers (some a) in
+    let R : Given Reference → Type 0 = Refers (some a) in
     by_test R (eqb a.kind 4) (λ y. record { one = a; is = refl; kind-is = eqb-true a.kind 4 y; value-is = refl }) (λ _.
     by_test R (eqb a.kind 5) (λ y. record { one = a; is = refl; kind-is = eqb-true a.kind 5 y; value-is = refl }) (λ _.
     by_test R (eqb a.kind 6) (λ y. record { one = a; is = refl; kind-is = eqb-true a.kind 6 y; value-is = refl }) (λ _. tt)))
@@ -231,16 +233,16 @@ module _ {main supplementary : List ℕ} {n q p v : ℕ} (name : ℕ) (accepted 
         (known-keys main_keys (λ x. key v ≡ x) n accepted known (named-taken main_keys later-main (unit_here main q) k key here (entry_here main p) name v r));
   }
 
-  pub possible-main_unit : reference_of (attribute (entry_here main p) name) ≡ Reference.Unit v → PossibleKey main supplementary (key_in DebugSource.Main ((unit_here main q).offset + v))
+  pub possible-main_unit : reference_of (attribute (entry_here main p) name) ≡ Some (Reference.Unit v) → PossibleKey main supplementary (key_in DebugSource.Main ((unit_here main q).offset + v))
   unfolding main_keys
   possible-main_unit is =
       from-main 4 (λ x. key_in DebugSource.Main ((unit_here main q).offset + x)) (λ a later is. rw is (inl refl)) (rw is at (refers (attribute (entry_here main p) name)))
 
-  pub possible-main_section : reference_of (attribute (entry_here main p) name) ≡ Reference.Section v → PossibleKey main supplementary (key_in DebugSource.Main v)
+  pub possible-main_section : reference_of (attribute (entry_here main p) name) ≡ Some (Reference.Section v) → PossibleKey main supplementary (key_in DebugSource.Main v)
   unfolding main_keys
   possible-main_section is = from-main 5 (key_in DebugSource.Main) (λ a later is. rw is (inl refl)) (rw is at (refers (attribute (entry_here main p) name)))
 
-  pub possible-main-supplementary : reference_of (attribute (entry_here main p) name) ≡ Reference.Supplementary v → PossibleKey main supplementary (key_in DebugSource.Supplementary v)
+  pub possible-main-supplementary : reference_of (attribute (entry_here main p) name) ≡ Some (Reference.Supplementary v) → PossibleKey main supplementary (key_in DebugSource.Supplementary v)
   unfolding main_keys
   possible-main-supplementary is = from-main 6 (key_in DebugSource.Supplementary) (λ a later is. rw is (inl refl)) (rw is at (refers (attribute (entry_here main p) name)))
 
@@ -265,7 +267,7 @@ module _ {main supplementary : List ℕ} {n q p v : ℕ} (name : ℕ) (accepted 
   }
 
   -- under either source
-  pub possible-supplementary_unit : (source : DebugSource) → reference_of (attribute (entry_here supplementary p) name) ≡ Reference.Unit v
+  pub possible-supplementary_unit : (source : DebugSource) → reference_of (attribute (entry_here supplementary p) name) ≡ Some (Reference.Unit v)
       → PossibleKey main supplementary (key_in source ((unit_here supplementary q).offset + v))
   unfolding supplementary_keys
   possible-supplementary_unit source is =
@@ -273,6 +275,6 @@ module _ {main supplementary : List ℕ} {n q p v : ℕ} (name : ℕ) (accepted 
       from-supplementary 4 (λ x. key_in source (u.offset + x)) (λ a later is. rw is (either-source source (u.offset + a.value) (supplementary_keys u later)))
       (rw is at (refers (attribute (entry_here supplementary p) name)))
 
-  pub possible-supplementary_section : reference_of (attribute (entry_here supplementary p) name) ≡ Reference.Section v → PossibleKey main supplementary (key_in DebugSource.Main v)
+  pub possible-supplementary_section : reference_of (attribute (entry_here supplementary p) name) ≡ Some (Reference.Section v) → PossibleKey main supplementary (key_in DebugSource.Main v)
   unfolding supplementary_keys
   possible-supplementary_section is = from-supplementary 5 (key_in DebugSource.Main) (λ a later is. rw is (inl refl)) (rw is at (refers (attribute (entry_here supplementary p) name)))

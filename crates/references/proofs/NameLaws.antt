@@ -9,7 +9,7 @@ use lib.ListN.{length, drop, get_or}
 use Rattle.std.specs.Prelude.{◌==◌}
 use Rattle.std.proofs.Common.{add-one, drop-cons}
 use Rattle.std.proofs.lemmas.List.{drop_all}
-use borrow.Author.Tests.{eq-eqb, ne_eqb, eqb-true}
+use borrow.Author.Tests.{ne_eqb, eqb-true}
 use Rattle.tlv.specs.Outcome.{Outcome, done, ◌>>=◌}
 use Rattle.tlv.specs.Lists.{is_empty}
 use Rattle.tlv.specs.Model.{CompilationUnit, Entry, Attribute}
@@ -21,6 +21,7 @@ use Rattle.references.specs.declared.tables.Tables.{Tables}
 use Rattle.references.specs.declared.ways.EntryAt.{EntryAt}
 use Rattle.references.specs.declared.ways.OffsetAt.{OffsetAt}
 use Rattle.std.specs.Prelude.{Ok, Err, Some, None}
+use Rattle.std.specs.declared.option.Option.{Option as Given}
 use Rattle.references.specs.declared.ways.Way.{Way}
 use Rattle.tlv.specs.declared.refusal.Refusal.{Refusal}
 use Rattle.tlv.specs.Refusals.{number_of}
@@ -51,30 +52,30 @@ no-name (b ∷ r) e h = let z = eqb-true (length (b ∷ r)) 0 (sym e ∙ h) in a
 -- ---- the name that one reference leads to, by the way that it leads
 
 -- the answer is a way
-pub way_is : {f : Trail → Outcome Followed} {main supplementary w : List ℕ} {x : Tables} {n depth : ℕ} {r q : Way} → Ways f main supplementary w x n depth (Ok r) → r ≡ q
-    → Ways f main supplementary w x n depth (Ok q)
+pub way_is : {f : Trail → Outcome Followed} {main supplementary w : List ℕ} {x : Tables} {n left : ℕ} {r q : Given Way} → Ways f main supplementary w x n left (Ok r) → r ≡ q
+    → Ways f main supplementary w x n left (Ok q)
 way_is W e = rw e at W
 
 module _ {main supplementary w : List ℕ} {x : Tables} {n : ℕ} (at : EntryAt) (name : ℕ) (S : SearchIn main supplementary w x n) where
-  pub from-refused : {bytes : List ℕ} {a : ℕ} (k : ℕ) (e : Refusal) → Ways (follow_from main supplementary at name) main supplementary w x n at.depth (Err e) → a ≤ n + 1
+  pub from-refused : {bytes : List ℕ} {a : ℕ} (k : ℕ) (e : Refusal) → Ways (follow_from main supplementary at name) main supplementary w x n at.left (Err e) → a ≤ n + 1
       → Gives (referred_name k main supplementary at name) main supplementary x w n a w n a (number_of e) bytes
   unfolding referred_name
   from-refused {a = a} k e W few = gives-refused (referred_name k main supplementary at name) S few (numbered e) (rw (W.is a))
 
-module _ {main supplementary w : List ℕ} {x : Tables} {n : ℕ} {r : Way} (at : EntryAt) (name : ℕ) (S : SearchIn main supplementary w x n)
-    (W : Ways (follow_from main supplementary at name) main supplementary w x n at.depth (Ok r)) where
-  pub from_nothing : {a st : ℕ} (k : ℕ) → r ≡ Way.Nothing → a ≤ n + 1 → st ≡ 0 → Gives (referred_name k main supplementary at name) main supplementary x w n a w n a st []
+module _ {main supplementary w : List ℕ} {x : Tables} {n : ℕ} {r : Given Way} (at : EntryAt) (name : ℕ) (S : SearchIn main supplementary w x n)
+    (W : Ways (follow_from main supplementary at name) main supplementary w x n at.left (Ok r)) where
+  pub from_nothing : {a st : ℕ} (k : ℕ) → r ≡ None → a ≤ n + 1 → st ≡ 0 → Gives (referred_name k main supplementary at name) main supplementary x w n a w n a st []
   unfolding referred_name
   from_nothing {a} k to few z = gives_nothing (referred_name k main supplementary at name) S few z (rw ((way_is W to).is a))
 
-  module _ (next : EntryAt) (target : ℕ) (to : r ≡ Way.Entry next target) where
+  module _ (next : EntryAt) (target : ℕ) (to : r ≡ Some (Way.Entry next target)) where
     pub entry-room : TrailIn w x n 1
     entry-room = let N = (way_is W to).is in push_room S N.possible N.new
 
     pub entry-stands : Stands main supplementary next
     entry-stands = (way_is W to).is.stands
 
-    pub entry-deeper : next.depth ≡ at.depth + 1
+    pub entry-deeper : next.left ≡ at.left - 1
     entry-deeper = (way_is W to).is.deeper
 
     module _ {w₁ : List ℕ} (P : Pushed w w₁ x n (key_in next.source target)) where
@@ -82,38 +83,38 @@ module _ {main supplementary w : List ℕ} {x : Tables} {n : ℕ} {r : Way} (at 
       entry-search size = let N = (way_is W to).is in push_search S N.possible N.new P size
 
       pub from-entry : {w₂ bytes : List ℕ} {n₂ a b st : ℕ}
-          → Gives (counted_name (64 - next.depth) (dwarf_of main supplementary) (place_at main supplementary next)) main supplementary x w₁ (n + 1) (a + 1) w₂ n₂ b st bytes
-          → Gives (referred_name (64 - (at.depth + 1)) main supplementary at name) main supplementary x w n a w₂ n₂ b st bytes
+          → Gives (counted_name next.left (dwarf_of main supplementary) (place_at main supplementary next)) main supplementary x w₁ (n + 1) (a + 1) w₂ n₂ b st bytes
+          → Gives (referred_name (at.left - 1) main supplementary at name) main supplementary x w n a w₂ n₂ b st bytes
       unfolding referred_name
       from-entry {a = a} G =
           let N = (way_is W to).is in
-          gives-pushed S N.possible N.new P (referred_name (64 - (at.depth + 1)) main supplementary at name)
-          (counted_name (64 - (at.depth + 1)) (dwarf_of main supplementary) (place_at main supplementary next)) (rw (N.is a)) (rw N.deeper at G)
+          gives-pushed S N.possible N.new P (referred_name (at.left - 1) main supplementary at name)
+          (counted_name (at.left - 1) (dwarf_of main supplementary) (place_at main supplementary next)) (rw (N.is a)) (rw N.deeper at G)
 
-  pub from-offset : (next : OffsetAt) → r ≡ Way.Offset next → {w₂ bytes : List ℕ} {n₂ a b st : ℕ}
-      → Gives (resolve_absolute_name (64 - next.depth) (dwarf_of main supplementary) (search_source next.input) (search_source next.source) next.target) main supplementary x w n a w₂ n₂ b st bytes
-      → Gives (referred_name (64 - (at.depth + 1)) main supplementary at name) main supplementary x w n a w₂ n₂ b st bytes
+  pub from-offset : (next : OffsetAt) → r ≡ Some (Way.Offset next) → {w₂ bytes : List ℕ} {n₂ a b st : ℕ}
+      → Gives (resolve_absolute_name next.left (dwarf_of main supplementary) (search_source next.input) (search_source next.source) next.target) main supplementary x w n a w₂ n₂ b st bytes
+      → Gives (referred_name (at.left - 1) main supplementary at name) main supplementary x w n a w₂ n₂ b st bytes
   unfolding referred_name resolve_absolute_name
   from-offset next to {a = a} G =
       let N = (way_is W to).is in
-      gives_after (referred_name (64 - (at.depth + 1)) main supplementary at name)
-      (resolve_absolute_name (64 - (at.depth + 1)) (dwarf_of main supplementary) (search_source next.input) (search_source next.source) next.target)
+      gives_after (referred_name (at.left - 1) main supplementary at name)
+      (resolve_absolute_name (at.left - 1) (dwarf_of main supplementary) (search_source next.input) (search_source next.source) next.target)
       (kept_refl w x.keys (keys_extent main supplementary x)) (rw (N.is a)) (rw N.deeper at G)
 
 -- ---- the own name
 
 -- the search of an entry
 abbrev pub inner : List ℕ → List ℕ → EntryAt → Trail → Counted Named
-inner main supplementary at = counted_name (64 - at.depth) (dwarf_of main supplementary) (place_at main supplementary at)
+inner main supplementary at = counted_name at.left (dwarf_of main supplementary) (place_at main supplementary at)
 
 -- the names that its references lead to, by the search of one level less
 abbrev referenced : List ℕ → List ℕ → EntryAt → List ℕ → Trail → Counted Named
 referenced main supplementary at names t =
-    counted_referenced_name (counted_name (64 - (at.depth + 1)) (dwarf_of main supplementary)) (dwarf_of main supplementary) (place_at main supplementary at) names t
+    counted_referenced_name (counted_name (at.left - 1) (dwarf_of main supplementary)) (dwarf_of main supplementary) (place_at main supplementary at) names t
 
 -- the references of these names are still to be followed
 pub record Going (main supplementary : List ℕ) (x : Tables) (at : EntryAt) (w₀ : List ℕ) (n₀ a₀ : ℕ) (w : List ℕ) (n a : ℕ) (names : List ℕ) : Type 0 where
-  pub shallow : at.depth < 64
+  pub shallow : at.left ≡ 0 → ⊥
   pub stands : Stands main supplementary at
   pub ready : SearchIn main supplementary w x n
   pub few : a ≤ n + 1
@@ -122,18 +123,24 @@ pub record Going (main supplementary : List ℕ) (x : Tables) (at : EntryAt) (w�
   pub goes : inner main supplementary at (trail_at w₀ (keys_from x) n₀ a₀) ≡ referenced main supplementary at names (trail_at w (keys_from x) n a)
 
 module _ {main supplementary w : List ℕ} {x : Tables} {n a : ℕ} {at : EntryAt} (S : SearchIn main supplementary w x n) (few : a ≤ n + 1) (A : Stands main supplementary at) where
-  pub inner_deep : {st : ℕ} → 64 ≤ at.depth → st ≡ 0 → Gives (inner main supplementary at) main supplementary x w n a w n a st []
+  pub inner_deep : {st : ℕ} → at.left ≡ 0 → st ≡ 0 → Gives (inner main supplementary at) main supplementary x w n a w n a st []
   unfolding counted_name
-  inner_deep h z = let none_left : 64 - at.depth ≡ 0 = omega arith in gives_nothing (inner main supplementary at) S few z (rw none_left)
+  inner_deep h z = gives_nothing (inner main supplementary at) S few z (rw h)
 
-  module _ {s own : List ℕ} {st : ℕ} {v : Bool} (shallow : at.depth < 64) (is : s ≡ source_in main supplementary at.input) (O : OwnNamed s at.place st own) (e : v ≡ is_answer st own) where
+  module _ {s own : List ℕ} {st : ℕ} {v : Bool} (shallow : at.left ≡ 0 → ⊥) (is : s ≡ source_in main supplementary at.input) (O : OwnNamed s at.place st own) (e : v ≡ is_answer st own) where
     inner_own : (t : Trail) → inner main supplementary at t
         ≡ (after t (bytes_given st own) >>> λ own. cond (is_empty own) (referenced main supplementary at origin_attributes t) (after t (done (record { trail = t; name = own }))))
     unfolding counted_name
     inner_own t =
-        let more_left : 64 - at.depth ≡ suc (64 - (at.depth + 1)) = omega arith in
+        let more_left : at.left ≡ suc (at.left - 1) = omega arith in
         let name-is : bytes_given st own ≡ own_name (entry_here (source_in main supplementary at.input) at.place) name_attributes = rw is at O.is in
-        rw (more_left, ← name-is)
+        one-more at.left (at.left - 1) more_left t ∙ rw (← name-is)
+      where
+        one-more : (m k : ℕ) → m ≡ suc k → (t : Trail) → counted_name m (dwarf_of main supplementary) (place_at main supplementary at) t
+            ≡ (after t (own_name (entry_here (source_in main supplementary at.input) at.place) name_attributes) >>> λ own.
+            cond (is_empty own) (counted_referenced_name (counted_name k (dwarf_of main supplementary)) (dwarf_of main supplementary) (place_at main supplementary at) origin_attributes t)
+            (after t (done (record { trail = t; name = own }))))
+        one-more m k e t = rw e
 
     pub inner-named : v ≡ true → Gives (inner main supplementary at) main supplementary x w n a w n a st own
     inner-named y =
@@ -157,12 +164,12 @@ module _ {main supplementary w : List ℕ} {x : Tables} {n a : ℕ} {at : EntryA
 -- ---- a turn
 
 referenced_step : (main supplementary : List ℕ) (at : EntryAt) (name : ℕ) (names : List ℕ) (t : Trail) → referenced main supplementary at (name ∷ names) t
-    ≡ (referred_name (64 - (at.depth + 1)) main supplementary at name t >>> λ m. cond (is_empty m.name) (referenced main supplementary at names m.trail) (after m.trail (done m)))
+    ≡ (referred_name (at.left - 1) main supplementary at name t >>> λ m. cond (is_empty m.name) (referenced main supplementary at names m.trail) (after m.trail (done m)))
 unfolding counted_referenced_name referred_name follow_from
 referenced_step main supplementary at name names t = sym (counted-assoc t (follow (dwarf_of main supplementary) (place_at main supplementary at) t (attribute (place_at main supplementary at).entry name)) _ _)
 
 module _ {main supplementary w₀ w w₁ bytes names : List ℕ} {x : Tables} {at : EntryAt} {n₀ a₀ n a n₁ b st name : ℕ} {v : Bool} (G : Going main supplementary x at w₀ n₀ a₀ w n a (name ∷ names))
-    (T : Gives (referred_name (64 - (at.depth + 1)) main supplementary at name) main supplementary x w n a w₁ n₁ b st bytes) (e : v ≡ is_answer st bytes) where
+    (T : Gives (referred_name (at.left - 1) main supplementary at name) main supplementary x w n a w₁ n₁ b st bytes) (e : v ≡ is_answer st bytes) where
   turn : inner main supplementary at (trail_at w₀ (keys_from x) n₀ a₀)
       ≡ (counted_given st (trail_at w₁ (keys_from x) n₁ b) bytes >>> λ m. cond (is_empty m.name) (referenced main supplementary at names m.trail) (after m.trail (done m)))
   turn =
@@ -221,9 +228,6 @@ reference-name d u e name = go (attribute e name)
         let all = counts-after {trail = λ r. r.trail} empty_trail (follow d (place_in u e) empty_trail (some a)) (λ f. counts-name_at (counts_name d 63) f.trail f.target) in
         sym (bind_assoc (follow d (place_in u e) empty_trail (some a)) _ _) ∙ ap (λ (o : Outcome Named). o >>= λ m. done m.name) (sym all.same)
 
-pub start-shallow : {at : EntryAt} (q p : ℕ) → at ≡ start_at q p → at.depth < 64
-start-shallow q p is = rw is (omega arith)
-
 module _ {main supplementary : List ℕ} (q p : ℕ) {at : EntryAt} (is : at ≡ start_at q p) where
   pub start-stands : EntryKnown main q p → Stands main supplementary at
   start-stands known = rw is (record { known = known; sourced = refl })
@@ -246,7 +250,7 @@ module _ {main supplementary : List ℕ} (q p : ℕ) {at : EntryAt} (is : at ≡
     pub name-within : SearchIn main supplementary w x 0 → EntryKnown main q p → ReadsWithin (dwarf_of main supplementary) b
     name-within S known = rw name-read (bounded_at supplementary S.main-index.number S.main-index.accepted known).name
 
-  module _ {w w' bytes : List ℕ} {x : Tables} {n' b st : ℕ} (name : ℕ) (G : Gives (referred_name (64 - (at.depth + 1)) main supplementary at name) main supplementary x w 0 1 w' n' b st bytes) where
+  module _ {w w' bytes : List ℕ} {x : Tables} {n' b st : ℕ} (name : ℕ) (G : Gives (referred_name (at.left - 1) main supplementary at name) main supplementary x w 0 1 w' n' b st bytes) where
     pub resolved-reference : Resolved main supplementary x w w' (reference_name (dwarf_of main supplementary) (unit_here main q) (entry_here main p) (attribute (entry_here main p) name)) st bytes
     unfolding referred_name follow_from counted_reference_name keys_at
     resolved-reference =

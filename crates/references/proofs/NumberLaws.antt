@@ -1,24 +1,20 @@
 -- The numbers that an entry's attributes are: a file number, and an unsigned number.
 use mathlib.Core.Path.{◌≡◌, refl, ap, ◌∙◌}
 use mathlib.Core.Bool.{◌||◌}
-use mathlib.Core.List.{List, map}
+use mathlib.Core.List.{List}
 use mathlib.Core.Option.{Option, none, some}
-use Prim.Native.Nat.{ℕ, ◌+◌}
+use Prim.Native.Nat.{ℕ}
 use native.Mathlib.Omega.{arith}
 use lib.Dec.{eqb}
-use lib.ListN.{drop}
-use Rattle.tlv.specs.Lists.{first}
-use Rattle.tlv.specs.Fields.{fields, payloads}
-use Rattle.tlv.specs.Model.{Attribute, attribute_of}
-use Rattle.tlv.specs.Checked.{Placed}
+use Rattle.tlv.specs.Model.{Attribute}
 use Rattle.access.specs.declared.access.Value.{Value}
-use Rattle.access.specs.Places.{own_fields, entry_here}
-use Rattle.access.specs.Access.{Meaning, absent, unsigned, file_number, text, unit_reference, section_reference, supplementary_reference, section_offset, line_offset, address, failed, is_named, value_of, meaning_of, said, Says}
+use Rattle.access.specs.Places.{entry_here}
+use Rattle.access.specs.Access.{Meaning, unsigned, file_number, value_of, meaning_of, said, Says}
 use Rattle.std.specs.Prelude.{Some, None}
 use Rattle.std.specs.declared.option.Option.{Option as Given}
 use Rattle.references.specs.Search.{attribute, number_if, unsigned_attribute, file_index_attribute}
-use Rattle.references.specs.Tables.{EntryKnown, number_given, file_number_in, line_number_in}
-use Rattle.references.proofs.ReferenceLaws.{by_kind, of_kind, attribute-says}
+use Rattle.references.specs.Tables.{number_given, file_number_in, line_number_in}
+use Rattle.references.proofs.ReferenceLaws.{by_kind, of_kind}
 
 -- ---- the number that an attribute of some kinds gives
 
@@ -74,15 +70,14 @@ meaning_line (some a) =
 
 -- ---- what is read of the entry at p
 
-module _ {s : List ℕ} {q p : ℕ} {v : Given Value} (accepted : Placed s 0) (known : EntryKnown s q p) {r : Given ℕ} (name : ℕ)
-    (says : Says s v (meaning_of (first (is_named name) (map attribute_of (payloads 0x18 (own_fields (fields (drop (p + 15) s)))))))) where
+module _ {s : List ℕ} (p : ℕ) {v : Given Value} {r : Given ℕ} (name : ℕ) (says : Says s v (meaning_of (attribute (entry_here s p) name))) where
   pub file-read : r ≡ file_number_in v → r ≡ number_given (file_index_attribute (entry_here s p) name)
   unfolding file_index_attribute
-  file-read is = is ∙ value-file s v ∙ ap file_meant (attribute-says accepted known v name says).is ∙ meaning_file (attribute (entry_here s p) name)
+  file-read is = is ∙ value-file s v ∙ ap file_meant says.is ∙ meaning_file (attribute (entry_here s p) name)
 
   pub line_read : r ≡ line_number_in v → r ≡ number_given (unsigned_attribute (entry_here s p) name)
   unfolding unsigned_attribute
-  line_read is = is ∙ value_line s v ∙ ap line_meant (attribute-says accepted known v name says).is ∙ meaning_line (attribute (entry_here s p) name)
+  line_read is = is ∙ value_line s v ∙ ap line_meant says.is ∙ meaning_line (attribute (entry_here s p) name)
 
 -- ---- a number that is given, or none
 

@@ -26,7 +26,7 @@ use Rattle.std.specs.Prelude.{Some, None}
 use Rattle.std.specs.declared.option.Option.{Option as Given}
 use Rattle.access.specs.declared.access.Value.{Value}
 use Rattle.access.specs.Places.{own_fields, entry_here, behind, IndexedEntry, entry_index}
-use Rattle.access.specs.Access.{Meaning, absent, unsigned, file_number, text, unit_reference, section_reference, supplementary_reference, section_offset, line_offset, address, failed, is_named, value_of, meaning_of, meant, said, Says}
+use Rattle.access.specs.Access.{Meaning, absent, text, unit_reference, section_reference, supplementary_reference, is_named, value_of, meaning_of, meant, said, Says}
 use Rattle.access.proofs.EntryPlaceLaws.{entry-says}
 use Rattle.access.proofs.IndexLaws.{index-unit, index-entry, index-other}
 use Rattle.access.proofs.IndexModel.{either}
@@ -117,11 +117,11 @@ module _ {s : List ℕ} {q p : ℕ} (accepted : Placed s 0) (known : EntryKnown 
 
 -- ---- the reference that an attribute is
 
-abbrev reference_meant : Meaning → Reference
-reference_meant (unit_reference n) = Reference.Unit n
-reference_meant (section_reference n) = Reference.Section n
-reference_meant (supplementary_reference n) = Reference.Supplementary n
-reference_meant m = Reference.Missing
+abbrev reference_meant : Meaning → Given Reference
+reference_meant (unit_reference n) = Some (Reference.Unit n)
+reference_meant (section_reference n) = Some (Reference.Section n)
+reference_meant (supplementary_reference n) = Some (Reference.Supplementary n)
+reference_meant m = None
 
 value-reference : (s : List ℕ) (v : Given Value) → reference_in v ≡ reference_meant (said s v)
 value-reference s None = refl
@@ -161,11 +161,9 @@ meaning-reference (some a) =
     by_kind (λ k. reference_meant (value_of (of_kind a k)) ≡ reference_of (some (of_kind a k))) a.kind refl refl refl refl refl refl refl refl refl
     (λ n1 n2 n3 n4 n5 n6 n7 n8 n9. rw (n1, n2, n3, n4, n5, n6, n7, n8, n9))
 
-pub reference-read : {s : List ℕ} {q p : ℕ} {v : Given Value} (name : ℕ) (r : Reference) → Placed s 0 → EntryKnown s q p
-    → Says s v (meaning_of (first (is_named name) (map attribute_of (payloads 0x18 (own_fields (fields (drop (p + 15) s)))))))
+pub reference-read : {s : List ℕ} (p : ℕ) {v : Given Value} (name : ℕ) (r : Given Reference) → Says s v (meaning_of (attribute (entry_here s p) name))
     → r ≡ reference_in v → r ≡ reference_of (attribute (entry_here s p) name)
-reference-read {s} {q} {p} {v} name r accepted known says is =
-    is ∙ value-reference s v ∙ ap reference_meant (attribute-says accepted known v name says).is ∙ meaning-reference (attribute (entry_here s p) name)
+reference-read {s} p {v} name r says is = is ∙ value-reference s v ∙ ap reference_meant says.is ∙ meaning-reference (attribute (entry_here s p) name)
 
 -- ---- the name that an attribute is
 
@@ -198,10 +196,9 @@ no_text s (Value.LineOffset n) other h = refl
 no_text s (Value.Address n) other h = refl
 no_text s Value.Failed other h = refl
 
-module _ {s : List ℕ} {q p : ℕ} {v : Given Value} (name : ℕ) (accepted : Placed s 0) (known : EntryKnown s q p)
-    (says : Says s v (meaning_of (first (is_named name) (map attribute_of (payloads 0x18 (own_fields (fields (drop (p + 15) s)))))))) where
+module _ {s : List ℕ} (p : ℕ) {v : Given Value} (name : ℕ) (says : Says s v (meaning_of (attribute (entry_here s p) name))) where
   named : (other : Outcome (List ℕ)) → name_from (attribute (entry_here s p) name) other ≡ name_meant (said s v) other
-  named other = meaning_name (attribute (entry_here s p) name) other ∙ ap (λ (m : Meaning). name_meant m other) (sym (attribute-says accepted known v name says).is)
+  named other = meaning_name (attribute (entry_here s p) name) other ∙ ap (λ (m : Meaning). name_meant m other) (sym says.is)
 
   pub name-absent : v ≡ None → NameRead s p name 0 []
   unfolding name_then

@@ -3,14 +3,13 @@ use mathlib.Core.Path.{◌≡◌, refl, sym, ap, ◌∙◌}
 use mathlib.Core.Bool.{Bool, true, false, cond}
 use mathlib.Core.List.{List, [], ◌∷◌}
 use mathlib.Core.Option.{Option, none, some}
-use Prim.Native.Nat.{ℕ, ◌+◌, ◌^◌, ◌≤◌, ◌<◌}
+use Prim.Native.Nat.{ℕ, ◌+◌, ◌-◌, ◌^◌}
 use native.Mathlib.Omega.{arith}
 use lib.Dec.{eqb, ltb}
 use lib.ListN.{length, length-map}
 use Rattle.tlv.specs.declared.model.DebugSource.{DebugSource}
 use Rattle.tlv.specs.Outcome.{Outcome, refused, done, ◌>>=◌}
 use Rattle.tlv.specs.Lists.{Any, exists}
-use Rattle.tlv.specs.Bytes.{le_at}
 use Rattle.tlv.specs.Fields.{fields}
 use Rattle.tlv.specs.Model.{CompilationUnit, Attribute, units}
 use Rattle.buffers.proofs.RecordLaws.{records-length}
@@ -20,6 +19,7 @@ use Rattle.access.proofs.IndexModel.{either}
 use Rattle.access.proofs.UnitPlaceLaws.{units-places}
 use Rattle.files.specs.Pieces.{source_in}
 use Rattle.references.specs.declared.tables.Tables.{Tables}
+use Rattle.std.specs.declared.option.Option.{Option as Given}
 use Rattle.references.specs.declared.attributes.Reference.{Reference}
 use Rattle.references.specs.declared.ways.EntryAt.{EntryAt}
 use Rattle.std.specs.Prelude.{Some, None, Result, Ok, Err}
@@ -39,13 +39,13 @@ key-source DebugSource.Main o = refl
 key-source DebugSource.Supplementary o = refl
 
 -- ways of one search are those of another that follows as it does
-pub ways_as : {f g : Trail → Outcome Followed} {main supplementary w : List ℕ} {x : Tables} {n depth : ℕ} (r : Result Way Refusal)
-    → ((t : Trail) → f t ≡ g t) → Ways g main supplementary w x n depth r → Ways f main supplementary w x n depth r
-ways_as (Ok Way.Nothing) e W = record { is = λ k. e _ ∙ W.is k }
+pub ways_as : {f g : Trail → Outcome Followed} {main supplementary w : List ℕ} {x : Tables} {n left : ℕ} (r : Result (Given Way) Refusal)
+    → ((t : Trail) → f t ≡ g t) → Ways g main supplementary w x n left r → Ways f main supplementary w x n left r
+ways_as (Ok None) e W = record { is = λ k. e _ ∙ W.is k }
 ways_as (Err r) e W = record { is = λ k. e _ ∙ W.is k }
-ways_as (Ok (Way.Entry next target)) e W =
+ways_as (Ok (Some (Way.Entry next target))) e W =
     let N = W.is in record { is = record { is = λ k. e _ ∙ N.is k; stands = N.stands; deeper = N.deeper; possible = N.possible; new = N.new } }
-ways_as (Ok (Way.Offset next)) e W = let N = W.is in record { is = record { is = λ k. e _ ∙ N.is k; aims = N.aims; deeper = N.deeper } }
+ways_as (Ok (Some (Way.Offset next))) e W = let N = W.is in record { is = record { is = λ k. e _ ∙ N.is k; aims = N.aims; deeper = N.deeper } }
 
 -- ---- an offset of the own unit
 
@@ -70,7 +70,7 @@ module _ {main supplementary w s : List ℕ} {x : Tables} {n : ℕ} {at : EntryA
   pub way-listed : Any (λ q. q ≡ at.unit) (unit_places 0 (fields s))
   way-listed = rw is (stands_unit S A)
 
-  pub way_overflow : (r : Refusal) → refused (number_of r) ≡ absolute_entry_offset (unit_here s at.unit) o → Ways (follow_unit_from main supplementary at o) main supplementary w x n at.depth (Err r)
+  pub way_overflow : (r : Refusal) → refused (number_of r) ≡ absolute_entry_offset (unit_here s at.unit) o → Ways (follow_unit_from main supplementary at o) main supplementary w x n at.left (Err r)
   unfolding follow_unit_from follow_unit ◌>>=◌
   way_overflow r e = record { is = λ k. rw (← is, ← e) }
 
@@ -86,17 +86,17 @@ module _ {main supplementary w s : List ℕ} {x : Tables} {n : ℕ} {at : EntryA
       unfolding follow_unit_from follow_unit is_visited ◌>>=◌
       follows t = rw there (ap (unit_step (place_at main supplementary at) o t) (key-source at.source target))
 
-      pub way_seen : v ≡ true → Ways (follow_unit_from main supplementary at o) main supplementary w x n at.depth (Ok Way.Nothing)
+      pub way_seen : v ≡ true → Ways (follow_unit_from main supplementary at o) main supplementary w x n at.left (Ok None)
       way_seen y = record { is = λ k. follows _ ∙ rw (← seen, y) }
 
       module _ (new : v ≡ false) where
-        pub way_no-entry : LeadsIn s at.unit o None → Ways (follow_unit_from main supplementary at o) main supplementary w x n at.depth (Err Refusal.NoEntry)
+        pub way_no-entry : LeadsIn s at.unit o None → Ways (follow_unit_from main supplementary at o) main supplementary w x n at.left (Err Refusal.NoEntry)
         unfolding ◌>>=◌
         way_no-entry L = record { is = λ k. follows _ ∙ rw (← seen, new, rw is at L.is) }
 
         pub way-entry : {p : ℕ} → LeadsIn s at.unit o (Some p) → PossibleKey main supplementary (key_in at.source ((unit_here (source_in main supplementary at.input) at.unit).offset + o))
-            → Ways (follow_unit_from main supplementary at o) main supplementary w x n at.depth
-            (Ok (Way.Entry (record { input = at.input; source = at.source; unit = at.unit; place = p; depth = at.depth + 1 }) target))
+            → Ways (follow_unit_from main supplementary at o) main supplementary w x n at.left
+            (Ok (Some (Way.Entry (record { input = at.input; source = at.source; unit = at.unit; place = p; left = at.left - 1 }) target)))
         unfolding ◌>>=◌
         way-entry L possible =
             let leads = rw is at L.is in
@@ -112,11 +112,11 @@ module _ {main supplementary w s : List ℕ} {x : Tables} {n : ℕ} {at : EntryA
 
 -- ---- the reference that an attribute is
 
-abbrev follow_by : Dwarf → Place → Trail → Reference → Outcome Followed
-follow_by d p t Reference.Missing = followed_nothing t
-follow_by d p t (Reference.Unit o) = follow_unit p t o
-follow_by d p t (Reference.Section o) = follow_absolute d p.input main_source t o
-follow_by d p t (Reference.Supplementary o) = follow_supplementary d p.input d.supplementary t o
+abbrev follow_by : Dwarf → Place → Trail → Given Reference → Outcome Followed
+follow_by d p t None = followed_nothing t
+follow_by d p t (Some (Reference.Unit o)) = follow_unit p t o
+follow_by d p t (Some (Reference.Section o)) = follow_absolute d p.input main_source t o
+follow_by d p t (Some (Reference.Supplementary o)) = follow_supplementary d p.input d.supplementary t o
 
 follow-by : (d : Dwarf) (p : Place) (t : Trail) (o : Option Attribute) → follow d p t o ≡ follow_by d p t (reference_of o)
 unfolding follow reference_of
@@ -138,28 +138,28 @@ from-none d [] t o DebugSource.Supplementary h = refl
 from-none d (u ∷ us) t o input h = absurd (let z : ⊥ = omega arith in z)
 
 module _ {main supplementary w s : List ℕ} {x : Tables} {n : ℕ} {at : EntryAt} (name : ℕ) (S : SearchIn main supplementary w x n) (A : Stands main supplementary at)
-    (is : s ≡ source_in main supplementary at.input) {r : Reference} (e : r ≡ reference_of (attribute (entry_here s at.place) name)) where
-  pub reference-is : {q : Reference} → r ≡ q → reference_of (attribute (entry_here (source_in main supplementary at.input) at.place) name) ≡ q
+    (is : s ≡ source_in main supplementary at.input) {r : Given Reference} (e : r ≡ reference_of (attribute (entry_here s at.place) name)) where
+  pub reference-is : {q : Given Reference} → r ≡ q → reference_of (attribute (entry_here (source_in main supplementary at.input) at.place) name) ≡ q
   reference-is to = sym (rw is at e) ∙ to
 
-  followed : (q : Reference) → r ≡ q → (t : Trail) → follow_from main supplementary at name t ≡ follow_by (dwarf_of main supplementary) (place_at main supplementary at) t q
+  followed : (q : Given Reference) → r ≡ q → (t : Trail) → follow_from main supplementary at name t ≡ follow_by (dwarf_of main supplementary) (place_at main supplementary at) t q
   unfolding follow_from
   followed q to t = follow-by (dwarf_of main supplementary) (place_at main supplementary at) t _ ∙ ap (follow_by (dwarf_of main supplementary) (place_at main supplementary at) t) (reference-is to)
 
-  pub way-missing : r ≡ Reference.Missing → Ways (follow_from main supplementary at name) main supplementary w x n at.depth (Ok Way.Nothing)
-  way-missing to = record { is = λ k. followed Reference.Missing to _ }
+  pub way-missing : r ≡ None → Ways (follow_from main supplementary at name) main supplementary w x n at.left (Ok None)
+  way-missing to = record { is = λ k. followed None to _ }
 
-  pub way_unit : {y : Result Way Refusal} (o : ℕ) → r ≡ Reference.Unit o → Ways (follow_unit_from main supplementary at o) main supplementary w x n at.depth y
-      → Ways (follow_from main supplementary at name) main supplementary w x n at.depth y
+  pub way_unit : {y : Result (Given Way) Refusal} (o : ℕ) → r ≡ Some (Reference.Unit o) → Ways (follow_unit_from main supplementary at o) main supplementary w x n at.left y
+      → Ways (follow_from main supplementary at name) main supplementary w x n at.left y
   unfolding follow_unit_from
-  way_unit {y} o to W = ways_as y (followed (Reference.Unit o) to) W
+  way_unit {y} o to W = ways_as y (followed (Some (Reference.Unit o)) to) W
 
-  pub way_section : (o : ℕ) → r ≡ Reference.Section o
-      → Ways (follow_from main supplementary at name) main supplementary w x n at.depth
-      (Ok (Way.Offset (record { input = at.input; source = DebugSource.Main; target = o; depth = at.depth + 1 })))
+  pub way_section : (o : ℕ) → r ≡ Some (Reference.Section o)
+      → Ways (follow_from main supplementary at name) main supplementary w x n at.left
+      (Ok (Some (Way.Offset (record { input = at.input; source = DebugSource.Main; target = o; left = at.left - 1 }))))
   way_section o to = record {
     is = record {
-      is = λ k. followed (Reference.Section o) to _;
+      is = λ k. followed (Some (Reference.Section o)) to _;
       aims = record { possible = possible at.input A.known (reference-is to); sourced = sourced at.input };
       deeper = refl;
     };
@@ -170,7 +170,7 @@ module _ {main supplementary w s : List ℕ} {x : Tables} {n : ℕ} {at : EntryA
       sourced DebugSource.Supplementary = tt
 
       possible : (input : DebugSource) → EntryKnown (source_in main supplementary input) at.unit at.place
-          → reference_of (attribute (entry_here (source_in main supplementary input) at.place) name) ≡ Reference.Section o → PossibleKey main supplementary (key_in DebugSource.Main o)
+          → reference_of (attribute (entry_here (source_in main supplementary input) at.place) name) ≡ Some (Reference.Section o) → PossibleKey main supplementary (key_in DebugSource.Main o)
       possible DebugSource.Main known is = possible-main_section name S.main-index.accepted known is
       possible DebugSource.Supplementary known is = possible-supplementary_section name S.supplementary-index.accepted known is
 
@@ -181,19 +181,19 @@ module _ {main supplementary w s : List ℕ} {x : Tables} {n : ℕ} {at : EntryA
       ap length (units-places supplementary) ∙ length-map places (unit_here supplementary) ∙ sym (length-map places (indexed_unit supplementary))
       ∙ sym (ap length S.supplementary-index.units) ∙ records-length unit_of24 24 w x.supplementary.units x.supplementary.unit_count
 
-  module _ (o : ℕ) (to : r ≡ Reference.Supplementary o) where
-    pub way_no-units : x.supplementary.unit_count ≡ 0 → Ways (follow_from main supplementary at name) main supplementary w x n at.depth (Ok Way.Nothing)
-    way_no-units z = record { is = λ k. followed (Reference.Supplementary o) to _ ∙ from-none (dwarf_of main supplementary) (units supplementary) _ o at.input (unit-number ∙ z) }
+  module _ (o : ℕ) (to : r ≡ Some (Reference.Supplementary o)) where
+    pub way_no-units : x.supplementary.unit_count ≡ 0 → Ways (follow_from main supplementary at name) main supplementary w x n at.left (Ok None)
+    way_no-units z = record { is = λ k. followed (Some (Reference.Supplementary o)) to _ ∙ from-none (dwarf_of main supplementary) (units supplementary) _ o at.input (unit-number ∙ z) }
 
-    pub way-inside : at.input ≡ DebugSource.Supplementary → Ways (follow_from main supplementary at name) main supplementary w x n at.depth (Ok Way.Nothing)
-    way-inside z = record { is = λ k. followed (Reference.Supplementary o) to _ ∙ rw z }
+    pub way-inside : at.input ≡ DebugSource.Supplementary → Ways (follow_from main supplementary at name) main supplementary w x n at.left (Ok None)
+    way-inside z = record { is = λ k. followed (Some (Reference.Supplementary o)) to _ ∙ rw z }
 
     pub way-supplementary : at.input ≡ DebugSource.Main → (x.supplementary.unit_count ≡ 0 → ⊥)
-        → Ways (follow_from main supplementary at name) main supplementary w x n at.depth
-        (Ok (Way.Offset (record { input = DebugSource.Supplementary; source = DebugSource.Supplementary; target = o; depth = at.depth + 1 })))
+        → Ways (follow_from main supplementary at name) main supplementary w x n at.left
+        (Ok (Some (Way.Offset (record { input = DebugSource.Supplementary; source = DebugSource.Supplementary; target = o; left = at.left - 1 }))))
     way-supplementary z some-units = record {
       is = record {
-        is = λ k. followed (Reference.Supplementary o) to _ ∙ from-main (dwarf_of main supplementary) (units supplementary) _ o at.input z (λ none. some-units (sym unit-number ∙ none));
+        is = λ k. followed (Some (Reference.Supplementary o)) to _ ∙ from-main (dwarf_of main supplementary) (units supplementary) _ o at.input z (λ none. some-units (sym unit-number ∙ none));
         aims = record { possible = possible-main-supplementary name S.main-index.accepted (rw z at A.known) (rw z at (reference-is to)); sourced = tt };
         deeper = refl;
       };

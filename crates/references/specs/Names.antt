@@ -1,5 +1,5 @@
 -- Contract. What the name searches promise: the name as a part of a sheet, the followed targets in the work slice.
-use Rattle.std.specs.Prelude.{ℕ, ◌+◌, ◌*◌, ◌≤◌, ◌≡◌, Bool, true, false, cond, not, List, [], ◌∷◌, eqb, length, Result, Ok, Err, Some, None}
+use Rattle.std.specs.Prelude.{ℕ, ◌+◌, ◌-◌, ◌*◌, ◌≤◌, ◌≡◌, Bool, true, false, cond, not, List, [], ◌∷◌, eqb, Result, Ok, Err, Some, None}
 use Rattle.std.proofs.Math.Option.{Option, none, some}
 use Rattle.std.specs.declared.option.Option.{Option as Given}
 use denote.Bor.{Bor}
@@ -19,7 +19,8 @@ use Rattle.references.specs.declared.ways.EntryAt.{EntryAt}
 use Rattle.references.specs.declared.ways.OffsetAt.{OffsetAt}
 use Rattle.references.specs.declared.ways.Way.{Way}
 use Rattle.tlv.specs.Refusals.{number_of}
-use Rattle.references.specs.Search.{Dwarf, main_source, supplementary_source, Place, Trail, same_key, visit_entry, Followed, same_unit, followed_nothing}
+use Rattle.references.specs.Search.{chain_limit, Dwarf, main_source, supplementary_source, Place, Trail, same_key}
+use Rattle.references.specs.Search.{visit_entry, Followed, same_unit, followed_nothing}
 use Rattle.references.specs.Search.{attribute, follow_unit, follow_absolute, follow, Named, resolve_reference_name}
 use Rattle.references.specs.Reads.{Counted, after, ◌>>>◌, counted_name_at, counted_name}
 use Rattle.references.specs.Tables.{IndexIn, EntryKnown, bytes_given}
@@ -49,7 +50,7 @@ place_at main supplementary at = record {
 
 -- an entry of the main sheet, where a search starts
 abbrev pub start_at : ℕ → ℕ → EntryAt
-start_at q p = record { input = DebugSource.Main; source = DebugSource.Main; unit = q; place = p; depth = 0 }
+start_at q p = record { input = DebugSource.Main; source = DebugSource.Main; unit = q; place = p; left = chain_limit }
 
 -- entries of the main sheet are remembered under no other source
 abbrev pub Sourced : DebugSource → DebugSource → Type 0
@@ -57,6 +58,7 @@ Sourced DebugSource.Main source = source ≡ DebugSource.Main
 Sourced DebugSource.Supplementary source = Unit
 
 -- a search can stand there
+-- Stays a clause: it ties a place to the sheets, which the tables hold and a place does not
 pub record Stands (main supplementary : List ℕ) (at : EntryAt) : Type 0 where
   pub known : EntryKnown (source_in main supplementary at.input) at.unit at.place
   pub sourced : Sourced at.input at.source
@@ -71,6 +73,7 @@ abbrev pub trail_at : List ℕ → ℕ → ℕ → ℕ → Trail
 trail_at w base n reads = record { visited = keys_at w base n; reads = reads }
 
 -- both sheets' tables stand in w, below the n followed targets, for which there is room
+-- Stays a clause: it speaks of the work slice, which is written between two calls
 pub record SearchIn (main supplementary w : List ℕ) (x : Tables) (n : ℕ) : Type 0 where
   pub main-index : IndexIn main w x.main
   pub supplementary-index : IndexIn supplementary w x.supplementary
@@ -92,34 +95,34 @@ follow_from main supplementary at name t =
     follow (dwarf_of main supplementary) (place_at main supplementary at) t (attribute (place_at main supplementary at).entry name)
 
 -- at an entry of the same unit, which was not followed yet, with an offset of the section
-pub record EntryNext (f : Trail → Outcome Followed) (main supplementary w : List ℕ) (x : Tables) (n depth : ℕ) (next : EntryAt)
+pub record EntryNext (f : Trail → Outcome Followed) (main supplementary w : List ℕ) (x : Tables) (n left : ℕ) (next : EntryAt)
     (target : ℕ) : Type 0 where
   pub is : (k : ℕ) → f (trail_at w (keys_from x) n k)
       ≡ done (record { trail = visit_entry (trail_at w (keys_from x) n k) (key_in next.source target); target = same_unit (place_at main supplementary next) })
   pub stands : Stands main supplementary next
-  pub deeper : next.depth ≡ depth + 1
+  pub deeper : next.left ≡ left - 1
   pub possible : PossibleKey main supplementary (key_in next.source target)
   pub new : exists (same_key (key_in next.source target)) (keys_at w (keys_from x) n) ≡ false
 
 -- at an offset of a section
-pub record OffsetNext (f : Trail → Outcome Followed) (main supplementary w : List ℕ) (x : Tables) (n depth : ℕ) (next : OffsetAt) : Type 0 where
+pub record OffsetNext (f : Trail → Outcome Followed) (main supplementary w : List ℕ) (x : Tables) (n left : ℕ) (next : OffsetAt) : Type 0 where
   pub is : (k : ℕ) → f (trail_at w (keys_from x) n k)
       ≡ follow_absolute (dwarf_of main supplementary) (search_source next.input) (search_source next.source) (trail_at w (keys_from x) n k) next.target
   pub aims : Aims main supplementary next
-  pub deeper : next.depth ≡ depth + 1
+  pub deeper : next.left ≡ left - 1
 
-abbrev pub WayIs : (Trail → Outcome Followed) → List ℕ → List ℕ → List ℕ → Tables → ℕ → ℕ → Result Way Refusal → Type 0
-WayIs f main supplementary w x n depth (Ok Way.Nothing) = (k : ℕ) → f (trail_at w (keys_from x) n k) ≡ followed_nothing (trail_at w (keys_from x) n k)
-WayIs f main supplementary w x n depth (Err e) = (k : ℕ) → f (trail_at w (keys_from x) n k) ≡ refused (number_of e)
-WayIs f main supplementary w x n depth (Ok (Way.Entry next target)) = EntryNext f main supplementary w x n depth next target
-WayIs f main supplementary w x n depth (Ok (Way.Offset next)) = OffsetNext f main supplementary w x n depth next
+abbrev pub WayIs : (Trail → Outcome Followed) → List ℕ → List ℕ → List ℕ → Tables → ℕ → ℕ → Result (Given Way) Refusal → Type 0
+WayIs f main supplementary w x n left (Ok None) = (k : ℕ) → f (trail_at w (keys_from x) n k) ≡ followed_nothing (trail_at w (keys_from x) n k)
+WayIs f main supplementary w x n left (Err e) = (k : ℕ) → f (trail_at w (keys_from x) n k) ≡ refused (number_of e)
+WayIs f main supplementary w x n left (Ok (Some (Way.Entry next target))) = EntryNext f main supplementary w x n left next target
+WayIs f main supplementary w x n left (Ok (Some (Way.Offset next))) = OffsetNext f main supplementary w x n left next
 
-pub record Ways (f : Trail → Outcome Followed) (main supplementary w : List ℕ) (x : Tables) (n depth : ℕ) (r : Result Way Refusal) : Type 0 where
-  pub is : WayIs f main supplementary w x n depth r
+pub record Ways (f : Trail → Outcome Followed) (main supplementary w : List ℕ) (x : Tables) (n left : ℕ) (r : Result (Given Way) Refusal) : Type 0 where
+  pub is : WayIs f main supplementary w x n left r
 
 -- ---- what a search gives
 
--- a search ends with a status and a name: it is refused, or has found one
+-- a search ends with a refusal's number, 0 for none, and a name: it is refused, or has found one
 unfoldable pub is_answer : ℕ → List ℕ → Bool
 is_answer st r = cond (eqb st 0) (not (is_empty r)) true
 
@@ -133,7 +136,7 @@ abbrev pub name_given : Given (Bor (List ℕ)) → Given (List ℕ)
 name_given None = None
 name_given (Some r) = Some r.now
 
--- the answer that a status, a trail and bytes stand for
+-- the answer that a refusal's number, 0 for none, a trail and bytes stand for
 unfoldable pub named_given : ℕ → Trail → List ℕ → Outcome Named
 named_given st t r = cond (eqb st 0) (done (record { trail = t; name = r })) (refused st)
 
@@ -141,7 +144,7 @@ named_given st t r = cond (eqb st 0) (done (record { trail = t; name = r })) (re
 abbrev pub counted_given : ℕ → Trail → List ℕ → Counted Named
 counted_given st t r = after t (named_given st t r)
 
--- a search f from the n targets of w on, a entries read, has answered with r or the status, and left n' targets in w', b entries read
+-- a search f from the n targets of w on, a entries read, has answered with r or the refusal of number st, and left n' targets in w', b entries read
 pub record Gives (f : Trail → Counted Named) (main supplementary : List ℕ) (x : Tables) (w : List ℕ) (n a : ℕ) (w' : List ℕ) (n' b st : ℕ)
     (r : List ℕ) : Type 0 where
   pub is : f (trail_at w (keys_from x) n a) ≡ counted_given st (trail_at w' (keys_from x) n' b) r
@@ -149,12 +152,12 @@ pub record Gives (f : Trail → Counted Named) (main supplementary : List ℕ) (
   pub ready : SearchIn main supplementary w' x n'
   pub rest : Kept w w' x.keys (keys_extent main supplementary x)
 
--- the name that the attribute of a name of an entry leads to; k is the limit less the depth
+-- the name that the attribute of a name of an entry leads to; k is how many entries are left
 unfoldable pub referred_name : ℕ → List ℕ → List ℕ → EntryAt → ℕ → Trail → Counted Named
 referred_name k main supplementary at name t =
     after t (follow_from main supplementary at name t) >>> λ f. counted_name_at (counted_name k (dwarf_of main supplementary)) f.trail f.target
 
--- resolve_absolute_name: the name at an offset of the section; k is the limit less the depth
+-- resolve_absolute_name: the name at an offset of the section; k is how many entries are left
 unfoldable pub resolve_absolute_name : ℕ → Dwarf → Rattle.references.specs.Search.DebugSource → Rattle.references.specs.Search.DebugSource
     → ℕ → Trail → Counted Named
 resolve_absolute_name k d input source target t =

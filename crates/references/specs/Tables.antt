@@ -15,7 +15,7 @@ use Rattle.access.specs.Places.{IndexedEntry, entry_index, entry_here, unit_here
 use Rattle.access.specs.Index.{indexed_of, entry_record}
 use Rattle.access.specs.Units.{indexed_unit, unit_of24, unit_record}
 use Rattle.references.specs.declared.tables.Index.{Index}
-use Rattle.references.specs.declared.tables.Target.{Target}
+use Rattle.access.specs.declared.index.EntryPlace.{EntryPlace}
 use Rattle.references.specs.declared.attributes.Reference.{Reference}
 use Rattle.references.specs.Search.{attribute, if_empty, name_from, own_name, name_attributes, entry_at, unit_containing}
 
@@ -29,6 +29,7 @@ pub record IndexIn (s w : List ℕ) (x : Index) : Type 0 where
   pub entries-within : x.entries + entry_record * x.entry_count ≤ length w
 
 -- the entry at place p of the unit at place q
+-- Stays a clause: most functions that ask for it hold the tables too, to whose sheet and unit an entry with a sheet of its own would be tied by two equations
 pub record EntryKnown (s : List ℕ) (q p : ℕ) : Type 0 where
   pub entry : IndexedEntry
   pub listed : Any (λ e. e ≡ entry) (entry_index 0 0 0 (fields s))
@@ -37,13 +38,20 @@ pub record EntryKnown (s : List ℕ) (q p : ℕ) : Type 0 where
 
 -- ---- where an offset of the section leads
 
-abbrev pub TargetIs : List ℕ → ℕ → Target → Type 0
-TargetIs s o Target.Outside = unit_containing (units s) o ≡ none
-TargetIs s o (Target.NoEntry q) = (unit_containing (units s) o ≡ some (unit_here s q)) × (entry_at (unit_here s q) (o - (unit_here s q).offset) ≡ refused 13)
-TargetIs s o (Target.At p q) =
-    (unit_containing (units s) o ≡ some (unit_here s q)) × (entry_at (unit_here s q) (o - (unit_here s q).offset) ≡ done (entry_here s p)) × EntryKnown s q p
+-- in a unit where no entry starts
+pub record NoEntryAt (s : List ℕ) (o : ℕ) : Type 0 where
+  pub unit : ℕ
+  pub containing : unit_containing (units s) o ≡ some (unit_here s unit)
+  pub missing : entry_at (unit_here s unit) (o - (unit_here s unit).offset) ≡ refused 13
 
-pub record Leads (s : List ℕ) (o : ℕ) (r : Target) : Type 0 where
+abbrev pub TargetIs : List ℕ → ℕ → Result (Given EntryPlace) Refusal → Type 0
+TargetIs s o (Ok None) = unit_containing (units s) o ≡ none
+TargetIs s o (Err e) = (e ≡ Refusal.NoEntry) × NoEntryAt s o
+TargetIs s o (Ok (Some e)) =
+    (unit_containing (units s) o ≡ some (unit_here s e.unit)) × (entry_at (unit_here s e.unit) (o - (unit_here s e.unit).offset) ≡ done (entry_here s e.place))
+    × EntryKnown s e.unit e.place
+
+pub record Leads (s : List ℕ) (o : ℕ) (r : Result (Given EntryPlace) Refusal) : Type 0 where
   pub is : TargetIs s o r
 
 -- where an offset of the unit at q leads
@@ -57,20 +65,20 @@ pub record LeadsIn (s : List ℕ) (q o : ℕ) (r : Given ℕ) : Type 0 where
 -- ---- an entry's attributes
 
 -- the reference that an attribute is
-unfoldable pub reference_of : Option Attribute → Reference
-reference_of none = Reference.Missing
+unfoldable pub reference_of : Option Attribute → Given Reference
+reference_of none = None
 reference_of (some a) =
-    cond (eqb a.kind 4) (Reference.Unit a.value)
-    (cond (eqb a.kind 5) (Reference.Section a.value)
-    (cond (eqb a.kind 6) (Reference.Supplementary a.value)
-    Reference.Missing))
+    cond (eqb a.kind 4) (Some (Reference.Unit a.value))
+    (cond (eqb a.kind 5) (Some (Reference.Section a.value))
+    (cond (eqb a.kind 6) (Some (Reference.Supplementary a.value))
+    None))
 
 -- the reference that a value is
-abbrev pub reference_in : Given Value → Reference
-reference_in (Some (Value.UnitReference n)) = Reference.Unit n
-reference_in (Some (Value.SectionReference n)) = Reference.Section n
-reference_in (Some (Value.SupplementaryReference n)) = Reference.Supplementary n
-reference_in v = Reference.Missing
+abbrev pub reference_in : Given Value → Given Reference
+reference_in (Some (Value.UnitReference n)) = Some (Reference.Unit n)
+reference_in (Some (Value.SectionReference n)) = Some (Reference.Section n)
+reference_in (Some (Value.SupplementaryReference n)) = Some (Reference.Supplementary n)
+reference_in v = None
 
 -- a number, where there is one
 abbrev pub number_given : Option ℕ → Given ℕ
@@ -88,7 +96,7 @@ abbrev pub line_number_in : Given Value → Given ℕ
 line_number_in (Some (Value.Unsigned n)) = Some n
 line_number_in v = None
 
--- what a status and bytes make of the attributes of the later names: an empty name is none
+-- what a refusal's number, 0 for none, and bytes make of the attributes of the later names: an empty name is none
 unfoldable pub name_then : ℕ → List ℕ → Outcome (List ℕ) → Outcome (List ℕ)
 name_then st r other = cond (eqb st 0) (if_empty r other) (refused st)
 
@@ -101,7 +109,7 @@ abbrev pub bytes_of : Result (Bor (List ℕ)) Refusal → List ℕ
 bytes_of (Ok r) = r.now
 bytes_of (Err e) = []
 
--- the answer that a status and bytes stand for
+-- the answer that a refusal's number, 0 for none, and bytes stand for
 unfoldable pub bytes_given : ℕ → List ℕ → Outcome (List ℕ)
 bytes_given st r = cond (eqb st 0) (done r) (refused st)
 

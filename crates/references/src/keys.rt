@@ -37,11 +37,7 @@ fn is_key(work: &[u8], p: usize, source: DebugSource, offset: u64) -> bool
 fn source_byte(source: DebugSource) -> u8
     ensures { result ≡ source_byte source }
 {
-    // Stays a match: the byte that is_key reads back.
-    match source {
-        DebugSource::Main => 0,
-        DebugSource::Supplementary => 1,
-    }
+    source as u8
 }
 
 // Whether n targets are kept in chains: a few are found as fast by a look at each, and a link numbers no more.
@@ -55,7 +51,7 @@ fn is_many(n: usize) -> bool
 // How many chains there are.
 fn chain_count(x: Tables) -> usize
     requires { keys_from x < 18446744073709551616 }
-    ensures { result ≡ chain_count x }
+    ensures { result ≡ chain_count x.entry }
 {
     x.main.entry_count + x.supplementary.entry_count + 1
 }
@@ -71,7 +67,7 @@ fn chain_of(n: usize, offset: u64) -> usize
 // Where the targets stand, behind the heads of the chains.
 fn keys_from(x: Tables) -> usize
     requires { keys_from x < 18446744073709551616 }
-    ensures { result ≡ keys_from x }
+    ensures { result ≡ keys_from x.entry }
 {
     x.keys + chain_count(x) * CHAIN_HEAD
 }
@@ -92,7 +88,7 @@ fn is_scanned(work: &[u8], base: usize, n: usize, source: DebugSource, offset: u
 // Whether a target is among the n that were followed: a chain leads from newer to older ones.
 pub fn is_visited(work: &[u8], x: Tables, n: usize, source: DebugSource, offset: u64) -> bool
     requires { TrailIn work.now x n 0 }
-    ensures { result ≡ exists (same_key (key_in source offset)) (keys_at work.now (keys_from x) n) }
+    ensures { result ≡ exists (same_key (key_in source offset)) (keys_at work.now (keys_from x.entry) n) }
 {
     if !is_many(n) {
         return is_scanned(work, keys_from(x), n, source, offset);
@@ -115,7 +111,7 @@ fn chain_key(work: &mut [u8], x: Tables, i: usize)
     requires key_record_in_bounds { keys_from x + i * key_record + key_record ≤ length work.old }
     requires i_bound { i + 1 < 4294967296 }
     requires chained { Chained work.old x i }
-    ensures { Chains work.old work.new x (i + 1) }
+    ensures { Chains work.old work.new x.entry (i + 1) }
 {
     let chains = chain_count(x);
     let p = keys_from(x) + i * KEY_RECORD;
@@ -130,7 +126,7 @@ fn chain_key(work: &mut [u8], x: Tables, i: usize)
 fn chain_keys(work: &mut [u8], x: Tables, n: usize)
     requires key_record_in_bounds { keys_from x + n * key_record ≤ length work.old }
     requires n_bound { n < 4294967296 }
-    ensures { Chains work.old work.new x n }
+    ensures { Chains work.old work.new x.entry n }
 {
     let base = keys_from(x);
     fill_zero(work, x.keys, base);
@@ -142,7 +138,7 @@ fn chain_keys(work: &mut [u8], x: Tables, n: usize)
 // Writes a target behind n others.
 pub fn push_key(work: &mut [u8], x: Tables, n: usize, source: DebugSource, offset: u64)
     requires { TrailIn work.old x n 1 }
-    ensures { Pushed work.old work.new x n (key_in source offset) }
+    ensures { Pushed work.old work.new x.entry n (key_in source offset) }
 {
     let p = keys_from(x) + n * KEY_RECORD;
     source_byte(source).write(work, p);

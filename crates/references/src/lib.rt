@@ -6,4 +6,5 @@ pub mod keys;
 pub mod names;
 pub mod reference_names;
 pub mod tables;
+pub mod trails;
 pub mod ways;

@@ -1,68 +1,46 @@
 // Where an attribute's reference leads.
-ghost use Rattle.std.specs.Prelude.{◌≡◌, ◌+◌, ◌-◌, ◌<◌, length};
+ghost use Rattle.std.specs.Prelude.{◌≡◌, ◌+◌};
 ghost use Rattle.tlv.specs.Checked.{Placed};
 ghost use Rattle.tlv.specs.Refusals.{as_outcome};
 ghost use Rattle.access.specs.Places.{unit_here, UnitOf};
 ghost use Rattle.files.specs.Pieces.{source_in};
 ghost use Rattle.references.specs.Search.{absolute_entry_offset};
 ghost use Rattle.references.specs.Keys.{key_in, PossibleKey};
-ghost use Rattle.references.specs.Names.{index_in, Stands, SearchIn, follow_unit_from, follow_from, Ways};
+ghost use Rattle.references.specs.Names.{Stands, SearchIn, follow_unit_from, follow_from, Ways};
 
 use crate::attributes::{Reference, reference_at};
 use crate::keys::is_visited;
-use crate::tables::{Index, Tables, target_in};
+use crate::tables::{Tables, target_in};
 use tlv::bytes::Number;
 use tlv::model::DebugSource;
 use tlv::refusal::Refusal;
 use tlv::tags::UNIT_OFFSET;
 
-// Where a search stands: the entry at a place of the unit at a place of a sheet, the source that its unit's targets are remembered under, and how deep.
-#[derive(Clone, Copy)]
+// Where a search stands: the entry at a place of the unit at a place of a sheet, the source that its unit's targets are remembered under, and
+// how many entries in a row are left to look at, this one included.
+#[derive(Clone, Copy, Debug)]
 pub struct EntryAt {
     pub input: DebugSource,
     pub source: DebugSource,
     pub unit: usize,
     pub place: usize,
-    pub depth: u8,
+    pub left: u8,
 }
 
-// An offset of a section that a search is to follow, the source that it is remembered under, and how deep.
-#[derive(Clone, Copy)]
+// An offset of a section that a search is to follow, the source that it is remembered under, and how many entries are left.
+#[derive(Clone, Copy, Debug)]
 pub struct OffsetAt {
     pub input: DebugSource,
     pub source: DebugSource,
     pub target: u64,
-    pub depth: u8,
+    pub left: u8,
 }
 
-// How a search goes on from a reference: not at all; at an entry of the same unit, by its offset in the section; or at an offset of a section.
-// Stays an enum: a search that ends, goes on in the unit or goes on anywhere has a rule of its own each.
-#[derive(Clone, Copy)]
+// How a search goes on from a reference: at an entry of the same unit, by its offset in the section; or at an offset of a section.
+#[derive(Clone, Copy, Debug)]
 pub enum Way {
-    Nothing,
     Entry(EntryAt, u64),
     Offset(OffsetAt),
-}
-
-// The sheet of a source.
-pub fn input_of<'a>(main: &'a [u8], supplementary: &'a [u8], input: DebugSource) -> &'a [u8]
-    ensures result_value { result.now ≡ source_in main.now supplementary.now input }
-    ensures result_len { length result.now ≡ length (source_in main.now supplementary.now input) }
-{
-    match input {
-        DebugSource::Main => main,
-        DebugSource::Supplementary => supplementary,
-    }
-}
-
-// The tables of the sheet of a source.
-pub fn index_of(x: Tables, input: DebugSource) -> Index
-    ensures { result ≡ index_in x input }
-{
-    match input {
-        DebugSource::Main => x.main,
-        DebugSource::Supplementary => x.supplementary,
-    }
 }
 
 // The offset in the section of an offset of the unit at a place.
@@ -76,82 +54,73 @@ pub fn absolute_entry_offset(s: &[u8], unit: usize, offset: u64) -> Result<u64, 
         .ok_or(Refusal::Overflow)
 }
 
-// How a search goes on from a reference to an offset of its own unit.
+// How a search goes on from a reference to an offset of its own unit; none where it was followed already.
 fn unit_way<'a>(
-    main: &'a [u8],
-    supplementary: &'a [u8],
     work: &[u8],
-    x: Tables,
+    x: Tables<'a>,
     n: usize,
     at: EntryAt,
     offset: u64,
-) -> Result<Way, Refusal>
-    requires search_in { SearchIn main.now supplementary.now work.now x n }
-    requires stands { Stands main.now supplementary.now at }
-    requires possible_key { PossibleKey main.now supplementary.now (key_in at.source
-        ((unit_here (source_in main.now supplementary.now at.input) at.unit).offset + offset)) }
-    requires depth_bound { at.depth < 64 }
-    ensures { Ways (follow_unit_from main.now supplementary.now at offset) main.now supplementary.now
-        work.now x n at.depth result }
+) -> Result<Option<Way>, Refusal>
+    requires search_in { SearchIn x.sheets.main.now x.sheets.supplementary.now work.now x n }
+    requires stands { Stands x.sheets.main.now x.sheets.supplementary.now at }
+    requires possible_key { PossibleKey x.sheets.main.now x.sheets.supplementary.now (key_in at.source
+        ((unit_here (source_in x.sheets.main.now x.sheets.supplementary.now at.input) at.unit).offset + offset)) }
+    ensures { let main = x.entry.sheets.main.now in let supplementary = x.entry.sheets.supplementary.now in
+        Ways (follow_unit_from main supplementary at offset) main supplementary work.now x.entry n at.left result }
 {
     let unit = at.unit;
-    let s = input_of(main, supplementary, at.input);
+    let s = x.sheets.of(at.input);
     let target = absolute_entry_offset(s, unit, offset)?;
     if is_visited(work, x, n, at.source, target) {
-        return Ok(Way::Nothing);
+        return Ok(None);
     }
-    let y = index_of(x, at.input);
-    let Some(place) = target_in(s, work, y, unit, offset, target) else {
-        return Err(Refusal::NoEntry);
-    };
+    let y = x.index(at.input);
+    let place = target_in(s, work, y, unit, offset, target).ok_or(Refusal::NoEntry)?;
     let next = EntryAt {
         place,
-        depth: at.depth + 1,
+        left: at.left.saturating_sub(1),
         ..at
     };
-    Ok(Way::Entry(next, target))
+    Ok(Some(Way::Entry(next, target)))
 }
 
-// How a search goes on from the attribute of a name of an entry.
+// How a search goes on from the attribute of a name of an entry; none where it is no reference, or leads nowhere.
 pub fn way_of<'a>(
-    main: &'a [u8],
-    supplementary: &'a [u8],
     work: &[u8],
-    x: Tables,
+    x: Tables<'a>,
     n: usize,
     at: EntryAt,
     name: u16,
-) -> Result<Way, Refusal>
-    requires search_in { SearchIn main.now supplementary.now work.now x n }
-    requires stands { Stands main.now supplementary.now at }
-    requires depth_bound { at.depth < 64 }
-    ensures { Ways (follow_from main.now supplementary.now at name) main.now supplementary.now
-        work.now x n at.depth result }
+) -> Result<Option<Way>, Refusal>
+    requires search_in { SearchIn x.sheets.main.now x.sheets.supplementary.now work.now x n }
+    requires stands { Stands x.sheets.main.now x.sheets.supplementary.now at }
+    ensures { let main = x.entry.sheets.main.now in let supplementary = x.entry.sheets.supplementary.now in
+        Ways (follow_from main supplementary at name) main supplementary work.now x.entry n at.left result }
 {
     let here = at.input;
-    let depth = at.depth + 1;
-    let s = input_of(main, supplementary, here);
-    match reference_at(s, at.unit, at.place, name) {
-        Reference::Missing => Ok(Way::Nothing),
-        Reference::Unit(o) => unit_way(main, supplementary, work, x, n, at, o),
-        Reference::Section(o) => Ok(Way::Offset(OffsetAt {
+    let left = at.left.saturating_sub(1);
+    match reference_at(x.sheets.of(here), at.unit, at.place, name) {
+        None => Ok(None),
+        Some(Reference::Unit(o)) => unit_way(work, x, n, at, o),
+        Some(Reference::Section(o)) => Ok(Some(Way::Offset(OffsetAt {
             input: here,
             source: DebugSource::Main,
             target: o,
-            depth,
-        })),
-        Reference::Supplementary(o) => {
+            left,
+        }))),
+        Some(Reference::Supplementary(o)) => {
             if x.supplementary.unit_count == 0 {
-                return Ok(Way::Nothing);
+                return Ok(None);
             }
             match here {
-                DebugSource::Supplementary => Ok(Way::Nothing),
-                DebugSource::Main => Ok(Way::Offset(OffsetAt {
+                DebugSource::Supplementary => Ok(None),
+                DebugSource::Main => Ok(Some(Way::Offset(OffsetAt {
                     input: DebugSource::Supplementary,
                     source: DebugSource::Supplementary,
                     target: o,
-                    depth,
-                })),
+                    left,
+                }))),
             }
         }
     }

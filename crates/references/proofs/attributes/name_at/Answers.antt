@@ -2,27 +2,21 @@
 use borrow.Author.Rules.{rules}
 use mathlib.Core.Path.{refl}
 use native.Mathlib.Omega.{arith}
-use Rattle.references.proofs.ReferenceLaws.{entry_next, entry-inside, name-absent, name-text, name-refused, text-inside}
+use Rattle.references.proofs.ReferenceLaws.{name-absent, name-text, name-refused, text-inside}
 use Rattle.references.proofs.attributes.name_at.Goals as goal
 
 pub overflow_add-result : goal.overflow_add-result
-overflow_add-result c = let inside = text-inside _ c.requires.placed c.requires.entry_known c.attribute.ensures c.in-Some.is c.in-Text.is in
+overflow_add-result c = let inside = text-inside _ _ c.attribute_at.ensures c.in-Some.is c.in-Text.is in
     omega arith
 
 pub slice_bounds-result-end-in-Text : goal.slice_bounds-result-end-in-Text
-slice_bounds-result-end-in-Text c = text-inside _ c.requires.placed c.requires.entry_known c.attribute.ensures c.in-Some.is c.in-Text.is
+slice_bounds-result-end-in-Text c = text-inside _ _ c.attribute_at.ensures c.in-Some.is c.in-Text.is
 
 pub returns-in_default : goal.returns-in_default
-returns-in_default c = name-absent _ c.requires.placed c.requires.entry_known c.attribute.ensures c.in_default.is
+returns-in_default c = name-absent _ _ c.attribute_at.ensures c.in_default.is
 
 pub returns-in_default-value : goal.returns-in_default-value
-returns-in_default-value c = name-refused _ c.requires.placed c.requires.entry_known c.attribute.ensures c.in-Some.is (search rules)
+returns-in_default-value c = name-refused _ _ c.attribute_at.ensures c.in-Some.is (search rules)
 
 pub returns-in-Text : goal.returns-in-Text
-returns-in-Text c = name-text _ c.requires.placed c.requires.entry_known c.attribute.ensures c.in-Some.is c.in-Text.is refl
-
-pub attribute-requires : goal.attribute-requires
-attribute-requires c = search entry_next
-
-pub overflow_add-p : goal.overflow_add-p
-overflow_add-p c = omega (arith, entry-inside c.requires.placed c.requires.entry_known)
+returns-in-Text c = name-text _ _ c.attribute_at.ensures c.in-Some.is c.in-Text.is refl

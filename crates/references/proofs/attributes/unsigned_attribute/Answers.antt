@@ -1,14 +1,6 @@
 -- `attributes::unsigned_attribute` meets its contract.
-use native.Mathlib.Omega.{arith}
-use Rattle.references.proofs.ReferenceLaws.{entry_next, entry-inside}
 use Rattle.references.proofs.NumberLaws.{line_read}
 use Rattle.references.proofs.attributes.unsigned_attribute.Goals as goal
-
-pub overflow_add-p : goal.overflow_add-p
-overflow_add-p c = omega (arith, entry-inside c.requires.placed c.requires.entry_known)
-
-pub attribute-requires : goal.attribute-requires
-attribute-requires c = search entry_next
 
 pub returns : goal.returns
 returns c = search line_read

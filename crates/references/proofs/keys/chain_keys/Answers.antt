@@ -1,6 +1,6 @@
 -- `keys::chain_keys` meets its contract: the heads lead nowhere at first, then to the newest of those that joined.
 use native.Mathlib.Omega.{arith}
-use Rattle.references.proofs.ChainLaws.{chaining-start, chaining-turn, chaining-done}
+use Rattle.references.proofs.ChainLaws.{chaining-start, chaining-done}
 use Rattle.references.proofs.keys.chain_keys.Goals as goal
 
 pub fill_zero-requires : goal.fill_zero-requires

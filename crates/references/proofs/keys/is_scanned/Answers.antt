@@ -1,6 +1,5 @@
 -- `keys::is_scanned` meets its contract: whether the target is among the n is whether it is among the i that are left.
-use native.Mathlib.Omega.{arith}
-use Rattle.references.proofs.VisitedLaws.{looking-start, looking-done, looking-found, looking-turn}
+use Rattle.references.proofs.VisitedLaws.{looking-done, looking-found, looking-turn}
 use Rattle.references.proofs.keys.is_scanned.Goals as goal
 
 pub returns-then-is_key : goal.returns-then-is_key

@@ -1,17 +1,15 @@
 -- `keys::push_key` meets its contract: a target that makes them many has all join their chains, a later one its own.
-use mathlib.Core.Path.{ap}
-use mathlib.Core.Bool.{not}
 use mathlib.Core.Path.{refl}
-use Rattle.references.proofs.ChainLaws.{not_no, not_yes, many-small}
+use Rattle.references.proofs.ChainLaws.{many-small}
 use Rattle.references.proofs.KeyLaws.{written-chains, pushed_few, pushed-chained}
 use Rattle.references.proofs.keys.push_key.Goals as goal
 
 pub returns-then-not-is_many : goal.returns-then-not-is_many
 returns-then-not-is_many c = pushed_few _ _ c.args.source c.keys_from.ensures c.source_byte.ensures c.write.ensures c.write-2.ensures
-    refl c.is_many.ensures (not_yes _ (ap not c.if-not-is_many.true))
+    refl c.is_many.ensures c.if-not-is_many.true
 
 pub chain_key-requires-clause-i_bound : goal.chain_key-requires-clause-i_bound
-chain_key-requires-clause-i_bound c = many-small _ c.is_many.ensures (not_no _ (ap not c.if-not-is_many.false))
+chain_key-requires-clause-i_bound c = many-small _ c.is_many.ensures c.if-not-is_many.false
 
 pub chain_key-requires-clause-chained : goal.chain_key-requires-clause-chained
 chain_key-requires-clause-chained c = written-chains _ _ c.args.source c.keys_from.ensures c.source_byte.ensures c.write.ensures c.write-2.ensures
@@ -22,7 +20,7 @@ returns-then-is_many c = pushed-chained _ _ c.args.source c.keys_from.ensures c.
     refl c.chain_key.ensures
 
 pub chain_keys-requires-clause-n_bound : goal.chain_keys-requires-clause-n_bound
-chain_keys-requires-clause-n_bound c = many-small _ c.is_many.ensures (not_no _ (ap not c.if-not-is_many.false))
+chain_keys-requires-clause-n_bound c = many-small _ c.is_many.ensures c.if-not-is_many.false
 
 pub returns : goal.returns
 returns c = pushed-chained _ _ c.args.source c.keys_from.ensures c.source_byte.ensures c.write.ensures c.write-2.ensures

@@ -1,7 +1,8 @@
 -- The functions of this cycle meet their contracts.
 use borrow.Author.Rules.{rules}
-use mathlib.Core.Path.{refl}
+use mathlib.Core.Path.{refl, ap}
 use native.Mathlib.Omega.{arith}
+use Rattle.std.specs.Prelude.{Ok}
 use Rattle.tlv.proofs.AnswerLaws.{numbered, handed}
 use Rattle.references.specs.Search.{origin_attributes}
 use Rattle.references.proofs.KeyLaws.{keys-inside}
@@ -14,99 +15,95 @@ pub resolve_absolute_name-is_visited-requires : goal.resolve_absolute_name-is_vi
 resolve_absolute_name-is_visited-requires t c = keys-inside c.requires.search_in.keys
 
 pub resolve_absolute_name-returns-then-is_visited : goal.resolve_absolute_name-returns-then-is_visited
-resolve_absolute_name-returns-then-is_visited t c = absolute-seen _ c.requires.search_in c.requires.aims c.is_visited.ensures c.requires.reads_bound refl c.if-is_visited.true
+resolve_absolute_name-returns-then-is_visited t c = absolute-seen _ c.requires.search_in c.requires.aims c.is_visited.ensures c.args.trail.now.few refl c.if-is_visited.true
 
 pub resolve_absolute_name-target_at-requires : goal.resolve_absolute_name-target_at-requires
-resolve_absolute_name-target_at-requires t c = index-here c.requires.search_in c.args.at.input c.input_of-s.ensures.result_value c.index_of-y.ensures
+resolve_absolute_name-target_at-requires t c = index-here c.requires.search_in c.args.at.input c.of.ensures c.index.ensures
+
+pub resolve_absolute_name-returns-in_err-found : goal.resolve_absolute_name-returns-in_err-found
+resolve_absolute_name-returns-in_err-found t c = rw (handed _ _ c.from_residual.ensures.1) (absolute-no-entry _ c.requires.search_in c.requires.aims c.is_visited.ensures c.if-is_visited.false c.of.ensures c.in_err-found.ensures _ refl c.args.trail.now.few)
 
 pub resolve_absolute_name-push_key-requires : goal.resolve_absolute_name-push_key-requires
 resolve_absolute_name-push_key-requires t c = offset-room c.requires.search_in c.requires.aims c.is_visited.ensures c.if-is_visited.false
 
-pub resolve_absolute_name-overflow_add-count : goal.resolve_absolute_name-overflow_add-count
-resolve_absolute_name-overflow_add-count t c = let room = offset-room c.requires.search_in c.requires.aims c.is_visited.ensures c.if-is_visited.false in
+pub resolve_absolute_name-with_target-requires : goal.resolve_absolute_name-with_target-requires
+resolve_absolute_name-with_target-requires t c = let room = offset-room c.requires.search_in c.requires.aims c.is_visited.ensures c.if-is_visited.false in
     omega arith
 
-pub resolve_absolute_name-push_key-requires-in-At : goal.resolve_absolute_name-push_key-requires-in-At
-resolve_absolute_name-push_key-requires-in-At t c = offset-room c.requires.search_in c.requires.aims c.is_visited.ensures c.if-is_visited.false
-
-pub resolve_absolute_name-overflow_add-count-in-At : goal.resolve_absolute_name-overflow_add-count-in-At
-resolve_absolute_name-overflow_add-count-in-At t c = let room = offset-room c.requires.search_in c.requires.aims c.is_visited.ensures c.if-is_visited.false in
-    omega arith
-
-pub resolve_absolute_name-overflow_add-reads : goal.resolve_absolute_name-overflow_add-reads
-resolve_absolute_name-overflow_add-reads t c = let room = offset-room c.requires.search_in c.requires.aims c.is_visited.ensures c.if-is_visited.false in
+pub resolve_absolute_name-with_entry-requires : goal.resolve_absolute_name-with_entry-requires
+resolve_absolute_name-with_entry-requires t c = let room = offset-room c.requires.search_in c.requires.aims c.is_visited.ensures c.if-is_visited.false in
     omega arith
 
 pub resolve_absolute_name-resolve_name_inner-requires : goal.resolve_absolute_name-resolve_name_inner-requires
 resolve_absolute_name-resolve_name_inner-requires t c = (
   omega arith,
   (
-    offset-search c.requires.search_in c.requires.aims c.is_visited.ensures c.if-is_visited.false c.push_key-in-At.ensures (search rules),
-    (
-      (omega arith),
-      absolute-stands c.args.at.depth c.requires.search_in c.requires.aims c.is_visited.ensures c.if-is_visited.false c.input_of-s.ensures.result_value c.target_at.ensures _ _ c.in-At.is,
-    ),
+    rw c.with_entry.ensures.count_value (offset-search c.requires.search_in c.requires.aims c.is_visited.ensures c.if-is_visited.false c.push_key.ensures (search rules)),
+    absolute-stands c.args.at.left c.requires.search_in c.requires.aims c.is_visited.ensures c.if-is_visited.false c.of.ensures c.in_ok-found.ensures _ (ap Ok c.in-Some.is),
   ),
 )
 
-pub resolve_absolute_name-returns-in-NoEntry : goal.resolve_absolute_name-returns-in-NoEntry
-resolve_absolute_name-returns-in-NoEntry t c = absolute-no-entry _ c.requires.search_in c.requires.aims c.is_visited.ensures c.if-is_visited.false c.input_of-s.ensures.result_value c.target_at.ensures _ c.in-NoEntry.is c.requires.reads_bound
+pub resolve_absolute_name-returns-in_default : goal.resolve_absolute_name-returns-in_default
+resolve_absolute_name-returns-in_default t c =
+    rw (c.with_target.ensures.count_value, c.with_target.ensures.reads_value)
+    (absolute-outside _ c.requires.search_in c.requires.aims c.is_visited.ensures c.if-is_visited.false c.of.ensures c.in_ok-found.ensures c.push_key.ensures (ap Ok c.in_default.is) (search rules) c.args.trail.now.few refl)
 
-pub resolve_absolute_name-returns-in-Outside : goal.resolve_absolute_name-returns-in-Outside
-resolve_absolute_name-returns-in-Outside t c = absolute-outside _ c.requires.search_in c.requires.aims c.is_visited.ensures c.if-is_visited.false c.input_of-s.ensures.result_value c.target_at.ensures c.push_key.ensures c.in-Outside.is (search rules) c.requires.reads_bound refl
+pub resolve_absolute_name-returns : goal.resolve_absolute_name-returns
+resolve_absolute_name-returns t c =
+    absolute-at _ c.requires.search_in c.requires.aims c.is_visited.ensures c.if-is_visited.false c.of.ensures c.in_ok-found.ensures c.push_key.ensures _ (ap Ok c.in-Some.is)
+    (rw (c.with_entry.ensures.count_value, c.with_entry.ensures.reads_value) at c.resolve_name_inner.ensures)
 
-pub resolve_absolute_name-returns-in-At : goal.resolve_absolute_name-returns-in-At
-resolve_absolute_name-returns-in-At t c = absolute-at _ c.requires.search_in c.requires.aims c.is_visited.ensures c.if-is_visited.false c.input_of-s.ensures.result_value c.target_at.ensures c.push_key-in-At.ensures _ _ c.in-At.is c.resolve_name_inner.ensures
-
-pub resolve_name_inner-returns-then-at-ge64 : goal.resolve_name_inner-returns-then-at-ge64
-resolve_name_inner-returns-then-at-ge64 t c = inner_deep c.requires.search_in c.requires.reads_bound c.requires.stands c.if-at-ge64.true refl
+pub resolve_name_inner-returns-then-at-eq0 : goal.resolve_name_inner-returns-then-at-eq0
+resolve_name_inner-returns-then-at-eq0 t c = inner_deep c.requires.search_in c.args.trail.now.few c.requires.stands c.if-at-eq0.true refl
 
 pub resolve_name_inner-own_name-requires-clause-placed : goal.resolve_name_inner-own_name-requires-clause-placed
-resolve_name_inner-own_name-requires-clause-placed t c = placed_at c.requires.search_in c.args.at.input c.input_of-s.ensures.result_value
+resolve_name_inner-own_name-requires-clause-placed t c = placed_at c.requires.search_in c.args.at.input c.of.ensures
 
 pub resolve_name_inner-own_name-requires-clause-entry_known : goal.resolve_name_inner-own_name-requires-clause-entry_known
-resolve_name_inner-own_name-requires-clause-entry_known t c = rw c.input_of-s.ensures.result_value c.requires.stands.known
+resolve_name_inner-own_name-requires-clause-entry_known t c = rw c.of.ensures c.requires.stands.known
 
 pub resolve_name_inner-returns-in_err-own : goal.resolve_name_inner-returns-in_err-own
-resolve_name_inner-returns-in_err-own t c = rw (handed _ _ c.from_residual.ensures.1) (inner-named c.requires.search_in c.requires.reads_bound c.requires.stands c.if-at-ge64.false c.input_of-s.ensures.result_value c.in_err-own.ensures (refused-answer _ _ (numbered _)) refl)
+resolve_name_inner-returns-in_err-own t c = rw (handed _ _ c.from_residual.ensures.1) (inner-named c.requires.search_in c.args.trail.now.few c.requires.stands c.if-at-eq0.false c.of.ensures c.in_err-own.ensures (refused-answer _ _ (numbered _)) refl)
 
 pub referred_name-returns-in_err-way_of : goal.referred_name-returns-in_err-way_of
-referred_name-returns-in_err-way_of t c = rw (handed _ _ c.from_residual.ensures.1) (from-refused _ _ c.requires.search_in _ _ c.in_err-way_of.ensures c.requires.reads_bound)
+referred_name-returns-in_err-way_of t c = rw (handed _ _ c.from_residual.ensures.1) (from-refused _ _ c.requires.search_in _ _ c.in_err-way_of.ensures c.args.trail.now.few)
 
 pub referred_name-push_key-requires : goal.referred_name-push_key-requires
-referred_name-push_key-requires t c = entry-room _ _ c.requires.search_in c.in_ok-way_of.ensures _ _ c.in-Entry.is
+referred_name-push_key-requires t c = entry-room _ _ c.requires.search_in c.in_ok-way_of.ensures _ _ (rw c.in-Some-Entry.field-0-is at c.in-Some-Entry.is)
 
-pub referred_name-overflow_add-count : goal.referred_name-overflow_add-count
-referred_name-overflow_add-count t c = let room = entry-room _ _ c.requires.search_in c.in_ok-way_of.ensures _ _ c.in-Entry.is in
-    omega arith
-
-pub referred_name-overflow_add-reads : goal.referred_name-overflow_add-reads
-referred_name-overflow_add-reads t c = let room = entry-room _ _ c.requires.search_in c.in_ok-way_of.ensures _ _ c.in-Entry.is in
+pub referred_name-with_entry-requires : goal.referred_name-with_entry-requires
+referred_name-with_entry-requires t c = let room = entry-room _ _ c.requires.search_in c.in_ok-way_of.ensures _ _ (rw c.in-Some-Entry.field-0-is at c.in-Some-Entry.is) in
     omega arith
 
 pub referred_name-resolve_name_inner-requires : goal.referred_name-resolve_name_inner-requires
-referred_name-resolve_name_inner-requires t c = let deeper = entry-deeper _ _ c.requires.search_in c.in_ok-way_of.ensures _ _ c.in-Entry.is in
-    (omega arith, (entry-search _ _ c.requires.search_in c.in_ok-way_of.ensures _ _ c.in-Entry.is c.push_key.ensures (search rules), (omega arith, entry-stands _ _ c.requires.search_in c.in_ok-way_of.ensures _ _ c.in-Entry.is)))
+referred_name-resolve_name_inner-requires t c = let deeper = entry-deeper _ _ c.requires.search_in c.in_ok-way_of.ensures _ _ (rw c.in-Some-Entry.field-0-is at c.in-Some-Entry.is) in (
+  omega arith,
+  (
+    rw c.with_entry.ensures.count_value (entry-search _ _ c.requires.search_in c.in_ok-way_of.ensures _ _ (rw c.in-Some-Entry.field-0-is at c.in-Some-Entry.is) c.push_key.ensures (search rules)),
+    entry-stands _ _ c.requires.search_in c.in_ok-way_of.ensures _ _ (rw c.in-Some-Entry.field-0-is at c.in-Some-Entry.is),
+  ),
+)
 
 pub referred_name-resolve_absolute_name-requires : goal.referred_name-resolve_absolute_name-requires
-referred_name-resolve_absolute_name-requires t c = let next = (way_is c.in_ok-way_of.ensures c.in-Offset.is).is in
+referred_name-resolve_absolute_name-requires t c = let next = (way_is c.in_ok-way_of.ensures (rw c.in-Some-Offset.field-0-is at c.in-Some-Offset.is)).is in
     let deeper = next.deeper in
-    (omega arith, (c.requires.search_in, (c.requires.reads_bound, next.aims)))
+    (omega arith, (c.requires.search_in, next.aims))
 
-pub referred_name-returns-in-Nothing : goal.referred_name-returns-in-Nothing
-referred_name-returns-in-Nothing t c = from_nothing _ _ c.requires.search_in c.in_ok-way_of.ensures _ c.in-Nothing.is c.requires.reads_bound refl
+pub referred_name-returns-in-None : goal.referred_name-returns-in-None
+referred_name-returns-in-None t c = from_nothing _ _ c.requires.search_in c.in_ok-way_of.ensures _ c.in-None.is c.args.trail.now.few refl
 
-pub referred_name-returns-in-Entry : goal.referred_name-returns-in-Entry
-referred_name-returns-in-Entry t c = from-entry _ _ c.requires.search_in c.in_ok-way_of.ensures _ _ c.in-Entry.is c.push_key.ensures c.resolve_name_inner.ensures
+pub referred_name-returns-in-Some-Entry : goal.referred_name-returns-in-Some-Entry
+referred_name-returns-in-Some-Entry t c = from-entry _ _ c.requires.search_in c.in_ok-way_of.ensures _ _ (rw c.in-Some-Entry.field-0-is at c.in-Some-Entry.is) c.push_key.ensures
+    (rw (c.with_entry.ensures.count_value, c.with_entry.ensures.reads_value) at c.resolve_name_inner.ensures)
 
-pub referred_name-returns-in-Offset : goal.referred_name-returns-in-Offset
-referred_name-returns-in-Offset t c = from-offset _ _ c.requires.search_in c.in_ok-way_of.ensures _ c.in-Offset.is c.resolve_absolute_name.ensures
+pub referred_name-returns-in-Some-Offset : goal.referred_name-returns-in-Some-Offset
+referred_name-returns-in-Some-Offset t c = from-offset _ _ c.requires.search_in c.in_ok-way_of.ensures _ (rw c.in-Some-Offset.field-0-is at c.in-Some-Offset.is) c.resolve_absolute_name.ensures
 
 pub resolve_name_inner-returns-then-not-is_empty : goal.resolve_name_inner-returns-then-not-is_empty
-resolve_name_inner-returns-then-not-is_empty t c = inner-named c.requires.search_in c.requires.reads_bound c.requires.stands c.if-at-ge64.false c.input_of-s.ensures.result_value c.in_ok-own.ensures (named_answer _ c.is_empty.ensures c.if-not-is_empty.true) refl
+resolve_name_inner-returns-then-not-is_empty t c = inner-named c.requires.search_in c.args.trail.now.few c.requires.stands c.if-at-eq0.false c.of.ensures c.in_ok-own.ensures (named_answer _ c.is_empty.ensures c.if-not-is_empty.true) refl
 
 pub resolve_name_inner-loop-name-init : goal.resolve_name_inner-loop-name-init
-resolve_name_inner-loop-name-init t c = inner_goes c.requires.search_in c.requires.reads_bound c.requires.stands c.if-at-ge64.false c.input_of-s.ensures.result_value c.in_ok-own.ensures (no-name _ c.is_empty.ensures c.if-not-is_empty.false) refl
+resolve_name_inner-loop-name-init t c = inner_goes c.requires.search_in c.args.trail.now.few c.requires.stands c.if-at-eq0.false c.of.ensures c.in_ok-own.ensures (no-name _ c.is_empty.ensures c.if-not-is_empty.false) refl
 
 pub resolve_name_inner-returns-in_err-r : goal.resolve_name_inner-returns-in_err-r
 resolve_name_inner-returns-in_err-r t c = rw (handed _ _ c.from_residual-in_err-r.ensures.1)

@@ -1,0 +1,44 @@
+// How far a search has come.
+ghost use Rattle.std.specs.Prelude.{◌≡◌, ◌+◌, ◌≤◌, ◌<◌};
+
+// How many targets a search has followed, and how many entries it has read, its start included: each target leads to one at most.
+#[derive(Clone, Copy, Debug)]
+pub struct Trail {
+    pub count: usize,
+    pub reads: usize,
+    ghost few: { reads ≤ count + 1 },
+}
+
+impl Trail {
+    // Nothing was followed, and the entry where the search starts was read.
+    pub fn start() -> Trail
+        ensures count_value { result.count ≡ 0 }
+        ensures reads_value { result.reads ≡ 1 }
+    {
+        Trail { count: 0, reads: 1 }
+    }
+
+    // A target was followed that leads to no entry.
+    pub fn with_target(self) -> Trail
+        requires { self.count + 2 < 18446744073709551616 }
+        ensures count_value { result.count ≡ self.count + 1 }
+        ensures reads_value { result.reads ≡ self.reads }
+    {
+        Trail {
+            count: self.count + 1,
+            reads: self.reads,
+        }
+    }
+
+    // A target was followed, and its entry read.
+    pub fn with_entry(self) -> Trail
+        requires { self.count + 2 < 18446744073709551616 }
+        ensures count_value { result.count ≡ self.count + 1 }
+        ensures reads_value { result.reads ≡ self.reads + 1 }
+    {
+        Trail {
+            count: self.count + 1,
+            reads: self.reads + 1,
+        }
+    }
+}
