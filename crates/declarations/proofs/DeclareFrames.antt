@@ -18,6 +18,7 @@ use Rattle.files.specs.Pieces.{source_in}
 use Rattle.files.specs.Store.{extent, table_of, FilesIn}
 use Rattle.files.specs.Indices.{index_of, indices_of, indices_in}
 use Rattle.files.proofs.GrownLaws.{table_kept, files-kept}
+use Rattle.references.specs.declared.trails.Trail.{Trail as Walked}
 use Rattle.references.specs.Search.{DieKey, same_key}
 use Rattle.references.specs.Keys.{keys_at, chain_count, Pushed, PossibleKey, keys_from, TrailIn}
 use Rattle.references.specs.Names.{SearchIn}
@@ -26,6 +27,10 @@ use Rattle.references.proofs.FollowLaws.{index-clear, push_room, push_kept, push
 use Rattle.declarations.specs.declared.declaring.Places.{Places}
 use Rattle.declarations.specs.declared.declaring.DeclaringState.{DeclaringState}
 use Rattle.declarations.specs.Declarations.{Beside, DeclaringIn, lower, searched}
+
+-- the state from another trail on
+abbrev pub more : DeclaringState → Walked → DeclaringState
+more st t = record { trail = t; table = st.table; warned = st.warned }
 
 -- ---- tables and targets that lie clear of what is written
 
@@ -57,10 +62,10 @@ module _ {main supplementary w : List ℕ} {d : Places} {st : DeclaringState} (D
     beside p n k e (inl h) = above p k h
     beside p n k e (inr h) = let t = table_below in (inl (omega arith), (inl (omega arith), tt))
 
-    pub lower-keys : keys_at w' (keys_from d.tables) st.count ≡ keys_at w (keys_from d.tables) st.count
-    lower-keys = keys-clear (keys_from d.tables) st.count K (above (keys_from d.tables) (st.count * 13) (let a = D.keys in omega arith))
+    pub lower-keys : keys_at w' (keys_from d.tables) st.trail.count ≡ keys_at w (keys_from d.tables) st.trail.count
+    lower-keys = keys-clear (keys_from d.tables) st.trail.count K (above (keys_from d.tables) (st.trail.count * 13) (let a = D.keys in omega arith))
 
-    lower-search : SearchIn main supplementary w' d.tables st.count
+    lower-search : SearchIn main supplementary w' d.tables st.trail.count
     lower-search =
         let S = D.search-tables in
         record {
@@ -74,7 +79,7 @@ module _ {main supplementary w : List ℕ} {d : Places} {st : DeclaringState} (D
           supplementary-entries = S.supplementary-entries;
         }
 
-    pub lower-ready : {st' : DeclaringState} → st'.count ≡ st.count → FilesIn main supplementary w' st'.table → st'.table.base ≡ st.table.base → st'.table.room ≡ st.table.room
+    pub lower-ready : {st' : DeclaringState} → st'.trail.count ≡ st.trail.count → FilesIn main supplementary w' st'.table → st'.table.base ≡ st.table.base → st'.table.room ≡ st.table.room
         → st'.warned ≤ top → DeclaringIn main supplementary w' d st'
     lower-ready {st'} same F base room warned = record {
       search-tables = rw same lower-search;
@@ -104,15 +109,15 @@ module _ {main supplementary w : List ℕ} {d : Places} {st : DeclaringState} (D
       records-but index_of 5 d.indices.base d.indices.count K (inr (omega arith), (inl (omega arith), (inl (omega arith), tt)))
 
   -- ---- a target is written down
-  module _ {k : DieKey} (possible : PossibleKey main supplementary k) (new : exists (same_key k) (keys_at w (keys_from d.tables) st.count) ≡ false) where
-    pub pushed_room : TrailIn w d.tables st.count 1
+  module _ {k : DieKey} (possible : PossibleKey main supplementary k) (new : exists (same_key k) (keys_at w (keys_from d.tables) st.trail.count) ≡ false) where
+    pub pushed_room : TrailIn w d.tables st.trail.count 1
     pushed_room = push_room D.search-tables possible new
 
-    module _ {w' : List ℕ} (P : Pushed w w' d.tables st.count k) where
+    module _ {w' : List ℕ} (P : Pushed w w' d.tables st.trail.count k) where
       pub pushed_rest : KeptBut w w' (searched main supplementary d st.table)
       pushed_rest = but_of (push_kept D.search-tables possible new P) (there (there (here (omega arith) (omega arith))))
 
-      table-clear : Clear st.table.base (extent st.table) ((d.tables.keys, chain_count d.tables * 4 + (st.count + 1) * 13) ∷ [])
+      table-clear : Clear st.table.base (extent st.table) ((d.tables.keys, chain_count d.tables * 4 + (st.trail.count + 1) * 13) ∷ [])
       table-clear = let t = table_below in let a = D.keys in (inl (omega arith), tt)
 
       pub pushed-table : table_of main supplementary w' st.table ≡ table_of main supplementary w st.table
@@ -121,9 +126,9 @@ module _ {main supplementary w : List ℕ} {d : Places} {st : DeclaringState} (D
       pub pushed_map : indices_in w' d.indices ≡ indices_in w d.indices
       pushed_map = searched-map pushed_rest
 
-      pub pushed_ready : length w' ≡ length w → DeclaringIn main supplementary w' d (record { count = st.count + 1; table = st.table; warned = st.warned })
-      pushed_ready size = record {
-        search-tables = push_search D.search-tables possible new P size;
+      pub pushed_ready : (t : Walked) → t.count ≡ st.trail.count + 1 → length w' ≡ length w → DeclaringIn main supplementary w' d (more st t)
+      pushed_ready t one size = record {
+        search-tables = rw one (push_search D.search-tables possible new P size);
         files = files-kept D.files (but_one P.rest) table-clear size;
         warned = D.warned;
         table = D.table;

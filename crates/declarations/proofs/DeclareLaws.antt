@@ -43,7 +43,7 @@ module _ {main supplementary w files warnings : List ℕ} {d : Places} {st : Dec
   unfolding warnings_bytes each_of
   state-none = record { grown = grown-none D.files few; put = put-none D.warned short; ready = D }
 
-  pub declares-here : (found : Given Declaration) {f : Search} {a : ℕ} → a ≤ st.count + 1
+  pub declares-here : (found : Given Declaration) {f : Search} {a : ℕ} → a ≤ st.trail.count + 1
       → ((k : ℕ) (ws : List Warning) → f (declaring_at main supplementary w d st ws k) ≡ record { reads = k; outcome = done (found_in found (declaring_at main supplementary w d st ws k)) })
       → DeclaresCounted f main supplementary w w files files warnings warnings d st a a (Ok (record { state = st; found = found }))
   declares-here found read e = record { reads = λ k. k; adds = λ k. refl; few = read; new = []; is = λ k ws. rw (append-nil ws) (e k ws); after = state-none; rest = but_refl _ _ }

@@ -1,5 +1,5 @@
 -- An entry's own declaration: its unit's number of the file, the warnings, and what they make of the search.
-use mathlib.Core.Path.{◌≡◌, refl, sym, ap, ◌∙◌}
+use mathlib.Core.Path.{◌≡◌, refl, sym, ap, subst, ◌∙◌}
 use mathlib.Core.Bool.{Bool, true, false, true≢false, false≢true}
 use mathlib.Core.Logic.{inl}
 use mathlib.Core.List.{List, [], ◌∷◌, ◌++◌, append-nil}
@@ -53,7 +53,7 @@ use Rattle.declarations.specs.declared.declaring.Declared.{Declared}
 use Rattle.declarations.specs.declared.own_declarations.OwnLine.{OwnLine}
 use Rattle.declarations.specs.Declarations.{none_found, reached_files, indices_at, declaring_at, DeclaringIn, DeclaredState, lower, DeclaresCounted}
 use Rattle.declarations.specs.DeclaredSteps.{declared_by, OwnAt, Numbered, Warns, Owns, UnitKnown}
-use Rattle.declarations.proofs.DeclareFrames.{sheet-small, unit-room, spans-inside, lower-keys, lower-ready, lower-rest}
+use Rattle.declarations.proofs.DeclareFrames.{unit-room, spans-inside, lower-keys, lower-ready, lower-rest}
 use Rattle.declarations.proofs.DeclareLaws.{declares-here, declares-refused, declares-after}
 
 -- ---- the unit of a place
@@ -92,17 +92,11 @@ module _ {main supplementary w : List ℕ} {d : Places} {st : DeclaringState} (D
   number-reached input q so N = rw so N
 
   -- of a unit that was reached
-  module _ {s : List ℕ} (input : DebugSource) {q : ℕ} (is : s ≡ source_in main supplementary input) (U : UnitKnown (source_in main supplementary input) q) where
-    pub unit-here : UnitPlaced s q
-    unit-here = rw is U.placed
+  module _ (input : DebugSource) {q : ℕ} (U : UnitKnown (source_in main supplementary input) q) where
+    pub spans-here : d.spans + 8 * length (unit_here (source_in main supplementary input) q).directories ≤ length w
+    spans-here = let a = unit-room D input q U.listed in let b = spans-inside D in omega arith
 
-    pub sheet_here : length s < 4294967296
-    sheet_here = rw is (sheet-small D input)
-
-    pub spans-here : d.spans + 8 * length (unit_here s q).directories ≤ length w
-    spans-here = rw is (let a = unit-room D input q U.listed in let b = spans-inside D in omega arith)
-
-    module _ {lacks : Bool} (e : lacks ≡ is_none (unit_here s q).header) where
+    module _ {lacks : Bool} (e : lacks ≡ is_none (unit_here (source_in main supplementary input) q).header) where
       no_header : (u : CompilationUnit) (o : Option LineHeader) (t : FileTable) (n : ℕ) → is_none o ≡ true → none ≡ get (reached_files u o t) n
       unfolding get
       no_header u none t n y = refl
@@ -111,7 +105,7 @@ module _ {main supplementary w : List ℕ} {d : Places} {st : DeclaringState} (D
       pub number-none : {n : FileNumber} → lacks ≡ true
           → Numbered main supplementary w w d st (reached_files (unit_here (source_in main supplementary input) q) (unit_here (source_in main supplementary input) q).header (table_of main supplementary w st.table)) n None
       number-none {n} so = record {
-        is_number = no_header (unit_here (source_in main supplementary input) q) (unit_here (source_in main supplementary input) q).header (table_of main supplementary w st.table) n.0 (rw is at (sym e ∙ so));
+        is_number = no_header (unit_here (source_in main supplementary input) q) (unit_here (source_in main supplementary input) q).header (table_of main supplementary w st.table) n.0 (sym e ∙ so);
         same = refl;
         holds = D.files;
         rest = but_refl _ _;
@@ -121,7 +115,7 @@ module _ {main supplementary w : List ℕ} {d : Places} {st : DeclaringState} (D
       some-header u none t y = absurd (true≢false y)
       some-header u (some h) t y = refl
 
-      module _ {w₁ : List ℕ} {u : FileUnit} (not_so : lacks ≡ false) (B : Described s w w₁ q d.spans u) (size : length w₁ ≡ length w) where
+      module _ {w₁ : List ℕ} {u : FileUnit} (not_so : lacks ≡ false) (B : Described (source_in main supplementary input) w w₁ input q d.spans u) (size : length w₁ ≡ length w) where
         pub described-clear : Clear st.table.base (extent st.table) ((d.spans, u.directory_count * 8) ∷ [])
         described-clear = let a = D.table in let b = D.indices in (inl (omega arith), tt)
 
@@ -131,28 +125,29 @@ module _ {main supplementary w : List ℕ} {d : Places} {st : DeclaringState} (D
         pub described-table : table_of main supplementary w₁ st.table ≡ table_of main supplementary w st.table
         described-table = table_kept D.files (but_one B.rest) described-clear
 
-        pub described-unit : FileUnitIn (source_in main supplementary input) w₁ u
-        described-unit = rw is at B.unit
+        pub described-unit : FileUnitIn (source_in main supplementary u.source) w₁ u
+        described-unit = subst (λ (i : DebugSource). FileUnitIn (source_in main supplementary i) w₁ u) (sym B.source-is) B.unit
 
-        pub described-placed : UnitPlaced (source_in main supplementary input) u.place
-        described-placed = rw B.place U.placed
+        pub described-placed : UnitPlaced (source_in main supplementary u.source) u.place
+        described-placed = rw (B.source-is, B.place) U.placed
 
         pub described-room : u.directory_count * 8 + 5 * (1 + length (unit_here (source_in main supplementary input) q).files) ≤ d.room
         described-room =
             let a = unit-room D input q U.listed in
-            let b : u.directory_count ≡ length (unit_here (source_in main supplementary input) q).directories = rw is at B.count in
+            let b : u.directory_count ≡ length (unit_here (source_in main supplementary input) q).directories = B.count in
             omega arith
 
         pub described-rest : KeptBut w w₁ (lower d st.table)
         described-rest = let a = described-room in but_of B.rest (there (here (omega arith) (omega arith)))
 
-        pub number-looked : {w₂ : List ℕ} {n : FileNumber} {r : Given FileIndex} → LookedUp main supplementary w₁ w₂ st.table (source_in main supplementary input) u n r
+        pub number-looked : {w₂ : List ℕ} {n : FileNumber} {r : Given FileIndex} → LookedUp main supplementary w₁ w₂ st.table (source_in main supplementary u.source) u n r
             → Numbered main supplementary w w₂ d st (reached_files (unit_here (source_in main supplementary input) q) (unit_here (source_in main supplementary input) q).header (table_of main supplementary w st.table)) n r
         unfolding header_here
-        number-looked {n = n} L =
+        number-looked {n = n} looked =
             let S = source_in main supplementary input in
+            let L = rw B.source-is at looked in
             record {
-              is_number = rw (B.place, described-table, some-header (unit_here S q) (unit_here S q).header (table_of main supplementary w st.table) (rw is at (sym e ∙ not_so))) at L.is;
+              is_number = rw (B.place, described-table, some-header (unit_here S q) (unit_here S q).header (table_of main supplementary w st.table) (sym e ∙ not_so)) at L.is;
               same = L.same ∙ described-table;
               holds = L.holds;
               rest = but_trans described-rest (but_of L.rest (here (omega arith) (omega arith)));
@@ -166,11 +161,11 @@ module _ {s : List ℕ} {q p kind number : ℕ} {warnings : List ℕ} {st : Decl
 
   pub warns-written : {warnings' : List ℕ} {n r : ℕ} → as_outcome (Ok n) ≡ absolute_entry_offset (unit_here s q) (entry_here s p).offset
       → Put st.warned (encode 0x46 ((kind ∷ []) ++ bytes_of 8 n ++ bytes_of 8 number)) warnings warnings' r
-      → Warns s q p kind number warnings warnings' st (none_found (record { count = st.count; table = st.table; warned = r }))
-  warns-written {n = n} e P = record { is = (record { offset = n; is = sym e; put = P; count = refl; table = refl }, refl) }
+      → Warns s q p kind number warnings warnings' st (none_found (record { trail = st.trail; table = st.table; warned = r }))
+  warns-written {n = n} e P = record { is = (record { offset = n; is = sym e; put = P; trail = refl; table = refl }, refl) }
 
 module _ {main supplementary w : List ℕ} {d : Places} {st : DeclaringState} (D : DeclaringIn main supplementary w d st) {s : List ℕ} {q p kind number : ℕ} {warnings warnings' : List ℕ} where
-  declares-warned : (k : WarningKind) (r : Result Declared Refusal) (files : List ℕ) → length files < top → kind ≡ kind_number k → {a : ℕ} → a ≤ st.count + 1 → Warns s q p kind number warnings warnings' st r
+  declares-warned : (k : WarningKind) (r : Result Declared Refusal) (files : List ℕ) → length files < top → kind ≡ kind_number k → {a : ℕ} → a ≤ st.trail.count + 1 → Warns s q p kind number warnings warnings' st r
       → DeclaresCounted (λ y. still y.trail (warn_declaration k (unit_here s q) (entry_here s p) number y)) main supplementary w w files files warnings warnings' d st a a r
   unfolding warn_declaration ◌>>=◌ warnings_bytes each_of
   declares-warned k (Err n) files few kd read W = declares-refused n (λ m. m) (λ m. refl) (λ m ws. rw W.is) (but_refl _ _)
@@ -179,13 +174,13 @@ module _ {main supplementary w : List ℕ} {d : Places} {st : DeclaringState} (D
       record {
         reads = λ m. m;
         adds = λ m. refl;
-        few = rw X.count read;
+        few = rw X.trail read;
         new = about k X.offset number ∷ [];
-        is = λ m ws. rw (X.is, X.count, X.table, W.is.1);
+        is = λ m ws. rw (X.is, X.trail, X.table, W.is.1);
         after = record {
           grown = rw X.table (grown-none D.files few);
           put = put_as (append-nil (encode 0x46 (warning_payload (about k X.offset number)))) (put-about k kind X.offset number kd X.put);
-          ready = lower-ready D (but_refl w _) refl X.count (rw X.table D.files) (rw X.table) (rw X.table) (let z = X.put.place in omega arith);
+          ready = lower-ready D (but_refl w _) refl (rw X.trail refl) (rw X.table D.files) (rw X.table) (rw X.table) (let z = X.put.place in omega arith);
         };
         rest = but_refl _ _;
       }
@@ -198,7 +193,7 @@ module _ {main supplementary w : List ℕ} {d : Places} {st : DeclaringState} (D
       → Owns (own_declaration (place_at main supplementary at).unit (place_at main supplementary at).entry ids) main supplementary w w warnings warnings d st (none_found st)
   own-nothing short none_is = record {
     declares = λ files few a read. declares-here D few short None read (λ k ws.
-        let e = rw is at (O.is (place_at main supplementary at).unit ids (declaring_at main supplementary w d st ws k)) in ap (still (trail_at w (keys_from d.tables) st.count k)) (e ∙ rw none_is));
+        let e = rw is at (O.is (place_at main supplementary at).unit ids (declaring_at main supplementary w d st ws k)) in ap (still (trail_at w (keys_from d.tables) st.trail.count k)) (e ∙ rw none_is));
   }
 
   module _ {w₁ : List ℕ} {l : OwnLine} {r : Given FileIndex} (there-is : o ≡ Some l) (N : Numbered main supplementary w w₁ d st ids l.file r) (size : length w₁ ≡ length w) where
@@ -232,7 +227,7 @@ module _ {main supplementary w : List ℕ} {d : Places} {st : DeclaringState} (D
         let same : declaring_at main supplementary w d st ws k ≡ declaring_at main supplementary w₁ d st (ws ++ []) k = rw (append-nil ws, lower-keys D N.rest size, N.same) in
         let told : declared_by (place_at main supplementary at).unit (source_in main supplementary at.input) at.place ids o (declaring_at main supplementary w d st ws k) ≡ g (declaring_at main supplementary w d st ws k)
         = rw (there-is, ← N.is_number) (to _) in
-        ap (still (trail_at w (keys_from d.tables) st.count k)) (e ∙ told) ∙ ap (λ (y : Declaring). still y.trail (g y)) same)
+        ap (still (trail_at w (keys_from d.tables) st.trail.count k)) (e ∙ told) ∙ ap (λ (y : Declaring). still y.trail (g y)) same)
         x G
 
     pub own-no_file : {warnings warnings₂ : List ℕ} {x : Result Declared Refusal} → length warnings < top → r ≡ None → Warns s at.unit at.place 10 l.file.0 warnings warnings₂ st x

@@ -15,6 +15,7 @@ use Rattle.tlv.specs.Model.{CompilationUnit, Attribute, LineHeader}
 use Rattle.tlv.proofs.OutcomeLaws.{Gives, gives, gives_none, gives-cond, gives-bind, gives-map, given}
 use Rattle.buffers.specs.Buffer.{top}
 use Rattle.buffers.specs.Table.{KeptBut}
+use Rattle.buffers.proofs.TableLaws.{but_refl}
 use Rattle.buffers.specs.Output.{Warning}
 use Rattle.access.specs.Places.{unit_here, entry_here}
 use Rattle.lines.specs.Files.{FileIndices}
@@ -23,6 +24,7 @@ use Rattle.files.specs.Store.{table_of, Grown}
 use Rattle.files.specs.Indices.{indices_in}
 use Rattle.files.proofs.ReachedLaws.{reached-grown}
 use Rattle.references.specs.declared.ways.EntryAt.{EntryAt}
+use Rattle.references.specs.declared.trails.Trail.{Trail as Walked}
 use Rattle.references.specs.Search.{DebugSource as Source, Dwarf, main_source, supplementary_source, Place, Trail, DieKey, is_visited, Target, nothing, same_unit, by_offset, absolute_entry_offset, entry_at, follow_in, follow_absolute, follow_unit, follow_supplementary, follow, unit_containing, units_in, attribute, origin_attributes, Declaring, own_declaration, resolve_declaration, resolve_declaration_line}
 use Rattle.references.specs.Reads.{Counted, after, counted_referenced_declaration, counted_declaration, declaration_reads}
 use Rattle.references.specs.Tables.{EntryKnown}
@@ -36,7 +38,7 @@ use Rattle.declarations.specs.declared.declaring.DeclaringState.{DeclaringState}
 use Rattle.declarations.specs.declared.declaring.Declaration.{Declaration}
 use Rattle.declarations.specs.declared.declaring.Declared.{Declared}
 use Rattle.declarations.specs.Declarations.{none_found, reached_files, ReachedUnit, indices_at, declaring_at, DeclaringIn, DeclaredAs, Declares, CountedAs, DeclaresCounted, LineRead, searched, Reaching, resolve_reference}
-use Rattle.declarations.proofs.DeclareFrames.{searched-map}
+use Rattle.declarations.proofs.DeclareFrames.{more, searched-map, lower-ready}
 use Rattle.declarations.proofs.DeclareLaws.{Stops, none_is, declares-here, declares-as, and_then, then-missing, then_stop, then_last}
 
 -- ---- a reference leads to its own unit, or elsewhere by an offset
@@ -134,71 +136,78 @@ module _ {main supplementary w w' files files' : List ℕ} {d : Places} {st : De
 
 module _ {main supplementary w : List ℕ} {d : Places} {st : DeclaringState} (D : DeclaringIn main supplementary w d st) {at : EntryAt} {reached : Bool}
     (R : Reaching main supplementary w st at reached) where
-  pub resolve-deep : {files warnings : List ℕ} {a : ℕ} → length files < top → length warnings < top → a ≤ st.count + 1 → 64 ≤ at.depth
-      → DeclaresCounted (counted_declaration (64 - at.depth) (dwarf_of main supplementary) (place_at main supplementary at) (indices_at main supplementary w d st at.input at.unit reached))
+  pub resolve-deep : {files warnings : List ℕ} {a : ℕ} → length files < top → length warnings < top → a ≤ st.trail.count + 1 → at.left ≡ 0
+      → DeclaresCounted (counted_declaration at.left (dwarf_of main supplementary) (place_at main supplementary at) (indices_at main supplementary w d st at.input at.unit reached))
       main supplementary w w files files warnings warnings d st a a (none_found st)
   unfolding counted_declaration
-  resolve-deep few short read deep = let z : 64 - at.depth ≡ 0 = omega arith in rw z (declares-here D few short None read (λ k ws. refl))
+  resolve-deep few short read deep = rw deep (declares-here D few short None read (λ k ws. refl))
 
-  module _ (shallow : at.depth < 64) where
-    step : (x : Declaring) → (counted_declaration (64 - at.depth) (dwarf_of main supplementary) (place_at main supplementary at) (indices_at main supplementary w d st at.input at.unit reached)) x
+  module _ (shallow : at.left ≡ 0 → ⊥) where
+    step : (x : Declaring) → (counted_declaration at.left (dwarf_of main supplementary) (place_at main supplementary at) (indices_at main supplementary w d st at.input at.unit reached)) x
         ≡ and_then (λ y. after y.trail (own_declaration (place_at main supplementary at).unit (place_at main supplementary at).entry (indices_at main supplementary w d st at.input at.unit reached) y))
-        (counted_referenced_declaration (counted_declaration (64 - (at.depth + 1)) (dwarf_of main supplementary)) (dwarf_of main supplementary) (place_at main supplementary at)
+        (counted_referenced_declaration (counted_declaration (at.left - 1) (dwarf_of main supplementary)) (dwarf_of main supplementary) (place_at main supplementary at)
         (indices_at main supplementary w d st at.input at.unit reached) origin_attributes) x
     unfolding counted_declaration
-    step x = let z : 64 - at.depth ≡ suc (64 - (at.depth + 1)) = omega arith in rw z
+    step x = let more_left : at.left ≡ suc (at.left - 1) = omega arith in one-more at.left (at.left - 1) more_left x
+      where
+        one-more : (m k : ℕ) → m ≡ suc k → (x : Declaring)
+            → (counted_declaration m (dwarf_of main supplementary) (place_at main supplementary at) (indices_at main supplementary w d st at.input at.unit reached)) x
+            ≡ and_then (λ y. after y.trail (own_declaration (place_at main supplementary at).unit (place_at main supplementary at).entry (indices_at main supplementary w d st at.input at.unit reached) y))
+            (counted_referenced_declaration (counted_declaration k (dwarf_of main supplementary)) (dwarf_of main supplementary) (place_at main supplementary at)
+            (indices_at main supplementary w d st at.input at.unit reached) origin_attributes) x
+        one-more m k e x = rw e
 
     turn : (n : ℕ) (ns : List ℕ) (x : Declaring)
-        → (counted_referenced_declaration (counted_declaration (64 - (at.depth + 1)) (dwarf_of main supplementary)) (dwarf_of main supplementary) (place_at main supplementary at)
+        → (counted_referenced_declaration (counted_declaration (at.left - 1) (dwarf_of main supplementary)) (dwarf_of main supplementary) (place_at main supplementary at)
         (indices_at main supplementary w d st at.input at.unit reached) (n ∷ ns)) x
-        ≡ and_then (resolve_reference (64 - (at.depth + 1)) main supplementary at (indices_at main supplementary w d st at.input at.unit reached) n)
-        (counted_referenced_declaration (counted_declaration (64 - (at.depth + 1)) (dwarf_of main supplementary)) (dwarf_of main supplementary) (place_at main supplementary at)
+        ≡ and_then (resolve_reference (at.left - 1) main supplementary at (indices_at main supplementary w d st at.input at.unit reached) n)
+        (counted_referenced_declaration (counted_declaration (at.left - 1) (dwarf_of main supplementary)) (dwarf_of main supplementary) (place_at main supplementary at)
         (indices_at main supplementary w d st at.input at.unit reached) ns) x
     unfolding counted_referenced_declaration resolve_reference follow_from
     turn n ns x = sym (counted-assoc x.trail (follow (dwarf_of main supplementary) (place_at main supplementary at) x.trail (attribute (place_at main supplementary at).entry n)) _ _)
 
-    none_left : (x : Declaring) → (counted_referenced_declaration (counted_declaration (64 - (at.depth + 1)) (dwarf_of main supplementary)) (dwarf_of main supplementary) (place_at main supplementary at)
+    none_left : (x : Declaring) → (counted_referenced_declaration (counted_declaration (at.left - 1) (dwarf_of main supplementary)) (dwarf_of main supplementary) (place_at main supplementary at)
         (indices_at main supplementary w d st at.input at.unit reached) []) x ≡ after x.trail (done x)
     unfolding counted_referenced_declaration
     none_left x = refl
 
-    module _ {files warnings w₁ files₁ warnings₁ : List ℕ} {a : ℕ} where
+    module _ {files warnings w₁ files₁ warnings₁ : List ℕ} {a a₁ : ℕ} where
       pub resolve-own : (r : Result Declared Refusal) → Stops r
           → DeclaresCounted (λ y. after y.trail (own_declaration (place_at main supplementary at).unit (place_at main supplementary at).entry (indices_at main supplementary w d st at.input at.unit reached) y))
-          main supplementary w w₁ files files₁ warnings warnings₁ d st a a r
-          → DeclaresCounted (counted_declaration (64 - at.depth) (dwarf_of main supplementary) (place_at main supplementary at) (indices_at main supplementary w d st at.input at.unit reached))
-          main supplementary w w₁ files files₁ warnings warnings₁ d st a a r
+          main supplementary w w₁ files files₁ warnings warnings₁ d st a a₁ r
+          → DeclaresCounted (counted_declaration at.left (dwarf_of main supplementary) (place_at main supplementary at) (indices_at main supplementary w d st at.input at.unit reached))
+          main supplementary w w₁ files files₁ warnings warnings₁ d st a a₁ r
       resolve-own r stop F = declares-as r (λ k ws. step _) (then_stop _ r stop F)
 
       module _ {st₁ : DeclaringState} (F : DeclaresCounted (λ y. after y.trail (own_declaration (place_at main supplementary at).unit (place_at main supplementary at).entry (indices_at main supplementary w d st at.input at.unit reached) y))
-          main supplementary w w₁ files files₁ warnings warnings₁ d st a a (none_found st₁)) where
+          main supplementary w w₁ files files₁ warnings warnings₁ d st a a₁ (none_found st₁)) where
         pub first-reaching : Reaching main supplementary w₁ st₁ at reached
         first-reaching = reaching-grown D st₁ R F.after.grown
 
         module _ {w₂ files₂ warnings₂ : List ℕ} {b : ℕ} where
-          first-as : {r : Result Declared Refusal} → DeclaresCounted (resolve_reference (64 - (at.depth + 1)) main supplementary at (indices_at main supplementary w₁ d st₁ at.input at.unit reached) 0x31)
-              main supplementary w₁ w₂ files₁ files₂ warnings₁ warnings₂ d st₁ a b r
-              → DeclaresCounted (resolve_reference (64 - (at.depth + 1)) main supplementary at (indices_at main supplementary w d st at.input at.unit reached) 0x31)
-              main supplementary w₁ w₂ files₁ files₂ warnings₁ warnings₂ d st₁ a b r
+          first-as : {r : Result Declared Refusal} → DeclaresCounted (resolve_reference (at.left - 1) main supplementary at (indices_at main supplementary w₁ d st₁ at.input at.unit reached) 0x31)
+              main supplementary w₁ w₂ files₁ files₂ warnings₁ warnings₂ d st₁ a₁ b r
+              → DeclaresCounted (resolve_reference (at.left - 1) main supplementary at (indices_at main supplementary w d st at.input at.unit reached) 0x31)
+              main supplementary w₁ w₂ files₁ files₂ warnings₁ warnings₂ d st₁ a₁ b r
           first-as G = rw (indices-grown D st₁ R F.after.grown F.rest) at G
 
           pub resolve-first : (r : Result Declared Refusal) → Stops r
-              → DeclaresCounted (resolve_reference (64 - (at.depth + 1)) main supplementary at (indices_at main supplementary w₁ d st₁ at.input at.unit reached) 0x31)
-              main supplementary w₁ w₂ files₁ files₂ warnings₁ warnings₂ d st₁ a b r
-              → DeclaresCounted (counted_declaration (64 - at.depth) (dwarf_of main supplementary) (place_at main supplementary at) (indices_at main supplementary w d st at.input at.unit reached))
+              → DeclaresCounted (resolve_reference (at.left - 1) main supplementary at (indices_at main supplementary w₁ d st₁ at.input at.unit reached) 0x31)
+              main supplementary w₁ w₂ files₁ files₂ warnings₁ warnings₂ d st₁ a₁ b r
+              → DeclaresCounted (counted_declaration at.left (dwarf_of main supplementary) (place_at main supplementary at) (indices_at main supplementary w d st at.input at.unit reached))
               main supplementary w w₂ files files₂ warnings warnings₂ d st a b r
           resolve-first r stop G =
               declares-as r (λ k ws. step _) (then-missing r F (declares-as r (λ k ws. turn 0x31 (0x47 ∷ []) _) (then_stop _ r stop (first-as G))))
 
-          module _ {st₂ : DeclaringState} (G : DeclaresCounted (resolve_reference (64 - (at.depth + 1)) main supplementary at (indices_at main supplementary w₁ d st₁ at.input at.unit reached) 0x31)
-              main supplementary w₁ w₂ files₁ files₂ warnings₁ warnings₂ d st₁ a b (none_found st₂)) where
+          module _ {st₂ : DeclaringState} (G : DeclaresCounted (resolve_reference (at.left - 1) main supplementary at (indices_at main supplementary w₁ d st₁ at.input at.unit reached) 0x31)
+              main supplementary w₁ w₂ files₁ files₂ warnings₁ warnings₂ d st₁ a₁ b (none_found st₂)) where
             pub second-reaching : Reaching main supplementary w₂ st₂ at reached
             second-reaching = reaching-grown F.after.ready st₂ first-reaching G.after.grown
 
             pub resolve-second : {w₃ files₃ warnings₃ : List ℕ} {e : ℕ} (r : Result Declared Refusal)
-                → DeclaresCounted (resolve_reference (64 - (at.depth + 1)) main supplementary at (indices_at main supplementary w₂ d st₂ at.input at.unit reached) 0x47)
+                → DeclaresCounted (resolve_reference (at.left - 1) main supplementary at (indices_at main supplementary w₂ d st₂ at.input at.unit reached) 0x47)
                 main supplementary w₂ w₃ files₂ files₃ warnings₂ warnings₃ d st₂ b e r
-                → DeclaresCounted (counted_declaration (64 - at.depth) (dwarf_of main supplementary) (place_at main supplementary at) (indices_at main supplementary w d st at.input at.unit reached))
+                → DeclaresCounted (counted_declaration at.left (dwarf_of main supplementary) (place_at main supplementary at) (indices_at main supplementary w d st at.input at.unit reached))
                 main supplementary w w₃ files files₃ warnings warnings₃ d st a e r
             resolve-second r H =
                 let I = rw (indices-grown F.after.ready st₂ first-reaching G.after.grown G.rest, indices-grown D st₁ R F.after.grown F.rest) at H in
@@ -212,14 +221,17 @@ module _ {f : Declaring → Counted Declaring} {main supplementary w w' files fi
   missing-is r h F =
       subst (λ (o : Given Declaration). DeclaresCounted f main supplementary w w' files files' warnings warnings' d st a b (Ok (record { state = r.state; found = o }))) (none_is r.found h) F
 
-  pub missing-ready : {st₁ : DeclaringState} → DeclaresCounted f main supplementary w w' files files' warnings warnings' d st a b (none_found st₁) → DeclaringIn main supplementary w' d st₁
-  missing-ready F = F.after.ready
+  -- by the numbers of reads that it starts and ends with
+  pub read-as : {c : ℕ} (r : Result Declared Refusal) → b ≡ c → DeclaresCounted f main supplementary w w' files files' warnings warnings' d st a b r
+      → DeclaresCounted f main supplementary w w' files files' warnings warnings' d st a c r
+  read-as r e F = subst (λ (m : ℕ). DeclaresCounted f main supplementary w w' files files' warnings warnings' d st a m r) e F
 
-  pub missing-few : {st₁ : DeclaringState} → DeclaresCounted f main supplementary w w' files files' warnings warnings' d st a b (none_found st₁) → b ≤ st₁.count + 1
-  missing-few F = F.few
+  pub from-as : {c : ℕ} (r : Result Declared Refusal) → a ≡ c → DeclaresCounted f main supplementary w w' files files' warnings warnings' d st a b r
+      → DeclaresCounted f main supplementary w w' files files' warnings warnings' d st c b r
+  from-as r e F = subst (λ (m : ℕ). DeclaresCounted f main supplementary w w' files files' warnings warnings' d st m b r) e F
 
 -- the search of an entry of the unit that is imported, as the definition says it: from no followed targets on
-pub declaration-line : (main supplementary w : List ℕ) (d : Places) (st : DeclaringState) (q p : ℕ) (is : FileIndices) (ws : List Warning) → st.count ≡ 0
+pub declaration-line : (main supplementary w : List ℕ) (d : Places) (st : DeclaringState) (q p : ℕ) (is : FileIndices) (ws : List Warning) → st.trail.count ≡ 0
     → resolve_declaration_line (dwarf_of main supplementary) (unit_here main q) (entry_here main p) is (table_of main supplementary w st.table) ws
     ≡ resolve_declaration 64 (dwarf_of main supplementary) (place_at main supplementary (start_at q p)) is (declaring_at main supplementary w d st ws 1)
 unfolding resolve_declaration_line keys_at
@@ -236,6 +248,25 @@ module _ (main supplementary w' : List ℕ) (d : Places) (ws new : List Warning)
   reads_as c (Err m) h = ap (λ (x : Counted Declaring). x.reads) h
   reads_as c (Ok r) h = ap (λ (x : Counted Declaring). x.reads) h
 
+-- a search that starts anew is one of the state before
+pub restart-as : {f : Declaring → Counted Declaring} {main supplementary w w' files files' warnings warnings' : List ℕ} {d : Places} {st : DeclaringState} {a b : ℕ} {t : Walked}
+    (r : Result Declared Refusal) → t.count ≡ st.trail.count → DeclaresCounted f main supplementary w w' files files' warnings warnings' d (more st t) a b r
+    → DeclaresCounted f main supplementary w w' files files' warnings warnings' d st a b r
+restart-as (Err n) same G = record { reads = G.reads; adds = G.adds; few = G.few; new = G.new; is = λ k ws. rw same at (G.is k ws); after = tt; rest = G.rest }
+restart-as (Ok r) same G = record {
+  reads = G.reads;
+  adds = G.adds;
+  few = G.few;
+  new = G.new;
+  is = λ k ws. rw same at (G.is k ws);
+  after = record { grown = G.after.grown; put = G.after.put; ready = G.after.ready };
+  rest = G.rest;
+}
+
+pub restarted : {main supplementary w : List ℕ} {d : Places} {st : DeclaringState} {t : Walked} → DeclaringIn main supplementary w d st → t.count ≡ st.trail.count
+    → DeclaringIn main supplementary w d (more st t)
+restarted D same = lower-ready D (but_refl _ _) refl same D.files refl refl D.warned
+
 module _ {main supplementary w w' files files' warnings warnings' : List ℕ} {d : Places} {st : DeclaringState} {b : ℕ} (q p : ℕ) (r : Result Declared Refusal)
     (G : DeclaresCounted (counted_declaration 64 (dwarf_of main supplementary) (place_at main supplementary (start_at q p)) (indices_in w d.indices)) main supplementary w w' files files' warnings warnings' d st 1 b r) where
   pub line_plain : Declares (resolve_declaration 64 (dwarf_of main supplementary) (place_at main supplementary (start_at q p)) (indices_in w d.indices)) main supplementary w w' files files' warnings warnings' d st r
@@ -248,7 +279,7 @@ module _ {main supplementary w w' files files' warnings warnings' : List ℕ} {d
     rest = G.rest;
   }
 
-  pub line_read : DeclaringIn main supplementary w d st → st.count ≡ 0 → EntryKnown main q p → LineRead main supplementary w d st q p b
+  pub line_read : DeclaringIn main supplementary w d st → st.trail.count ≡ 0 → EntryKnown main q p → LineRead main supplementary w d st q p b
   unfolding declaration_reads keys_at
   line_read D none-followed known =
       let is : (ws : List Warning) → b ≡ declaration_reads (dwarf_of main supplementary) (unit_here main q) (entry_here main p) (indices_in w d.indices) (table_of main supplementary w st.table) ws

@@ -51,7 +51,7 @@ indices_at main supplementary w d st input q reached =
 -- the search's state in w, with the warnings so far and the number of entries that it has read
 abbrev pub declaring_at : List ℕ → List ℕ → List ℕ → Places → DeclaringState → List Warning → ℕ → Declaring
 declaring_at main supplementary w d st ws reads = record {
-  trail = trail_at w (keys_from d.tables) st.count reads;
+  trail = trail_at w (keys_from d.tables) st.trail.count reads;
   table = table_of main supplementary w st.table;
   warnings = ws;
   found = none;
@@ -63,8 +63,9 @@ Beside d t p n = (d.spans + d.room ≤ p) ⊎ (p + n ≤ t.base)
 
 -- the file table stands below the imported unit's map, this below the spans of a unit's directories, these below the followed targets; the tables of both
 -- sheets stand beside them; there is room for the directories of every unit, and for its map, which is written and not read
+-- Stays a clause: it speaks of the work slice, which is written between two calls
 pub record DeclaringIn (main supplementary w : List ℕ) (d : Places) (st : DeclaringState) : Type 0 where
-  pub search-tables : SearchIn main supplementary w d.tables st.count
+  pub search-tables : SearchIn main supplementary w d.tables st.trail.count
   pub files : FilesIn main supplementary w st.table
   pub warned : st.warned ≤ top
   pub table : st.table.base + extent st.table ≤ d.indices.base
@@ -87,6 +88,11 @@ found_in (Some l) x = with_found x (some (record { address = 0; file = l.file; l
 -- the answer of a search that found nothing
 abbrev pub none_found : DeclaringState → Result Declared Refusal
 none_found st = Ok (record { state = st; found = None })
+
+-- the answer with the state after it
+abbrev pub answered : DeclaringState → Result (Given Declaration) Refusal → Result Declared Refusal
+answered st (Ok found) = Ok (record { state = st; found = found })
+answered st (Err e) = Err e
 
 -- what an answer says of the definition's outcome, from any warnings and any number of reads
 abbrev pub DeclaredAs : List ℕ → List ℕ → List ℕ → Places → List Warning → ℕ → List Warning → Outcome Declaring → Result Declared Refusal → Type 0
@@ -131,7 +137,7 @@ CountedAs main supplementary w' d ws n new c (Err e) = c ≡ record { reads = n;
 
 -- the search has read no more entries than it followed targets, and its start
 abbrev pub FewRead : ℕ → Result Declared Refusal → Type 0
-FewRead b (Ok r) = b ≤ r.state.count + 1
+FewRead b (Ok r) = b ≤ r.state.trail.count + 1
 FewRead b (Err e) = Unit
 
 -- a search f from the state st, a entries read, has answered r, b entries read
@@ -160,13 +166,13 @@ pub record Reaching (main supplementary w : List ℕ) (st : DeclaringState) (at 
 
 -- ---- the members of the cycle
 
--- resolve_reference: the declaration that the attribute of a name leads to; k is the limit less the depth of what it leads to
+-- resolve_reference: the declaration that the attribute of a name leads to; k is how many entries are left behind this one
 unfoldable pub resolve_reference : ℕ → List ℕ → List ℕ → EntryAt → FileIndices → ℕ → Declaring → Counted Declaring
 resolve_reference k main supplementary at is name s =
     after s.trail (follow_from main supplementary at name s.trail) >>> λ f.
     counted_declaration_at (counted_declaration k (dwarf_of main supplementary)) is (with_trail s f.trail) f.target
 
--- resolve_absolute: the declaration at an offset of the section; k is the limit less the depth
+-- resolve_absolute: the declaration at an offset of the section; k is how many entries are left
 unfoldable pub resolve_absolute : ℕ → List ℕ → List ℕ → OffsetAt → Declaring → Counted Declaring
 resolve_absolute k main supplementary at s =
     after s.trail (follow_absolute (dwarf_of main supplementary) (search_source at.input) (search_source at.source) s.trail at.target) >>> λ f.

@@ -1,12 +1,11 @@
 -- Contract. What the steps of the declaration search promise: an entry's own declaration, a unit's files that join the table, an offset that is followed.
-use Rattle.std.specs.Prelude.{Some, None, Result, Ok, Err, ℕ, ◌+◌, ◌≤◌, ◌<◌, ◌≡◌, false, List, [], ◌∷◌, ◌++◌, length}
+use Rattle.std.specs.Prelude.{Some, None, Result, Ok, Err, ℕ, ◌+◌, ◌≤◌, ◌<◌, ◌≡◌, List, [], ◌∷◌, ◌++◌, length}
 use Rattle.std.specs.declared.option.Option.{Option as Given}
 use Rattle.tlv.specs.declared.model.FileIndex.{FileIndex}
 use Rattle.tlv.specs.declared.refusal.Refusal.{Refusal}
 use Rattle.tlv.specs.Refusals as refusals
 use Rattle.tlv.specs.Tags.{tray_warning_tag}
 use Rattle.tlv.specs.Outcome.{Outcome, refused, done}
-use Rattle.tlv.specs.Lists.{exists}
 use Rattle.tlv.specs.Bytes.{bytes_of}
 use Rattle.tlv.specs.Fields.{encode}
 use Rattle.tlv.specs.Model.{CompilationUnit}
@@ -19,19 +18,12 @@ use Rattle.files.specs.declared.index.FileNumber.{FileNumber}
 use Rattle.files.specs.Pieces.{UnitPlaced}
 use Rattle.files.specs.Store.{table_of, FilesIn, Grown}
 use Rattle.files.specs.Indices.{number_of}
-use Rattle.references.specs.declared.tables.Tables.{Tables}
-use Rattle.references.specs.declared.ways.EntryAt.{EntryAt}
-use Rattle.references.specs.declared.ways.OffsetAt.{OffsetAt}
-use Rattle.references.specs.Search.{Trail, same_key, visit, visit_entry, Followed, by_offset, nothing, follow_absolute, followed_nothing}
 use Rattle.references.specs.Search.{absolute_entry_offset, Declaring, declaration_of, own_declaration, unit_files}
-use Rattle.references.specs.Keys.{keys_at, key_in, keys_from}
-use Rattle.references.specs.Names.{dwarf_of, search_source, place_at, trail_at, Stands}
 use Rattle.references.specs.Reads.{after}
 use Rattle.declarations.specs.declared.declaring.Places.{Places}
 use Rattle.declarations.specs.declared.declaring.DeclaringState.{DeclaringState}
 use Rattle.declarations.specs.declared.declaring.Declared.{Declared}
 use Rattle.declarations.specs.declared.own_declarations.OwnLine.{OwnLine}
-use Rattle.declarations.specs.declared.aims.Aim.{Aim}
 use Rattle.declarations.specs.Declarations.{reached_files, ReachedUnit, lower, DeclaresCounted}
 
 -- ---- the file number and the line of an entry
@@ -60,7 +52,7 @@ pub record WarnedOf (s : List ℕ) (q p kind number : ℕ) (warnings warnings' :
   pub offset : ℕ
   pub is : absolute_entry_offset (unit_here s q) (entry_here s p).offset ≡ done offset
   pub put : Put st.warned (encode tray_warning_tag ((kind ∷ []) ++ bytes_of 8 offset ++ bytes_of 8 number)) warnings warnings' st'.warned
-  pub count : st'.count ≡ st.count
+  pub trail : st'.trail ≡ st.trail
   pub table : st'.table ≡ st.table
 
 abbrev pub WarnedIs : List ℕ → ℕ → ℕ → ℕ → ℕ → List ℕ → List ℕ → DeclaringState → Result Declared Refusal → Type 0
@@ -74,7 +66,7 @@ pub record Warns (s : List ℕ) (q p kind number : ℕ) (warnings warnings' : Li
 
 pub record Owns (f : Declaring → Outcome Declaring) (main supplementary w w' warnings warnings' : List ℕ) (d : Places) (st : DeclaringState)
     (r : Result Declared Refusal) : Type 0 where
-  pub declares : (files : List ℕ) → length files < top → (a : ℕ) → a ≤ st.count + 1
+  pub declares : (files : List ℕ) → length files < top → (a : ℕ) → a ≤ st.trail.count + 1
       → DeclaresCounted (λ s. after s.trail (f s)) main supplementary w w' files files warnings warnings' d st a a r
 
 -- ---- a unit
@@ -95,39 +87,7 @@ abbrev pub JoinedIs : List ℕ → List ℕ → List ℕ → List ℕ → List �
 JoinedIs main supplementary w w' files files' t u (Err e) = unit_files u u.header (table_of main supplementary w t) ≡ refused (refusals.number_of e)
 JoinedIs main supplementary w w' files files' t u (Ok t') = JoinedTo main supplementary w w' files files' t t' u
 
-pub record Joins (main supplementary w w' files files' : List ℕ) (d : Places) (t : StoredFiles) (u : CompilationUnit) (r : Result StoredFiles Refusal) : Type 0 where
+pub record Joins (main supplementary w w' files files' : List ℕ) (d : Places) (t : StoredFiles) (u : CompilationUnit)
+    (r : Result StoredFiles Refusal) : Type 0 where
   pub is : JoinedIs main supplementary w w' files files' t u r
   pub rest : KeptBut w w' (lower d t)
-
--- ---- an offset of a section
-
--- how it is followed, from the n targets of w on
-unfoldable pub follow_offset : List ℕ → List ℕ → OffsetAt → Trail → Outcome Followed
-follow_offset main supplementary at t = follow_absolute (dwarf_of main supplementary) (search_source at.input) (search_source at.source) t at.target
-
--- it was not followed yet, and is outside all units
-pub record AimOutside (main supplementary w : List ℕ) (x : Tables) (n : ℕ) (at : OffsetAt) : Type 0 where
-  pub is : (k : ℕ) → follow_offset main supplementary at (trail_at w (keys_from x) n k)
-      ≡ done (record { trail = visit (trail_at w (keys_from x) n k) (key_in at.source at.target); target = nothing })
-  pub new : exists (same_key (key_in at.source at.target)) (keys_at w (keys_from x) n) ≡ false
-
--- or leads to an entry
-pub record AimEntry (main supplementary w : List ℕ) (x : Tables) (n : ℕ) (at : OffsetAt) (next : EntryAt) : Type 0 where
-  pub is : (k : ℕ) → follow_offset main supplementary at (trail_at w (keys_from x) n k)
-      ≡ done (record {
-        trail = visit_entry (trail_at w (keys_from x) n k) (key_in at.source at.target);
-        target = by_offset (place_at main supplementary next);
-      })
-  pub new : exists (same_key (key_in at.source at.target)) (keys_at w (keys_from x) n) ≡ false
-  pub stands : Stands main supplementary next
-  pub depth : next.depth ≡ at.depth
-
-abbrev pub AimIs : List ℕ → List ℕ → List ℕ → Tables → ℕ → OffsetAt → Result Aim Refusal → Type 0
-AimIs main supplementary w x n at (Ok Aim.Seen) =
-    (k : ℕ) → follow_offset main supplementary at (trail_at w (keys_from x) n k) ≡ followed_nothing (trail_at w (keys_from x) n k)
-AimIs main supplementary w x n at (Err e) = (k : ℕ) → follow_offset main supplementary at (trail_at w (keys_from x) n k) ≡ refused (refusals.number_of e)
-AimIs main supplementary w x n at (Ok Aim.Outside) = AimOutside main supplementary w x n at
-AimIs main supplementary w x n at (Ok (Aim.Entry next)) = AimEntry main supplementary w x n at next
-
-pub record Aimed (main supplementary w : List ℕ) (x : Tables) (n : ℕ) (at : OffsetAt) (r : Result Aim Refusal) : Type 0 where
-  pub is : AimIs main supplementary w x n at r

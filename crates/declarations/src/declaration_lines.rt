@@ -1,5 +1,5 @@
 // The line of a declaration, and how many entries its search reads.
-ghost use Rattle.std.specs.Prelude.{◌≡◌, ◌-◌, ◌<◌};
+ghost use Rattle.std.specs.Prelude.{◌≡◌};
 ghost use Rattle.files.specs.Indices.{indices_in};
 ghost use Rattle.references.specs.Search.{resolve_declaration};
 ghost use Rattle.references.specs.Tables.{EntryKnown};
@@ -7,12 +7,13 @@ ghost use Rattle.references.specs.Names.{dwarf_of, place_at, start_at};
 ghost use Rattle.declarations.specs.Declarations.{DeclaringIn, Declares, LineRead};
 
 use crate::declarations::resolve;
-use crate::declaring::{Declared, DeclaringState, Places};
+use crate::declaring::{Declared, DeclaringState, Places, Position};
 use references::names::start_at;
+use references::trails::Trail;
 use tlv::refusal::Refusal;
 
 // What a search answered, and how many entries it read for it.
-#[derive(Clone, Copy)]
+#[derive(Clone, Copy, Debug)]
 pub struct SearchedLine {
     pub answer: Result<Declared, Refusal>,
     pub reads: usize,
@@ -20,72 +21,56 @@ pub struct SearchedLine {
 
 // The declaration of the entry at a place of the unit that is imported, from no followed targets on, and how many entries were read for it.
 pub fn resolve_declaration_line_counted<'a>(
-    main: &'a [u8],
-    supplementary: &'a [u8],
     work: &mut [u8],
     files: &mut [u8],
     warnings: &mut [u8],
-    d: Places,
+    d: Places<'a>,
     unit: usize,
     place: usize,
     st: DeclaringState,
 ) -> SearchedLine
-    requires declaring_in { DeclaringIn main.now supplementary.now work.old d st }
-    requires count_value { st.count ≡ 0 }
-    requires entry_known { EntryKnown main.now unit place }
-    ensures declares { Declares (resolve_declaration 64 (dwarf_of main.now supplementary.now)
-        (place_at main.now supplementary.now (start_at unit place)) (indices_in work.old d.indices)) main.now
-        supplementary.now work.old work.new files.old files.new warnings.old
-        warnings.new d st result.answer }
-    ensures line_read { LineRead main.now supplementary.now work.old d st unit place result.reads }
+    requires declaring_in { DeclaringIn d.tables.sheets.main.now d.tables.sheets.supplementary.now work.old d st }
+    requires count_value { st.trail.count ≡ 0 }
+    requires entry_known { EntryKnown d.tables.sheets.main.now unit place }
+    ensures declares { let main = d.entry.tables.sheets.main.now in let supplementary = d.entry.tables.sheets.supplementary.now in
+        Declares (resolve_declaration 64 (dwarf_of main supplementary) (place_at main supplementary (start_at unit place))
+        (indices_in work.old d.entry.indices)) main supplementary work.old work.new files.old files.new warnings.old
+        warnings.new d.entry st result.answer }
+    ensures line_read { let main = d.entry.tables.sheets.main.now in let supplementary = d.entry.tables.sheets.supplementary.now in
+        LineRead main supplementary work.old d.entry st unit place result.reads }
 {
-    let mut reads: usize = 1;
-    let at = start_at(unit, place);
-    let answer = resolve(
-        main,
-        supplementary,
-        work,
-        files,
-        warnings,
-        &mut reads,
-        d,
-        at,
-        false,
-        st,
-    );
-    SearchedLine { answer, reads }
+    let mut state = DeclaringState {
+        trail: Trail::start(),
+        ..st
+    };
+    let here = Position {
+        at: start_at(unit, place),
+        reached: false,
+    };
+    let found = resolve(work, files, warnings, d, here, &mut state);
+    SearchedLine {
+        answer: state.answered(found),
+        reads: state.trail.reads,
+    }
 }
 
 // The declaration of such an entry.
 pub fn resolve_declaration_line<'a>(
-    main: &'a [u8],
-    supplementary: &'a [u8],
     work: &mut [u8],
     files: &mut [u8],
     warnings: &mut [u8],
-    d: Places,
+    d: Places<'a>,
     unit: usize,
     place: usize,
     st: DeclaringState,
 ) -> Result<Declared, Refusal>
-    requires declaring_in { DeclaringIn main.now supplementary.now work.old d st }
-    requires count_value { st.count ≡ 0 }
-    requires entry_known { EntryKnown main.now unit place }
-    ensures { Declares (resolve_declaration 64 (dwarf_of main.now supplementary.now)
-        (place_at main.now supplementary.now (start_at unit place)) (indices_in work.old d.indices)) main.now
-        supplementary.now work.old work.new files.old files.new warnings.old
-        warnings.new d st result }
+    requires declaring_in { DeclaringIn d.tables.sheets.main.now d.tables.sheets.supplementary.now work.old d st }
+    requires count_value { st.trail.count ≡ 0 }
+    requires entry_known { EntryKnown d.tables.sheets.main.now unit place }
+    ensures { let main = d.entry.tables.sheets.main.now in let supplementary = d.entry.tables.sheets.supplementary.now in
+        Declares (resolve_declaration 64 (dwarf_of main supplementary) (place_at main supplementary (start_at unit place))
+        (indices_in work.old d.entry.indices)) main supplementary work.old work.new files.old files.new warnings.old
+        warnings.new d.entry st result }
 {
-    resolve_declaration_line_counted(
-        main,
-        supplementary,
-        work,
-        files,
-        warnings,
-        d,
-        unit,
-        place,
-        st,
-    )
-    .answer
+    resolve_declaration_line_counted(work, files, warnings, d, unit, place, st).answer
 }

@@ -1,24 +1,38 @@
 // What a declaration search is given, carries along and answers.
+ghost use Rattle.std.specs.Prelude.{◌≡◌};
+ghost use Rattle.declarations.specs.Declarations.{answered};
+
 use files::index::StoredIndices;
 use files::store::StoredFiles;
 use references::tables::Tables;
+use references::trails::Trail;
+use references::ways::EntryAt;
 use tlv::model::FileIndex;
+use tlv::refusal::Refusal;
 
 // The search's tables, the map of the unit that is imported, and where the spans of a unit's directories and its map are put.
+// Stays bare: it holds the sheets.
 #[derive(Clone, Copy)]
-pub struct Places {
-    pub tables: Tables,
+pub struct Places<'a> {
+    pub tables: Tables<'a>,
     pub indices: StoredIndices,
     pub spans: usize,
     pub room: usize,
 }
 
-// How many targets were followed, the file table, and how many bytes of warnings were written.
-#[derive(Clone, Copy)]
+// How far the search has come, the file table, and how many bytes of warnings were written.
+#[derive(Clone, Copy, Debug)]
 pub struct DeclaringState {
-    pub count: usize,
+    pub trail: Trail,
     pub table: StoredFiles,
     pub warned: usize,
+}
+
+// Where the search stands, and whether the entry's unit was reached by a section offset.
+#[derive(Clone, Copy, Debug)]
+pub struct Position {
+    pub at: EntryAt,
+    pub reached: bool,
 }
 
 // A declaration's file and line.
@@ -29,8 +43,20 @@ pub struct Declaration {
 }
 
 // The declaration that a search found, where there is one, and the state after it.
-#[derive(Clone, Copy)]
+#[derive(Clone, Copy, Debug)]
 pub struct Declared {
     pub state: DeclaringState,
     pub found: Option<Declaration>,
+}
+
+impl DeclaringState {
+    // An answer with this state after it.
+    pub fn answered(self, answer: Result<Option<Declaration>, Refusal>) -> Result<Declared, Refusal>
+        ensures { result ≡ answered self answer }
+    {
+        match answer {
+            Ok(found) => Ok(Declared { state: self, found }),
+            Err(e) => Err(e),
+        }
+    }
 }

@@ -1,30 +1,35 @@
 // The declaration that an entry has of its own.
-ghost use Rattle.std.specs.Prelude.{◌≡◌, ◌+◌, ◌-◌, ◌<◌};
+ghost use Rattle.std.specs.Prelude.{◌≡◌};
 ghost use Rattle.tlv.specs.Lists.{is_none};
 ghost use Rattle.tlv.specs.Checked.{Placed};
 ghost use Rattle.access.specs.Places.{unit_here, UnitOf};
-ghost use Rattle.files.specs.Pieces.{source_in, UnitPlaced};
-ghost use Rattle.files.specs.Store.{table_of};
+ghost use Rattle.files.specs.Pieces.{UnitPlaced};
+ghost use Rattle.files.specs.Sheets.{sheet_in};
 ghost use Rattle.references.specs.Search.{own_declaration};
 ghost use Rattle.references.specs.Tables.{EntryKnown};
 ghost use Rattle.references.specs.Names.{place_at, Stands};
-ghost use Rattle.declarations.specs.Declarations.{reached_files, indices_at, DeclaringIn};
+ghost use Rattle.declarations.specs.Declarations.{answered, indices_at, DeclaringIn};
 ghost use Rattle.declarations.specs.DeclaredSteps.{OwnAt, Numbered, Warns, Owns, UnitKnown};
 
-use crate::declaring::{Declaration, Declared, DeclaringState, Places};
+use crate::declaring::{Declaration, DeclaringState, Places, Position};
 use access::access::next_own;
 use files::index::{FileNumber, get_index};
 use files::lookup::look_up_file;
 use references::attributes::{file_index_attribute, unsigned_attribute};
-use references::ways::{EntryAt, absolute_entry_offset, input_of};
+use references::ways::{EntryAt, absolute_entry_offset};
 use tlv::bytes::Number;
 use tlv::constants::{DW_AT_DECL_FILE, DW_AT_DECL_LINE};
-use tlv::model::{DebugSource, FileIndex};
+use tlv::model::FileIndex;
 use tlv::refusal::Refusal;
 use tlv::tags::{FIELD_HEAD, HEADER_TAG, UNIT_WHOLE};
 
+// The kinds of the warnings of a bad declaration: of a file number that the unit does not have, of a line that is too large.
+const INVALID_FILE: u8 = 10;
+
+const INVALID_LINE: u8 = 11;
+
 // The file number and the line that an entry has.
-#[derive(Clone, Copy)]
+#[derive(Clone, Copy, Debug)]
 pub struct OwnLine {
     pub file: FileNumber,
     pub line: u64,
@@ -52,124 +57,78 @@ pub fn lacks_header(s: &[u8], unit: usize) -> bool
     next_own(s, unit + UNIT_WHOLE, HEADER_TAG).is_none()
 }
 
-// The table's number for one of a unit's that was reached: a unit without a header has none.
-fn reached_number<'a>(
-    main: &'a [u8],
-    supplementary: &'a [u8],
+// The table's number for one of the unit's at a place: by the map of the unit that is imported; of a unit that was reached, by the table,
+// and none where it has no header.
+fn number_of<'a>(
     work: &mut [u8],
-    d: Places,
-    input: DebugSource,
-    unit: usize,
+    d: Places<'a>,
+    here: Position,
     file: FileNumber,
     st: DeclaringState,
 ) -> Option<FileIndex>
-    requires declaring_in { DeclaringIn main.now supplementary.now work.old d st }
-    requires unit_known { UnitKnown (source_in main.now supplementary.now input) unit }
-    ensures { Numbered main.now supplementary.now work.old work.new d st
-        (reached_files (unit_here (source_in main.now supplementary.now input) unit)
-        (unit_here (source_in main.now supplementary.now input) unit).header
-        (table_of main.now supplementary.now work.old st.table)) file result }
+    requires declaring_in { DeclaringIn d.tables.sheets.main.now d.tables.sheets.supplementary.now work.old d st }
+    requires unit_known { UnitKnown (sheet_in d.tables.sheets here.at.input) here.at.unit }
+    ensures { let main = d.entry.tables.sheets.main.now in let supplementary = d.entry.tables.sheets.supplementary.now in
+        Numbered main supplementary work.old work.new d.entry st
+        (indices_at main supplementary work.old d.entry st here.at.input here.at.unit here.reached) file result }
 {
-    let s = input_of(main, supplementary, input);
-    if lacks_header(s, unit) {
+    if !here.reached {
+        return get_index(work, d.indices, file);
+    }
+    let input = here.at.input;
+    let unit = here.at.unit;
+    if lacks_header(d.tables.sheets.of(input), unit) {
         return None;
     }
-    let described = files::spans::file_unit(s, unit, work, d.spans);
-    look_up_file(main, supplementary, input, described, file, work, st.table)
+    let described = files::spans::file_unit(d.tables.sheets, input, unit, work, d.spans);
+    look_up_file(d.tables.sheets, described, file, work, st.table)
 }
 
-// The table's number for one of the unit's at a place.
-fn number_of<'a>(
-    main: &'a [u8],
-    supplementary: &'a [u8],
-    work: &mut [u8],
-    d: Places,
-    input: DebugSource,
-    unit: usize,
-    reached: bool,
-    file: FileNumber,
-    st: DeclaringState,
-) -> Option<FileIndex>
-    requires declaring_in { DeclaringIn main.now supplementary.now work.old d st }
-    requires unit_known { UnitKnown (source_in main.now supplementary.now input) unit }
-    ensures { Numbered main.now supplementary.now work.old work.new d st
-        (indices_at main.now supplementary.now work.old d st input unit reached) file result }
-{
-    if reached {
-        return reached_number(main, supplementary, work, d, input, unit, file, st);
-    }
-    get_index(work, d.indices, file)
-}
-
-// Warns of a bad declaration, with the entry's offset in its section and a number.
+// Warns of a bad declaration, with the entry's offset in its section and a number: it is none.
 fn warn_declaration(
     s: &[u8],
     warnings: &mut [u8],
-    unit: usize,
-    place: usize,
+    at: EntryAt,
     kind: u8,
     number: u64,
-    st: DeclaringState,
-) -> Result<Declared, Refusal>
-    requires listed { UnitOf s.now unit }
+    st: &mut DeclaringState,
+) -> Result<Option<Declaration>, Refusal>
+    requires listed { UnitOf s.now at.unit }
     requires placed { Placed s.now 0 }
-    requires entry_known { EntryKnown s.now unit place }
-    ensures { Warns s.now unit place kind number warnings.old warnings.new st result }
+    requires entry_known { EntryKnown s.now at.unit at.place }
+    ensures warns { Warns s.now at.unit at.place kind number warnings.old warnings.new st.old (answered st.new result) }
+    ensures same_trail { st.new.trail ≡ st.old.trail }
 {
-    let offset = absolute_entry_offset(s, unit, u64::read(s, place + FIELD_HEAD))?;
-    let warned = buffers::output::put_warning(warnings, st.warned, kind, offset, number);
-    Ok(Declared {
-        state: DeclaringState { warned, ..st },
-        found: None,
-    })
+    let offset = absolute_entry_offset(s, at.unit, u64::read(s, at.place + FIELD_HEAD))?;
+    st.warned = buffers::output::put_warning(warnings, st.warned, kind, offset, number);
+    Ok(None)
 }
 
 // The declaration that an entry has itself.
 pub fn own_declaration<'a>(
-    main: &'a [u8],
-    supplementary: &'a [u8],
     work: &mut [u8],
     warnings: &mut [u8],
-    d: Places,
-    at: EntryAt,
-    reached: bool,
-    st: DeclaringState,
-) -> Result<Declared, Refusal>
-    requires declaring_in { DeclaringIn main.now supplementary.now work.old d st }
-    requires stands { Stands main.now supplementary.now at }
-    ensures { Owns (own_declaration (place_at main.now supplementary.now at).unit
-        (place_at main.now supplementary.now at).entry
-        (indices_at main.now supplementary.now work.old d st at.input at.unit reached)) main.now
-        supplementary.now work.old work.new warnings.old warnings.new d st result }
+    d: Places<'a>,
+    here: Position,
+    st: &mut DeclaringState,
+) -> Result<Option<Declaration>, Refusal>
+    requires declaring_in { DeclaringIn d.tables.sheets.main.now d.tables.sheets.supplementary.now work.old d st.old }
+    requires stands { Stands d.tables.sheets.main.now d.tables.sheets.supplementary.now here.at }
+    ensures owns { let main = d.entry.tables.sheets.main.now in let supplementary = d.entry.tables.sheets.supplementary.now in
+        let p = place_at main supplementary here.at in
+        Owns (own_declaration p.unit p.entry (indices_at main supplementary work.old d.entry st.old here.at.input here.at.unit here.reached))
+        main supplementary work.old work.new warnings.old warnings.new d.entry st.old (answered st.new result) }
+    ensures same_trail { st.new.trail ≡ st.old.trail }
 {
-    let input = at.input;
-    let unit = at.unit;
-    let place = at.place;
-    let s = input_of(main, supplementary, input);
-    let Some(own) = declared_at(s, unit, place) else {
-        return Ok(Declared {
-            state: st,
-            found: None,
-        });
+    let s = d.tables.sheets.of(here.at.input);
+    let Some(own) = declared_at(s, here.at.unit, here.at.place) else {
+        return Ok(None);
     };
-    let Some(file) = number_of(
-        main,
-        supplementary,
-        work,
-        d,
-        input,
-        unit,
-        reached,
-        own.file,
-        st,
-    ) else {
-        return warn_declaration(s, warnings, unit, place, 10, own.file.0, st);
+    let Some(file) = number_of(work, d, here, own.file, *st) else {
+        return warn_declaration(s, warnings, here.at, INVALID_FILE, own.file.0, st);
     };
     let Ok(line) = u32::try_from(own.line) else {
-        return warn_declaration(s, warnings, unit, place, 11, own.line, st);
+        return warn_declaration(s, warnings, here.at, INVALID_LINE, own.line, st);
     };
-    Ok(Declared {
-        state: st,
-        found: Some(Declaration { file, line }),
-    })
+    Ok(Some(Declaration { file, line }))
 }

@@ -2,30 +2,26 @@
 use mathlib.Core.Path.{◌≡◌, refl, sym, ◌∙◌}
 use mathlib.Core.Bool.{Bool, true, false, not}
 use mathlib.Core.List.{List}
-use Prim.Native.Nat.{ℕ, ◌+◌, ◌^◌, ◌≤◌, ◌<◌}
+use Prim.Native.Nat.{ℕ, ◌+◌, ◌≤◌}
 use native.Mathlib.Omega.{arith}
 use lib.ListN.{length}
-use borrow.Author.Tests.{le-ltb, lt-ltb}
 use Rattle.tlv.specs.Lists.{is_none, map_option}
 use Rattle.tlv.specs.Bytes.{le_at}
 use Rattle.tlv.specs.Cursor.{step_at}
 use Rattle.tlv.specs.Checked.{Placed}
-use Rattle.std.specs.Prelude.{Some, None, is_some, SomeIff, ok_or}
+use Rattle.std.specs.Prelude.{Some, None, is_some}
 use Rattle.std.specs.declared.option.Option.{Option as Given}
 use Rattle.tlv.specs.declared.fields.FieldSpan.{FieldSpan}
-use Rattle.tlv.specs.declared.refusal.Refusal.{Refusal}
-use Rattle.tlv.specs.Refusals.{as_outcome}
 use Rattle.access.specs.Places.{entry_here, unit_here}
 use Rattle.access.specs.Access.{NextOwn}
-use Rattle.access.proofs.UnitFacts.{unit-header, unit-offset}
+use Rattle.access.proofs.UnitFacts.{unit-header}
 use Rattle.access.proofs.EntryPlaceLaws.{entry-offset_is}
 use Rattle.files.specs.Pieces.{UnitPlaced}
-use Rattle.files.proofs.UnitLaws.{first-none, first_found, unit-within}
-use Rattle.references.specs.Search.{unsigned_attribute, file_index_attribute, absolute_entry_offset, own_declaration}
+use Rattle.files.proofs.UnitLaws.{first-none, first_found}
+use Rattle.references.specs.Search.{unsigned_attribute, file_index_attribute, own_declaration}
 use Rattle.references.specs.Tables.{EntryKnown, number_given}
 use Rattle.references.proofs.NumberLaws.{given-none, given-some}
 use Rattle.references.proofs.ReferenceLaws.{entry-placed, entry-step, entry-inside}
-use Rattle.declarations.specs.declared.own_declarations.OwnLine.{OwnLine}
 use Rattle.declarations.specs.DeclaredSteps.{OwnAt}
 
 -- ---- the file number and the line

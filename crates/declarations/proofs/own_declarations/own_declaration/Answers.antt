@@ -1,46 +1,43 @@
 -- `own_declarations::own_declaration` meets its contract. The number, then a warning or the line.
 use native.Mathlib.Omega.{arith}
-use Rattle.declarations.proofs.OwnDeclarationLaws.{accepted-at, unit-known, unit-here, own-nothing, own-no_file, own-long_line, own-found}
+use Rattle.declarations.proofs.OwnDeclarationLaws.{accepted-at, unit-known, own-nothing, own-no_file, own-long_line, own-found}
 use Rattle.declarations.proofs.own_declarations.own_declaration.Goals as goal
 
 pub declared_at-requires-clause-placed : goal.declared_at-requires-clause-placed
-declared_at-requires-clause-placed c = rw c.input_of-s.ensures.result_value (accepted-at c.requires.declaring_in c.args.at.input)
+declared_at-requires-clause-placed c = rw c.of-s.ensures (accepted-at c.requires.declaring_in c.args.here.at.input)
 
 pub declared_at-requires-clause-entry_known : goal.declared_at-requires-clause-entry_known
-declared_at-requires-clause-entry_known c = rw c.input_of-s.ensures.result_value c.requires.stands.known
-
-pub number_of-requires-clause-declaring_in : goal.number_of-requires-clause-declaring_in
-number_of-requires-clause-declaring_in c = c.requires.declaring_in
+declared_at-requires-clause-entry_known c = rw c.of-s.ensures c.requires.stands.known
 
 pub number_of-requires-clause-unit_known : goal.number_of-requires-clause-unit_known
-number_of-requires-clause-unit_known c = unit-known c.requires.declaring_in c.args.at c.requires.stands
+number_of-requires-clause-unit_known c = unit-known c.requires.declaring_in c.args.here.at c.requires.stands
 
 pub warn_declaration-requires-clause-listed : goal.warn_declaration-requires-clause-listed
-warn_declaration-requires-clause-listed c = rw c.input_of-s.ensures.result_value (unit-known c.requires.declaring_in c.args.at c.requires.stands).listed
+warn_declaration-requires-clause-listed c = rw c.of-s.ensures (unit-known c.requires.declaring_in c.args.here.at c.requires.stands).listed
 
 pub warn_declaration-requires-clause-placed : goal.warn_declaration-requires-clause-placed
-warn_declaration-requires-clause-placed c = rw c.input_of-s.ensures.result_value (accepted-at c.requires.declaring_in c.args.at.input)
+warn_declaration-requires-clause-placed c = rw c.of-s.ensures (accepted-at c.requires.declaring_in c.args.here.at.input)
 
 pub warn_declaration-requires-clause-entry_known : goal.warn_declaration-requires-clause-entry_known
-warn_declaration-requires-clause-entry_known c = rw c.input_of-s.ensures.result_value c.requires.stands.known
+warn_declaration-requires-clause-entry_known c = rw c.of-s.ensures c.requires.stands.known
 
-pub returns-in_default-try_from : goal.returns-in_default-try_from
-returns-in_default-try_from c = own-long_line c.requires.declaring_in c.args.at _ c.input_of-s.ensures.result_value c.declared_at.ensures c.in-Some.is c.number_of.ensures c.number_of.auto.work (omega (arith, c.well_formed)) c.in-Some-number_of.is (omega (arith, c.in_default-try_from.ensures)) c.warn_declaration-in_default-try_from.ensures
+pub returns-in_default-try_from-clause-owns : goal.returns-in_default-try_from-clause-owns
+returns-in_default-try_from-clause-owns c = own-long_line c.requires.declaring_in c.args.here.at _ c.of-s.ensures c.declared_at.ensures c.in-Some.is c.number_of.ensures c.number_of.auto.work (omega (arith, c.well_formed)) c.in-Some-number_of.is (omega (arith, c.in_default-try_from.ensures)) c.warn_declaration-in_default-try_from.ensures.warns
 
-pub returns-in_default : goal.returns-in_default
-returns-in_default c = own-nothing c.requires.declaring_in c.args.at _ c.input_of-s.ensures.result_value c.declared_at.ensures (omega (arith, c.well_formed)) c.in_default.is
+pub returns-in_default-clause-owns : goal.returns-in_default-clause-owns
+returns-in_default-clause-owns c = own-nothing c.requires.declaring_in c.args.here.at _ c.of-s.ensures c.declared_at.ensures (omega (arith, c.well_formed)) c.in_default.is
 
-pub returns-in_default-number_of : goal.returns-in_default-number_of
-returns-in_default-number_of c = own-no_file c.requires.declaring_in c.args.at _ c.input_of-s.ensures.result_value c.declared_at.ensures c.in-Some.is c.number_of.ensures c.number_of.auto.work (omega (arith, c.well_formed)) c.in_default-number_of.is c.warn_declaration.ensures
+pub returns-in_default-number_of-clause-owns : goal.returns-in_default-number_of-clause-owns
+returns-in_default-number_of-clause-owns c = own-no_file c.requires.declaring_in c.args.here.at _ c.of-s.ensures c.declared_at.ensures c.in-Some.is c.number_of.ensures c.number_of.auto.work (omega (arith, c.well_formed)) c.in_default-number_of.is c.warn_declaration.ensures.warns
 
-pub returns : goal.returns
-returns c = own-found c.requires.declaring_in c.args.at _ c.input_of-s.ensures.result_value c.declared_at.ensures c.in-Some.is c.number_of.ensures c.number_of.auto.work (omega (arith, c.well_formed)) c.in-Some-number_of.is c.in-Ok.ensures
+pub returns-clause-owns : goal.returns-clause-owns
+returns-clause-owns c = own-found c.requires.declaring_in c.args.here.at _ c.of-s.ensures c.declared_at.ensures c.in-Some.is c.number_of.ensures c.number_of.auto.work (omega (arith, c.well_formed)) c.in-Some-number_of.is c.in-Ok.ensures
 
 pub warn_declaration-requires-in_default-try_from-clause-listed : goal.warn_declaration-requires-in_default-try_from-clause-listed
-warn_declaration-requires-in_default-try_from-clause-listed c = rw c.input_of-s.ensures.result_value (unit-known c.requires.declaring_in c.args.at c.requires.stands).listed
+warn_declaration-requires-in_default-try_from-clause-listed c = rw c.of-s.ensures (unit-known c.requires.declaring_in c.args.here.at c.requires.stands).listed
 
 pub warn_declaration-requires-in_default-try_from-clause-placed : goal.warn_declaration-requires-in_default-try_from-clause-placed
-warn_declaration-requires-in_default-try_from-clause-placed c = rw c.input_of-s.ensures.result_value (accepted-at c.requires.declaring_in c.args.at.input)
+warn_declaration-requires-in_default-try_from-clause-placed c = rw c.of-s.ensures (accepted-at c.requires.declaring_in c.args.here.at.input)
 
 pub warn_declaration-requires-in_default-try_from-clause-entry_known : goal.warn_declaration-requires-in_default-try_from-clause-entry_known
-warn_declaration-requires-in_default-try_from-clause-entry_known c = rw c.input_of-s.ensures.result_value c.requires.stands.known
+warn_declaration-requires-in_default-try_from-clause-entry_known c = rw c.of-s.ensures c.requires.stands.known

@@ -1,5 +1,5 @@
 -- The files of a unit that is reached by a section offset join the table.
-use mathlib.Core.Path.{◌≡◌, refl, sym, ap, ◌∙◌}
+use mathlib.Core.Path.{◌≡◌, refl, sym, ap, subst, ◌∙◌}
 use mathlib.Core.Bool.{Bool, true, false, true≢false, false≢true}
 use mathlib.Core.Logic.{inl, inr, ⊎_elim}
 use mathlib.Core.List.{List, ◌∷◌}
@@ -19,7 +19,6 @@ use Rattle.access.specs.Places.{unit_here, unit_places, UnitOf}
 use Rattle.access.proofs.UnitPlaceLaws.{units-at}
 use Rattle.lines.specs.Files.{FileTable, Indexed, intern_header_files}
 use Rattle.files.specs.declared.spans.FileUnit.{FileUnit}
-use Rattle.files.specs.declared.store.StoredFiles.{StoredFiles}
 use Rattle.std.specs.Prelude.{Result, Ok, Err}
 use Rattle.tlv.specs.declared.refusal.Refusal.{Refusal}
 use Rattle.tlv.specs.Refusals.{number_of}
@@ -82,44 +81,47 @@ files-reached u (some h) t r e is =
     (sym is ∙ ap (λ (i : List _). done (record { table = r.table; indices = i })) R.0, R.1)
 
 module _ {main supplementary w : List ℕ} {d : Places} {st : DeclaringState} (D : DeclaringIn main supplementary w d st)
-    {s : List ℕ} (input : DebugSource) {q : ℕ} (is : s ≡ source_in main supplementary input) (U : UnitKnown (source_in main supplementary input) q)
-    {lacks : Bool} (e : lacks ≡ is_none (unit_here s q).header) where
+    (input : DebugSource) {q : ℕ} (U : UnitKnown (source_in main supplementary input) q)
+    {lacks : Bool} (e : lacks ≡ is_none (unit_here (source_in main supplementary input) q).header) where
   pub joins-none : {files : List ℕ} → length files < top → lacks ≡ true → Joins main supplementary w w files files d st.table (unit_here (source_in main supplementary input) q) (Ok st.table)
   joins-none few so =
       let u = unit_here (source_in main supplementary input) q in
-      let n = no-files u u.header (table_of main supplementary w st.table) (rw is at (sym e ∙ so)) in
+      let n = no-files u u.header (table_of main supplementary w st.table) (sym e ∙ so) in
       record { is = record { is = n.0; reached = n.1; grown = grown-none D.files few }; rest = but_refl _ _ }
 
-  module _ {w₁ : List ℕ} {u : FileUnit} (not_so : lacks ≡ false) (B : Described s w w₁ q d.spans u) (size : length w₁ ≡ length w) where
+  module _ {w₁ : List ℕ} {u : FileUnit} (not_so : lacks ≡ false) (B : Described (source_in main supplementary input) w w₁ input q d.spans u) (size : length w₁ ≡ length w) where
     there : is_none (unit_here (source_in main supplementary input) q).header ≡ false
-    there = rw is at (sym e ∙ not_so)
+    there = sym e ∙ not_so
 
-    pub join-listed : Listed main supplementary (unit_here (source_in main supplementary input) u.place) (header_here (source_in main supplementary input) u.place)
-    join-listed = rw B.place (listed_at main supplementary input q U.listed there)
+    pub join-listed : Listed main supplementary (unit_here (source_in main supplementary u.source) u.place) (header_here (source_in main supplementary u.source) u.place)
+    join-listed = rw (B.source-is, B.place) (listed_at main supplementary input q U.listed there)
 
-    pub join-room : MapRoom (source_in main supplementary input) w₁ st.table u (d.spans + u.directory_count * 8)
+    pub join-room : MapRoom (source_in main supplementary u.source) w₁ st.table u (d.spans + u.directory_count * 8)
     join-room =
-        let r = described-room D input is U e not_so B size in
+        let r = described-room D input U e not_so B size in
         let a = D.table in
         let b = D.indices in
         let i = spans-inside D in
         let z = B.directories in
         let m : d.spans + u.directory_count * 8 + 5 * (1 + length (unit_here (source_in main supplementary input) q).files) ≤ length w = omega arith in
-        record { table = omega arith; directories = omega arith; map = rw (B.place, size) m }
+        record { table = omega arith; directories = omega arith; map = rw (B.source-is, B.place, size) m }
 
     module _ {w₂ files files₂ : List ℕ} {r : Result InternedFiles Refusal}
-        (I : InternsHeader main supplementary w₁ w₂ files files₂ st.table (source_in main supplementary input) u (d.spans + u.directory_count * 8) r) where
+        (I : InternsHeader main supplementary w₁ w₂ files files₂ st.table (source_in main supplementary u.source) u (d.spans + u.directory_count * 8) r) where
+      here : InternsHeader main supplementary w₁ w₂ files files₂ st.table (source_in main supplementary input) u (d.spans + u.directory_count * 8) r
+      here = subst (λ (i : DebugSource). InternsHeader main supplementary w₁ w₂ files files₂ st.table (source_in main supplementary i) u (d.spans + u.directory_count * 8) r) B.source-is I
+
       interned : indexed_of main supplementary w₂ (d.spans + u.directory_count * 8) r
           ≡ intern_header_files (unit_here (source_in main supplementary input) q) (or_header (unit_here (source_in main supplementary input) q).header) (table_of main supplementary w st.table)
       unfolding header_here
-      interned = rw (B.place, described-table D input is U e not_so B size) at I.is
+      interned = rw (B.place, described-table D input U e not_so B size) at here.is
 
       join-rest : KeptBut w w₂ (lower d st.table)
       join-rest =
-          let m = described-room D input is U e not_so B size in
+          let m = described-room D input U e not_so B size in
           let k : length (unit_here (source_in main supplementary input) u.place).files ≡ length (unit_here (source_in main supplementary input) q).files = rw B.place in
-          but_trans (described-rest D input is U e not_so B size)
-          (record { same = λ p n c. I.rest.same p n (c.0, (⊎_elim (λ l. inl (omega arith)) (λ l. inr (omega arith)) c.1.0, tt)) })
+          but_trans (described-rest D input U e not_so B size)
+          (record { same = λ p n c. here.rest.same p n (c.0, (⊎_elim (λ l. inl (omega arith)) (λ l. inr (omega arith)) c.1.0, tt)) })
 
       pub joins-refused : (n : Refusal) → r ≡ Err n → Joins main supplementary w w₂ files files₂ d st.table (unit_here (source_in main supplementary input) q) (Err n)
       joins-refused n to =
@@ -130,8 +132,8 @@ module _ {main supplementary w : List ℕ} {d : Places} {st : DeclaringState} (D
       joins-table j to =
           let v = unit_here (source_in main supplementary input) q in
           let f = files-reached v v.header (table_of main supplementary w st.table) _ there (rw to at interned) in
-          let g = rw to at I.after in
+          let g = rw to at here.after in
           record {
-            is = record { is = f.0; reached = f.1; grown = grown-after D.files (but_one B.rest) (described-clear D input is U e not_so B size) g.0 };
+            is = record { is = f.0; reached = f.1; grown = grown-after D.files (but_one B.rest) (described-clear D input U e not_so B size) g.0 };
             rest = join-rest;
           }

@@ -1,2 +1,0 @@
-mod AimLaws
-mod JoinLaws

@@ -1,0 +1,43 @@
+// The files of a unit that a declaration search reaches.
+ghost use Rattle.access.specs.Places.{unit_here};
+ghost use Rattle.files.specs.Sheets.{sheet_in};
+ghost use Rattle.declarations.specs.Declarations.{DeclaringIn};
+ghost use Rattle.declarations.specs.DeclaredSteps.{UnitKnown, Joins};
+
+use crate::declaring::{DeclaringState, Places};
+use crate::own_declarations::lacks_header;
+use files::spans::SPAN_RECORD;
+use files::store::StoredFiles;
+use tlv::model::DebugSource;
+use tlv::refusal::Refusal;
+
+// The files of a unit that is reached by a section offset join the table, which is handed back.
+pub fn join_files<'a>(
+    work: &mut [u8],
+    files: &mut [u8],
+    d: Places<'a>,
+    input: DebugSource,
+    unit: usize,
+    st: DeclaringState,
+) -> Result<StoredFiles, Refusal>
+    requires declaring_in { DeclaringIn d.tables.sheets.main.now d.tables.sheets.supplementary.now work.old d st }
+    requires unit_known { UnitKnown (sheet_in d.tables.sheets input) unit }
+    ensures { let main = d.entry.tables.sheets.main.now in let supplementary = d.entry.tables.sheets.supplementary.now in
+        Joins main supplementary work.old work.new files.old files.new d.entry st.table
+        (unit_here (sheet_in d.entry.tables.sheets input) unit) result }
+{
+    if lacks_header(d.tables.sheets.of(input), unit) {
+        return Ok(st.table);
+    }
+    let described = files::spans::file_unit(d.tables.sheets, input, unit, work, d.spans);
+    let base = d.spans + described.directory_count * SPAN_RECORD;
+    let joined = files::header::intern_header_files(
+        d.tables.sheets,
+        described,
+        work,
+        files,
+        st.table,
+        base,
+    )?;
+    Ok(joined.table)
+}
