@@ -28,6 +28,9 @@ use Rattle.tlv.specs.Refusals.{number_of}
 use Rattle.access.specs.Places.{own_fields}
 use Rattle.access.specs.Access.{NextOwn}
 use Rattle.access.proofs.OwnLaws.{own-field, own-within}
+use Rattle.rnglists.specs.declared.lists.ListField.{ListField}
+use Rattle.rnglists.specs.Sizes.{width_of}
+use Rattle.rnglists.specs.Steps.{FieldIs}
 use Rattle.rnglists.specs.RangeLists.{ListRanges, list_ranges, failure_by}
 use Rattle.imports.specs.Ranges.{coalesce_ranges}
 use Rattle.imports.specs.Tree.{fit}
@@ -43,37 +46,33 @@ fault-none : (n : ℕ) → n ≡ 0 → is_none (failure_by n) ≡ true
 fault-none n h = rw (eq-eqb n 0 h)
 
 -- the list by the numbers of its field
-list_same : (s lists addresses : List ℕ) (start : ℕ) {place size offset base : ℕ} → offset ≡ le_at 8 s start → base ≡ le_at 8 s (start + 8)
-    → place ≡ le_at 8 s (start + 16) → size ≡ le_at 1 s (start + 24) → list_at lists addresses place size offset base ≡ list_of s lists addresses start
-list_same s lists addresses start eo eb ep es = λ i. list_at lists addresses (ep i) (es i) (eo i) (eb i)
+list_same : (lists addresses : List ℕ) {s : List ℕ} {start : ℕ} {f : ListField} → FieldIs s start f
+    → list_at lists addresses f.addresses (width_of f.size) f.offset f.base ≡ list_of s lists addresses start
+list_same lists addresses F = λ i. list_at lists addresses (F.addresses i) (F.size i) (F.offset i) (F.base i)
 
 module _ {lists addresses w w₁ : List ℕ} {place size offset base q m to : ℕ} where
   module _ {n : ℕ} (G : GatheredList lists addresses place size offset base w w₁ q m to (Ok n)) where
-    pub list-few : n ≤ length lists / 3
-    list-few = G.is.2
-
     pub list-nonempty : All Nonempty (ranges_at w₁ to n)
     list-nonempty = rw G.is.1 (fit-nonempty (ranges_at w q m) (list_given (list_at lists addresses place size offset base)))
 
-  module _ (s : List ℕ) (start : ℕ) (eo : offset ≡ le_at 8 s start) (eb : base ≡ le_at 8 s (start + 8)) (ep : place ≡ le_at 8 s (start + 16))
-      (es : size ≡ le_at 1 s (start + 24)) where
-    pub list-refused : {e : Refusal} → GatheredList lists addresses place size offset base w w₁ q m to (Err e) → MergesList (list_of s lists addresses start) lists w w₁ q m to (Err e)
-    list-refused {e} G =
-        let z : (list_of s lists addresses start).fault ≡ number_of e = ap (λ (l : ListRanges). l.fault) (sym (list_same s lists addresses start eo eb ep es)) ∙ G.is.0 in
-        record { is = (ap (λ (n : ℕ). is_none (failure_by n)) z ∙ fault-some (number_of e) G.is.1, z, omega (arith, G.is.1)); few = tt; rest = G.rest }
+module _ {lists addresses w w₁ : List ℕ} {q m to : ℕ} {s : List ℕ} {start : ℕ} {f : ListField} (F : FieldIs s start f) where
+  pub list-refused : {e : Refusal} → GatheredList lists addresses f.addresses (width_of f.size) f.offset f.base w w₁ q m to (Err e) → MergesList (list_of s lists addresses start) lists w w₁ q m to (Err e)
+  list-refused {e} G =
+      let z : (list_of s lists addresses start).fault ≡ number_of e = ap (λ (l : ListRanges). l.fault) (sym (list_same lists addresses F)) ∙ G.is.0 in
+      record { is = (ap (λ (n : ℕ). is_none (failure_by n)) z ∙ fault-some (number_of e) G.is.1, z, omega (arith, G.is.1)); few = tt; rest = G.rest }
 
-    pub list-merged : {n : ℕ} → GatheredList lists addresses place size offset base w w₁ q m to (Ok n) → {w₂ : List ℕ} {k : ℕ} → MergedAt w₁ w₂ to n k
-        → MergesList (list_of s lists addresses start) lists w w₂ q m to (Ok k)
-    list-merged G M =
-        let z : (list_of s lists addresses start).fault ≡ 0 = ap (λ (l : ListRanges). l.fault) (sym (list_same s lists addresses start eo eb ep es)) ∙ G.is.0 in
-        record {
-          is = (
-            fault-none (list_of s lists addresses start).fault z,
-            M.ranges ∙ ap coalesce_ranges G.is.1 ∙ ap (λ (l : ListRanges). coalesce_ranges (fit (ranges_at w q m) (list_given l))) (list_same s lists addresses start eo eb ep es),
-          );
-          few = omega (arith, M.few, G.is.2);
-          rest = kept_trans G.rest (kept-wide to (16 * (length lists / 3)) M.rest (omega arith) (omega (arith, G.is.2, M.few)));
-        }
+  pub list-merged : {n : ℕ} → GatheredList lists addresses f.addresses (width_of f.size) f.offset f.base w w₁ q m to (Ok n) → {w₂ : List ℕ} {k : ℕ} → MergedAt w₁ w₂ to n k
+      → MergesList (list_of s lists addresses start) lists w w₂ q m to (Ok k)
+  list-merged G M =
+      let z : (list_of s lists addresses start).fault ≡ 0 = ap (λ (l : ListRanges). l.fault) (sym (list_same lists addresses F)) ∙ G.is.0 in
+      record {
+        is = (
+          fault-none (list_of s lists addresses start).fault z,
+          M.ranges ∙ ap coalesce_ranges G.is.1 ∙ ap (λ (l : ListRanges). coalesce_ranges (fit (ranges_at w q m) (list_given l))) (list_same lists addresses F),
+        );
+        few = omega (arith, M.few, G.is.2);
+        rest = kept_trans G.rest (kept-wide to (16 * (length lists / 3)) M.rest (omega arith) (omega (arith, G.is.2, M.few)));
+      }
 
 -- ---- fields 19 and 1a
 

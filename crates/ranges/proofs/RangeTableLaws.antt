@@ -1,6 +1,6 @@
 -- Ranges in the work slice, and the loops over them: whether one lies inside some, one more in place.
 use mathlib.Core.Path.{◌≡◌, refl, sym, ap, ◌∙◌}
-use mathlib.Core.Logic.{◌⊎◌, inl, inr}
+use mathlib.Core.Logic.{inl, inr}
 use mathlib.Core.List.{List, [], ◌∷◌, ◌++◌, append_assoc, append-nil}
 use mathlib.Core.Bool.{Bool, true, false, cond, ◌&&◌, ◌||◌}
 use Prim.Native.Nat.{ℕ, ◌+◌, ◌-◌, ◌*◌, ◌≤◌, ◌<◌, min, max}
@@ -8,7 +8,7 @@ use native.Mathlib.Nat.{add-zero}
 use native.Mathlib.Omega.{arith}
 use lib.Dec.{leb}
 use lib.ListN.{length, drop}
-use borrow.Author.Tests.{lt-ltb, le-ltb, le-leb, lt-leb}
+use borrow.Author.Tests.{lt-ltb, le-ltb}
 use Rattle.tlv.specs.declared.model.AddressRange.{AddressRange}
 use Rattle.tlv.specs.Addresses.{Nonempty}
 use Rattle.tlv.specs.Bytes.{le_at}
@@ -38,9 +38,6 @@ range-put {w} {w₁} {w₂} {p} {r} A B = record {
   value = range-of w₂ p ∙ (λ i. record { start = (le_at-kept 8 p B.rest (inl (omega arith)) ∙ A.value) i; end = B.value i });
   rest = kept_trans (kept-wide p 16 A.rest (omega arith) (omega arith)) (kept-wide p 16 B.rest (omega arith) (omega arith));
 }
-
-pub hull-made : {a b : ℕ} (x y : AddressRange) → a ≡ min x.start y.start → b ≡ max x.end y.end → record { start = a; end = b } ≡ hull x y
-hull-made x y ea eb = rw (ea, eb)
 
 -- ---- the ranges of a table
 

@@ -11,7 +11,7 @@ pub range_at-requires : goal.range_at-requires
 range_at-requires c = gathering-within c.loop-field.invariant c.in-Some.ensures
 
 pub put_fitting-n-requires : goal.put_fitting-n-requires
-put_fitting-n-requires c = (omega arith, gathering_room c.loop-field.invariant c.in-Some.ensures (omega arith))
+put_fitting-n-requires c = gathering_room c.loop-field.invariant c.in-Some.ensures (omega arith)
 
 pub loop-field-smaller : goal.loop-field-smaller
 loop-field-smaller c = own-less _ _ _ _ c.in-Some.ensures

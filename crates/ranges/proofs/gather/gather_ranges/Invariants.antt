@@ -5,7 +5,7 @@ use Rattle.ranges.proofs.GatherLaws.{Gathering}
 use Rattle.ranges.proofs.gather.gather_ranges.Given as goal
 
 abbrev pub invariant-loop-field : goal.invariant-loop-field
-invariant-loop-field l = Gathering l.s l.at l.initial.work l.work l.q l.m l.to l.p l.n
+invariant-loop-field l = Gathering l.s l.at l.initial.work l.work l.nest.parent.base l.nest.parent.count l.nest.to l.p l.n
 
 abbrev pub decreases-loop-field : goal.decreases-loop-field
 decreases-loop-field l = length l.s - l.p
