@@ -6,12 +6,14 @@ use Prim.Native.Nat.{ℕ, ◌-◌, ◌≤◌}
 use native.Mathlib.Omega.{arith}
 use lib.ListN.{take, drop, replicate}
 use borrow.Author.Tests.{not-true, not-false}
-use Rattle.std.specs.Prelude.{Option, Some, None, Result, Ok, Err, IfOk}
+use Rattle.std.specs.Prelude.{Option, Some, None, Result, Ok, Err, IfOk, IsErrAnd, ok_or}
+use Rattle.std.proofs.lemmas.Result.{err_from_is_err_and}
 use Rattle.tlv.specs.declared.refusal.Refusal.{Refusal}
 use Rattle.tlv.specs.Outcome.{done, ◌>>=◌}
 use Rattle.tlv.specs.Lists.{first}
 use Rattle.tlv.specs.Fields.{fields}
 use Rattle.buffers.specs.Reader.{records_form}
+use Rattle.tlv.proofs.AnswerLaws.{err-none}
 use Rattle.lookup.specs.declared.model.Chain.{Chain}
 use Rattle.lookup.specs.declared.model.LookedUp.{LookedUp}
 use Rattle.lookup.specs.declared.address.FunctionPlace.{FunctionPlace}
@@ -23,8 +25,15 @@ use Rattle.lookup.specs.Answers.{frames_given, LooksUp}
 use Rattle.lookup.proofs.DemandLaws.{explaining}
 use Rattle.lookup.proofs.OwnLaws.{stands-own}
 
-pub stands-start : (s : List ℕ) (b : Bool) → b ≡ records_form 0 0 (fields s) → not b ≡ false → Stands s 0
-stands-start s b e h = record { previous = 0; depth = 0; formed = sym e ∙ not-false b h; within = omega arith }
+-- ---- what `?` gives where `ok_or` had nothing
+
+pub none-refused : {A T : Type 0} (r : Option A) (x : Result T Refusal) {e e' : Refusal} → Err e' ≡ ok_or r e → IsErrAnd x (λ y. y ≡ e') → (x ≡ Err e) × (r ≡ None)
+none-refused r x h q =
+    let n = err-none r h in
+    let p = err_from_is_err_and x q in
+    (rw (p.1, p.2, n.1), n.0)
+
+-- ---- the parts of a look-up
 
 -- the definition's answer, with the chain's places in bounds: demand 3 is then a theorem
 pub looks_up : (s : List ℕ) (a : ℕ) (r : Result LookedUp Refusal) → frames_given r ≡ look_up s a → IfOk r (λ x. x.chain.nodes ≤ 257)

@@ -2,12 +2,12 @@
 use mathlib.Core.Path.{◌≡◌, refl}
 use mathlib.Core.Bool.{true, ◌&&◌, not}
 use mathlib.Core.List.{List, [], ◌∷◌}
-use Prim.Native.Nat.{ℕ, ◌+◌, ◌-◌, ◌≤◌, ◌<◌}
+use Prim.Native.Nat.{ℕ, ◌≤◌, ◌<◌}
 use native.Mathlib.Omega.{arith}
 use lib.Dec.{leb, eqb}
 use lib.ListN.{length, take, drop}
 use borrow.Author.Tests.{leb-true, ltb-true, eq-eqb, ne_eqb}
-use Rattle.std.specs.Prelude.{Option, Some, None}
+use Rattle.std.specs.Prelude.{Some, None}
 use Rattle.tlv.specs.declared.fields.FieldSpan.{FieldSpan}
 use Rattle.tlv.specs.Lists.{exists, take_while}
 use Rattle.tlv.specs.Bytes.{le_at}
@@ -16,23 +16,11 @@ use Rattle.tlv.specs.Cursor.{field_from}
 use Rattle.tlv.specs.Checked.{field_in}
 use Rattle.tlv.specs.Model.{range_of}
 use Rattle.tlv.proofs.TestLaws.{and_left, and_right}
-use Rattle.tlv.proofs.FieldLaws.{fields-field, field-within, payload-within, payload-length, next-within, next-less, at-none}
+use Rattle.tlv.proofs.FieldLaws.{fields-field, field-within, payload-length, next-within, at-none}
 use Rattle.buffers.specs.Reader.{records_after, range_formed, records_formed, depth_after, records_form}
 use Rattle.access.specs.Places.{behind}
 use Rattle.lookup.specs.Tray.{FieldAt, GroupAt, has_tag, fields_at, groups_at}
 use Rattle.lookup.specs.Walk.{Stands, own_at}
-
--- ---- what a call of next_field gave: the check finds these alone, by the attribute in src/lib.rt
-
-module _ (s : List ℕ) (p : ℕ) (r : Option FieldSpan) (f : FieldSpan) (at : r ≡ field_from s p) (is : r ≡ Some f) where
-  given : Some f ≡ field_from s p
-  given = rw is at at
-
-  pub goes_on : length s - f.next < length s - p
-  goes_on = next-less s p f given
-
-  pub lies_within : f.start + f.len ≤ length s
-  lies_within = payload-within s p f given
 
 -- ---- a step at a place
 

@@ -1,27 +1,16 @@
 // What is running at an address.
-ghost use Rattle.std.specs.Prelude.{◌≡◌, ◌≤◌, length};
-ghost use Rattle.tlv.specs.Model.{range_of};
-ghost use Rattle.lookup.specs.Lookup.{holds};
+ghost use Rattle.std.specs.Prelude.{◌≡◌};
 ghost use Rattle.lookup.specs.Walk.{Stands, StandsOwn, FunctionFound, row_from, held_from, ChainAt};
 ghost use Rattle.access.specs.Access.{place_of};
 ghost use Rattle.lookup.specs.Answers.{LooksUp};
 
 use crate::form::{check_records, payload_of};
 use crate::model::{CHAIN_MOST, Chain, LookedUp};
-use crate::window::range_of;
+use crate::ranges::{holds, range_of};
 use tlv::bytes::Number;
 use tlv::fields::next_field;
 use tlv::refusal::Refusal;
 use tlv::tags::{TRAY_FUNCTION_TAG, TRAY_NODE_TAG, TRAY_RANGE_TAG, TRAY_ROW_TAG};
-
-// Whether the range that a payload begins with holds the address.
-fn holds_at(payload: &[u8], address: u64) -> bool
-    requires { 16 ≤ length payload.now }
-    ensures { result ≡ holds address (range_of payload.now) }
-{
-    let r = range_of(payload);
-    r.start <= address && address < r.end
-}
 
 // A function: the place of its field, and the place behind it, where its own fields begin.
 #[derive(Clone, Copy, Debug)]
@@ -38,7 +27,7 @@ pub fn function_at(s: &[u8], address: u64) -> Option<FunctionPlace>
     let mut p = 0;
     // Stays a loop: each field's own length moves the place, so nothing is counted.
     while let Some(field) = next_field(s, p) {
-        if field.tag == TRAY_FUNCTION_TAG && holds_at(payload_of(s, field), address) {
+        if field.tag == TRAY_FUNCTION_TAG && holds(range_of(payload_of(s, field)), address) {
             return Some(FunctionPlace {
                 place: p,
                 own: field.next,
@@ -80,7 +69,7 @@ fn node_holds(s: &[u8], own: usize, address: u64) -> bool
         if field.tag == TRAY_FUNCTION_TAG || field.tag == TRAY_NODE_TAG {
             return false;
         }
-        if field.tag == TRAY_RANGE_TAG && holds_at(payload_of(s, field), address) {
+        if field.tag == TRAY_RANGE_TAG && holds(range_of(payload_of(s, field)), address) {
             return true;
         }
         p = field.next;
@@ -123,9 +112,7 @@ pub fn look_up(s: &[u8], address: u64) -> Result<LookedUp, Refusal>
     if !check_records(s) {
         return Err(Refusal::MisshapenRecords);
     }
-    let Some(found) = function_at(s, address) else {
-        return Err(Refusal::NoFunction);
-    };
+    let found = function_at(s, address).ok_or(Refusal::NoFunction)?;
     Ok(LookedUp {
         function: found.place,
         row: row_in_force(s, found.own, address),

@@ -5,7 +5,7 @@ ghost use Rattle.lookup.specs.Lookup.{nearest_below};
 ghost use Rattle.lookup.specs.Walk.{Stands, NearestFound};
 
 use crate::form::{check_records, payload_of};
-use crate::window::range_of;
+use crate::ranges::range_of;
 use tlv::fields::next_field;
 use tlv::refusal::Refusal;
 use tlv::tags::TRAY_FUNCTION_TAG;

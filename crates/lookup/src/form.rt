@@ -1,13 +1,17 @@
 // The form of a records tray (19): document 01's fields in their order.
-ghost use Rattle.std.specs.Prelude.{◌≡◌, true, ◌+◌, ◌≤◌, eqb, length, take, drop};
+ghost use Rattle.std.specs.Prelude.{◌≡◌, true, ◌+◌, ◌≤◌, eqb, ltb, length, take, drop};
 ghost use Rattle.tlv.specs.Tags.{tray_function_tag, tray_node_tag, tray_range_tag};
 ghost use Rattle.tlv.specs.Lists.{exists};
 ghost use Rattle.tlv.specs.Fields.{fields};
-ghost use Rattle.buffers.specs.Reader.{records_after, range_formed, records_formed, depth_after, records_form};
+ghost use Rattle.buffers.specs.Reader.{records_after, records_formed, depth_after, records_form};
+ghost use Rattle.lookup.specs.Tray.{up_to_next};
+ghost use Rattle.lookup.specs.Walk.{FieldsFormed};
 
 use crate::model::{DEEPEST, FUNCTION_SIZE, NODE_SIZE, RANGE_SIZE, ROW_SIZE, SITE_SIZE};
+use crate::ranges::range_of;
 use tlv::bytes::Number;
 use tlv::fields::{FieldSpan, next_field};
+use tlv::model::AddressRange;
 use tlv::tags::{TRAY_FUNCTION_TAG, TRAY_NODE_TAG, TRAY_RANGE_TAG, TRAY_ROW_TAG, TRAY_SITE_TAG};
 
 // The payload of a field of a tray.
@@ -25,37 +29,35 @@ pub fn may_follow(previous: u8, tag: u8) -> bool
 {
     match previous {
         TRAY_FUNCTION_TAG | TRAY_ROW_TAG => {
-            (tag == TRAY_FUNCTION_TAG)
-                | (tag == TRAY_ROW_TAG)
-                | (tag == TRAY_NODE_TAG)
-                | (tag == TRAY_SITE_TAG)
+            matches!(
+                tag,
+                TRAY_FUNCTION_TAG | TRAY_ROW_TAG | TRAY_NODE_TAG | TRAY_SITE_TAG
+            )
         }
         TRAY_NODE_TAG => tag == TRAY_RANGE_TAG,
         TRAY_RANGE_TAG => {
-            (tag == TRAY_FUNCTION_TAG)
-                | (tag == TRAY_NODE_TAG)
-                | (tag == TRAY_RANGE_TAG)
-                | (tag == TRAY_SITE_TAG)
+            matches!(
+                tag,
+                TRAY_FUNCTION_TAG | TRAY_NODE_TAG | TRAY_RANGE_TAG | TRAY_SITE_TAG
+            )
         }
-        TRAY_SITE_TAG => (tag == TRAY_FUNCTION_TAG) | (tag == TRAY_SITE_TAG),
+        TRAY_SITE_TAG => matches!(tag, TRAY_FUNCTION_TAG | TRAY_SITE_TAG),
         _ => tag == TRAY_FUNCTION_TAG,
     }
 }
 
-// Whether a payload that has a range begins with one whose start is below its end.
-#[tactic(auto, unfolding(buffers::specs::Reader::range_formed))]
-fn range_formed(payload: &[u8]) -> bool
-    requires { 16 ≤ length payload.now }
-    ensures { result ≡ range_formed payload.now }
+// Whether the start of a range is below its end.
+fn is_filled(range: AddressRange) -> bool
+    ensures { result ≡ ltb range.start range.end }
 {
-    u64::read(payload, 0) < u64::read(payload, 8)
+    range.start < range.end
 }
 
-#[tactic(auto, unfolding(buffers::specs::Reader::records_formed))]
+#[tactic(auto, unfolding(buffers::specs::Reader::records_formed, buffers::specs::Reader::range_formed, tlv::specs::Model::range_of))]
 pub fn function_formed(payload: &[u8]) -> bool
     ensures { result ≡ records_formed 0 tray_function_tag payload.now }
 {
-    FUNCTION_SIZE <= payload.len() && range_formed(payload)
+    FUNCTION_SIZE <= payload.len() && is_filled(range_of(payload))
 }
 
 #[tactic(auto, unfolding(buffers::specs::Reader::records_formed))]
@@ -69,11 +71,11 @@ fn node_formed(depth: u64, payload: &[u8]) -> bool
     d <= depth && d <= DEEPEST && (1 <= d || depth == 0)
 }
 
-#[tactic(auto, unfolding(buffers::specs::Reader::records_formed))]
+#[tactic(auto, unfolding(buffers::specs::Reader::records_formed, buffers::specs::Reader::range_formed, tlv::specs::Model::range_of))]
 fn range_field_formed(payload: &[u8]) -> bool
     ensures { result ≡ records_formed 0 tray_range_tag payload.now }
 {
-    payload.len() == RANGE_SIZE && range_formed(payload)
+    payload.len() == RANGE_SIZE && is_filled(range_of(payload))
 }
 
 // Whether the payload of a field is formed, where the next node may be `depth` deep.
@@ -106,18 +108,22 @@ pub fn depth_after(depth: u64, tag: u8, payload: &[u8]) -> u64
     }
 }
 
-// Whether a tray is in document 01's form.
-pub fn check_records(s: &[u8]) -> bool
-    ensures { result ≡ records_form 0 0 (fields s.now) }
+// Whether the fields from a place on, after one of the tag `after`, are in document 01's form up to the first that ends them.
+fn fields_formed<F: Fn(u8) -> bool>(s: &[u8], from: usize, after: u8, ends: F) -> bool
+    requires { F.IsAlwaysCallable ends }
+    ensures { FieldsFormed (F.post ends) s.now from after result }
 {
-    let mut p: usize = 0;
-    let mut previous: u8 = 0;
+    let mut p = from;
+    let mut previous = after;
     let mut depth: u64 = 0;
     // Stays a loop: each field's own length moves the place, so nothing is counted.
     while p < s.len() {
         let Some(field) = next_field(s, p) else {
             return false;
         };
+        if ends(field.tag) {
+            break;
+        }
         let payload = payload_of(s, field);
         if !may_follow(previous, field.tag) || !payload_formed(depth, field.tag, payload) {
             return false;
@@ -127,4 +133,18 @@ pub fn check_records(s: &[u8]) -> bool
         p = field.next;
     }
     previous != TRAY_NODE_TAG
+}
+
+// Whether a tray is in document 01's form.
+pub fn check_records(s: &[u8]) -> bool
+    ensures { result ≡ records_form 0 0 (fields s.now) }
+{
+    fields_formed(s, 0, 0, |_| false)
+}
+
+// Whether the fields from a function's own to the next function are in document 01's form.
+pub fn own_formed(s: &[u8], own: usize) -> bool
+    ensures { result ≡ records_form tray_function_tag 0 (up_to_next (fields (drop own s.now))) }
+{
+    fields_formed(s, own, TRAY_FUNCTION_TAG, |tag| tag == TRAY_FUNCTION_TAG)
 }

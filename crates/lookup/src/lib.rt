@@ -1,8 +1,10 @@
 // Look-ups in a records tray: what is running at an address.
-#![tactic(auto, using(crate::proofs::StepLaws::goes_on, crate::proofs::StepLaws::lies_within))]
+#![tactic(auto, using(tlv::proofs::FieldLaws::goes_on, tlv::proofs::FieldLaws::lies_within))]
 
 pub mod address;
 pub mod below;
 pub mod form;
+pub mod lent;
 pub mod model;
+pub mod ranges;
 pub mod window;

@@ -1,13 +1,13 @@
 // The functions inside a window, and those that cross its edge, as 41 fields in a lent tray.
 ghost use Rattle.std.specs.Prelude.{◌≡◌, ◌≤◌, length};
-ghost use Rattle.tlv.specs.Model.{range_of};
 ghost use Rattle.lookup.specs.Window.{inside, crosses, functions_inside, functions_crossing};
 ghost use Rattle.lookup.specs.Walk.{Stands};
 ghost use Rattle.lookup.specs.Answers.{list_given};
-ghost use Rattle.lookup.specs.Listing.{LaidPart, Cleared, LaysPassing, ListsPassing};
+ghost use Rattle.lookup.specs.Listing.{LaidPart, LaysPassing, ListsPassing};
 
 use crate::form::{check_records, payload_of};
-use tlv::bytes::Number;
+use crate::lent::refused;
+use crate::ranges::range_of;
 use tlv::fields::next_field;
 use tlv::model::AddressRange;
 use tlv::refusal::Refusal;
@@ -24,18 +24,6 @@ fn crosses_edge(w: AddressRange, r: AddressRange) -> bool
     ensures { result ≡ crosses w r }
 {
     w.start.max(r.start) < w.end.min(r.end) && !is_inside(w, r)
-}
-
-// The range that a payload begins with.
-#[tactic(auto, unfolding(tlv::specs::Model::range_of))]
-pub fn range_of(payload: &[u8]) -> AddressRange
-    requires { 16 ≤ length payload.now }
-    ensures { result ≡ range_of payload.now }
-{
-    AddressRange {
-        start: u64::read(payload, 0),
-        end: u64::read(payload, 8),
-    }
 }
 
 // The bytes from p to below `next`, laid into the list.
@@ -63,14 +51,6 @@ fn put_functions<F: Fn(AddressRange) -> bool>(s: &[u8], is_wanted: F, list: &mut
         p = field.next;
     }
     at
-}
-
-// A refusal fills the list with 0.
-fn refused(list: &mut [u8], r: Refusal) -> Result<usize, Refusal>
-    ensures { Cleared r list.old list.new result }
-{
-    buffers::table::clear(list);
-    Err(r)
 }
 
 fn list_functions<F: Fn(AddressRange) -> bool>(

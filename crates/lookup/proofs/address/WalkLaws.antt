@@ -8,6 +8,7 @@ use lib.ListN.{take, drop}
 use borrow.Author.Tests.{le-leb, lt-leb, eq-eqb, ne_eqb}
 use Rattle.std.specs.Prelude.{Some, None}
 use Rattle.tlv.specs.declared.fields.FieldSpan.{FieldSpan}
+use Rattle.tlv.specs.declared.model.AddressRange.{AddressRange}
 use Rattle.tlv.specs.Lists.{exists, take_while, first, last, or_else, map_option}
 use Rattle.tlv.specs.Bytes.{le_at}
 use Rattle.tlv.specs.Fields.{payloads}
@@ -36,21 +37,21 @@ module _ (s : List ℕ) (a p : ℕ) (o : Option GroupAt) (inv : o ≡ first (hol
     pub found-other : (f.tag ≡ 0x41 → ⊥) → o ≡ first (holding a) (functions_from s f.next)
     found-other q = inv ∙ rw (functions-next s p f at q)
 
-    module _ (g : List ℕ) (is : g ≡ take f.len (drop f.start s)) (q : f.tag ≡ 0x41) where
-      pub found-not : false ≡ holds a (range_of g) → o ≡ first (holding a) (functions_from s f.next)
+    module _ (g : List ℕ) (is : g ≡ take f.len (drop f.start s)) (r : AddressRange) (is-range : r ≡ range_of g) (q : f.tag ≡ 0x41) where
+      pub found-not : false ≡ holds a r → o ≡ first (holding a) (functions_from s f.next)
       unfolding first
-      found-not k = inv ∙ rw (functions-this s p f at q, ← is, ← k)
+      found-not k = inv ∙ rw (functions-this s p f at q, ← is, ← is-range, ← k)
 
-      pub found-this : true ≡ holds a (range_of g) → o ≡ some (record { place = p; head = field_in s f.tag f.start f.len; rest = own_at s f.next })
+      pub found-this : true ≡ holds a r → o ≡ some (record { place = p; head = field_in s f.tag f.start f.len; rest = own_at s f.next })
       unfolding first
-      found-this k = inv ∙ rw (functions-this s p f at q, ← is, ← k)
+      found-this k = inv ∙ rw (functions-this s p f at q, ← is, ← is-range, ← k)
 
 -- the function that answers
-pub found_here : (s : List ℕ) (a p : ℕ) (f : FieldSpan) (g : List ℕ) → first (holding a) (functions_at s) ≡ first (holding a) (functions_from s p)
-    → Some f ≡ field_from s p → g ≡ take f.len (drop f.start s) → f.tag ≡ 0x41 → true ≡ holds a (range_of g) → Stands s p → FoundHere s a p f.next
-found_here s a p f g inv at is q k st = record {
+pub found_here : (s : List ℕ) (a p : ℕ) (f : FieldSpan) (g : List ℕ) (r : AddressRange) → first (holding a) (functions_at s) ≡ first (holding a) (functions_from s p)
+    → Some f ≡ field_from s p → g ≡ take f.len (drop f.start s) → r ≡ range_of g → f.tag ≡ 0x41 → true ≡ holds a r → Stands s p → FoundHere s a p f.next
+found_here s a p f g r inv at is is-range q k st = record {
   function = record { place = p; head = field_in s f.tag f.start f.len; rest = own_at s f.next };
-  is = found-this s a p _ inv f at g is q k;
+  is = found-this s a p _ inv f at g is r is-range q k;
   here = refl;
   rest = refl;
   stands = stands-next s p f at st;
@@ -136,11 +137,11 @@ module _ (s : List ℕ) (a p : ℕ) (v : Bool) (inv : v ≡ held_from s p a) whe
         unfolding held_from take_while payloads
         held-other k = inv ∙ rw (own-next s p f at q, ne_eqb f.tag 0x43 n, ne_eqb f.tag 0x44 k)
 
-        module _ (g : List ℕ) (is : g ≡ take f.len (drop f.start s)) (k : f.tag ≡ 0x44) where
-          pub held-not : false ≡ holds a (range_of g) → v ≡ held_from s f.next a
+        module _ (g : List ℕ) (is : g ≡ take f.len (drop f.start s)) (r : AddressRange) (is-range : r ≡ range_of g) (k : f.tag ≡ 0x44) where
+          pub held-not : false ≡ holds a r → v ≡ held_from s f.next a
           unfolding held_from take_while payloads exists
-          held-not z = inv ∙ rw (own-next s p f at q, ne_eqb f.tag 0x43 n, eq-eqb f.tag 0x44 k, ← is, ← z)
+          held-not z = inv ∙ rw (own-next s p f at q, ne_eqb f.tag 0x43 n, eq-eqb f.tag 0x44 k, ← is, ← is-range, ← z)
 
-          pub held-this : true ≡ holds a (range_of g) → true ≡ v
+          pub held-this : true ≡ holds a r → true ≡ v
           unfolding held_from take_while payloads exists
-          held-this z = sym (inv ∙ rw (own-next s p f at q, ne_eqb f.tag 0x43 n, eq-eqb f.tag 0x44 k, ← is, ← z))
+          held-this z = sym (inv ∙ rw (own-next s p f at q, ne_eqb f.tag 0x43 n, eq-eqb f.tag 0x44 k, ← is, ← is-range, ← z))

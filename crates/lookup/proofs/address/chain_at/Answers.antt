@@ -1,13 +1,9 @@
 -- `address::chain_at` meets its contract.
-use borrow.Author.Rules.{rules}
 use Rattle.lookup.proofs.OwnLaws.{own-stands_next, node-first}
-use Rattle.lookup.proofs.address.ChainWalkLaws.{gather-start, chain-none, chain-function, chain-other, chain-leaves}
+use Rattle.lookup.proofs.address.ChainWalkLaws.{chain-none, chain-function, chain-other, chain-leaves}
 use Rattle.lookup.proofs.address.ChainWalkLaws.{chain-deeper, chain-room, chain-passes, chain-takes}
 use Rattle.lookup.proofs.address.chain_at.Goals as goal
 use Rattle.lookup.proofs.address.chain_at.Goals.{else-depth-nodes-2-via-then-depth-nodes-2+else-node_holds, else-depth-nodes-2-via-else-depth-nodes-2}
-
-pub loop-field-init : goal.loop-field-init
-loop-field-init c = (search rules, gather-start _)
 
 pub read-depth-requires : goal.read-depth-requires
 read-depth-requires c = search (node-first, c.in-Some.ensures)

@@ -1,17 +1,13 @@
 -- `address::node_holds` meets its contract.
-use mathlib.Core.Path.{refl}
 use borrow.Author.Rules.{rules}
 use Rattle.lookup.proofs.OwnLaws.{own-stands_next, range-long}
 use Rattle.lookup.proofs.address.WalkLaws.{held-none, held-function, held-node, held-other, held-not, held-this}
 use Rattle.lookup.proofs.address.node_holds.Goals as goal
 use Rattle.lookup.proofs.address.node_holds.Goals.{then-field-eq-TRAY_FUNCTION_TAG-via-then-field-eq-TRAY_FUNCTION_TAG, then-field-eq-TRAY_FUNCTION_TAG-via-else-field-eq-TRAY_FUNCTION_TAG+then-field-eq-TRAY_NODE_TAG}
-use Rattle.lookup.proofs.address.node_holds.Goals.{else-field-eq-TRAY_RANGE_TAG-via-then-field-eq-TRAY_RANGE_TAG+else-holds_at, else-field-eq-TRAY_RANGE_TAG-via-else-field-eq-TRAY_RANGE_TAG}
+use Rattle.lookup.proofs.address.node_holds.Goals.{else-field-eq-TRAY_RANGE_TAG-via-then-field-eq-TRAY_RANGE_TAG+else-holds, else-field-eq-TRAY_RANGE_TAG-via-else-field-eq-TRAY_RANGE_TAG}
 
-pub loop-field-init : goal.loop-field-init
-loop-field-init c = (search rules, refl)
-
-pub holds_at-requires : goal.holds_at-requires
-holds_at-requires c = search (rules, range-long, c.in-Some.ensures)
+pub range_of-requires : goal.range_of-requires
+range_of-requires c = search (rules, range-long, c.in-Some.ensures)
 
 pub returns-then-field-eq-TRAY_FUNCTION_TAG : goal.returns-then-field-eq-TRAY_FUNCTION_TAG
 returns-then-field-eq-TRAY_FUNCTION_TAG c = elim c.then-field-eq-TRAY_FUNCTION_TAG.branch [
@@ -19,14 +15,14 @@ returns-then-field-eq-TRAY_FUNCTION_TAG c = elim c.then-field-eq-TRAY_FUNCTION_T
   | then-field-eq-TRAY_FUNCTION_TAG-via-else-field-eq-TRAY_FUNCTION_TAG+then-field-eq-TRAY_NODE_TAG w ↦ search (held-node, c.in-Some.ensures)
 ]
 
-pub returns-then-holds_at : goal.returns-then-holds_at
-returns-then-holds_at c = search (held-this, c.in-Some.ensures, c.if-holds_at.ensures)
+pub returns-then-holds : goal.returns-then-holds
+returns-then-holds c = search (held-this, c.in-Some.ensures, c.if-holds.ensures)
 
 pub loop-field-preserved : goal.loop-field-preserved
 loop-field-preserved c = (
   search (own-stands_next, c.in-Some.ensures),
   elim c.else-field-eq-TRAY_RANGE_TAG.branch [
-    | else-field-eq-TRAY_RANGE_TAG-via-then-field-eq-TRAY_RANGE_TAG+else-holds_at w ↦ search (held-not, c.in-Some.ensures, w.if-holds_at.ensures)
+    | else-field-eq-TRAY_RANGE_TAG-via-then-field-eq-TRAY_RANGE_TAG+else-holds w ↦ search (held-not, c.in-Some.ensures, w.if-holds.ensures)
     | else-field-eq-TRAY_RANGE_TAG-via-else-field-eq-TRAY_RANGE_TAG w ↦ search (held-other, c.in-Some.ensures)
   ],
 )

@@ -3,10 +3,11 @@ use Prim.Native.Nat.{◌-◌}
 use mathlib.Core.Bool.{Bool}
 use lib.ListN.{length}
 use Rattle.tlv.specs.declared.model.AddressRange.{AddressRange}
+use Rattle.tlv.specs.RangeTests.{Tests}
 use Rattle.buffers.proofs.BufferLaws.{Left}
 use Rattle.lookup.specs.Tray.{functions_at}
 use Rattle.lookup.specs.Walk.{Stands}
-use Rattle.lookup.specs.Listing.{Tests, wanted_bytes}
+use Rattle.lookup.specs.Listing.{wanted_bytes}
 use Rattle.lookup.proofs.window.ListingLaws.{left_bytes}
 use Rattle.lookup.proofs.window.put_functions.Given as goal
 
