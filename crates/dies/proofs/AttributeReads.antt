@@ -8,7 +8,9 @@ use native.Mathlib.Omega.{arith}
 use lib.Dec.{leb, eqb}
 use lib.ListN.{length, drop}
 use borrow.Author.Tests.{leb-true, eqb-true, eqb-false}
-use Rattle.std.specs.Prelude.{Option as Maybe, Some, None}
+use Rattle.std.specs.Prelude.{Option as Maybe, Some, None, Result, Ok, Err}
+use Rattle.tlv.specs.declared.refusal.Refusal.{Refusal}
+use Rattle.tlv.specs.declared.refusal.Refusal.TheVariants.{Decoder}
 use Rattle.tlv.specs.Lists.{All, first, take_while}
 use Rattle.tlv.specs.Bytes.{Bytes, le_at}
 use Rattle.tlv.specs.Fields.{Field, fields, whole_fields, payloads}
@@ -28,7 +30,6 @@ use Rattle.access.proofs.EntryPlaceLaws.{entry-attributes}
 use Rattle.references.specs.Search.{attribute}
 use Rattle.references.specs.Tables.{EntryKnown}
 use Rattle.references.proofs.ReferenceLaws.{by_kind, of_kind, entry-step, entry_next, attribute-says}
-use Rattle.dies.specs.declared.sites.Address.{Address}
 use Rattle.dies.specs.Calls.{address_of, address_in}
 
 -- ---- the kinds of an accepted sheet
@@ -79,18 +80,18 @@ module _ {s : List ℕ} {q p : ℕ} (A : Accepted s) (K : EntryKnown s q p) wher
 
 -- ---- what a value means
 
-abbrev address_meant : Meaning → Address
-address_meant absent = Address.Missing
-address_meant (unsigned n) = Address.Missing
-address_meant (file_number n) = Address.Missing
-address_meant (text b) = Address.Missing
-address_meant (unit_reference n) = Address.Missing
-address_meant (section_reference n) = Address.Missing
-address_meant (supplementary_reference n) = Address.Missing
-address_meant (section_offset n) = Address.Missing
-address_meant (line_offset n) = Address.Missing
-address_meant (address n) = Address.At n
-address_meant failed = Address.Failed
+abbrev address_meant : Meaning → Result (Maybe ℕ) Refusal
+address_meant absent = Ok None
+address_meant (unsigned n) = Ok None
+address_meant (file_number n) = Ok None
+address_meant (text b) = Ok None
+address_meant (unit_reference n) = Ok None
+address_meant (section_reference n) = Ok None
+address_meant (supplementary_reference n) = Ok None
+address_meant (section_offset n) = Ok None
+address_meant (line_offset n) = Ok None
+address_meant (address n) = Ok (Some n)
+address_meant failed = Err Decoder
 
 value-address : (s : List ℕ) (v : Maybe Value) → address_in v ≡ address_meant (said s v)
 value-address s None = refl
@@ -120,5 +121,5 @@ meaning-address (some a) h =
 -- ---- what is read of the entry at p
 
 module _ {s : List ℕ} {q p : ℕ} {v : Maybe Value} (A : Accepted s) (K : EntryKnown s q p) where
-  pub address_read : {r : Address} → Bytes s → Says s v (meaning_of (first (is_named 0x7d) (map attribute_of (payloads 0x18 (own_fields (fields (drop (p + 15) s))))))) → r ≡ address_in v → r ≡ address_of (attribute (entry_here s p) 0x7d)
+  pub address_read : {r : Result (Maybe ℕ) Refusal} → Bytes s → Says s v (meaning_of (first (is_named 0x7d) (map attribute_of (payloads 0x18 (own_fields (fields (drop (p + 15) s))))))) → r ≡ address_in v → r ≡ address_of (attribute (entry_here s p) 0x7d)
   address_read b says is = is ∙ value-address s v ∙ ap address_meant (attribute-says (accepted-placed A K) K v 0x7d says).is ∙ meaning-address (attribute (entry_here s p) 0x7d) (kind-known A K b 0x7d)

@@ -1,33 +1,31 @@
 -- A call's file and line, and the warnings about them.
-use mathlib.Core.Path.{◌≡◌, refl, ap, ◌∙◌}
+use mathlib.Core.Path.{◌≡◌, refl, sym, ap, ◌∙◌}
 use mathlib.Core.List.{List, [], ◌∷◌, ◌++◌, append-nil}
 use mathlib.Core.Option.{Option, none, some}
-use Prim.Native.Nat.{ℕ, ◌+◌, ◌-◌, ◌^◌, ◌≤◌, ◌<◌}
+use Prim.Native.Nat.{ℕ, ◌+◌, ◌^◌, ◌≤◌, ◌<◌}
 use native.Mathlib.Omega.{arith}
 use lib.ListN.{length}
 use borrow.Author.Tests.{lt-ltb, le-ltb}
 use Rattle.std.specs.Prelude.{Option as Maybe, Some, None}
 use Rattle.tlv.specs.declared.model.FileIndex.{FileIndex}
-use Rattle.tlv.specs.Outcome.{◌>>=◌}
+use Rattle.tlv.specs.declared.refusal.Refusal.{Refusal}
+use Rattle.tlv.specs.Refusals
+use Rattle.tlv.specs.Outcome.{refused, done, ◌>>=◌}
+use Rattle.tlv.proofs.AnswerLaws.{numbered}
 use Rattle.tlv.specs.Bytes.{le_at, bytes_of}
-use Rattle.tlv.specs.Fields.{fields, encode}
+use Rattle.tlv.specs.Fields.{encode}
 use Rattle.tlv.specs.Checked.{Accepted}
-use Rattle.tlv.proofs.ListLaws.{any_one}
-use Rattle.tlv.proofs.CursorLaws.{field-within}
-use Rattle.tlv.proofs.PlacePromises.{placed-unit}
 use Rattle.buffers.specs.Buffer.{Put, top}
 use Rattle.buffers.specs.Output.{about, missing_inline_call_file, invalid_inline_call_line, kind_number, warning_payload, each_of, warnings_bytes}
 use Rattle.buffers.proofs.BufferLaws.{put-none}
 use Rattle.buffers.proofs.OutputLaws.{put-about}
-use Rattle.access.specs.Places.{entry_here, unit_here, unit_places}
+use Rattle.access.specs.Places.{entry_here, unit_here}
 use Rattle.access.proofs.EntryPlaceLaws.{entry-offset_is, entry_depth-is, entry_tag-is}
-use Rattle.access.proofs.UnitFacts.{UnitAt, all-unit_places, unit-offset}
 use Rattle.lines.specs.Files.{FileIndices, file_index, get}
 use Rattle.files.specs.Indices.{number_of}
 use Rattle.references.specs.Search.{absolute_entry_offset, unsigned_attribute, file_index_attribute}
 use Rattle.references.specs.Tables.{EntryKnown, number_given}
 use Rattle.references.proofs.ReferenceLaws.{entry-placed, entry-step, entry-inside}
-use Rattle.references.proofs.TargetLaws.{known-unit}
 use Rattle.imports.specs.Tree.{DetailContext, call_file_from, call_file_of, call_line_if, call_line_of}
 use Rattle.dies.specs.Calls.{AboutWarned, FileCalled, LineCalled}
 use Rattle.dies.proofs.AttributeReads.{accepted-placed}
@@ -40,22 +38,6 @@ warn_none h k = put-none h k
 -- ---- the numbers of the fields of an entry and its unit
 
 module _ {s : List ℕ} {q p : ℕ} (A : Accepted s) (K : EntryKnown s q p) where
-  unit-at : UnitAt s q
-  unit-at = any_one (unit_places 0 (fields s)) (λ x at same. rw same at at) (all-unit_places s 0 (accepted-placed A K)) (known-unit A.number A.is K)
-
-  pub unit-read : q + 3 + 8 ≤ length s
-  unit-read =
-      let u = unit-at in
-      let w = field-within s q _ 0x10 u.start u.len u.next refl u.is in
-      let l = placed-unit s q _ 0x10 u.start u.len u.next u.placed refl u.is refl in
-      omega arith
-
-  unit-offset_here : (unit_here s q).offset ≡ le_at 8 s (q + 3)
-  unit-offset_here =
-      let u = unit-at in
-      let w = field-within s q _ 0x10 u.start u.len u.next refl u.is in
-      unit-offset s q _ 0x10 u.start u.len u.next refl u.is u.placed refl ∙ ap (le_at 8 s) w.0
-
   pub entry_read : p + 15 ≤ length s
   entry_read = entry-inside (accepted-placed A K) K
 
@@ -74,23 +56,25 @@ module _ {s : List ℕ} {q p : ℕ} (A : Accepted s) (K : EntryKnown s q p) wher
 
   -- ---- a warning
 
-  module _ {kind number at base offset : ℕ} {u : List ℕ} (eb : base ≡ le_at 8 s (q + 3)) (eo : offset ≡ le_at 8 s (p + 3)) where
-    pub about-refused : (base + offset < 2 ^ 64 → ⊥) → AboutWarned s q p kind number at u u 12 at
-    unfolding absolute_entry_offset
-    about-refused h = record {
+  same-offset : {offset : ℕ} → offset ≡ le_at 8 s (p + 3) → absolute_entry_offset (unit_here s q) (entry_here s p).offset ≡ absolute_entry_offset (unit_here s q) offset
+  same-offset eo = ap (absolute_entry_offset (unit_here s q)) (entry-offset_here ∙ sym eo)
+
+  module _ {kind number at offset : ℕ} {u : List ℕ} (eo : offset ≡ le_at 8 s (p + 3)) where
+    pub about-refused : (e : Refusal) → refused (Refusals.number_of e) ≡ absolute_entry_offset (unit_here s q) offset → AboutWarned s q p kind number at u u (Refusals.number_of e) at
+    about-refused e is = record {
       offset = 0;
-      ok = λ z. absurd (omega arith);
-      laid = λ z. absurd (omega arith);
-      no = λ z. rw (unit-offset_here, entry-offset_here, ← eb, ← eo, le-ltb (base + offset) (2 ^ 64) (omega arith));
+      ok = λ z. absurd (numbered e z);
+      laid = λ z. absurd (numbered e z);
+      no = λ z. same-offset eo ∙ sym is;
     }
 
-    pub about-put : {u' : List ℕ} {sum r : ℕ} → base + offset < 2 ^ 64 → sum ≡ base + offset → Put at (encode 0x46 ((kind ∷ []) ++ bytes_of 8 sum ++ bytes_of 8 number)) u u' r
+    pub about-put : {u' : List ℕ} {sum r : ℕ} → done sum ≡ absolute_entry_offset (unit_here s q) offset → Put at (encode 0x46 ((kind ∷ []) ++ bytes_of 8 sum ++ bytes_of 8 number)) u u' r
         → AboutWarned s q p kind number at u u' 0 r
-    unfolding absolute_entry_offset warnings_bytes each_of
-    about-put small e P = record {
-      offset = base + offset;
-      ok = λ z. rw (unit-offset_here, entry-offset_here, ← eb, ← eo, lt-ltb (base + offset) (2 ^ 64) small);
-      laid = λ z k is. rw (append-nil (encode 0x46 (warning_payload (about k (base + offset) number)))) (put-about k kind (base + offset) number is (rw e at P));
+    unfolding warnings_bytes each_of
+    about-put {sum = sum} is P = record {
+      offset = sum;
+      ok = λ z. same-offset eo ∙ sym is;
+      laid = λ z k known. rw (append-nil (encode 0x46 (warning_payload (about k sum number)))) (put-about k kind sum number known P);
       no = λ z. absurd (z refl);
     }
 

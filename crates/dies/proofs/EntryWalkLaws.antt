@@ -116,14 +116,20 @@ module _ (s : List ℕ) (p : ℕ) where
     none-unit depth is = ap (descendants_of depth) (from-unit is) ∙ below_none depth
 
     module _ (h : Placed s p) (is : f.tag ≡ 0x17) where
-      pub entry-room : f.start + 12 ≤ length s
+      pub entry-room : p + 15 ≤ length s
       entry-room =
           let w = field-within s p f there in
           let l = placed-entry s p (step_at s p) f.tag f.start f.len f.next h refl (is-step s p f there) is in
           omega arith
 
-      pub none-stop : (depth : ℕ) {n : ℕ} → n ≡ le_at 2 s (f.start + 8) → n ≤ depth → descendants_of depth (entries_from s p) ≡ []
-      none-stop depth en l = ap (descendants_of depth) (from-entry is) ∙ below-stop depth (entry_here s p) (entries_from s f.next) (omega (arith, entry_depth-is s p (step_at s p) f.tag f.start f.len f.next refl (is-step s p f there) h is))
+      pub depth-at : (entry_here s p).depth ≡ le_at 2 s (p + 11)
+      depth-at =
+          let w = field-within s p f there in
+          let e : f.start + 8 ≡ p + 11 = omega arith in
+          rw e at (entry_depth-is s p (step_at s p) f.tag f.start f.len f.next refl (is-step s p f there) h is)
+
+      pub none-stop : (depth : ℕ) {n : ℕ} → n ≡ le_at 2 s (p + 11) → n ≤ depth → descendants_of depth (entries_from s p) ≡ []
+      none-stop depth en l = ap (descendants_of depth) (from-entry is) ∙ below-stop depth (entry_here s p) (entries_from s f.next) (omega (arith, depth-at))
 
     -- ---- how many are left
 

@@ -8,7 +8,6 @@ use native.Mathlib.Omega.{arith}
 use lib.ListN.{length, set, length-set}
 use lib.Seq.{get_or-set_same, get_or-set_other}
 use borrow.Author.Tests.{le-leb, lt-leb}
-use Rattle.tlv.specs.declared.model.AddressRange.{AddressRange}
 use Rattle.buffers.specs.Table.{Apart, Kept, Clear, KeptBut}
 use Rattle.buffers.proofs.TableLaws.{but_one}
 use Rattle.files.proofs.GrownLaws.{clear-part}
@@ -154,9 +153,6 @@ pub record Popping (fs : List Frame) (n₀ used₀ d n used : ℕ) : Type 0 wher
   pub less : used ≤ used₀
   pub left : (w : List ℕ) (base : ℕ) → finish_inlines d (open_of fs n used w base) ≡ finish_inlines d (open_of fs n₀ used₀ w base)
 
-pub popping-start : (st : Open) (d : ℕ) → Ready st → Popping st.frames st.n st.used d st.n st.used
-popping-start st d R = record { few = omega arith; lean = λ c t h. h; stacked = R.stacked; less = omega arith; left = λ w base. refl }
-
 module _ {fs : List Frame} {n₀ used₀ d n used : ℕ} (P : Popping fs n₀ used₀ d n used) where
   pub popping_next : 0 < n → d ≤ (slot fs (n - 1)).depth → Popping fs n₀ used₀ d (n - 1) (slot fs (n - 1)).ranges
   popping_next h l =
@@ -170,25 +166,25 @@ module _ {fs : List Frame} {n₀ used₀ d n used : ℕ} (P : Popping fs n₀ us
       }
 
 module _ (st : Open) (d n used : ℕ) (R : Ready st) (P : Popping st.frames st.n st.used d n used) where
-  pub popping_stop : 0 < n → (slot st.frames (n - 1)).depth < d → Popped st (record { frames = st.frames; n = n; used = used }) d
+  pub popping_stop : 0 < n → (slot st.frames (n - 1)).depth < d → Popped st (record { frames = st.frames; n = n - 1 + 1; used = used }) d
   unfolding open_in
-  popping_stop h l = record {
+  popping_stop h l = let e : n - 1 + 1 ≡ n = omega arith in rw e (record {
     ready = record { few = omega (arith, P.few, R.few); full = R.full; stacked = P.stacked };
     frames = λ w base. open_top st.frames n used w base h ∙ sym (pop_stop d _ _ l) ∙ ap (finish_inlines d) (sym (open_top st.frames n used w base h)) ∙ P.left w base;
     fewer = P.few;
     used = P.less;
     lean = P.lean;
-  }
+  })
 
-  pub popping_end : n ≤ 0 → Popped st (record { frames = st.frames; n = n; used = used }) d
+  pub popping_end : n ≤ 0 → Popped st (record { frames = st.frames; n = 0; used = used }) d
   unfolding open_in
-  popping_end h = record {
+  popping_end h = let e : 0 ≡ n = omega arith in rw e (record {
     ready = record { few = omega (arith, P.few, R.few); full = R.full; stacked = P.stacked };
     frames = λ w base. pop_none d _ (none_open st.frames n used w base (omega arith)) ∙ P.left w base;
     fewer = P.few;
     used = P.less;
     lean = P.lean;
-  }
+  })
 
 -- ---- the innermost node's ranges
 

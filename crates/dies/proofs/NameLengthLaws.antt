@@ -23,7 +23,7 @@ use Rattle.references.specs.Tables.{EntryKnown}
 use Rattle.references.specs.Names.{dwarf_of, reference_name}
 use Rattle.references.proofs.NameBounds.{DwarfAccepted, gives-name, gives-reference_name}
 use Rattle.references.proofs.TargetLaws.{known-unit, known-entry}
-use Rattle.dies.specs.declared.dies.Details.{Details}
+use Rattle.dies.specs.declared.details.Details.{Details}
 use Rattle.dies.specs.Details.{DetailsIn, range_count}
 
 all_back : {A B : Type 0} (P : B → Type 0) (f : A → B) (xs : List A) → All P (map f xs) → All (λ x. P (f x)) xs

@@ -29,7 +29,7 @@ use Rattle.files.specs.Indices.{indices_in}
 use Rattle.imports.specs.Tree.{Descendants, DetailContext, CallFile, CallLine, call_file_of, call_line_of, push_inline}
 use Rattle.ranges.specs.RangeTable.{ranges_at, range_fields}
 use Rattle.ranges.proofs.RangeTableLaws.{ranges-length}
-use Rattle.dies.specs.declared.dies.Details.{Details}
+use Rattle.dies.specs.declared.details.Details.{Details}
 use Rattle.dies.specs.declared.walk.Walk.{Walk}
 use Rattle.dies.specs.declared.calls.CalledFile.{CalledFile}
 use Rattle.dies.specs.declared.calls.CalledLine.{CalledLine}
@@ -37,7 +37,7 @@ use Rattle.dies.specs.declared.nodes.Laid.{Laid}
 use Rattle.dies.specs.FrameStack.{open_in, grown}
 use Rattle.dies.specs.Past.{is_past, node_size}
 use Rattle.dies.specs.Answers.{value_or}
-use Rattle.dies.specs.Details.{DetailsIn, context_in}
+use Rattle.dies.specs.Details.{DetailsIn, context_in, third}
 use Rattle.dies.specs.DetailState.{Later, OwnRanges, origin_name, site_frames_at, sites_at, ranges_later, entries_left, walk_of, Fits, lead_bytes, new_bytes, walked, Advances, laid_of, noded}
 use Rattle.dies.specs.Calls.{FileCalled, LineCalled}
 use Rattle.dies.proofs.FrameLaws.{length-open, Pushed, pushed_is}
@@ -47,10 +47,6 @@ use Rattle.dies.proofs.SiteStepLaws.{details-accepted, later-here, lists-here, l
 use Rattle.dies.proofs.ListRoomLaws.{own-few, own-used, own-fields}
 
 -- ---- bytes
-
-pub root-passed : {at : ℕ} {t : List ℕ} (name : List ℕ) (r : AddressRange) (n : ℕ) → (n ≡ 0 → ⊥) → at ≤ top → length t < top → Put at (lead_bytes name r n) t t at
-root-passed name r zero h l k = absurd (h refl)
-root-passed name r (suc n) h l k = put-none l k
 
 pub root-put : {at p q : ℕ} {t t₁ t₂ : List ℕ} (name : List ℕ) (r : AddressRange) (n : ℕ) → n ≡ 0
     → Put at (encode 0x43 (node_payload (record { depth = 0; call_file = file_index 0; call_line = 0; name = name; ranges = [] }))) t t₁ p → Put p (encode 0x44 (range_payload r)) t₁ t₂ q
@@ -205,15 +201,15 @@ module _ {main supplementary w u : List ℕ} {d : Details} {p : ℕ} {s : Walk} 
         P : Pushed s.frames (grown s.frames (le_at 2 main (p + 11)) k) (le_at 2 main (p + 11)) k
         P = pushed_is s.frames (le_at 2 main (p + 11)) k F.ready h
 
-        pub keep_done : Advances (push_inline (context_in main supplementary lists addresses w d) (entry_here main p) inlined (ranges_at w (d.ranges + s.frames.used * 16) k)) main supplementary name d (ranges_later main (p + 15)) (entries_left main (p + 15)) w t u s w t₂ u₂ 0
-            (noded s (le_at 2 main (p + 11)) k (record { at = q₂; warned = line.at; past = s.past || b }))
+        pub keep_done : {o : Bool} → o ≡ (s.past || b) → Advances (push_inline (context_in main supplementary lists addresses w d) (entry_here main p) inlined (ranges_at w (d.ranges + s.frames.used * 16) k)) main supplementary name d (ranges_later main (p + 15)) (entries_left main (p + 15)) w t u s w t₂ u₂ 0
+            (noded s (le_at 2 main (p + 11)) k (record { at = q₂; warned = line.at; past = o }))
         unfolding walk_of node
-        keep_done = record {
+        keep_done passes = record {
           nodes = node ∷ [];
           warnings = FC.warnings ++ LC.warnings;
           laid = λ z. laid-node;
           warned = λ z. rw (warnings-append FC.warnings LC.warnings) (FC.laid f then LC.laid l);
-          past = λ z. ap (λ (x : Bool). s.past || x) (B ∙ ap (is_past s.at) (sym bytes-are));
+          past = λ z. passes ∙ ap (λ (x : Bool). s.past || x) (B ∙ ap (is_past s.at) (sym bytes-are));
           count = λ z. omega arith;
           kept = kept_refl w d.ranges (walked main supplementary d);
           fits = λ z. record {
@@ -222,7 +218,7 @@ module _ {main supplementary w u : List ℕ} {d : Details} {p : ℕ} {s : Walk} 
             fields = omega (arith, P.used, own-fields D K F k O);
             floor = F.floor + length (range_fields main (p + 15));
             level = omega (arith, F.level, later-here D K);
-            lean = P.lean F.floor d.third (length (range_fields main (p + 15))) (own-few main d p k O) F.lean;
+            lean = P.lean F.floor (third d.lists) (length (range_fields main (p + 15))) (own-few main d p k O) F.lean;
             left = omega (arith, F.left, lists-here D K);
             sites = omega (arith, F.sites, left_here D K);
             nodes = omega (arith, F.nodes, left_here D K);

@@ -27,13 +27,6 @@ or_assoc : (a b c : Bool) → ((a || b) || c) ≡ (a || (b || c))
 or_assoc true b c = refl
 or_assoc false b c = refl
 
--- the test that the code makes
-pub past-test : (at n : ℕ) → at ≤ top → ltb (top - at) n ≡ is_past at n
-past-test at n h =
-    by_less (ltb (top - at) n ≡ is_past at n) top (at + n)
-    (λ l. rw (lt-ltb (top - at) n (omega arith), lt-ltb top (at + n) l))
-    (λ l. rw (le-ltb (top - at) n (omega arith), le-ltb top (at + n) l))
-
 pub past-none : (at : ℕ) → at ≤ top → is_past at 0 ≡ false
 past-none at h = le-ltb top (at + 0) (omega arith)
 

@@ -12,7 +12,7 @@ use Rattle.tlv.specs.Lists.{take_while, drop_while}
 use Rattle.buffers.specs.Output.{CallSite}
 use Rattle.buffers.specs.Table.{chunk, Kept, Apart, Wrote, CopiedBytes}
 use Rattle.buffers.proofs.ChunkLaws.{le_at-chunk, le_at-front}
-use Rattle.buffers.proofs.TableLaws.{le-or_lt, kept_refl, kept-wide, kept_trans, le_at-kept}
+use Rattle.buffers.proofs.TableLaws.{le-or_lt, kept-wide, kept_trans, le_at-kept}
 use Rattle.buffers.proofs.RecordLaws.{records-kept, records-nil, records-copy_push}
 use Rattle.imports.specs.Tree.{CallSiteFrame, ends_here}
 use Rattle.dies.specs.DetailState.{site_of, site_frame_of, site_frames_at, sites_at, PutSite, Closed}
@@ -20,9 +20,11 @@ use Rattle.dies.specs.DetailState.{site_of, site_frame_of, site_frames_at, sites
 abbrev frame : ℕ → ℕ → List ℕ → CallSiteFrame
 frame depth offset pattern = record { die_depth = depth; call_site = record { return_offset = offset; pattern = pattern } }
 
-pub put-site : {w w₁ w₂ w₃ : List ℕ} {p depth place offset : ℕ} → Wrote w w₁ p 2 depth → Wrote w₁ w₂ (p + 2) 4 place → Wrote w₂ w₃ (p + 6) 8 offset → PutSite w w₃ p depth place offset
+pub put-site : {w w₁ w₂ w₃ : List ℕ} {p depth place offset : ℕ} → Wrote w w₁ p 2 depth → Wrote w₁ w₂ (p + 2) 4 place → Wrote w₂ w₃ (p + 2 + 4) 8 offset → PutSite w w₃ p depth place offset
 unfolding site_frame_of
-put-site {w} {w₁} {w₂} {w₃} {p} {depth} {place} {offset} A B C =
+put-site {w} {w₁} {w₂} {w₃} {p} {depth} {place} {offset} A B last =
+    let six : p + 2 + 4 ≡ p + 6 = omega arith in
+    let C = rw six at last in
     let there : le_at 4 w₃ (p + 2) ≡ place = le_at-kept 4 (p + 2) C.rest (inl (omega arith)) ∙ B.value in
     let first : le_at 2 w₃ p ≡ depth = le_at-kept 2 p C.rest (inl (omega arith)) ∙ le_at-kept 2 p B.rest (inl (omega arith)) ∙ A.value in
     record {
@@ -116,17 +118,6 @@ pub record Closing (w₀ w : List ℕ) (stack n sites m d opened closed : ℕ) :
   pub rest : Kept w₀ w (sites + m * 12) (n * 12)
   pub size : length w ≡ length w₀
 
-pub closing-start : (w : List ℕ) (stack n sites m d : ℕ) → Closing w w stack n sites m d n m
-closing-start w stack n sites m d = record {
-  sum = refl;
-  few = omega arith;
-  left = λ f. refl;
-  moved = λ f. refl;
-  each = λ i h. inr (h, refl);
-  rest = kept_refl w (sites + m * 12) (n * 12);
-  size = refl;
-}
-
 module _ {w₀ w : List ℕ} {stack n sites m d opened closed : ℕ} (C : Closing w₀ w stack n sites m d opened closed) where
   -- nothing more ends: the frames are as drop_while has them, and take_while has none of them
   stopped : ((f : ℕ → List ℕ) → drop_while (ends_here d) (site_frames_at f w stack opened) ≡ site_frames_at f w stack opened)
@@ -140,11 +131,12 @@ module _ {w₀ w : List ℕ} {stack n sites m d opened closed : ℕ} (C : Closin
     rest = C.rest;
   }
 
-  pub closing_end : opened ≤ 0 → Closed w₀ w stack n sites m d (record { opened = opened; closed = closed })
+  pub closing_end : opened ≤ 0 → Closed w₀ w stack n sites m d (record { opened = 0; closed = closed })
   closing_end h =
       let z : opened ≡ 0 = omega arith in
+      let e : 0 ≡ opened = omega arith in
       let none : (f : ℕ → List ℕ) → site_frames_at f w stack opened ≡ [] = λ f. ap (site_frames_at f w stack) z ∙ site-frames_none f w stack in
-      stopped (λ f. rw (none f) (drop_none d)) (λ f. rw (none f) (take_none d))
+      rw e (stopped (λ f. rw (none f) (drop_none d)) (λ f. rw (none f) (take_none d)))
 
   module _ (h : 0 < opened) {a : ℕ} (ea : a ≡ le_at 2 w (stack + (opened - 1) * 14)) where
     top : (ℕ → List ℕ) → CallSiteFrame
@@ -158,10 +150,10 @@ module _ {w₀ w : List ℕ} {stack n sites m d opened closed : ℕ} (C : Closin
     unfolding top
     top-is f = frames-top f w stack opened h
 
-    pub closing_stop : a < d → Closed w₀ w stack n sites m d (record { opened = opened; closed = closed })
-    closing_stop l = stopped
+    pub closing_stop : a < d → Closed w₀ w stack n sites m d (record { opened = opened - 1 + 1; closed = closed })
+    closing_stop l = let e : opened - 1 + 1 ≡ opened = omega arith in rw e (stopped
         (λ f. rw (top-is f) (drop_stop d (top f) _ (omega (arith, top-depth f))))
-        (λ f. rw (top-is f) (take_stop d (top f) _ (omega (arith, top-depth f))))
+        (λ f. rw (top-is f) (take_stop d (top f) _ (omega (arith, top-depth f)))))
 
     module _ {w' : List ℕ} (l : d ≤ a) (below : stack + n * 14 ≤ sites) (P : CopiedBytes w w' (stack + (opened - 1) * 14 + 2) (sites + closed * 12) 12) where
       stay : (f : ℕ → List ℕ) → site_frames_at f w' stack (opened - 1) ≡ site_frames_at f w stack (opened - 1)

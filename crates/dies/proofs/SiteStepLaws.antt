@@ -9,7 +9,10 @@ use native.Mathlib.Omega.{arith}
 use lib.Dec.{eqb}
 use lib.ListN.{length}
 use borrow.Author.Tests.{le-leb, lt-leb, lt-ltb, le-ltb, eq-eqb, ne_eqb}
-use Rattle.std.specs.Prelude.{Some}
+use Rattle.std.specs.Prelude.{Option as Maybe, Some, None, Result, Ok, Err}
+use Rattle.tlv.specs.declared.refusal.Refusal.{Refusal}
+use Rattle.tlv.specs.Refusals.{number_of}
+use Rattle.tlv.proofs.AnswerLaws.{numbered}
 use Rattle.tlv.specs.declared.fields.FieldSpan.{FieldSpan}
 use Rattle.tlv.specs.Cursor.{span_of, field_from}
 use Rattle.tlv.specs.Outcome.{Outcome, refused, done, ◌>>=◌}
@@ -20,6 +23,7 @@ use Rattle.tlv.specs.Model.{CompilationUnit, Entry, Attribute}
 use Rattle.tlv.specs.Checked.{Accepted}
 use Rattle.tlv.proofs.ByteLaws.{le_at-bound}
 use Rattle.tlv.proofs.ListLaws.{any_one}
+use Rattle.tlv.proofs.PlaceFacts.{slice-bytes}
 use Rattle.buffers.specs.Output.{CallSite}
 use Rattle.buffers.specs.Table.{chunk, records, tab}
 use Rattle.buffers.proofs.ChunkLaws.{le_at-chunk}
@@ -35,11 +39,10 @@ use Rattle.references.proofs.ReferenceLaws.{entry-step}
 use Rattle.references.proofs.SectionLaws.{reference_name-same}
 use Rattle.imports.specs.Tree.{Descendants, DetailContext, site_with_origin, site_at, make_call_site, push_call_site}
 use Rattle.ranges.specs.RangeTable as table
-use Rattle.dies.specs.declared.dies.Details.{Details}
+use Rattle.dies.specs.declared.details.Details.{Details}
 use Rattle.dies.specs.declared.walk.Walk.{Walk}
-use Rattle.dies.specs.declared.sites.Address.{Address}
 use Rattle.dies.specs.FrameStack.{open_in}
-use Rattle.dies.specs.Details.{DetailsIn, dwarf_with, context_in, entry_count}
+use Rattle.dies.specs.Details.{main_of, supplementary_of, DetailsIn, dwarf_with, context_in, entry_count}
 use Rattle.dies.specs.DetailState.{origin_of, origin_name, site_frames_at, sites_at, PutSite, SiteKnown, ranges_later, entries_left, walk_of, Fits, walked, Quiet, collect_site}
 use Rattle.dies.specs.Calls.{address_of}
 use Rattle.dies.proofs.FrameLaws.{open_kept}
@@ -52,6 +55,13 @@ use Rattle.dies.proofs.WalkStateLaws.{kept-inside, kept-keys, Aside, fits_kept, 
 
 pub details-accepted : {main supplementary w : List ℕ} {d : Details} → DetailsIn main supplementary w d → Accepted main
 details-accepted D = record { number = D.tables.main-index.number; is = D.tables.main-index.accepted }
+
+-- both sheets are bytes
+pub main-bytes : (d : Details) → Bytes (main_of d)
+main-bytes d = slice-bytes (main_of d) (λ k. record { fits = d.tables.sheets.bytes.0 k })
+
+pub supplementary-bytes : (d : Details) → Bytes (supplementary_of d)
+supplementary-bytes d = slice-bytes (supplementary_of d) (λ k. record { fits = d.tables.sheets.bytes.1 k })
 
 -- its place has 4 bytes in the index
 small-place : (w : List ℕ) (p : ℕ) → Bytes w → (indexed_of (chunk w p 16)).place < 4294967296
@@ -94,10 +104,10 @@ module _ {main supplementary w : List ℕ} {d : Details} {p : ℕ} (D : DetailsI
 
 -- ---- what the definition does with the return address
 
-abbrev site_by : DetailContext → Entry → Address → Outcome (Option CallSite)
-site_by c e Address.Missing = done none
-site_by c e Address.Failed = refused 6
-site_by c e (Address.At a) = cond (contains c.function_range a) (site_with_origin c e (a - c.function_range.start) (attribute e 0x7f)) (done none)
+abbrev site_by : DetailContext → Entry → Result (Maybe ℕ) Refusal → Outcome (Option CallSite)
+site_by c e (Ok None) = done none
+site_by c e (Err x) = refused (number_of x)
+site_by c e (Ok (Some a)) = cond (contains c.function_range a) (site_with_origin c e (a - c.function_range.start) (attribute e 0x7f)) (done none)
 
 site-by : (c : DetailContext) (e : Entry) (o : Option Attribute) → site_at c e o ≡ site_by c e (address_of o)
 site-by c e none = refl
@@ -144,7 +154,7 @@ module _ {main supplementary w : List ℕ} {d : Details} {p : ℕ} {s : Walk} (D
   pub later-fits : Fits main supplementary w d (ranges_later main (p + 15)) (entries_left main (p + 15)) s
   later-fits = fits-less F (ranges_later main (p + 15)) (entries_left main (p + 15)) (omega (arith, later-here D K)) (omega (arith, lists-here D K)) (omega (arith, left_here D K))
 
-  module _ (lists addresses : List ℕ) {r : Address} (read : r ≡ address_of (attribute (entry_here main p) 0x7d)) where
+  module _ (lists addresses : List ℕ) {r : Result (Maybe ℕ) Refusal} (read : r ≡ address_of (attribute (entry_here main p) 0x7d)) where
     site-is : (x : Descendants) → collect_site (context_in main supplementary lists addresses w d) (entry_here main p) x ≡ (site_by (context_in main supplementary lists addresses w d) (entry_here main p) r >>= λ y. done (push_call_site (entry_here main p) x y))
     unfolding collect_site make_call_site
     site-is x = ap (λ (o : Outcome (Option CallSite)). o >>= λ y. done (push_call_site (entry_here main p) x y)) (site-by (context_in main supplementary lists addresses w d) (entry_here main p) (attribute (entry_here main p) 0x7d) ∙ ap (site_by (context_in main supplementary lists addresses w d) (entry_here main p)) (sym read))
@@ -163,24 +173,24 @@ module _ {main supplementary w : List ℕ} {d : Details} {p : ℕ} {s : Walk} (D
       no = λ z. absurd (z refl);
     }
 
-    pub site-missing : r ≡ Address.Missing → Quiet (collect_site (context_in main supplementary lists addresses w d) (entry_here main p)) main supplementary d (ranges_later main (p + 15)) (entries_left main (p + 15)) w s w 0 s
+    pub site-missing : r ≡ Ok None → Quiet (collect_site (context_in main supplementary lists addresses w d) (entry_here main p)) main supplementary d (ranges_later main (p + 15)) (entries_left main (p + 15)) w s w 0 s
     site-missing e = passed (rw e)
 
-    pub site-failed : r ≡ Address.Failed
-        → Quiet (collect_site (context_in main supplementary lists addresses w d) (entry_here main p)) main supplementary d (ranges_later main (p + 15)) (entries_left main (p + 15)) w s w 6 s
+    pub site-failed : {x : Refusal} → r ≡ Err x
+        → Quiet (collect_site (context_in main supplementary lists addresses w d) (entry_here main p)) main supplementary d (ranges_later main (p + 15)) (entries_left main (p + 15)) w s w (number_of x) s
     unfolding ◌>>=◌
-    site-failed e = record {
+    site-failed {x} e = record {
       place = refl;
       warned = refl;
       nodes = refl;
       past = refl;
       kept = kept_refl w d.ranges (walked main supplementary d);
-      fits = λ z. absurd (omega arith);
-      ok = λ z. absurd (omega arith);
+      fits = λ z. absurd (numbered x z);
+      ok = λ z. absurd (numbered x z);
       no = λ z ns ws. site-is (walk_of main supplementary d w s ns ws) ∙ rw e;
     }
 
-    module _ {a : ℕ} (e : r ≡ Address.At a) where
+    module _ {a : ℕ} (e : r ≡ Ok (Some a)) where
       pub site-low : a < d.range.start → Quiet (collect_site (context_in main supplementary lists addresses w d) (entry_here main p)) main supplementary d (ranges_later main (p + 15)) (entries_left main (p + 15)) w s w 0 s
       site-low h = passed (rw (e, below-range (context_in main supplementary lists addresses w d) a h))
 

@@ -18,12 +18,12 @@ use Rattle.references.proofs.KeyLaws.{keys-in_none}
 use Rattle.references.proofs.FollowLaws.{index_kept}
 use Rattle.imports.specs.Tree.{finish}
 use Rattle.ranges.proofs.RangeTableLaws.{ranges-kept}
-use Rattle.dies.specs.declared.dies.Details.{Details}
+use Rattle.dies.specs.declared.details.Details.{Details}
 use Rattle.dies.specs.declared.walk.Walk.{Walk}
 use Rattle.dies.specs.declared.sites.Sites.{Sites}
 use Rattle.dies.specs.declared.frames.Open.{Open}
 use Rattle.dies.specs.FrameStack.{Popped}
-use Rattle.dies.specs.Details.{DetailsIn, dwarf_with, context_in, range_room}
+use Rattle.dies.specs.Details.{DetailsIn, dwarf_with, context_in, range_room, third}
 use Rattle.dies.specs.DetailState.{Later, origin_name, Closed, walk_of, Fits, walked, Shut}
 use Rattle.dies.proofs.FrameLaws.{used-one, open_kept}
 use Rattle.dies.proofs.SiteLaws.{site-frames_kept, sites-kept}
@@ -124,7 +124,7 @@ pub fits-less : {main supplementary w : List ℕ} {d : Details} {a : Later} {b :
 fits-less {d = d} F a' b' h l k = record {
   ready = F.ready;
   used = omega (arith, F.used);
-  fields = omega (arith, F.fields, mul-le-mul_left d.third l);
+  fields = omega (arith, F.fields, mul-le-mul_left (third d.lists) l);
   floor = F.floor;
   level = omega (arith, F.level);
   lean = F.lean;
@@ -172,7 +172,7 @@ module _ {main supplementary w : List ℕ} {d : Details} {a : Later} {b : ℕ} {
       fields = omega (arith, P.used, G.fields);
       floor = G.floor;
       level = G.level;
-      lean = P.lean G.floor d.third G.lean;
+      lean = P.lean G.floor (third d.lists) G.lean;
       left = G.left;
       sites = omega (arith, C.sum, G.sites);
       nodes = G.nodes;

@@ -1,7 +1,9 @@
 -- Contract. What the code that reads a call site's address, and a call's file and line, promises.
-use Rattle.std.specs.Prelude.{Option as Maybe, Some, None}
+use Rattle.std.specs.Prelude.{Option as Maybe, Some, None, Result, Ok, Err}
 use Rattle.std.specs.Prelude.{◌≡◌, cond, List, [], ◌∷◌, ℕ, eqb}
 use Rattle.std.proofs.Math.Option.{Option, none, some}
+use Rattle.tlv.specs.declared.refusal.Refusal.{Refusal}
+use Rattle.tlv.specs.declared.refusal.Refusal.TheVariants.{Decoder}
 use Rattle.tlv.specs.Outcome.{refused, done}
 use Rattle.tlv.specs.Model.{Attribute}
 use Rattle.buffers.specs.Buffer.{Put}
@@ -11,34 +13,33 @@ use Rattle.access.specs.Places.{entry_here, unit_here}
 use Rattle.lines.specs.Files.{FileIndices}
 use Rattle.references.specs.Search.{absolute_entry_offset}
 use Rattle.imports.specs.Tree.{DetailContext, call_file_of, call_line_of}
-use Rattle.dies.specs.declared.sites.Address.{Address}
 use Rattle.dies.specs.declared.calls.CalledFile.{CalledFile}
 use Rattle.dies.specs.declared.calls.CalledLine.{CalledLine}
 
 -- ---- the return address of a call site
 
--- the return address that an attribute is
-abbrev pub address_of : Option Attribute → Address
-address_of none = Address.Missing
-address_of (some a) = cond (eqb a.kind 10) Address.Failed (cond (eqb a.kind 9) (Address.At a.value) Address.Missing)
+-- the return address that an attribute is; a failed one is refused
+abbrev pub address_of : Option Attribute → Result (Maybe ℕ) Refusal
+address_of none = Ok None
+address_of (some a) = cond (eqb a.kind 10) (Err Decoder) (cond (eqb a.kind 9) (Ok (Some a.value)) (Ok None))
 
 -- the address that a value is
-abbrev pub address_is : Value → Address
-address_is (Value.Unsigned n) = Address.Missing
-address_is (Value.FileNumber n) = Address.Missing
-address_is (Value.Text start len) = Address.Missing
-address_is (Value.UnitReference n) = Address.Missing
-address_is (Value.SectionReference n) = Address.Missing
-address_is (Value.SupplementaryReference n) = Address.Missing
-address_is (Value.SectionOffset n) = Address.Missing
-address_is (Value.LineOffset n) = Address.Missing
-address_is (Value.Address n) = Address.At n
-address_is Value.Failed = Address.Failed
+abbrev pub address_is : Value → Result (Maybe ℕ) Refusal
+address_is (Value.Unsigned n) = Ok None
+address_is (Value.FileNumber n) = Ok None
+address_is (Value.Text start len) = Ok None
+address_is (Value.UnitReference n) = Ok None
+address_is (Value.SectionReference n) = Ok None
+address_is (Value.SupplementaryReference n) = Ok None
+address_is (Value.SectionOffset n) = Ok None
+address_is (Value.LineOffset n) = Ok None
+address_is (Value.Address n) = Ok (Some n)
+address_is Value.Failed = Err Decoder
 
 -- .. and where there is none
-abbrev pub address_in : Maybe Value → Address
+abbrev pub address_in : Maybe Value → Result (Maybe ℕ) Refusal
 address_in (Some v) = address_is v
-address_in None = Address.Missing
+address_in None = Ok None
 
 -- ---- a call's file and line
 

@@ -24,7 +24,7 @@ use Rattle.imports.specs.Tree.{CallSiteFrame, Descendants, DetailContext, ends_h
 use Rattle.imports.specs.Tree.{collect_descendants}
 use Rattle.imports.specs.Import.{descendants_of}
 use Rattle.ranges.specs.RangeTable.{ranges_at, range_fields, own_lists}
-use Rattle.dies.specs.declared.dies.Details.{Details}
+use Rattle.dies.specs.declared.details.Details.{Details}
 use Rattle.dies.specs.declared.dies.Extracted.{Extracted}
 use Rattle.dies.specs.declared.walk.Walk.{Walk}
 use Rattle.dies.specs.declared.sites.Sites.{Sites}
@@ -32,7 +32,8 @@ use Rattle.dies.specs.declared.nodes.Laid.{Laid}
 use Rattle.dies.specs.declared.sites.LaidSites.{LaidSites}
 use Rattle.dies.specs.FrameStack.{Lean, open_in, Ready, grown}
 use Rattle.dies.specs.Past.{is_past}
-use Rattle.dies.specs.Details.{range_count, entry_count, list_count, range_room, context_in, entries_from, detail_bytes, open_site, closed_site}
+use Rattle.dies.specs.Details.{main_of, supplementary_of, third, context_in, entries_from, detail_bytes}
+use Rattle.dies.specs.Details.{range_count, entry_count, list_count, range_room, open_site, closed_site}
 
 -- ---- call sites in the work slice
 
@@ -126,15 +127,16 @@ walk_of main supplementary d w s nodes warnings = record {
   warnings = warnings;
 }
 
+-- Stays a clause: it speaks of the lent work slice, which each step writes to.
 -- the state stands in w, and there is room for what a says of ranges, and for b entries more. The stack has no more than the fields passed can give, and, by
 -- frames, no more than the fields 19 passed and a list for each; the unit has the lists that are still to come
 pub record Fits (main supplementary w : List ℕ) (d : Details) (a : Later) (b : ℕ) (s : Walk) : Type 0 where
   pub ready : Ready s.frames
   pub used : s.frames.used + a.ranges ≤ range_room main d
-  pub fields : s.frames.used + a.ranges + d.third * a.lists ≤ 1 + range_count main + d.third * list_count main d
+  pub fields : s.frames.used + a.ranges + third d.lists * a.lists ≤ 1 + range_count main + third d.lists * list_count main d
   pub floor : ℕ
   pub level : floor + a.ranges ≤ 1 + range_count main
-  pub lean : Lean floor d.third s.frames.frames s.frames.n s.frames.used
+  pub lean : Lean floor (third d.lists) s.frames.frames s.frames.n s.frames.used
   pub left : a.lists ≤ list_count main d
   pub sites : s.opened + s.closed + b ≤ entry_count main
   pub nodes : s.nodes + b ≤ entry_count main
@@ -143,6 +145,11 @@ pub record Fits (main supplementary w : List ℕ) (d : Details) (a : Later) (b :
   pub warned : s.warned ≤ top
   pub stacked : (i : ℕ) → i < s.opened → SiteKnown main supplementary d.unit (le_at 4 w (d.stack + i * open_site + 2))
   pub closed : (i : ℕ) → i < s.closed → SiteKnown main supplementary d.unit (le_at 4 w (d.sites + i * closed_site))
+
+-- Stays a clause: as Fits, of which it is the form at a place.
+-- .. at place p of the details' own sheet
+abbrev pub FitsAt : List ℕ → Details → ℕ → Walk → Type 0
+FitsAt w d p s = Fits (main_of d) (supplementary_of d) w d (ranges_later (main_of d) p) (entries_left (main_of d) p) s
 
 -- ---- what is laid
 
@@ -195,9 +202,15 @@ pub record Advances (F : Descendants → Outcome Descendants) (main supplementar
       ≡ done (walk_of main supplementary d w' s' (ns ++ nodes) (ws ++ warnings))
   pub no : (n ≡ 0 → ⊥) → (ns : List InlineNode) (ws : List Warning) → F (walk_of main supplementary d w s ns ws) ≡ refused n
 
+-- .. at the entry at place p, for the details' own sheets and name
+abbrev pub Steps : (Descendants → Outcome Descendants) → Details → ℕ → List ℕ → List ℕ → List ℕ → Walk → List ℕ → List ℕ → List ℕ → ℕ → Walk → Type 0
+Steps F d p w t u s w' t' u' n s' =
+    Advances F (main_of d) (supplementary_of d) d.name.now d (ranges_later (main_of d) (p + entry_whole)) (entries_left (main_of d) (p + entry_whole))
+    w t u s w' t' u' n s'
+
 -- k ranges are no more than the entry at p can give: its fields 19, or its list
 abbrev pub OwnRanges : List ℕ → Details → ℕ → ℕ → Type 0
-OwnRanges main d p k = (k ≤ length (range_fields main (p + entry_whole))) ⊎ ((k ≤ d.third) × (1 ≤ own_lists main (p + entry_whole)))
+OwnRanges main d p k = (k ≤ length (range_fields main (p + entry_whole))) ⊎ ((k ≤ third d.lists) × (1 ≤ own_lists main (p + entry_whole)))
 
 -- the same of what lays nothing
 pub record Quiet (F : Descendants → Outcome Descendants) (main supplementary : List ℕ) (d : Details) (a : Later) (b : ℕ) (w : List ℕ) (s : Walk)
@@ -262,3 +275,8 @@ pub record Descends (main supplementary lists addresses w w' : List ℕ) (d : De
       d name at warned t
       t' u u' r
   pub rest : Kept w w' d.ranges (walked main supplementary d)
+
+-- .. by the details' own sheets, lists, name and depth
+abbrev pub DescendsTo : Details → List ℕ → List ℕ → ℕ → ℕ → ℕ → List ℕ → List ℕ → List ℕ → List ℕ → Result Extracted Refusal → Type 0
+DescendsTo d w w' p at warned t t' u u' r =
+    Descends (main_of d) (supplementary_of d) d.lists.lists.now d.lists.addresses.now w w' d d.name.now p d.depth at warned t t' u u' r

@@ -1,5 +1,5 @@
 -- Contract. The entries of a unit by place, and what the extraction of a function's inline nodes and call sites promises.
-use Rattle.std.specs.Prelude.{Result, Ok, Err, ℕ, ◌+◌, ◌-◌, ◌*◌, ◌≤◌, ◌≡◌, Bool, false, List, ◌++◌, map, length, drop}
+use Rattle.std.specs.Prelude.{Result, Ok, Err, ℕ, ◌+◌, ◌-◌, ◌*◌, ◌/◌, ◌≤◌, ◌≡◌, Bool, false, List, ◌++◌, map, length, drop}
 use Rattle.tlv.specs.Tags.{entry_tag, range_tag, tray_site_tag}
 use Rattle.tlv.specs.declared.model.AddressRange.{AddressRange}
 use Rattle.tlv.specs.declared.refusal.Refusal.{Refusal}
@@ -16,20 +16,32 @@ use Rattle.access.specs.Places.{unit_fields, unit_here, entry_index, lists_from}
 use Rattle.access.specs.Units.{unit_record}
 use Rattle.access.specs.Index.{entry_record}
 use Rattle.files.specs.Indices.{indices_in, index_record}
-use Rattle.rnglists.specs.Room.{open_lists}
+use Rattle.rnglists.specs.declared.lists.RangeLists.{RangeLists}
+use Rattle.rnglists.specs.Room.{open_lists, range_least}
 use Rattle.references.specs.Search.{Dwarf}
 use Rattle.references.specs.Names.{SearchIn}
 use Rattle.references.specs.Keys.{keys_extent}
 use Rattle.imports.specs.Tree.{DetailContext, Descendants, extract_subprogram_details}
 use Rattle.imports.specs.Import.{descendants_of, rooted}
 use Rattle.ranges.specs.RangeTable.{range_record}
-use Rattle.dies.specs.declared.dies.Details.{Details}
+use Rattle.dies.specs.declared.details.Details.{Details}
 use Rattle.dies.specs.declared.dies.Extracted.{Extracted}
 use Rattle.dies.specs.Past.{is_past}
 
 -- the entries of the unit, from the field at place p on
 unfoldable pub entries_from : List ℕ → ℕ → List Entry
 entries_from s p = map entry_of (grouped entry_tag (unit_fields (fields (drop p s)))).groups
+
+-- the sheets of what is the same at every step
+abbrev pub main_of : Details → List ℕ
+main_of d = d.tables.sheets.main.now
+
+abbrev pub supplementary_of : Details → List ℕ
+supplementary_of d = d.tables.sheets.supplementary.now
+
+-- a third of the bytes of the range lists: the most ranges that one list can give (document 02, E9)
+abbrev pub third : RangeLists → ℕ
+third x = length x.lists.now / range_least
 
 -- the units of both sheets, with the list section and the address table
 abbrev pub dwarf_with : List ℕ → List ℕ → List ℕ → List ℕ → Dwarf
@@ -45,6 +57,10 @@ context_in main supplementary lists addresses w d = record {
   include_inlines = d.include_inlines;
   include_call_sites = d.include_call_sites;
 }
+
+-- .. of its own sheets and lists
+abbrev pub context_now : List ℕ → Details → DetailContext
+context_now w d = context_in (main_of d) (supplementary_of d) d.lists.lists.now d.lists.addresses.now w d
 
 -- how many ranges, and how many entries, the main sheet has
 abbrev pub range_count : List ℕ → ℕ
@@ -66,12 +82,13 @@ list_count main d = (unit_here main d.unit).lists
 
 -- the room of range lists in the stack of ranges: one list, of `third` ranges at the most, for each of the 256 nodes that can be open, and one that is read
 unfoldable pub list_room : List ℕ → Details → ℕ
-list_room main d = d.third * open_lists (list_count main d)
+list_room main d = third d.lists * open_lists (list_count main d)
 
 -- the room of the stack of ranges: the function's own, the fields 19, the lists
 abbrev pub range_room : List ℕ → Details → ℕ
 range_room main d = 1 + range_count main + list_room main d
 
+-- Stays a clause: it speaks of a place of the sheet and holds which entry of the index stands there, so it is no proposition that a ghost field takes.
 -- what stands from place p on belongs to the unit at q: the index goes on there with the unit's entries, no more ranges and entries follow than the sheet has,
 -- and no more lists than the unit has
 pub record EntriesKnown (s : List ℕ) (q p : ℕ) : Type 0 where
@@ -80,6 +97,7 @@ pub record EntriesKnown (s : List ℕ) (q p : ℕ) : Type 0 where
   pub entries : length (payloads entry_tag (whole_fields (fields (drop p s)))) ≤ entry_count s
   pub lists : lists_from s p ≤ (unit_here s q).lists
 
+-- Stays a clause: it speaks of the lent work slice, which each step writes to.
 -- the search's tables and the unit's map stand below the stack of ranges, this below the open call sites, these below the closed ones, these below the
 -- followed targets
 pub record DetailsIn (main supplementary w : List ℕ) (d : Details) : Type 0 where
@@ -92,7 +110,7 @@ pub record DetailsIn (main supplementary w : List ℕ) (d : Details) : Type 0 wh
   pub ranges : d.ranges + range_record * range_room main d ≤ d.stack
   pub stack : d.stack + open_site * entry_count main ≤ d.sites
   pub sites : d.sites + closed_site * entry_count main ≤ d.tables.keys
-  pub third : 3 * d.third ≤ list_limit
+  pub third : 3 * third d.lists ≤ list_limit
   pub listless : d.with_lists ≡ false → list_count main d ≡ 0
 
 -- the bytes of a function's nodes, with the root above them, and of its call sites
@@ -121,3 +139,8 @@ pub record Extracts (main supplementary lists addresses w w' : List ℕ) (d : De
     (records records' warnings warnings' : List ℕ) (r : Result Extracted Refusal) : Type 0 where
   pub is : ExtractedBy main supplementary lists addresses w d name p depth at warned records records' warnings warnings' r
   pub rest : Kept w w' d.ranges (d.tables.keys + keys_extent main supplementary d.tables - d.ranges)
+
+-- .. by the details' own sheets, lists, name and depth
+abbrev pub ExtractsTo : Details → List ℕ → List ℕ → ℕ → ℕ → ℕ → List ℕ → List ℕ → List ℕ → List ℕ → Result Extracted Refusal → Type 0
+ExtractsTo d w w' p at warned t t' u u' r =
+    Extracts (main_of d) (supplementary_of d) d.lists.lists.now d.lists.addresses.now w w' d d.name.now p d.depth at warned t t' u u' r

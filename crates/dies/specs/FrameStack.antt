@@ -58,7 +58,8 @@ pub record Popped (st st' : Open) (d : ℕ) : Type 0 where
 -- the innermost node's ranges begin at range `from` of the stack; with none open these are the function's own, f, which is range 0
 pub record Top (st : Open) (from : ℕ) : Type 0 where
   pub within : from ≤ st.used
-  pub ranges : (f : AddressRange) (w : List ℕ) (base : ℕ) → ranges_at w base 1 ≡ f ∷ [] → parent_ranges f (open_in w base st) ≡ ranges_at w (base + from * 16) (st.used - from)
+  pub ranges : (f : AddressRange) (w : List ℕ) (base : ℕ) → ranges_at w base 1 ≡ f ∷ []
+      → parent_ranges f (open_in w base st) ≡ ranges_at w (base + from * 16) (st.used - from)
 
 -- one frame more, of depth d, whose ranges are the k from `used` on
 abbrev pub grown : Open → ℕ → ℕ → Open

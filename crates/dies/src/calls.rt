@@ -10,14 +10,23 @@ ghost use Rattle.dies.specs.Calls.{AboutWarned, FileCalled, LineCalled};
 
 use files::index::{FileNumber, StoredIndices};
 use references::attributes::{file_index_attribute, unsigned_attribute};
+use references::ways::absolute_entry_offset;
 use tlv::bytes::Number;
 use tlv::constants::{DW_AT_CALL_FILE, DW_AT_CALL_LINE};
 use tlv::model::FileIndex;
 use tlv::refusal::Refusal;
-use tlv::tags::UNIT_OFFSET;
+use tlv::tags::FIELD_HEAD;
+
+// Where an entry's offset in its unit stands, from its field's place on.
+const ENTRY_OFFSET: usize = FIELD_HEAD;
+
+// The kinds of the warnings about a call.
+const MISSING_CALL_FILE: u8 = 8;
+
+const INVALID_CALL_LINE: u8 = 9;
 
 // A call's file, and the place in the warnings after it.
-#[derive(Clone, Copy)]
+#[derive(Clone, Copy, Debug)]
 pub struct CalledFile {
     pub file: FileIndex,
     pub at: usize,
@@ -44,10 +53,7 @@ pub fn warn_about(
     requires entry_known { EntryKnown main.now unit p }
     ensures { AboutWarned main.now unit p kind number at warnings.old warnings.new (status_of result) (value_or at result) }
 {
-    let base = u64::read(main, unit + UNIT_OFFSET);
-    let Some(offset) = base.checked_add(u64::read(main, p + 3)) else {
-        return Err(Refusal::Overflow);
-    };
+    let offset = absolute_entry_offset(main, unit, u64::read(main, p + ENTRY_OFFSET))?;
     Ok(buffers::output::put_warning(warnings, at, kind, offset, number))
 }
 
@@ -74,7 +80,7 @@ pub fn call_file(
     match files::index::get_index(work, indices, FileNumber(number)) {
         Some(file) => Ok(CalledFile { file, at }),
         None => {
-            let warned = warn_about(main, warnings, unit, p, 8, number, at)?;
+            let warned = warn_about(main, warnings, unit, p, MISSING_CALL_FILE, number, at)?;
             Ok(CalledFile { file, at: warned })
         }
     }
@@ -96,10 +102,10 @@ pub fn call_line(
     let Some(n) = unsigned_attribute(main, unit, p, DW_AT_CALL_LINE) else {
         return Ok(CalledLine { line: 0, at });
     };
-    if n < 4294967296 {
+    if n <= u32::MAX as u64 {
         return Ok(CalledLine { line: n as u32, at });
     }
-    let warned = warn_about(main, warnings, unit, p, 9, n, at)?;
+    let warned = warn_about(main, warnings, unit, p, INVALID_CALL_LINE, n, at)?;
     Ok(CalledLine {
         line: 0,
         at: warned,

@@ -1,37 +1,17 @@
 // Inline trees and call sites of one function (the Rust's convert/dwarf/dies.rs).
-ghost use Rattle.std.specs.Prelude.{◌≡◌, ◌+◌, ◌/◌, ◌<◌, false, [], length};
+ghost use Rattle.std.specs.Prelude.{◌≡◌, false, []};
 ghost use Rattle.tlv.specs.Checked.{Placed};
-ghost use Rattle.rnglists.specs.Room.{range_least};
 ghost use Rattle.imports.specs.Import.{descendants_of};
-ghost use Rattle.dies.specs.Details.{DetailsIn, EntriesKnown, Extracts, entries_from};
-ghost use Rattle.dies.specs.DetailState.{Descends};
+ghost use Rattle.dies.specs.Details.{DetailsIn, EntriesKnown, ExtractsTo, entries_from, main_of, supplementary_of};
+ghost use Rattle.dies.specs.DetailState.{DescendsTo};
 
+use crate::details::Details;
 use crate::sites::put_sites;
 use crate::walk::{Walk, close, collect_entries};
-use files::index::StoredIndices;
-use references::tables::Tables;
 use tlv::bytes::Number;
 use tlv::fields::next_field;
-use tlv::model::AddressRange;
 use tlv::refusal::Refusal;
-use tlv::tags::{ENTRY_TAG, UNIT_TAG};
-
-// What is the same for every entry below a subprogram: the searches' tables, the unit's place and its map of file numbers, the function's range,
-// the two switches, where the open nodes' ranges, the open and the closed call sites are put, how many ranges a list can give, and whether the unit has lists.
-#[derive(Clone, Copy)]
-pub struct Details {
-    pub tables: Tables,
-    pub unit: usize,
-    pub indices: StoredIndices,
-    pub range: AddressRange,
-    pub include_inlines: bool,
-    pub include_call_sites: bool,
-    pub ranges: usize,
-    pub stack: usize,
-    pub sites: usize,
-    pub third: usize,
-    pub with_lists: bool,
-}
+use tlv::tags::{ENTRY_DEPTH, ENTRY_TAG, UNIT_TAG};
 
 // How many inline nodes there are below the root, the places in the records and the warnings after them, and whether the records pass the largest place.
 #[derive(Clone, Copy, Debug)]
@@ -42,30 +22,20 @@ pub struct Extracted {
     pub past: bool,
 }
 
-// The nodes and the call sites of the function of a name, from the entries that follow place p and are deeper than depth.
-fn collect_descendants<'a>(
-    main: &'a [u8],
-    supplementary: &'a [u8],
-    lists: &[u8],
-    addresses: &[u8],
+// The nodes and the call sites of the function, from the entries that follow place p and are deeper than it.
+fn collect_descendants(
+    d: Details,
     work: &mut [u8],
     records: &mut [u8],
     warnings: &mut [u8],
-    d: Details,
-    name: &[u8],
     p: usize,
-    depth: u16,
     at: usize,
     warned: usize,
 ) -> Result<Extracted, Refusal>
-    requires details_in { DetailsIn main.now supplementary.now work.old d }
-    requires placed { Placed main.now p }
-    requires entries_known { EntriesKnown main.now d.unit p }
-    requires name_bound { 10 + length name.now < 65536 }
-    requires range_least_len { length lists.now / range_least ≡ d.third }
-    ensures { Descends main.now supplementary.now lists.now addresses.now work.old
-        work.new d name.now p depth at warned records.old records.new warnings.old warnings.new
-        result }
+    requires details_in { DetailsIn (main_of d) (supplementary_of d) work.old d }
+    requires placed { Placed (main_of d) p }
+    requires entries_known { EntriesKnown (main_of d) d.unit p }
+    ensures { DescendsTo d.entry work.old work.new p at warned records.old records.new warnings.old warnings.new result }
 {
     ranges::ranges::put_range_at(work, d.ranges, d.range);
     let start = Walk {
@@ -77,27 +47,14 @@ fn collect_descendants<'a>(
         warned,
         past: false,
     };
-    let e = collect_entries(
-        main,
-        supplementary,
-        lists,
-        addresses,
-        work,
-        records,
-        warnings,
-        d,
-        name,
-        p,
-        depth,
-        start,
-    )?;
-    let c = close(main, supplementary, work, d, e, 0);
-    let sites = put_sites(main, supplementary, work, records, d, c.at, c);
+    let e = collect_entries(d, work, records, warnings, p, start)?;
+    let c = close(d, work, e, 0);
+    let sites = put_sites(d, work, records, c.at, c);
     Ok(Extracted {
         nodes: c.nodes,
         at: sites.at,
         warned: c.warned,
-        past: c.past | sites.past,
+        past: c.past || sites.past,
     })
 }
 
@@ -110,53 +67,31 @@ fn has_entries(main: &[u8], p: usize, depth: u16) -> bool
         return false;
     };
     if field.tag == ENTRY_TAG {
-        return depth < u16::read(main, field.start + 8);
+        return depth < u16::read(main, p + ENTRY_DEPTH);
     }
     field.tag != UNIT_TAG
 }
 
-// Writes the nodes and the call sites of the function of a name, from the entries that follow place p and are deeper than depth.
+// Writes the nodes and the call sites of the function, from the entries that follow place p and are deeper than it.
 // Where no such entry follows, and with both switches off, there is nothing to set up.
-pub fn extract_subprogram_details<'a>(
-    main: &'a [u8],
-    supplementary: &'a [u8],
-    lists: &[u8],
-    addresses: &[u8],
+pub fn extract_subprogram_details(
+    d: Details,
     work: &mut [u8],
     records: &mut [u8],
     warnings: &mut [u8],
-    d: Details,
-    name: &[u8],
     p: usize,
-    depth: u16,
     at: usize,
     warned: usize,
 ) -> Result<Extracted, Refusal>
-    requires details_in { DetailsIn main.now supplementary.now work.old d }
-    requires placed { Placed main.now p }
-    requires entries_known { EntriesKnown main.now d.unit p }
-    requires name_bound { 10 + length name.now < 65536 }
-    requires range_least_len { length lists.now / range_least ≡ d.third }
-    ensures { Extracts main.now supplementary.now lists.now addresses.now work.old
-        work.new d name.now p depth at warned records.old records.new warnings.old warnings.new
-        result }
+    requires details_in { DetailsIn (main_of d) (supplementary_of d) work.old d }
+    requires placed { Placed (main_of d) p }
+    requires entries_known { EntriesKnown (main_of d) d.unit p }
+    ensures { ExtractsTo d.entry work.old work.new p at warned records.old records.new warnings.old warnings.new result }
 {
-    if has_entries(main, p, depth) && (d.include_inlines || d.include_call_sites) {
-        return collect_descendants(
-            main,
-            supplementary,
-            lists,
-            addresses,
-            work,
-            records,
-            warnings,
-            d,
-            name,
-            p,
-            depth,
-            at,
-            warned,
-        );
+    if has_entries(d.tables.sheets.main, p, d.depth)
+        && (d.include_inlines || d.include_call_sites)
+    {
+        return collect_descendants(d, work, records, warnings, p, at, warned);
     }
     Ok(Extracted {
         nodes: 0,

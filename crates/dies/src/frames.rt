@@ -2,13 +2,14 @@
 ghost use Rattle.dies.specs.FrameStack.{Ready, Empty, Popped, Top, shrunk};
 
 // An open node: the depth of its entry, and where its ranges begin in the stack of ranges.
-#[derive(Clone, Copy)]
+#[derive(Clone, Copy, Debug)]
 pub struct Frame {
     pub depth: u16,
     pub ranges: u32,
 }
 
 // The open nodes, of which there are n. The stack has `used` ranges: the function's own, and then each node's, the innermost last.
+// Stays bare: it holds 256 frames, and nothing prints or compares it.
 #[derive(Clone, Copy)]
 pub struct Open {
     pub frames: [Frame; 256],
@@ -31,7 +32,7 @@ pub fn none_open() -> Open
 }
 
 // What is left of the open nodes: how many there are, and how many ranges the stack has.
-#[derive(Clone, Copy)]
+#[derive(Clone, Copy, Debug)]
 pub struct Left {
     pub n: usize,
     pub used: usize,
@@ -42,18 +43,15 @@ pub fn finish_inlines(st: Open, depth: u16) -> Left
     requires { Ready st }
     ensures { Popped st (shrunk st result) depth }
 {
-    let mut n = st.n;
     let mut used = st.used;
-    // Stays a while: the count at which it stops is the answer.
-    while 0 < n {
-        let t = st.frames[n - 1];
+    for i in (0..st.n).rev() {
+        let t = st.frames[i];
         if t.depth < depth {
-            return Left { n, used };
+            return Left { n: i + 1, used };
         }
         used = t.ranges as usize;
-        n -= 1;
     }
-    Left { n, used }
+    Left { n: 0, used }
 }
 
 // Where the ranges of the innermost open node begin in the stack; with none open these are the function's own, at 0.

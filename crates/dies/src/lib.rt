@@ -2,6 +2,7 @@
 #![tactic(auto)]
 
 pub mod calls;
+pub mod details;
 pub mod dies;
 pub mod frames;
 pub mod nodes;

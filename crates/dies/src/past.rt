@@ -1,6 +1,15 @@
 // Whether what is laid into the records passes the largest place, at which a place stays.
-ghost use Rattle.std.specs.Prelude.{◌≡◌, ◌≤◌, ◌<◌};
+ghost use Rattle.std.specs.Prelude.{◌≡◌, ◌^◌, ◌≤◌, ◌<◌};
 ghost use Rattle.dies.specs.Past.{is_past, node_size};
+
+use tlv::tags::FIELD_HEAD;
+
+// The fewest bytes of a node's, a range's and a call site's field in the records: those of one with no name.
+const NODE_LEAST: usize = FIELD_HEAD + 10;
+
+const RANGE_FIELD: usize = FIELD_HEAD + 16;
+
+pub const SITE_LEAST: usize = FIELD_HEAD + 9;
 
 // Whether n bytes from a place on do.
 pub fn is_past(at: usize, n: usize) -> bool
@@ -11,12 +20,12 @@ pub fn is_past(at: usize, n: usize) -> bool
 
 // Whether a node does whose name has so many bytes, with k ranges, behind so many nodes; before the first stands the root, with the function's name.
 pub fn node_past(at: usize, nodes: usize, name: usize, inlined: usize, k: usize) -> bool
-    requires { (name < 65536) × (inlined < 65536) × (k ≤ 4294967296) }
+    requires { (name < 2 ^ 16) × (inlined < 2 ^ 16) × (k ≤ 2 ^ 32) }
     ensures { result ≡ is_past at (node_size nodes name inlined k) }
 {
-    let own = 13 + inlined + 19 * k;
+    let own = NODE_LEAST + inlined + RANGE_FIELD * k;
     if nodes == 0 {
-        return is_past(at, 32 + name + own);
+        return is_past(at, NODE_LEAST + RANGE_FIELD + name + own);
     }
     is_past(at, own)
 }

@@ -24,14 +24,14 @@ use Rattle.imports.specs.Import.{descendants_of, rooted}
 use Rattle.imports.specs.Tree.{Descendants, DetailContext, finish_inlines, finish, collect_entries, no_descendants, collect_descendants, extract_subprogram_details}
 use Rattle.ranges.specs.RangeTable.{PutRange}
 use Rattle.ranges.proofs.RangeTableLaws.{range-there}
-use Rattle.dies.specs.declared.dies.Details.{Details}
+use Rattle.dies.specs.declared.details.Details.{Details}
 use Rattle.dies.specs.declared.walk.Walk.{Walk}
 use Rattle.dies.specs.declared.dies.Extracted.{Extracted}
 use Rattle.dies.specs.declared.sites.LaidSites.{LaidSites}
 use Rattle.dies.specs.Past.{is_past}
 use Rattle.dies.specs.declared.frames.Open.{Open}
 use Rattle.dies.specs.FrameStack.{Empty}
-use Rattle.dies.specs.Details.{DetailsIn, EntriesKnown, list_count, context_in, entries_from, Extracts}
+use Rattle.dies.specs.Details.{DetailsIn, EntriesKnown, list_count, context_in, entries_from, Extracts, third}
 use Rattle.dies.specs.DetailState.{none_later, origin_name, ranges_later, entries_left, walk_of, Fits, new_bytes, walked, Advances, Shut, SitesPut, Descends}
 use Rattle.dies.proofs.FrameLaws.{open_none, lean-start}
 use Rattle.dies.proofs.SiteLaws.{sites-none, site-frames_none}
@@ -53,10 +53,10 @@ module _ {main supplementary w w₁ : List ℕ} {d : Details} {p : ℕ} {o : Ope
   start_fits h k = record {
     ready = E.ready;
     used = omega (arith, E.used, later-most main p, K.ranges);
-    fields = omega (arith, E.used, later-most main p, K.ranges, mul-le-mul_left d.third lists-few);
+    fields = omega (arith, E.used, later-most main p, K.ranges, mul-le-mul_left (third d.lists) lists-few);
     floor = 1;
     level = omega (arith, later-most main p, K.ranges);
-    lean = lean-start d.third E;
+    lean = lean-start (third d.lists) E;
     left = lists-few;
     sites = omega (arith, left-all main p, K.entries);
     nodes = omega (arith, left-all main p, K.entries);
@@ -126,16 +126,16 @@ module _ {main supplementary name w w₁ : List ℕ} {d : Details} {at warned : 
     nodes-past : s₃.past ≡ (false || is_past at (length (each_of node_bytes (rooted name d.range A.nodes))))
     nodes-past = rw (← root-first name d.range A.nodes) (S.past ∙ A.past z)
 
-    pub descends-done : at ≤ top → Descends main supplementary lists addresses w w₄ d name p depth at warned t t₃ u u₂ (Ok (record { nodes = s₃.nodes; at = r.at; warned = s₃.warned; past = s₃.past || r.past }))
+    pub descends-done : {o : Bool} → o ≡ (s₃.past || r.past) → at ≤ top → Descends main supplementary lists addresses w w₄ d name p depth at warned t t₃ u u₂ (Ok (record { nodes = s₃.nodes; at = r.at; warned = s₃.warned; past = o }))
     unfolding last walk_of
-    descends-done h = record {
+    descends-done e h = record {
       is = record {
         descendants = last;
         is = whole;
         count = S.nodes ∙ A.count z ∙ (let e : 0 + length A.nodes ≡ length A.nodes = omega arith in e);
         put = nodes-laid then Q.put;
         warns = rw S.warned (A.warned z);
-        passes = past-append h nodes-laid false _ nodes-past (ap (λ (x : Bool). s₃.past || x) Q.past);
+        passes = past-append h nodes-laid false _ nodes-past (e ∙ ap (λ (x : Bool). s₃.past || x) Q.past);
       };
       rest = kept_trans first-kept (kept_trans A.kept (kept_trans S.kept Q.rest));
     }

@@ -3,7 +3,7 @@ use mathlib.Core.Path.{◌≡◌, refl, sym, ap, ◌∙◌}
 use mathlib.Core.Bool.{true, false}
 use mathlib.Core.Logic.{inl, inr, ⊎_elim}
 use mathlib.Core.List.{List, [], ◌∷◌, map, append-nil}
-use Prim.Native.Nat.{ℕ, ◌+◌, ◌-◌, ◌*◌, ◌/◌, ◌≤◌, ◌<◌}
+use Prim.Native.Nat.{ℕ, ◌+◌, ◌-◌, ◌*◌, ◌≤◌, ◌<◌}
 use native.Mathlib.Omega.{arith}
 use lib.ListN.{length}
 use Rattle.std.specs.Prelude.{Result, Ok, Err}
@@ -30,10 +30,10 @@ use Rattle.imports.specs.Tree.{Descendants, DetailContext, fit, die_ranges, rang
 use Rattle.ranges.specs.RangeTable as table
 use Rattle.ranges.specs.RangeTable.{ranges_at, read_at, MergedBy, Merges}
 use Rattle.ranges.proofs.RangeTableLaws.{ranges-nil}
-use Rattle.dies.specs.declared.dies.Details.{Details}
+use Rattle.dies.specs.declared.details.Details.{Details}
 use Rattle.dies.specs.declared.walk.Walk.{Walk}
 use Rattle.dies.specs.FrameStack.{open_in, Top}
-use Rattle.dies.specs.Details.{DetailsIn, dwarf_with, context_in, range_room}
+use Rattle.dies.specs.Details.{DetailsIn, dwarf_with, context_in, range_room, third}
 use Rattle.dies.specs.DetailState.{ranges_later, entries_left, walk_of, Fits, OwnRanges, new_bytes, walked, Advances}
 use Rattle.dies.proofs.NodeRangeLaws.{read_here, node-ranges}
 use Rattle.dies.proofs.AttributeReads.{accepted-placed}
@@ -85,8 +85,8 @@ module _ {main supplementary w : List ℕ} {d : Details} {p : ℕ} {s : Walk} (D
   pub inline-room : {n : ℕ} → n ≡ length w → d.ranges + s.frames.used * 16 + 16 * length (table.range_fields main (p + 15)) ≤ n
   inline-room q = omega (arith, own-used D K F (length (table.range_fields main (p + 15))) (inl (omega arith)), D.ranges, D.stack, D.sites, D.tables.keys.room)
 
-  pub inline-list-room : {t n : ℕ} → t ≡ d.third → n ≡ length w → 1 ≤ table.own_lists main (p + 15) → d.ranges + s.frames.used * 16 + 16 * t ≤ n
-  inline-list-room {t} third q h = omega (arith, third, own-used D K F t (inr (omega arith, h)), D.ranges, D.stack, D.sites, D.tables.keys.room)
+  pub inline-list-room : {n : ℕ} → n ≡ length w → 1 ≤ table.own_lists main (p + 15) → d.ranges + s.frames.used * 16 + 16 * third d.lists ≤ n
+  inline-list-room q h = omega (arith, own-used D K F (third d.lists) (inr (omega arith, h)), D.ranges, D.stack, D.sites, D.tables.keys.room)
 
   -- a unit without lists has no entry with one
   pub inline-listless : d.with_lists ≡ false → table.own_lists main (p + 15) ≡ 0
@@ -94,7 +94,7 @@ module _ {main supplementary w : List ℕ} {d : Details} {p : ℕ} {s : Walk} (D
 
 -- ---- the step
 
-module _ {main supplementary w : List ℕ} {d : Details} {p : ℕ} {s : Walk} (lists addresses name t u : List ℕ) (small : length t < top) (tiny : length u < top) (D : DetailsIn main supplementary w d) (K : EntryKnown main d.unit p)
+module _ {main supplementary w : List ℕ} {d : Details} {p : ℕ} {s : Walk} (name t u : List ℕ) (small : length t < top) (tiny : length u < top) (D : DetailsIn main supplementary w d) (K : EntryKnown main d.unit p)
     (F : Fits main supplementary w d (ranges_later main p) (entries_left main p) s)
     {w₁ : List ℕ} {st' : ℕ} {inlined : List ℕ} (R : Resolved main supplementary d.tables w w₁ (resolve_name (dwarf_of main supplementary) (unit_here main d.unit) (entry_here main p)) st' inlined) where
   no-nodes : Put s.at (new_bytes name d.range s.nodes []) t t s.at
@@ -104,13 +104,13 @@ module _ {main supplementary w : List ℕ} {d : Details} {p : ℕ} {s : Walk} (l
   no-warnings = warn_none F.warned tiny
 
   pub inline-refused : (st' ≡ 0 → ⊥)
-      → Advances (make_inline_node (context_in main supplementary lists addresses w d) (entry_here main p)) main supplementary name d (ranges_later main (p + 15)) (entries_left main (p + 15)) w t u s w₁ t u st' s
-  inline-refused n = advance-refused n (kept-keys D R.rest) (λ ns ws. make-refused (context_in main supplementary lists addresses w d) (entry_here main p) _ (name-same lists addresses (dwarf_of main supplementary) _ _ ∙ given-refused st' inlined R.is n))
+      → Advances (make_inline_node (context_in main supplementary d.lists.lists.now d.lists.addresses.now w d) (entry_here main p)) main supplementary name d (ranges_later main (p + 15)) (entries_left main (p + 15)) w t u s w₁ t u st' s
+  inline-refused n = advance-refused n (kept-keys D R.rest) (λ ns ws. make-refused (context_in main supplementary d.lists.lists.now d.lists.addresses.now w d) (entry_here main p) _ (name-same d.lists.lists.now d.lists.addresses.now (dwarf_of main supplementary) _ _ ∙ given-refused st' inlined R.is n))
 
   -- the entry is passed over, and the memory of the state was not touched
   passed : {w' : List ℕ} → Kept w w' d.ranges (walked main supplementary d) → Fits main supplementary w' d (ranges_later main (p + 15)) (entries_left main (p + 15)) s
-      → ((ns : List InlineNode) (ws : List Warning) → make_inline_node (context_in main supplementary lists addresses w d) (entry_here main p) (walk_of main supplementary d w s ns ws) ≡ done (walk_of main supplementary d w' s ns ws))
-      → Advances (make_inline_node (context_in main supplementary lists addresses w d) (entry_here main p)) main supplementary name d (ranges_later main (p + 15)) (entries_left main (p + 15)) w t u s w' t u 0 s
+      → ((ns : List InlineNode) (ws : List Warning) → make_inline_node (context_in main supplementary d.lists.lists.now d.lists.addresses.now w d) (entry_here main p) (walk_of main supplementary d w s ns ws) ≡ done (walk_of main supplementary d w' s ns ws))
+      → Advances (make_inline_node (context_in main supplementary d.lists.lists.now d.lists.addresses.now w d) (entry_here main p)) main supplementary name d (ranges_later main (p + 15)) (entries_left main (p + 15)) w t u s w' t u 0 s
   passed {w'} kept fits ok = record {
     nodes = [];
     warnings = [];
@@ -125,8 +125,8 @@ module _ {main supplementary w : List ℕ} {d : Details} {p : ℕ} {s : Walk} (l
   }
 
   module _ (z : st' ≡ 0) where
-    found : resolve_name (dwarf_with main supplementary lists addresses) (unit_here main d.unit) (entry_here main p) ≡ done inlined
-    found = name-same lists addresses (dwarf_of main supplementary) (unit_here main d.unit) (entry_here main p) ∙ given-done st' inlined R.is z
+    found : resolve_name (dwarf_with main supplementary d.lists.lists.now d.lists.addresses.now) (unit_here main d.unit) (entry_here main p) ≡ done inlined
+    found = name-same d.lists.lists.now d.lists.addresses.now (dwarf_of main supplementary) (unit_here main d.unit) (entry_here main p) ∙ given-done st' inlined R.is z
 
     first : Fits main supplementary w₁ d (ranges_later main p) (entries_left main p) s
     first = fits_kept F R.rest (aside_keys D F _)
@@ -135,17 +135,17 @@ module _ {main supplementary w : List ℕ} {d : Details} {p : ℕ} {s : Walk} (l
     same-walk ns ws = walk_kept F R.rest (aside_keys D F _) ns ws
 
     pub inline-nameless : length inlined ≡ 0
-        → Advances (make_inline_node (context_in main supplementary lists addresses w d) (entry_here main p)) main supplementary name d (ranges_later main (p + 15)) (entries_left main (p + 15)) w t u s w₁ t u 0 s
+        → Advances (make_inline_node (context_in main supplementary d.lists.lists.now d.lists.addresses.now w d) (entry_here main p)) main supplementary name d (ranges_later main (p + 15)) (entries_left main (p + 15)) w t u s w₁ t u 0 s
     inline-nameless e = passed (kept-keys D R.rest) (fits_kept (later-fits D K F) R.rest (aside_keys D F _))
-        (λ ns ws. make-nameless (context_in main supplementary lists addresses w d) (entry_here main p) _ found e ∙ ap done (sym (same-walk ns ws)))
+        (λ ns ws. make-nameless (context_in main supplementary d.lists.lists.now d.lists.addresses.now w d) (entry_here main p) _ found e ∙ ap done (sym (same-walk ns ws)))
 
     -- what the definition reads of the entry
-    read_is : die_ranges (dwarf_with main supplementary lists addresses) (entry_here main p) ≡ read_at lists addresses main (p + 15)
-    read_is = read_here main supplementary lists addresses p _ 0x17 (p + 3) 12 (p + 15) refl (entry-step (accepted-placed (details-accepted D) K) K)
+    read_is : die_ranges (dwarf_with main supplementary d.lists.lists.now d.lists.addresses.now) (entry_here main p) ≡ read_at d.lists.lists.now d.lists.addresses.now main (p + 15)
+    read_is = read_here main supplementary d.lists.lists.now d.lists.addresses.now p _ 0x17 (p + 3) 12 (p + 15) refl (entry-step (accepted-placed (details-accepted D) K) K)
 
-    module _ (some-name : length inlined ≡ 0 → ⊥) (third : length lists / 3 ≡ d.third) where
+    module _ (some-name : length inlined ≡ 0 → ⊥) where
       module _ {from : ℕ} {w₂ : List ℕ} (T : Top s.frames from) {g : Result ℕ Refusal}
-          (H : Merges (read_at lists addresses main (p + 15)) main lists (p + 15) w₁ w₂ (d.ranges + from * 16) (s.frames.used - from) (d.ranges + s.frames.used * 16) g) where
+          (H : Merges (read_at d.lists.lists.now d.lists.addresses.now main (p + 15)) main d.lists.lists.now (p + 15) w₁ w₂ (d.ranges + from * 16) (s.frames.used - from) (d.ranges + s.frames.used * 16) g) where
         own-most : OwnRanges main d p H.most
         own-most = ⊎_elim (λ e. inl (omega arith)) (λ e. inr (omega (arith, e.0), e.1)) H.own
 
@@ -159,19 +159,16 @@ module _ {main supplementary w : List ℕ} {d : Details} {p : ℕ} {s : Walk} (l
         both-kept = kept_trans (kept-keys D R.rest) (kept-inside D H.rest (omega arith) (omega (arith, room, D.ranges, D.stack, D.sites)))
 
         pub inline-failed : {e : Refusal} → g ≡ Err e
-            → Advances (make_inline_node (context_in main supplementary lists addresses w d) (entry_here main p)) main supplementary name d (ranges_later main (p + 15)) (entries_left main (p + 15)) w t u s w₂ t u (number_of e) s
+            → Advances (make_inline_node (context_in main supplementary d.lists.lists.now d.lists.addresses.now w d) (entry_here main p)) main supplementary name d (ranges_later main (p + 15)) (entries_left main (p + 15)) w t u s w₂ t u (number_of e) s
         inline-failed {e} is =
-            let M : MergedBy (read_at lists addresses main (p + 15)) w₁ w₂ (d.ranges + from * 16) (s.frames.used - from) (d.ranges + s.frames.used * 16) (Err e) = rw is at H.is in
+            let M : MergedBy (read_at d.lists.lists.now d.lists.addresses.now main (p + 15)) w₁ w₂ (d.ranges + from * 16) (s.frames.used - from) (d.ranges + s.frames.used * 16) (Err e) = rw is at H.is in
             advance-refused (λ q. omega (arith, M.2)) both-kept
-            (λ ns ws. make-failed (context_in main supplementary lists addresses w d) (entry_here main p) _ found some-name (ap (λ (x : DieRanges). is_none x.failure) read_is ∙ M.0)
+            (λ ns ws. make-failed (context_in main supplementary d.lists.lists.now d.lists.addresses.now w d) (entry_here main p) _ found some-name (ap (λ (x : DieRanges). is_none x.failure) read_is ∙ M.0)
             ∙ ap refused (ap (λ (x : DieRanges). x.refusal) read_is ∙ M.1))
 
         module _ {k : ℕ} (e : g ≡ Ok k) where
-          merged : MergedBy (read_at lists addresses main (p + 15)) w₁ w₂ (d.ranges + from * 16) (s.frames.used - from) (d.ranges + s.frames.used * 16) (Ok k)
+          merged : MergedBy (read_at d.lists.lists.now d.lists.addresses.now main (p + 15)) w₁ w₂ (d.ranges + from * 16) (s.frames.used - from) (d.ranges + s.frames.used * 16) (Ok k)
           merged = rw e at H.is
-
-          pub inline-own : OwnRanges main d p k
-          inline-own = let few : k ≤ H.most = rw e at H.few in own-less main d p k H.most few own-most
 
           same-twice : (ns : List InlineNode) (ws : List Warning) → walk_of main supplementary d w₂ s ns ws ≡ walk_of main supplementary d w s ns ws
           same-twice ns ws = walk_kept first H.rest (aside-ranges D F _ room) ns ws ∙ same-walk ns ws
@@ -182,23 +179,23 @@ module _ {main supplementary w : List ℕ} {d : Details} {p : ℕ} {s : Walk} (l
 
           -- the ranges that were gathered are those of the definition
           gathered : (ns : List InlineNode) (ws : List Warning)
-              → coalesce_ranges (fit (parent_ranges d.range (walk_of main supplementary d w s ns ws).inline_stack) (ranges_of (dwarf_with main supplementary lists addresses) (entry_here main p))) ≡ ranges_at w₂ (d.ranges + s.frames.used * 16) k
+              → coalesce_ranges (fit (parent_ranges d.range (walk_of main supplementary d w s ns ws).inline_stack) (ranges_of (dwarf_with main supplementary d.lists.lists.now d.lists.addresses.now) (entry_here main p))) ≡ ranges_at w₂ (d.ranges + s.frames.used * 16) k
           unfolding ranges_of
           gathered ns ws =
               (λ i. coalesce_ranges (fit (parent_ranges d.range (parent-same ns ws i)) (map (λ x. x.range) (read_is i).given)))
-              ∙ sym (node-ranges d.ranges k w₁ w₂ (read_at lists addresses main (p + 15)).given T first.bottom merged.1)
+              ∙ sym (node-ranges d.ranges k w₁ w₂ (read_at d.lists.lists.now d.lists.addresses.now main (p + 15)).given T first.bottom merged.1)
 
-          makes : (ns : List InlineNode) (ws : List Warning) → make_inline_node (context_in main supplementary lists addresses w d) (entry_here main p) (walk_of main supplementary d w s ns ws)
-              ≡ push_inline (context_in main supplementary lists addresses w d) (entry_here main p) inlined (ranges_at w₂ (d.ranges + s.frames.used * 16) k) (walk_of main supplementary d w s ns ws)
-          makes ns ws = make-named (context_in main supplementary lists addresses w d) (entry_here main p) _ found some-name (ap (λ (x : DieRanges). is_none x.failure) read_is ∙ merged.0)
-              ∙ ap (λ (l : List AddressRange). push_inline (context_in main supplementary lists addresses w d) (entry_here main p) inlined l (walk_of main supplementary d w s ns ws)) (gathered ns ws)
+          makes : (ns : List InlineNode) (ws : List Warning) → make_inline_node (context_in main supplementary d.lists.lists.now d.lists.addresses.now w d) (entry_here main p) (walk_of main supplementary d w s ns ws)
+              ≡ push_inline (context_in main supplementary d.lists.lists.now d.lists.addresses.now w d) (entry_here main p) inlined (ranges_at w₂ (d.ranges + s.frames.used * 16) k) (walk_of main supplementary d w s ns ws)
+          makes ns ws = make-named (context_in main supplementary d.lists.lists.now d.lists.addresses.now w d) (entry_here main p) _ found some-name (ap (λ (x : DieRanges). is_none x.failure) read_is ∙ merged.0)
+              ∙ ap (λ (l : List AddressRange). push_inline (context_in main supplementary d.lists.lists.now d.lists.addresses.now w d) (entry_here main p) inlined l (walk_of main supplementary d w s ns ws)) (gathered ns ws)
 
           pub inline-empty : k ≡ 0
-              → Advances (make_inline_node (context_in main supplementary lists addresses w d) (entry_here main p)) main supplementary name d (ranges_later main (p + 15)) (entries_left main (p + 15)) w t u s w₂ t u 0 s
+              → Advances (make_inline_node (context_in main supplementary d.lists.lists.now d.lists.addresses.now w d) (entry_here main p)) main supplementary name d (ranges_later main (p + 15)) (entries_left main (p + 15)) w t u s w₂ t u 0 s
           inline-empty z = passed both-kept (fits-less second (ranges_later main (p + 15)) (entries_left main (p + 15)) (omega (arith, later-here D K)) (omega (arith, lists-here D K)) (omega (arith, left_here D K)))
               (λ ns ws. makes ns ws
-              ∙ ap (λ (l : List AddressRange). push_inline (context_in main supplementary lists addresses w d) (entry_here main p) inlined l (walk_of main supplementary d w s ns ws)) (ap (ranges_at w₂ (d.ranges + s.frames.used * 16)) z ∙ ranges-nil w₂ (d.ranges + s.frames.used * 16))
-              ∙ push-none (context_in main supplementary lists addresses w d) (entry_here main p) inlined (walk_of main supplementary d w s ns ws) ∙ ap done (sym (same-twice ns ws)))
+              ∙ ap (λ (l : List AddressRange). push_inline (context_in main supplementary d.lists.lists.now d.lists.addresses.now w d) (entry_here main p) inlined l (walk_of main supplementary d w s ns ws)) (ap (ranges_at w₂ (d.ranges + s.frames.used * 16)) z ∙ ranges-nil w₂ (d.ranges + s.frames.used * 16))
+              ∙ push-none (context_in main supplementary d.lists.lists.now d.lists.addresses.now w d) (entry_here main p) inlined (walk_of main supplementary d w s ns ws) ∙ ap done (sym (same-twice ns ws)))
 
           pub inline-fits : Fits main supplementary w₂ d (ranges_later main p) (entries_left main p) s
           inline-fits = second
@@ -206,12 +203,12 @@ module _ {main supplementary w : List ℕ} {d : Details} {p : ℕ} {s : Walk} (l
           pub inline-details : length w₂ ≡ length w → DetailsIn main supplementary w₂ d
           inline-details q = details_kept D both-kept (omega arith) q
 
-          same-context : context_in main supplementary lists addresses w₂ d ≡ context_in main supplementary lists addresses w d
+          same-context : context_in main supplementary d.lists.lists.now d.lists.addresses.now w₂ d ≡ context_in main supplementary d.lists.lists.now d.lists.addresses.now w d
           same-context = context-kept D both-kept (omega arith)
 
           pub inline-kept : {t' u' : List ℕ} {n : ℕ} {s' : Walk}
-              → Advances (push_inline (context_in main supplementary lists addresses w₂ d) (entry_here main p) inlined (ranges_at w₂ (d.ranges + s.frames.used * 16) k)) main supplementary name d (ranges_later main (p + 15)) (entries_left main (p + 15)) w₂ t u s w₂ t' u' n s'
-              → Advances (make_inline_node (context_in main supplementary lists addresses w d) (entry_here main p)) main supplementary name d (ranges_later main (p + 15)) (entries_left main (p + 15)) w t u s w₂ t' u' n s'
+              → Advances (push_inline (context_in main supplementary d.lists.lists.now d.lists.addresses.now w₂ d) (entry_here main p) inlined (ranges_at w₂ (d.ranges + s.frames.used * 16) k)) main supplementary name d (ranges_later main (p + 15)) (entries_left main (p + 15)) w₂ t u s w₂ t' u' n s'
+              → Advances (make_inline_node (context_in main supplementary d.lists.lists.now d.lists.addresses.now w d) (entry_here main p)) main supplementary name d (ranges_later main (p + 15)) (entries_left main (p + 15)) w t u s w₂ t' u' n s'
           inline-kept A = record {
             nodes = A.nodes;
             warnings = A.warnings;

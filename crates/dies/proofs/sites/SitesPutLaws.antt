@@ -30,7 +30,7 @@ use Rattle.references.specs.Tables.{EntryKnown, bytes_given}
 use Rattle.references.specs.Tables.{bytes_of}
 use Rattle.references.specs.Names.{dwarf_of, reference_name, Resolved}
 use Rattle.references.specs.Keys.{keys_extent}
-use Rattle.dies.specs.declared.dies.Details.{Details}
+use Rattle.dies.specs.declared.details.Details.{Details}
 use Rattle.dies.specs.declared.walk.Walk.{Walk}
 use Rattle.dies.specs.Past.{is_past}
 use Rattle.dies.specs.Details.{DetailsIn}
@@ -60,16 +60,6 @@ pub record Siting (main supplementary : List ℕ) (d : Details) (n at : ℕ) (w�
       ≡ (b || is_past place (length (sites_bytes (drop i (sites_at (origin_name main supplementary d.unit) w₀ d.sites n)))))
   pub kept : Kept w₀ w d.tables.keys (keys_extent main supplementary d.tables)
   pub size : length w ≡ length w₀
-
-pub siting-start : {main supplementary w : List ℕ} {d : Details} (n at : ℕ) (t : List ℕ) → DetailsIn main supplementary w d → at ≤ top → length t < top → Siting main supplementary d n at w t w t at 0 false
-siting-start {main} {supplementary} {w} {d} n at t D h k = record {
-  within = omega arith;
-  details = D;
-  left = left-start at _ t h k;
-  over = refl;
-  kept = kept_refl w d.tables.keys (keys_extent main supplementary d.tables);
-  size = refl;
-}
 
 module _ {main supplementary : List ℕ} {d : Details} {at : ℕ} {w₀ t₀ w t : List ℕ} {place i : ℕ} {b : Bool} {s : Walk} (D : DetailsIn main supplementary w₀ d) (F : Fits main supplementary w₀ d none_later 0 s)
     (S : Siting main supplementary d s.closed at w₀ t₀ w t place i b) where
@@ -128,13 +118,15 @@ module _ {main supplementary : List ℕ} {d : Details} {at : ℕ} {w₀ t₀ w t
           ∙ ap (λ (x : CallSite). encode 0x45 (site_payload x) ++ sites_bytes (drop (i + 1) (sites_at (origin_name main supplementary d.unit) w₀ d.sites s.closed))) site-is
 
       pub siting-next : {t₁ : List ℕ} {q : ℕ} → Put place (encode 0x45 (site_payload (record { return_offset = offset; pattern = name }))) t t₁ q → length w₁ ≡ length w
-          → {o : Bool} → o ≡ is_past place (12 + length name) → Siting main supplementary d s.closed at w₀ t₀ w₁ t₁ q (i + 1) (b || o)
-      siting-next P z O = record {
+          → {o : Bool} → o ≡ (b || is_past place (12 + length name)) → Siting main supplementary d s.closed at w₀ t₀ w₁ t₁ q (i + 1) o
+      siting-next {q = q} P z O = record {
         within = omega arith;
         details = details_kept S.details R.rest (omega (arith, D.ranges, D.stack, D.sites)) z;
         left = left-put _ _ S.left rest-is P;
         over = S.over ∙ ap (λ (l : List ℕ). b || is_past place (length l)) rest-is
-            ∙ past-turn S.left.fits P b _ (O ∙ ap (is_past place) (sym (site-length (record { return_offset = offset; pattern = name }))));
+            ∙ past-turn S.left.fits P b _ refl
+            ∙ ap (λ (x : Bool). x || is_past q (length (sites_bytes (drop (i + 1) (sites_at (origin_name main supplementary d.unit) w₀ d.sites s.closed)))))
+            (ap (λ (n : ℕ). b || is_past place n) (site-length (record { return_offset = offset; pattern = name })) ∙ sym O);
         kept = kept_trans S.kept R.rest;
         size = z ∙ S.size;
       }

@@ -17,7 +17,7 @@ use Rattle.buffers.proofs.TableLaws.{kept_refl, kept_trans}
 use Rattle.access.specs.Places.{entry_here}
 use Rattle.references.specs.Tables.{EntryKnown}
 use Rattle.imports.specs.Tree.{Descendants, DetailContext, finish, make_inline_node, collect_entry}
-use Rattle.dies.specs.declared.dies.Details.{Details}
+use Rattle.dies.specs.declared.details.Details.{Details}
 use Rattle.dies.specs.declared.walk.Walk.{Walk}
 use Rattle.dies.specs.Details.{DetailsIn, context_in}
 use Rattle.dies.specs.DetailState.{ranges_later, entries_left, walk_of, Fits, walked, Advances, Quiet, Shut, collect_site, step_entry}
@@ -61,9 +61,6 @@ module _ {main supplementary w : List ℕ} {d : Details} {p : ℕ} {s : Walk} (n
 
   tag_is : (entry_here main p).tag ≡ tag
   tag_is = entry_tag-here (details-accepted D) K ∙ sym et
-
-  pub shut-fits : Fits main supplementary w₁ d (ranges_later main p) (entries_left main p) s₁
-  shut-fits = S.fits (ranges_later main p) (entries_left main p) F
 
   pub shut-details : length w₁ ≡ length w → DetailsIn main supplementary w₁ d
   shut-details z = details_kept D S.kept (omega arith) z

@@ -22,18 +22,17 @@ use Rattle.buffers.specs.Table.{Kept}
 use Rattle.buffers.proofs.BufferLaws.{◌then◌, put-none, put-length}
 use Rattle.buffers.proofs.TableLaws.{kept_refl, kept_trans}
 use Rattle.access.specs.Places.{entry_here}
-use Rattle.access.proofs.EntryPlaceLaws.{entry_depth-is}
 use Rattle.references.specs.Tables.{EntryKnown}
 use Rattle.imports.specs.Import.{descendants_of}
 use Rattle.imports.specs.Tree.{Descendants, DetailContext, collect_entries}
-use Rattle.dies.specs.declared.dies.Details.{Details}
+use Rattle.dies.specs.declared.details.Details.{Details}
 use Rattle.dies.specs.declared.walk.Walk.{Walk}
 use Rattle.dies.specs.Past.{is_past}
 use Rattle.dies.specs.Details.{DetailsIn, EntriesKnown, context_in, entries_from}
 use Rattle.dies.specs.DetailState.{none_later, ranges_later, entries_left, walk_of, Fits, lead_bytes, new_bytes, walked, Advances, step_entry}
 use Rattle.dies.proofs.CallLaws.{warn_none}
 use Rattle.dies.proofs.PastLaws.{past_same, past-append}
-use Rattle.dies.proofs.EntryWalkLaws.{below-cons, from-entry, from-other, none-below, none-unit, none-stop, entry-room, left_other, later-other, lists-later-other, known-here, known-entry, known-other}
+use Rattle.dies.proofs.EntryWalkLaws.{below-cons, from-entry, from-other, none-below, none-unit, none-stop, depth-at, entry-room, left_other, later-other, lists-later-other, known-here, known-entry, known-other}
 use Rattle.dies.proofs.WalkStateLaws.{details_kept, context-kept, fits-less}
 use Rattle.dies.proofs.NodeStepLaws.{each_append, warnings-append, advance-refused}
 
@@ -154,7 +153,7 @@ module _ {main supplementary lists addresses name : List ℕ} {d : Details} {p d
     }
 
     module _ (is : f.tag ≡ 0x17) where
-      pub entry-fields : f.start + 12 ≤ length main
+      pub entry-fields : at + 15 ≤ length main
       entry-fields = entry-room main at f there C.placed is
 
       pub entry_known : EntryKnown main d.unit at
@@ -166,9 +165,9 @@ module _ {main supplementary lists addresses name : List ℕ} {d : Details} {p d
           let l = placed-entry main at (step_at main at) f.tag f.start f.len f.next C.placed refl (is-step main at f there) is in
           omega arith
 
-      module _ {n : ℕ} (en : n ≡ le_at 2 main (f.start + 8)) where
+      module _ {n : ℕ} (en : n ≡ le_at 2 main (at + 11)) where
         depth_is : (entry_here main at).depth ≡ n
-        depth_is = entry_depth-is main at (step_at main at) f.tag f.start f.len f.next refl (is-step main at f there) C.placed is ∙ sym en
+        depth_is = depth-at main at f there C.placed is ∙ sym en
 
         pub collecting-stop : n ≤ depth → Advances (collect_entries (context_in main supplementary lists addresses w₀ d) (descendants_of depth (entries_from main p))) main supplementary name d none_later 0 w₀ t₀ u₀ s₀ w t u 0 s
         collecting-stop h = ended (none-stop main at f there C.placed is depth en h)

@@ -11,11 +11,11 @@ unsigned_attribute-requires-clause-placed c = accepted-placed c.requires.accepte
 pub returns-in_default : goal.returns-in_default
 returns-in_default c = line-missing (omega arith) (omega arith) c.in_default.ensures
 
-pub returns-then-n-lt4294967296 : goal.returns-then-n-lt4294967296
-returns-then-n-lt4294967296 c = line_small (omega arith) (omega arith) c.in-Some.ensures c.if-n-lt4294967296.true
+pub returns-then-n : goal.returns-then-n
+returns-then-n c = line_small (omega arith) (omega arith) c.in-Some.ensures (omega arith)
 
 pub returns-in_err-warned : goal.returns-in_err-warned
-returns-in_err-warned c = rw (handed _ _ c.from_residual.ensures.1) (line-warned (omega arith) (omega arith) c.in-Some.ensures c.if-n-lt4294967296.false c.in_err-warned.ensures)
+returns-in_err-warned c = rw (handed _ _ c.from_residual.ensures.1) (line-warned (omega arith) (omega arith) c.in-Some.ensures (omega arith) c.in_err-warned.ensures)
 
 pub returns : goal.returns
-returns c = line-warned (omega arith) (omega arith) c.in-Some.ensures c.if-n-lt4294967296.false c.in_ok-warned.ensures
+returns c = line-warned (omega arith) (omega arith) c.in-Some.ensures (omega arith) c.in_ok-warned.ensures

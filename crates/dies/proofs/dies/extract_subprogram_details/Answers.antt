@@ -1,6 +1,6 @@
 -- `dies::extract_subprogram_details` meets its contract.
-use mathlib.Core.Path.{◌≡◌, refl, sym, ◌∙◌}
-use mathlib.Core.Bool.{true, false, ◌||◌}
+use mathlib.Core.Path.{◌≡◌, sym, ◌∙◌}
+use mathlib.Core.Bool.{true, ◌||◌}
 use native.Mathlib.Omega.{arith}
 use Rattle.dies.proofs.dies.ExtractLaws.{switched, extracts-off, extracts-none}
 use Rattle.dies.proofs.dies.extract_subprogram_details.Goals.{else-has_entries-via-then-has_entries+else-d-2, then-d, else-d, else-has_entries-via-else-has_entries}

@@ -15,6 +15,3 @@ returns-then-field-eq-ENTRY_TAG c = λ z. none-stop _ _ _ c.in-Some.ensures c.re
 
 pub returns : goal.returns
 returns c = λ z. none-unit _ _ _ c.in-Some.ensures _ (eqb-true _ _ (not-false _ z))
-
-pub overflow_add-field : goal.overflow_add-field
-overflow_add-field c = omega (arith, entry-room _ _ _ c.in-Some.ensures c.requires c.if-field-eq-ENTRY_TAG.true)

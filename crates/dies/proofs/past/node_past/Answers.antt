@@ -1,5 +1,4 @@
 -- `past::node_past` meets its contract.
-use native.Mathlib.Omega.{arith}
 use Rattle.dies.proofs.PastLaws.{past-rooted, past-alone}
 use Rattle.dies.proofs.past.node_past.Goals as goal
 

@@ -2,8 +2,5 @@
 use Rattle.dies.proofs.SiteLaws.{Closing}
 use Rattle.dies.proofs.sites.finish_call_sites.Given as goal
 
-abbrev pub invariant-loop-opened : goal.invariant-loop-opened
-invariant-loop-opened l = Closing l.initial.work l.work l.stack l.n l.sites l.m l.depth l.opened l.closed
-
-abbrev pub decreases-loop-opened : goal.decreases-loop-opened
-decreases-loop-opened l = l.opened
+abbrev pub invariant-loop-i : goal.invariant-loop-i
+invariant-loop-i l = Closing l.initial.work l.work l.stack l.n l.sites l.m l.depth l.i l.closed
