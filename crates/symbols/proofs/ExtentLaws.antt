@@ -20,7 +20,7 @@ use Rattle.ranges.proofs.InsertLaws.{apart-nonempty}
 use Rattle.ranges.proofs.ReorderLaws.{reordered-all, reordered-merge}
 use Rattle.lookup.specs.Lookup.{holds}
 use Rattle.lookup.proofs.DemandLaws.{some_holds}
-use Rattle.symbols.specs.declared.extents.Extents.{Extents}
+use Rattle.symbols.specs.declared.extents.RangeTables.{RangeTables}
 use Rattle.std.specs.Prelude.{Option, Some, None}
 use Rattle.symbols.specs.Walk.{ranges_in}
 use Rattle.symbols.specs.Extents.{Lying, HeldIn, Known, GatheredIn, Remembered}
@@ -81,11 +81,8 @@ learned {s} {w₁} {w₂} {n} {k} g m e =
 
 -- ---- one range more
 
-pub remember-none : {w w' : List ℕ} {tables : Option Extents} (x : AddressRange) → Remembered w w' tables x None
-remember-none x = record { grown = λ rs k. record { is = tt } }
-
 -- the second table holds what it held and the range, however it now stands there
-grown-by : {w w' : List ℕ} {e : Extents} (x : AddressRange) (m n : ℕ)
+grown-by : {w w' : List ℕ} {e : RangeTables} (x : AddressRange) (m n : ℕ)
     → Lying w' (record { functions = e.functions; base = e.base; merged = m; added = n })
     → ranges_at w' 0 e.functions ≡ ranges_at w 0 e.functions
     → ((y : ℕ) → Holds (ranges_at w' e.base n) y ↔ Holds (ranges_at w e.base e.added ++ (x ∷ [])) y)
@@ -121,19 +118,14 @@ turned_round y x rs = (to, from)
     from : Holds (rs ++ (x ∷ [])) y → Holds (x ∷ rs) y
     from h = ⊎_elim (λ u. inr u) one (held-split y rs (x ∷ []) h)
 
--- where all of the second table is merged, it is apart
-pub all_apart : {w : List ℕ} {e : Extents} {b : Bool} → Lying w e → (b ≡ true → e.merged ≡ e.added) → b ≡ true
-    → Apart (ranges_at w e.base e.added)
-all_apart {w} {e} l t c = subst (λ (n : ℕ). Apart (ranges_at w e.base n)) (t c) l.second
-
-module _ {w w₁ : List ℕ} {e : Extents} (x : AddressRange) (l : Lying w e) (full : Nonempty x) (put : PutRange w w₁ (e.base + e.added * 16) x) where
+module _ {w w₁ : List ℕ} {e : RangeTables} (x : AddressRange) (l : Lying w e) (full : Nonempty x) (put : PutRange w w₁ (e.base + e.added * 16) x) where
   pushed : ranges_at w₁ e.base (e.added + 1) ≡ ranges_at w e.base e.added ++ (x ∷ [])
   pushed = ranges-push e.base e.added put
 
   pub pushed-filled : All Nonempty (ranges_at w₁ e.base (e.added + 1))
   pushed-filled = rw pushed (all_append Nonempty (ranges_at w e.base e.added) (x ∷ []) l.filled (full, tt))
 
-module _ {w w₁ : List ℕ} {e : Extents} (x : AddressRange) (l : Lying w e)
+module _ {w w₁ : List ℕ} {e : RangeTables} (x : AddressRange) (l : Lying w e)
     (room : 16 ≤ length w - (e.base + e.added * 16)) where
   -- merged with all others at once
   pub remember-added : {n : ℕ} → Added w w₁ e.base e.added x n → length w₁ ≡ length w
@@ -205,7 +197,7 @@ module _ {w w₁ : List ℕ} {e : Extents} (x : AddressRange) (l : Lying w e)
 
 -- ---- is an address held, by the tables
 
-module _ {rs : List AddressRange} {w : List ℕ} {e : Extents} (k : Known rs w (Some e)) (a : ℕ) (b : Bool)
+module _ {rs : List AddressRange} {w : List ℕ} {e : RangeTables} (k : Known rs w (Some e)) (a : ℕ) (b : Bool)
     (first : b ≡ exists (holds a) (ranges_at w 0 e.functions)) where
   pub by_first : b ≡ true → true ≡ exists (holds a) rs
   by_first h = sym (exists-holds a rs ((k.is.same a).0 (inl (some_holds a (ranges_at w 0 e.functions) (sym first ∙ h)))))

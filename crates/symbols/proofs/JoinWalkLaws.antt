@@ -99,58 +99,41 @@ drop-all k l h = empty (drop k l) (length-drop k l ∙ omega arith)
     empty [] e = refl
     empty (y ∷ x) e = absurd (omega arith)
 
-module _ (g : List ℕ) (rs : List AddressRange) (x n : ℕ) (ex : x ≡ le_at 8 g 0) (en : n ≡ le_at 8 g 8) where
-  range-is : (symbol_of g).range ≡ record { start = x; end = x + n }
+module _ (g : List ℕ) (rs : List AddressRange) (r : AddressRange) (is : r ≡ (symbol_of g).range) where
+  same_start : exists (holds (symbol_of g).range.start) rs ≡ exists (holds r.start) rs
+  same_start = rw is
+
+  no-name : length g ≡ 16 → (symbol_of g).name ≡ []
   unfolding symbol_of
-  range-is = rw (ex, en)
+  no-name z = drop-all 16 g (omega arith)
 
-  name-is : (symbol_of g).name ≡ drop 16 g
-  unfolding symbol_of
-  name-is = refl
-
-  start_is : (symbol_of g).range.start ≡ x
-  start_is = ap (λ (r : AddressRange). r.start) range-is
-
-  end_is : (symbol_of g).range.end ≡ x + n
-  end_is = ap (λ (r : AddressRange). r.end) range-is
-
-  held-is : exists (holds (symbol_of g).range.start) rs ≡ exists (holds x) rs
-  held-is = ap (λ (a : ℕ). exists (holds a) rs) start_is
-
-  pub laid-empty : n ≡ 0 → laid_for rs (symbol_of g) ≡ []
-  laid-empty z = let a = start_is in let b = end_is in laid-passed rs (symbol_of g) (passed-size (symbol_of g) (omega arith))
+  pub laid-empty : r.start ≡ r.end → laid_for rs (symbol_of g) ≡ []
+  laid-empty z = laid-passed rs (symbol_of g) (passed-size (symbol_of g) (rw is at z))
 
   pub laid-nameless : length g ≡ 16 → laid_for rs (symbol_of g) ≡ []
-  laid-nameless z = laid-passed rs (symbol_of g) (passed-name (symbol_of g) (name-is ∙ drop-all 16 g (omega arith)))
+  laid-nameless z = laid-passed rs (symbol_of g) (passed-name (symbol_of g) (no-name z))
 
-  pub laid-held : (b : Bool) → b ≡ exists (holds x) rs → b ≡ true → laid_for rs (symbol_of g) ≡ []
-  laid-held b e k = laid-known rs (symbol_of g) (held-is ∙ sym e ∙ k)
+  pub laid-held : (b : Bool) → b ≡ exists (holds r.start) rs → b ≡ true → laid_for rs (symbol_of g) ≡ []
+  laid-held b e k = laid-known rs (symbol_of g) (same_start ∙ sym e ∙ k)
 
   -- a symbol that has a size and a name, and whose start is not held
-  pub laid-this : (b : Bool) → 16 ≤ length g → (n ≡ 0 → ⊥) → (length g ≡ 16 → ⊥) → b ≡ exists (holds x) rs → b ≡ false
-      → laid_for rs (symbol_of g) ≡ encode 0x41 (function_payload (record { start = x; end = x + n }) (drop 16 g))
+  laid-this : (b : Bool) → 16 ≤ length g → (r.start ≡ r.end → ⊥) → (length g ≡ 16 → ⊥) → b ≡ exists (holds r.start) rs → b ≡ false
+      → laid_for rs (symbol_of g) ≡ encode 0x41 (function_payload r (drop 16 g))
+  unfolding symbol_of
   laid-this b long z w e k =
-      let a = start_is in
-      let c = end_is in
-      let sized : (symbol_of g).range.start ≡ (symbol_of g).range.end → ⊥ = λ q. z (omega arith) in
-      let named : (symbol_of g).name ≡ [] → ⊥ = λ q. w (omega (arith, ap length (sym name-is ∙ q), length-drop 16 g)) in
-      laid-new rs (symbol_of g) (not-passed (symbol_of g) sized named) (held-is ∙ sym e ∙ k)
-      ∙ ap (λ (r : AddressRange). encode 0x41 (function_payload r (symbol_of g).name)) range-is
-      ∙ ap (λ (l : List ℕ). encode 0x41 (function_payload (record { start = x; end = x + n }) l)) name-is
+      let named : (symbol_of g).name ≡ [] → ⊥ = λ q. w (omega (arith, ap length q, length-drop 16 g)) in
+      let sized : (symbol_of g).range.start ≡ (symbol_of g).range.end → ⊥ = λ q. z (rw is q) in
+      laid-new rs (symbol_of g) (not-passed (symbol_of g) sized named) (same_start ∙ sym e ∙ k)
+      ∙ ap (λ (x : AddressRange). encode 0x41 (function_payload x (drop 16 g))) (sym is)
 
--- the part of the result that is lent: its first `at` bytes
-pub stands-part : (result : List ℕ) (at : ℕ) → Standing result at → Stands (take at result) 0
-stands-part result at s = record { previous = 0; depth = 0; formed = s.formed; within = omega arith }
-
--- a symbol that becomes a record is laid
-pub laid-put : {at q : ℕ} {t t' : List ℕ} (g : List ℕ) (rs : List AddressRange) (x n : ℕ) (b : Bool)
-    → Put at (encode 0x41 (function_payload (record { start = x; end = x + n }) (take (length g - 16) (drop 16 g)))) t t' q
-    → 16 ≤ length g → x ≡ le_at 8 g 0 → n ≡ le_at 8 g 8 → (n ≡ 0 → ⊥) → (length g ≡ 16 → ⊥) → b ≡ exists (holds x) rs → b ≡ false
-    → Put at (laid_for rs (symbol_of g)) t t' q
-laid-put {at} {q} {t} {t'} g rs x n b p long ex en z w e k =
-    let whole : take (length g - 16) (drop 16 g) ≡ drop 16 g = take_all (length g - 16) (drop 16 g) (omega (arith, length-drop 16 g)) in
-    put_as (laid-this g rs x n ex en b long z w e k)
-    (subst (λ (l : List ℕ). Put at (encode 0x41 (function_payload (record { start = x; end = x + n }) l)) t t' q) whole p)
+  -- it is laid
+  pub laid-put : {at q : ℕ} {t t' : List ℕ} (b : Bool) → Put at (encode 0x41 (function_payload r (take (length g - 16) (drop 16 g)))) t t' q
+      → 16 ≤ length g → (r.start ≡ r.end → ⊥) → (length g ≡ 16 → ⊥) → b ≡ exists (holds r.start) rs → b ≡ false
+      → Put at (laid_for rs (symbol_of g)) t t' q
+  laid-put {at} {q} {t} {t'} b p long z w e k =
+      let whole : take (length g - 16) (drop 16 g) ≡ drop 16 g = take_all (length g - 16) (drop 16 g) (omega (arith, length-drop 16 g)) in
+      put_as (laid-this b long z w e k) (subst (λ (l : List ℕ). Put at (encode 0x41 (function_payload r l)) t t' q) whole p)
 
 pub symbol_range-is : (g : List ℕ) (x n : ℕ) → x ≡ le_at 8 g 0 → n ≡ le_at 8 g 8 → record { start = x; end = x + n } ≡ (symbol_of g).range
-symbol_range-is g x n ex en = sym (range-is g [] x n ex en)
+unfolding symbol_of
+symbol_range-is g x n ex en = rw (ex, en)

@@ -8,7 +8,7 @@ use native.Mathlib.Omega.{arith}
 use native.Mathlib.Decide.{dec_le}
 use lib.Dec.{leb, ltb}
 use lib.ListN.{drop}
-use borrow.Author.Tests.{le-leb, lt-leb, lt-ltb, le-ltb}
+use borrow.Author.Tests.{ltb-true, ltb-false, le-leb, lt-leb, lt-ltb, le-ltb}
 use Rattle.tlv.specs.declared.model.AddressRange.{AddressRange}
 use Rattle.tlv.specs.Lists.{exists}
 use Rattle.tlv.specs.Model.{range_of}
@@ -97,17 +97,8 @@ module _ (w : List ℕ) (p n : ℕ) where
   abbrev range_no : ℕ → AddressRange
   range_no i = range_of (chunk w (p + i * 16) 16)
 
-  -- what is before lo ends at or below the address, what is from hi on starts above it
-  pub record Sought (a lo hi : ℕ) : Type 0 where
-    pub order : lo ≤ hi
-    pub within : hi ≤ n
-    pub low : (i : ℕ) → i < lo → (range_no i).end ≤ a
-    pub high : (i : ℕ) → hi ≤ i → i < n → a < (range_no i).start
-
-  pub sought-start : (a : ℕ) → Sought a 0 n
-  sought-start a = record { order = omega arith; within = omega arith; low = λ i l. absurd (omega arith); high = λ i l h. absurd (omega arith) }
-
-  module _ (apart : Apart (ranges_at w p n)) (a lo hi : ℕ) (s : Sought a lo hi) where
+  -- the first m start at or below the address: the last of them does, and the one behind starts above it
+  module _ (apart : Apart (ranges_at w p n)) (a m : ℕ) (within : m ≤ n) (above : m < n → a < (range_no m).start) where
     filled : (i : ℕ) → i < n → (range_no i).start < (range_no i).end
     unfolding ranges_at records
     filled i l = apart-filled n range_no apart i l
@@ -116,61 +107,46 @@ module _ (w : List ℕ) (p n : ℕ) where
     unfolding ranges_at records
     ordered i j l h = apart-order n range_no apart i j l h
 
-    pub sought_none : hi ≤ lo → false ≡ exists (holds a) (ranges_at w p n)
+    none : ((i : ℕ) → i < m → (range_no i).end ≤ a) → false ≡ exists (holds a) (ranges_at w p n)
     unfolding ranges_at records
-    sought_none h = sym (tab-none a n range_no each)
+    none low = sym (tab-none a n range_no each)
       where
-        each : (i : ℕ) → i < n → holds a (range_no i) ≡ false
-        each i l = elim (dec_le lo i) [
-          | yes k ↦ holds-false a (range_no i) (inr (s.high i (omega arith) l))
-          | no k ↦ holds-false a (range_no i) (inl (s.low i (omega arith)))
+        high : (i : ℕ) → m ≤ i → i < n → a < (range_no i).start
+        high i k l = elim (dec_le i m) [
+          | yes h ↦ let s : i ≡ m = omega arith in subst (λ (j : ℕ). a < (range_no j).start) (sym s) (above (omega arith))
+          | no h ↦ let s = above (omega arith) in let f = filled m (omega arith) in let o = ordered m i (omega arith) l in omega arith
         ]
 
-    module _ (mid : ℕ) (x : AddressRange) (l : lo ≤ mid) (h : mid < hi) (is : x ≡ range_of (chunk w (p + mid * 16) 16)) where
-      pub sought-below : a < x.start → Sought a lo mid
-      sought-below k =
-          let b = s.within in
-          let e = ap (λ (r : AddressRange). r.start) is in
-          record {
-            order = l;
-            within = omega arith;
-            low = s.low;
-            high = λ i u v. elim (dec_le i mid) [
-              | yes m ↦ let q : (range_no i).start ≡ (range_no mid).start = ap (λ (j : ℕ). (range_no j).start) (omega arith) in omega arith
-              | no m ↦ let o = ordered mid i (omega arith) v in let f = filled mid (omega arith) in omega arith
-            ];
-          }
+        each : (i : ℕ) → i < n → holds a (range_no i) ≡ false
+        each i l = elim (dec_le m i) [
+          | yes k ↦ holds-false a (range_no i) (inr (high i k l))
+          | no k ↦ holds-false a (range_no i) (inl (low i (omega arith)))
+        ]
 
-      pub sought-found : x.start ≤ a → a < x.end → true ≡ exists (holds a) (ranges_at w p n)
+    pub sought-none : m ≡ 0 → false ≡ exists (holds a) (ranges_at w p n)
+    sought-none z = none (λ i l. absurd (omega arith))
+
+    module _ (x : AddressRange) (is : x ≡ range_no (m - 1)) (some : (m ≡ 0 → ⊥)) (below : (range_no (m - 1)).start ≤ a) where
+      sought-held : a < x.end → true ≡ exists (holds a) (ranges_at w p n)
       unfolding ranges_at records
-      sought-found k m =
-          let b = s.within in sym (tab-some a n range_no mid (omega arith) (subst (λ (r : AddressRange). holds a r ≡ true) is (holds-true a x k m)))
+      sought-held h =
+          let up : a < (range_no (m - 1)).end = subst (λ (r : AddressRange). a < r.end) is h in
+          sym (tab-some a n range_no (m - 1) (omega arith) (holds-true a (range_no (m - 1)) below up))
 
-      pub sought-above : x.end ≤ a → Sought a (mid + 1) hi
-      sought-above k =
-          let b = s.within in
-          let e = ap (λ (r : AddressRange). r.end) is in
-          record {
-            order = omega arith;
-            within = s.within;
-            low = λ i u. elim (dec_le mid i) [
-              | yes m ↦ let q : (range_no i).end ≡ (range_no mid).end = ap (λ (j : ℕ). (range_no j).end) (omega arith) in omega arith
-              | no m ↦ let o = ordered i mid (omega arith) (omega arith) in let f = filled mid (omega arith) in omega arith
-            ];
-            high = s.high;
-          }
+      sought-past : x.end ≤ a → false ≡ exists (holds a) (ranges_at w p n)
+      sought-past h =
+          let low : (range_no (m - 1)).end ≤ a = subst (λ (r : AddressRange). r.end ≤ a) is h in
+          none (λ i l. elim (dec_le (m - 1) i) [
+            | yes k ↦ let s : i ≡ m - 1 = omega arith in subst (λ (j : ℕ). (range_no j).end ≤ a) (sym s) low
+            | no k ↦ let o = ordered i (m - 1) (omega arith) (omega arith) in omega arith
+          ])
 
--- the middle of what is left
-module _ (w : List ℕ) (p n a lo hi : ℕ) (apart : Apart (ranges_at w p n)) (s : Sought w p n a lo hi) (l : lo < hi) (x : AddressRange)
-    (is : x ≡ range_of (chunk w (p + (lo + (hi - lo) / 2) * 16) 16)) where
-  pub middle-below : a < x.start → Sought w p n a lo (lo + (hi - lo) / 2)
-  middle-below k = sought-below w p n apart a lo hi s (lo + (hi - lo) / 2) x (omega arith) (omega arith) is k
-
-  pub middle-found : x.start ≤ a → a < x.end → true ≡ exists (holds a) (ranges_at w p n)
-  middle-found k m = sought-found w p n apart a lo hi s (lo + (hi - lo) / 2) x (omega arith) (omega arith) is k m
-
-  pub middle-above : x.end ≤ a → Sought w p n a (lo + (hi - lo) / 2 + 1) hi
-  middle-above k = sought-above w p n apart a lo hi s (lo + (hi - lo) / 2) x (omega arith) (omega arith) is k
+      pub sought-last : ltb a x.end ≡ exists (holds a) (ranges_at w p n)
+      sought-last = go (ltb a x.end) refl
+        where
+          go : (b : Bool) → ltb a x.end ≡ b → b ≡ exists (holds a) (ranges_at w p n)
+          go true q = sought-held (ltb-true a x.end q)
+          go false q = sought-past (ltb-false a x.end q)
 
 -- ---- both parts of a table
 

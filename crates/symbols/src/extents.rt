@@ -1,7 +1,9 @@
 // The ranges of the records in a result, in a lent work slice: those of the tray merged, and those of the symbols joined since. They decide about time alone.
-ghost use Rattle.std.specs.Prelude.{IfSome, ◌≡◌, true, ◌+◌, ◌*◌, ◌≤◌, length, take};
+ghost use Rattle.std.specs.Prelude.{IfSome, ◌≡◌, true, ◌+◌, ◌*◌, ◌≤◌, ◌<◌, length, take};
 ghost use Rattle.tlv.specs.Addresses.{Nonempty};
 ghost use Rattle.tlv.specs.Lists.{All, exists};
+ghost use Rattle.tlv.specs.Model.{range_of};
+ghost use Rattle.buffers.specs.Table.{chunk};
 ghost use Rattle.imports.specs.Ranges.{Apart};
 ghost use Rattle.ranges.specs.RangeTable.{ranges_at, MergedAt, range_record};
 ghost use Rattle.lookup.specs.Lookup.{holds};
@@ -10,8 +12,9 @@ ghost use Rattle.symbols.specs.Walk.{ranges_in, Standing};
 ghost use Rattle.symbols.specs.Extents.{GatheredIn, Lying, Known, Remembered};
 
 use crate::join::is_held;
+use buffers::search::lower_bound;
 use lookup::form::payload_of;
-use lookup::window::range_of;
+use lookup::ranges::{holds, range_of};
 use ranges::order::order_ranges;
 use ranges::ranges::{RANGE_RECORD, add_range, any_range, merge_ranges, put_range_at, range_at};
 use tlv::fields::next_field;
@@ -21,7 +24,7 @@ use tlv::tags::TRAY_FUNCTION_TAG;
 // The tables: `functions` merged ranges from the beginning of work on, and from `base` on `added` more, the first `merged` of which are merged. Where there
 // is no room for them, there are none.
 #[derive(Clone, Copy, Debug)]
-pub struct Extents {
+pub struct RangeTables {
     pub functions: usize,
     pub base: usize,
     pub merged: usize,
@@ -31,45 +34,40 @@ pub struct Extents {
 // How many ranges that come in no order wait at most: each costs a look until all are merged at once.
 const WAITING_MOST: usize = 1024;
 
-// Whether one of the n ranges at p, which are apart, holds an address: a binary search.
-fn in_ranges(work: &[u8], p: usize, n: usize, address: u64) -> bool
-    requires range_record_in_bounds { p + n * range_record ≤ length work.now }
-    requires apart { Apart (ranges_at work.now p n) }
-    ensures { result ≡ exists (holds address) (ranges_at work.now p n) }
-{
-    let mut lo: usize = 0;
-    let mut hi = n;
-    // Stays a loop: `partition_point` wants a slice of elements, and these are records in bytes.
-    while lo < hi {
-        let mid = lo + (hi - lo) / 2;
-        let r = range_at(work, p + mid * RANGE_RECORD);
-        if address < r.start {
-            hi = mid;
-        } else if address < r.end {
-            return true;
-        } else {
-            lo = mid + 1;
-        }
+// Ranges that stand one behind the other in a work slice.
+// Stays bare: it would print the bytes of a slice.
+#[derive(Clone, Copy)]
+struct RangeTable<'a> {
+    work: &'a [u8],
+    base: usize,
+    count: usize,
+    ghost within: { base + count * range_record ≤ length work.now },
+}
+
+impl RangeTable<'_> {
+    // Range i.
+    fn at(self, i: usize) -> AddressRange
+        requires { i < self.count }
+        ensures { result ≡ range_of (chunk self.entry.work.now (self.entry.base + i * range_record) range_record) }
+    {
+        range_at(self.work, self.base + i * RANGE_RECORD)
     }
-    false
-}
 
-// Whether one of the n ranges at p holds an address: a look at each.
-fn among(work: &[u8], p: usize, n: usize, address: u64) -> bool
-    requires { p + n * range_record ≤ length work.now }
-    ensures { result ≡ exists (holds address) (ranges_at work.now p n) }
-{
-    any_range(work, p, n, |r| r.start <= address && address < r.end)
-}
+    // Whether one of them, which are apart, holds an address: a binary search.
+    fn holds_apart(self, address: u64) -> bool
+        requires { Apart (ranges_at self.work.now self.base self.count) }
+        ensures { result ≡ exists (holds address) (ranges_at self.entry.work.now self.entry.base self.entry.count) }
+    {
+        let past = lower_bound(self.count, |i| self.at(i).start <= address);
+        past != 0 && address < self.at(past - 1).end
+    }
 
-// The same where the first m are apart.
-fn in_table(work: &[u8], p: usize, m: usize, n: usize, address: u64) -> bool
-    requires range_record_in_bounds { p + n * range_record ≤ length work.now }
-    requires m_le_n { m ≤ n }
-    requires apart { Apart (ranges_at work.now p m) }
-    ensures { result ≡ exists (holds address) (ranges_at work.now p n) }
-{
-    in_ranges(work, p, m, address) || among(work, p + m * RANGE_RECORD, n - m, address)
+    // Whether one of them holds an address: a look at each.
+    fn holds_among(self, address: u64) -> bool
+        ensures { result ≡ exists (holds address) (ranges_at self.entry.work.now self.entry.base self.entry.count) }
+    {
+        any_range(self.work, self.base, self.count, |r| holds(r, address))
+    }
 }
 
 // The n ranges at p merged, in whatever order they come.
@@ -104,13 +102,13 @@ fn gather_functions(s: &[u8], work: &mut [u8]) -> Option<usize>
 }
 
 // The tables of a tray with no symbol joined.
-pub fn learn(s: &[u8], work: &mut [u8]) -> Option<Extents>
+pub fn learn(s: &[u8], work: &mut [u8]) -> Option<RangeTables>
     requires { Stands s.now 0 }
     ensures { Known (ranges_in s.now) work.new result }
 {
     let n = gather_functions(s, work)?;
     let functions = settle(work, 0, n);
-    Some(Extents {
+    Some(RangeTables {
         functions,
         base: n * RANGE_RECORD,
         merged: 0,
@@ -124,7 +122,7 @@ pub fn is_held_with(
     at: usize,
     address: u64,
     work: &[u8],
-    tables: Option<Extents>,
+    tables: Option<RangeTables>,
 ) -> bool
     requires standing { Standing res.now at }
     requires known { Known (ranges_in (take at res.now)) work.now tables }
@@ -133,23 +131,41 @@ pub fn is_held_with(
     let Some(e) = tables else {
         return is_held(res, at, address);
     };
-    in_ranges(work, 0, e.functions, address) || in_table(work, e.base, e.merged, e.added, address)
+    let functions = RangeTable {
+        work,
+        base: 0,
+        count: e.functions,
+    };
+    let merged = RangeTable {
+        work,
+        base: e.base,
+        count: e.merged,
+    };
+    let waiting = RangeTable {
+        work,
+        base: e.base + e.merged * RANGE_RECORD,
+        count: e.added - e.merged,
+    };
+    functions.holds_apart(address) || merged.holds_apart(address) || waiting.holds_among(address)
 }
 
-// Whether a range can be merged with the n at p at once: all of these are merged, and it starts at or behind the start of the last, as in a list in the
-// order of its addresses.
-fn goes_behind(work: &[u8], p: usize, m: usize, n: usize, range: AddressRange) -> bool
-    requires { p + n * range_record ≤ length work.now }
-    ensures { result ≡ true → m ≡ n }
+// Whether a range can be merged with those of a table at once: all of these are merged, and it starts at or behind the start of the last, as in a list in
+// the order of its addresses.
+fn goes_behind(table: RangeTable, merged: usize, range: AddressRange) -> bool
+    ensures { result ≡ true → merged ≡ table.entry.count }
 {
-    if m != n {
+    if merged != table.count {
         return false;
     }
-    n == 0 || range_at(work, p + (n - 1) * RANGE_RECORD).start <= range.start
+    merged == 0 || table.at(merged - 1).start <= range.start
 }
 
 // The tables with the range of a symbol that was joined.
-pub fn remember(work: &mut [u8], tables: Option<Extents>, range: AddressRange) -> Option<Extents>
+pub fn remember(
+    work: &mut [u8],
+    tables: Option<RangeTables>,
+    range: AddressRange,
+) -> Option<RangeTables>
     requires nonempty { Nonempty range }
     requires lying { IfSome tables (Lying work.old) }
     ensures { Remembered work.old work.new tables range result }
@@ -159,9 +175,14 @@ pub fn remember(work: &mut [u8], tables: Option<Extents>, range: AddressRange) -
     if work.len() - end < RANGE_RECORD {
         return None;
     }
-    if goes_behind(work, e.base, e.merged, e.added, range) {
+    let table = RangeTable {
+        work,
+        base: e.base,
+        count: e.added,
+    };
+    if goes_behind(table, e.merged, range) {
         let n = add_range(work, e.base, e.added, range);
-        return Some(Extents {
+        return Some(RangeTables {
             merged: n,
             added: n,
             ..e
@@ -169,13 +190,13 @@ pub fn remember(work: &mut [u8], tables: Option<Extents>, range: AddressRange) -
     }
     put_range_at(work, end, range);
     if e.added - e.merged < WAITING_MOST {
-        return Some(Extents {
+        return Some(RangeTables {
             added: e.added + 1,
             ..e
         });
     }
     let n = settle(work, e.base, e.added + 1);
-    Some(Extents {
+    Some(RangeTables {
         merged: n,
         added: n,
         ..e

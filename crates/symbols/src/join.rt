@@ -8,13 +8,14 @@ ghost use Rattle.lookup.specs.Lookup.{holds};
 ghost use Rattle.symbols.specs.Symbols.{symbols_form, symbol_of, join_symbols};
 ghost use Rattle.symbols.specs.Answers.{join_given, JoinsWith};
 ghost use Rattle.symbols.specs.Extents.{Known};
-ghost use Rattle.symbols.specs.Walk.{ranges_in, laid_for, Standing, AllJoined, Cleared};
+ghost use Rattle.symbols.specs.Walk.{ranges_in, laid_for, Standing, AllJoined};
 
-use crate::extents::{Extents, is_held_with, learn, remember};
+use crate::extents::{RangeTables, is_held_with, learn, remember};
 use crate::form::check_symbols;
 use crate::model::SYMBOL_SIZE;
 use lookup::address::function_at;
 use lookup::form::{check_records, payload_of};
+use lookup::lent::refused;
 use tlv::bytes::Number;
 use tlv::fields::next_field;
 use tlv::model::AddressRange;
@@ -48,7 +49,7 @@ fn join_symbol(
     res: &mut [u8],
     at: usize,
     work: &[u8],
-    tables: Option<Extents>,
+    tables: Option<RangeTables>,
 ) -> usize
     requires le_len { 16 ≤ length payload.now }
     requires len_bound { length payload.now < 65536 }
@@ -57,17 +58,12 @@ fn join_symbol(
     requires known { Known (ranges_in (take at res.old)) work.now tables }
     ensures { Put at (laid_for (ranges_in (take at res.old)) (symbol_of payload.now)) res.old res.new result }
 {
-    let start = u64::read(payload, 0);
-    let size = u64::read(payload, 8);
-    let empty = size == 0;
+    let range = symbol_range(payload);
+    let empty = range.start == range.end;
     let nameless = payload.len() == SYMBOL_SIZE;
-    if empty || nameless || is_held_with(res, at, start, work, tables) {
+    if empty || nameless || is_held_with(res, at, range.start, work, tables) {
         return at;
     }
-    let range = AddressRange {
-        start,
-        end: start + size,
-    };
     buffers::output::put_function(res, at, range, &payload[SYMBOL_SIZE..])
 }
 
@@ -77,7 +73,7 @@ fn join_all(
     res: &mut [u8],
     from: usize,
     work: &mut [u8],
-    learned: Option<Extents>,
+    learned: Option<RangeTables>,
 ) -> usize
     requires symbols_value { symbols_form (fields symbols.now) ≡ true }
     requires bytes { Bytes symbols.now }
@@ -102,14 +98,6 @@ fn join_all(
         p = field.next;
     }
     at
-}
-
-// A refusal fills the result with 0.
-fn refused(res: &mut [u8], r: Refusal) -> Result<usize, Refusal>
-    ensures { Cleared r res.old res.new result }
-{
-    buffers::table::clear(res);
-    Err(r)
 }
 
 // The join, with the tables in work; the byte length of the result.

@@ -13,15 +13,16 @@ use Rattle.buffers.specs.Buffer.{Put}
 use Rattle.buffers.specs.Reader.{records_form}
 use Rattle.buffers.proofs.BufferLaws.{put-length, put-fits, put_whole, put-lost}
 use Rattle.lookup.specs.Tray.{functions_of}
+use Rattle.lookup.specs.Listing.{Cleared}
 use Rattle.lookup.specs.Window.{fitting, listed_in}
 use Rattle.std.specs.Prelude.{Option, Result, Ok}
 use Rattle.tlv.specs.declared.refusal.Refusal.{Refusal}
 use Rattle.tlv.specs.Refusals.{number_of}
-use Rattle.symbols.specs.declared.extents.Extents.{Extents}
+use Rattle.symbols.specs.declared.extents.RangeTables.{RangeTables}
 use Rattle.symbols.specs.Extents.{Known}
 use Rattle.symbols.specs.Symbols.{symbols_form, joined, join_symbols}
 use Rattle.symbols.specs.Answers.{join_given, SymbolsChecked, JoinsWith}
-use Rattle.symbols.specs.Walk.{ranges_in, whole_from, Standing, AllJoined, Cleared}
+use Rattle.symbols.specs.Walk.{ranges_in, whole_from, Standing, AllJoined}
 
 module _ (tray list result : List ℕ) where
   cleared-as : (n : Refusal) (result₁ result₂ : List ℕ) (x : Result ℕ Refusal) → length result₁ ≡ length result → Cleared n result₁ result₂ x
@@ -79,11 +80,8 @@ module _ (tray list result : List ℕ) where
           pub join-standing : Standing result₁ n
           join-standing = record { within = l; formed = rw taken (sym form ∙ not-false b h) }
 
-          pub join-known : {w : List ℕ} {e : Option Extents} → Known (ranges_in tray) w e → Known (ranges_in (take n result₁)) w e
+          pub join-known : {w : List ℕ} {e : Option RangeTables} → Known (ranges_in tray) w e → Known (ranges_in (take n result₁)) w e
           join-known {w} {e} known = subst (λ (l : List ℕ). Known (ranges_in l) w e) (sym taken) known
-
-          pub join-symbols-formed : symbols_form (fields list) ≡ true
-          join-symbols-formed = sym check.is ∙ not-false d k
 
           module _ (result₂ : List ℕ) (q : ℕ) (all : AllJoined list result₁ result₂ n q) (same : length result₂ ≡ length result₁) where
             pub join-short : (result₃ : List ℕ) (x : Result ℕ Refusal) → length result₂ < q → Cleared Refusal.ShortResult result₂ result₃ x
@@ -119,9 +117,3 @@ module _ (tray list result : List ℕ) where
                       drop_at tray (drop (length tray) result) (length tray) refl,
                       drop-drop (q - length tray) (length tray) result,
                     )
-
--- work is cleared
-pub joins-with : (tray list result result' w w₁ w₂ : List ℕ) (r : Result ℕ Refusal) → join_given r result' ≡ join_symbols tray list result → length w₁ ≡ length w
-    → w₂ ≡ replicate (length w₁) 0
-    → JoinsWith tray list result result' w w₂ r
-joins-with tray list result result' w w₁ w₂ r is l e = record { is = is; zeros = e ∙ ap (λ (n : ℕ). replicate n 0) l }

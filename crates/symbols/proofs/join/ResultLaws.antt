@@ -26,7 +26,7 @@ use Rattle.buffers.specs.Fits.{Short}
 use Rattle.buffers.proofs.BufferLaws.{take-overlay, part-overlay, put-length, put-fits}
 use Rattle.symbols.specs.Symbols.{symbol_formed, symbols_form, Symbol, symbol_of, joining, bare_bytes}
 use Rattle.symbols.specs.Walk.{ranges_in, symbols_from, laid_for, whole_from, Standing, AllJoined}
-use Rattle.symbols.specs.declared.extents.Extents.{Extents}
+use Rattle.symbols.specs.declared.extents.RangeTables.{RangeTables}
 use Rattle.symbols.specs.Extents.{Known, Remembered}
 use Rattle.symbols.proofs.JoinLaws.{Whole, symbol_fits, shorts}
 use Rattle.symbols.proofs.TurnLaws.{Turned, turned}
@@ -83,10 +83,6 @@ pub record Joins (list result₀ result : List ℕ) (from p at : ℕ) : Type 0 w
   pub whole : whole_from (take from result₀) list 0 ≡ whole_from (take at result) list p
   pub behind : drop at result ≡ drop at result₀
   pub size : length result ≡ length result₀
-
-pub joins-start : (list result : List ℕ) (from : ℕ) → symbols_form (fields list) ≡ true → Bytes list → Standing result from
-    → Joins list result result from 0 from
-joins-start list result from f b s = record { formed = f; bytes = b; standing = s; whole = refl; behind = refl; size = refl }
 
 drop-overlay : (k at : ℕ) (bs t : List ℕ) → at + length bs ≤ k → drop k (overlay at bs t) ≡ drop k t
 drop-overlay k at [] t h = refl
@@ -164,7 +160,7 @@ module _ {list result₀ result result' : List ℕ} {from p at q : ℕ} {f : Fie
   pub next-filled : (x : AddressRange) → q ≤ length result' → at < q → x ≡ symbol.range → Nonempty x
   next-filled x h l e = subst (λ (y : AddressRange). Nonempty y) (sym e) (step.filled (laid-some h l))
 
-  pub next_known : {w w' : List ℕ} {tables tables' : Option Extents} (x : AddressRange) → q ≤ length result' → at < q → x ≡ symbol.range
+  pub next_known : {w w' : List ℕ} {tables tables' : Option RangeTables} (x : AddressRange) → q ≤ length result' → at < q → x ≡ symbol.range
       → Known (ranges_in (take at result)) w tables → Remembered w w' tables x tables'
       → Known (ranges_in (take q result')) w' tables'
   next_known {w} {w'} {tables} {tables'} x h l e k m =
@@ -172,7 +168,7 @@ module _ {list result₀ result result' : List ℕ} {from p at q : ℕ} {f : Fie
       ap (λ (y : List ℕ). ranges_in y) (taken h) ∙ step.grown (laid-some h l) ∙ ap (λ (y : AddressRange). ranges_in (take at result) ++ (y ∷ [])) (sym e) in
       subst (λ (rs : List AddressRange). Known rs w' tables') (sym is) (m.grown (ranges_in (take at result)) k)
 
-  pub same_known : {w : List ℕ} {tables : Option Extents} → q ≤ length result' → q ≤ at → Known (ranges_in (take at result)) w tables
+  pub same_known : {w : List ℕ} {tables : Option RangeTables} → q ≤ length result' → q ≤ at → Known (ranges_in (take at result)) w tables
       → Known (ranges_in (take q result')) w tables
   same_known {w} {tables} h l k =
       let is : ranges_in (take q result') ≡ ranges_in (take at result) = ap (λ (y : List ℕ). ranges_in y) (taken h) ∙ step.alike (laid_none h l) in

@@ -1,6 +1,5 @@
 -- `extents::gather_functions` meets its contract.
 use borrow.Author.Rules.{rules}
-use Rattle.tlv.proofs.FieldLaws.{next-less, payload-within}
 use Rattle.lookup.proofs.StepLaws.{function-long}
 use Rattle.symbols.proofs.extents.GatherLaws.{gathering-start, gathered-all, gathering-other, gathering-this}
 use Rattle.symbols.proofs.extents.gather_functions.Goals as goal
@@ -8,20 +7,11 @@ use Rattle.symbols.proofs.extents.gather_functions.Goals as goal
 pub loop-field-init : goal.loop-field-init
 loop-field-init c = search gathering-start
 
-pub payload_of-requires : goal.payload_of-requires
-payload_of-requires c = payload-within _ _ _ c.in-Some.ensures
-
 pub range_of-requires : goal.range_of-requires
 range_of-requires c = search (rules, function-long, c.in-Some.ensures)
 
-pub loop-field-smaller : goal.loop-field-smaller
-loop-field-smaller c = next-less _ _ _ c.in-Some.ensures
-
 pub loop-field-preserved : goal.loop-field-preserved
 loop-field-preserved c = gathering-other c.loop-field.invariant c.in-Some.ensures c.if-field-eq-TRAY_FUNCTION_TAG.false
-
-pub loop-field-smaller-else-work-n-lt-RANGE_RECORD : goal.loop-field-smaller-else-work-n-lt-RANGE_RECORD
-loop-field-smaller-else-work-n-lt-RANGE_RECORD c = next-less _ _ _ c.in-Some.ensures
 
 pub loop-field-preserved-else-work-n-lt-RANGE_RECORD : goal.loop-field-preserved-else-work-n-lt-RANGE_RECORD
 loop-field-preserved-else-work-n-lt-RANGE_RECORD c = gathering-this c.loop-field.invariant c.in-Some.ensures _ _ c.if-field-eq-TRAY_FUNCTION_TAG.true

@@ -1,9 +1,27 @@
 -- `extents::is_held_with` meets its contract.
+use mathlib.Core.Path.{sym, ◌∙◌}
+use mathlib.Core.Bool.{true≢false}
+use Rattle.symbols.proofs.SoughtLaws.{in-first, in_rest}
 use Rattle.symbols.proofs.ExtentLaws.{by_first, by-second}
+use Rattle.symbols.proofs.extents.is_held_with.Goals.{then-holds_apart, else-holds_apart}
 use Rattle.symbols.proofs.extents.is_held_with.Goals as goal
 
-pub returns-then-in_ranges : goal.returns-then-in_ranges
-returns-then-in_ranges c = rw c.if-in_ranges.true (by_first (rw c.in-Some.is at c.requires.known) _ _ c.in_ranges.ensures c.if-in_ranges.true)
+pub returns-then-holds_apart-2 : goal.returns-then-holds_apart-2
+returns-then-holds_apart-2 c =
+    let k = rw c.in-Some.is at c.requires.known in
+    rw c.if-holds_apart-2.true (elim c.if-holds_apart.branch [
+      | then-holds_apart w ↦ by_first k _ _ c.holds_apart.ensures w.if-holds_apart.true
+      | else-holds_apart w ↦
+          by-second k _ _ c.holds_apart.ensures _ w.if-holds_apart.false
+          (in-first _ _ _ _ _ _ k.is.lying.some w.holds_apart-else-holds_apart.ensures (sym w.value-is ∙ c.if-holds_apart-2.true))
+    ])
 
-pub returns-else-in_ranges : goal.returns-else-in_ranges
-returns-else-in_ranges c = by-second (rw c.in-Some.is at c.requires.known) _ _ c.in_ranges.ensures _ c.if-in_ranges.false c.in_table.ensures
+pub returns-else-holds_apart-2 : goal.returns-else-holds_apart-2
+returns-else-holds_apart-2 c =
+    let k = rw c.in-Some.is at c.requires.known in
+    elim c.if-holds_apart.branch [
+      | then-holds_apart w ↦ absurd (true≢false (sym w.if-holds_apart.true ∙ sym w.value-is ∙ c.if-holds_apart-2.false))
+      | else-holds_apart w ↦
+          by-second k _ _ c.holds_apart.ensures _ w.if-holds_apart.false
+          (in_rest _ _ _ _ _ _ k.is.lying.some w.holds_apart-else-holds_apart.ensures _ (sym w.value-is ∙ c.if-holds_apart-2.false) c.holds_among.ensures)
+    ]

@@ -1,6 +1,6 @@
 -- `extents::remember` meets its contract.
 use native.Mathlib.Omega.{arith}
-use Rattle.symbols.proofs.ExtentLaws.{all_apart, remember-added, pushed-filled, remember-pushed, remember-settled}
+use Rattle.symbols.proofs.ExtentLaws.{remember-added, pushed-filled, remember-pushed, remember-settled}
 use Rattle.symbols.proofs.extents.remember.Goals as goal
 
 pub returns-then-goes_behind : goal.returns-then-goes_behind

@@ -1,15 +1,7 @@
 -- `join::join_all` meets its contract: what stands in the result and what is left of the list make the whole, and the tables hold what the records hold.
-use borrow.Author.Rules.{rules}
-use Rattle.tlv.proofs.FieldLaws.{next-less, payload-within}
-use Rattle.symbols.proofs.join.ResultLaws.{joins-start, joins-next, joins-short, joins-end, joins_long, joins-small, joins-fits}
+use Rattle.symbols.proofs.join.ResultLaws.{joins-next, joins-short, joins-end, joins_long, joins-small, joins-fits}
 use Rattle.symbols.proofs.join.ResultLaws.{next-filled, next_known, same_known}
 use Rattle.symbols.proofs.join.join_all.Goals as goal
-
-pub loop-field-init : goal.loop-field-init
-loop-field-init c = record { joins = search joins-start; known = search rules }
-
-pub payload_of-payload-requires : goal.payload_of-payload-requires
-payload_of-payload-requires c = payload-within _ _ _ c.in-Some.ensures
 
 pub join_symbol-then-requires-clause-le_len : goal.join_symbol-then-requires-clause-le_len
 join_symbol-then-requires-clause-le_len c = joins_long c.loop-field.invariant.joins c.in-Some.ensures _ c.payload_of-payload.ensures
@@ -36,9 +28,6 @@ remember-tables-requires-clause-nonempty c =
     let is = rw c.payload_of-payload.ensures at c.symbol_range.ensures in
     next-filled c.loop-field.invariant.joins c.in-Some.ensures laid _ c.if-res-then.false c.if-at-then.true is
 
-pub loop-field-smaller-then-at-then : goal.loop-field-smaller-then-at-then
-loop-field-smaller-then-at-then c = next-less _ _ _ c.in-Some.ensures
-
 pub loop-field-preserved-then-at-then : goal.loop-field-preserved-then-at-then
 loop-field-preserved-then-at-then c =
     let I = c.loop-field.invariant in
@@ -48,9 +37,6 @@ loop-field-preserved-then-at-then c =
       joins = joins-next I.joins c.in-Some.ensures laid c.if-res-then.false;
       known = next_known I.joins c.in-Some.ensures laid _ c.if-res-then.false c.if-at-then.true is I.known c.remember-tables.ensures;
     }
-
-pub loop-field-smaller : goal.loop-field-smaller
-loop-field-smaller c = next-less _ _ _ c.in-Some.ensures
 
 pub loop-field-preserved : goal.loop-field-preserved
 loop-field-preserved c =

@@ -1,6 +1,5 @@
 -- `join::join_in` meets its contract.
-use Rattle.lookup.proofs.LookLaws.{stands-start}
-use Rattle.symbols.proofs.join.AnswerLaws.{join-misshapen, join-bad, join-no-copy, join-standing, join-known, join-symbols-formed, join-short, join-done}
+use Rattle.symbols.proofs.join.AnswerLaws.{join-misshapen, join-bad, join-no-copy, join-standing, join-known, join-short, join-done}
 use Rattle.symbols.proofs.join.join_in.Goals as goal
 
 pub returns-then-not-check_records : goal.returns-then-not-check_records
@@ -11,12 +10,6 @@ returns-then-not-check_symbols c = search join-bad
 
 pub returns-then-res-copied : goal.returns-then-res-copied
 returns-then-res-copied c = search join-no-copy
-
-pub learn-tables-requires : goal.learn-tables-requires
-learn-tables-requires c = search stands-start
-
-pub join_all-n-requires-clause-symbols_value : goal.join_all-n-requires-clause-symbols_value
-join_all-n-requires-clause-symbols_value c = search join-symbols-formed
 
 pub join_all-n-requires-clause-standing : goal.join_all-n-requires-clause-standing
 join_all-n-requires-clause-standing c = search join-standing

@@ -9,12 +9,12 @@ use Rattle.symbols.proofs.join.join_symbol.Goals as goal
 
 pub returns-then-empty : goal.returns-then-empty
 returns-then-empty c = put-nothing (elim c.then-empty.branch [
-  | then-empty-via-then-empty w ↦ laid-empty _ _ _ _ c.read-start.ensures c.read-size.ensures w.if-empty.true
-  | then-empty-via-else-empty+then-nameless w ↦ laid-nameless _ _ _ _ c.read-start.ensures c.read-size.ensures w.if-nameless.true
+  | then-empty-via-then-empty w ↦ laid-empty _ _ _ c.symbol_range-range.ensures w.if-empty.true
+  | then-empty-via-else-empty+then-nameless w ↦ laid-nameless _ _ _ c.symbol_range-range.ensures w.if-nameless.true
   | then-empty-via-else-empty+else-nameless+then-is_held_with w ↦
-      laid-held _ _ _ _ c.read-start.ensures c.read-size.ensures _ w.is_held_with.ensures w.if-is_held_with.true
+      laid-held _ _ _ c.symbol_range-range.ensures _ w.is_held_with.ensures w.if-is_held_with.true
 ]) (omega arith) (omega arith)
 
 pub returns : goal.returns
-returns c = laid-put _ _ _ _ _ c.put_function.ensures c.requires.le_len c.read-start.ensures c.read-size.ensures c.if-empty.false
-    c.if-nameless.false c.is_held_with.ensures c.if-is_held_with.false
+returns c = laid-put _ _ _ c.symbol_range-range.ensures _ c.put_function.ensures c.requires.le_len c.if-empty.false c.if-nameless.false c.is_held_with.ensures
+    c.if-is_held_with.false
