@@ -27,40 +27,6 @@ use Rattle.lookup.proofs.StepLaws.{behind-is}
 use Rattle.look_index.specs.Index.{function_from, function_here}
 use Rattle.look_index.specs.LookIn.{IsHere}
 
--- ---- a turn of own_formed: v is the answer for all, and a turn begins at place p
-
-module _ (s : List ℕ) (p previous depth : ℕ) (v : Bool) (inv : v ≡ records_form previous depth (up_to_next (fields (drop p s)))) where
-  pub own-turn_end : length s ≤ p → not (eqb previous 0x43) ≡ v
-  unfolding records_form up_to_next
-  own-turn_end h = sym (inv ∙ rw (fields-at s p, step_end s p h))
-
-  -- bytes that are left and are no whole field
-  pub own-turn_cut : p < length s → None ≡ field_from s p → false ≡ v
-  unfolding records_form up_to_next
-  own-turn_cut h at = sym (inv ∙ rw (fields-at s p, cut-here s p at h))
-
-  module _ (f : FieldSpan) (at : Some f ≡ field_from s p) where
-    pub own-turn-function : f.tag ≡ 0x41 → not (eqb previous 0x43) ≡ v
-    unfolding records_form up_to_next
-    own-turn-function q = sym (inv ∙ rw (fields-field s p f at, q))
-
-    module _ (q : (f.tag ≡ 0x41 → ⊥)) where
-      here : v ≡ (exists (eqb f.tag) (records_after previous) && records_formed depth f.tag (take f.len (drop f.start s))
-          && records_form f.tag (depth_after depth (field_in s f.tag f.start f.len)) (up_to_next (fields (drop f.next s))))
-      unfolding records_form up_to_next
-      here = inv ∙ rw (fields-field s p f at, ne_eqb f.tag 0x41 q)
-
-      pub own-turn-order : false ≡ exists (eqb f.tag) (records_after previous) → false ≡ v
-      own-turn-order h = sym (here ∙ rw (← h))
-
-      module _ (g : List ℕ) (is : g ≡ take f.len (drop f.start s)) (order : true ≡ exists (eqb f.tag) (records_after previous)) where
-        pub own-turn-payload : false ≡ records_formed depth f.tag g → false ≡ v
-        own-turn-payload h = sym (here ∙ rw (← order, ← is, ← h))
-
-        pub own-turn_next : (d : ℕ) → true ≡ records_formed depth f.tag g → d ≡ depth_after depth (record { tag = f.tag; payload = g })
-            → v ≡ records_form f.tag d (up_to_next (fields (drop f.next s)))
-        own-turn_next d h k = here ∙ rw (← order, ← is, ← h, k)
-
 -- ---- what stands at a place
 
 module _ (s : List ℕ) (p : ℕ) where

@@ -94,10 +94,6 @@ pub record ExtentsPut (tray w w' : List ℕ) (n : ℕ) : Type 0 where
   pub laid : n * extent_size ≤ length w → InOrder tray w' n
   pub rest : Kept w w' 0 (n * extent_size)
 
-pub record Emptied (r : Refusal) (w w' : List ℕ) (x : Result Indexed Refusal) : Type 0 where
-  pub is : x ≡ Err r
-  pub zeros : w' ≡ replicate (length w) 0
-
 -- ---- one function of a tray of any content
 
 -- the function whose field stands at p, if one does and its own fields are in document 01's form; else 19

@@ -1,5 +1,6 @@
 -- Contract. Look-ups by an index: of any bytes the answer is told, and by the tray's own index it is the look-up's.
-use Rattle.std.specs.Prelude.{Option, Some, None, Result, Ok, Err, IfOk, ℕ, ◌*◌, ◌-◌, ◌≤◌, ◌<◌, ◌≡◌, Bool, true, false, cond, List, ltb, length, drop, replicate}
+use Rattle.std.specs.Prelude.{Option, Some, None, Result, Ok, Err, IfOk, ℕ, ◌*◌, ◌-◌}
+use Rattle.std.specs.Prelude.{◌≤◌, ◌<◌, ◌≡◌, Bool, true, false, cond, List, ltb, length, drop, replicate}
 use Rattle.tlv.specs.declared.refusal.Refusal.{Refusal}
 use Rattle.tlv.specs.Outcome.{Outcome, refused, done, ◌>>=◌}
 use Rattle.lookup.specs.declared.model.LookedUp.{LookedUp}

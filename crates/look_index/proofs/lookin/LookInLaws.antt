@@ -29,94 +29,14 @@ use Rattle.look_index.proofs.Indexing.{indexing}
 
 -- ---- the binary search
 
-pub record Halving (w : List ℕ) (n a lo hi : ℕ) : Type 0 where
-  pub within : lo ≤ hi
-  pub inside : hi ≤ n
-  pub below : 0 < lo → (extent_at w (lo - 1)).start ≤ a
-  pub above : hi < n → a < (extent_at w hi).start
-
-pub halving-start : (w : List ℕ) (n a : ℕ) → Halving w n a 0 n
-halving-start w n a = record { within = omega arith; inside = omega arith; below = λ h. absurd (omega arith); above = λ h. absurd (omega arith) }
-
-module _ {w : List ℕ} {n a lo hi : ℕ} (H : Halving w n a lo hi) where
-  pub halving-up : (mid x : ℕ) → mid < hi → x ≡ le_at 8 w (mid * 24) → x ≤ a → Halving w n a (mid + 1) hi
-  halving-up mid x l e h = record {
-    within = omega arith;
-    inside = H.inside;
-    below = λ z. let s : mid + 1 - 1 ≡ mid = omega arith in omega (arith, ap (λ (k : ℕ). (extent_at w k).start) s);
-    above = H.above;
-  }
-
-  pub halving-down : (mid x : ℕ) → lo ≤ mid → mid < hi → x ≡ le_at 8 w (mid * 24) → a < x → Halving w n a lo mid
-  halving-down mid x g l e h = record { within = g; inside = let i = H.inside in omega arith; below = H.below; above = λ z. omega arith }
-
-  pub halving-done : hi ≤ lo → Boundary w n a lo
-  halving-done h =
-      let i = H.inside in
-      let g = H.within in
-      let same : hi ≡ lo = omega arith in
-      record { within = omega arith; below = H.below; above = λ z. subst (λ (k : ℕ). a < (extent_at w k).start) same (H.above (omega arith)) }
-
-module _ {w : List ℕ} {n a m : ℕ} (B : Boundary w n a m) where
-  pub searched-none : m ≡ 0 → SearchedBy w n a None
-  searched-none e = record { is = (m, B, λ z. absurd (omega arith)) }
-
-  module _ (x : Extent) (e : x ≡ extent_at w (m - 1)) where
-    pub searched-at : (m ≡ 0 → ⊥) → a < x.end → SearchedBy w n a (Some (m - 1))
-    searched-at z h =
-        let l = B.within in
-        let up : a < (extent_at w (m - 1)).end = subst (λ (y : Extent). a < y.end) e h in
-        record { is = (omega arith, (B.below (omega arith), up)) }
-
-    pub searched-past : x.end ≤ a → SearchedBy w n a None
-    searched-past h =
-        let low : (extent_at w (m - 1)).end ≤ a = subst (λ (y : Extent). y.end ≤ a) e h in
-        record { is = (m, B, λ z k. let t = k.1 in omega arith) }
-
 -- ---- the pass
 
 abbrev pub NoneSo : List ℕ → ℕ → ℕ → Type 0
 NoneSo w a i = (j : ℕ) → j < i → ¬ ExtentHolds (extent_at w j) a
 
-pub none-start : (w : List ℕ) (a : ℕ) → NoneSo w a 0
-none-start w a j l = absurd (omega arith)
-
-module _ (w : List ℕ) (n a i : ℕ) (N : NoneSo w a i) (x : Extent) (e : x ≡ extent_at w i) where
-  pub scanned-at : i < n → x.start ≤ a → a < x.end → ScannedBy w n a (Some i)
-  scanned-at l g h = record { is = (l, subst (λ (y : Extent). ExtentHolds y a) e (g, h), N) }
-
-  none-further : ¬ ExtentHolds x a → NoneSo w a (i + 1)
-  none-further off j l h = by_less ⊥ j i (λ m. N j m h) (λ m. let s : j ≡ i = omega arith in off
-      (subst (λ (y : Extent). ExtentHolds y a) (ap (extent_at w) s ∙ sym e) h))
-
-  pub none_apart : (x.start ≤ a) × (x.end ≤ a) ⊎ (a < x.start) → NoneSo w a (i + 1)
-  none_apart (inl q) = none-further (λ k. let t = k.1 in omega arith)
-  none_apart (inr g) = none-further (λ k. let t = k.0 in omega arith)
-
-pub scanned-none : (w : List ℕ) (n a i : ℕ) → NoneSo w a i → n ≤ i → ScannedBy w n a None
-scanned-none w n a i N h = record { is = λ j l. N j (omega arith) }
-
--- ---- one of the two
-
-pub chosen-search : (w : List ℕ) (n a : ℕ) (rising : Bool) (c : Option ℕ) → rising ≡ true → SearchedBy w n a c → Chosen w n rising a c
-chosen-search w n a rising c e s = record { searched = λ _. s.is; scanned = λ z. absurd (true≢false (sym e ∙ z)) }
-
-pub chosen-pass : (w : List ℕ) (n a : ℕ) (rising : Bool) (c : Option ℕ) → rising ≡ false → ScannedBy w n a c → Chosen w n rising a c
-chosen-pass w n a rising c e s = record { searched = λ z. absurd (false≢true (sym e ∙ z)); scanned = λ _. s.is }
-
 -- ---- the answer
 
 module _ (tray w : List ℕ) (n a : ℕ) (rising : Bool) where
-  pub in-short : length w / 24 < n → LooksUpIn tray w n rising a (Err Refusal.ShortWork)
-  in-short l = record {
-    choice = None;
-    chosen = λ h. absurd (omega arith);
-    is = rw (lt-ltb (length w) (n * 24) (omega arith));
-    few = tt;
-    rest = tt;
-    own = λ I. let r = I.room in absurd (omega arith);
-  }
-
   module _ (l : n ≤ length w / 24) where
     fits : n * 24 ≤ length w
     fits = omega arith
@@ -154,7 +74,3 @@ module _ (tray w : List ℕ) (n a : ℕ) (rising : Bool) where
           let frames : frames_of a g ≡ record { function = y.place; row = place_of row; chain = take b.nodes b.places } = rw
           (z.here, z.rest, er, K.is) in
           whole (Some k) (Ok (record { function = y.place; row = row; chain = b })) C (sym (choice-is ∙ rw z.is (ap done frames))) K.few K.rest
-
-pub chosen-room : (w : List ℕ) (n a : ℕ) (rising : Bool) (k : ℕ) → Chosen w n rising a (Some k) → n ≤ length w / 24 → k * 24 + 24 ≤ length w
-chosen-room w n a true k C h = let s = C.searched refl in let l = s.0 in omega arith
-chosen-room w n a false k C h = let s = C.scanned refl in let l = s.0 in omega arith

@@ -4,4 +4,4 @@ use Rattle.look_index.proofs.lookin.LookInLaws.{NoneSo}
 use Rattle.look_index.proofs.lookin.by_pass.Given as goal
 
 abbrev pub invariant-loop-i : goal.invariant-loop-i
-invariant-loop-i l = (l.i ≤ l.n) × NoneSo l.index l.address l.i
+invariant-loop-i l = (l.i ≤ l.extents.count) × NoneSo l.extents.index.now l.address l.i
