@@ -130,9 +130,9 @@ module _ {main supplementary w w' : List ℕ} {q : ImportContext} {t : StoredFil
       let O = C.ordered in
       records-but index_of 5 q.places.indices.base q.places.indices.count K (below_rows O _ _ (le_refl _) (omega (arith, O.indices, O.lines, O.sequences)))
 
-  text_same : ranges_at w' q.text q.text_count ≡ ranges_at w q.text q.text_count
+  text_same : ranges_at w' q.text.base q.text.count ≡ ranges_at w q.text.base q.text.count
   unfolding ranges_at
-  text_same = let O = C.ordered in records-but addresses_of 16 q.text q.text_count K (below-spans O _ _ O.buffer O.text)
+  text_same = let O = C.ordered in records-but addresses_of 16 q.text.base q.text.count K (below-spans O _ _ O.buffer O.text)
 
   -- the tables stay, and the file table has become another
   pub context-kept : {t' : StoredFiles} → length w' ≡ length w → t'.base ≡ t.base → t'.room ≡ t.room → FilesIn main supplementary w' t'

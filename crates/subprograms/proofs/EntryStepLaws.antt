@@ -137,11 +137,11 @@ module _ {main supplementary w w₁ : List ℕ} {q : ImportContext} {table : Sto
 
 module _ {main supplementary w : List ℕ} (lists addresses : List ℕ) {q : ImportContext} {p : ℕ} (st : ImportState) (C : ContextIn main supplementary w q st.table) (K : EntryKnown main q.unit p) where
   -- another entry than a subprogram
-  pub entry-passed : {t f u : List ℕ} → (le_at 2 main (p + 13) ≡ 0x2e → ⊥) → st.at ≤ top → st.warned ≤ top → length t < top → length f < top → length u < top
+  pub entry-passed : {t f u : List ℕ} → (le_at 2 main (p + 13) ≡ 0x2e → ⊥) → length t < top → length f < top → length u < top
       → Imports (import_entry (context_with main supplementary lists addresses w q) (entry_here main p) (below_entry main p)) (sheets main supplementary) q (memory w t f u) st (memory w t f u) 0 st
-  entry-passed h at warned small tiny few =
+  entry-passed h small tiny few =
       grows_as (λ s. entry_other (context_with main supplementary lists addresses w q) (entry_here main p) (below_entry main p) s (λ e. h (sym (tag_is C K) ∙ e)))
-      (grows_none C.files at warned small tiny few)
+      (grows_none C.files small tiny few)
 
   module _ (is : le_at 2 main (p + 13) ≡ 0x2e) {w₁ name : List ℕ} {st' : ℕ}
       (R : Resolved main supplementary q.places.tables w w₁ (resolve_name (dwarf_of main supplementary) (unit_here main q.unit) (entry_here main p)) st' name) where
@@ -153,10 +153,9 @@ module _ {main supplementary w : List ℕ} (lists addresses : List ℕ) {q : Imp
         → Imports (import_entry (context_with main supplementary lists addresses w q) (entry_here main p) (below_entry main p)) (sheets main supplementary) q (memory w t f u) st (memory w₁ t f u) st' st
     name-refused h = grows_no h (λ rs ws. entry-refused (context_with main supplementary lists addresses w q) (entry_here main p) (below_entry main p) _ (tag_is C K ∙ is) (same_name ∙ given-refused st' name R.is h))
 
-    module _ (size : length w₁ ≡ length w) (z : st' ≡ 0) {t f u : List ℕ}
-        (at : st.at ≤ top) (warned : st.warned ≤ top) (small : length t < top) (tiny : length f < top) (few : length u < top) where
+    module _ (size : length w₁ ≡ length w) (z : st' ≡ 0) {t f u : List ℕ} (small : length t < top) (tiny : length f < top) (few : length u < top) where
       searched : Imports done (sheets main supplementary) q (memory w t f u) st (memory w₁ t f u) 0 st
-      searched = grows_beside (walk-written C R.rest) (same-table C R.rest) (files-after C R.rest size) at warned small tiny few
+      searched = grows_beside (walk-written C R.rest) (same-table C R.rest) (files-after C R.rest size) small tiny few
 
       pub name-empty : None ≡ found_name name
           → Imports (import_entry (context_with main supplementary lists addresses w q) (entry_here main p) (below_entry main p)) (sheets main supplementary) q (memory w t f u) st (memory w₁ t f u) 0 st

@@ -43,7 +43,7 @@ use Rattle.subprograms.specs.declared.model.ImportContext.{ImportContext}
 use Rattle.subprograms.specs.Contexts.{ContextIn, context_with}
 use Rattle.subprograms.specs.Steps.{sheets, memory, Imports, Rejects, import_one, import_failing, below_entry}
 use Rattle.subprograms.proofs.ContextLaws.{context-same}
-use Rattle.subprograms.proofs.StepLaws.{grows_none, refused_as, imports_then, grows-refused, grows_as, imports-rejected, grows_at, imports-context}
+use Rattle.subprograms.proofs.StepLaws.{grows_none, refused_as, imports_then, grows-refused, grows_as, imports-rejected, imports-context}
 
 -- ---- what the definition does
 
@@ -88,15 +88,18 @@ module _ (s : List ℕ) (p : ℕ) (r : FieldSpan) (own : NextOwn s p 0x19 (Some 
     long : r.len ≡ 17
     long = let f = own-field s p 0x19 r own h in placed-range s f.place (step_at s f.place) 0x19 r.start r.len r.next f.here refl f.is refl
 
-    given-more : (x : AddressRange) (flag : ℕ) → x ≡ range_of (chunk s r.start 16) → flag ≡ le_at 1 s (r.start + 16)
-        → map entry_range_of (range_fields s p) ≡ record { range = x; tombstone = eqb flag 1 } ∷ map entry_range_of (range_fields s r.next)
+    given-more : (x : AddressRange) (dead : Bool) → x ≡ range_of (chunk s r.start 16) → dead ≡ eqb (le_at 1 s (r.start + 16)) 1
+        → map entry_range_of (range_fields s p) ≡ record { range = x; tombstone = dead } ∷ map entry_range_of (range_fields s r.next)
     unfolding entry_range_of range_of
-    given-more x flag ex ef =
+    given-more x dead ex ed =
         ap (map entry_range_of) (sym own.is) ∙ (λ i. record {
           range = (front ∙ sym ex) i;
-          tombstone = eqb (number_at s r.start r.len 1 16 flag (omega (arith, long)) ef i) 1;
+          tombstone = (flag ∙ sym ed) i;
         } ∷ map entry_range_of (range_fields s r.next))
       where
+        flag : eqb (le_at 1 (take r.len (drop r.start s)) 16) 1 ≡ eqb (le_at 1 s (r.start + 16)) 1
+        flag = ap (λ (n : ℕ). eqb n 1) (number_at s r.start r.len 1 16 (le_at 1 s (r.start + 16)) (omega (arith, long)) refl)
+
         front : range_of (take r.len (drop r.start s)) ≡ range_of (chunk s r.start 16)
         front = λ i. record {
           start = number-first s r.start r.len 8 (le_at 8 (chunk s r.start 16) 0) (omega (arith, long)) (le_at-front 8 s r.start 16 (omega arith)) i;
@@ -109,8 +112,8 @@ module _ (s : List ℕ) (p : ℕ) (r : FieldSpan) (own : NextOwn s p 0x19 (Some 
 abbrev RangesFrom : List ℕ → List ℕ → List ℕ → List ℕ → ImportContext → List ℕ → ℕ → List ℕ → List EntryRange → State → Outcome State
 RangesFrom main supplementary lists addresses q name p w xs = import_ranges (context_with main supplementary lists addresses w q) (entry_here main p) (below_entry main p) name xs
 
-abbrev pub RangeOne : List ℕ → List ℕ → List ℕ → List ℕ → ImportContext → List ℕ → ℕ → List ℕ → AddressRange → ℕ → State → Outcome State
-RangeOne main supplementary lists addresses q name p w x flag = import_one (context_with main supplementary lists addresses w q) (entry_here main p) (below_entry main p) name (record { range = x; tombstone = eqb flag 1 })
+abbrev pub RangeOne : List ℕ → List ℕ → List ℕ → List ℕ → ImportContext → List ℕ → ℕ → List ℕ → AddressRange → Bool → State → Outcome State
+RangeOne main supplementary lists addresses q name p w x dead = import_one (context_with main supplementary lists addresses w q) (entry_here main p) (below_entry main p) name (record { range = x; tombstone = dead })
 
 -- whoever imports the ranges from place `at` on has imported all
 pub record Going (main supplementary lists addresses : List ℕ) (q : ImportContext) (name : List ℕ) (p : ℕ) (w₀ t₀ f₀ u₀ : List ℕ) (st₀ : ImportState)
@@ -118,8 +121,6 @@ pub record Going (main supplementary lists addresses : List ℕ) (q : ImportCont
   pub placed : Placed main at
   pub context : ContextIn main supplementary w q st.table
   pub same : context_with main supplementary lists addresses w q ≡ context_with main supplementary lists addresses w₀ q
-  pub records : st.at ≤ top
-  pub warned : st.warned ≤ top
   pub size : length w ≡ length w₀
   pub records-size : length t ≡ length t₀
   pub files-size : length f ≡ length f₀
@@ -130,14 +131,11 @@ pub record Going (main supplementary lists addresses : List ℕ) (q : ImportCont
 
 module _ {main supplementary w₀ : List ℕ} {q : ImportContext} {p : ℕ} {st₀ : ImportState} (lists addresses name t₀ f₀ u₀ : List ℕ) where
   pub going_start : ContextIn main supplementary w₀ q st₀.table → EntryKnown main q.unit p → Placed main (p + 15)
-      → st₀.at ≤ top → st₀.warned ≤ top
       → Going main supplementary lists addresses q name p w₀ t₀ f₀ u₀ st₀ w₀ t₀ f₀ u₀ st₀ (p + 15)
-  going_start C K h a b = record {
+  going_start C K h = record {
     placed = h;
     context = C;
     same = refl;
-    records = a;
-    warned = b;
     size = refl;
     records-size = refl;
     files-size = refl;
@@ -152,21 +150,21 @@ module _ {main supplementary lists addresses : List ℕ} {q : ImportContext} {na
   going_done N kt kf ku =
       G.finish w t f u 0 st
       (grows_as (λ s. ap (λ xs. RangesFrom main supplementary lists addresses q name p w₀ xs s) (given-end main at N) ∙ ranges-none (context_with main supplementary lists addresses w₀ q) (entry_here main p) (below_entry main p) name s)
-      (grows_none G.context.files G.records G.warned kt kf ku))
+      (grows_none G.context.files kt kf ku))
 
   module _ {field : FieldSpan} (N : NextOwn main at 0x19 (Some field)) where
     pub going-within : field.start + 17 ≤ length main
     going-within = omega (arith, long main at field N G.placed, own-within main at 0x19 field N)
 
-    module _ {x : AddressRange} {flag : ℕ} (ex : x ≡ range_of (chunk main field.start 16)) (ef : flag ≡ le_at 1 main (field.start + 16)) {w' t' f' u' : List ℕ} {n : ℕ} {r : ImportState}
-        (I : Imports (RangeOne main supplementary lists addresses q name p w x flag) (sheets main supplementary) q (memory w t f u) st (memory w' t' f' u') n r) where
+    module _ {x : AddressRange} {dead : Bool} (ex : x ≡ range_of (chunk main field.start 16)) (ed : dead ≡ eqb (le_at 1 main (field.start + 16)) 1) {w' t' f' u' : List ℕ} {n : ℕ} {r : ImportState}
+        (I : Imports (RangeOne main supplementary lists addresses q name p w x dead) (sheets main supplementary) q (memory w t f u) st (memory w' t' f' u') n r) where
       turn : (s : State) → RangesFrom main supplementary lists addresses q name p w₀ (map entry_range_of (range_fields main at)) s
-          ≡ RangeOne main supplementary lists addresses q name p w x flag s
+          ≡ RangeOne main supplementary lists addresses q name p w x dead s
           >>= RangesFrom main supplementary lists addresses q name p w₀ (map entry_range_of (range_fields main field.next))
       turn s =
-          ap (λ xs. RangesFrom main supplementary lists addresses q name p w₀ xs s) (given-more main at field N G.placed x flag ex ef)
-          ∙ ranges-step (context_with main supplementary lists addresses w₀ q) (entry_here main p) (below_entry main p) name (record { range = x; tombstone = eqb flag 1 }) (map entry_range_of (range_fields main field.next)) s
-          ∙ ap (λ (k : import.ImportContext). import_one k (entry_here main p) (below_entry main p) name (record { range = x; tombstone = eqb flag 1 }) s >>= RangesFrom main supplementary lists addresses q name p w₀ (map entry_range_of (range_fields main field.next))) (sym G.same)
+          ap (λ xs. RangesFrom main supplementary lists addresses q name p w₀ xs s) (given-more main at field N G.placed x dead ex ed)
+          ∙ ranges-step (context_with main supplementary lists addresses w₀ q) (entry_here main p) (below_entry main p) name (record { range = x; tombstone = dead }) (map entry_range_of (range_fields main field.next)) s
+          ∙ ap (λ (k : import.ImportContext). import_one k (entry_here main p) (below_entry main p) name (record { range = x; tombstone = dead }) s >>= RangesFrom main supplementary lists addresses q name p w₀ (map entry_range_of (range_fields main field.next))) (sym G.same)
 
       pub going-refused : {r' : ImportState} → (n ≡ 0 → ⊥)
           → Imports (RangesFrom main supplementary lists addresses q name p w₀ (entry_here main p).ranges) (sheets main supplementary) q (memory w₀ t₀ f₀ u₀) st₀ (memory w' t' f' u') n r'
@@ -178,8 +176,6 @@ module _ {main supplementary lists addresses : List ℕ} {q : ImportContext} {na
         placed = own-placed main at 0x19 field N G.placed;
         context = imports-context sw z G.context I;
         same = context-same G.context (I.kept z) lists addresses ∙ G.same;
-        records = (grows_at I z).0;
-        warned = (grows_at I z).1;
         size = sw ∙ G.size;
         records-size = st ∙ G.records-size;
         files-size = sf ∙ G.files-size;
@@ -247,12 +243,12 @@ module _ {main supplementary w : List ℕ} {q : ImportContext} {st : ImportState
 
   module _ {field : FieldSpan} (N : NextOwn main (p + 15) 0x1a (Some field)) {stage : ℕ} (es : stage ≡ le_at 1 main field.start) where
     -- before any range
-    pub named_none : {t f u u' : List ℕ} {warned : ℕ} {r : ImportState} → stage ≡ 0 → st.at ≤ top → length t < top → length f < top
+    pub named_none : {t f u u' : List ℕ} {warned : ℕ} {r : ImportState} → stage ≡ 0 → length t < top → length f < top
         → Put st.warned (encode 0x46 (warning_payload (malformed_ranges false (reason_at main field.start field.len)))) u u' warned → Rejects st warned r
         → Imports (ByFailure main supplementary lists addresses q name p w (entry_here main p).failure) (sheets main supplementary) q (memory w t f u) st (memory w t f u') 0 r
-    named_none z fits kt kf P R =
+    named_none z kt kf P R =
         grows_as (λ s. rw (failure-some C K h field stage N es, eq-eqb stage 0 z))
-        (imports-rejected (malformed_ranges false (reason_at main field.start field.len) ∷ []) C fits kt kf (reason-put false (reason_at main field.start field.len) P) R)
+        (imports-rejected (malformed_ranges false (reason_at main field.start field.len) ∷ []) C kt kf (reason-put false (reason_at main field.start field.len) P) R)
 
     module _ (n : stage ≡ 0 → ⊥) {t f u w' t' f' u' : List ℕ} {m : ℕ} {st' : ImportState}
         (I : Imports (RangesFrom main supplementary lists addresses q name p w (entry_here main p).ranges) (sheets main supplementary) q (memory w t f u) st (memory w' t' f' u') m st') where
@@ -272,4 +268,4 @@ module _ {main supplementary w : List ℕ} {q : ImportContext} {st : ImportState
       named-after z size kt kf P R =
           grows_as after
           (imports_then q z I
-          (imports-rejected (malformed_ranges true (reason_at main field.start field.len) ∷ []) (imports-context size z C I) (grows_at I z).0 kt kf (reason-put true (reason_at main field.start field.len) P) R))
+          (imports-rejected (malformed_ranges true (reason_at main field.start field.len) ∷ []) (imports-context size z C I) kt kf (reason-put true (reason_at main field.start field.len) P) R))

@@ -3,7 +3,6 @@ use mathlib.Core.Path.{◌≡◌, refl, sym, ap, ◌∙◌}
 use mathlib.Core.Bool.{◌||◌}
 use mathlib.Core.List.{List, [], ◌++◌, append-nil, append_assoc}
 use Prim.Native.Nat.{ℕ, ◌≤◌, ◌<◌}
-use native.Mathlib.Omega.{arith}
 use lib.ListN.{length}
 use Rattle.std.specs.Prelude.{Result, Ok, Err}
 use Rattle.tlv.specs.declared.refusal.Refusal.{Refusal}
@@ -46,15 +45,15 @@ module _ {main supplementary : List ℕ} {over : List (ℕ × ℕ)} where
   -- nothing is done, but for what may be written over in the work slice
   pub grows_beside : {w w' t f u : List ℕ} {st : ImportState} → KeptBut w w' over
       → table_of main supplementary w' st.table ≡ table_of main supplementary w st.table → FilesIn main supplementary w' st.table
-      → st.at ≤ top → st.warned ≤ top → length t < top → length f < top → length u < top
+      → length t < top → length f < top → length u < top
       → Grows done (sheets main supplementary) over (memory w t f u) st (memory w' t f u) 0 st
   unfolding table_of
-  grows_beside {w} {w'} {t} {f} {u} {st} K same F at-fits warned-fits t-small f-small u-small = record {
+  grows_beside {w} {w'} {t} {f} {u} {st} K same F t-small f-small u-small = record {
     records = [];
     new = [];
-    laid = λ e. put_as no-records (put-none at-fits t-small);
-    past = λ e. past_same st.past st.at at-fits ∙ ap (λ (l : List ℕ). st.past || is_past st.at (length l)) (sym no-records);
-    warned = λ e. put_as no-warnings (put-none warned-fits u-small);
+    laid = λ e. put_as no-records (put-none st.within.0 t-small);
+    past = λ e. past_same st.past st.at st.within.0 ∙ ap (λ (l : List ℕ). st.past || is_past st.at (length l)) (sym no-records);
+    warned = λ e. put_as no-warnings (put-none st.within.1 u-small);
     grown = λ e. grown;
     kept = λ e. K;
     ok = λ e rs ws. rw (same, append-nil rs, append-nil ws);
@@ -76,7 +75,7 @@ module _ {main supplementary : List ℕ} {over : List (ℕ × ℕ)} where
       }
 
   -- nothing at all
-  pub grows_none : {w t f u : List ℕ} {st : ImportState} → FilesIn main supplementary w st.table → st.at ≤ top → st.warned ≤ top
+  pub grows_none : {w t f u : List ℕ} {st : ImportState} → FilesIn main supplementary w st.table
       → length t < top → length f < top → length u < top → Grows done (sheets main supplementary) over (memory w t f u) st (memory w t f u) 0 st
   grows_none {w} F = grows_beside (but_refl w over) refl F
 
@@ -164,11 +163,6 @@ module _ {main supplementary : List ℕ} {over : List (ℕ × ℕ)} where
     no = A.no;
   }
 
-  -- after a step that was done the places in the output buffers are within bounds
-  pub grows_at : {F : State → Outcome State} {w t f u w₁ t₁ f₁ u₁ : List ℕ} {st st₁ : ImportState} {n : ℕ}
-      → Grows F (sheets main supplementary) over (memory w t f u) st (memory w₁ t₁ f₁ u₁) n st₁ → n ≡ 0 → (st₁.at ≤ top) × (st₁.warned ≤ top)
-  grows_at A z = (omega (arith, (A.laid z).place), omega (arith, (A.warned z).place))
-
   -- of a refused state nothing is promised
   pub refused_as : {F : State → Outcome State} {w t f u w₁ t₁ f₁ u₁ : List ℕ} {st st₁ st₂ : ImportState} {n : ℕ} → (n ≡ 0 → ⊥)
       → Grows F (sheets main supplementary) over (memory w t f u) st (memory w₁ t₁ f₁ u₁) n st₁ → Grows F (sheets main supplementary) over (memory w t f u) st (memory w₁ t₁ f₁ u₁) n st₂
@@ -188,18 +182,23 @@ module _ {main supplementary : List ℕ} where
   imports_then q {st = st} {st₁ = st₁} z A B =
       grows_then z A (grows_over (touched-as main supplementary q st.table st₁.table (A.grown z).base (A.grown z).room) B)
 
+-- a range was rejected when its warning was laid
+pub rejects-from : {st r : ImportState} {x warned : ℕ} {fits : (st.at ≤ top) × (x ≤ top)}
+    → Rejects (record { table = st.table; at = st.at; warned = x; stats = st.stats; past = st.past; within = fits }) warned r → Rejects st warned r
+rejects-from R = record { table = R.table; at = R.at; warned-is = R.warned-is; past = R.past; counted = R.counted }
+
 module _ {main supplementary : List ℕ} {q : ImportContext} where
   -- a range was rejected, with warnings that were laid
   pub imports-rejected : (ws : List Warning) {w t f u u' : List ℕ} {st r : ImportState} {warned : ℕ} → ContextIn main supplementary w q st.table
-      → st.at ≤ top → length t < top → length f < top
+      → length t < top → length f < top
       → Put st.warned (warnings_bytes ws) u u' warned → Rejects st warned r
       → Imports (λ s. done (rejected ws s)) (sheets main supplementary) q (memory w t f u) st (memory w t f u') 0 r
   unfolding rejected
-  imports-rejected ws {w} {t} {f} {u} {u'} {st} {r} C at-fits t-small f-small W R = record {
+  imports-rejected ws {w} {t} {f} {u} {u'} {st} {r} C t-small f-small W R = record {
     records = [];
     new = ws;
-    laid = λ e. rw R.at (put_as no-records (put-none at-fits t-small));
-    past = λ e. R.past ∙ past_same st.past st.at at-fits ∙ ap (λ (l : List ℕ). st.past || is_past st.at (length l)) (sym no-records);
+    laid = λ e. rw R.at (put_as no-records (put-none st.within.0 t-small));
+    past = λ e. R.past ∙ past_same st.past st.at st.within.0 ∙ ap (λ (l : List ℕ). st.past || is_past st.at (length l)) (sym no-records);
     warned = λ e. rw R.warned-is W;
     grown = λ e. rw R.table (grown-none C.files f-small);
     kept = λ e. but_refl w (touched main supplementary q st.table);

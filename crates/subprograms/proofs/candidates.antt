@@ -1,2 +1,2 @@
 mod CandidateLaws
-mod NextEntryLaws
+pub mod NextEntryLaws

@@ -16,8 +16,15 @@ use Rattle.references.specs.Names.{SearchIn}
 use Rattle.references.specs.Keys.{keys_extent}
 use Rattle.imports.specs.Import as import
 use Rattle.ranges.specs.RangeTable.{ranges_at, range_record}
-use Rattle.dies.specs.Details.{range_count, entry_count, dwarf_with, open_site, closed_site}
+use Rattle.dies.specs.Details.{third, range_count, entry_count, dwarf_with, open_site, closed_site}
 use Rattle.subprograms.specs.declared.model.ImportContext.{ImportContext}
+
+-- both sheets
+abbrev pub main_of : ImportContext → List ℕ
+main_of q = q.places.tables.sheets.main.now
+
+abbrev pub supplementary_of : ImportContext → List ℕ
+supplementary_of q = q.places.tables.sheets.supplementary.now
 
 -- the context that stands in w, with the list section and the address table
 abbrev pub context_with : List ℕ → List ℕ → List ℕ → List ℕ → List ℕ → ImportContext → import.ImportContext
@@ -29,16 +36,16 @@ context_with main supplementary lists addresses w q = record {
   include_call_sites = q.include_call_sites;
 }
 
--- the same without sections: what only searches does not look at them
-abbrev pub context_of : List ℕ → List ℕ → List ℕ → ImportContext → import.ImportContext
-context_of main supplementary w q = context_with main supplementary [] [] w q
+-- .. of what is lent
+abbrev pub context_now : List ℕ → ImportContext → import.ImportContext
+context_now w q = context_with (main_of q) (supplementary_of q) q.lists.lists.now q.lists.addresses.now w q
 
 -- how many range lists (document 02, E9) the unit has, and their room in the stack of ranges, as the walk asks for it
 abbrev pub unit_lists : List ℕ → ImportContext → ℕ
 unit_lists main q = (unit_here main q.unit).lists
 
 unfoldable pub unit_list_room : List ℕ → ImportContext → ℕ
-unit_list_room main q = q.third * open_lists (unit_lists main q)
+unit_list_room main q = third q.lists * open_lists (unit_lists main q)
 
 -- the tables stand in order: the units and entries of both inputs, the file table t, the unit's map, its rows, its sequences, the rows of a function, the
 -- executable ranges, the room for a unit that is reached, the ranges of open nodes, open and closed call sites, followed targets
@@ -51,8 +58,8 @@ pub record Ordered (main supplementary : List ℕ) (q : ImportContext) (t : Stor
   pub indices : q.places.indices.base + q.places.indices.count * index_record ≤ q.lines.lines
   pub lines : q.lines.lines + q.lines.line_count * line_size ≤ q.lines.sequences
   pub sequences : q.lines.sequences + q.lines.sequence_count * range_size ≤ q.lines.buffer
-  pub buffer : q.lines.buffer + entry_size + q.lines.line_count * entry_size ≤ q.text
-  pub text : q.text + q.text_count * range_record ≤ q.places.spans
+  pub buffer : q.lines.buffer + entry_size + q.lines.line_count * entry_size ≤ q.text.base
+  pub text : q.text.base + q.text.count * range_record ≤ q.places.spans
   pub spans : q.places.spans + q.places.room ≤ q.ranges
   pub ranges : q.ranges + range_record * (1 + range_count main + unit_list_room main q) ≤ q.stack
   pub stack : q.stack + open_site * entry_count main ≤ q.sites
@@ -61,14 +68,15 @@ pub record Ordered (main supplementary : List ℕ) (q : ImportContext) (t : Stor
   pub room-supplementary : (p : ℕ) → UnitOf supplementary p → map_extent supplementary p ≤ q.places.room
 
 -- the unit's tables and the file table t stand in w
+-- Stays a clause: it speaks of the work slice, which each step writes to.
 pub record ContextIn (main supplementary w : List ℕ) (q : ImportContext) (t : StoredFiles) : Type 0 where
   pub unit : UnitIn main q.unit
   pub tables : SearchIn main supplementary w q.places.tables 0
   pub rows : RowsIn w q.lines
-  pub text : ranges_at w q.text q.text_count ≡ (unit_here main q.unit).text
+  pub text : ranges_at w q.text.base q.text.count ≡ (unit_here main q.unit).text
   pub files : FilesIn main supplementary w t
   pub ordered : Ordered main supplementary q t
-  pub third : 3 * q.third ≤ list_limit
+  pub third : 3 * third q.lists ≤ list_limit
   pub listless : q.with_lists ≡ false → unit_lists main q ≡ 0
 
 -- how far the walk's part reaches, followed targets included

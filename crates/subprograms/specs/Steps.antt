@@ -1,10 +1,12 @@
 -- Contract. What each step of the import of a unit promises, in terms of the definition's step.
-use Rattle.std.specs.Prelude.{Option as Maybe, Some, None}
+use Rattle.std.specs.Prelude.{Option as Maybe, Some, None, Result}
 use Rattle.std.specs.Prelude.{◌≡◌, Bool, true, false, cond, ◌||◌, List, [], ◌∷◌, ◌++◌, ℕ, ◌+◌, eqb, length}
 use Rattle.std.proofs.Math.Option.{Option, none, some}
 use Rattle.tlv.specs.Tags.{tray_row_tag, tray_warning_tag, entry_whole}
 use Rattle.tlv.specs.declared.model.AddressRange.{AddressRange}
 use Rattle.tlv.specs.declared.model.LineEntry.{LineEntry}
+use Rattle.tlv.specs.declared.refusal.Refusal.{Refusal}
+use Rattle.tlv.specs.Refusals.{status_of}
 use Rattle.tlv.specs.Outcome.{Outcome, refused, done, ◌>>=◌}
 use Rattle.tlv.specs.Fields.{encode}
 use Rattle.tlv.specs.Model.{Entry, EntryRange, RangeFailure}
@@ -23,14 +25,15 @@ use Rattle.imports.specs.Tree.{Descendants}
 use Rattle.imports.specs.Import.{State, ImportContext, statement_sequence_offset, sequence_warning, declaration_if, lines_with}
 use Rattle.imports.specs.Import.{is_tombstone, is_live_range, rejected}
 use Rattle.imports.specs.Import.{import_range, import_ranges, import_subprogram, is_subprogram, descendants_of}
-use Rattle.dies.specs.declared.dies.Details.{Details}
+use Rattle.dies.specs.Answers.{value_or}
 use Rattle.dies.specs.Details.{entries_from, detail_bytes}
 use Rattle.dies.specs.Past.{is_past}
 use Rattle.subprograms.specs.declared.model.ImportState.{ImportState}
 use Rattle.subprograms.specs.declared.model.ImportContext.{ImportContext as Context}
+use Rattle.subprograms.specs.declared.model.Outputs.{Outputs}
 use Rattle.subprograms.specs.declared.function_lines.FoundLines.{FoundLines}
 use Rattle.subprograms.specs.Stats.{stats_of, with_function, with_rejected}
-use Rattle.subprograms.specs.Contexts.{touched, walk_extent}
+use Rattle.subprograms.specs.Contexts.{main_of, supplementary_of, touched, walk_extent}
 
 -- ---- the rows of a record
 
@@ -86,7 +89,7 @@ pub record SequenceWarned (main : List ℕ) (unit p : ℕ) (requested : Option �
 
 -- no rows yet
 abbrev pub lines_before : ImportState → FoundLines
-lines_before st = record { table = st.table; at = st.at; warned = st.warned; count = 0; past = st.past }
+lines_before st = record { state = st; count = 0 }
 
 -- what the definition does by F is done in memory: rows, files and warnings are laid, and the file table stands in w'; or the number n refuses it
 pub record FindsLines (F : FileTable → List Warning → Outcome FunctionLines) (main supplementary : List ℕ) (q : Context)
@@ -94,32 +97,25 @@ pub record FindsLines (F : FileTable → List Warning → Outcome FunctionLines)
   pub rows : List LineEntry
   pub new : List Warning
   pub count : n ≡ 0 → r.count ≡ length rows
-  pub laid : n ≡ 0 → Put st.at (lines_bytes rows) t t' r.at
-  pub past : n ≡ 0 → r.past ≡ (st.past || is_past st.at (length (lines_bytes rows)))
-  pub warned : n ≡ 0 → Put st.warned (warnings_bytes new) u u' r.warned
-  pub grown : n ≡ 0 → Grown main supplementary w w' f f' st.table r.table
+  pub stats : n ≡ 0 → r.state.stats ≡ st.stats
+  pub laid : n ≡ 0 → Put st.at (lines_bytes rows) t t' r.state.at
+  pub past : n ≡ 0 → r.state.past ≡ (st.past || is_past st.at (length (lines_bytes rows)))
+  pub warned : n ≡ 0 → Put st.warned (warnings_bytes new) u u' r.state.warned
+  pub grown : n ≡ 0 → Grown main supplementary w w' f f' st.table r.state.table
   pub kept : n ≡ 0 → KeptBut w w' (touched main supplementary q st.table)
   pub ok : n ≡ 0 → (ws : List Warning)
       → F (table_of main supplementary w st.table) ws
-      ≡ done (record { rows = rows; table = table_of main supplementary w' r.table; warnings = ws ++ new })
+      ≡ done (record { rows = rows; table = table_of main supplementary w' r.state.table; warnings = ws ++ new })
   pub no : (n ≡ 0 → ⊥) → (ws : List Warning) → F (table_of main supplementary w st.table) ws ≡ refused n
 
--- ---- nodes and call sites of a record
+-- .. of what is lent
+abbrev pub LinesTo : (FileTable → List Warning → Outcome FunctionLines) → Context → List ℕ → Outputs → ImportState → List ℕ → Outputs
+    → Result FoundLines Refusal → Type 0
+LinesTo F q w t st w' t' r =
+    FindsLines F (main_of q) (supplementary_of q) q w t.records.now t.files.now t.warnings.now st
+    w' t'.records.now t'.files.now t'.warnings.now (status_of r) (value_or (lines_before st) r)
 
-abbrev pub details_of : Context → AddressRange → Details
-details_of q r = record {
-  tables = q.places.tables;
-  unit = q.unit;
-  indices = q.places.indices;
-  range = r;
-  include_inlines = q.include_inlines;
-  include_call_sites = q.include_call_sites;
-  ranges = q.ranges;
-  stack = q.stack;
-  sites = q.sites;
-  third = q.third;
-  with_lists = q.with_lists;
-}
+-- ---- nodes and call sites of a record
 
 -- the outcome o of the walk below a subprogram is laid, and its record with so many rows is counted; or the number n refuses it
 pub record ImportsDetails (o : Outcome Descendants) (main supplementary : List ℕ) (q : Context) (name : List ℕ) (range : AddressRange) (rows : ℕ)
@@ -133,6 +129,13 @@ pub record ImportsDetails (o : Outcome Descendants) (main supplementary : List �
   pub warned : n ≡ 0 → Put st.warned (warnings_bytes descendants.warnings) u u' r.warned
   pub counted : n ≡ 0 → stats_of r.stats ≡ with_function rows (length descendants.inlines) (stats_of st.stats)
   pub no : (n ≡ 0 → ⊥) → o ≡ refused n
+
+-- .. of what is lent
+abbrev pub DetailsTo : Outcome Descendants → Context → List ℕ → AddressRange → ℕ → List ℕ → Outputs → ImportState → List ℕ → Outputs
+    → Result ImportState Refusal → Type 0
+DetailsTo o q name range rows w t st w' t' r =
+    ImportsDetails o (main_of q) (supplementary_of q) q name range rows w t.records.now t.warnings.now st w' t'.records.now t'.warnings.now
+    (status_of r) (value_or st r)
 
 -- ---- steps from a state to a state
 
@@ -183,6 +186,12 @@ pub record Grows (F : State → Outcome State) (s : Sheets) (over : List (ℕ ×
 -- .. and nothing but what an import of ranges writes to
 abbrev pub Imports : (State → Outcome State) → Sheets → Context → Memory → ImportState → Memory → ℕ → ImportState → Type 0
 Imports F s q m st m' n r = Grows F s (touched s.main s.supplementary q st.table) m st m' n r
+
+-- .. of what is lent
+abbrev pub ImportsTo : (State → Outcome State) → Context → List ℕ → Outputs → ImportState → List ℕ → Outputs → Result ImportState Refusal → Type 0
+ImportsTo F q w t st w' t' r =
+    Imports F (sheets (main_of q) (supplementary_of q)) q (memory w t.records.now t.files.now t.warnings.now) st
+    (memory w' t'.records.now t'.files.now t'.warnings.now) (status_of r) (value_or st r)
 
 -- a range was rejected; the warnings go on at `warned`
 pub record Rejects (st : ImportState) (warned : ℕ) (r : ImportState) : Type 0 where

@@ -2,10 +2,12 @@
 use Rattle.std.specs.Prelude.{◌≡◌, List, ℕ, ◌*◌, length}
 use Rattle.buffers.specs.Table.{Kept}
 use Rattle.access.specs.Places.{unit_here}
+use Rattle.ranges.specs.declared.ranges.StoredRanges.{StoredRanges}
 use Rattle.ranges.specs.RangeTable.{ranges_at, range_record}
 
--- the r executable ranges of the unit at p were written from base on
-pub record TextIndexed (s w w' : List ℕ) (p base r : ℕ) : Type 0 where
-  pub table : ranges_at w' base r ≡ (unit_here s p).text
-  pub count : r ≡ length (unit_here s p).text
-  pub rest : Kept w w' base (range_record * r)
+-- the executable ranges of the unit at p were written from base on
+pub record TextIndexed (s w w' : List ℕ) (p base : ℕ) (r : StoredRanges) : Type 0 where
+  pub base_is : r.base ≡ base
+  pub table : ranges_at w' r.base r.count ≡ (unit_here s p).text
+  pub count : r.count ≡ length (unit_here s p).text
+  pub rest : Kept w w' base (range_record * r.count)

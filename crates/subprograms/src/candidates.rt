@@ -1,36 +1,39 @@
 // The ranges of a subprogram, one after another.
-ghost use Rattle.std.specs.Prelude.{◌≡◌, true, false, ℕ, ◌+◌, ◌/◌, ◌≤◌, ◌<◌, eqb, length};
-ghost use Rattle.tlv.specs.Checked.{Placed};
+ghost use Rattle.std.specs.Prelude.{◌≡◌, ℕ, ◌+◌};
 ghost use Rattle.tlv.specs.Tags.{entry_whole};
-ghost use Rattle.tlv.specs.Refusals.{status_of};
-ghost use Rattle.buffers.specs.Buffer.{top};
+ghost use Rattle.tlv.specs.Checked.{Placed};
 ghost use Rattle.access.specs.Places.{entry_here};
-ghost use Rattle.rnglists.specs.Room.{range_least};
-ghost use Rattle.references.specs.Tables.{EntryKnown};
 ghost use Rattle.imports.specs.Import.{import_ranges};
-ghost use Rattle.dies.specs.Answers.{value_or};
 ghost use Rattle.dies.specs.Details.{EntriesKnown};
-ghost use Rattle.subprograms.specs.Contexts.{ContextIn, context_with};
-ghost use Rattle.subprograms.specs.Entries.{BeginsAt};
-ghost use Rattle.subprograms.specs.Steps.{sheets, memory, Rejects, below_entry, import_one, import_failing, Imports};
+ghost use Rattle.subprograms.specs.Contexts.{ContextIn, main_of, supplementary_of, context_now};
+ghost use Rattle.subprograms.specs.Entries.{BeginsAt, SubprogramIn};
+ghost use Rattle.subprograms.specs.Outputs.{SameOutputs};
+ghost use Rattle.subprograms.specs.Steps.{Rejects, below_entry, import_one, import_failing, ImportsTo};
 
-use crate::model::{ImportContext, ImportState};
+use crate::functions::import_range;
+use crate::model::{ImportContext, ImportState, Outputs, Subprogram, count_rejected};
+use crate::text::{is_live_range, is_tombstone};
 use access::access::next_own;
+use buffers::output::{put_malformed_ranges, put_warning};
+use ranges::ranges::{RANGE_RECORD, range_at};
 use tlv::bytes::Number;
 use tlv::fields::next_field;
 use tlv::model::AddressRange;
 use tlv::refusal::Refusal;
 use tlv::tags::{ENTRY_TAG, ENTRY_WHOLE, FAILURE_TAG, RANGE_TAG, UNIT_TAG};
 
-// The state after a rejected range, with the place in the warnings.
-pub fn reject(st: ImportState, warned: usize) -> ImportState
-    ensures { Rejects st warned result }
+// The number of the warning about a rejected range.
+const REJECTED_RANGE: u8 = 3;
+
+// The flag of a dead range, which stands behind its addresses.
+const DEAD: u8 = 1;
+
+// The state after a rejected range.
+pub fn reject(mut st: ImportState) -> ImportState
+    ensures { Rejects st st.warned result }
 {
-    ImportState {
-        warned,
-        stats: crate::model::count_rejected(st.stats),
-        ..st
-    }
+    st.stats = count_rejected(st.stats);
+    st
 }
 
 // The place of the next entry or unit from place p on, or the end.
@@ -49,184 +52,103 @@ pub fn next_entry(s: &[u8], p: usize) -> usize
     at
 }
 
-// One range of the subprogram of a name at place p; the entries below it begin at `below`.
-pub fn import_candidate<'a>(
-    main: &'a [u8],
-    supplementary: &'a [u8],
-    lists: &[u8],
-    addresses: &[u8],
-    work: &mut [u8],
-    records: &mut [u8],
-    files: &mut [u8],
-    warnings: &mut [u8],
+// One range of a subprogram, which is dead or not.
+pub fn import_candidate(
     q: ImportContext,
-    name: &[u8],
-    p: usize,
-    below: usize,
+    s: Subprogram,
     range: AddressRange,
-    flag: u8,
-    st: ImportState,
+    dead: bool,
+    work: &mut [u8],
+    t: &mut Outputs,
+    mut st: ImportState,
 ) -> Result<ImportState, Refusal>
-    requires context_in { ContextIn main.now supplementary.now work.old q st.table }
-    requires entry_known { EntryKnown main.now q.unit p }
-    requires begins_at { BeginsAt main.now q.unit (p + entry_whole) below }
-    requires name_bound { 16 + length name.now < 65536 }
-    requires range_least_len { length lists.now / range_least ≡ q.third }
-    requires at_le_top { (st.at ≤ top) × (st.warned ≤ top) }
-    ensures { Imports (import_one (context_with main.now supplementary.now lists.now addresses.now
-        work.old q) (entry_here main.now p) (below_entry main.now p) name.now
-        (record { range = range; tombstone = eqb flag 1 }))
-        (sheets main.now supplementary.now) q
-        (memory work.old records.old files.old warnings.old) st
-        (memory work.new records.new files.new warnings.new) (status_of result) (value_or st result) }
+    requires context_in { ContextIn (main_of q) (supplementary_of q) work.old q st.table }
+    requires subprogram_in { SubprogramIn (main_of q) q.unit s }
+    ensures is { ImportsTo (import_one (context_now work.old q.entry) (entry_here (main_of q.entry) s.entry.place)
+        (below_entry (main_of q.entry) s.entry.place) s.entry.name.now (record { range = range; tombstone = dead }))
+        q.entry work.old t.old st work.new t.new result }
+    ensures same { SameOutputs t.old t.new }
 {
-    if crate::text::is_tombstone(work, q.text, q.text_count, range, flag) {
-        return Ok(reject(st, st.warned));
+    if is_tombstone(work, q.text, range, dead) {
+        return Ok(reject(st));
     }
-    if crate::text::is_live_range(work, q.text, q.text_count, range) {
-        return crate::functions::import_range(
-            main,
-            supplementary,
-            lists,
-            addresses,
-            work,
-            records,
-            files,
-            warnings,
-            q,
-            name,
-            p,
-            below,
-            range,
-            st,
-        );
+    if is_live_range(work, q.text, range) {
+        return import_range(q, s, range, work, t, st);
     }
-    let warned = buffers::output::put_warning(warnings, st.warned, 3, range.start, range.end);
-    Ok(reject(st, warned))
+    st.warned = put_warning(
+        t.warnings,
+        st.warned,
+        REJECTED_RANGE,
+        range.start,
+        range.end,
+    );
+    Ok(reject(st))
 }
 
-// The ranges of the subprogram of a name at place p. Where the entries below it begin is looked for at its first range, and is known at the others.
-fn import_ranges<'a>(
-    main: &'a [u8],
-    supplementary: &'a [u8],
-    lists: &[u8],
-    addresses: &[u8],
-    work: &mut [u8],
-    records: &mut [u8],
-    files: &mut [u8],
-    warnings: &mut [u8],
+// Stays a clause: a place in the sheet holds numbers, and a ghost field holds none.
+// The ranges of a subprogram. Where the entries below it begin is looked for at its first range, and is known at the others.
+fn import_ranges(
     q: ImportContext,
-    name: &[u8],
-    p: usize,
+    s: Subprogram,
+    work: &mut [u8],
+    t: &mut Outputs,
     st: ImportState,
 ) -> Result<ImportState, Refusal>
-    requires context_in { ContextIn main.now supplementary.now work.old q st.table }
-    requires entry_known { EntryKnown main.now q.unit p }
-    requires placed { (Placed main.now (p + entry_whole)) × EntriesKnown main.now q.unit (p + entry_whole) }
-    requires name_bound { 16 + length name.now < 65536 }
-    requires range_least_len { length lists.now / range_least ≡ q.third }
-    requires at_le_top { (st.at ≤ top) × (st.warned ≤ top) }
-    ensures { Imports (import_ranges (context_with main.now supplementary.now lists.now addresses.now
-        work.old q) (entry_here main.now p) (below_entry main.now p) name.now
-        (entry_here main.now p).ranges)
-        (sheets main.now supplementary.now) q
-        (memory work.old records.old files.old warnings.old) st
-        (memory work.new records.new files.new warnings.new) (status_of result) (value_or st result) }
+    requires context_in { ContextIn (main_of q) (supplementary_of q) work.old q st.table }
+    requires subprogram_in { SubprogramIn (main_of q) q.unit s }
+    requires placed { (Placed (main_of q) (s.place + entry_whole)) × EntriesKnown (main_of q) q.unit (s.place + entry_whole) }
+    ensures is { let e = entry_here (main_of q.entry) s.entry.place in
+        ImportsTo (import_ranges (context_now work.old q.entry) e (below_entry (main_of q.entry) s.entry.place) s.entry.name.now e.ranges)
+        q.entry work.old t.old st work.new t.new result }
+    ensures same { SameOutputs t.old t.new }
 {
+    let main = q.places.tables.sheets.main;
     let mut r = st;
-    let mut at = p + ENTRY_WHOLE;
-    let mut below = at;
+    let mut at = s.place + ENTRY_WHOLE;
+    let mut below = s.below;
     // Stays a loop: each field's own length moves the place, so nothing is counted.
     while let Some(field) = next_own(main, at, RANGE_TAG) {
-        let range = ranges::ranges::range_at(main, field.start);
-        let flag = u8::read(main, field.start + 16);
+        let range = range_at(main, field.start);
+        let dead = u8::read(main, field.start + RANGE_RECORD) == DEAD;
         below = next_entry(main, below);
-        r = import_candidate(
-            main,
-            supplementary,
-            lists,
-            addresses,
-            work,
-            records,
-            files,
-            warnings,
-            q,
-            name,
-            p,
+        let known = Subprogram {
+            name: s.name,
+            place: s.place,
             below,
-            range,
-            flag,
-            r,
-        )?;
+        };
+        r = import_candidate(q, known, range, dead, work, t, r)?;
         at = field.next;
     }
     Ok(r)
 }
 
-// The ranges of a named subprogram without a list, and their failure: before any range it leaves none, after them it warns when they are done.
-pub fn import_fields<'a>(
-    main: &'a [u8],
-    supplementary: &'a [u8],
-    lists: &[u8],
-    addresses: &[u8],
-    work: &mut [u8],
-    records: &mut [u8],
-    files: &mut [u8],
-    warnings: &mut [u8],
+// The ranges of a subprogram without a list, and their failure: before any range it leaves none, after them it warns when they are done.
+pub fn import_fields(
     q: ImportContext,
-    name: &[u8],
-    p: usize,
-    st: ImportState,
+    s: Subprogram,
+    work: &mut [u8],
+    t: &mut Outputs,
+    mut st: ImportState,
 ) -> Result<ImportState, Refusal>
-    requires context_in { ContextIn main.now supplementary.now work.old q st.table }
-    requires entry_known { EntryKnown main.now q.unit p }
-    requires placed { (Placed main.now (p + entry_whole)) × EntriesKnown main.now q.unit (p + entry_whole) }
-    requires name_bound { 16 + length name.now < 65536 }
-    requires range_least_len { length lists.now / range_least ≡ q.third }
-    requires at_le_top { (st.at ≤ top) × (st.warned ≤ top) }
-    ensures { Imports (import_failing (context_with main.now supplementary.now lists.now addresses.now
-        work.old q) (entry_here main.now p) (below_entry main.now p) name.now
-        (entry_here main.now p).ranges (entry_here main.now p).failure)
-        (sheets main.now supplementary.now) q
-        (memory work.old records.old files.old warnings.old) st
-        (memory work.new records.new files.new warnings.new) (status_of result) (value_or st result) }
+    requires context_in { ContextIn (main_of q) (supplementary_of q) work.old q st.table }
+    requires subprogram_in { SubprogramIn (main_of q) q.unit s }
+    requires placed { (Placed (main_of q) (s.place + entry_whole)) × EntriesKnown (main_of q) q.unit (s.place + entry_whole) }
+    ensures is { let e = entry_here (main_of q.entry) s.entry.place in
+        ImportsTo (import_failing (context_now work.old q.entry) e (below_entry (main_of q.entry) s.entry.place) s.entry.name.now e.ranges e.failure)
+        q.entry work.old t.old st work.new t.new result }
+    ensures same { SameOutputs t.old t.new }
 {
-    let Some(field) = next_own(main, p + ENTRY_WHOLE, FAILURE_TAG) else {
-        return import_ranges(
-            main,
-            supplementary,
-            lists,
-            addresses,
-            work,
-            records,
-            files,
-            warnings,
-            q,
-            name,
-            p,
-            st,
-        );
+    let main = q.places.tables.sheets.main;
+    let Some(field) = next_own(main, s.place + ENTRY_WHOLE, FAILURE_TAG) else {
+        return import_ranges(q, s, work, t, st);
     };
     let end = field.start + field.len;
     let reason = &main[field.start + 1..end];
     if u8::read(main, field.start) == 0 {
-        let warned = buffers::output::put_malformed_ranges(warnings, st.warned, false, reason);
-        return Ok(reject(st, warned));
+        st.warned = put_malformed_ranges(t.warnings, st.warned, false, reason);
+        return Ok(reject(st));
     }
-    let r = import_ranges(
-        main,
-        supplementary,
-        lists,
-        addresses,
-        work,
-        records,
-        files,
-        warnings,
-        q,
-        name,
-        p,
-        st,
-    )?;
-    let warned = buffers::output::put_malformed_ranges(warnings, r.warned, true, reason);
-    Ok(reject(r, warned))
+    st = import_ranges(q, s, work, t, st)?;
+    st.warned = put_malformed_ranges(t.warnings, st.warned, true, reason);
+    Ok(reject(st))
 }

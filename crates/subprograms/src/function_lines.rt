@@ -1,5 +1,5 @@
 // The rows of a record: a function's own, or its declaration.
-ghost use Rattle.std.specs.Prelude.{◌≡◌, cond, ◌+◌, ◌-◌, ◌*◌, ◌/◌, ◌^◌, ◌≤◌, ◌<◌, eqb, length};
+ghost use Rattle.std.specs.Prelude.{◌≡◌, cond, ◌+◌, ◌-◌, ◌*◌, ◌^◌, ◌≤◌, eqb, length};
 ghost use Rattle.std.proofs.Math.Option.{none, some};
 ghost use Rattle.tlv.specs.Checked.{Accepted};
 ghost use Rattle.tlv.specs.Refusals.{status_of};
@@ -12,30 +12,37 @@ ghost use Rattle.references.specs.Tables.{EntryKnown};
 ghost use Rattle.imports.specs.Import.{statement_sequence_offset};
 ghost use Rattle.dies.specs.Answers.{value_or};
 ghost use Rattle.dies.specs.Past.{is_past};
-ghost use Rattle.subprograms.specs.Contexts.{ContextIn, context_of};
-ghost use Rattle.subprograms.specs.Steps.{lines_bytes, sequence_in, SequenceWarned, function_lines, declared_line, lines_before, FindsLines};
+ghost use Rattle.subprograms.specs.Contexts.{ContextIn, main_of, supplementary_of, context_now};
+ghost use Rattle.subprograms.specs.Outputs.{SameOutputs};
+ghost use Rattle.subprograms.specs.Steps.{lines_bytes, sequence_in, SequenceWarned, function_lines, declared_line, LinesTo};
 
-use crate::model::{ImportContext, ImportState};
-use access::access::Value;
+use crate::model::{ImportContext, ImportState, Outputs};
+use access::access::{Value, attribute};
+use buffers::output::put_line;
 use declarations::declaration_lines::resolve_declaration_line;
 use declarations::declaring::DeclaringState;
-use files::store::StoredFiles;
-use rows::line::ENTRY_SIZE;
+use dies::calls::warn_about;
+use references::trails::Trail;
+use rows::line::{ENTRY_SIZE, entry_at};
+use rows::unit_lines::for_range;
 use tlv::bytes::Number;
 use tlv::constants::DW_AT_LLVM_STMT_SEQUENCE;
 use tlv::model::{AddressRange, LineEntry};
 use tlv::refusal::Refusal;
-use tlv::tags::ENTRY_WHOLE;
+use tlv::tags::{ENTRY_WHOLE, UNIT_WHOLE};
 
-// The file table and the places in the records and the warnings after a function's rows, how many these are, and whether the records pass the largest place.
-#[derive(Clone, Copy)]
+// The state after a function's rows, and how many these are.
+#[derive(Clone, Copy, Debug)]
 pub struct FoundLines {
-    pub table: StoredFiles,
-    pub at: usize,
-    pub warned: usize,
+    pub state: ImportState,
     pub count: usize,
-    pub past: bool,
 }
+
+// Where the size of a unit's word stands: at the end of the unit's field.
+const WORD_SIZE: usize = UNIT_WHOLE - 1;
+
+// The smaller size of a word.
+const SHORT_WORD: u8 = 4;
 
 // The largest number of a unit's word, which asks for no sequence.
 fn no_sequence(main: &[u8], unit: usize) -> u64
@@ -43,8 +50,8 @@ fn no_sequence(main: &[u8], unit: usize) -> u64
     requires unit_in { UnitIn main.now unit }
     ensures { result ≡ 2 ^ (8 * (unit_here main.now unit).word_size) - 1 }
 {
-    if u8::read(main, unit + 20) == 4 {
-        return 0xffff_ffff;
+    if u8::read(main, unit + WORD_SIZE) == SHORT_WORD {
+        return u32::MAX as u64;
     }
     u64::MAX
 }
@@ -61,9 +68,9 @@ fn sequence_in(limit: u64, v: Option<Value>) -> Option<u64>
     ensures { sequence_of result ≡ sequence_in limit v }
 {
     match v {
-        Some(Value::Unsigned(n)) => sequence_unless(limit, n),
-        Some(Value::SectionOffset(n)) => sequence_unless(limit, n),
-        Some(Value::LineOffset(n)) => sequence_unless(limit, n),
+        Some(Value::Unsigned(n) | Value::SectionOffset(n) | Value::LineOffset(n)) => {
+            sequence_unless(limit, n)
+        }
         _ => None,
     }
 }
@@ -76,9 +83,12 @@ pub fn statement_sequence_offset(main: &[u8], unit: usize, p: usize) -> Option<u
     ensures { sequence_of result ≡ statement_sequence_offset (unit_here main.now unit) (entry_here main.now p) }
 {
     let limit = no_sequence(main, unit);
-    let value = access::access::attribute(main, p + ENTRY_WHOLE, DW_AT_LLVM_STMT_SEQUENCE);
+    let value = attribute(main, p + ENTRY_WHOLE, DW_AT_LLVM_STMT_SEQUENCE);
     sequence_in(limit, value)
 }
+
+// The number of that warning.
+const INVALID_SEQUENCE: u8 = 4;
 
 // An invalid statement sequence warns.
 fn warn_sequence(
@@ -101,10 +111,11 @@ fn warn_sequence(
     if !invalid {
         return Ok(at);
     }
-    dies::calls::warn_about(main, warnings, unit, p, 4, n, at)
+    warn_about(main, warnings, unit, p, INVALID_SEQUENCE, n, at)
 }
 
 // The n rows at `from`, as fields 42.
+// Stays apart from `ranges::put_ranges`: one for both would take the reader, the writer and a law of each, more than this loop.
 fn put_lines(records: &mut [u8], at: usize, work: &[u8], from: usize, n: usize) -> usize
     requires entry_size_in_bounds { from + n * entry_size ≤ length work.now }
     requires at_le_top { at ≤ top }
@@ -112,64 +123,49 @@ fn put_lines(records: &mut [u8], at: usize, work: &[u8], from: usize, n: usize) 
 {
     let mut place = at;
     for i in 0..n {
-        let line = rows::line::entry_at(work, from + i * ENTRY_SIZE);
-        place = buffers::output::put_line(records, place, line);
+        let line = entry_at(work, from + i * ENTRY_SIZE);
+        place = put_line(records, place, line);
     }
     place
 }
 
-// Whether n rows from a place in the records on pass the largest place; a row has 21 bytes.
+// Bytes of a row in the records.
+const ROW_WHOLE: usize = 21;
+
+// Whether n rows from a place in the records on pass the largest place.
 fn rows_past(at: usize, n: usize) -> bool
     ensures { result ≡ is_past at (21 * n) }
 {
-    (usize::MAX - at) / 21 < n
+    (usize::MAX - at) / ROW_WHOLE < n
 }
 
 // The declaration of the entry at place p as the only row, at the address `start`; none where it has no declaration.
-fn declared_line<'a>(
-    main: &'a [u8],
-    supplementary: &'a [u8],
-    work: &mut [u8],
-    records: &mut [u8],
-    files: &mut [u8],
-    warnings: &mut [u8],
+fn declared_line(
     q: ImportContext,
     p: usize,
     start: u64,
-    st: ImportState,
+    work: &mut [u8],
+    t: &mut Outputs,
+    mut st: ImportState,
 ) -> Result<FoundLines, Refusal>
-    requires context_in { ContextIn main.now supplementary.now work.old q st.table }
-    requires entry_known { EntryKnown main.now q.unit p }
-    requires at_le_top { (st.at ≤ top) × (st.warned ≤ top) }
-    ensures { FindsLines (declared_line (context_of main.now supplementary.now work.old q)
-        (entry_here main.now p) start) main.now supplementary.now q work.old records.old
-        files.old warnings.old st work.new records.new files.new warnings.new (status_of result)
-        (value_or (lines_before st) result) }
+    requires context_in { ContextIn (main_of q) (supplementary_of q) work.old q st.table }
+    requires entry_known { EntryKnown (main_of q) q.unit p }
+    ensures is { LinesTo (declared_line (context_now work.old q.entry) (entry_here (main_of q.entry) p) start)
+        q.entry work.old t.old st work.new t.new result }
+    ensures same { SameOutputs t.old t.new }
 {
     let from = DeclaringState {
-        count: 0,
+        trail: Trail::start(),
         table: st.table,
         warned: st.warned,
     };
-    let declared = resolve_declaration_line(
-        main,
-        supplementary,
-        work,
-        files,
-        warnings,
-        q.places,
-        q.unit,
-        p,
-        from,
-    )?;
-    let after = declared.state;
+    let declared = resolve_declaration_line(work, t.files, t.warnings, q.places, q.unit, p, from)?;
+    st.table = declared.state.table;
+    st.warned = declared.state.warned;
     let Some(line) = declared.found else {
         return Ok(FoundLines {
-            table: after.table,
-            at: st.at,
-            warned: after.warned,
+            state: st,
             count: 0,
-            past: st.past,
         });
     };
     let row = LineEntry {
@@ -179,60 +175,49 @@ fn declared_line<'a>(
         column: 0,
     };
     let past = rows_past(st.at, 1);
+    st.past = st.past || past;
+    st.at = put_line(t.records, st.at, row);
     Ok(FoundLines {
-        table: after.table,
-        at: buffers::output::put_line(records, st.at, row),
-        warned: after.warned,
+        state: st,
         count: 1,
-        past: st.past | past,
     })
 }
 
 // The rows of the record of a range of the entry at place p: its own, or its declaration.
-pub fn function_lines<'a>(
-    main: &'a [u8],
-    supplementary: &'a [u8],
-    work: &mut [u8],
-    records: &mut [u8],
-    files: &mut [u8],
-    warnings: &mut [u8],
+pub fn function_lines(
     q: ImportContext,
     p: usize,
     range: AddressRange,
-    st: ImportState,
+    work: &mut [u8],
+    t: &mut Outputs,
+    mut st: ImportState,
 ) -> Result<FoundLines, Refusal>
-    requires context_in { ContextIn main.now supplementary.now work.old q st.table }
-    requires entry_known { EntryKnown main.now q.unit p }
-    requires at_le_top { (st.at ≤ top) × (st.warned ≤ top) }
-    ensures { FindsLines (function_lines (context_of main.now supplementary.now work.old q)
-        (entry_here main.now p) range) main.now supplementary.now q work.old records.old
-        files.old warnings.old st work.new records.new files.new warnings.new (status_of result)
-        (value_or (lines_before st) result) }
+    requires context_in { ContextIn (main_of q) (supplementary_of q) work.old q st.table }
+    requires entry_known { EntryKnown (main_of q) q.unit p }
+    ensures is { LinesTo (function_lines (context_now work.old q.entry) (entry_here (main_of q.entry) p) range)
+        q.entry work.old t.old st work.new t.new result }
+    ensures same { SameOutputs t.old t.new }
 {
+    let main = q.places.tables.sheets.main;
     let requested = statement_sequence_offset(main, q.unit, p);
-    let own = rows::unit_lines::for_range(work, q.lines, range, requested);
-    let warned = warn_sequence(main, warnings, q.unit, p, requested, own.invalid, st.warned)?;
+    let own = for_range(work, q.lines, range, requested);
+    st.warned = warn_sequence(
+        main,
+        t.warnings,
+        q.unit,
+        p,
+        requested,
+        own.invalid,
+        st.warned,
+    )?;
     if own.count == 0 {
-        let next = ImportState { warned, ..st };
-        return declared_line(
-            main,
-            supplementary,
-            work,
-            records,
-            files,
-            warnings,
-            q,
-            p,
-            range.start,
-            next,
-        );
+        return declared_line(q, p, range.start, work, t, st);
     }
     let past = rows_past(st.at, own.count);
+    st.past = st.past || past;
+    st.at = put_lines(t.records, st.at, work, own.rows, own.count);
     Ok(FoundLines {
-        table: st.table,
-        at: put_lines(records, st.at, work, own.rows, own.count),
-        warned,
+        state: st,
         count: own.count,
-        past: st.past | past,
     })
 }

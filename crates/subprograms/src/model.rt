@@ -1,9 +1,12 @@
 // What an import counts and carries along.
-ghost use Rattle.std.specs.Prelude.{◌≡◌};
+ghost use Rattle.std.specs.Prelude.{◌≡◌, ◌+◌, ◌≤◌, ◌<◌, length};
+ghost use Rattle.buffers.specs.Buffer.{top};
 ghost use Rattle.subprograms.specs.Stats.{stats_of, with_function, with_rejected};
 
 use declarations::declaring::Places;
 use files::store::StoredFiles;
+use ranges::ranges::StoredRanges;
+use rnglists::lists::RangeLists;
 use rows::unit_lines::StoredLines;
 
 // The statistics of document 01; each stays at its largest value.
@@ -15,32 +18,51 @@ pub struct ConversionStats {
     pub rejected_ranges: u64,
 }
 
-// What is the same for every subprogram of a unit: the places of the searches, of the unit and of its lines, its n executable ranges at `text`,
-// the places of the walk below a subprogram, the two switches, a third of the bytes of the range lists, and whether the main sheet has any.
+// What is the same for every subprogram of a unit: the places of the searches with both sheets, the range lists, the places of the unit, of its lines and
+// of its executable ranges, the places of the walk below a subprogram, the two switches, and whether the main sheet has range lists.
+// Stays bare: it holds whole sections, which no program prints.
 #[derive(Clone, Copy)]
-pub struct ImportContext {
-    pub places: Places,
+pub struct ImportContext<'a> {
+    pub places: Places<'a>,
+    pub lists: RangeLists<'a>,
     pub unit: usize,
     pub lines: StoredLines,
-    pub text: usize,
-    pub text_count: usize,
+    pub text: StoredRanges,
     pub ranges: usize,
     pub stack: usize,
     pub sites: usize,
     pub include_inlines: bool,
     pub include_call_sites: bool,
-    pub third: usize,
     pub with_lists: bool,
 }
 
-// What changes from range to range: the file table, the places in the records and the warnings, the statistics, and whether the records pass the largest place.
+// A subprogram: its name, which is shorter than a field, the place of its entry, and one from which the entries below it are looked for.
+// Stays bare: no program prints it.
 #[derive(Clone, Copy)]
+pub struct Subprogram<'a> {
+    pub name: &'a [u8],
+    pub place: usize,
+    pub below: usize,
+    ghost short: { 16 + length name.now < 65536 },
+}
+
+// What is written besides the work slice: the three output buffers.
+#[derive(Drop)]
+pub struct Outputs<'a> {
+    pub records: &'a mut [u8],
+    pub files: &'a mut [u8],
+    pub warnings: &'a mut [u8],
+}
+
+// What changes from range to range: the file table, the places in the records and the warnings, the statistics, and whether the records pass the largest place.
+#[derive(Clone, Copy, Debug)]
 pub struct ImportState {
     pub table: StoredFiles,
     pub at: usize,
     pub warned: usize,
     pub stats: ConversionStats,
     pub past: bool,
+    ghost within: { (at ≤ top) × (warned ≤ top) },
 }
 
 // No statistics yet.

@@ -2,7 +2,7 @@
 use mathlib.Core.Path.{◌≡◌, refl, sym, ap, ◌∙◌}
 use mathlib.Core.Bool.{Bool, true, false}
 use mathlib.Core.List.{List, [], ◌∷◌, ◌++◌}
-use Prim.Native.Nat.{ℕ, ◌≤◌, ◌<◌}
+use Prim.Native.Nat.{ℕ, ◌<◌}
 use lib.ListN.{length}
 use Rattle.tlv.specs.declared.model.AddressRange.{AddressRange}
 use Rattle.tlv.specs.Outcome.{done}
@@ -45,34 +45,34 @@ module _ (q : import.ImportContext) (e : Entry) (below : List Entry) (name : Lis
 
 -- the tests were made on the unit's executable ranges
 module _ {main supplementary w : List ℕ} (lists addresses : List ℕ) {q : ImportContext} {T : StoredFiles} (C : ContextIn main supplementary w q T) where
-  tombstone-is : {b v : Bool} (x : EntryRange) → b ≡ is_tombstone (ranges_at w q.text q.text_count) x → b ≡ v
+  tombstone-is : {b v : Bool} (x : EntryRange) → b ≡ is_tombstone (ranges_at w q.text.base q.text.count) x → b ≡ v
       → is_tombstone (context_with main supplementary lists addresses w q).unit.text x ≡ v
   tombstone-is x is h = ap (λ ts. is_tombstone ts x) (sym C.text) ∙ sym is ∙ h
 
-  live-is : {b v : Bool} (x : AddressRange) → b ≡ is_live_range (ranges_at w q.text q.text_count) x → b ≡ v
+  live-is : {b v : Bool} (x : AddressRange) → b ≡ is_live_range (ranges_at w q.text.base q.text.count) x → b ≡ v
       → is_live_range (context_with main supplementary lists addresses w q).unit.text x ≡ v
   live-is x is h = ap (λ ts. is_live_range ts x) (sym C.text) ∙ sym is ∙ h
 
 module _ {main supplementary w : List ℕ} (lists addresses : List ℕ) {q : ImportContext} {st : ImportState} (name : List ℕ) (p : ℕ) (x : EntryRange)
-    (C : ContextIn main supplementary w q st.table) {b : Bool} (tomb : b ≡ is_tombstone (ranges_at w q.text q.text_count) x) where
-  pub candidate-tombstone : {t f u : List ℕ} {r : ImportState} → b ≡ true → st.at ≤ top → st.warned ≤ top
+    (C : ContextIn main supplementary w q st.table) {b : Bool} (tomb : b ≡ is_tombstone (ranges_at w q.text.base q.text.count) x) where
+  pub candidate-tombstone : {t f u : List ℕ} {r : ImportState} → b ≡ true
       → length t < top → length f < top → length u < top → Rejects st st.warned r
       → Imports (import_one (context_with main supplementary lists addresses w q) (entry_here main p) (below_entry main p) name x) (sheets main supplementary) q (memory w t f u) st (memory w t f u) 0 r
-  candidate-tombstone h fits warned kt kf ku R =
+  candidate-tombstone h kt kf ku R =
       grows_as (λ s. one-tombstone (context_with main supplementary lists addresses w q) (entry_here main p) (below_entry main p) name x s (tombstone-is lists addresses C x tomb h))
-      (imports-rejected [] C fits kt kf (warn_none warned ku) R)
+      (imports-rejected [] C kt kf (warn_none st.within.1 ku) R)
 
-  module _ (h : b ≡ false) {c : Bool} (live : c ≡ is_live_range (ranges_at w q.text q.text_count) x.range) where
+  module _ (h : b ≡ false) {c : Bool} (live : c ≡ is_live_range (ranges_at w q.text.base q.text.count) x.range) where
     pub candidate-live : {t f u w' t' f' u' : List ℕ} {n : ℕ} {r : ImportState} → c ≡ true
         → Imports (import_range (context_with main supplementary lists addresses w q) (entry_here main p) (below_entry main p) name x.range) (sheets main supplementary) q (memory w t f u) st (memory w' t' f' u') n r
         → Imports (import_one (context_with main supplementary lists addresses w q) (entry_here main p) (below_entry main p) name x) (sheets main supplementary) q (memory w t f u) st (memory w' t' f' u') n r
     candidate-live k I = grows_as (λ s. one-live (context_with main supplementary lists addresses w q) (entry_here main p) (below_entry main p) name x s (tombstone-is lists addresses C x tomb h) (live-is lists addresses C x.range live k)) I
 
-    pub candidate-dead : {t f u u' : List ℕ} {warned : ℕ} {r : ImportState} → c ≡ false → st.at ≤ top → length t < top → length f < top
+    pub candidate-dead : {t f u u' : List ℕ} {warned : ℕ} {r : ImportState} → c ≡ false → length t < top → length f < top
         → Put st.warned (encode 0x46 ((3 ∷ []) ++ bytes_of 8 x.range.start ++ bytes_of 8 x.range.end)) u u' warned → Rejects st warned r
         → Imports (import_one (context_with main supplementary lists addresses w q) (entry_here main p) (below_entry main p) name x) (sheets main supplementary) q (memory w t f u) st (memory w t f u') 0 r
     unfolding kind_number
-    candidate-dead k fits kt kf P R =
+    candidate-dead k kt kf P R =
         grows_as (λ s. one-dead (context_with main supplementary lists addresses w q) (entry_here main p) (below_entry main p) name x s (tombstone-is lists addresses C x tomb h) (live-is lists addresses C x.range live k))
-        (imports-rejected (about rejected_range x.range.start x.range.end ∷ []) C fits kt kf
+        (imports-rejected (about rejected_range x.range.start x.range.end ∷ []) C kt kf
         (about-put rejected_range 3 x.range.start x.range.end refl P) R)

@@ -42,11 +42,10 @@ use Rattle.imports.specs.Import as import
 use Rattle.imports.specs.Import.{statement_sequence_offset, sequence_warning, declaration_if, lines_with}
 use Rattle.dies.specs.Past.{is_past}
 use Rattle.dies.proofs.NodeStepLaws.{warnings-append}
-use Rattle.subprograms.specs.declared.model.ConversionStats.{ConversionStats}
 use Rattle.subprograms.specs.declared.model.ImportContext.{ImportContext}
 use Rattle.subprograms.specs.declared.model.ImportState.{ImportState}
 use Rattle.subprograms.specs.declared.function_lines.FoundLines.{FoundLines}
-use Rattle.subprograms.specs.Contexts.{ContextIn, context_of, touched}
+use Rattle.subprograms.specs.Contexts.{ContextIn, context_with, touched}
 use Rattle.subprograms.specs.Steps.{lines_bytes, FunctionLines, declared_line, function_lines, SequenceWarned, FindsLines}
 use Rattle.subprograms.proofs.ContextLaws.{context-kept, context-same, touched-rows}
 use Rattle.subprograms.proofs.LaidPastLaws.{lines-length}
@@ -143,6 +142,7 @@ finds-any l l' (Err e) A = record {
   rows = [];
   new = [];
   count = λ z. absurd (numbered e z);
+  stats = λ z. absurd (numbered e z);
   laid = λ z. absurd (numbered e z);
   past = λ z. absurd (numbered e z);
   warned = λ z. absurd (numbered e z);
@@ -171,20 +171,21 @@ module _ {main supplementary w w₁ u u₁ : List ℕ} {q : ImportContext} (st :
       λ i. sequence_warning (unit_here main q.unit) (entry_here main p) (sym asked i) (same i)
 
   -- the warning is refused
-  pub finds-unwarned : {t t' f f' : List ℕ} {r : FoundLines} → (m ≡ 0 → ⊥)
-      → FindsLines (function_lines (context_of main supplementary w q) (entry_here main p) range) main supplementary q w t f u st w₁ t' f' u₁ m r
+  pub finds-unwarned : (lists addresses : List ℕ) {t t' f f' : List ℕ} {r : FoundLines} → (m ≡ 0 → ⊥)
+      → FindsLines (function_lines (context_with main supplementary lists addresses w q) (entry_here main p) range) main supplementary q w t f u st w₁ t' f' u₁ m r
   unfolding ◌>>=◌
-  finds-unwarned refuses = record {
+  finds-unwarned lists addresses refuses = record {
     rows = [];
     new = [];
     count = λ z. absurd (refuses z);
+    stats = λ z. absurd (refuses z);
     laid = λ z. absurd (refuses z);
     past = λ z. absurd (refuses z);
     warned = λ z. absurd (refuses z);
     grown = λ z. absurd (refuses z);
     kept = λ z. absurd (refuses z);
     ok = λ z. absurd (refuses z);
-    no = λ _ ws. from_is (context_of main supplementary w q) (entry_here main p) range (table_of main supplementary w st.table) ws (warns-as ∙ W.no refuses) refl;
+    no = λ _ ws. from_is (context_with main supplementary lists addresses w q) (entry_here main p) range (table_of main supplementary w st.table) ws (warns-as ∙ W.no refuses) refl;
   }
 
   -- what the rows were written to lies apart from the file table
@@ -207,20 +208,17 @@ module _ {main supplementary w w₁ u u₁ : List ℕ} {q : ImportContext} (st :
   rows-within size = omega (arith, R.within, C.rows.buffer)
 
   -- the warning was laid, or there was none
-  module _ (warned : m ≡ 0) (size : length w₁ ≡ length w) where
-    pub warned-fits : x ≤ top
-    warned-fits = omega (arith, (W.laid warned).place)
-
+  module _ (lists addresses : List ℕ) (warned : m ≡ 0) (size : length w₁ ≡ length w) where
     from : (ws : List Warning) {rows : List LineEntry} → entries_of w₁ own.rows own.count ≡ rows
-        → function_lines (context_of main supplementary w q) (entry_here main p) range (table_of main supplementary w st.table) ws
-        ≡ lines_from (context_of main supplementary w q) (entry_here main p) range (table_of main supplementary w st.table) ws (done W.new) rows
-    from ws k = from_is (context_of main supplementary w q) (entry_here main p) range (table_of main supplementary w st.table) ws (warns-as ∙ W.ok warned) (rows_are ∙ k)
+        → function_lines (context_with main supplementary lists addresses w q) (entry_here main p) range (table_of main supplementary w st.table) ws
+        ≡ lines_from (context_with main supplementary lists addresses w q) (entry_here main p) range (table_of main supplementary w st.table) ws (done W.new) rows
+    from ws k = from_is (context_with main supplementary lists addresses w q) (entry_here main p) range (table_of main supplementary w st.table) ws (warns-as ∙ W.ok warned) (rows_are ∙ k)
 
     -- the function's own rows
-    pub finds-own : {t t' f : List ℕ} {a : ℕ} {b : Bool} → (own.count ≡ 0 → ⊥) → length f < top → b ≡ is_past st.at (21 * own.count)
+    pub finds-own : {t t' f : List ℕ} {a : ℕ} {b : Bool} {fits : (a ≤ top) × (x ≤ top)} → (own.count ≡ 0 → ⊥) → length f < top → b ≡ (st.past || is_past st.at (21 * own.count))
         → Put st.at (lines_bytes (entries_of w₁ own.rows own.count)) t t' a
-        → FindsLines (function_lines (context_of main supplementary w q) (entry_here main p) range) main supplementary q w t f u st w₁ t' f u₁ 0
-        (record { table = st.table; at = a; warned = x; count = own.count; past = st.past || b })
+        → FindsLines (function_lines (context_with main supplementary lists addresses w q) (entry_here main p) range) main supplementary q w t f u st w₁ t' f u₁ 0
+        (record { state = record { table = st.table; at = a; warned = x; stats = st.stats; past = b; within = fits }; count = own.count })
     finds-own some-rows small B P =
         let rows = entries_of w₁ own.rows own.count in
         let long : length rows ≡ own.count = entries-length w₁ own.rows own.count in
@@ -228,39 +226,41 @@ module _ {main supplementary w w₁ u u₁ : List ℕ} {q : ImportContext} (st :
           rows = rows;
           new = W.new;
           count = λ z. sym long;
+          stats = λ z. refl;
           laid = λ z. P;
-          past = λ z. ap (λ (y : Bool). st.past || y) (B ∙ ap (is_past st.at) (sym (lines-length rows ∙ ap (λ (n : ℕ). 21 * n) long)));
+          past = λ z. B ∙ ap (λ (n : ℕ). st.past || is_past st.at n) (sym (lines-length rows ∙ ap (λ (k : ℕ). 21 * k) long));
           warned = λ z. W.laid warned;
           grown = λ z. grown-kept (grown-none C.files small) written apart size;
           kept = λ z. rows-touched;
           ok = λ z ws. from ws refl
-              ∙ from-own (context_of main supplementary w q) (entry_here main p) range (table_of main supplementary w st.table) ws W.new rows (λ n. some-rows (sym long ∙ n))
+              ∙ from-own (context_with main supplementary lists addresses w q) (entry_here main p) range (table_of main supplementary w st.table) ws W.new rows (λ n. some-rows (sym long ∙ n))
               ∙ (λ i. done (record { rows = rows; table = sym same-table i; warnings = ws ++ W.new }));
           no = λ n. absurd (n refl);
         }
 
     -- the declaration, where it has none
-    pub finds-declared : {stats : ConversionStats} {t f w₂ t₂ f₂ u₂ : List ℕ} {n : ℕ} {r : FoundLines} → own.count ≡ 0
-        → FindsLines (declared_line (context_of main supplementary w₁ q) (entry_here main p) range.start) main supplementary q w₁ t f u₁
-        (record { table = st.table; at = st.at; warned = x; stats = stats; past = st.past }) w₂ t₂ f₂ u₂ n r
-        → FindsLines (function_lines (context_of main supplementary w q) (entry_here main p) range) main supplementary q w t f u st w₂ t₂ f₂ u₂ n r
+    pub finds-declared : {fits : (st.at ≤ top) × (x ≤ top)} {t f w₂ t₂ f₂ u₂ : List ℕ} {n : ℕ} {r : FoundLines} → own.count ≡ 0
+        → FindsLines (declared_line (context_with main supplementary lists addresses w₁ q) (entry_here main p) range.start) main supplementary q w₁ t f u₁
+        (record { table = st.table; at = st.at; warned = x; stats = st.stats; past = st.past; within = fits }) w₂ t₂ f₂ u₂ n r
+        → FindsLines (function_lines (context_with main supplementary lists addresses w q) (entry_here main p) range) main supplementary q w t f u st w₂ t₂ f₂ u₂ n r
     finds-declared {w₂ = w₂} {r = r} no_rows D =
         let none-own : entries_of w₁ own.rows own.count ≡ [] = ap (entries_of w₁ own.rows) no_rows ∙ entries-nil w₁ own.rows in
-        let same : (ws : List Warning) → function_lines (context_of main supplementary w q) (entry_here main p) range (table_of main supplementary w st.table) ws
-        ≡ declared_line (context_of main supplementary w₁ q) (entry_here main p) range.start (table_of main supplementary w₁ st.table) (ws ++ W.new) =
+        let same : (ws : List Warning) → function_lines (context_with main supplementary lists addresses w q) (entry_here main p) range (table_of main supplementary w st.table) ws
+        ≡ declared_line (context_with main supplementary lists addresses w₁ q) (entry_here main p) range.start (table_of main supplementary w₁ st.table) (ws ++ W.new) =
         λ ws. from ws none-own
-        ∙ from-declared (context_of main supplementary w q) (entry_here main p) range (table_of main supplementary w st.table) ws W.new
-        ∙ (λ i. declared_line (sym (context-same C rows-touched [] []) i) (entry_here main p) range.start (sym same-table i) (ws ++ W.new)) in
+        ∙ from-declared (context_with main supplementary lists addresses w q) (entry_here main p) range (table_of main supplementary w st.table) ws W.new
+        ∙ (λ i. declared_line (sym (context-same C rows-touched lists addresses) i) (entry_here main p) range.start (sym same-table i) (ws ++ W.new)) in
         record {
           rows = D.rows;
           new = W.new ++ D.new;
           count = D.count;
+          stats = D.stats;
           laid = D.laid;
           past = D.past;
           warned = λ z. put_as (warnings-append W.new D.new) (W.laid warned then D.warned z);
           grown = λ z. grown-after C.files written apart (D.grown z);
           kept = λ z. but_trans rows-touched (D.kept z);
           ok = λ z ws. same ws ∙ D.ok z (ws ++ W.new)
-              ∙ (λ i. done (record { rows = D.rows; table = table_of main supplementary w₂ r.table; warnings = append_assoc ws W.new D.new i }));
+              ∙ (λ i. done (record { rows = D.rows; table = table_of main supplementary w₂ r.state.table; warnings = append_assoc ws W.new D.new i }));
           no = λ z ws. same ws ∙ D.no z (ws ++ W.new);
         }

@@ -26,7 +26,6 @@ use Rattle.imports.specs.Import.{State, ConversionStats, ImportContext, rooted, 
 use Rattle.dies.specs.Details.{detail_bytes}
 use Rattle.dies.specs.Past.{is_past}
 use Rattle.subprograms.specs.declared.function_lines.FoundLines.{FoundLines}
-use Rattle.subprograms.specs.declared.model.ConversionStats.{ConversionStats as Stats}
 use Rattle.subprograms.specs.declared.model.ImportContext.{ImportContext as Context}
 use Rattle.subprograms.specs.declared.model.ImportState.{ImportState}
 use Rattle.subprograms.specs.Stats.{stats_of, with_function}
@@ -81,21 +80,14 @@ record-bytes name r rows x =
 
 -- ---- in memory
 
--- the state after the rows
-abbrev lined_state : FoundLines → Stats → ImportState
-lined_state l stats = record { table = l.table; at = l.at; warned = l.warned; stats = stats; past = l.past }
-
-module _ {main supplementary w w₁ : List ℕ} (lists addresses : List ℕ) {q : Context} {t₁ t₂ f f₁ u u₁ : List ℕ} (st : ImportState) (p : ℕ) (r : AddressRange) (name : List ℕ) {headed : ℕ} {over : Bool} {n : ℕ} {l : FoundLines}
-    (B : over ≡ is_past st.at (19 + length name))
+module _ {main supplementary w w₁ : List ℕ} (lists addresses : List ℕ) {q : Context} {t₁ t₂ f f₁ u u₁ : List ℕ} (st : ImportState) (p : ℕ) (r : AddressRange) (name : List ℕ) {headed : ℕ} {over : Bool} {fits : (headed ≤ top) × (st.warned ≤ top)} {n : ℕ} {l : FoundLines}
+    (B : over ≡ (st.past || is_past st.at (19 + length name)))
     (C : ContextIn main supplementary w q st.table)
     (L : FindsLines (function_lines (context_with main supplementary lists addresses w q) (entry_here main p) r) main supplementary q
-    w t₁ f u (record { table = st.table; at = headed; warned = st.warned; stats = st.stats; past = st.past || over }) w₁ t₂ f₁ u₁ n l) where
+    w t₁ f u (record { table = st.table; at = headed; warned = st.warned; stats = st.stats; past = over; within = fits }) w₁ t₂ f₁ u₁ n l) where
   -- the tables stand for the walk
-  pub lined-context : n ≡ 0 → length w₁ ≡ length w → ContextIn main supplementary w₁ q l.table
+  pub lined-context : n ≡ 0 → length w₁ ≡ length w → ContextIn main supplementary w₁ q l.state.table
   lined-context z size = let G = L.grown z in context-kept C (L.kept z) size G.base G.room G.holds
-
-  pub lined-at : n ≡ 0 → (l.at ≤ top) × (l.warned ≤ top)
-  lined-at z = (omega (arith, (L.laid z).place), omega (arith, (L.warned z).place))
 
   module _ {t : List ℕ} (H : Put st.at (encode 0x41 (function_payload r name)) t t₁ headed) where
     -- the rows are refused
@@ -109,16 +101,16 @@ module _ {main supplementary w w₁ : List ℕ} (lists addresses : List ℕ) {q 
 
     module _ {w₂ t₃ u₂ : List ℕ} {m : ℕ} {r' : ImportState} (z : n ≡ 0) (size : length w₁ ≡ length w) (size₂ : length w₂ ≡ length w₁)
         (D : ImportsDetails (extract_subprogram_details (detail_context (context_with main supplementary lists addresses w₁ q) r) (below_entry main p)) main supplementary q name r l.count
-        w₁ t₂ u₁ (lined_state l st.stats) w₂ t₃ u₂ m r') where
+        w₁ t₂ u₁ l.state w₂ t₃ u₂ m r') where
       -- the file table stands below the walk's part
-      table_below : Clear l.table.base (extent l.table) ((q.ranges, walk_extent main supplementary q) ∷ [])
+      table_below : Clear l.state.table.base (extent l.state.table) ((q.ranges, walk_extent main supplementary q) ∷ [])
       table_below =
           let o = (lined-context z size).ordered in
           (inl (omega (arith, o.table, o.indices, o.lines, o.sequences, o.buffer, o.text, o.spans)), tt)
 
       -- the rows that were found behind warnings ws
       abbrev lines_found : List Warning → FunctionLines
-      lines_found ws = record { rows = L.rows; table = table_of main supplementary w₁ l.table; warnings = ws ++ L.new }
+      lines_found ws = record { rows = L.rows; table = table_of main supplementary w₁ l.state.table; warnings = ws ++ L.new }
 
       -- the definition after the rows
       after-rows : (rs : List Function) (ws : List Warning) → import_range (context_with main supplementary lists addresses w q) (entry_here main p) (below_entry main p) name r (state_of main supplementary w st rs ws)
@@ -136,10 +128,10 @@ module _ {main supplementary w w₁ : List ℕ} (lists addresses : List ℕ) {q 
       unfolding ◌>>=◌ add_function
       ends_as k rs ws =
           let x = D.descendants in
-          let table : table_of main supplementary w₂ r'.table ≡ table_of main supplementary w₁ l.table =
+          let table : table_of main supplementary w₂ r'.table ≡ table_of main supplementary w₁ l.state.table =
           ap (table_of main supplementary w₂) D.table ∙ table_kept (L.grown z).holds (but_one D.rest) table_below in
           let stats : stats_of r'.stats ≡ with_function (length L.rows) (length x.inlines) (stats_of st.stats) =
-          D.counted k ∙ ap (λ (n : ℕ). with_function n (length x.inlines) (stats_of st.stats)) (L.count z) in
+          D.counted k ∙ (λ i. with_function (L.count z i) (length x.inlines) (stats_of (L.stats z i))) in
           after-rows rs ws
           ∙ ap (λ (o : Outcome Descendants). o >>= range_end name r (state_of main supplementary w st rs ws) (lines_found ws)) (D.ok k)
           ∙ ap done (state-as (rs ++ (record_of name r L.rows x ∷ [])) (sym table) (append_assoc ws L.new x.warnings) (sym stats))
@@ -147,7 +139,7 @@ module _ {main supplementary w w₁ : List ℕ} (lists addresses : List ℕ) {q 
       -- the head, the rows or the rest pass the largest place
       passes : m ≡ 0 → r'.past ≡ (st.past || is_past st.at (length (records_bytes (record_of name r L.rows D.descendants ∷ []))))
       passes k =
-          let headed-past = ap (λ (y : Bool). st.past || y) (B ∙ ap (is_past st.at) (sym (head-length r name))) in
+          let headed-past = B ∙ ap (λ (k : ℕ). st.past || is_past st.at k) (sym (head-length r name)) in
           let lined-past = past-both H st.past (lines_bytes L.rows) headed-past (L.past z) in
           past-both (H then L.laid z) st.past (detail_bytes name r D.descendants) lined-past (D.past k)
           ∙ ap (λ (bs : List ℕ). st.past || is_past st.at (length bs)) (sym (record-bytes name r L.rows D.descendants))

@@ -6,22 +6,22 @@ use mathlib.Core.Option.{Option, none, some}
 use Prim.Native.Nat.{ℕ, ◌+◌, ◌-◌, ◌/◌, ◌%◌, ◌≤◌, ◌<◌}
 use native.Mathlib.Omega.{arith}
 use lib.Dec.{eqb}
-use mir.Val.{bool_byte}
 use lib.ListN.{length}
 use borrow.Author.Tests.{ne_eqb, lt-ltb, le-ltb}
 use Rattle.std.specs.Prelude.{Ok, Err, Some, None}
 use Rattle.tlv.specs.declared.refusal.Refusal.{Refusal}
 use Rattle.tlv.specs.Refusals.{number_of}
 use Rattle.tlv.specs.Outcome.{Outcome, refused, done, ◌>>=◌}
-use Rattle.tlv.specs.Bytes.{le_at}
 use Rattle.tlv.specs.Fields.{encode}
 use Rattle.tlv.specs.Model.{Entry, EntryRange, RangeFailure}
 use Rattle.buffers.specs.Buffer.{Put, top}
 use Rattle.buffers.specs.Output.{warning_payload, malformed_ranges}
 use Rattle.access.specs.Places.{entry_here}
+use Rattle.rnglists.specs.declared.lists.ListField.{ListField}
 use Rattle.rnglists.specs.declared.lists.ListRange.{ListRange}
 use Rattle.rnglists.specs.RangeLists.{ListRanges, faulty, and_before, decimal}
-use Rattle.rnglists.specs.Steps.{NextIs}
+use Rattle.rnglists.specs.Sizes.{width_of}
+use Rattle.rnglists.specs.Steps.{NextIs, FieldIs}
 use Rattle.imports.specs.Import.{State, rejected, import_ranges}
 use Rattle.imports.specs.Import as import
 use Rattle.ranges.specs.RangeTable.{list_at, list_of}
@@ -30,7 +30,7 @@ use Rattle.subprograms.specs.declared.model.ImportContext.{ImportContext}
 use Rattle.subprograms.specs.Contexts.{ContextIn, context_with}
 use Rattle.subprograms.specs.Steps.{sheets, memory, Imports, RejectsList, import_one, import_failing, import_listed, below_entry}
 use Rattle.subprograms.proofs.ContextLaws.{context-same}
-use Rattle.subprograms.proofs.StepLaws.{grows_none, refused_as, imports_then, grows-refused, grows_as, imports-rejected, grows_at, imports-context}
+use Rattle.subprograms.proofs.StepLaws.{grows_none, refused_as, imports_then, grows-refused, grows_as, imports-rejected, imports-context}
 use Rattle.subprograms.proofs.RangesLaws.{RangeOne, ranges-step, ranges-none, reason-put}
 
 -- ---- what the definition does
@@ -85,8 +85,6 @@ pub record GoingList (main supplementary lists addresses : List ℕ) (q : Import
     (w t f u : List ℕ) (st : ImportState) (place size at base : ℕ) : Type 0 where
   pub context : ContextIn main supplementary w q st.table
   pub same : context_with main supplementary lists addresses w q ≡ context_with main supplementary lists addresses w₀ q
-  pub records : st.at ≤ top
-  pub warned : st.warned ≤ top
   pub work-size : length w ≡ length w₀
   pub records-size : length t ≡ length t₀
   pub files-size : length f ≡ length f₀
@@ -96,15 +94,12 @@ pub record GoingList (main supplementary lists addresses : List ℕ) (q : Import
       → Imports (λ s. ListFrom main supplementary lists addresses q name p w₀ (list_of main lists addresses start) s) (sheets main supplementary) q (memory w₀ t₀ f₀ u₀) st₀ (memory w' t' f' u') n r
 
 module _ {main supplementary w₀ : List ℕ} {q : ImportContext} {p start : ℕ} {st₀ : ImportState} (lists addresses name t₀ f₀ u₀ : List ℕ)
-    {place size at base : ℕ} where
-  pub list-start : ContextIn main supplementary w₀ q st₀.table → st₀.at ≤ top → st₀.warned ≤ top
-      → place ≡ le_at 8 main (start + 16) → size ≡ le_at 1 main (start + 24) → at ≡ le_at 8 main start → base ≡ le_at 8 main (start + 8)
-      → GoingList main supplementary lists addresses q name p start w₀ t₀ f₀ u₀ st₀ w₀ t₀ f₀ u₀ st₀ place size at base
-  list-start C a b ep es eo eb = record {
+    {list : ListField} where
+  pub list-start : ContextIn main supplementary w₀ q st₀.table → FieldIs main start list
+      → GoingList main supplementary lists addresses q name p start w₀ t₀ f₀ u₀ st₀ w₀ t₀ f₀ u₀ st₀ list.addresses (width_of list.size) list.offset list.base
+  list-start C F = record {
     context = C;
     same = refl;
-    records = a;
-    warned = b;
     work-size = refl;
     records-size = refl;
     files-size = refl;
@@ -112,8 +107,8 @@ module _ {main supplementary w₀ : List ℕ} {q : ImportContext} {p start : ℕ
     finish = λ w' t' f' u' n r I. grows_as (λ s. ap (λ (l : ListRanges). ListFrom main supplementary lists addresses q name p w₀ l s) (sym whole)) I;
   }
     where
-      whole : list_at lists addresses place size at base ≡ list_of main lists addresses start
-      whole = λ i. list_at lists addresses (ep i) (es i) (eo i) (eb i)
+      whole : list_at lists addresses list.addresses (width_of list.size) list.offset list.base ≡ list_of main lists addresses start
+      whole = λ i. list_at lists addresses (F.addresses i) (F.size i) (F.offset i) (F.base i)
 
 module _ {main supplementary lists addresses : List ℕ} {q : ImportContext} {name : List ℕ} {p start : ℕ} {w₀ t₀ f₀ u₀ : List ℕ} {st₀ : ImportState}
     {w t f u : List ℕ} {st : ImportState}
@@ -124,8 +119,7 @@ module _ {main supplementary lists addresses : List ℕ} {q : ImportContext} {na
       G.finish w t f u 0 st
       (grows_as (λ s. ap (λ (l : ListRanges). ListFrom main supplementary lists addresses q name p w₀ l s) (sym N.is)
       ∙ listed-none (context_with main supplementary lists addresses w₀ q) (entry_here main p) (below_entry main p) name s)
-      (grows_none G.context.files G.records G.warned
-      kt kf ku))
+      (grows_none G.context.files kt kf ku))
 
   pub list-failed : {e : Refusal} → NextIs lists addresses place size at base (Err e) → {n : ℕ} → n ≡ number_of e → {u' : List ℕ} {r : ImportState} → length t < top → length f < top → RejectsList st n u u' r
       → Imports (λ s. ListFrom main supplementary lists addresses q name p w₀ (list_of main lists addresses start) s) (sheets main supplementary) q (memory w₀ t₀ f₀ u₀) st₀ (memory w t f u') 0 r
@@ -133,17 +127,17 @@ module _ {main supplementary lists addresses : List ℕ} {q : ImportContext} {na
       G.finish w t f u' 0 r
       (grows_as (λ s. ap (λ (l : ListRanges). ListFrom main supplementary lists addresses q name p w₀ l s) (sym N.is ∙ ap faulty (sym is))
       ∙ listed-fault (context_with main supplementary lists addresses w₀ q) (entry_here main p) (below_entry main p) name n s (rw (← is) at N.within))
-      (imports-rejected (malformed_ranges true (decimal n) ∷ []) G.context G.records kt kf (reason-put true (decimal n) R.put)
+      (imports-rejected (malformed_ranges true (decimal n) ∷ []) G.context kt kf (reason-put true (decimal n) R.put)
       R.rejects))
 
   module _ {x : ListRange} (N : NextIs lists addresses place size at base (Ok (Some x))) where
     pub list-less : length lists - x.next < length lists - at
     list-less = let z = N.within in omega (arith, z.0, z.1)
 
-    module _ (flag : ℕ) (ef : eqb flag 1 ≡ x.dead) {w' t' f' u' : List ℕ} {n : ℕ} {r : ImportState}
-        (I : Imports (RangeOne main supplementary lists addresses q name p w x.range flag) (sheets main supplementary) q (memory w t f u) st (memory w' t' f' u') n r) where
+    module _ {w' t' f' u' : List ℕ} {n : ℕ} {r : ImportState}
+        (I : Imports (RangeOne main supplementary lists addresses q name p w x.range x.dead) (sheets main supplementary) q (memory w t f u) st (memory w' t' f' u') n r) where
       turn : (s : State) → ListFrom main supplementary lists addresses q name p w₀ (list_at lists addresses place size at base) s
-          ≡ (RangeOne main supplementary lists addresses q name p w x.range flag s
+          ≡ (RangeOne main supplementary lists addresses q name p w x.range x.dead s
           >>= λ t. ListFrom main supplementary lists addresses q name p w₀ (list_at lists addresses place size x.next x.base) t)
       turn s =
           ap (λ (l : ListRanges). ListFrom main supplementary lists addresses q name p w₀ l s) (sym N.is)
@@ -151,8 +145,6 @@ module _ {main supplementary lists addresses : List ℕ} {q : ImportContext} {na
           (list_at lists addresses place size x.next x.base) s
           ∙ ap (λ (k : import.ImportContext). import_one k (entry_here main p) (below_entry main p) name (record { range = x.range; tombstone = x.dead }) s
           >>= λ t. ListFrom main supplementary lists addresses q name p w₀ (list_at lists addresses place size x.next x.base) t) (sym G.same)
-          ∙ ap (λ (b : Bool). import_one (context_with main supplementary lists addresses w q) (entry_here main p) (below_entry main p) name (record { range = x.range; tombstone = b }) s
-          >>= λ t. ListFrom main supplementary lists addresses q name p w₀ (list_at lists addresses place size x.next x.base) t) (sym ef)
 
       pub list-refused : {r' : ImportState} → (n ≡ 0 → ⊥)
           → Imports (λ s. ListFrom main supplementary lists addresses q name p w₀ (list_of main lists addresses start) s) (sheets main supplementary) q (memory w₀ t₀ f₀ u₀) st₀ (memory w' t' f' u') n r'
@@ -165,20 +157,12 @@ module _ {main supplementary lists addresses : List ℕ} {q : ImportContext} {na
       list-turn z sw st sf su = record {
         context = imports-context sw z G.context I;
         same = context-same G.context (I.kept z) lists addresses ∙ G.same;
-        records = (grows_at I z).0;
-        warned = (grows_at I z).1;
         work-size = sw ∙ G.work-size;
         records-size = st ∙ G.records-size;
         files-size = sf ∙ G.files-size;
         warnings-size = su ∙ G.warnings-size;
         finish = λ w'' t'' f'' u'' m r'' J. G.finish w'' t'' f'' u'' m r'' (grows_as turn (imports_then q z I J));
       }
-
--- ---- the flag of a range that is dead or not
-
-pub flag_is : (dead : Bool) {n : ℕ} → n ≡ bool_byte dead → eqb n 1 ≡ dead
-flag_is true e = rw e
-flag_is false e = rw e
 
 -- ---- a fault's number in decimal, as the code has its digits
 

@@ -10,7 +10,6 @@ use borrow.Author.Tests.{eqb-true, eqb-false, eq-eqb}
 use Rattle.std.specs.Prelude.{Some, None}
 use Rattle.tlv.specs.declared.fields.FieldSpan.{FieldSpan}
 use Rattle.tlv.specs.Outcome.{Outcome, refused, done, ◌>>=◌}
-use Rattle.tlv.specs.Lists.{at}
 use Rattle.tlv.specs.Bytes.{le_at}
 use Rattle.tlv.specs.Checked.{Placed}
 use Rattle.tlv.specs.Cursor.{step_at, field_from}
@@ -39,7 +38,7 @@ use Rattle.subprograms.specs.Contexts.{ContextIn, context_with}
 use Rattle.subprograms.specs.Steps.{sheets, memory, Imports, import_entry, below_entry}
 use Rattle.subprograms.proofs.ContextLaws.{unit-of, context-same}
 use Rattle.subprograms.proofs.EntryStepLaws.{entry-passed}
-use Rattle.subprograms.proofs.StepLaws.{grows_none, refused_as, imports_then, grows-refused, grows_as, grows_at, imports-context}
+use Rattle.subprograms.proofs.StepLaws.{grows_none, refused_as, imports_then, grows-refused, grows_as, imports-context}
 
 -- ---- what the definition does
 
@@ -83,7 +82,6 @@ pub record Importing (main supplementary lists addresses : List ℕ) (q : Import
   pub known : EntriesKnown main q.unit place
   pub context : ContextIn main supplementary w q st.table
   pub same : context_with main supplementary lists addresses w q ≡ context_with main supplementary lists addresses w₀ q
-  pub bounds : (st.at ≤ top) × (st.warned ≤ top)
   pub size : length w ≡ length w₀
   pub records-size : length t ≡ length t₀
   pub files-size : length f ≡ length f₀
@@ -93,20 +91,19 @@ pub record Importing (main supplementary lists addresses : List ℕ) (q : Import
   pub left : (s : State) → import_unit_details (context_with main supplementary lists addresses w₀ q) (unit_here main q.unit).entries s
       ≡ (before s >>= import_unit_details (context_with main supplementary lists addresses w₀ q) (entries_from main place))
 
-pub importing-start : {main supplementary w t f u : List ℕ} (lists addresses : List ℕ) {q : ImportContext} {st : ImportState} → ContextIn main supplementary w q st.table → st.at ≤ top → st.warned ≤ top
+pub importing-start : {main supplementary w t f u : List ℕ} (lists addresses : List ℕ) {q : ImportContext} {st : ImportState} → ContextIn main supplementary w q st.table
     → length t < top → length f < top → length u < top → Importing main supplementary lists addresses q w t f u st w t f u st (q.unit + 21)
-importing-start {main} {supplementary} {w} lists addresses {q} {st} C at warned small tiny few = record {
+importing-start {main} {supplementary} {w} lists addresses {q} {st} C small tiny few = record {
   placed = unit-next (stands C);
   known = known_start main q.unit (q.unit + 3) 18 (q.unit + 21) (stands C).is (unit-of C.unit);
   context = C;
   same = refl;
-  bounds = (at, warned);
   size = refl;
   records-size = refl;
   files-size = refl;
   warnings-size = refl;
   before = done;
-  does = grows_none C.files at warned small tiny few;
+  does = grows_none C.files small tiny few;
   left = λ s. ap (λ (es : List Entry). import_unit_details (context_with main supplementary lists addresses w q) es s) (entries-here (stands C)) ∙ after-done (context_with main supplementary lists addresses w q) (entries_from main (q.unit + 21)) s;
 }
 
@@ -133,7 +130,6 @@ module _ {main supplementary lists addresses : List ℕ} {q : ImportContext} {w�
       known = known-other main place field there I.known h k;
       context = I.context;
       same = I.same;
-      bounds = I.bounds;
       size = I.size;
       records-size = I.records-size;
       files-size = I.files-size;
@@ -185,7 +181,6 @@ module _ {main supplementary lists addresses : List ℕ} {q : ImportContext} {w�
           known = known-entry main place field there I.known is;
           context = imports-context lw z I.context A;
           same = context-same I.context (A.kept z) lists addresses ∙ I.same;
-          bounds = grows_at A z;
           size = lw ∙ I.size;
           records-size = lt ∙ I.records-size;
           files-size = lf ∙ I.files-size;
@@ -214,7 +209,6 @@ module _ {main supplementary lists addresses : List ℕ} {q : ImportContext} {w�
           let is : field.tag ≡ 0x17 = eqb-true field.tag 0x17 y in
           importing-entry is
           (entry-passed lists addresses st I.context (entry-known is) (λ z. false≢true (sym n ∙ test ∙ rw (y, eq-eqb (le_at 2 main (place + 13)) 0x2e z)))
-          I.bounds.0 I.bounds.1
           (omega (arith, I.records-size, (I.does.laid refl).small))
           (omega (arith, I.files-size, (I.does.grown refl).put.small))
           (omega (arith, I.warnings-size, (I.does.warned refl).small)))

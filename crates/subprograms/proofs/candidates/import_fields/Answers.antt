@@ -2,26 +2,28 @@
 use mathlib.Core.Path.{refl}
 use native.Mathlib.Omega.{arith}
 use Rattle.tlv.proofs.AnswerLaws.{numbered, handed}
+use Rattle.subprograms.proofs.StepLaws.{rejects-from}
 use Rattle.subprograms.proofs.RangesLaws.{named-within, reason-short, named-whole, named_none, named-refused, named-after}
 use Rattle.subprograms.proofs.candidates.import_fields.Goals as goal
 
-pub returns-in_default : goal.returns-in_default
-returns-in_default c = named-whole c.args.lists.now c.args.addresses.now c.args.name.now c.requires.context_in c.requires.entry_known c.requires.placed.0 c.in_default.ensures c.import_ranges.ensures
+pub returns-in_default-clause-is : goal.returns-in_default-clause-is
+returns-in_default-clause-is c = named-whole _ _ _ c.requires.context_in c.requires.subprogram_in.entry c.requires.placed.0 c.in_default.ensures c.import_ranges.ensures.is
 
-pub put_malformed_ranges-warned-requires : goal.put_malformed_ranges-warned-requires
-put_malformed_ranges-warned-requires c = reason-short c.requires.placed.0 c.in-Some.ensures
+pub put_malformed_ranges-requires : goal.put_malformed_ranges-requires
+put_malformed_ranges-requires c = reason-short c.requires.placed.0 c.in-Some.ensures
 
-pub returns-then-read-eq0 : goal.returns-then-read-eq0
-returns-then-read-eq0 c = named_none c.args.lists.now c.args.addresses.now c.args.name.now c.requires.context_in c.requires.entry_known c.requires.placed.0 c.in-Some.ensures c.read.ensures c.if-read-eq0.true c.requires.at_le_top.0 (omega (arith, c.well_formed)) (omega (arith, c.well_formed)) c.put_malformed_ranges-warned.ensures c.reject.ensures
+pub returns-then-read-eq0-clause-is : goal.returns-then-read-eq0-clause-is
+returns-then-read-eq0-clause-is c = named_none _ _ _ c.requires.context_in c.requires.subprogram_in.entry c.requires.placed.0 c.in-Some.ensures c.read.ensures c.if-read-eq0.true (omega (arith, c.well_formed)) (omega (arith, c.well_formed)) c.put_malformed_ranges.ensures (rejects-from c.reject.ensures)
 
-pub returns-in_err-r : goal.returns-in_err-r
-returns-in_err-r c = rw (handed _ _ c.from_residual.ensures.1) (named-refused c.args.lists.now c.args.addresses.now c.args.name.now c.requires.context_in c.requires.entry_known c.requires.placed.0 c.in-Some.ensures c.read.ensures c.if-read-eq0.false c.in_err-r.ensures (numbered _))
+pub returns-in_err-st-clause-is : goal.returns-in_err-st-clause-is
+returns-in_err-st-clause-is c = rw (handed _ _ c.from_residual.ensures.1) (named-refused _ _ _ c.requires.context_in c.requires.subprogram_in.entry c.requires.placed.0 c.in-Some.ensures c.read.ensures c.if-read-eq0.false c.in_err-st.ensures.is (numbered _))
 
-pub put_malformed_ranges-warned-requires-2 : goal.put_malformed_ranges-warned-requires-2
-put_malformed_ranges-warned-requires-2 c = reason-short c.requires.placed.0 c.in-Some.ensures
+pub put_malformed_ranges-requires-2 : goal.put_malformed_ranges-requires-2
+put_malformed_ranges-requires-2 c = reason-short c.requires.placed.0 c.in-Some.ensures
 
-pub returns : goal.returns
-returns c = named-after c.args.lists.now c.args.addresses.now c.args.name.now c.requires.context_in c.requires.entry_known c.requires.placed.0 c.in-Some.ensures c.read.ensures c.if-read-eq0.false c.in_ok-r.ensures refl c.import_ranges-2.auto.work (omega (arith, c.well_formed, c.import_ranges-2.auto.records)) (omega (arith, c.well_formed, c.import_ranges-2.auto.files)) c.put_malformed_ranges-warned-2.ensures c.reject-2.ensures
+pub returns-clause-is : goal.returns-clause-is
+returns-clause-is c = named-after _ _ _ c.requires.context_in c.requires.subprogram_in.entry c.requires.placed.0 c.in-Some.ensures c.read.ensures c.if-read-eq0.false c.in_ok-st.ensures.is refl c.import_ranges-2.auto.work
+    (omega (arith, c.well_formed, c.import_ranges-2.ensures.same.records-len)) (omega (arith, c.well_formed, c.import_ranges-2.ensures.same.files-len)) c.put_malformed_ranges-2.ensures (rejects-from c.reject-2.ensures)
 
 pub slice_bounds-reason-count : goal.slice_bounds-reason-count
 slice_bounds-reason-count c = omega (arith, named-within c.requires.placed.0 c.in-Some.ensures)

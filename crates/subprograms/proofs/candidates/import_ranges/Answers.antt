@@ -1,36 +1,46 @@
 -- `candidates::import_ranges` meets its contract.
-use mathlib.Core.Path.{refl, ◌∙◌}
+use mathlib.Core.Path.{refl, ap}
+use Prim.Native.Nat.{ℕ}
+use lib.Dec.{eqb}
 use native.Mathlib.Omega.{arith}
 use Rattle.tlv.proofs.AnswerLaws.{numbered, handed}
 use Rattle.access.proofs.OwnLaws.{own-less}
-use Rattle.subprograms.proofs.candidates.NextEntryLaws.{begins-here, begins-after}
+use Rattle.subprograms.proofs.candidates.NextEntryLaws.{begins-after, subprogram-from}
+use Rattle.subprograms.proofs.OutputLaws.{outputs-start, outputs-then}
 use Rattle.subprograms.proofs.RangesLaws.{going_start, going_done, going-within, going-refused, going_turn}
 use Rattle.subprograms.proofs.candidates.import_ranges.Goals as goal
 
 pub loop-field-init : goal.loop-field-init
-loop-field-init c = (going_start _ _ _ _ _ _ c.requires.context_in c.requires.entry_known c.requires.placed.0 c.requires.at_le_top.0 c.requires.at_le_top.1, begins-here c.requires.placed.0 c.requires.placed.1)
+loop-field-init c = record {
+  going = going_start _ _ _ _ _ _ c.requires.context_in c.requires.subprogram_in.entry c.requires.placed.0;
+  below = c.requires.subprogram_in.below;
+  same = outputs-start;
+}
 
-pub import_candidate-requires-clause-begins_at : goal.import_candidate-requires-clause-begins_at
-import_candidate-requires-clause-begins_at c = begins-after c.loop-field.invariant.1 (c.next_entry-below.ensures _ c.loop-field.invariant.1.known)
+pub import_candidate-requires-clause-subprogram_in : goal.import_candidate-requires-clause-subprogram_in
+import_candidate-requires-clause-subprogram_in c = subprogram-from c.requires.subprogram_in
+    (begins-after c.loop-field.invariant.below (c.next_entry-below.ensures _ c.loop-field.invariant.below.known)) refl
 
-pub returns-in_err-r : goal.returns-in_err-r
-returns-in_err-r c = rw (handed _ _ c.from_residual.ensures.1) (going-refused c.loop-field.invariant.0 c.in-Some.ensures c.range_at-range.ensures c.read-flag.ensures c.in_err-r.ensures (numbered _))
+pub returns-in_err-r-clause-is : goal.returns-in_err-r-clause-is
+returns-in_err-r-clause-is c = rw (handed _ _ c.from_residual.ensures.1) (going-refused c.loop-field.invariant.going c.in-Some.ensures c.range_at-range.ensures (ap (λ (n : ℕ). eqb n 1) c.read-dead.ensures) c.in_err-r.ensures.is (numbered _))
 
 pub loop-field-smaller : goal.loop-field-smaller
 loop-field-smaller c = own-less _ _ _ _ c.in-Some.ensures
 
 pub loop-field-preserved : goal.loop-field-preserved
-loop-field-preserved c = (
-  going_turn c.loop-field.invariant.0 c.in-Some.ensures c.range_at-range.ensures c.read-flag.ensures c.in_ok-r.ensures refl
-      c.import_candidate.auto.work c.import_candidate.auto.records c.import_candidate.auto.files c.import_candidate.auto.warnings,
-  begins-after c.loop-field.invariant.1 (c.next_entry-below.ensures _ c.loop-field.invariant.1.known),
-)
+loop-field-preserved c = let S = c.import_candidate.ensures.same in record {
+  going = going_turn c.loop-field.invariant.going c.in-Some.ensures c.range_at-range.ensures (ap (λ (n : ℕ). eqb n 1) c.read-dead.ensures) c.in_ok-r.ensures.is refl
+      c.import_candidate.auto.work S.records-len S.files-len S.warnings-len;
+  below = begins-after c.loop-field.invariant.below (c.next_entry-below.ensures _ c.loop-field.invariant.below.known);
+  same = outputs-then c.loop-field.invariant.same S;
+}
 
-pub returns : goal.returns
-returns c = going_done c.loop-field.invariant.0 c.in_default.ensures (omega (arith, c.well_formed, c.loop-field.invariant.0.records-size)) (omega (arith, c.well_formed, c.loop-field.invariant.0.files-size)) (omega (arith, c.well_formed, c.loop-field.invariant.0.warnings-size))
+pub returns-clause-is : goal.returns-clause-is
+returns-clause-is c = let G = c.loop-field.invariant.going in
+    going_done G c.in_default.ensures (omega (arith, c.well_formed, G.records-size)) (omega (arith, c.well_formed, G.files-size)) (omega (arith, c.well_formed, G.warnings-size))
 
 pub range_at-range-requires : goal.range_at-range-requires
-range_at-range-requires c = omega (arith, going-within c.loop-field.invariant.0 c.in-Some.ensures)
+range_at-range-requires c = omega (arith, going-within c.loop-field.invariant.going c.in-Some.ensures)
 
-pub read-flag-requires : goal.read-flag-requires
-read-flag-requires c = omega (arith, going-within c.loop-field.invariant.0 c.in-Some.ensures)
+pub read-dead-requires : goal.read-dead-requires
+read-dead-requires c = omega (arith, going-within c.loop-field.invariant.going c.in-Some.ensures)

@@ -1,12 +1,20 @@
 -- `candidates::import_ranges` meets its contract. The loop's invariant: whoever imports the ranges from here on has imported all of them.
 use Prim.Native.Nat.{◌+◌, ◌-◌}
 use lib.ListN.{length}
+use Rattle.subprograms.specs.Contexts.{main_of, supplementary_of}
 use Rattle.subprograms.specs.Entries.{BeginsAt}
+use Rattle.subprograms.specs.Outputs.{SameOutputs}
 use Rattle.subprograms.proofs.RangesLaws.{Going}
 use Rattle.subprograms.proofs.candidates.import_ranges.Given as goal
 
 abbrev pub invariant-loop-field : goal.invariant-loop-field
-invariant-loop-field l = Going l.main l.supplementary l.lists l.addresses l.q l.name l.p l.initial.work l.initial.records l.initial.files l.initial.warnings l.initial.r l.work l.records l.files l.warnings l.r l.at × BeginsAt l.main l.q.unit (l.p + 15) l.below
+invariant-loop-field l = record {
+  going : Going (main_of l.q) (supplementary_of l.q) l.q.lists.lists.now l.q.lists.addresses.now l.q l.s.name.now l.s.place
+      l.initial.work l.initial.t.records.now l.initial.t.files.now l.initial.t.warnings.now l.initial.r
+      l.work l.t.records.now l.t.files.now l.t.warnings.now l.r l.at;
+  below : BeginsAt (main_of l.q) l.q.unit (l.s.place + 15) l.below;
+  same : SameOutputs l.initial.t l.t;
+}
 
 abbrev pub decreases-loop-field : goal.decreases-loop-field
-decreases-loop-field l = length l.main - l.at
+decreases-loop-field l = length (main_of l.q) - l.at

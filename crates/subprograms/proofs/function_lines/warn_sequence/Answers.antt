@@ -1,10 +1,8 @@
 -- `function_lines::warn_sequence` meets its contract.
 use native.Mathlib.Omega.{arith}
-use mathlib.Core.Path.{refl, sym, ap, ◌∙◌}
-use mathlib.Core.Bool.{true, false, not}
+use mathlib.Core.Path.{refl, ap}
+use mathlib.Core.Bool.{not}
 use borrow.Author.Tests.{not-true, not-false}
-use Rattle.std.specs.Prelude.{Some}
-use Rattle.rows.specs.Stored.{sequence_of}
 use Rattle.subprograms.proofs.function_lines.SequenceLaws.{warned-none, warned-about}
 use Rattle.subprograms.proofs.function_lines.warn_sequence.Goals as goal
 

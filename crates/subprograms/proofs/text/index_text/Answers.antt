@@ -1,7 +1,5 @@
 -- `text::index_text` meets its contract.
-use Prim.Native.Nat.{◌+◌, ◌*◌, ◌≤◌}
 use native.Mathlib.Omega.{arith}
-use lib.ListN.{length}
 use Rattle.access.proofs.OwnLaws.{own-less}
 use Rattle.subprograms.proofs.text.TextLaws.{text-within, listing_start, listing-within, listing-room, listing-turn, listing-done}
 use Rattle.subprograms.proofs.text.index_text.Goals as goal
@@ -15,8 +13,8 @@ loop-field-init c = search listing_start
 pub range_at-range-requires : goal.range_at-range-requires
 range_at-range-requires c = listing-within c.loop-field.invariant c.in-Some.ensures
 
-pub overflow_mul-n : goal.overflow_mul-n
-overflow_mul-n c = omega (arith, listing-room c.loop-field.invariant c.in-Some.ensures c.requires.place_in_bounds)
+pub overflow_mul-count : goal.overflow_mul-count
+overflow_mul-count c = omega (arith, listing-room c.loop-field.invariant c.in-Some.ensures c.requires.place_in_bounds)
 
 pub overflow_add-base : goal.overflow_add-base
 overflow_add-base c = omega (arith, listing-room c.loop-field.invariant c.in-Some.ensures c.requires.place_in_bounds)
@@ -24,8 +22,8 @@ overflow_add-base c = omega (arith, listing-room c.loop-field.invariant c.in-Som
 pub put_range_at-requires : goal.put_range_at-requires
 put_range_at-requires c = listing-room c.loop-field.invariant c.in-Some.ensures c.requires.place_in_bounds
 
-pub overflow_add-n : goal.overflow_add-n
-overflow_add-n c = omega (arith, listing-room c.loop-field.invariant c.in-Some.ensures c.requires.place_in_bounds)
+pub overflow_add-count : goal.overflow_add-count
+overflow_add-count c = omega (arith, listing-room c.loop-field.invariant c.in-Some.ensures c.requires.place_in_bounds)
 
 pub loop-field-smaller : goal.loop-field-smaller
 loop-field-smaller c = own-less _ _ _ _ c.in-Some.ensures

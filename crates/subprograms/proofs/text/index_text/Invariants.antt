@@ -5,7 +5,7 @@ use Rattle.subprograms.proofs.text.TextLaws.{TextListing}
 use Rattle.subprograms.proofs.text.index_text.Given as goal
 
 abbrev pub invariant-loop-field : goal.invariant-loop-field
-invariant-loop-field l = TextListing l.main l.place l.initial.work l.work l.base l.p l.n
+invariant-loop-field l = TextListing l.main l.place l.initial.work l.work l.base l.p l.count
 
 abbrev pub decreases-loop-field : goal.decreases-loop-field
 decreases-loop-field l = length l.main - l.p

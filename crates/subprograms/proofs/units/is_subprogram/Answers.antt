@@ -1,5 +1,4 @@
 -- `units::is_subprogram` meets its contract.
-use mathlib.Core.Path.{refl}
 use borrow.Author.Tests.{eq-eqb, ne_eqb}
 use Rattle.subprograms.proofs.units.is_subprogram.Goals as goal
 
