@@ -7,8 +7,7 @@ use native.Mathlib.Omega.{arith}
 use lib.Dec.{ltb, eqb}
 use lib.ListN.{length}
 use borrow.Author.Tests.{ltb-false}
-use Rattle.std.specs.Prelude.{Result, Ok, Err, Some, None}
-use Rattle.std.specs.Prelude as std
+use Rattle.std.specs.Prelude.{Result, Ok, Err, Option as Maybe, Some, None}
 use Rattle.tlv.specs.declared.refusal.Refusal.{Refusal}
 use Rattle.tlv.specs.Outcome.{refused, done, ◌>>=◌}
 use Rattle.tlv.specs.Refusals.{number_of}
@@ -93,30 +92,30 @@ filled-length [] h = absurd (h refl)
 filled-length (x ∷ xs) h = refl
 
 module _ (main : List ℕ) (o : Options) where
-  pub missing-all : o.all ≡ true → false ≡ missing_of main o
+  pub missing-all : o.ordinal ≡ None → false ≡ missing_of main o
   unfolding missing_of
   missing-all e = sym (rw e)
 
-  module _ (one : o.all ≡ false) where
+  module _ {n : ℕ} (one : o.ordinal ≡ Some n) where
     -- the unit is the one at the place
-    by_place : (p : std.Option ℕ) → place_of p ≡ at (unit_places 0 (fields main)) o.ordinal
-        → missing_of main o ≡ missing_unit main o.ordinal (map_option (unit_here main) (place_of p))
+    by_place : (p : Maybe ℕ) → place_of p ≡ at (unit_places 0 (fields main)) n
+        → missing_of main o ≡ missing_unit main n (map_option (unit_here main) (place_of p))
     unfolding missing_of
-    by_place p e = rw one (ap (missing_unit main o.ordinal) (unit_of-place main o.ordinal p e))
+    by_place p e = rw one (ap (missing_unit main n) (unit_of-place main n p e))
 
-    pub missing-found : {q : ℕ} → place_of (Some q) ≡ at (unit_places 0 (fields main)) o.ordinal → false ≡ missing_of main o
+    pub missing-found : {q : ℕ} → place_of (Some q) ≡ at (unit_places 0 (fields main)) n → false ≡ missing_of main o
     unfolding map_option
     missing-found {q} e = sym (by_place (Some q) e)
 
-    module _ (e : place_of None ≡ at (unit_places 0 (fields main)) o.ordinal) where
-      none-there : missing_of main o ≡ not (is_empty main && eqb o.ordinal 0)
+    module _ (e : place_of None ≡ at (unit_places 0 (fields main)) n) where
+      none-there : missing_of main o ≡ not (is_empty main && eqb n 0)
       unfolding map_option
       none-there = by_place None e
 
       pub missing-filled : (length main ≡ 0 → ⊥) → true ≡ missing_of main o
       missing-filled h = sym (none-there ∙ rw (filled-length main h))
 
-      pub missing-bare : length main ≡ 0 → not (eqb o.ordinal 0) ≡ missing_of main o
+      pub missing-bare : length main ≡ 0 → not (eqb n 0) ≡ missing_of main o
       missing-bare z = sym (none-there ∙ rw (empty-length main z))
 
 -- ---- refusal 5

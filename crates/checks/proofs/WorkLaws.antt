@@ -9,8 +9,7 @@ use native.Mathlib.Nat.{mul-le-mul_left}
 use native.Mathlib.Omega.{arith}
 use lib.ListN.{length, take, drop}
 use borrow.Author.Tests.{eq-eqb, ne_eqb}
-use Rattle.std.specs.Prelude.{Some, None, is_some}
-use Rattle.std.specs.Prelude as std
+use Rattle.std.specs.Prelude.{Option as Maybe, Some, None, is_some}
 use Rattle.tlv.specs.declared.fields.FieldSpan.{FieldSpan}
 use Rattle.tlv.specs.Lists.{All, Any, at, is_none, map_option}
 use Rattle.tlv.specs.Limits.{program_limit, list_limit, work_of_field, work_of_program_byte, work_of_encoded_byte, work_of_list_byte, counted_lists, work_besides}
@@ -35,7 +34,7 @@ use Rattle.imports.specs.Answer.{work_of_byte, work_of_lists, work_of_unit, work
 use Rattle.checks.specs.declared.layout.Counts.{Counts}
 use Rattle.checks.specs.declared.layout.Layout.{Layout}
 use Rattle.checks.specs.declared.options.Options.{Options}
-use Rattle.checks.specs.Checks.{listed, chosen_units, is_encoded, work_of_program, work_limit, WorkEnough, UnitEnough}
+use Rattle.checks.specs.Checks.{listed, chosen_by, chosen_units, is_encoded, work_of_program, work_limit, WorkEnough, UnitEnough}
 use Rattle.checks.specs.Layout.{Sized, TagsKnown}
 
 -- ---- the work of a unit
@@ -161,15 +160,15 @@ plain-without s z y =
 
 plain-chosen : (o : Options) (us : List CompilationUnit) → Plain us → Plain (chosen_units o us)
 unfolding chosen_units
-plain-chosen o us p = go o.all
+plain-chosen o us p = go o.ordinal
   where
-    one : (x : Option CompilationUnit) → at us o.ordinal ≡ x → Plain (listed x)
-    one none e = tt
-    one (some u) e = (given-some Bare (at us o.ordinal) u (all-at Bare us o.ordinal p) e, tt)
+    one : (n : ℕ) (x : Option CompilationUnit) → at us n ≡ x → Plain (listed x)
+    one n none e = tt
+    one n (some u) e = (given-some Bare (at us n) u (all-at Bare us n p) e, tt)
 
-    go : (b : Bool) → Plain (cond b us (listed (at us o.ordinal)))
-    go true = p
-    go false = one (at us o.ordinal) refl
+    go : (x : Maybe ℕ) → Plain (chosen_by x us)
+    go None = p
+    go (Some n) = one n (at us n) refl
 
 pub work-plain : {s : List ℕ} {c : Counts} (o : Options) (size bytes : ℕ) → Sized s c → c.encodings + c.lists ≡ 0
     → work_of_program_byte * size ≡ work_of_units size bytes (chosen_units o (units s))
@@ -179,7 +178,7 @@ work-plain {s} {c} o size bytes S z =
 
 -- ---- the unit at a place
 
-pub encoding-told : {s : List ℕ} {p : ℕ} (U : UnitPlaced s p) (r : std.Option FieldSpan) → NextOwn s (p + 21) encoding_tag r → is_some r ≡ is_encoded (unit_here s p)
+pub encoding-told : {s : List ℕ} {p : ℕ} (U : UnitPlaced s p) (r : Maybe FieldSpan) → NextOwn s (p + 21) encoding_tag r → is_some r ≡ is_encoded (unit_here s p)
 unfolding payload_of map_option
 encoding-told U None own = sym (rw (encoding-here U, ← own.is))
 encoding-told U (Some f) own = sym (rw (encoding-here U, ← own.is))
@@ -251,23 +250,23 @@ module _ (size bytes : ℕ) where
 
 -- ---- the units that are asked for
 
-pub work-all : (s : List ℕ) (o : Options) (size bytes : ℕ) {n : ℕ} → o.all ≡ true → n ≡ work_of_units size bytes (units s) → n ≡ work_of_units size bytes (chosen_units o (units s))
+pub work-all : (s : List ℕ) (o : Options) (size bytes : ℕ) {n : ℕ} → o.ordinal ≡ None → n ≡ work_of_units size bytes (units s) → n ≡ work_of_units size bytes (chosen_units o (units s))
 unfolding chosen_units
 work-all s o size bytes is e = e ∙ sym (rw is)
 
-module _ (s : List ℕ) (o : Options) (size bytes : ℕ) (one : o.all ≡ false) where
-  by_place : (x : std.Option ℕ) → place_of x ≡ at (unit_places 0 (fields s)) o.ordinal
+module _ (s : List ℕ) (o : Options) (size bytes : ℕ) {i : ℕ} (one : o.ordinal ≡ Some i) where
+  by_place : (x : Maybe ℕ) → place_of x ≡ at (unit_places 0 (fields s)) i
       → work_of_units size bytes (chosen_units o (units s)) ≡ work_of_units size bytes (listed (map_option (unit_here s) (place_of x)))
   unfolding chosen_units
-  by_place x e = rw one (ap (λ (y : Option CompilationUnit). work_of_units size bytes (listed y)) (unit_of-place s o.ordinal x e))
+  by_place x e = rw one (ap (λ (y : Option CompilationUnit). work_of_units size bytes (listed y)) (unit_of-place s i x e))
 
-  pub work-missing : place_of None ≡ at (unit_places 0 (fields s)) o.ordinal → work_of_program_byte * size ≡ work_of_units size bytes (chosen_units o (units s))
+  pub work-missing : place_of None ≡ at (unit_places 0 (fields s)) i → work_of_program_byte * size ≡ work_of_units size bytes (chosen_units o (units s))
   unfolding map_option work_of_units
   work-missing e = sym (by_place None e)
 
-  module _ {q : ℕ} (e : place_of (Some q) ≡ at (unit_places 0 (fields s)) o.ordinal) where
+  module _ {q : ℕ} (e : place_of (Some q) ≡ at (unit_places 0 (fields s)) i) where
     pub asked-placed : Accepted s → UnitPlaced s q
-    asked-placed A = unit-stands (placed-start s A.number A.is) (record { number = o.ordinal; is = sym e })
+    asked-placed A = unit-stands (placed-start s A.number A.is) (record { number = i; is = sym e })
 
     pub work-one : {n : ℕ} → n ≡ work_of_unit size bytes (unit_here s q) → n ≡ work_of_units size bytes (chosen_units o (units s))
     unfolding map_option work_of_units

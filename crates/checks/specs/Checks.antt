@@ -1,5 +1,6 @@
 -- Contract. Refusals 1 to 5: what their tests promise.
-use Rattle.std.specs.Prelude.{◌≡◌, Result, Ok, Err, Bool, cond, false, ◌&&◌, ◌||◌, not, List, [], ◌∷◌, ℕ, ◌+◌, ◌*◌, ◌≤◌, ltb, eqb, length}
+use Rattle.std.specs.Prelude.{◌≡◌, Result, Ok, Err, Option as Maybe, Some, None, Bool, cond, false, ◌&&◌, ◌||◌}
+use Rattle.std.specs.Prelude.{not, List, [], ◌∷◌, ℕ, ◌+◌, ◌*◌, ◌≤◌, ltb, eqb, length}
 use Rattle.std.proofs.Math.Option.{Option, none, some}
 use Rattle.tlv.specs.declared.refusal.Refusal.{Refusal}
 use Rattle.tlv.specs.Outcome.{Outcome, refused, done, ◌>>=◌}
@@ -54,8 +55,12 @@ missing_unit main ordinal none = not (is_empty main && eqb ordinal 0)
 missing_unit main ordinal (some u) = false
 
 -- where all units are asked for, none is missing
+abbrev pub missing_by : List ℕ → Maybe ℕ → Bool
+missing_by main None = false
+missing_by main (Some n) = missing_unit main n (at (units main) n)
+
 unfoldable pub missing_of : List ℕ → Options → Bool
-missing_of main o = cond o.all false (missing_unit main o.ordinal (at (units main) o.ordinal))
+missing_of main o = missing_by main o.ordinal
 
 -- ---- which units
 
@@ -63,9 +68,13 @@ abbrev pub listed : Option CompilationUnit → List CompilationUnit
 listed none = []
 listed (some u) = u ∷ []
 
+abbrev pub chosen_by : Maybe ℕ → List CompilationUnit → List CompilationUnit
+chosen_by None us = us
+chosen_by (Some n) us = listed (at us n)
+
 -- the units that are imported: a package without debug data has none
 unfoldable pub chosen_units : Options → List CompilationUnit → List CompilationUnit
-chosen_units o us = cond o.all us (listed (at us o.ordinal))
+chosen_units o us = chosen_by o.ordinal us
 
 -- ---- 5
 

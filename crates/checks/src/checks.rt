@@ -10,7 +10,7 @@ ghost use Rattle.checks.specs.Checks.{oversize_of, ChecksBoth, is_encoded, work_
 ghost use Rattle.checks.specs.Layout.{Sized};
 
 use crate::layout::Counts;
-use crate::options::Options;
+use crate::options::{Options, Sizes};
 use access::access::{list_count, next_before_rows, unit_by_ordinal};
 use tlv::fields::next_field;
 use tlv::grammar::check_input;
@@ -72,12 +72,12 @@ pub fn check_both(main: &[u8], supplementary: &[u8], program: usize) -> Result<u
 pub fn is_missing(main: &[u8], options: Options) -> bool
     ensures { result ≡ missing_of main.now options }
 {
-    if options.all {
+    let Some(ordinal) = options.ordinal else {
         return false;
-    }
-    match unit_by_ordinal(main, options.ordinal) {
+    };
+    match unit_by_ordinal(main, ordinal) {
         Some(_) => false,
-        None => !main.is_empty() || options.ordinal != 0,
+        None => !main.is_empty() || ordinal != 0,
     }
 }
 
@@ -110,27 +110,25 @@ fn work_of_lists(lists: usize, bytes: usize) -> usize
 }
 
 // The work that the unit at a place asks for besides its fields.
-fn work_of_unit(main: &[u8], place: usize, size: usize, bytes: usize) -> usize
-    requires unit_placed { UnitPlaced main.now place }
-    requires size_le_program_limit { (size ≤ program_limit) × (bytes ≤ list_limit) }
-    ensures { result ≡ work_of_unit size bytes (unit_here main.now place) }
+fn work_of_unit(main: &[u8], place: usize, sizes: Sizes) -> usize
+    requires { UnitPlaced main.now place }
+    ensures { result ≡ work_of_unit sizes.program sizes.lists (unit_here main.now place) }
 {
-    let program = work_of_program(has_encoding(main, place), size);
-    program + work_of_lists(list_count(main, place + UNIT_WHOLE), bytes)
+    let program = work_of_program(has_encoding(main, place), sizes.program);
+    program + work_of_lists(list_count(main, place + UNIT_WHOLE), sizes.lists)
 }
 
 // The work of the unit that asks for most, of all units; where there is none, that of the program.
-fn most_work(main: &[u8], size: usize, bytes: usize) -> usize
-    requires accepted { Accepted main.now }
-    requires size_le_program_limit { (size ≤ program_limit) × (bytes ≤ list_limit) }
-    ensures { result ≡ work_of_units size bytes (units main.now) }
+fn most_work(main: &[u8], sizes: Sizes) -> usize
+    requires { Accepted main.now }
+    ensures { result ≡ work_of_units sizes.program sizes.lists (units main.now) }
 {
-    let mut most = WORK_OF_PROGRAM_BYTE * size;
+    let mut most = WORK_OF_PROGRAM_BYTE * sizes.program;
     let mut p = 0;
     // Stays a loop: each field's own length moves the place, so nothing is counted.
     while let Some(field) = next_field(main, p) {
         if field.tag == UNIT_TAG {
-            most = most.max(work_of_unit(main, p, size, bytes));
+            most = most.max(work_of_unit(main, p, sizes));
         }
         p = field.next;
     }
@@ -138,26 +136,19 @@ fn most_work(main: &[u8], size: usize, bytes: usize) -> usize
 }
 
 // The same of the units that are asked for, in an input with these counts.
-pub fn work_of_units(
-    main: &[u8],
-    options: Options,
-    counts: Counts,
-    size: usize,
-    bytes: usize,
-) -> usize
-    requires accepted { (Accepted main.now) × (Sized main.now counts) }
-    requires size_le_program_limit { (size ≤ program_limit) × (bytes ≤ list_limit) }
-    ensures { result ≡ work_of_units size bytes (chosen_units options (units main.now)) }
+pub fn work_of_units(main: &[u8], options: Options, counts: Counts, sizes: Sizes) -> usize
+    requires { (Accepted main.now) × (Sized main.now counts) }
+    ensures { result ≡ work_of_units sizes.program sizes.lists (chosen_units options (units main.now)) }
 {
     if counts.encodings + counts.lists == 0 {
-        return WORK_OF_PROGRAM_BYTE * size;
+        return WORK_OF_PROGRAM_BYTE * sizes.program;
     }
-    if options.all {
-        return most_work(main, size, bytes);
-    }
-    match unit_by_ordinal(main, options.ordinal) {
-        Some(place) => work_of_unit(main, place, size, bytes),
-        None => WORK_OF_PROGRAM_BYTE * size,
+    let Some(ordinal) = options.ordinal else {
+        return most_work(main, sizes);
+    };
+    match unit_by_ordinal(main, ordinal) {
+        Some(place) => work_of_unit(main, place, sizes),
+        None => WORK_OF_PROGRAM_BYTE * sizes.program,
     }
 }
 

@@ -1,6 +1,6 @@
 // Where the tables of an import stand in the work slice: places and rooms computed from counts of fields.
 ghost use Rattle.std.specs.Prelude.{◌≡◌, ◌≤◌, ◌*◌};
-ghost use Rattle.tlv.specs.Limits.{program_limit, field_limit, list_limit};
+ghost use Rattle.tlv.specs.Limits.{field_limit};
 ghost use Rattle.access.specs.Places.{unit_here, UnitOf};
 ghost use Rattle.files.specs.Pieces.{UnitPlaced};
 ghost use Rattle.rnglists.specs.Room.{open_lists};
@@ -8,6 +8,7 @@ ghost use Rattle.checks.specs.Checks.{is_encoded};
 ghost use Rattle.checks.specs.Layout.{TagsCounted, Sized, total_of, program_rows, LaysOut, unit_layout, RoomsSmall, TagsKnown};
 
 use crate::checks::has_encoding;
+use crate::options::Sizes;
 use access::access::list_count;
 use access::index::ENTRY_RECORD;
 use access::units::UNIT_RECORD;
@@ -31,6 +32,7 @@ const OPEN_LISTS: usize = 257;
 // The tables that serve all units stand first: the main input's units at 0, its entries, the supplementary one's units and entries, the file table with its
 // room for files. From `lines` on stands what belongs to one unit, in rooms: its lines, its executable ranges, what a unit that is reached by reference
 // needs, the open nodes' ranges, the open and the closed call sites; behind them the followed targets.
+// Stays bare: no program prints it.
 #[derive(Clone, Copy)]
 pub struct Layout {
     pub main_entries: usize,
@@ -54,7 +56,7 @@ pub struct Layout {
 }
 
 // Where the parts of one unit stand behind its lines.
-#[derive(Clone, Copy)]
+#[derive(Clone, Copy, Debug)]
 pub struct UnitLayout {
     pub text: usize,
     pub spans: usize,
@@ -65,6 +67,7 @@ pub struct UnitLayout {
 }
 
 // For each tag that needs a table, how many fields of it the input has.
+// Stays bare: no program prints it.
 #[derive(Clone, Copy)]
 pub struct Counts {
     pub units: usize,
@@ -116,12 +119,12 @@ pub fn counts_of(s: &[u8]) -> Counts
     }
 }
 
-// The places and rooms for a main input with counts m, a supplementary one with counts s, a program of so many bytes, and so many bytes of range lists.
-pub fn lay_out(m: Counts, s: Counts, size: usize, bytes: usize) -> Layout
-    requires m_bound { (total_of m ≤ field_limit) × (total_of s ≤ field_limit) }
-    requires size_le_program_limit { (size ≤ program_limit) × (bytes ≤ list_limit) }
-    ensures { LaysOut m s size bytes result }
+// The places and rooms for a main input with counts m, a supplementary one with counts s, a program and range lists of these sizes.
+pub fn lay_out(m: Counts, s: Counts, sizes: Sizes) -> Layout
+    requires { (total_of m ≤ field_limit) × (total_of s ≤ field_limit) }
+    ensures { LaysOut m s sizes.program sizes.lists result }
 {
+    let size = sizes.program;
     let main_entries = UNIT_RECORD * m.units;
     let supplementary_units = main_entries + ENTRY_RECORD * m.entries;
     let supplementary_entries = supplementary_units + UNIT_RECORD * s.units;
@@ -147,7 +150,7 @@ pub fn lay_out(m: Counts, s: Counts, size: usize, bytes: usize) -> Layout
         stack_room: OPEN_SITE * m.entries,
         site_room: CLOSED_SITE * m.entries,
         size,
-        third: bytes / RANGE_LEAST,
+        third: sizes.lists / RANGE_LEAST,
         with_encodings: m.encodings != 0,
         with_lists: m.lists != 0,
     }

@@ -6,14 +6,14 @@ use Rattle.std.specs.Prelude.{◌≢◌}
 use Rattle.checks.proofs.CheckLaws.{missing-all, missing-found, missing-filled, missing-bare}
 use Rattle.checks.proofs.checks.is_missing.Goals as goal
 
-pub returns-then-options : goal.returns-then-options
-returns-then-options c = missing-all _ _ c.if-options.true
-
-pub returns-in-Some : goal.returns-in-Some
-returns-in-Some c = missing-found _ _ c.if-options.false c.in-Some.ensures
+pub returns-in_default : goal.returns-in_default
+returns-in_default c = missing-all _ _ c.in_default.is
 
 pub returns-then-not-is_empty : goal.returns-then-not-is_empty
-returns-then-not-is_empty c = let h : length c.args.main.now ≢ 0 = search rules in rw c.if-not-is_empty.true (missing-filled _ _ c.if-options.false c.in-None.ensures h)
+returns-then-not-is_empty c = let h : length c.args.main.now ≢ 0 = search rules in rw c.if-not-is_empty.true (missing-filled _ _ c.in-Some.is c.in-None.ensures h)
 
 pub returns-else-not-is_empty : goal.returns-else-not-is_empty
-returns-else-not-is_empty c = let z : length c.args.main.now ≡ 0 = search rules in missing-bare _ _ c.if-options.false c.in-None.ensures z
+returns-else-not-is_empty c = let z : length c.args.main.now ≡ 0 = search rules in missing-bare _ _ c.in-Some.is c.in-None.ensures z
+
+pub returns-in-Some-unit_by_ordinal : goal.returns-in-Some-unit_by_ordinal
+returns-in-Some-unit_by_ordinal c = missing-found _ _ c.in-Some.is c.in-Some-unit_by_ordinal.ensures

@@ -4,10 +4,10 @@ use Rattle.checks.proofs.WorkLaws.{seek-start, seek-none, seek-other, unit-here,
 use Rattle.checks.proofs.checks.most_work.Goals as goal
 
 pub loop-field-init : goal.loop-field-init
-loop-field-init c = seek-start _ _ c.requires.accepted
+loop-field-init c = seek-start _ _ c.requires
 
-pub work_of_unit-requires-clause-unit_placed : goal.work_of_unit-requires-clause-unit_placed
-work_of_unit-requires-clause-unit_placed c = unit-here _ _ c.loop-field.invariant _ c.in-Some.ensures c.if-field-eq-UNIT_TAG.true
+pub work_of_unit-requires : goal.work_of_unit-requires
+work_of_unit-requires c = unit-here _ _ c.loop-field.invariant _ c.in-Some.ensures c.if-field-eq-UNIT_TAG.true
 
 pub loop-field-smaller-then-field-eq-UNIT_TAG : goal.loop-field-smaller-then-field-eq-UNIT_TAG
 loop-field-smaller-then-field-eq-UNIT_TAG c = next-less _ _ _ c.in-Some.ensures

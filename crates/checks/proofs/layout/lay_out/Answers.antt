@@ -4,4 +4,4 @@ use Rattle.checks.proofs.LayoutLaws.{lays_out}
 use Rattle.checks.proofs.layout.lay_out.Goals as goal
 
 pub returns : goal.returns
-returns c = lays_out _ _ _ _ c.requires.size_le_program_limit.0 c.requires.size_le_program_limit.1
+returns c = lays_out _ _ _ _ c.args.sizes.within.0 c.args.sizes.within.1
