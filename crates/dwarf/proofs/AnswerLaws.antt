@@ -7,7 +7,7 @@ use native.Mathlib.Omega.{arith}
 use lib.Dec.{ltb}
 use lib.ListN.{length, drop, replicate}
 use borrow.Author.Tests.{ltb-false, lt-ltb, le-ltb}
-use Rattle.std.specs.Prelude.{Result, Ok, Err}
+use Rattle.std.specs.Prelude.{Result, Ok, Err, Option as Maybe, Some, None}
 use Rattle.tlv.specs.declared.refusal.Refusal.{Refusal}
 use Rattle.tlv.specs.Refusals.{number_of}
 use Rattle.tlv.specs.Outcome.{Outcome, refused, done, ◌>>=◌}
@@ -20,9 +20,13 @@ use Rattle.imports.specs.Answer as answer
 use Rattle.imports.specs.Answer.{Inputs, After, written, outcome_of, answer_of, buffer_after, afterwards, after, after_dwarf}
 use Rattle.imports.specs.Demand.{Lent, Finished}
 use Rattle.imports.proofs.Demand.{demand, dwarf-demand}
+use Rattle.checks.specs.declared.options.Options.{Options}
 use Rattle.dwarf.specs.declared.model.Imported.{Imported}
 use Rattle.dwarf.specs.declared.run.Ran.{Ran}
-use Rattle.dwarf.specs.Runs.{import_all, Written, Writes, fit_of}
+use Rattle.dwarf.specs.declared.lent.Inputs as lent
+use Rattle.dwarf.specs.Given.{Holds}
+use Rattle.dwarf.specs.Lent.{lent_of}
+use Rattle.dwarf.specs.Runs.{inputs_by, import_all, Written, Writes, fit_of}
 use Rattle.dwarf.specs.Answers.{left, AgreeAll, ImportsBy, ImportsUnit, ImportsDwarf}
 
 -- ---- the refusal by the lengths
@@ -154,23 +158,23 @@ written-whole P h = put_whole P (omega (arith, written-place P h, put-length P))
 
 -- ---- of a unit or of all
 
-module _ (all : Bool) (i : Inputs) where
+module _ (asked : Maybe ℕ) (i : Inputs) where
   module _ (l : Lent i) where
     -- demand 3
-    finished : (b : Bool) → (afterwards i (import_all b i)).answer.refusal ≡ 0 → Finished (import_all b i) (AgreeAll b i) (afterwards i (import_all b i))
+    finished : (x : Maybe ℕ) → (afterwards i (import_all x i)).answer.refusal ≡ 0 → Finished (import_all x i) (AgreeAll x i) (afterwards i (import_all x i))
     unfolding after after_dwarf
-    finished true z = dwarf-demand i l z
-    finished false z = demand i l z
+    finished None z = dwarf-demand i l z
+    finished (Some n) z = demand i l z
 
-    imports_by : {w t f u : List ℕ} (r : Result Imported Refusal) → left w t f u r ≡ afterwards i (import_all all i) → ImportsBy all i w t f u r
+    imports_by : {w t f u : List ℕ} (r : Result Imported Refusal) → left w t f u r ≡ afterwards i (import_all asked i) → ImportsBy asked i w t f u r
     imports_by r e = record {
       is = e;
-      demand = λ z. subst (Finished (import_all all i) (AgreeAll all i)) (sym e) (finished all (ap (λ (a : After). a.answer.refusal) (sym e) ∙ z));
+      demand = λ z. subst (Finished (import_all asked i) (AgreeAll asked i)) (sym e) (finished asked (ap (λ (a : After). a.answer.refusal) (sym e) ∙ z));
     }
 
-    pub answers-refused : {w t f u : List ℕ} {e : Refusal} → outcome_of i (import_all all i) ≡ refused (number_of e)
+    pub answers-refused : {w t f u : List ℕ} {e : Refusal} → outcome_of i (import_all asked i) ≡ refused (number_of e)
         → w ≡ replicate (length i.work) 0 → t ≡ replicate (length i.records) 0 → f ≡ replicate (length i.files) 0 → u ≡ replicate (length i.warnings) 0
-        → ImportsBy all i w t f u (Err e)
+        → ImportsBy asked i w t f u (Err e)
     unfolding answer_of buffer_after
     answers-refused {e = e} is ew et ef eu =
         imports_by (Err e)
@@ -181,11 +185,11 @@ module _ (all : Bool) (i : Inputs) where
           warnings = eu k;
           work = ew k;
         })
-        ∙ sym (after_is i (import_all all i) is))
+        ∙ sym (after_is i (import_all asked i) is))
 
-    pub answers_done : {w t f u : List ℕ} {r : Ran} {x : Imported} → Fitting i (import_all all i) t f u r
+    pub answers_done : {w t f u : List ℕ} {r : Ran} {x : Imported} → Fitting i (import_all asked i) t f u r
         → x ≡ record { records = r.records; files = r.files; warnings = r.warnings; stats = r.stats } → w ≡ replicate (length i.work) 0
-        → ImportsBy all i w t f u (Ok x)
+        → ImportsBy asked i w t f u (Ok x)
     unfolding answer_of buffer_after written
     answers_done {w} {t} {f} {u} {r} {x} F ex ew =
         let S = F.written in
@@ -204,14 +208,21 @@ module _ (all : Bool) (i : Inputs) where
           warnings = written-whole S.warnings F.warnings k;
           work = ew k;
         })
-        ∙ sym (after_is i (import_all all i) F.is))
+        ∙ sym (after_is i (import_all asked i) F.is))
 
 -- ---- the entry points
 
-pub of_unit : {i : Inputs} {w t f u : List ℕ} {r : Result Imported Refusal} → ImportsBy false i w t f u r → ImportsUnit i w t f u r
-unfolding after
-of_unit I = record { is = I.is; demand = I.demand }
+-- what five slices hold, as the definitions have it
+pub held : {main supplementary program lists addresses : List ℕ} {r : lent.Inputs} → Holds main supplementary program lists addresses r → (o : Options) (w t f u : List ℕ)
+    → lent_of r o w t f u ≡ inputs_by main supplementary program lists addresses o w t f u
+held H o w t f u = λ k. inputs_by (H.main-is k) (H.supplementary-is k) (H.program-is k) (H.lists-is k) (H.addresses-is k) o w t f u
 
-pub of_all : {i : Inputs} {w t f u : List ℕ} {r : Result Imported Refusal} → ImportsBy true i w t f u r → ImportsDwarf i w t f u r
-unfolding after_dwarf
-of_all I = record { is = I.is; demand = I.demand }
+module _ {main supplementary program lists addresses : List ℕ} {r : lent.Inputs} (H : Holds main supplementary program lists addresses r) (o : Options)
+    {w t f u w' t' f' u' : List ℕ} {x : Result Imported Refusal} where
+  pub of_unit : {n : ℕ} → ImportsBy (Some n) (lent_of r o w t f u) w' t' f' u' x → ImportsUnit (inputs_by main supplementary program lists addresses o w t f u) w' t' f' u' x
+  unfolding after
+  of_unit {n} I = let J = subst (λ (i : Inputs). ImportsBy (Some n) i w' t' f' u' x) (held H o w t f u) I in record { is = J.is; demand = J.demand }
+
+  pub of_all : ImportsBy None (lent_of r o w t f u) w' t' f' u' x → ImportsDwarf (inputs_by main supplementary program lists addresses o w t f u) w' t' f' u' x
+  unfolding after_dwarf
+  of_all I = let J = subst (λ (i : Inputs). ImportsBy None i w' t' f' u' x) (held H o w t f u) I in record { is = J.is; demand = J.demand }

@@ -45,8 +45,6 @@ module _ {main supplementary : List ℕ} {over : List (ℕ × ℕ)} where
         files = G.holds;
         above = omega (arith, R.above, G.base);
         below = omega (arith, R.below, G.base, G.room);
-        at = omega (arith, (A.laid refl).place);
-        warned = omega (arith, (A.warned refl).place);
       }
 
 -- ---- the place of a unit
@@ -142,7 +140,7 @@ units-start {main} {supplementary} {program} {lists} addresses inlines call_site
   files-size = refl;
   warnings-size = refl;
   before = done;
-  does = grows_none R.files R.at R.warned small tiny few;
+  does = grows_none R.files small tiny few;
   left = after-done (dwarf_with main supplementary lists addresses) program inlines call_sites (units_from main from to);
 }
 

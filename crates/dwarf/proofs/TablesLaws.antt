@@ -1,5 +1,5 @@
 -- The tables of both inputs: they lie apart, and stay while other parts of work are written.
-use mathlib.Core.Path.{◌≡◌, sym, ◌∙◌}
+use mathlib.Core.Path.{◌≡◌, refl, sym, ◌∙◌}
 use mathlib.Core.Logic.{inl}
 use mathlib.Core.List.{List}
 use Prim.Native.Nat.{ℕ, ◌+◌, ◌-◌, ◌*◌, ◌≤◌}
@@ -72,8 +72,9 @@ module _ {main supplementary program lists : List ℕ} (w : List ℕ) {l : Layou
           entry-count = H.entry-count;
         }
 
-    pub indexes-inputs : IndexesInputs main supplementary program lists w w₂ l (record { main = m; supplementary = s })
+    pub indexes-inputs : IndexesInputs main supplementary program lists w w₂ l (record { layout = l; main = m; supplementary = s })
     indexes-inputs = record {
+      layout-is = refl;
       tables = record { laid = L; of_main = main-still; of-supplementary = S.here };
       rest = kept_trans main-rest (let b = supplementary-below L in kept-wide 0 l.files supplementary-rest (omega arith) (omega arith));
     }

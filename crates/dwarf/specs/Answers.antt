@@ -1,5 +1,5 @@
 -- Contract. What the imports and the passes promise: the answer, the lent slices after every call, and demand 3 of a finished import.
-use Rattle.std.specs.Prelude.{◌≡◌, Result, Ok, Err, Bool, true, false, List, ℕ}
+use Rattle.std.specs.Prelude.{◌≡◌, Result, Ok, Err, Option as Maybe, Some, None, List, ℕ}
 use Rattle.tlv.specs.declared.refusal.Refusal.{Refusal}
 use Rattle.tlv.specs.Refusals.{number_of}
 use Rattle.tlv.specs.Lists.{at}
@@ -24,14 +24,14 @@ left w t f u r = record { answer = answer_given r; records = t; files = f; warni
 -- ---- the import
 
 -- demand 3 of the records: against the unit that was asked for, or each against its own
-abbrev pub AgreeAll : Bool → Inputs → List Function → Type 0
-AgreeAll true i = UnitsAgree (dwarf_of i) i.inlines (units i.main)
-AgreeAll false i = ChosenAgrees i (at (units i.main) i.ordinal)
+abbrev pub AgreeAll : Maybe ℕ → Inputs → List Function → Type 0
+AgreeAll None i = UnitsAgree (dwarf_of i) i.inlines (units i.main)
+AgreeAll (Some n) i = ChosenAgrees i (at (units i.main) i.ordinal)
 
 -- the answer, the output buffers t, f and u and the work slice w after a call that comes to o are those of the definition; and demand 3
-pub record ImportsBy (all : Bool) (i : Inputs) (w t f u : List ℕ) (r : Result Imported Refusal) : Type 0 where
-  pub is : left w t f u r ≡ afterwards i (import_all all i)
-  pub demand : (answer_given r).refusal ≡ 0 → Finished (import_all all i) (AgreeAll all i) (left w t f u r)
+pub record ImportsBy (asked : Maybe ℕ) (i : Inputs) (w t f u : List ℕ) (r : Result Imported Refusal) : Type 0 where
+  pub is : left w t f u r ≡ afterwards i (import_all asked i)
+  pub demand : (answer_given r).refusal ≡ 0 → Finished (import_all asked i) (AgreeAll asked i) (left w t f u r)
 
 -- of the import of a unit, and of all units
 pub record ImportsUnit (i : Inputs) (w t f u : List ℕ) (r : Result Imported Refusal) : Type 0 where
@@ -44,8 +44,8 @@ pub record ImportsDwarf (i : Inputs) (w t f u : List ℕ) (r : Result Imported R
 
 -- ---- the pass that writes no output buffer: its answer and the work slice w after it are those of the definition
 
-pub record MeasuresBy (all : Bool) (i : Inputs) (w : List ℕ) (r : Result Imported Refusal) : Type 0 where
-  pub is : record { answer = answer_given r; work = w } ≡ measuring i (import_all all i)
+pub record MeasuresBy (asked : Maybe ℕ) (i : Inputs) (w : List ℕ) (r : Result Imported Refusal) : Type 0 where
+  pub is : record { answer = answer_given r; work = w } ≡ measuring i (import_all asked i)
 
 pub record MeasuresUnit (i : Inputs) (w : List ℕ) (r : Result Imported Refusal) : Type 0 where
   pub is : record { answer = answer_given r; work = w } ≡ measure i

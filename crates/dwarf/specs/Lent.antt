@@ -1,28 +1,26 @@
 -- Contract. What a caller lends to an import, as the definitions have it.
-use Rattle.std.specs.Prelude.{◌≡◌, Result, List, ℕ, length}
+use Rattle.std.specs.Prelude.{Result, List, [], ℕ}
 use Rattle.tlv.specs.declared.refusal.Refusal.{Refusal}
 use Rattle.tlv.specs.Outcome.{Outcome}
 use Rattle.imports.specs.Import.{State}
 use Rattle.imports.specs.Answer as answer
+use Rattle.subprograms.specs.declared.model.Outputs.{Outputs}
 use Rattle.checks.specs.declared.options.Options.{Options}
 use Rattle.dwarf.specs.declared.lent.Inputs.{Inputs}
-use Rattle.dwarf.specs.declared.lent.Outputs.{Outputs}
 use Rattle.dwarf.specs.declared.run.Ran.{Ran}
 use Rattle.dwarf.specs.Runs.{inputs_by, Writes}
 
--- the same three output buffers, each as long as before
-pub record SameOutputs (t u : Outputs) : Type 0 where
-  pub records : u.records.ghost_name ≡ t.records.ghost_name
-  pub files : u.files.ghost_name ≡ t.files.ghost_name
-  pub warnings : u.warnings.ghost_name ≡ t.warnings.ghost_name
-  pub records-len : length u.records.now ≡ length t.records.now
-  pub files-len : length u.files.now ≡ length t.files.now
-  pub warnings-len : length u.warnings.now ≡ length t.warnings.now
+-- what is lent and asked, over output buffers
+abbrev pub lent_of : Inputs → Options → List ℕ → List ℕ → List ℕ → List ℕ → answer.Inputs
+lent_of i o work records files warnings =
+    inputs_by i.sheets.main.now i.sheets.supplementary.now i.program.now i.lists.lists.now i.lists.addresses.now o work records files warnings
 
--- what is lent and asked
 abbrev pub asked_of : Inputs → Options → List ℕ → Outputs → answer.Inputs
-asked_of i o work t =
-    inputs_by i.main.now i.supplementary.now i.program.now i.lists.now i.addresses.now o work t.records.now t.files.now t.warnings.now
+asked_of i o work t = lent_of i o work t.records.now t.files.now t.warnings.now
+
+-- of the pass, which has none
+abbrev pub unseen_of : Inputs → Options → List ℕ → answer.Inputs
+unseen_of i o work = lent_of i o work [] [] []
 
 -- an outcome was written to them
 abbrev pub WritesTo : Outcome State → Outputs → Outputs → Result Ran Refusal → Type 0

@@ -1,7 +1,6 @@
 pub mod Tables
-pub mod Part
 pub mod Units
+pub mod Given
 pub mod Runs
-pub mod Bytes
 pub mod Lent
 pub mod Answers

@@ -1,5 +1,5 @@
 -- Contract. What an import promises up to refusal 15.
-use Rattle.std.specs.Prelude.{◌≡◌, Result, Ok, Err, Bool, cond, List, [], ℕ, ◌-◌, ◌≤◌, ltb, length, take, drop}
+use Rattle.std.specs.Prelude.{◌≡◌, Result, Ok, Err, Option as Maybe, Some, None, Bool, cond, List, [], ℕ, ◌-◌, ◌≤◌, ltb, length, take, drop}
 use Rattle.tlv.specs.declared.refusal.Refusal.{Refusal}
 use Rattle.tlv.specs.Outcome.{Outcome, refused, done}
 use Rattle.tlv.specs.Refusals.{number_of}
@@ -14,7 +14,7 @@ use Rattle.subprograms.specs.Stats.{stats_of}
 use Rattle.checks.specs.declared.options.Options.{Options}
 use Rattle.checks.specs.Checks.{missing_of, chosen_units}
 use Rattle.dwarf.specs.declared.run.Ran.{Ran}
-use Rattle.dwarf.specs.declared.run.Chosen.{Chosen}
+use Rattle.dwarf.specs.declared.unit.Chosen.{Chosen}
 
 -- ---- what is asked
 
@@ -37,14 +37,20 @@ inputs_of main supplementary program lists addresses ordinal inlines call_sites 
   warnings = warnings;
 }
 
+-- of the one ordinal; none asks for all units
+abbrev pub ordinal_of : Maybe ℕ → ℕ
+ordinal_of None = 0
+ordinal_of (Some n) = n
+
 -- the same, what is asked in one
 abbrev pub inputs_by : List ℕ → List ℕ → List ℕ → List ℕ → List ℕ → Options → List ℕ → List ℕ → List ℕ → List ℕ → Inputs
 inputs_by main supplementary program lists addresses o work records files warnings =
-    inputs_of main supplementary program lists addresses o.ordinal o.inlines o.call_sites o.first_file work records files warnings
+    inputs_of main supplementary program lists addresses (ordinal_of o.ordinal) o.inlines o.call_sites o.first_file work records files warnings
 
 -- what an import comes to: of all units, or of the one of the ordinal
-abbrev pub import_all : Bool → Inputs → Outcome State
-import_all all i = cond all (import_dwarf_of i) (import_of i)
+abbrev pub import_all : Maybe ℕ → Inputs → Outcome State
+import_all None i = import_dwarf_of i
+import_all (Some n) i = import_of i
 
 -- ---- which units
 

@@ -1,5 +1,5 @@
 -- Contract. The tables of both inputs in the work slice, and the context of a unit that is made beside them.
-use Rattle.std.specs.Prelude.{◌≡◌, Bool, List, [], ◌∷◌, ℕ, ◌+◌, ◌-◌, ◌*◌, ◌/◌, ◌≤◌, length}
+use Rattle.std.specs.Prelude.{◌≡◌, Bool, List, [], ◌∷◌, ℕ, ◌+◌, ◌-◌, ◌*◌, ◌≤◌, length}
 use Rattle.tlv.specs.Fields.{fields}
 use Rattle.buffers.specs.Table.{Kept, KeptBut}
 use Rattle.access.specs.Places.{unit_places}
@@ -12,12 +12,11 @@ use Rattle.files.specs.Indices.{index_record}
 use Rattle.rows.specs.declared.unit_lines.StoredLines.{StoredLines}
 use Rattle.rows.specs.Sizes.{entry_size, line_size}
 use Rattle.rows.specs.Selects.{RowsIn}
-use Rattle.rnglists.specs.Room.{range_least}
 use Rattle.references.specs.declared.tables.Index.{Index}
 use Rattle.references.specs.Tables.{IndexIn}
 use Rattle.dies.specs.Details.{entry_count}
 use Rattle.subprograms.specs.declared.model.ImportContext.{ImportContext}
-use Rattle.subprograms.specs.Contexts.{ContextIn}
+use Rattle.subprograms.specs.Contexts.{main_of, supplementary_of, ContextIn}
 use Rattle.checks.specs.declared.layout.Layout.{Layout}
 use Rattle.checks.specs.declared.layout.UnitLayout.{UnitLayout}
 use Rattle.checks.specs.Layout.{LaidOut}
@@ -39,6 +38,7 @@ pub record IndexesInput (s w w' : List ℕ) (units entries : ℕ) (r : Index) : 
   pub rest : KeptBut w w' ((units, unit_record * length (unit_places 0 (fields s))) ∷ (entries, entry_record * entry_count s) ∷ [])
 
 -- the tables of both inputs stand where the layout has them
+-- Stays a clause: it speaks of the work slice, which each step writes to.
 pub record TablesIn (main supplementary program lists w : List ℕ) (l : Layout) (x : Indexes) : Type 0 where
   pub laid : LaidOut main supplementary program lists l
   pub of_main : IndexedAt main w 0 l.main_entries x.main
@@ -46,7 +46,8 @@ pub record TablesIn (main supplementary program lists w : List ℕ) (l : Layout)
 
 -- they were written there
 pub record IndexesInputs (main supplementary program lists w w' : List ℕ) (l : Layout) (r : Indexes) : Type 0 where
-  pub tables : TablesIn main supplementary program lists w' l r
+  pub layout-is : r.layout ≡ l
+  pub tables : TablesIn main supplementary program lists w' r.layout r
   pub rest : Kept w w' 0 l.files
 
 -- ---- a unit
@@ -60,16 +61,20 @@ pub record LinesLaid (w : List ℕ) (l : Layout) (p : UnitLayout) (lines : Store
   pub within : lines.buffer + entry_size + lines.line_count * entry_size ≤ p.text
 
 -- the context of a unit was made behind its lines, which stay as they are
-pub record MakesContext (main supplementary lists w w' : List ℕ) (l : Layout) (p : UnitLayout) (unit : ℕ) (lines : StoredLines) (indices : StoredIndices)
-    (inlines call_sites : Bool) (q : ImportContext) : Type 0 where
+pub record MakesContext (main supplementary lists addresses w w' : List ℕ) (l : Layout) (p : UnitLayout) (unit : ℕ) (lines : StoredLines)
+    (indices : StoredIndices) (inlines call_sites : Bool) (q : ImportContext) : Type 0 where
   pub context : (t : StoredFiles) → l.files ≤ t.base → t.base + extent t ≤ l.lines → FilesIn main supplementary w t
       → ContextIn main supplementary w' q t
+  -- it reads what is lent
+  pub main-is : main_of q ≡ main
+  pub supplementary-is : supplementary_of q ≡ supplementary
+  pub lists_is : q.lists.lists.now ≡ lists
+  pub addresses-is : q.lists.addresses.now ≡ addresses
   pub unit-is : q.unit ≡ unit
   pub lines-is : q.lines ≡ lines
   pub indices-is : q.places.indices ≡ indices
   pub inlines-is : q.include_inlines ≡ inlines
   pub call_sites-is : q.include_call_sites ≡ call_sites
-  pub third-is : length lists / range_least ≡ q.third
   -- where what is written for the unit stands
   pub spans-is : q.places.spans ≡ p.spans
   pub room-is : q.places.room ≡ l.span_room

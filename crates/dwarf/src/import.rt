@@ -2,14 +2,16 @@
 // the pass that says how long their output buffers must be. No content and no length is ruled out. After every call work holds only 0, and after a refusal
 // so do the three output buffers.
 ghost use Rattle.std.specs.Prelude.{◌≡◌, [], ◌<◌, ◌^◌};
-ghost use Rattle.dwarf.specs.Runs.{inputs_of, inputs_by};
-ghost use Rattle.dwarf.specs.Lent.{SameOutputs, asked_of};
+ghost use Rattle.subprograms.specs.Outputs.{SameOutputs};
+ghost use Rattle.dwarf.specs.Runs.{inputs_of};
+ghost use Rattle.dwarf.specs.Lent.{asked_of, unseen_of};
 ghost use Rattle.dwarf.specs.Answers.{ImportsBy, ImportsUnit, ImportsDwarf, MeasuresBy, MeasuresUnit, MeasuresDwarf};
 
-use crate::lent::{Inputs, Outputs};
+use crate::lent::Inputs;
 use crate::model::Imported;
 use crate::run::{Ran, fitting, run_cleared};
 use checks::options::Options;
+use subprograms::model::Outputs;
 use tlv::refusal::Refusal;
 
 // The answer of an import whose output buffers suffice.
@@ -33,7 +35,7 @@ fn import_by(
     t: &mut Outputs,
 ) -> Result<Imported, Refusal>
     requires { options.first_file < 2 ^ 32 }
-    ensures is { ImportsBy options.all (asked_of i.entry options work.old t.old) work.new t.new.records.now
+    ensures is { ImportsBy options.ordinal (asked_of i.entry options work.old t.old) work.new t.new.records.now
         t.new.files.now t.new.warnings.now result }
     ensures same { SameOutputs t.old t.new }
 {
@@ -50,7 +52,7 @@ fn import_by(
 }
 
 // Imports the unit of an ordinal; an empty main input with ordinal 0 is finished with nothing in it.
-// Stays with its parameters apart, as the three after it: they are the C interface's, and the names are the Rust's, each with its theorem.
+// Stays with its parameters apart, beside its twins: they are the C interface's, and the names are the Rust's, each with its theorem.
 pub fn import_unit(
     main: &[u8],
     supplementary: &[u8],
@@ -72,19 +74,12 @@ pub fn import_unit(
         ImportsUnit i work.new records.new files.new warnings.new result }
 {
     let options = Options {
-        all: false,
-        ordinal,
+        ordinal: Some(ordinal),
         inlines,
         call_sites,
         first_file,
     };
-    let inputs = Inputs {
-        main,
-        supplementary,
-        program,
-        lists,
-        addresses,
-    };
+    let inputs = Inputs::new(main, supplementary, program, lists, addresses);
     let mut outputs = Outputs {
         records,
         files,
@@ -94,6 +89,7 @@ pub fn import_unit(
 }
 
 // Imports all units in order, each from the file table that the one before it left; an empty main input is finished with nothing in it.
+// Stays with its parameters apart, beside its twins: they are the C interface's, and the names are the Rust's, each with its theorem.
 pub fn import_dwarf(
     main: &[u8],
     supplementary: &[u8],
@@ -114,19 +110,12 @@ pub fn import_dwarf(
         ImportsDwarf i work.new records.new files.new warnings.new result }
 {
     let options = Options {
-        all: true,
-        ordinal: 0,
+        ordinal: None,
         inlines,
         call_sites,
         first_file,
     };
-    let inputs = Inputs {
-        main,
-        supplementary,
-        program,
-        lists,
-        addresses,
-    };
+    let inputs = Inputs::new(main, supplementary, program, lists, addresses);
     let mut outputs = Outputs {
         records,
         files,
@@ -138,9 +127,7 @@ pub fn import_dwarf(
 // How long the output buffers of an import must be, and its statistics. The import is run on three buffers of one byte, which nobody sees: what is written
 // is cut off at their ends, and counted on.
 fn measure_by(i: Inputs, options: Options, work: &mut [u8]) -> Result<Imported, Refusal>
-    ensures { let i = inputs_by i.entry.main.now i.entry.supplementary.now i.entry.program.now i.entry.lists.now
-        i.entry.addresses.now options work.old [] [] [] in
-        MeasuresBy options.all i work.new result }
+    ensures { MeasuresBy options.ordinal (unseen_of i.entry options work.old) work.new result }
 {
     let mut records = [0u8; 1];
     let mut files = [0u8; 1];
@@ -158,6 +145,7 @@ fn measure_by(i: Inputs, options: Options, work: &mut [u8]) -> Result<Imported, 
 }
 
 // The same of the import of a unit.
+// Stays with its parameters apart, beside its twins: they are the C interface's, and the names are the Rust's, each with its theorem.
 pub fn measure_unit(
     main: &[u8],
     supplementary: &[u8],
@@ -176,23 +164,17 @@ pub fn measure_unit(
         MeasuresUnit i work.new result }
 {
     let options = Options {
-        all: false,
-        ordinal,
+        ordinal: Some(ordinal),
         inlines,
         call_sites,
         first_file,
     };
-    let inputs = Inputs {
-        main,
-        supplementary,
-        program,
-        lists,
-        addresses,
-    };
+    let inputs = Inputs::new(main, supplementary, program, lists, addresses);
     measure_by(inputs, options, work)
 }
 
 // The same of the import of all units.
+// Stays with its parameters apart, beside its twins: they are the C interface's, and the names are the Rust's, each with its theorem.
 pub fn measure_dwarf(
     main: &[u8],
     supplementary: &[u8],
@@ -210,18 +192,11 @@ pub fn measure_dwarf(
         MeasuresDwarf i work.new result }
 {
     let options = Options {
-        all: true,
-        ordinal: 0,
+        ordinal: None,
         inlines,
         call_sites,
         first_file,
     };
-    let inputs = Inputs {
-        main,
-        supplementary,
-        program,
-        lists,
-        addresses,
-    };
+    let inputs = Inputs::new(main, supplementary, program, lists, addresses);
     measure_by(inputs, options, work)
 }

@@ -1,21 +1,36 @@
 // What a caller lends to an import.
-ghost use Rattle.dwarf.specs.Bytes.{AreBytes};
+ghost use Rattle.dwarf.specs.Given.{Holds};
+
+use files::sheets::Sheets;
+use rnglists::lists::RangeLists;
 
 // What is read: both inputs, the line program, the range lists and their addresses.
+// Stays bare: it holds whole sections, which no program prints.
 #[derive(Clone, Copy)]
 pub struct Inputs<'a> {
-    pub main: &'a [u8],
-    pub supplementary: &'a [u8],
+    pub sheets: Sheets<'a>,
     pub program: &'a [u8],
-    pub lists: &'a [u8],
-    pub addresses: &'a [u8],
-    ghost bytes: { AreBytes main.now × AreBytes supplementary.now },
+    pub lists: RangeLists<'a>,
 }
 
-// What is written: the three output buffers.
-#[derive(Drop)]
-pub struct Outputs<'a> {
-    pub records: &'a mut [u8],
-    pub files: &'a mut [u8],
-    pub warnings: &'a mut [u8],
+impl<'a> Inputs<'a> {
+    // What five slices hold, as a caller has them.
+    pub fn new(
+        main: &'a [u8],
+        supplementary: &'a [u8],
+        program: &'a [u8],
+        lists: &'a [u8],
+        addresses: &'a [u8],
+    ) -> Inputs<'a>
+        ensures { Holds main.now supplementary.now program.now lists.now addresses.now result }
+    {
+        Inputs {
+            sheets: Sheets {
+                main,
+                supplementary,
+            },
+            program,
+            lists: RangeLists { lists, addresses },
+        }
+    }
 }

@@ -4,20 +4,21 @@ ghost use Rattle.tlv.specs.Model.{units};
 ghost use Rattle.tlv.specs.Checked.{Accepted};
 ghost use Rattle.imports.specs.Answer.{work_of_units};
 ghost use Rattle.imports.specs.Import.{import_units};
-ghost use Rattle.dies.specs.Details.{dwarf_with};
-ghost use Rattle.checks.specs.Checks.{BothAccepted, NotOversize, WorkEnough, chosen_units};
+ghost use Rattle.subprograms.specs.Outputs.{SameOutputs};
+ghost use Rattle.checks.specs.Checks.{BothAccepted, WorkEnough, chosen_units};
 ghost use Rattle.checks.specs.Layout.{Sized};
 ghost use Rattle.dwarf.specs.Runs.{import_all, Chooses, import_accepted, start_state, LengthsOf, fit_of};
-ghost use Rattle.dwarf.specs.Lent.{SameOutputs, asked_of, WritesTo};
+ghost use Rattle.dwarf.specs.Given.{dwarf_lent, NotOversizeFor, SizesOf};
+ghost use Rattle.dwarf.specs.Lent.{asked_of, WritesTo};
 
-use crate::lent::{Inputs, Outputs};
+use crate::lent::Inputs;
 use crate::tables::index_inputs;
-use crate::unit::import_each;
+use crate::unit::{Chosen, import_each};
 use checks::checks::{check_both, is_missing, is_oversize, is_short, work_of_units};
 use checks::layout::{Counts, counts_of, lay_out};
-use checks::options::Options;
+use checks::options::{Options, Sizes};
 use files::store::new_files;
-use subprograms::model::{ConversionStats, ImportState, no_stats};
+use subprograms::model::{ConversionStats, ImportState, Outputs, no_stats};
 use tlv::refusal::Refusal;
 
 // The full lengths of what an import writes, each at most the largest place, the statistics, and whether the records pass that place.
@@ -28,14 +29,6 @@ pub struct Ran {
     pub warnings: usize,
     pub stats: ConversionStats,
     pub past: bool,
-}
-
-// The units from number `from` to below `to`.
-// Stays a struct: the definition speaks of its two numbers, and nothing walks it.
-#[derive(Clone, Copy, Debug)]
-pub struct Chosen {
-    pub from: usize,
-    pub to: usize,
 }
 
 // The lengths and statistics of a state.
@@ -55,13 +48,13 @@ fn lengths_of(st: ImportState) -> Ran
 fn chosen_units(options: Options, count: usize) -> Chosen
     ensures { Chooses options count result }
 {
-    if options.all {
+    let Some(ordinal) = options.ordinal else {
         return Chosen { from: 0, to: count };
-    }
-    if (count as u64) <= options.ordinal {
+    };
+    if (count as u64) <= ordinal {
         return Chosen { from: 0, to: 0 };
     }
-    let from = options.ordinal as usize;
+    let from = ordinal as usize;
     Chosen { from, to: from + 1 }
 }
 
@@ -70,57 +63,40 @@ fn import_worked(
     i: Inputs,
     options: Options,
     counts: Counts,
+    sizes: Sizes,
     work: &mut [u8],
     t: &mut Outputs,
 ) -> Result<Ran, Refusal>
-    requires accepted { (Accepted i.main.now) × (Accepted i.supplementary.now) }
-    requires not_oversize { NotOversize i.main.now i.supplementary.now i.program.now i.lists.now }
-    requires sized { Sized i.main.now counts }
-    requires work_enough { WorkEnough i.main.now i.supplementary.now (length work.old)
-        (work_of_units (length i.program.now) (length i.lists.now) (chosen_units options (units i.main.now))) }
-    ensures is { let us = chosen_units options (units i.entry.main.now) in
-        let d = dwarf_with i.entry.main.now i.entry.supplementary.now i.entry.lists.now i.entry.addresses.now in
-        WritesTo (import_units d us i.entry.program.now options.inlines options.call_sites
+    requires accepted { (Accepted i.sheets.main.now) × (Accepted i.sheets.supplementary.now) }
+    requires not_oversize { NotOversizeFor i }
+    requires sized { Sized i.sheets.main.now counts }
+    requires sizes_are { SizesOf i sizes }
+    requires work_enough { WorkEnough i.sheets.main.now i.sheets.supplementary.now (length work.old)
+        (work_of_units (length i.program.now) (length i.lists.lists.now) (chosen_units options (units i.sheets.main.now))) }
+    ensures is { let us = chosen_units options (units i.entry.sheets.main.now) in
+        WritesTo (import_units (dwarf_lent i.entry) us i.entry.program.now options.inlines options.call_sites
         (start_state options.first_file)) t.old t.new result }
     ensures same { SameOutputs t.old t.new }
 {
-    let others = counts_of(i.supplementary);
-    let l = lay_out(counts, others, i.program.len(), i.lists.len());
-    let empty = new_files(
-        i.main,
-        i.supplementary,
+    let layout = lay_out(counts, counts_of(i.sheets.supplementary), sizes);
+    let table = new_files(
+        i.sheets,
         work,
-        l.files,
-        l.room,
+        layout.files,
+        layout.room,
         options.first_file,
         0,
     );
-    let x = index_inputs(i.main, i.supplementary, i.program, i.lists, work, l);
+    let x = index_inputs(i, layout, work);
     let chosen = chosen_units(options, x.main.unit_count);
     let begun = ImportState {
-        table: empty,
+        table,
         at: 0,
         warned: 0,
         stats: no_stats(),
         past: false,
     };
-    let st = import_each(
-        i.main,
-        i.supplementary,
-        i.program,
-        i.lists,
-        i.addresses,
-        chosen.from,
-        chosen.to,
-        l,
-        x,
-        options,
-        work,
-        t.records,
-        t.files,
-        t.warnings,
-        begun,
-    )?;
+    let st = import_each(i, x, chosen, options, work, t, begun)?;
     Ok(lengths_of(st))
 }
 
@@ -132,31 +108,41 @@ fn import_accepted(
     work: &mut [u8],
     t: &mut Outputs,
 ) -> Result<Ran, Refusal>
-    requires both_accepted { BothAccepted i.main.now i.supplementary.now (length i.program.now) number }
-    requires not_oversize { NotOversize i.main.now i.supplementary.now i.program.now i.lists.now }
+    requires both_accepted { BothAccepted i.sheets.main.now i.sheets.supplementary.now (length i.program.now) number }
+    requires not_oversize { NotOversizeFor i }
     ensures is { WritesTo (import_accepted options (asked_of i.entry options work.old t.old) number) t.old t.new result }
     ensures same { SameOutputs t.old t.new }
 {
-    if is_missing(i.main, options) {
+    if is_missing(i.sheets.main, options) {
         return Err(Refusal::NoUnit);
     }
-    let counts = counts_of(i.main);
-    let most = work_of_units(i.main, options, counts, i.program.len(), i.lists.len());
+    let counts = counts_of(i.sheets.main);
+    let sizes = Sizes {
+        program: i.program.len(),
+        lists: i.lists.lists.len(),
+    };
+    let most = work_of_units(i.sheets.main, options, counts, sizes);
     if is_short(work, number, most) {
         return Err(Refusal::ShortWork);
     }
-    import_worked(i, options, counts, work, t)
+    import_worked(i, options, counts, sizes, work, t)
 }
 
 // The import up to those refusals.
 fn run_import(i: Inputs, options: Options, work: &mut [u8], t: &mut Outputs) -> Result<Ran, Refusal>
-    ensures is { WritesTo (import_all options.all (asked_of i.entry options work.old t.old)) t.old t.new result }
+    ensures is { WritesTo (import_all options.ordinal (asked_of i.entry options work.old t.old)) t.old t.new result }
     ensures same { SameOutputs t.old t.new }
 {
-    if is_oversize(i.main, i.supplementary, i.program, i.lists, i.addresses) {
+    if is_oversize(
+        i.sheets.main,
+        i.sheets.supplementary,
+        i.program,
+        i.lists.lists,
+        i.lists.addresses,
+    ) {
         return Err(Refusal::Oversize);
     }
-    let number = check_both(i.main, i.supplementary, i.program.len())?;
+    let number = check_both(i.sheets.main, i.sheets.supplementary, i.program.len())?;
     import_accepted(i, options, number, work, t)
 }
 
@@ -167,7 +153,7 @@ pub fn run_cleared(
     work: &mut [u8],
     t: &mut Outputs,
 ) -> Result<Ran, Refusal>
-    ensures is { WritesTo (import_all options.all (asked_of i.entry options work.old t.old)) t.old t.new result }
+    ensures is { WritesTo (import_all options.ordinal (asked_of i.entry options work.old t.old)) t.old t.new result }
     ensures same { SameOutputs t.old t.new }
     ensures cleared { work.new ≡ replicate (length work.old) 0 }
 {

@@ -7,15 +7,18 @@ ghost use Rattle.tlv.specs.Checked.{Accepted};
 ghost use Rattle.access.specs.Places.{unit_places};
 ghost use Rattle.access.specs.Units.{unit_record};
 ghost use Rattle.access.specs.Index.{entry_record};
-ghost use Rattle.checks.specs.Layout.{LaidOut};
 ghost use Rattle.dwarf.specs.Tables.{IndexesInput, IndexesInputs};
+ghost use Rattle.dwarf.specs.Given.{LaidOutFor};
 
+use crate::lent::Inputs;
 use checks::layout::Layout;
 use references::tables::Index;
 
-// The tables of both inputs.
+// The layout of the work slice, and the tables of both inputs that stand by it.
+// Stays bare: no program prints it.
 #[derive(Clone, Copy)]
 pub struct Indexes {
+    pub layout: Layout,
     pub main: Index,
     pub supplementary: Index,
 }
@@ -37,30 +40,24 @@ fn index_input(s: &[u8], work: &mut [u8], units: usize, entries: usize) -> Index
 }
 
 // The tables of both inputs are made, once for all units of an import.
-pub fn index_inputs(
-    main: &[u8],
-    supplementary: &[u8],
-    program: &[u8],
-    lists: &[u8],
-    work: &mut [u8],
-    l: Layout,
-) -> Indexes
-    requires accepted { (Accepted main.now) × (Accepted supplementary.now) }
-    requires main_len_bound { (length main.now ≤ input_limit) × (length supplementary.now ≤ input_limit) }
-    requires laid_out { LaidOut main.now supplementary.now program.now lists.now l }
-    requires files_in_bounds { l.files ≤ length work.old }
-    ensures { IndexesInputs main.now supplementary.now program.now lists.now
-        work.old work.new l result }
+pub fn index_inputs(i: Inputs, layout: Layout, work: &mut [u8]) -> Indexes
+    requires accepted { (Accepted i.sheets.main.now) × (Accepted i.sheets.supplementary.now) }
+    requires main_len_bound { (length i.sheets.main.now ≤ input_limit) × (length i.sheets.supplementary.now ≤ input_limit) }
+    requires laid_out { LaidOutFor i layout }
+    requires files_in_bounds { layout.files ≤ length work.old }
+    ensures { IndexesInputs i.entry.sheets.main.now i.entry.sheets.supplementary.now i.entry.program.now
+        i.entry.lists.lists.now work.old work.new layout result }
 {
-    let m = index_input(main, work, 0, l.main_entries);
-    let s = index_input(
-        supplementary,
+    let main = index_input(i.sheets.main, work, 0, layout.main_entries);
+    let supplementary = index_input(
+        i.sheets.supplementary,
         work,
-        l.supplementary_units,
-        l.supplementary_entries,
+        layout.supplementary_units,
+        layout.supplementary_entries,
     );
     Indexes {
-        main: m,
-        supplementary: s,
+        layout,
+        main,
+        supplementary,
     }
 }

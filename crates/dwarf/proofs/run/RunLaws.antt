@@ -8,7 +8,7 @@ use Prim.Native.Nat.{ℕ, zero, suc, ◌+◌, ◌-◌, ◌*◌, ◌≤◌, ◌<�
 use native.Mathlib.Omega.{arith}
 use lib.ListN.{length, take, drop}
 use lib.Seq.{take_all}
-use Rattle.std.specs.Prelude.{Result, Ok, Err}
+use Rattle.std.specs.Prelude.{Result, Ok, Err, Option as Maybe, Some, None}
 use Rattle.tlv.specs.declared.refusal.Refusal.{Refusal}
 use Rattle.tlv.specs.Refusals.{number_of}
 use Rattle.tlv.proofs.AnswerLaws.{numbered}
@@ -18,7 +18,7 @@ use Rattle.tlv.specs.Limits.{joined_limit, work_of_program_byte}
 use Rattle.tlv.specs.Grammar.{check_input}
 use Rattle.tlv.specs.Model.{CompilationUnit, units}
 use Rattle.tlv.specs.Checked.{Accepted}
-use Rattle.buffers.specs.Buffer.{Put}
+use Rattle.buffers.specs.Buffer.{top, Put}
 use Rattle.buffers.specs.Output.{FileEntry, files_bytes}
 use Rattle.buffers.proofs.BufferLaws.{put_as}
 use Rattle.buffers.proofs.TableLaws.{but_one}
@@ -38,11 +38,11 @@ use Rattle.checks.specs.declared.options.Options.{Options}
 use Rattle.checks.specs.Layout.{LaidOut}
 use Rattle.checks.specs.Checks.{oversize_of, listed, chosen_units, ChecksBoth, missing_of, missing_unit, short_of, WorkEnough}
 use Rattle.dwarf.specs.declared.run.Ran.{Ran}
-use Rattle.dwarf.specs.declared.run.Chosen.{Chosen}
 use Rattle.dwarf.specs.declared.tables.Indexes.{Indexes}
+use Rattle.dwarf.specs.declared.unit.Chosen.{Chosen}
 use Rattle.dwarf.specs.Tables.{IndexesInputs}
 use Rattle.dwarf.specs.Units.{Ready}
-use Rattle.dwarf.specs.Runs.{import_all, Chooses, import_accepted, start_state, LengthsOf, Writes}
+use Rattle.dwarf.specs.Runs.{ordinal_of, import_all, Chooses, import_accepted, start_state, LengthsOf, Writes}
 
 -- ---- an outcome that is another's, or a refusal
 
@@ -56,7 +56,7 @@ module _ {o : Outcome State} {t f u t' f' u' : List ℕ} where
 -- ---- which units
 
 module _ (o : Options) (count : ℕ) where
-  pub chooses-all : {r : Chosen} → o.all ≡ true → r.from ≡ 0 → r.to ≡ count → Chooses o count r
+  pub chooses-all : {r : Chosen} → o.ordinal ≡ None → r.from ≡ 0 → r.to ≡ count → Chooses o count r
   unfolding chosen_units
   chooses-all {r} e a b = record {
     order = omega arith;
@@ -64,7 +64,7 @@ module _ (o : Options) (count : ℕ) where
     is = λ us l. let z : r.to - r.from ≡ count = omega arith in rw (e, z, a) (take_all count us (omega arith));
   }
 
-  module _ (one : o.all ≡ false) where
+  module _ {n : ℕ} (one : o.ordinal ≡ Some n) where
     -- past the last there is none
     at-past : (us : List CompilationUnit) (k : ℕ) → length us ≤ k → at us k ≡ none
     unfolding at
@@ -78,20 +78,20 @@ module _ (o : Options) (count : ℕ) where
     at_one (u ∷ us) zero h = refl
     at_one (u ∷ us) (suc k) h = at_one us k (omega arith)
 
-    pub chooses_none : {r : Chosen} → count ≤ o.ordinal → r.from ≡ 0 → r.to ≡ 0 → Chooses o count r
+    pub chooses_none : {r : Chosen} → count ≤ n → r.from ≡ 0 → r.to ≡ 0 → Chooses o count r
     unfolding chosen_units
     chooses_none {r} h a b = record {
       order = omega arith;
       within = omega arith;
-      is = λ us l. let z : r.to - r.from ≡ 0 = omega arith in rw (one, z, at-past us o.ordinal (omega arith));
+      is = λ us l. let z : r.to - r.from ≡ 0 = omega arith in rw (one, z, at-past us n (omega arith));
     }
 
-    pub chooses-one : {r : Chosen} → o.ordinal < count → r.from ≡ o.ordinal → r.to ≡ r.from + 1 → Chooses o count r
+    pub chooses-one : {r : Chosen} → n < count → r.from ≡ n → r.to ≡ r.from + 1 → Chooses o count r
     unfolding chosen_units
     chooses-one {r} h a b = record {
       order = omega arith;
       within = omega arith;
-      is = λ us l. let n : r.to - r.from ≡ 1 = omega arith in rw (one, n, a) (at_one us o.ordinal (omega arith));
+      is = λ us l. let z : r.to - r.from ≡ 1 = omega arith in rw (one, z, a) (at_one us n (omega arith));
     }
 
 -- ---- the import by its inputs
@@ -104,14 +104,14 @@ chosen_is : (i : Inputs) (n : ℕ) (x : Option CompilationUnit) → import_chose
 chosen_is i n none = either_way (is_bare i) (import_worked i n []) (refused 4)
 chosen_is i n (some u) = refl
 
-module _ (o : Options) (i : Inputs) (asked : i.ordinal ≡ o.ordinal) where
-  pub by_tests : import_all o.all i ≡ checked i (import_accepted o i)
+module _ (o : Options) (i : Inputs) (asked : i.ordinal ≡ ordinal_of o.ordinal) where
+  pub by_tests : import_all o.ordinal i ≡ checked i (import_accepted o i)
   unfolding import_of import_dwarf_of missing_of chosen_units
-  by_tests = go o.all refl
+  by_tests = go o.ordinal refl
     where
-      go : (b : Bool) → o.all ≡ b → import_all b i ≡ checked i (import_accepted o i)
-      go true e = rw e
-      go false e = rw (e, ← asked) (λ k. checked i (λ n. chosen_is i n (at (units i.main) i.ordinal) k))
+      go : (x : Maybe ℕ) → o.ordinal ≡ x → import_all x i ≡ checked i (import_accepted o i)
+      go None e = rw e
+      go (Some n) e = let same : i.ordinal ≡ n = asked ∙ ap ordinal_of e in rw (e, ← same) (λ k. checked i (λ m. chosen_is i m (at (units i.main) i.ordinal) k))
 
 module _ (i : Inputs) (rest : ℕ → Outcome State) {b : Bool} (e : b ≡ oversize_of i.main i.supplementary i.program i.lists i.addresses) where
   abbrev fields_first : Outcome State
@@ -137,17 +137,17 @@ module _ (i : Inputs) (rest : ℕ → Outcome State) {b : Bool} (e : b ≡ overs
         let B = C.is in
         sized ∙ rw (B.main-accepted, B.supplementary-accepted, ← B.sum)
 
-module _ (o : Options) (i : Inputs) (asked : i.ordinal ≡ o.ordinal) {t f u t' f' u' : List ℕ} {b : Bool}
+module _ (o : Options) (i : Inputs) (asked : i.ordinal ≡ ordinal_of o.ordinal) {t f u t' f' u' : List ℕ} {b : Bool}
     (e : b ≡ oversize_of i.main i.supplementary i.program i.lists i.addresses) where
-  pub run-oversize : b ≡ true → Writes (import_all o.all i) t f u t' f' u' (Err Refusal.Oversize)
+  pub run-oversize : b ≡ true → Writes (import_all o.ordinal i) t f u t' f' u' (Err Refusal.Oversize)
   run-oversize is = writes-refused (by_tests o i asked ∙ checked-oversize i (import_accepted o i) e is)
 
   module _ (is : b ≡ false) where
-    pub run-refused : {q : Refusal} → ChecksBoth i.main i.supplementary (length i.program) (Err q) → Writes (import_all o.all i) t f u t' f' u' (Err q)
+    pub run-refused : {q : Refusal} → ChecksBoth i.main i.supplementary (length i.program) (Err q) → Writes (import_all o.ordinal i) t f u t' f' u' (Err q)
     run-refused C = writes-refused (by_tests o i asked ∙ checked_refused i (import_accepted o i) e is C)
 
     pub run-accepted : {n : ℕ} {r : Result Ran Refusal} → ChecksBoth i.main i.supplementary (length i.program) (Ok n) → Writes (import_accepted o i n) t f u t' f' u' r
-        → Writes (import_all o.all i) t f u t' f' u' r
+        → Writes (import_all o.ordinal i) t f u t' f' u' r
     run-accepted C W = writes_as (by_tests o i asked ∙ checked-accepted i (import_accepted o i) e is C) W
 
 -- ---- refusals 4 and 5
@@ -185,9 +185,9 @@ module _ {main supplementary program lists : List ℕ} {l : Layout} {size most :
 module _ {main supplementary program lists : List ℕ} {l : Layout} {first : ℕ} {w w₁ w₂ : List ℕ} {table : StoredFiles} {x : Indexes} {stats : ConversionStats}
     (L : LaidOut main supplementary program lists l) (E : Empty main supplementary w w₁ l.files l.room first 0 table)
     (X : IndexesInputs main supplementary program lists w₁ w₂ l x) (size : length w₂ ≡ length w₁)
-    (none : stats ≡ record { functions = 0; line_rows = 0; inline_nodes = 0; rejected_ranges = 0 }) where
+    (none : stats ≡ record { functions = 0; line_rows = 0; inline_nodes = 0; rejected_ranges = 0 }) (fits : (0 ≤ top) × (0 ≤ top)) where
   abbrev begun : ImportState
-  begun = record { table = table; at = 0; warned = 0; stats = stats; past = false }
+  begun = record { table = table; at = 0; warned = 0; stats = stats; past = false; within = fits }
 
   below : table.base + extent table ≤ l.lines
   below = let a = E.base-is in let b = E.room-is in let c = L.lines in omega arith
@@ -200,8 +200,6 @@ module _ {main supplementary program lists : List ℕ} {l : Layout} {first : ℕ
     files = files-kept E.holds (but_one X.rest) (inr clear, tt) size;
     above = let a = clear in omega arith;
     below = below;
-    at = omega arith;
-    warned = omega arith;
   }
 
   entries_none : entries_of main supplementary w₂ table ≡ []

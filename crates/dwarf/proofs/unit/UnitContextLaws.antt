@@ -1,24 +1,28 @@
 -- The context of a unit, made between its lines and the tables of both inputs.
-use mathlib.Core.Path.{◌≡◌, refl, sym}
+use mathlib.Core.Path.{◌≡◌, refl, sym, ap, ◌∙◌}
 use mathlib.Core.Bool.{Bool}
 use mathlib.Core.Logic.{inl}
 use mathlib.Core.List.{List}
-use Prim.Native.Nat.{ℕ, ◌+◌, ◌-◌, ◌*◌, ◌≤◌}
+use Prim.Native.Nat.{ℕ, ◌+◌, ◌-◌, ◌*◌, ◌/◌, ◌≤◌}
 use native.Mathlib.Omega.{arith}
 use lib.ListN.{length}
 use Rattle.buffers.specs.Table.{Kept}
 use Rattle.buffers.proofs.TableLaws.{kept-wide, but_one, but_of, here}
 use Rattle.access.specs.Places.{unit_here}
 use Rattle.files.specs.declared.index.StoredIndices.{StoredIndices}
+use Rattle.files.specs.declared.sheets.Sheets.{Sheets}
 use Rattle.files.specs.declared.store.StoredFiles.{StoredFiles}
 use Rattle.files.specs.Store.{extent}
 use Rattle.files.proofs.GrownLaws.{files-kept}
 use Rattle.rows.specs.declared.unit_lines.StoredLines.{StoredLines}
 use Rattle.rows.specs.Selects.{RowsIn}
 use Rattle.rows.proofs.StoredLaws.{lines-kept}
+use Rattle.rnglists.specs.declared.lists.RangeLists.{RangeLists}
 use Rattle.collect.specs.Collects.{UnitIn}
 use Rattle.references.specs.Names.{SearchIn}
 use Rattle.references.proofs.KeyLaws.{keys-in_none}
+use Rattle.ranges.specs.declared.ranges.StoredRanges.{StoredRanges}
+use Rattle.dies.specs.Details.{third}
 use Rattle.subprograms.specs.declared.model.ImportContext.{ImportContext}
 use Rattle.subprograms.specs.Text.{TextIndexed}
 use Rattle.subprograms.specs.Contexts.{unit_list_room, Ordered}
@@ -31,24 +35,23 @@ use Rattle.dwarf.specs.declared.tables.Indexes.{Indexes}
 use Rattle.dwarf.specs.Tables.{TablesIn, LinesLaid, MakesContext}
 use Rattle.dwarf.proofs.TablesLaws.{units-below, entries_within, other-units_below, other-entries_below, tables-kept}
 
-abbrev pub context_made : Layout → UnitLayout → Indexes → ℕ → StoredLines → StoredIndices → Bool → Bool → ℕ → ImportContext
-context_made l p x unit lines indices inlines call_sites count = record {
+abbrev pub context_made : Sheets → RangeLists → Layout → UnitLayout → Indexes → ℕ → StoredLines → StoredIndices → Bool → Bool → StoredRanges → ImportContext
+context_made sheets ranges l p x unit lines indices inlines call_sites text = record {
   places = record {
-    tables = record { main = x.main; supplementary = x.supplementary; keys = p.keys };
+    tables = record { sheets = sheets; main = x.main; supplementary = x.supplementary; keys = p.keys };
     indices = indices;
     spans = p.spans;
     room = l.span_room;
   };
+  lists = ranges;
   unit = unit;
   lines = lines;
-  text = p.text;
-  text_count = count;
+  text = text;
   ranges = p.ranges;
   stack = p.stack;
   sites = p.sites;
   include_inlines = inlines;
   include_call_sites = call_sites;
-  third = l.third;
   with_lists = l.with_lists;
 }
 
@@ -57,14 +60,14 @@ pub text-room : {main supplementary program : List ℕ} {size unit : ℕ} {l : L
     → p.text + 16 * length (unit_here main unit).text ≤ size
 text-room P = let a = P.spans in let b = P.ranges in let c = P.stack in let d = P.sites in let e = P.keys in let g = P.room in omega arith
 
-module _ {main supplementary program lists w w₁ : List ℕ} {l : Layout} {p : UnitLayout} {x : Indexes} {unit : ℕ} {lines : StoredLines} {indices : StoredIndices} {count : ℕ}
+module _ {main supplementary program lists w w₁ : List ℕ} {l : Layout} {p : UnitLayout} {x : Indexes} {unit : ℕ} {lines : StoredLines} {indices : StoredIndices} {text : StoredRanges}
     (U : UnitIn main unit) (T : TablesIn main supplementary program lists w l x) (P : UnitLaid main supplementary program (length w) l unit p) (L : LinesLaid w l p lines indices)
-    (X : TextIndexed main w w₁ unit p.text count) (size : length w₁ ≡ length w) where
-  text-end : p.text + count * 16 ≤ p.spans
-  text-end = let a = P.spans in let b = X.count in omega arith
+    (X : TextIndexed main w w₁ unit p.text text) (size : length w₁ ≡ length w) where
+  text-end : text.base + text.count * 16 ≤ p.spans
+  text-end = let a = P.spans in let b = X.count in let c = X.base_is in omega arith
 
   made-rest : Kept w w₁ p.text (p.spans - p.text)
-  made-rest = let a = text-end in kept-wide p.text (p.spans - p.text) X.rest (omega arith) (omega arith)
+  made-rest = let a = text-end in let b = X.base_is in kept-wide p.text (p.spans - p.text) X.rest (omega arith) (omega arith)
 
   -- the file table lies below the unit's text
   files-below : l.files ≤ p.text
@@ -82,14 +85,15 @@ module _ {main supplementary program lists w w₁ : List ℕ} {l : Layout} {p : 
       tables-kept T (but_of made-rest (here (omega arith) (omega arith))) size
 
   -- no target was followed yet
-  search-made : SearchIn main supplementary w₁ (record { main = x.main; supplementary = x.supplementary; keys = p.keys }) 0
-  search-made =
+  search-made : (sheets : Sheets) → SearchIn main supplementary w₁ (record { sheets = sheets; main = x.main; supplementary = x.supplementary; keys = p.keys }) 0
+  search-made sheets =
       let a = units-below made-tables in
       let b = entries_within made-tables in
       let c = other-units_below made-tables in
       let d = other-entries_below made-tables in
       let e = files-below in
       let g = text-end in
+      let n = X.base_is in
       let h = walk-above in
       record {
         main-index = made-tables.of_main.index;
@@ -117,9 +121,14 @@ module _ {main supplementary program lists w w₁ : List ℕ} {l : Layout} {p : 
   table-apart : (t : StoredFiles) → t.base + extent t ≤ l.lines → t.base + extent t ≤ p.text
   table-apart t h = let a = L.from in let b = L.map in let c = L.rows.lines in let d = L.within in omega arith
 
-  module _ (inlines call_sites : Bool) where
+  module _ (sheets : Sheets) (ranges : RangeLists) (main_same : sheets.main.now ≡ main) (supplementary_same : sheets.supplementary.now ≡ supplementary)
+      (lists_same : ranges.lists.now ≡ lists) {addresses : List ℕ} (addresses_same : ranges.addresses.now ≡ addresses) (inlines call_sites : Bool) where
     abbrev made : ImportContext
-    made = context_made l p x unit lines indices inlines call_sites count
+    made = context_made sheets ranges l p x unit lines indices inlines call_sites text
+
+    -- a third of the lists' bytes
+    third-same : third ranges ≡ l.third
+    third-same = ap (λ (s : List ℕ). length s / 3) lists_same ∙ sym T.laid.third-is
 
     made-ordered : {t : StoredFiles} → l.files ≤ t.base → t.base + extent t ≤ l.lines → Ordered main supplementary made t
     unfolding unit_list_room
@@ -134,34 +143,37 @@ module _ {main supplementary program lists w w₁ : List ℕ} {l : Layout} {p : 
           indices = L.map;
           lines = L.sequences;
           sequences = L.rows.sequences;
-          buffer = L.within;
+          buffer = rw X.base_is L.within;
           text = text-end;
           spans = P.ranges;
-          ranges = P.stack;
+          ranges = rw third-same P.stack;
           stack = P.sites;
           sites = P.keys;
           room-main = T.laid.room-main;
           room-supplementary = T.laid.room-supplementary;
         }
 
-    pub makes-context : MakesContext main supplementary lists w w₁ l p unit lines indices inlines call_sites made
+    pub makes-context : MakesContext main supplementary lists addresses w w₁ l p unit lines indices inlines call_sites made
     makes-context = record {
       context = λ t above h F. record {
         unit = U;
-        tables = search-made;
+        tables = search-made sheets;
         rows = made-rows;
         text = X.table;
         files = files-kept F (but_one made-rest) (inl (table-apart t h), tt) size;
         ordered = made-ordered {t = t} above h;
-        third = T.laid.rooms.third;
+        third = rw third-same T.laid.rooms.third;
         listless = λ e. none-listed main unit (unit-of U) (T.laid.tags.lists e);
       };
+      main-is = main_same;
+      supplementary-is = supplementary_same;
+      lists_is = lists_same;
+      addresses-is = addresses_same;
       unit-is = refl;
       lines-is = refl;
       indices-is = refl;
       inlines-is = refl;
       call_sites-is = refl;
-      third-is = sym T.laid.third-is;
       spans-is = refl;
       room-is = refl;
       ranges-is = refl;

@@ -9,17 +9,18 @@ overflow_add-place c = omega (arith, part-place c.requires.accepted c.requires.u
 pub next_before_rows-requires : goal.next_before_rows-requires
 next_before_rows-requires c = part-from c.requires.accepted c.requires.unit_in
 
-pub read-requires : goal.read-requires
-read-requires c = omega (arith, part-inside c.requires.accepted c.requires.unit_in c.in-Some.ensures)
+pub read-start-requires : goal.read-start-requires
+read-start-requires c = omega (arith, part-inside c.requires.accepted c.requires.unit_in c.in-Some.ensures)
 
 pub overflow_add-field : goal.overflow_add-field
 overflow_add-field c = omega (arith, part-inside c.requires.accepted c.requires.unit_in c.in-Some.ensures)
 
-pub read-requires-2 : goal.read-requires-2
-read-requires-2 c = omega (arith, part-inside c.requires.accepted c.requires.unit_in c.in-Some.ensures)
+pub read-requires : goal.read-requires
+read-requires c = omega (arith, part-inside c.requires.accepted c.requires.unit_in c.in-Some.ensures)
 
 pub returns-in_default : goal.returns-in_default
 returns-in_default c = whole_part c.requires.accepted c.requires.unit_in _ c.in_default.ensures
 
 pub returns : goal.returns
-returns c = named-part c.requires.accepted c.requires.unit_in c.in-Some.ensures c.read.ensures c.read-2.ensures c.cut_part.ensures.0 c.cut_part.ensures.1
+returns c = named-part c.requires.accepted c.requires.unit_in c.in-Some.ensures c.args.program.now c.read-start.ensures c.read.ensures
+    (omega (arith, c.well_formed)) (omega (arith, c.well_formed))

@@ -9,11 +9,11 @@ pub returns-then-is_missing-clause-is : goal.returns-then-is_missing-clause-is
 returns-then-is_missing-clause-is c =
     accepted-missing c.args.options (asked_of c.args.i c.args.options c.args.work.now c.args.t.now) c.args.number c.is_missing.ensures c.if-is_missing.true
 
-pub work_of_units-most-requires-clause-accepted : goal.work_of_units-most-requires-clause-accepted
-work_of_units-most-requires-clause-accepted c = ((accepted-both c.requires.both_accepted).0, c.counts_of-counts.ensures)
+pub invariant_of-sizes : goal.invariant_of-sizes
+invariant_of-sizes c = record { within = (c.requires.not_oversize.program-within, c.requires.not_oversize.lists-within) }
 
-pub work_of_units-most-requires-clause-size_le_program_limit : goal.work_of_units-most-requires-clause-size_le_program_limit
-work_of_units-most-requires-clause-size_le_program_limit c = (c.requires.not_oversize.program-within, c.requires.not_oversize.lists-within)
+pub work_of_units-most-requires : goal.work_of_units-most-requires
+work_of_units-most-requires c = ((accepted-both c.requires.both_accepted).0, c.counts_of-counts.ensures)
 
 pub is_short-requires : goal.is_short-requires
 is_short-requires c = (both-few c.requires.both_accepted, most-small _ _ c.requires.not_oversize.program-within c.requires.not_oversize.lists-within _ c.work_of_units-most.ensures)

@@ -17,7 +17,7 @@ pub import_accepted-requires-clause-both_accepted : goal.import_accepted-require
 import_accepted-requires-clause-both_accepted c = c.in_ok-number.ensures.is
 
 pub import_accepted-requires-clause-not_oversize : goal.import_accepted-requires-clause-not_oversize
-import_accepted-requires-clause-not_oversize c = not-oversize c.args.i.main.now c.args.i.supplementary.now c.args.i.program.now c.args.i.lists.now c.args.i.addresses.now c.is_oversize.ensures c.if-is_oversize.false
+import_accepted-requires-clause-not_oversize c = not-oversize c.args.i.sheets.main.now c.args.i.sheets.supplementary.now c.args.i.program.now c.args.i.lists.lists.now c.args.i.lists.addresses.now c.is_oversize.ensures c.if-is_oversize.false
 
 pub returns-clause-is : goal.returns-clause-is
 returns-clause-is c =

@@ -1,8 +1,7 @@
 -- `unit::import_at` meets its contract: its lines are collected, its context is made, its subprograms are imported.
 use mathlib.Core.List.{List}
-use mathlib.Core.Path.{◌≡◌, refl, ◌∙◌}
+use mathlib.Core.Path.{◌≡◌, ◌∙◌}
 use Prim.Native.Nat.{ℕ}
-use native.Mathlib.Omega.{arith}
 use lib.ListN.{length}
 use Rattle.tlv.proofs.AnswerLaws.{handed}
 use Rattle.tlv.proofs.PlaceFacts.{placed-start}
@@ -18,7 +17,7 @@ use Rattle.checks.proofs.LayoutLaws.{unit-laid}
 use Rattle.dwarf.specs.declared.tables.Indexes.{Indexes}
 use Rattle.dwarf.specs.Tables.{TablesIn}
 use Rattle.dwarf.proofs.TablesLaws.{accepted-main, accepted-supplementary, tables-kept}
-use Rattle.dwarf.proofs.unit.UnitStepLaws.{part-short, lines-room, collected-low, lines-laid, warned-fits, context-stands, unit-grows, unit-refused}
+use Rattle.dwarf.proofs.unit.UnitStepLaws.{part-short, lines-room, collected-low, lines-laid, warned-fits, context-holds, unit-grows, unit-refused}
 use Rattle.dwarf.proofs.unit.import_at.Goals as goal
 
 -- the unit's parts stand where they are laid out
@@ -33,52 +32,44 @@ place_unit-p-requires-clause-unit_placed c = let A = accepted-main c.requires.ta
 pub place_unit-p-requires-clause-unit_of : goal.place_unit-p-requires-clause-unit_of
 place_unit-p-requires-clause-unit_of c = (unit-of c.requires.unit_in, c.requires.tables_in.laid.tags)
 
-pub program_part-part-requires-clause-accepted : goal.program_part-part-requires-clause-accepted
-program_part-part-requires-clause-accepted c = accepted-main c.requires.tables_in
+pub program_part-requires-clause-accepted : goal.program_part-requires-clause-accepted
+program_part-requires-clause-accepted c = accepted-main c.requires.tables_in
 
 pub collect_lines-requires-clause-placed : goal.collect_lines-requires-clause-placed
 collect_lines-requires-clause-placed c = let A = accepted-main c.requires.tables_in in placed-start _ A.number A.is
 
 pub collect_lines-requires-clause-lines_room : goal.collect_lines-requires-clause-lines_room
-collect_lines-requires-clause-lines_room c = lines-room c.requires.unit_in (laid c.requires.tables_in c.requires.unit_in c.requires.unit_enough c.place_unit-p.ensures) c.requires.tables_in c.requires.ready _ (search part-short)
+collect_lines-requires-clause-lines_room c = lines-room c.requires.unit_in (laid c.requires.tables_in c.requires.unit_in c.requires.unit_enough c.place_unit-p.ensures) c.requires.tables_in c.requires.ready _ (part-short _ _ _ c.program_part.ensures)
 
-pub returns-in_err-collected : goal.returns-in_err-collected
-returns-in_err-collected c = rw (handed _ _ c.from_residual.ensures.1)
-    (unit-refused c.requires.unit_in (laid c.requires.tables_in c.requires.unit_in c.requires.unit_enough c.place_unit-p.ensures) c.requires.tables_in c.requires.ready _ (search part-short)
-    c.in_err-collected.ensures (c.program_part-part.ensures.is _ refl) c.args.addresses.now c.args.options.inlines c.args.options.call_sites)
+pub returns-in_err-c-clause-is : goal.returns-in_err-c-clause-is
+returns-in_err-c-clause-is c = rw (handed _ _ c.from_residual.ensures.1)
+    (unit-refused c.requires.unit_in (laid c.requires.tables_in c.requires.unit_in c.requires.unit_enough c.place_unit-p.ensures) c.requires.tables_in c.requires.ready _ (part-short _ _ _ c.program_part.ensures)
+    c.in_err-c.ensures c.program_part.ensures c.args.i.lists.addresses.now c.args.options.inlines c.args.options.call_sites)
 
 pub unit_context-q-requires-clause-tables_in : goal.unit_context-q-requires-clause-tables_in
 unit_context-q-requires-clause-tables_in c =
-    tables-kept c.requires.tables_in (collected-low c.requires.unit_in (laid c.requires.tables_in c.requires.unit_in c.requires.unit_enough c.place_unit-p.ensures) c.requires.tables_in c.requires.ready _ (search part-short) c.in_ok-collected.ensures)
+    tables-kept c.requires.tables_in (collected-low c.requires.unit_in (laid c.requires.tables_in c.requires.unit_in c.requires.unit_enough c.place_unit-p.ensures) c.requires.tables_in c.requires.ready _ (part-short _ _ _ c.program_part.ensures) c.in_ok-c.ensures)
     c.collect_lines.auto.work
 
 pub unit_context-q-requires-clause-unit_laid : goal.unit_context-q-requires-clause-unit_laid
 unit_context-q-requires-clause-unit_laid c = rw c.collect_lines.auto.work (laid c.requires.tables_in c.requires.unit_in c.requires.unit_enough c.place_unit-p.ensures)
 
 pub unit_context-q-requires-clause-lines_laid : goal.unit_context-q-requires-clause-lines_laid
-unit_context-q-requires-clause-lines_laid c = lines-laid c.requires.unit_in (laid c.requires.tables_in c.requires.unit_in c.requires.unit_enough c.place_unit-p.ensures) c.requires.tables_in c.requires.ready _ (search part-short) c.in_ok-collected.ensures c.in_ok-collected.ensures.is
+unit_context-q-requires-clause-lines_laid c = lines-laid c.requires.unit_in (laid c.requires.tables_in c.requires.unit_in c.requires.unit_enough c.place_unit-p.ensures) c.requires.tables_in c.requires.ready _ (part-short _ _ _ c.program_part.ensures) c.in_ok-c.ensures c.in_ok-c.ensures.is
 
-pub import_unit_details-requires-clause-context_in : goal.import_unit_details-requires-clause-context_in
-import_unit_details-requires-clause-context_in c =
-    context-stands c.requires.unit_in (laid c.requires.tables_in c.requires.unit_in c.requires.unit_enough c.place_unit-p.ensures) c.requires.tables_in c.requires.ready _ (search part-short) c.in_ok-collected.ensures c.in_ok-collected.ensures.is c.unit_context-q.ensures
+pub invariant_of-begun : goal.invariant_of-begun
+invariant_of-begun c =
+    record { within = (c.args.st.within.0, warned-fits c.requires.unit_in (laid c.requires.tables_in c.requires.unit_in c.requires.unit_enough c.place_unit-p.ensures) c.requires.tables_in c.requires.ready _ (part-short _ _ _ c.program_part.ensures) c.in_ok-c.ensures c.in_ok-c.ensures.is) }
 
-pub import_unit_details-requires-clause-range_least_len : goal.import_unit_details-requires-clause-range_least_len
-import_unit_details-requires-clause-range_least_len c = c.unit_context-q.ensures.third-is
-
-pub import_unit_details-requires-clause-at_le_top : goal.import_unit_details-requires-clause-at_le_top
-import_unit_details-requires-clause-at_le_top c =
-    (c.requires.ready.at, warned-fits c.requires.unit_in (laid c.requires.tables_in c.requires.unit_in c.requires.unit_enough c.place_unit-p.ensures) c.requires.tables_in c.requires.ready _ (search part-short) c.in_ok-collected.ensures c.in_ok-collected.ensures.is)
+pub import_unit_details-requires : goal.import_unit_details-requires
+import_unit_details-requires c = record {
+  context_in = context-holds c.requires.unit_in (laid c.requires.tables_in c.requires.unit_in c.requires.unit_enough c.place_unit-p.ensures) c.requires.tables_in c.requires.ready _ (part-short _ _ _ c.program_part.ensures) c.in_ok-c.ensures c.in_ok-c.ensures.is c.unit_context-q.ensures;
+}
 
 pub shape_of-work : goal.shape_of-work
 shape_of-work c = c.import_unit_details.auto.work ∙ c.unit_context-q.auto.work ∙ c.collect_lines.auto.work
 
-pub shape_of-files : goal.shape_of-files
-shape_of-files c = c.import_unit_details.auto.files ∙ c.collect_lines.auto.files
-
-pub shape_of-warnings : goal.shape_of-warnings
-shape_of-warnings c = c.import_unit_details.auto.warnings ∙ c.collect_lines.auto.warnings
-
-pub returns : goal.returns
-returns c =
-    unit-grows c.requires.unit_in (laid c.requires.tables_in c.requires.unit_in c.requires.unit_enough c.place_unit-p.ensures) c.requires.tables_in c.requires.ready _ (search part-short) c.in_ok-collected.ensures c.in_ok-collected.ensures.is
-    c.unit_context-q.ensures c.args.addresses.now (c.program_part-part.ensures.is _ refl) c.collect_lines.auto.work c.unit_context-q.auto.work _ c.import_unit_details.ensures
+pub returns-clause-is : goal.returns-clause-is
+returns-clause-is c =
+    unit-grows c.requires.unit_in (laid c.requires.tables_in c.requires.unit_in c.requires.unit_enough c.place_unit-p.ensures) c.requires.tables_in c.requires.ready _ (part-short _ _ _ c.program_part.ensures) c.in_ok-c.ensures c.in_ok-c.ensures.is
+    c.unit_context-q.ensures c.program_part.ensures _ c.collect_lines.auto.work c.unit_context-q.auto.work _ c.import_unit_details.ensures.is

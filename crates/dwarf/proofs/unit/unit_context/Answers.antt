@@ -1,21 +1,19 @@
 -- `unit::unit_context` meets its contract: the executable ranges are written behind the lines.
+use mathlib.Core.Path.{refl}
 use Rattle.tlv.proofs.PlaceFacts.{placed-start}
 use Rattle.dwarf.proofs.TablesLaws.{accepted-main}
 use Rattle.dwarf.proofs.unit.UnitContextLaws.{text-room, makes-context}
 use Rattle.dwarf.proofs.unit.unit_context.Goals as goal
 
-pub index_text-text_count-requires-clause-placed : goal.index_text-text_count-requires-clause-placed
-index_text-text_count-requires-clause-placed c = let A = accepted-main c.requires.tables_in in
-    placed-start _ A.number A.is
+pub index_text-text-requires-clause-placed : goal.index_text-text-requires-clause-placed
+index_text-text-requires-clause-placed c = let A = accepted-main c.requires.tables_in in placed-start _ A.number A.is
 
-pub index_text-text_count-requires-clause-unit_in : goal.index_text-text_count-requires-clause-unit_in
-index_text-text_count-requires-clause-unit_in c = let A = accepted-main c.requires.tables_in in
-    c.requires.unit_in
+pub index_text-text-requires-clause-unit_in : goal.index_text-text-requires-clause-unit_in
+index_text-text-requires-clause-unit_in c = c.requires.unit_in
 
-pub index_text-text_count-requires-clause-place_in_bounds : goal.index_text-text_count-requires-clause-place_in_bounds
-index_text-text_count-requires-clause-place_in_bounds c = let A = accepted-main c.requires.tables_in in
-    text-room c.requires.unit_laid
+pub index_text-text-requires-clause-place_in_bounds : goal.index_text-text-requires-clause-place_in_bounds
+index_text-text-requires-clause-place_in_bounds c = text-room c.requires.unit_laid
 
 pub returns : goal.returns
-returns c = makes-context c.requires.unit_in c.requires.tables_in c.requires.unit_laid c.requires.lines_laid c.index_text-text_count.ensures c.index_text-text_count.auto.work
-    c.args.options.inlines c.args.options.call_sites
+returns c = makes-context c.requires.unit_in c.requires.tables_in c.requires.unit_laid c.requires.lines_laid c.index_text-text.ensures c.index_text-text.auto.work
+    c.args.i.sheets c.args.i.lists refl refl refl refl c.args.options.inlines c.args.options.call_sites
