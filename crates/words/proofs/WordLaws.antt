@@ -57,12 +57,6 @@ module _ (n : ℕ) (h : n < 28) where
   size : size_in n ≤ 17
   size = leb-true (size_in n) 17 (ap (λ (p : Bool × List ℕ). p.0) row)
 
-  pub size_fits : Fits w64 (size_in n)
-  size_fits = record { fits = omega (arith, size) }
-
-  pub end_fits : Fits w64 (18 * n + size_in n)
-  end_fits = record { fits = omega (arith, size) }
-
   pub end-within : 18 * n + size_in n ≤ 504
   end-within = omega (arith, size)
 

@@ -46,6 +46,7 @@ const ROWS: [u8; 504] = *b"\
     ";
 
 // Lays the word of a refusal's number, as far as it fits, and returns its whole length; 0 for a number that is no refusal's.
+// Stays a number: C hands it over, and it may be any byte.
 pub fn put_word(refusal: u8, name: &mut [u8]) -> usize
     ensures { Put 0 (refusal_word refusal) name.old name.new result }
 {

@@ -2,19 +2,11 @@
 use native.Mathlib.Omega.{arith}
 use Rattle.buffers.proofs.BufferLaws.{put-nothing}
 use Rattle.words.specs.Words.{words}
-use Rattle.words.proofs.WordLaws.{rows, size_fits, end_fits, end-within, put-row, no_word}
+use Rattle.words.proofs.WordLaws.{rows, end-within, put-row, no_word}
 use Rattle.words.proofs.put_word.Goals as goal
 
 pub returns-then-refusal-gt-LAST : goal.returns-then-refusal-gt-LAST
 returns-then-refusal-gt-LAST c = put-nothing (no_word _ (omega arith)) (omega arith) (omega arith)
-
-pub overflow_cast-to : goal.overflow_cast-to
-unfolding rows words
-overflow_cast-to c = size_fits c.args.refusal (omega arith)
-
-pub overflow_add-to-2 : goal.overflow_add-to-2
-unfolding rows words
-overflow_add-to-2 c = end_fits c.args.refusal (omega arith)
 
 pub slice_bounds-put_bytes-end : goal.slice_bounds-put_bytes-end
 unfolding rows words
