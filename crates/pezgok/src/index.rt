@@ -49,6 +49,11 @@ pub extern "C" fn pezgok_look_up_in(
 ) -> u8
     ensures { ExportsLookUpIn records.now index.now functions rising address found.new chain.new result }
 {
-    let answer = look_index::lookin::look_up_in(records, index, functions, rising, address);
+    let answer = look_index::lookin::look_up_in(
+        records,
+        index,
+        Indexed { functions, rising },
+        address,
+    );
     tell_frames(answer, found, chain)
 }

@@ -42,7 +42,7 @@ pub fn tell(answer: Result<Imported, Refusal>, values: &mut [u64; 7]) -> u8
 }
 
 // Imports the unit of an ordinal and tells the answer.
-// Stays with its parameters apart and a number for an answer, as each function for C: include/pezgok.h declares it so.
+// Stays with its parameters apart and a number for an answer: include/pezgok.h declares it so.
 #[unsafe(no_mangle)]
 pub extern "C" fn pezgok_import<'a>(
     main: &'a [u8],
@@ -84,6 +84,7 @@ pub extern "C" fn pezgok_import<'a>(
 }
 
 // Tells how long the buffers of such an import must be, and its statistics, or its refusal.
+// Stays beside its twin, with its parameters apart and a number for an answer: include/pezgok.h declares both so.
 #[unsafe(no_mangle)]
 pub extern "C" fn pezgok_measure<'a>(
     main: &'a [u8],
@@ -119,6 +120,7 @@ pub extern "C" fn pezgok_measure<'a>(
 }
 
 // Writes document 01's word for a refusal's number, as far as it fits, and returns its whole length; 0 for a number that is no refusal's.
+// Stays a number: it comes from C, and may be any.
 #[unsafe(no_mangle)]
 pub extern "C" fn pezgok_refusal_name(refusal: u8, name: &mut [u8]) -> usize
     ensures { Put 0 (refusal_word refusal) name.old name.new result }
