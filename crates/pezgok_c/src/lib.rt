@@ -14,6 +14,7 @@ pub mod look;
 pub mod whole;
 
 // Imports the unit of an ordinal and tells the answer.
+// Stays with its parameters apart: include/pezgok.h declares it so.
 #[unsafe(no_mangle)]
 pub extern "C" fn pezgok_import<'a>(
     main: &'a [u8],
@@ -55,6 +56,7 @@ pub extern "C" fn pezgok_import<'a>(
 }
 
 // Tells how long the buffers of such an import must be, and its statistics, or its refusal.
+// Stays with its parameters apart: include/pezgok.h declares it so.
 #[unsafe(no_mangle)]
 pub extern "C" fn pezgok_measure<'a>(
     main: &'a [u8],
@@ -90,6 +92,7 @@ pub extern "C" fn pezgok_measure<'a>(
 }
 
 // Writes document 01's word for a refusal's number, as far as it fits, and returns its whole length; 0 for a number that is no refusal's.
+// Stays a number: it comes from C, and may be any.
 #[unsafe(no_mangle)]
 pub extern "C" fn pezgok_refusal_name(refusal: u8, name: &mut [u8]) -> usize
     ensures { Put 0 (refusal_word refusal) name.old name.new result }

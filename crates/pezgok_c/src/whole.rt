@@ -4,6 +4,7 @@ ghost use Rattle.dwarf.specs.Runs.{inputs_of};
 ghost use Rattle.pezgok.specs.Exported.{ExportsDwarf, ExportsMeasureDwarf};
 
 // Imports all units of the main input in order and tells the answer.
+// Stays with its parameters apart: include/pezgok.h declares it so.
 #[unsafe(no_mangle)]
 pub extern "C" fn pezgok_import_dwarf<'a>(
     main: &'a [u8],
@@ -43,6 +44,7 @@ pub extern "C" fn pezgok_import_dwarf<'a>(
 }
 
 // Tells how long the buffers of such an import must be, and its statistics, or its refusal.
+// Stays with its parameters apart: include/pezgok.h declares it so.
 #[unsafe(no_mangle)]
 pub extern "C" fn pezgok_measure_dwarf<'a>(
     main: &'a [u8],
