@@ -1,11 +1,12 @@
-// Reading for the programs.
+// What the programs share: how they read calls from an input and answer them.
 #![tactic(auto)]
 
-ghost use Rattle.std.specs.Prelude.{◌<◌, ◌≤◌, IfOk, IfSome, length, take};
+ghost use Rattle.std.specs.Prelude.{◌≡◌, true, ◌<◌, ◌≤◌, IfOk, IfSome, length, take};
 ghost use Rattle.std.specs.Io.KnownBytes.{Consumes, IsAtEnd};
-ghost use Rattle.streams.specs.Calls.{NextNumber, NextCall};
+ghost use Rattle.streams.specs.Calls.{NextByte, NextNumber, NextCall, ReadsCall, AnswersAll};
 
 use std::io::{self, Read, Write};
+use tlv::refusal::Refusal;
 
 // Reads until the buffer is full or the input ends, and says how many bytes it put at the buffer's front: std's `read_exact` does not say how many came.
 pub fn read_full<R: Read>(input: &mut R, buffer: &mut [u8]) -> io::Result<usize>
@@ -23,6 +24,15 @@ pub fn read_full<R: Read>(input: &mut R, buffer: &mut [u8]) -> io::Result<usize>
         done += n;
     }
     Ok(done)
+}
+
+// The next byte; past the input's end it is 0.
+pub fn next_u8<R: Read>(input: &mut R) -> io::Result<u8>
+    ensures { IfOk result (λ b. NextByte (R.remaining input.old) (R.remaining input.new) b) }
+{
+    let mut bytes = [0; 1];
+    read_full(input, &mut bytes)?;
+    Ok(bytes[0])
 }
 
 // The number in the next 4 bytes; past the input's end they are 0.
@@ -55,17 +65,60 @@ pub fn next_call<'a, R: Read>(
     Ok(Some(call))
 }
 
+// Answers the next call by `answer`, which says false of a call that is none of its own; false where no call was answered, with a message.
+pub fn answer_next<R: Read, W: Write, F: FnOnce(&mut W, &[u8]) -> io::Result<bool>>(
+    input: &mut R,
+    out: &mut W,
+    buffer: &mut [u8],
+    answer: F,
+) -> io::Result<bool>
+    requires { F.IsAlwaysCallable answer }
+    ensures { IfOk result (λ b. b ≡ true → ReadsCall (R.remaining input.old) (R.remaining input.new)) }
+{
+    let Some(call) = next_call(input, out, buffer)? else {
+        return Ok(false);
+    };
+    if !answer(out, call)? {
+        writeln!(out, "no such call")?;
+        return Ok(false);
+    }
+    Ok(true)
+}
+
 // Answers the calls of an input, one after the other: how many they are stands before them in 4 bytes. `next` says false where it can't go on.
 pub fn answer_all<R: Read, F: FnMut(&mut R) -> io::Result<bool>>(
     input: &mut R,
     mut next: F,
 ) -> io::Result<()>
     requires { F.IsAlwaysCallable next }
+    ensures { IfOk result (λ u. AnswersAll R.remaining F.FnMut next input.old input.new) }
 {
     let count = next_u32(input)?;
     for _ in 0..count {
         if !next(input)? {
             return Ok(());
+        }
+    }
+    Ok(())
+}
+
+// Writes that there was a refusal, by its number.
+pub fn write_refused(out: &mut impl Write, refusal: Refusal) -> io::Result<()> {
+    write!(out, "refused {}", refusal.number())
+}
+
+// Whether a byte of a name or a path is written as it is.
+fn is_plain(b: u8) -> bool {
+    b.is_ascii_graphic() && b != b'\\' && b != b'|'
+}
+
+// Writes a name or a path: bytes that are not plain by their numbers.
+pub fn write_name(out: &mut impl Write, name: &[u8]) -> io::Result<()> {
+    for &b in name {
+        if is_plain(b) {
+            out.write_all(&[b])?;
+        } else {
+            write!(out, "\\{b:02x}")?;
         }
     }
     Ok(())
