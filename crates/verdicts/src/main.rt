@@ -2,21 +2,15 @@
 #![tactic(auto)]
 
 use std::io::{self, Read, Write};
-use streams::{answer_all, next_u32, read_full};
+use streams::{answer_all, next_u8, next_u32, read_full};
 use tlv::grammar::check_input;
 use tlv::refusal::Refusal;
 
 // The longest name or sheet.
 const SHEET_LIMIT: usize = 300000;
 
-// The next byte.
-fn next_u8(input: &mut impl Read) -> io::Result<u8> {
-    let mut bytes = [0u8; 1];
-    read_full(input, &mut bytes)?;
-    Ok(bytes[0])
-}
-
 // The name of a case, and a colon; false where it is longer than the buffer.
+// Stays apart from `judge`: a name's length is one byte, and no verdict is told of it.
 fn write_name(input: &mut impl Read, out: &mut impl Write, buffer: &mut [u8]) -> io::Result<bool> {
     let n = next_u8(input)? as usize;
     if buffer.len() < n {
@@ -62,6 +56,7 @@ fn judge_next(input: &mut impl Read, out: &mut impl Write, buffer: &mut [u8]) ->
     Ok(true)
 }
 
+// Stays a `main` of its own: what it lends is an array of its own size.
 fn main(rt: HostRuntime) -> io::Result<()> {
     let mut buffer = [0u8; SHEET_LIMIT];
     let mut out = io::writer(&rt);
