@@ -1,10 +1,10 @@
 -- A sheet's fields bound what its file table and a unit's lines take, and a function's rows leave the unit's in place.
-use mathlib.Core.Path.{◌≡◌, refl, sym, ap, subst, ◌∙◌}
+use mathlib.Core.Path.{◌≡◌, refl, sym, ap, subst}
 use mathlib.Core.Logic.{inl, inr}
 use mathlib.Core.Bool.{Bool, true}
 use mathlib.Core.List.{List, [], ◌∷◌}
 use mathlib.Core.Option.{Option, none, some}
-use Prim.Native.Nat.{ℕ, zero, suc, ◌+◌, ◌*◌, ◌≤◌, ◌<◌, ◌^◌}
+use Prim.Native.Nat.{ℕ, zero, suc, ◌+◌, ◌*◌, ◌<◌, ◌^◌}
 use native.Mathlib.Omega.{arith}
 use lib.ListN.{length}
 use Rattle.tlv.specs.declared.model.AddressRange.{AddressRange}
@@ -17,8 +17,7 @@ use Rattle.tlv.specs.declared.refusal.Refusal.{Refusal}
 use Rattle.access.specs.Access.{place_of}
 use Rattle.access.specs.Places.{unit_here, unit_places}
 use Rattle.files.specs.declared.store.StoredFiles.{StoredFiles}
-use Rattle.files.specs.declared.index.StoredIndices.{StoredIndices}
-use Rattle.files.specs.Store.{FilesIn, Empty}
+use Rattle.files.specs.Store.{Empty}
 use Rattle.files.specs.Possible.{possible_files}
 use Rattle.files.proofs.FewLaws.{tags-few, possible-few, directories-few, files-few_in, rows_few}
 use Rattle.std.specs.Prelude as std
@@ -61,15 +60,6 @@ room-yes {main} {program} {n} {work} {r} H e = let Y : HasRoom main program n wo
 
 pub room-main : {main program n work : ℕ} → Room main program n work → main < 2 ^ 32
 room-main R = R.main-small
-
-pub room-few : {main program n work : ℕ} → Room main program n work → n + 1 < 2 ^ 32
-room-few R = omega (arith, R.few)
-
-pub room-table : {main program n work : ℕ} → Room main program n work → 0 + ((n + 1) * 45 + joined_limit) ≤ work
-room-table R = omega (arith, R.within)
-
-pub empty_holds : {s supplementary w w' : List ℕ} {base room first written : ℕ} {t : StoredFiles} → Empty s supplementary w w' base room first written t → FilesIn s supplementary w' t
-empty_holds E = E.holds
 
 pub lines-room : {s w w' program : List ℕ} {n p : ℕ} {t : StoredFiles} → Accepts s n → UnitIn s p → Room (length s) (length program) n (length w)
     → Empty s [] w w' 0 (n + 1) 1 0 t → length w' ≡ length w → LinesRoom s w' program t p ((n + 1) * 45 + joined_limit)

@@ -4,8 +4,10 @@ ghost use Rattle.tlv.specs.Checked.{Accepts};
 ghost use Rattle.collect.specs.Collects.{UnitIn};
 ghost use Rattle.line_answers.specs.Answers.{Room, HasRoom, CollectedRows};
 
-use collect::collect::CollectedLines;
-use files::store::{FILE_RECORD, JOINED_LIMIT};
+use access::access::unit_by_ordinal;
+use collect::collect::{CollectedLines, LineUnit, collect_lines};
+use files::sheets::Sheets;
+use files::store::{FILE_RECORD, JOINED_LIMIT, new_files};
 use rows::line::ROW_ROOM;
 use tlv::refusal::Refusal;
 
@@ -13,9 +15,9 @@ use tlv::refusal::Refusal;
 const BYTE_ROOM: usize = ROW_ROOM + 3;
 
 // Collects the lines of a sheet's first unit, behind the file table; refused where the sheet is not accepted, has no unit, or the work has no room.
-pub fn collect_case(
-    main: &[u8],
-    program: &[u8],
+pub fn collect_case<'a>(
+    main: &'a [u8],
+    program: &'a [u8],
     work: &mut [u8],
     files: &mut [u8],
     warnings: &mut [u8],
@@ -27,9 +29,9 @@ pub fn collect_case(
 }
 
 // The same for an accepted sheet of n fields.
-fn collect_accepted(
-    main: &[u8],
-    program: &[u8],
+fn collect_accepted<'a>(
+    main: &'a [u8],
+    program: &'a [u8],
     n: usize,
     work: &mut [u8],
     files: &mut [u8],
@@ -38,9 +40,7 @@ fn collect_accepted(
     requires { Accepts main.now n }
     ensures { CollectedRows work.new result }
 {
-    let Some(place) = access::access::unit_by_ordinal(main, 0) else {
-        return Err(Refusal::NoUnit);
-    };
+    let place = unit_by_ordinal(main, 0).ok_or(Refusal::NoUnit)?;
     if !has_room(main.len(), program.len(), n, work.len()) {
         return Err(Refusal::ShortWork);
     }
@@ -48,9 +48,9 @@ fn collect_accepted(
 }
 
 // The same for a unit at a place.
-fn collect_placed(
-    main: &[u8],
-    program: &[u8],
+fn collect_placed<'a>(
+    main: &'a [u8],
+    program: &'a [u8],
     n: usize,
     place: usize,
     work: &mut [u8],
@@ -64,10 +64,18 @@ fn collect_placed(
 {
     let room = n + 1;
     let free = room * FILE_RECORD + JOINED_LIMIT;
-    let table = files::store::new_files(main, b"", work, 0, room, 1, 0);
-    collect::collect::collect_lines(
-        main, b"", program, place, work, files, warnings, table, 0, free,
-    )
+    let sheets = Sheets {
+        main,
+        supplementary: b"",
+    };
+    let table = new_files(sheets, work, 0, room, 1, 0);
+    let unit = LineUnit {
+        sheets,
+        program,
+        place,
+        free,
+    };
+    collect_lines(unit, work, files, warnings, table, 0)
 }
 
 // Whether a work slice has room for the file table and the lines of a sheet of n fields.

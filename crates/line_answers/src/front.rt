@@ -11,7 +11,14 @@ use tlv::bytes::Number;
 // A row in the table, and room for it among a function's rows.
 const STORED: usize = LINE_SIZE + ENTRY_SIZE;
 
-const QUERY_SIZE: usize = 29;
+// A query: start (8 bytes), end (8), whether a sequence is asked for (1), its offset (8), how many rows at the front the loop passes over at once (4).
+const QUERY_END: usize = 8;
+
+const QUERY_SEQUENCE: usize = QUERY_END + 8;
+
+const QUERY_MOST: usize = QUERY_SEQUENCE + 9;
+
+const QUERY_SIZE: usize = QUERY_MOST + 4;
 
 // Stores the `count` rows of a call as they come.
 fn store_rows(call: &[u8], count: usize, work: &mut [u8])
@@ -41,24 +48,23 @@ fn front_below(work: &[u8], l: StoredLines, range: tlv::model::AddressRange, mos
     most
 }
 
-// A query: start (8 bytes), end (8), whether a sequence is asked for (1), its offset (8), how many rows at the front the loop passes over at once (4);
-// false where one of those does not lie below the range.
+// False where one of the rows at the front does not lie below the range.
 fn answer_query(
     out: &mut impl Write,
     query: &[u8],
     work: &mut [u8],
     l: StoredLines,
 ) -> io::Result<bool>
-    requires query_len { 29 ≤ length query.now }
+    requires query_len { QUERY_SIZE ≤ length query.now }
     requires line_size_bound { l.lines + l.line_count * line_size ≤ l.buffer }
     requires entry_size_in_bounds { l.buffer + l.line_count * entry_size ≤ length work.old }
 {
     let range = tlv::model::AddressRange {
         start: u64::read(query, 0),
-        end: u64::read(query, 8),
+        end: u64::read(query, QUERY_END),
     };
-    let asked = rows::line::sequence_at(query, 16);
-    let wanted = u32::read(query, 25) as usize;
+    let asked = rows::line::sequence_at(query, QUERY_SEQUENCE);
+    let wanted = u32::read(query, QUERY_MOST) as usize;
     if l.line_count < wanted {
         return Ok(false);
     }

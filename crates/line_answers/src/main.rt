@@ -5,10 +5,10 @@ ghost use Rattle.std.specs.Prelude.{◌+◌, ◌*◌, ◌≤◌, length};
 ghost use Rattle.rows.specs.Selects.{RowsIn};
 
 use crate::collected::collect_case;
-use crate::output::{write_path, write_refused, write_rows};
+use crate::output::write_rows;
 use rows::unit_lines::StoredLines;
 use std::io::{self, Read, Write};
-use streams::{answer_all, next_call, read_full};
+use streams::{answer_all, answer_next, next_u8, write_name, write_refused};
 use tlv::bytes::Number;
 
 pub mod collected;
@@ -24,33 +24,38 @@ const WORK_SIZE: usize = 65536;
 // The most bytes of a unit's files, and of its warnings.
 const TRAY_SIZE: usize = 16384;
 
-const QUERY_SIZE: usize = 25;
+// A query of rows: start (8 bytes), end (8), whether a sequence is asked for (1), its offset (8).
+const QUERY_END: usize = 8;
 
-// The next byte.
-fn next_u8(input: &mut impl Read) -> io::Result<u8> {
-    let mut bytes = [0u8; 1];
-    read_full(input, &mut bytes)?;
-    Ok(bytes[0])
-}
+const QUERY_SEQUENCE: usize = QUERY_END + 8;
+
+const QUERY_SIZE: usize = QUERY_SEQUENCE + 9;
+
+// The lengths of the sheet and of the program, which a call of rows begins with.
+const HEAD_SIZE: usize = 8;
 
 // The answers follow, one function for each kind of call; false where the call is cut off or has no room.
 
-// A query: start (8 bytes), end (8), whether a sequence is asked for (1), its offset (8).
 fn answer_query(
     out: &mut impl Write,
     query: &[u8],
     work: &mut [u8],
     l: StoredLines,
 ) -> io::Result<()>
-    requires query_len { 25 ≤ length query.now }
+    requires query_len { QUERY_SIZE ≤ length query.now }
     requires rows_in { RowsIn work.old l }
     ensures { RowsIn work.new l }
 {
     let range = tlv::model::AddressRange {
         start: u64::read(query, 0),
-        end: u64::read(query, 8),
+        end: u64::read(query, QUERY_END),
     };
-    let r = rows::unit_lines::for_range(work, l, range, rows::line::sequence_at(query, 16));
+    let r = rows::unit_lines::for_range(
+        work,
+        l,
+        range,
+        rows::line::sequence_at(query, QUERY_SEQUENCE),
+    );
     let invalid = u8::from(r.invalid);
     write!(out, "\nrows {invalid}")?;
     write_rows(out, work, r.rows, r.count)
@@ -80,22 +85,29 @@ fn write_collected(
     let lines = l.line_count;
     let sequences = l.sequence_count;
     write!(out, "lines {lines} sequences {sequences}|")?;
-    write_path(out, files)?;
+    write_name(out, files)?;
     write!(out, "|")?;
-    write_path(out, warnings)
+    write_name(out, warnings)
 }
 
 // The lengths of the sheet and of the program (4 bytes each), the sheet, the program, the queries.
+// Stays apart from the other calls: each has a head of its own, and what it cuts off is tested in the order in which it stands.
 fn answer_rows(out: &mut impl Write, call: &[u8], work: &mut [u8]) -> io::Result<bool> {
-    if call.len() < 8 {
+    if call.len() < HEAD_SIZE {
         return Ok(false);
     }
-    let start = 8 + u32::read(call, 0) as usize;
+    let start = HEAD_SIZE + u32::read(call, 0) as usize;
     let end = start + u32::read(call, 4) as usize;
     if call.len() < end {
         return Ok(false);
     }
-    collect_rows(out, &call[8..start], &call[start..end], &call[end..], work)
+    collect_rows(
+        out,
+        &call[HEAD_SIZE..start],
+        &call[start..end],
+        &call[end..],
+        work,
+    )
 }
 
 fn collect_rows(
@@ -141,7 +153,7 @@ fn answer(out: &mut impl Write, kind: u8, call: &[u8], work: &mut [u8]) -> io::R
     }
 }
 
-// Answers the next call; false where that can't be done, with a message.
+// Answers the next call, which begins with its kind; false where that can't be done, with a message.
 fn next_answer(
     input: &mut impl Read,
     out: &mut impl Write,
@@ -149,18 +161,17 @@ fn next_answer(
     work: &mut [u8],
 ) -> io::Result<bool> {
     let kind = next_u8(input)?;
-    let Some(call) = next_call(input, out, buffer)? else {
-        return Ok(false);
-    };
-    if !answer(out, kind, call, work)? {
-        writeln!(out, "no such call")?;
-        return Ok(false);
+    let answered = answer_next(input, out, buffer, |out, call| {
+        answer(out, kind, call, work)
+    })?;
+    if answered {
+        writeln!(out)?;
     }
-    writeln!(out)?;
-    Ok(true)
+    Ok(answered)
 }
 
-pub fn main(rt: HostRuntime) -> io::Result<()> {
+// Stays a `main` of its own: what it lends are arrays of its own sizes.
+fn main(rt: HostRuntime) -> io::Result<()> {
     let mut buffer = [0u8; CALL_LIMIT];
     let mut work = [0u8; WORK_SIZE];
     let mut out = io::writer(&rt);

@@ -5,32 +5,6 @@ ghost use Rattle.rows.specs.Sizes.{entry_size};
 use rows::line::ENTRY_SIZE;
 use std::io::{self, Write};
 use tlv::bytes::Number;
-use tlv::refusal::Refusal;
-
-pub fn write_refused(out: &mut impl Write, refusal: Refusal) -> io::Result<()> {
-    let number = refusal.number();
-    write!(out, "refused {number}")
-}
-
-// Whether a byte of a path is written as it is.
-fn is_plain(b: u8) -> bool {
-    b.is_ascii_graphic() && b != b'\\' && b != b'|'
-}
-
-fn write_byte(out: &mut impl Write, b: u8) -> io::Result<()> {
-    if is_plain(b) {
-        out.write_all(&[b])
-    } else {
-        write!(out, "\\{b:02x}")
-    }
-}
-
-pub fn write_path(out: &mut impl Write, path: &[u8]) -> io::Result<()> {
-    for &b in path {
-        write_byte(out, b)?;
-    }
-    Ok(())
-}
 
 // The numbers of a table, eight bytes each.
 pub fn write_offsets(out: &mut impl Write, table: &[u8]) -> io::Result<()> {

@@ -1,8 +1,9 @@
 // Calls of operands, line programs and paths; false where the call is cut off or has no room.
-use crate::output::{write_offsets, write_path, write_refused};
+use crate::output::write_offsets;
 use line_program::lines::{OFFSET_RECORD, SEQUENCE_LEAST, scan_line_sequence_offsets};
 use line_program::operand::{Operand, read_line_uleb};
 use std::io::{self, Write};
+use streams::{write_name, write_refused};
 use tlv::bytes::Number;
 
 // A place (8 bytes), then the program.
@@ -60,9 +61,9 @@ fn scan(
 // The path.
 pub fn answer_path(out: &mut impl Write, path: &[u8]) -> io::Result<()> {
     write!(out, "path ")?;
-    write_path(out, paths::path::directory_of(path))?;
+    write_name(out, paths::path::directory_of(path))?;
     write!(out, "|")?;
-    write_path(out, paths::path::basename_of(path))?;
+    write_name(out, paths::path::basename_of(path))?;
     if paths::path::is_absolute_path(path) {
         write!(out, "|1")
     } else {
@@ -71,6 +72,7 @@ pub fn answer_path(out: &mut impl Write, path: &[u8]) -> io::Result<()> {
 }
 
 // The length of the first component (2 bytes), the first, the second.
+// Stays apart from the other calls: each has a head of its own.
 pub fn answer_join(out: &mut impl Write, call: &[u8], work: &mut [u8]) -> io::Result<bool> {
     if call.len() < 2 {
         return Ok(false);
@@ -98,6 +100,6 @@ fn join(out: &mut impl Write, first: &[u8], second: &[u8], work: &mut [u8]) -> i
         return Ok(false);
     }
     write!(out, "joined ")?;
-    write_path(out, &work[..m])?;
+    write_name(out, &work[..m])?;
     Ok(true)
 }

@@ -1,4 +1,4 @@
--- Rows at the front of a table that lie below a range, counted one after another; the room of a range's own rows.
+-- Rows at the front of a table that lie below a range, counted one after another.
 use mathlib.Core.Path.{◌≡◌, ap}
 use mathlib.Core.List.{List, [], ◌∷◌}
 use Prim.Native.Nat.{ℕ, zero, suc, ◌+◌, ◌*◌, ◌≤◌, ◌<◌}
@@ -9,13 +9,11 @@ use Rattle.tlv.specs.declared.model.AddressRange.{AddressRange}
 use Rattle.tlv.proofs.TestLaws.{by_less}
 use Rattle.buffers.proofs.RecordLaws.{records-length, records-at}
 use Rattle.lines.specs.Lines.{SequencedLine}
-use Rattle.std.specs.Prelude.{Option}
 use Rattle.rows.specs.declared.unit_lines.StoredLines.{StoredLines}
-use Rattle.rows.specs.declared.unit_lines.OwnRows.{OwnRows}
-use Rattle.rows.specs.Sizes.{entry_size, line_size}
+use Rattle.rows.specs.Sizes.{line_size}
 use Rattle.rows.specs.Stored.{line_of, line_at, lines_of}
 use Rattle.rows.specs.Sorts.{leading}
-use Rattle.rows.specs.Selects.{RowsBelow, Owned}
+use Rattle.rows.specs.Selects.{RowsBelow}
 
 leading-more : (a : ℕ) (d : SequencedLine) (xs : List SequencedLine) (i : ℕ)
     → i ≤ leading a xs → i < length xs → (get_or xs i d).entry.address < a → suc i ≤ leading a xs
@@ -45,8 +43,3 @@ one_more {w} {l} {range} {i} v B h e s t =
       start = omega (arith, row_more w l.lines l.line_count i range.start v h e s B.start);
       end = omega (arith, row_more w l.lines l.line_count i range.end v h e t B.end);
     }
-
--- the rows that were copied lie in the slice
-pub own_room : {w w' : List ℕ} {l : StoredLines} {range : AddressRange} {asked : Option ℕ} {to : ℕ} {r : OwnRows} → Owned w w' l range asked to r
-    → to + l.line_count * entry_size ≤ length w → length w' ≡ length w → to + r.count * entry_size ≤ length w'
-own_room O h e = omega (arith, O.within)
