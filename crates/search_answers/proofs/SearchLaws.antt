@@ -1,5 +1,5 @@
 -- What the searches of two sheets need has room and stands in the work slice, and a search leaves it there.
-use mathlib.Core.Path.{◌≡◌, ◌∙◌}
+use mathlib.Core.Path.{◌≡◌, refl, ◌∙◌}
 use mathlib.Core.Logic.{inl, inr}
 use mathlib.Core.Bool.{Bool, true}
 use mathlib.Core.List.{List}
@@ -19,13 +19,14 @@ use Rattle.access.specs.Units.{unit_of24, IndexedUnits}
 use Rattle.access.proofs.IndexLaws.{index-length}
 use Rattle.access.proofs.UnitsOrder.{unit_places-length}
 use Rattle.files.specs.Store.{FilesIn, Empty}
+use Rattle.files.specs.declared.sheets.Sheets.{Sheets}
 use Rattle.files.specs.declared.store.StoredFiles.{StoredFiles}
 use Rattle.files.proofs.FewLaws.{tags-few, possible-few, directories-few, files-few_in}
 use Rattle.files.specs.Interns.{map_extent}
 use Rattle.references.specs.declared.tables.Index.{Index}
-use Rattle.references.specs.declared.tables.Target.{Target}
+use Rattle.references.specs.declared.trails.Trail.{Trail}
 use Rattle.references.specs.Search.{Declaring}
-use Rattle.references.specs.Tables.{IndexIn, EntryKnown, Leads}
+use Rattle.references.specs.Tables.{IndexIn}
 use Rattle.references.specs.Names.{Resolved}
 use Rattle.references.proofs.KeyLaws.{keys-in_none}
 use Rattle.references.proofs.FollowLaws.{index_kept, index-clear}
@@ -35,7 +36,7 @@ use Rattle.std.specs.Prelude.{Result}
 use Rattle.tlv.specs.declared.refusal.Refusal.{Refusal}
 use Rattle.declarations.specs.declared.declaring.Declared.{Declared}
 use Rattle.declarations.specs.Declarations.{DeclaringIn, Declares, searched}
-use Rattle.search_answers.specs.Searches.{Room, HasRoom, IndexedSheet, SearchesIn}
+use Rattle.search_answers.specs.Searches.{Room, HasRoom, IndexedSheet, SearchesIn, BuildsTables}
 
 pub room-yes : {main supplementary n m work : ℕ} {r : Bool} → HasRoom main supplementary n m work r → r ≡ true → Room main supplementary n m work
 room-yes {main} {supplementary} {n} {m} {work} {r} H e = let Y : HasRoom main supplementary n m work true = rw e at H in Y.is
@@ -78,39 +79,46 @@ map-fits : (s : List ℕ) (n k : ℕ) → Accepts s n → n ≤ k → (q : ℕ) 
 map-fits s n k e few q any = omega (arith, directories-few s q any, files-few_in s q any, tags-few s n e)
 
 -- one sheet's behind the other's, and the followed targets behind them
-pub tables-built : {s t w w₁ w₂ : List ℕ} {n m : ℕ} {a b : Index} → Accepts s n → Accepts t m → Room (length s) (length t) n m (length w)
-    → IndexedSheet s w w₁ ((n + m) * 45 + (joined_limit + 45) + ((n + m) * 8 + 5)) n a → IndexedSheet t w₁ w₂ ((n + m) * 45 + (joined_limit + 45) + ((n + m) * 8 + 5) + n * 40) m b
-    → SearchesIn s t w₂
+pub tables-built : (sheets : Sheets) {w w₁ w₂ : List ℕ} {n m : ℕ} {a b : Index} → Accepts sheets.main.now n → Accepts sheets.supplementary.now m
+    → Room (length sheets.main.now) (length sheets.supplementary.now) n m (length w)
+    → IndexedSheet sheets.main.now w w₁ ((n + m) * 45 + (joined_limit + 45) + ((n + m) * 8 + 5)) n a
+    → IndexedSheet sheets.supplementary.now w₁ w₂ ((n + m) * 45 + (joined_limit + 45) + ((n + m) * 8 + 5) + n * 40) m b
+    → BuildsTables sheets w₂ (n + m + 1)
     (record {
-      tables = record { main = a; supplementary = b; keys = (n + m) * 45 + (joined_limit + 45) + ((n + m) * 8 + 5) + n * 40 + m * 40 };
+      tables = record { sheets = sheets; main = a; supplementary = b; keys = (n + m) * 45 + (joined_limit + 45) + ((n + m) * 8 + 5) + n * 40 + m * 40 };
       indices = record { base = (n + m) * 45 + (joined_limit + 45); count = 0 };
       spans = (n + m) * 45 + (joined_limit + 45);
       room = (n + m) * 8 + 5;
     })
-    (n + m + 1)
-tables-built {s} {t} {n = n} {m = m} e d R A B = record {
-  search-tables = record {
-    main-index = index_kept A.index B.rest (omega (arith, A.units-below)) (omega (arith, A.entries_within)) B.size;
-    supplementary-index = B.index;
-    keys = keys-in_none (omega (arith, R.within, A.size, B.size, A.few, B.few, keys-few s t, tags-few s n e, tags-few t m d));
-    main-units = omega (arith, A.units-below);
-    main-entries = omega (arith, A.entries_within);
-    supplementary-units = B.units-below;
-    supplementary-entries = B.entries_within;
-  };
-  few = omega (arith, possible-few s t, tags-few s n e, tags-few t m d);
-  small = omega (arith, R.main-few, R.supplementary-few);
-  main-small = R.main-small;
-  supplementary-small = R.supplementary-small;
-  table = omega arith;
-  indices = omega arith;
-  main-units = A.units-above;
-  main-entries = A.entries-above;
-  supplementary-units = omega (arith, B.units-above);
-  supplementary-entries = omega (arith, B.entries-above);
-  room-main = map-fits s n (n + m) e (omega arith);
-  room-supplementary = map-fits t m (n + m) d (omega arith);
-}
+tables-built sheets {n = n} {m = m} e d R A B =
+    let s = sheets.main.now in
+    let t = sheets.supplementary.now in
+    record {
+      of-sheets = refl;
+      here = record {
+        search-tables = record {
+          main-index = index_kept A.index B.rest (omega (arith, A.units-below)) (omega (arith, A.entries_within)) B.size;
+          supplementary-index = B.index;
+          keys = keys-in_none (omega (arith, R.within, A.size, B.size, A.few, B.few, keys-few s t, tags-few s n e, tags-few t m d));
+          main-units = omega (arith, A.units-below);
+          main-entries = omega (arith, A.entries_within);
+          supplementary-units = B.units-below;
+          supplementary-entries = B.entries_within;
+        };
+        few = omega (arith, possible-few s t, tags-few s n e, tags-few t m d);
+        small = omega (arith, R.main-few, R.supplementary-few);
+        main-small = R.main-small;
+        supplementary-small = R.supplementary-small;
+        table = omega arith;
+        indices = omega arith;
+        main-units = A.units-above;
+        main-entries = A.entries-above;
+        supplementary-units = omega (arith, B.units-above);
+        supplementary-entries = omega (arith, B.entries-above);
+        room-main = map-fits s n (n + m) e (omega arith);
+        room-supplementary = map-fits t m (n + m) d (omega arith);
+      };
+    }
 
 -- ---- a search
 
@@ -167,9 +175,9 @@ module _ {s t w : List ℕ} {d : Places} {files : ℕ} (S : SearchesIn s t w d f
         size
 
     -- such a search can start
-    declaring : FilesIn s t w table → DeclaringIn s t w d (record { count = 0; table = table; warned = 0 })
-    declaring F = record {
-      search-tables = S.search-tables;
+    declaring : {trail : Trail} → trail.count ≡ 0 → FilesIn s t w table → DeclaringIn s t w d (record { trail = trail; table = table; warned = 0 })
+    declaring z F = record {
+      search-tables = rw z S.search-tables;
       files = F;
       warned = omega arith;
       table = omega (arith, S.table);
@@ -188,14 +196,9 @@ module _ {s t w w₁ : List ℕ} {d : Places} {files : ℕ} {table : StoredFiles
   emptied : SearchesIn s t w₁ d files
   emptied = searched-still S table E.base-is E.room-is (but_of E.rest (here (omega (arith, E.base-is)) (omega (arith, E.base-is)))) size
 
-  pub declaring_in : DeclaringIn s t w₁ d (record { count = 0; table = table; warned = 0 })
-  declaring_in = declaring emptied table E.base-is E.room-is E.holds
+  pub declaring_in : {trail : Trail} → trail.count ≡ 0 → DeclaringIn s t w₁ d (record { trail = trail; table = table; warned = 0 })
+  declaring_in z = declaring emptied table E.base-is E.room-is z E.holds
 
-  pub declared-still : {w₂ f f' u u' : List ℕ} {g : Declaring → Outcome Declaring} {r : Result Declared Refusal}
-      → Declares g s t w₁ w₂ f f' u u' d (record { count = 0; table = table; warned = 0 }) r → length w₂ ≡ length w₁ → SearchesIn s t w₂ d files
+  pub declared-still : {w₂ f f' u u' : List ℕ} {g : Declaring → Outcome Declaring} {trail : Trail} {r : Result Declared Refusal}
+      → Declares g s t w₁ w₂ f f' u u' d (record { trail = trail; table = table; warned = 0 }) r → length w₂ ≡ length w₁ → SearchesIn s t w₂ d files
   declared-still D same = searched-still emptied table E.base-is E.room-is D.rest same
-
--- ---- the start of a search
-
-pub leads-known : {s : List ℕ} {o p q : ℕ} {r : Target} → Leads s o r → r ≡ Target.At p q → EntryKnown s q p
-leads-known {s} {o} {p} {q} {r} L e = let M : Leads s o (Target.At p q) = rw e at L in M.is.2

@@ -6,6 +6,7 @@ use Rattle.access.specs.Places.{UnitOf}
 use Rattle.access.specs.Units.{unit_record}
 use Rattle.access.specs.Index.{entry_record}
 use Rattle.files.specs.Possible.{possible_files}
+use Rattle.files.specs.declared.sheets.Sheets.{Sheets}
 use Rattle.files.specs.Store.{file_record}
 use Rattle.files.specs.Indices.{index_record}
 use Rattle.files.specs.Interns.{map_extent}
@@ -13,7 +14,7 @@ use Rattle.references.specs.declared.tables.Index.{Index}
 use Rattle.references.specs.Tables.{IndexIn}
 use Rattle.references.specs.Names.{SearchIn}
 use Rattle.declarations.specs.declared.declaring.Places.{Places}
-use Rattle.search_answers.specs.declared.searches.Sheets.{Sheets}
+use Rattle.search_answers.specs.declared.searches.Searches.{Searches}
 
 -- sheets of so many bytes, of n and m fields: their files, their tables and the followed targets have room
 pub record Room (main supplementary n m work : ℕ) : Type 0 where
@@ -57,6 +58,12 @@ pub record SearchesIn (main supplementary w : List ℕ) (d : Places) (files : �
   pub room-main : (q : ℕ) → UnitOf main q → map_extent main q ≤ d.room
   pub room-supplementary : (q : ℕ) → UnitOf supplementary q → map_extent supplementary q ≤ d.room
 
+-- they were written, with the sheets that they are of
+pub record BuildsTables (sheets : Sheets) (w : List ℕ) (files : ℕ) (d : Places) : Type 0 where
+  pub of-sheets : d.tables.sheets ≡ sheets
+  pub here : SearchesIn d.tables.sheets.main.now d.tables.sheets.supplementary.now w d files
+
 -- what the searches of these sheets need stands ready in w
-abbrev pub Ready : Sheets → List ℕ → Type 0
-Ready s w = SearchesIn s.main.now s.supplementary.now w s.places s.files
+-- Stays a clause: it speaks of the work slice, which each search writes to.
+abbrev pub Ready : Searches → List ℕ → Type 0
+Ready s w = SearchesIn s.places.tables.sheets.main.now s.places.tables.sheets.supplementary.now w s.places s.files

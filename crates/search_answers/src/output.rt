@@ -2,31 +2,11 @@
 use declarations::declaration_lines::SearchedLine;
 use references::names::Searched;
 use std::io::{self, Write};
+use streams::{write_name, write_refused};
 use tlv::refusal::Refusal;
 
 pub fn end_line(out: &mut impl Write) -> io::Result<()> {
     writeln!(out)
-}
-
-fn write_refused(out: &mut impl Write, refusal: Refusal) -> io::Result<()> {
-    let number = refusal.number();
-    write!(out, "refused {number}")
-}
-
-// Whether a byte of a name is written as it is.
-fn is_plain(b: u8) -> bool {
-    b.is_ascii_graphic() && b != b'\\' && b != b'|'
-}
-
-fn write_bytes(out: &mut impl Write, name: &[u8]) -> io::Result<()> {
-    for &b in name {
-        if is_plain(b) {
-            out.write_all(&[b])?;
-        } else {
-            write!(out, "\\{b:02x}")?;
-        }
-    }
-    Ok(())
 }
 
 // How many entries were read.
@@ -39,7 +19,7 @@ pub fn write_found(out: &mut impl Write, found: Searched<'_>) -> io::Result<()> 
     match found.name {
         Ok(name) => {
             write!(out, "name ")?;
-            write_bytes(out, name)?;
+            write_name(out, name)?;
         }
         Err(refusal) => {
             write_refused(out, refusal)?;

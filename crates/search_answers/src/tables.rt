@@ -1,13 +1,28 @@
 // The tables that the searches need.
 ghost use Rattle.std.specs.Prelude.{◌+◌, ◌*◌, ◌^◌, ◌≤◌, ◌<◌, length};
 ghost use Rattle.tlv.specs.Checked.{Accepts};
-ghost use Rattle.search_answers.specs.Searches.{Room, HasRoom, IndexedSheet, SearchesIn};
+ghost use Rattle.search_answers.specs.Searches.{Room, HasRoom, IndexedSheet, BuildsTables};
 
 use access::units::UNIT_RECORD;
 use declarations::declaring::Places;
-use files::index::StoredIndices;
+use files::index::{INDEX_RECORD, StoredIndices};
+use files::sheets::Sheets;
+use files::spans::SPAN_RECORD;
 use files::store::{FILE_RECORD, JOINED_LIMIT};
 use references::tables::{Index, Tables};
+
+// Sheets of so many bytes and fields, and none larger.
+const SHEET_LIMIT: usize = 4294967296;
+
+const FIELD_LIMIT: usize = 65536;
+
+// What the tables take of the work slice for a field of the main sheet, and for one of the supplementary sheet.
+const MAIN_FIELD: usize = 110;
+
+const SUPPLEMENTARY_FIELD: usize = 123;
+
+// A unit's record and an entry's.
+const FIELD_TABLES: usize = 40;
 
 // What the file table takes besides a record for each file: the longest joined path, and a record more.
 const TABLE_BESIDES: usize = JOINED_LIMIT + 45;
@@ -19,11 +34,11 @@ const ROOM_BESIDES: usize = JOINED_LIMIT + 54;
 pub fn has_room(main: usize, supplementary: usize, n: usize, m: usize, work: usize) -> bool
     ensures { HasRoom main supplementary n m work result }
 {
-    main < 4294967296
-        && supplementary < 4294967296
-        && n <= 65536
-        && m <= 65536
-        && n * 110 + m * 123 + ROOM_BESIDES <= work
+    main < SHEET_LIMIT
+        && supplementary < SHEET_LIMIT
+        && n <= FIELD_LIMIT
+        && m <= FIELD_LIMIT
+        && n * MAIN_FIELD + m * SUPPLEMENTARY_FIELD + ROOM_BESIDES <= work
 }
 
 // Writes the tables of a sheet of n fields, the entries behind the units.
@@ -46,29 +61,24 @@ fn index_sheet(s: &[u8], n: usize, work: &mut [u8], base: usize) -> Index
 
 // Writes the tables of both sheets, which have n and m fields. Below them is room for a file table of n + m + 1 files and for a unit's directories and map,
 // above them for the followed targets. No files of the unit where a search starts are known.
-pub fn build_tables(
-    main: &[u8],
-    supplementary: &[u8],
-    n: usize,
-    m: usize,
-    work: &mut [u8],
-) -> Places
-    requires accepts { Accepts main.now n }
-    requires accepts_2 { Accepts supplementary.now m }
-    requires room { Room (length main.now) (length supplementary.now) n m (length work.old) }
-    ensures { SearchesIn main.now supplementary.now work.new result (n + m + 1) }
+pub fn build_tables<'a>(sheets: Sheets<'a>, n: usize, m: usize, work: &mut [u8]) -> Places<'a>
+    requires accepts { Accepts sheets.main.now n }
+    requires accepts_2 { Accepts sheets.supplementary.now m }
+    requires room { Room (length sheets.main.now) (length sheets.supplementary.now) n m (length work.old) }
+    ensures { BuildsTables sheets.entry work.new (n + m + 1) result }
 {
     let spans = (n + m) * FILE_RECORD + TABLE_BESIDES;
-    let room = (n + m) * 8 + 5;
+    let room = (n + m) * SPAN_RECORD + INDEX_RECORD;
     let base = spans + room;
-    let next = base + n * 40;
-    let keys = next + m * 40;
-    let first = index_sheet(main, n, work, base);
-    let second = index_sheet(supplementary, m, work, next);
+    let next = base + n * FIELD_TABLES;
+    let keys = next + m * FIELD_TABLES;
+    let main = index_sheet(sheets.main, n, work, base);
+    let supplementary = index_sheet(sheets.supplementary, m, work, next);
     Places {
         tables: Tables {
-            main: first,
-            supplementary: second,
+            sheets,
+            main,
+            supplementary,
             keys,
         },
         indices: StoredIndices {
