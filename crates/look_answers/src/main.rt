@@ -8,25 +8,37 @@ use lookup::below::nearest_below;
 use lookup::model::Chain;
 use lookup::window::{functions_crossing, functions_inside};
 use std::io::{self, Read, Write};
-use streams::{answer_all, next_call};
+use streams::{answer_all, answer_next, write_refused};
 use tlv::bytes::Number;
 use tlv::refusal::Refusal;
 
 // The byte that a list is filled with before it is lent.
 const FILLED: u8 = 0xa5;
 
-// A query: its kind, an address or a window's start, the window's end, the length of the list that is lent.
-const QUERY_SIZE: usize = 19;
+// A query: its kind (1 byte), an address or a window's start (8), the window's end (8), the length of the list that is lent (2).
+const FIRST: usize = 1;
+
+const SECOND: usize = FIRST + 8;
+
+const ROOM: usize = SECOND + 8;
+
+const QUERY_SIZE: usize = ROOM + 2;
+
+// Its kinds; any other asks for the functions that cross the window's edge.
+const ADDRESS_QUERY: u8 = 1;
+
+const NEAREST_QUERY: u8 = 2;
+
+const INSIDE_QUERY: u8 = 3;
+
+// The length of the tray, which a call begins with.
+const HEAD_SIZE: usize = 4;
 
 // The longest call.
 const CALL_LIMIT: usize = 65536;
 
 // The longest list that is lent.
 const LIST_LIMIT: usize = 4096;
-
-fn write_refused(out: &mut impl Write, e: Refusal) -> io::Result<()> {
-    write!(out, "refused {}", e.number())
-}
 
 fn write_row(out: &mut impl Write, row: Option<usize>) -> io::Result<()> {
     match row {
@@ -98,15 +110,15 @@ fn answer_window<F: FnOnce(&mut [u8]) -> Result<usize, Refusal>>(
 }
 
 fn answer_query(out: &mut impl Write, tray: &[u8], query: &[u8], list: &mut [u8]) -> io::Result<()>
-    requires { 19 ≤ length query.now }
+    requires { QUERY_SIZE ≤ length query.now }
 {
-    let first = u64::read(query, 1);
-    let second = u64::read(query, 9);
-    let room = u16::read(query, 17) as usize;
+    let first = u64::read(query, FIRST);
+    let second = u64::read(query, SECOND);
+    let room = u16::read(query, ROOM) as usize;
     match query[0] {
-        1 => answer_address(out, tray, first),
-        2 => answer_nearest(out, tray, first),
-        3 => answer_window(out, list, room, |lent| {
+        ADDRESS_QUERY => answer_address(out, tray, first),
+        NEAREST_QUERY => answer_nearest(out, tray, first),
+        INSIDE_QUERY => answer_window(out, list, room, |lent| {
             functions_inside(tray, first, second, lent)
         }),
         _ => answer_window(out, list, room, |lent| {
@@ -129,15 +141,16 @@ fn answer_queries(
 }
 
 // The length of the tray (4 bytes), the tray, the queries; false where the call is cut off.
+// Stays apart from the calls of the other programs: each has a head of its own.
 fn answer(out: &mut impl Write, call: &[u8], list: &mut [u8]) -> io::Result<bool> {
-    if call.len() < 4 {
+    if call.len() < HEAD_SIZE {
         return Ok(false);
     }
-    let end = 4 + u32::read(call, 0) as usize;
+    let end = HEAD_SIZE + u32::read(call, 0) as usize;
     if call.len() < end {
         return Ok(false);
     }
-    answer_queries(out, &call[4..end], &call[end..], list)?;
+    answer_queries(out, &call[HEAD_SIZE..end], &call[end..], list)?;
     Ok(true)
 }
 
@@ -148,16 +161,10 @@ fn next_answer(
     buffer: &mut [u8],
     list: &mut [u8],
 ) -> io::Result<bool> {
-    let Some(call) = next_call(input, out, buffer)? else {
-        return Ok(false);
-    };
-    if !answer(out, call, list)? {
-        writeln!(out, "no such call")?;
-        return Ok(false);
-    }
-    Ok(true)
+    answer_next(input, out, buffer, |out, call| answer(out, call, list))
 }
 
+// Stays a `main` of its own: what it lends are arrays of its own sizes.
 fn main(rt: HostRuntime) -> io::Result<()> {
     let mut buffer = [0u8; CALL_LIMIT];
     let mut list = [0u8; LIST_LIMIT];
