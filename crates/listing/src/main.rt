@@ -45,6 +45,9 @@ fn write_text(out: &mut impl Write, s: &[u8]) -> io::Result<()> {
     out.write_all(s)
 }
 
+// The lines of a listing.
+// Stays a function for each: a field's parts have their own widths and bases, and each line its own order of them.
+
 // 41: start, end, name.
 fn write_function(out: &mut impl Write, p: &[u8]) -> io::Result<()> {
     if p.len() < 16 {
@@ -67,6 +70,7 @@ fn write_row(out: &mut impl Write, p: &[u8]) -> io::Result<()> {
 }
 
 // 43: depth, call file, call line, name.
+// Stays a function of its own, as said above.
 fn write_inline(out: &mut impl Write, p: &[u8]) -> io::Result<()> {
     if p.len() < 10 {
         return Ok(());
