@@ -5,9 +5,16 @@ use streams::read_full;
 use subprograms::model::ConversionStats;
 use tlv::bytes::Number;
 
+// What stands of a case before its inputs, of an answer before its outputs, and of the list section and the address table before their bytes.
+pub const CASE_HEAD: usize = 45;
+
+pub const ANSWER_HEAD: usize = 57;
+
+const SECTIONS_HEAD: usize = 8;
+
 // What a case asks besides its inputs' bytes: all units or that of the ordinal; the lengths are those of the inputs, of work and of the output buffers.
 // The lengths of the list section and the address table stand behind the other inputs, where `sections` says that the case has them; else both are 0.
-#[derive(Clone, Copy)]
+#[derive(Clone, Copy, Debug)]
 pub struct Case {
     pub main: u32,
     pub supplementary: u32,
@@ -28,7 +35,7 @@ pub struct Case {
 
 // A recorded answer, without the bytes that follow it; the refusal's number is 0 for none.
 // Stays a number: it is a byte of the file of answers, and may be any.
-#[derive(Clone, Copy)]
+#[derive(Clone, Copy, Debug)]
 pub struct Answer {
     pub refusal: u8,
     pub records: usize,
@@ -37,7 +44,7 @@ pub struct Answer {
     pub stats: ConversionStats,
 }
 
-pub fn case_of(head: &[u8; 45]) -> Case {
+pub fn case_of(head: &[u8; CASE_HEAD]) -> Case {
     let switches = u8::read(head, 20);
     Case {
         main: u32::read(head, 0),
@@ -58,8 +65,9 @@ pub fn case_of(head: &[u8; 45]) -> Case {
     }
 }
 
-pub fn answer_of(head: &[u8; 57]) -> Answer {
+pub fn answer_of(head: &[u8; ANSWER_HEAD]) -> Answer {
     Answer {
+        // Stays a number: it is a byte of the file of answers, and may be any.
         refusal: u8::read(head, 0),
         records: u64::read(head, 1) as usize,
         files: u64::read(head, 9) as usize,
@@ -93,8 +101,8 @@ fn read_sections(
     inputs: &mut [u8],
     at: usize,
 ) -> io::Result<Option<Case>> {
-    let mut head = [0u8; 8];
-    if read_full(cases, &mut head)? < 8 {
+    let mut head = [0u8; SECTIONS_HEAD];
+    if read_full(cases, &mut head)? < SECTIONS_HEAD {
         return Ok(None);
     }
     let with = Case {

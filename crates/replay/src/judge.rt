@@ -1,6 +1,6 @@
 // Holds what a pass or an import gave to a recorded answer.
 use crate::cases::Answer;
-use crate::runs::Lent;
+use crate::runs::Buffers;
 use dwarf::model::Imported;
 use std::fmt;
 use std::io::{self, Read};
@@ -11,7 +11,8 @@ use tlv::refusal::Refusal;
 pub const FILLED: u8 = 0xa5;
 
 // In what a case differs from its recorded answer.
-#[derive(Clone, Copy)]
+// Stays an enum: each case of it is a difference of its own, which is told by name.
+#[derive(Clone, Copy, Debug)]
 pub enum Difference {
     Refusal,
     Lengths,
@@ -40,6 +41,7 @@ impl fmt::Display for Difference {
     }
 }
 
+// Stays a function: std's `all` under a name, which five places use.
 fn holds_only(buffer: &[u8], b: u8) -> bool {
     buffer.iter().all(|&x| x == b)
 }
@@ -74,7 +76,7 @@ fn judge_buffers(
     answers: &mut impl Read,
     a: Answer,
     expected: &mut [u8],
-    t: &Lent,
+    t: &Buffers,
 ) -> io::Result<Option<Difference>> {
     if let Some(what) = judge_buffer(answers, expected, t.records, a.records)? {
         return Ok(Some(what));
@@ -90,7 +92,7 @@ fn judge_finished(
     a: Answer,
     r: Imported,
     expected: &mut [u8],
-    t: &Lent,
+    t: &Buffers,
 ) -> io::Result<Option<Difference>> {
     if a.refusal != 0 {
         return Ok(Some(Difference::Refusal));
@@ -104,7 +106,7 @@ fn judge_finished(
     judge_buffers(answers, a, expected, t)
 }
 
-fn judge_refused(a: Answer, n: u8, t: &Lent) -> Option<Difference> {
+fn judge_refused(a: Answer, n: u8, t: &Buffers) -> Option<Difference> {
     if a.refusal != n {
         return Some(Difference::Refusal);
     }
@@ -120,7 +122,7 @@ pub fn judge(
     a: Answer,
     r: Result<Imported, Refusal>,
     expected: &mut [u8],
-    t: &Lent,
+    t: &Buffers,
 ) -> io::Result<Option<Difference>> {
     if !holds_only(t.work, 0) {
         return Ok(Some(Difference::Work));
@@ -136,19 +138,22 @@ fn are_lengths(a: Answer, said: Imported, lent: [usize; 3]) -> bool {
     if a.refusal == 0 {
         return said.records == a.records && said.files == a.files && said.warnings == a.warnings;
     }
-    if a.refusal == 16 {
-        return said.records > lent[0];
+    let [records, files, warnings] = lent;
+    if records < said.records {
+        return a.refusal == Refusal::ShortRecords.number();
     }
-    if said.records > lent[0] {
-        return false;
+    if files < said.files {
+        return a.refusal == Refusal::ShortFiles.number();
     }
-    if a.refusal == 17 {
-        return said.files > lent[1];
-    }
-    if said.files > lent[1] {
-        return false;
-    }
-    a.refusal == 18 && said.warnings > lent[2]
+    warnings < said.warnings && a.refusal == Refusal::ShortWarnings.number()
+}
+
+// Whether it is the refusal of an output buffer's length.
+fn is_short(refusal: Refusal) -> bool {
+    matches!(
+        refusal,
+        Refusal::ShortRecords | Refusal::ShortFiles | Refusal::ShortWarnings
+    )
 }
 
 // Whether the pass says what is recorded, of an import into buffers of these lengths: the refusal where it is no buffer's, else the lengths and statistics.
@@ -157,7 +162,7 @@ pub fn judge_pass(a: Answer, r: Result<Imported, Refusal>, work: &[u8], lent: [u
         return false;
     }
     match r {
-        Err(refusal) => a.refusal == refusal.number() && !(16..=18).contains(&a.refusal),
+        Err(refusal) => a.refusal == refusal.number() && !is_short(refusal),
         Ok(said) => (a.refusal != 0 || said.stats == a.stats) && are_lengths(a, said, lent),
     }
 }

@@ -5,9 +5,9 @@
 
 ghost use Rattle.std.specs.Prelude.{◌≡◌, length};
 
-use cases::{Answer, Case, answer_of, case_of, read_inputs};
+use cases::{ANSWER_HEAD, Answer, CASE_HEAD, Case, answer_of, case_of, read_inputs};
 use judge::Difference;
-use runs::{Lent, run_case};
+use runs::{Buffers, run_case};
 use std::fs;
 use std::io::{self, Read, Write};
 use std::rt::Files;
@@ -26,7 +26,7 @@ const WORK_SIZE: usize = 98304;
 // The most cases of a file.
 const CASE_LIMIT: u64 = 1000000;
 
-// What comes next in a file of cases: a case with its answer, the end, or one that is cut off or too large.
+// What comes next in a file of cases: a case with its answer, the end, or one that is cut off or has no room.
 // Stays an enum: the end and a file that is cut off are told apart.
 enum Next {
     Case(Case, Answer),
@@ -40,20 +40,17 @@ fn next_case(
     answers: &mut impl Read,
     inputs: &mut [u8],
 ) -> io::Result<Next> {
-    let mut head = [0u8; 45];
-    if read_full(cases, &mut head)? < 45 {
+    let mut head = [0u8; CASE_HEAD];
+    if read_full(cases, &mut head)? < CASE_HEAD {
         return Ok(Next::End);
     }
-    let mut answer = [0u8; 57];
-    if read_full(answers, &mut answer)? < 57 {
+    let mut answer = [0u8; ANSWER_HEAD];
+    if read_full(answers, &mut answer)? < ANSWER_HEAD {
         return Ok(Next::Cut);
     }
     let Some(c) = read_inputs(cases, case_of(&head), inputs)? else {
         return Ok(Next::Cut);
     };
-    if WORK_SIZE < c.work {
-        return Ok(Next::Cut);
-    }
     Ok(Next::Case(c, answer_of(&answer)))
 }
 
@@ -86,8 +83,11 @@ fn replay_cases(
             Next::End => return writeln!(out, " {number} cases, all as recorded"),
             Next::Cut => return write_difference(out, number, Difference::Cut),
         };
-        let mut t = Lent {
-            work: &mut work[..c.work.min(WORK_SIZE)],
+        if WORK_SIZE < c.work {
+            return write_difference(out, number, Difference::Cut);
+        }
+        let mut t = Buffers {
+            work: &mut work[..c.work],
             records: &mut records[..c.records.min(LARGE)],
             files: &mut files[..c.files.min(LARGE)],
             warnings: &mut warnings[..c.warnings.min(LARGE)],

@@ -1,23 +1,14 @@
 // Runs a case: the pass that writes no buffer, then the import.
 use crate::cases::{Answer, Case};
 use crate::judge::{Difference, FILLED, judge, judge_pass};
+use dwarf::lent::Inputs;
 use dwarf::model::Imported;
 use std::io::{self, Read};
 use tlv::refusal::Refusal;
 
-// What a case's import reads.
-#[derive(Clone, Copy)]
-pub struct Inputs<'a> {
-    pub main: &'a [u8],
-    pub supplementary: &'a [u8],
-    pub program: &'a [u8],
-    pub lists: &'a [u8],
-    pub addresses: &'a [u8],
-}
-
-// What it writes: work and the three output buffers.
+// What a case's import writes: work and the three output buffers.
 #[derive(Drop)]
-pub struct Lent<'a> {
+pub struct Buffers<'a> {
     pub work: &'a mut [u8],
     pub records: &'a mut [u8],
     pub files: &'a mut [u8],
@@ -25,15 +16,16 @@ pub struct Lent<'a> {
 }
 
 // The pass of a case, with work filled.
+// Stays beside import_case: the pass lends no output buffer.
 fn measure_case(c: Case, i: Inputs, work: &mut [u8]) -> Result<Imported, Refusal> {
     work.fill(FILLED);
     if c.all {
         return dwarf::import::measure_dwarf(
-            i.main,
-            i.supplementary,
+            i.sheets.main,
+            i.sheets.supplementary,
             i.program,
-            i.lists,
-            i.addresses,
+            i.lists.lists,
+            i.lists.addresses,
             c.inlines,
             c.call_sites,
             c.first_file,
@@ -41,11 +33,11 @@ fn measure_case(c: Case, i: Inputs, work: &mut [u8]) -> Result<Imported, Refusal
         );
     }
     dwarf::import::measure_unit(
-        i.main,
-        i.supplementary,
+        i.sheets.main,
+        i.sheets.supplementary,
         i.program,
-        i.lists,
-        i.addresses,
+        i.lists.lists,
+        i.lists.addresses,
         c.ordinal,
         c.inlines,
         c.call_sites,
@@ -55,18 +47,18 @@ fn measure_case(c: Case, i: Inputs, work: &mut [u8]) -> Result<Imported, Refusal
 }
 
 // The import of a case, with the buffers filled.
-fn import_case(c: Case, i: Inputs, t: &mut Lent) -> Result<Imported, Refusal> {
+fn import_case(c: Case, i: Inputs, t: &mut Buffers) -> Result<Imported, Refusal> {
     t.work.fill(FILLED);
     t.records.fill(FILLED);
     t.files.fill(FILLED);
     t.warnings.fill(FILLED);
     if c.all {
         return dwarf::import::import_dwarf(
-            i.main,
-            i.supplementary,
+            i.sheets.main,
+            i.sheets.supplementary,
             i.program,
-            i.lists,
-            i.addresses,
+            i.lists.lists,
+            i.lists.addresses,
             c.inlines,
             c.call_sites,
             c.first_file,
@@ -77,11 +69,11 @@ fn import_case(c: Case, i: Inputs, t: &mut Lent) -> Result<Imported, Refusal> {
         );
     }
     dwarf::import::import_unit(
-        i.main,
-        i.supplementary,
+        i.sheets.main,
+        i.sheets.supplementary,
         i.program,
-        i.lists,
-        i.addresses,
+        i.lists.lists,
+        i.lists.addresses,
         c.ordinal,
         c.inlines,
         c.call_sites,
@@ -100,7 +92,7 @@ fn run_both(
     a: Answer,
     i: Inputs,
     expected: &mut [u8],
-    t: &mut Lent,
+    t: &mut Buffers,
 ) -> io::Result<Option<Difference>> {
     let said = measure_case(c, i, t.work);
     let lengths = [t.records.len(), t.files.len(), t.warnings.len()];
@@ -118,7 +110,7 @@ pub fn run_case(
     a: Answer,
     inputs: &[u8],
     expected: &mut [u8],
-    t: &mut Lent,
+    t: &mut Buffers,
 ) -> io::Result<Option<Difference>> {
     let main = c.main as usize;
     let second = main + c.supplementary as usize;
@@ -128,12 +120,12 @@ pub fn run_case(
     if inputs.len() < end {
         return Ok(Some(Difference::Cut));
     }
-    let i = Inputs {
-        main: &inputs[..main],
-        supplementary: &inputs[main..second],
-        program: &inputs[second..third],
-        lists: &inputs[third..fourth],
-        addresses: &inputs[fourth..end],
-    };
+    let i = Inputs::new(
+        &inputs[..main],
+        &inputs[main..second],
+        &inputs[second..third],
+        &inputs[third..fourth],
+        &inputs[fourth..end],
+    );
     run_both(answers, c, a, i, expected, t)
 }
