@@ -6,6 +6,7 @@ tools/places.py KIND        the places of one kind, a line each
 """
 import difflib
 import glob
+import itertools
 import re
 import sys
 
@@ -58,7 +59,9 @@ def twins():
             if max(len(words), len(others)) <= 1.5 * min(len(words), len(others)):
                 match = difflib.SequenceMatcher(None, words, others, autojunk=False)
                 if 0.8 <= match.quick_ratio() and 0.8 <= match.ratio():
-                    yield file, number, f"{name} ~ {other_file.split('/')[1]}:{other} {other_name}"
+                    # Both are to say why they stay: where the other says nothing, it is the place.
+                    place = (file, number) if stays(other_file, other) else (other_file, other)
+                    yield *place, f"{name}, {file.split('/')[1]}:{number} ~ {other_name}, {other_file.split('/')[1]}:{other}"
 
 
 def loops(by_hand):
@@ -85,6 +88,84 @@ def parameters(least):
             yield file, number, f"{name}: {count}"
 
 
+def each_parameter(given):
+    """The parameters of a function, `name: type` each."""
+    out, depth, start = [], 0, 0
+    for at, mark in enumerate(given + ","):
+        depth += {"(": 1, "[": 1, "<": 1, ")": -1, "]": -1, ">": -1 if given[at - 1 : at] != "-" else 0}.get(mark, 0)
+        if mark == "," and depth == 0:
+            out.append(" ".join(given[start:at].split()))
+            start = at + 1
+    return [name for name in out if ":" in name]
+
+
+def groups():
+    """Three parameters that five functions or more of a crate have, the largest such group of the same functions, but for those of C."""
+    having = {}
+    for file, number, name, given, _ in functions():
+        crate = file.split("/")[1]
+        if not crate.startswith("pezgok"):
+            for three in itertools.combinations(sorted(set(each_parameter(given))), 3):
+                having.setdefault((crate, three), set()).add((file, number, name))
+    largest = {}
+    for (crate, three), users in having.items():
+        if 5 <= len(users):
+            largest.setdefault((crate, frozenset(users)), set()).update(three)
+    for (crate, users), names in sorted(largest.items(), key=lambda item: (item[0][0], -len(item[0][1]))):
+        file, number, _ = min(users)
+        yield file, number, f"{len(users)} functions of {crate}: " + ", ".join(sorted(names))
+
+
+def place_and_count():
+    """Functions that are told a table by a place and a count, a parameter each."""
+    for file, number, name, given, _ in functions():
+        names = [parameter.split(":")[0] for parameter in each_parameter(given) if parameter.endswith(": usize")]
+        for place, count in zip(names, names[1:]):
+            if re.fullmatch(r"p|q|at|to|base|from|offsets|start|stack|sites|units|entries|text", place) and re.fullmatch(r"n|m|k|count|rows|room|left|\w+_count", count):
+                yield file, number, f"{name}: {place}, {count}"
+
+
+def searches():
+    """`for` loops that end early with an answer: any, all, find or position by hand."""
+    for file, text in SOURCES.items():
+        rows = text.split("\n")
+        for number, row in enumerate(rows, 1):
+            found = re.match(r"( +)for\b", row)
+            if found:
+                end = next(k for k in range(number, len(rows)) if rows[k].startswith(found.group(1) + "}"))
+                if re.search(r"^ +return (true|false|None|Some\(|\w+;)", "\n".join(rows[number:end]), re.M):
+                    yield file, number, row.strip()
+
+
+def facts():
+    """Facts that the requires clauses of three functions or more ask for: those with a name, by their definition, and those with one text in a crate."""
+    asked, at = {}, {}
+    for file, text in SOURCES.items():
+        crate, homes, current = file.split("/")[1], {}, None
+        for home, names in re.findall(r"^ghost use Rattle\.(\w+\.specs\.[\w.]+)\.\{([^}]*)\}", text, re.M):
+            homes.update({name.strip(): home for name in names.split(",")})
+        for found in re.finditer(r"\bfn (\w+)|requires (?:\w+ )?\{((?:[^{}]|\{[^{}]*\})*)\}", text):
+            if found.group(1):
+                current = text[: found.start()].count("\n") + 1, found.group(1)
+                continue
+            clause = " ".join(found.group(2).split())
+            named = [name for name in re.findall(r"\b[A-Z]\w+\b", clause) if name in homes and homes[name] != "tlv.specs.Lists"]
+            for key in {(homes[name], name) for name in named} or ({(crate, clause)} if not re.search(r"\b[A-Z]\w+\b", clause) else set()):
+                asked.setdefault(key, set()).add((file, current[1]))
+                at.setdefault(key, []).append((file, current[0]))
+    for (home, fact), users in sorted(asked.items(), key=lambda item: -len(item[1])):
+        if len(users) < 3:
+            continue
+        if "." not in home:
+            yield *next((place for place in at[home, fact] if stays(*place)), at[home, fact][0]), f"{fact}: {len(users)}"
+            continue
+        crate, module = home.split(".specs.")
+        file = f"crates/{crate}/specs/{module.replace('.', '/')}.antt"
+        SOURCES.setdefault(file, open(file, encoding="utf8").read())
+        place = re.search(r"^ *(?:(?:abbrev|unfoldable|pub|record|data) )+" + fact + r"\b", SOURCES[file], re.M)
+        yield file, SOURCES[file][: place.start()].count("\n") + 1, f"{fact}: {len(users)}"
+
+
 KINDS = {
     "1-enums": enums,
     "1-numbers": lambda: lines(r"(Fault|Refused)\([0-9A-Z_]+\)"),
@@ -95,21 +176,25 @@ KINDS = {
     "2-twins": twins,
     "3-counting": lambda: loops(True),
     "3-others": lambda: loops(False),
+    "3-searches": searches,
     "4-derives": lambda: lines(r"derive\(Clone, Copy\)\]"),
     "4-fields": lambda: lines(r"^ +([a-z_0-9]+): \1,$"),
     "4-by-hand": lambda: lines(r"^ *(pub )?(pub\(crate\) )?fn " + BY_HAND + r"\b"),
     "4-largest": lambda: lines(r"18446744073709551615|4294967295"),
     "5-parameters": lambda: parameters(8),
+    "5-groups": groups,
+    "5-facts": facts,
     "6-start-and-length": lambda: lines(r"start: usize, (len|size): usize|^ +(len|size): usize,$"),
+    "6-place-and-count": place_and_count,
     "6-halving": lambda: lines(r"^ +while (lo|low|from) < (hi|high|to)\b"),
-    "7-switches": lambda: lines(r"match (source|opcode|kind|tag|wanted|rows|\w+\.source)\b"),
+    "7-switches": lambda: lines(r"match ([\w.]*\b(source|opcode|kind|tag|wanted|rows|previous|here)\b|query\[0\])"),
 }
 
 
 def stays(file, number):
     """A line beside the place, in it or up to five lines above, says why it stays."""
     rows = SOURCES[file].split("\n")[max(0, number - 6) : number]
-    return any("// Stays" in row for row in rows)
+    return any(re.search("(//|--) Stays", row) for row in rows)
 
 
 def main():
