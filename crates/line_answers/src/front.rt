@@ -1,11 +1,12 @@
 // Calls of a function's own rows, by the loop from the front of a table whose rows may stand in any order.
-ghost use Rattle.std.specs.Prelude.{◌+◌, ◌*◌, ◌≤◌, length};
+ghost use Rattle.std.specs.Prelude.{◌≡◌, true, ◌+◌, ◌*◌, ◌≤◌, length};
 ghost use Rattle.rows.specs.Sizes.{entry_size, line_size};
 ghost use Rattle.rows.specs.Selects.{RowsBelow};
 
 use rows::line::{ENTRY_SIZE, LINE_SIZE};
 use rows::unit_lines::StoredLines;
 use std::io::{self, Write};
+use streams::split_number;
 use tlv::bytes::Number;
 
 // A row in the table, and room for it among a function's rows.
@@ -33,19 +34,20 @@ fn store_rows(call: &[u8], count: usize, work: &mut [u8])
     }
 }
 
-// How many of the first `most` rows lie below a range, up to the first that does not.
-fn front_below(work: &[u8], l: StoredLines, range: tlv::model::AddressRange, most: usize) -> usize
+// Whether the first `most` rows lie below a range.
+fn lie_below(work: &[u8], l: StoredLines, range: tlv::model::AddressRange, most: usize) -> bool
     requires line_size_in_bounds { l.lines + l.line_count * line_size ≤ length work.now }
     requires most_bound { most ≤ l.line_count }
-    ensures { RowsBelow work.now l range result }
+    ensures { result ≡ true → RowsBelow work.now l range most }
 {
-    for i in 0..most {
-        let address = rows::line::address_at(work, l.lines + i * LINE_SIZE);
-        if range.start <= address || range.end <= address {
-            return i;
-        }
-    }
-    most
+    (0..most).all(
+        |i|
+            requires { l.lines + (i + 1) * line_size ≤ length work.now }
+        {
+            let address = rows::line::address_at(work, l.lines + i * LINE_SIZE);
+            address < range.start && address < range.end
+        },
+    )
 }
 
 // False where one of the rows at the front does not lie below the range.
@@ -65,14 +67,10 @@ fn answer_query(
     };
     let asked = rows::line::sequence_at(query, QUERY_SEQUENCE);
     let wanted = u32::read(query, QUERY_MOST) as usize;
-    if l.line_count < wanted {
+    if l.line_count < wanted || !lie_below(work, l, range, wanted) {
         return Ok(false);
     }
-    let below = front_below(work, l, range, wanted);
-    if below < wanted {
-        return Ok(false);
-    }
-    let own = rows::unit_lines::own_rows(work, l, range, asked, l.buffer, below);
+    let own = rows::unit_lines::own_rows(work, l, range, asked, l.buffer, wanted);
     let past = own.past;
     write!(out, "\nplace {past}")?;
     crate::write_rows(out, work, l.buffer, own.count)?;
@@ -98,18 +96,17 @@ fn answer_queries(
 
 // How many rows there are (4 bytes), the rows: address (8), file (4), line (4), whether a sequence is known (1), its offset (8); then the queries.
 pub fn answer_front(out: &mut impl Write, call: &[u8], work: &mut [u8]) -> io::Result<bool> {
-    if call.len() < 4 {
+    let Some((count, rest)) = split_number(call) else {
         return Ok(false);
-    }
-    let count = u32::read(call, 0) as usize;
-    let end = 4 + count * LINE_SIZE;
-    if call.len() < end {
+    };
+    let count = count as usize;
+    let Some((rows, queries)) = rest.split_at_checked(count * LINE_SIZE) else {
         return Ok(false);
-    }
+    };
     if work.len() / STORED < count {
         return Ok(false);
     }
-    store_rows(&call[4..end], count, work);
+    store_rows(rows, count, work);
     write!(out, "front {count}")?;
     let l = StoredLines {
         lines: 0,
@@ -118,5 +115,5 @@ pub fn answer_front(out: &mut impl Write, call: &[u8], work: &mut [u8]) -> io::R
         sequence_count: 0,
         buffer: count * LINE_SIZE,
     };
-    answer_queries(out, &call[end..], work, l)
+    answer_queries(out, queries, work, l)
 }

@@ -8,7 +8,7 @@ use crate::collected::collect_case;
 use crate::output::write_rows;
 use rows::unit_lines::StoredLines;
 use std::io::{self, Read, Write};
-use streams::{answer_all, answer_next, next_u8, write_name, write_refused};
+use streams::{answer_all, answer_next, next_u8, split_parts, write_name, write_refused};
 use tlv::bytes::Number;
 
 pub mod collected;
@@ -31,11 +31,7 @@ const QUERY_SEQUENCE: usize = QUERY_END + 8;
 
 const QUERY_SIZE: usize = QUERY_SEQUENCE + 9;
 
-// The lengths of the sheet and of the program, which a call of rows begins with.
-const HEAD_SIZE: usize = 8;
-
-// The answers follow, one function for each kind of call; false where the call is cut off or has no room.
-
+// The rows of a query's range.
 fn answer_query(
     out: &mut impl Write,
     query: &[u8],
@@ -91,23 +87,11 @@ fn write_collected(
 }
 
 // The lengths of the sheet and of the program (4 bytes each), the sheet, the program, the queries.
-// Stays apart from the other calls: each has a head of its own, and what it cuts off is tested in the order in which it stands.
 fn answer_rows(out: &mut impl Write, call: &[u8], work: &mut [u8]) -> io::Result<bool> {
-    if call.len() < HEAD_SIZE {
+    let Some((main, program, queries)) = split_parts(call) else {
         return Ok(false);
-    }
-    let start = HEAD_SIZE + u32::read(call, 0) as usize;
-    let end = start + u32::read(call, 4) as usize;
-    if call.len() < end {
-        return Ok(false);
-    }
-    collect_rows(
-        out,
-        &call[HEAD_SIZE..start],
-        &call[start..end],
-        &call[end..],
-        work,
-    )
+    };
+    collect_rows(out, main, program, queries, work)
 }
 
 fn collect_rows(
@@ -137,6 +121,7 @@ fn collect_rows(
     Ok(true)
 }
 
+// The answer to a call of a kind; false where there is no such kind, or the call is cut off or has no room.
 // Stays a match: the kind is a byte of the input, and each kind has its own layout.
 fn answer(out: &mut impl Write, kind: u8, call: &[u8], work: &mut [u8]) -> io::Result<bool> {
     match kind {

@@ -6,13 +6,15 @@ use std::io::{self, Write};
 use streams::{write_name, write_refused};
 use tlv::bytes::Number;
 
+// What stands of a line program's call before the lengths of its opcodes.
+const PROGRAM_HEAD: usize = 10;
+
 // A place (8 bytes), then the program.
 pub fn answer_operand(out: &mut impl Write, call: &[u8]) -> io::Result<bool> {
-    if call.len() < 8 {
+    let Some((place, program)) = call.split_first_chunk() else {
         return Ok(false);
-    }
-    let place = u64::read(call, 0) as usize;
-    match read_line_uleb(&call[8..], place) {
+    };
+    match read_line_uleb(program, u64::from_le_bytes(*place) as usize) {
         Ok(Operand { value, next }) => write!(out, "operand {value} {next}")?,
         Err(refusal) => write_refused(out, refusal)?,
     }
@@ -21,23 +23,13 @@ pub fn answer_operand(out: &mut impl Write, call: &[u8]) -> io::Result<bool> {
 
 // The opcode base (1 byte), how many opcode lengths there are (1), the program's offset (8), the lengths, the program.
 pub fn answer_program(out: &mut impl Write, call: &[u8], work: &mut [u8]) -> io::Result<bool> {
-    if call.len() < 10 {
+    let Some((head, rest)) = call.split_first_chunk::<PROGRAM_HEAD>() else {
         return Ok(false);
-    }
-    let opcode_base = call[0];
-    let start = 10 + u8::read(call, 1) as usize;
-    let offset = u64::read(call, 2);
-    if call.len() < start {
+    };
+    let Some((lengths, program)) = rest.split_at_checked(head[1] as usize) else {
         return Ok(false);
-    }
-    scan(
-        out,
-        &call[start..],
-        &call[10..start],
-        opcode_base,
-        offset,
-        work,
-    )
+    };
+    scan(out, program, lengths, head[0], u64::read(head, 2), work)
 }
 
 fn scan(
@@ -64,24 +56,19 @@ pub fn answer_path(out: &mut impl Write, path: &[u8]) -> io::Result<()> {
     write_name(out, paths::path::directory_of(path))?;
     write!(out, "|")?;
     write_name(out, paths::path::basename_of(path))?;
-    if paths::path::is_absolute_path(path) {
-        write!(out, "|1")
-    } else {
-        write!(out, "|0")
-    }
+    let absolute = u8::from(paths::path::is_absolute_path(path));
+    write!(out, "|{absolute}")
 }
 
 // The length of the first component (2 bytes), the first, the second.
-// Stays apart from the other calls: each has a head of its own.
 pub fn answer_join(out: &mut impl Write, call: &[u8], work: &mut [u8]) -> io::Result<bool> {
-    if call.len() < 2 {
+    let Some((size, rest)) = call.split_first_chunk() else {
         return Ok(false);
-    }
-    let start = 2 + u16::read(call, 0) as usize;
-    if call.len() < start {
+    };
+    let Some((first, second)) = rest.split_at_checked(u16::from_le_bytes(*size) as usize) else {
         return Ok(false);
-    }
-    join(out, &call[2..start], &call[start..], work)
+    };
+    join(out, first, second, work)
 }
 
 fn join(out: &mut impl Write, first: &[u8], second: &[u8], work: &mut [u8]) -> io::Result<bool> {

@@ -3,10 +3,11 @@
 
 ghost use Rattle.std.specs.Prelude.{◌≤◌, IfOk, length};
 
+use lookup::model::{FUNCTION_SIZE, NODE_SIZE, RANGE_SIZE, ROW_SIZE, SITE_SIZE};
 use std::fs;
 use std::io::{self, Write};
 use std::rt::Files;
-use streams::read_full;
+use streams::{read_full, write_refused};
 use subprograms::model::ConversionStats;
 use tlv::bytes::Number;
 use tlv::fields::next_field;
@@ -20,9 +21,7 @@ const INPUT_LIMIT: usize = 16384;
 // The longest line program, likewise.
 const PROGRAM_LIMIT: usize = 2048;
 
-// A row's payload in the records tray, and where its column stands there.
-const ROW_SIZE: usize = buffers::output::TRAY_ROW as usize;
-
+// Where a row's column stands in its payload in the records tray.
 const ROW_COLUMN: usize = buffers::output::TRAY_COLUMN as usize;
 
 // The work of the import, and each of its output buffers.
@@ -45,17 +44,14 @@ fn write_text(out: &mut impl Write, s: &[u8]) -> io::Result<()> {
     out.write_all(s)
 }
 
-// The lines of a listing.
-// Stays a function for each: a field's parts have their own widths and bases, and each line its own order of them.
-
 // 41: start, end, name.
+// Stays a function, as the lines below: a field's parts have their own widths and bases, and each line its own order of them.
 fn write_function(out: &mut impl Write, p: &[u8]) -> io::Result<()> {
-    if p.len() < 16 {
+    if p.len() < FUNCTION_SIZE {
         return Ok(());
     }
-    out.write_all(b"function ")?;
-    write!(out, "{:x} {:x}", u64::read(p, 0), u64::read(p, 8))?;
-    write_text(out, &p[16..])?;
+    write!(out, "function {:x} {:x}", u64::read(p, 0), u64::read(p, 8))?;
+    write_text(out, &p[FUNCTION_SIZE..])?;
     writeln!(out)
 }
 
@@ -64,78 +60,74 @@ fn write_row(out: &mut impl Write, p: &[u8]) -> io::Result<()> {
     if p.len() < ROW_SIZE {
         return Ok(());
     }
-    out.write_all(b"row ")?;
-    write!(out, "{:x} {}", u64::read(p, 0), u32::read(p, 8))?;
-    writeln!(out, " {} {}", u32::read(p, 12), u16::read(p, ROW_COLUMN))
+    let (address, file) = (u64::read(p, 0), u32::read(p, 8));
+    let (line, column) = (u32::read(p, 12), u16::read(p, ROW_COLUMN));
+    writeln!(out, "row {address:x} {file} {line} {column}")
 }
 
 // 43: depth, call file, call line, name.
-// Stays a function of its own, as said above.
+// Stays a function of its own, as said at `write_function`.
 fn write_inline(out: &mut impl Write, p: &[u8]) -> io::Result<()> {
-    if p.len() < 10 {
+    if p.len() < NODE_SIZE {
         return Ok(());
     }
-    out.write_all(b"inline ")?;
-    write!(
-        out,
-        "{} {} {}",
-        u16::read(p, 0),
-        u32::read(p, 2),
-        u32::read(p, 6)
-    )?;
-    write_text(out, &p[10..])?;
+    let (depth, file, line) = (u16::read(p, 0), u32::read(p, 2), u32::read(p, 6));
+    write!(out, "inline {depth} {file} {line}")?;
+    write_text(out, &p[NODE_SIZE..])?;
     writeln!(out)
 }
 
 // 44: start, end.
+// Stays a function of its own, as said at `write_function`.
 fn write_range(out: &mut impl Write, p: &[u8]) -> io::Result<()> {
-    if p.len() < 16 {
+    if p.len() < RANGE_SIZE {
         return Ok(());
     }
-    out.write_all(b"range ")?;
-    writeln!(out, "{:x} {:x}", u64::read(p, 0), u64::read(p, 8))
+    writeln!(out, "range {:x} {:x}", u64::read(p, 0), u64::read(p, 8))
 }
 
 // 45: return offset, pattern count, pattern. A site without a pattern ends after its offset.
+// Stays a function of its own, as said at `write_function`.
 fn write_site(out: &mut impl Write, p: &[u8]) -> io::Result<()> {
-    if p.len() < 9 {
+    if p.len() < SITE_SIZE {
         return Ok(());
     }
-    out.write_all(b"site ")?;
-    write!(out, "{:x}", u64::read(p, 0))?;
-    if p[8] != 0 {
-        write_text(out, &p[9..])?;
+    write!(out, "site {:x}", u64::read(p, 0))?;
+    if p[SITE_SIZE - 1] != 0 {
+        write_text(out, &p[SITE_SIZE..])?;
     }
     writeln!(out)
 }
 
 // 40: directory length, directory, basename; its number in the table goes before them.
 fn write_file(out: &mut impl Write, p: &[u8], number: u64) -> io::Result<()> {
-    if p.len() < 2 {
+    let Some((size, rest)) = p.split_first_chunk() else {
         return Ok(());
-    }
-    let split = 2 + u16::read(p, 0) as usize;
-    if p.len() < split {
+    };
+    let Some((directory, name)) = rest.split_at_checked(u16::from_le_bytes(*size) as usize) else {
         return Ok(());
-    }
-    out.write_all(b"file ")?;
-    write!(out, "{number}")?;
-    write_text(out, &p[2..split])?;
-    write_text(out, &p[split..])?;
+    };
+    write!(out, "file {number}")?;
+    write_text(out, directory)?;
+    write_text(out, name)?;
     writeln!(out)
 }
 
+// The first kind of a warning behind which two numbers stand, and their length.
+const FIRST_OF_NUMBERS: u8 = 3;
+
+const NUMBERS_SIZE: usize = 16;
+
 // 46: kind, then two numbers, or of kinds 1 and 2 the reason.
 fn write_warning(out: &mut impl Write, p: &[u8]) -> io::Result<()> {
-    let Some(&kind) = p.first() else {
+    let Some((&kind, rest)) = p.split_first() else {
         return Ok(());
     };
-    out.write_all(b"warning ")?;
-    write!(out, "{kind}")?;
-    if kind < 3 {
-        write_text(out, &p[1..])?;
-    } else if 17 <= p.len() {
-        write!(out, " {:x} {:x}", u64::read(p, 1), u64::read(p, 9))?;
+    write!(out, "warning {kind}")?;
+    if kind < FIRST_OF_NUMBERS {
+        write_text(out, rest)?;
+    } else if NUMBERS_SIZE <= rest.len() {
+        write!(out, " {:x} {:x}", u64::read(rest, 0), u64::read(rest, 8))?;
     }
     writeln!(out)
 }
@@ -158,7 +150,7 @@ fn write_field(out: &mut impl Write, tag: u8, p: &[u8], number: u64) -> io::Resu
 fn write_fields(out: &mut impl Write, s: &[u8], first: u64) -> io::Result<()> {
     let mut number = first;
     let mut p = 0;
-    // Stays a loop: each field's own length moves the place, so nothing is counted.
+    // Stays a loop: each field's own length moves the place, and only the numbers of the fields are counted beside it.
     while let Some(field) = next_field(s, p) {
         write_field(out, field.tag, &s[field.start..field.next], number)?;
         number = number.saturating_add(1);
@@ -168,9 +160,9 @@ fn write_fields(out: &mut impl Write, s: &[u8], first: u64) -> io::Result<()> {
 }
 
 fn write_stats(out: &mut impl Write, s: ConversionStats) -> io::Result<()> {
-    out.write_all(b"stats ")?;
-    write!(out, "{} {}", s.functions, s.line_rows)?;
-    writeln!(out, " {} {}", s.inline_nodes, s.rejected_ranges)
+    let (functions, rows) = (s.functions, s.line_rows);
+    let (nodes, rejected) = (s.inline_nodes, s.rejected_ranges);
+    writeln!(out, "stats {functions} {rows} {nodes} {rejected}")
 }
 
 // The part of a buffer that was written.
@@ -205,8 +197,8 @@ fn list<'a>(
         &mut warnings,
     ) {
         Err(refusal) => {
-            out.write_all(b"refused ")?;
-            writeln!(out, "{}", refusal.number())
+            write_refused(out, refusal)?;
+            writeln!(out)
         }
         Ok(done) => {
             write_fields(out, written(&records, done.records), 0)?;

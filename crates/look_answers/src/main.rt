@@ -8,7 +8,7 @@ use lookup::below::nearest_below;
 use lookup::model::Chain;
 use lookup::window::{functions_crossing, functions_inside};
 use std::io::{self, Read, Write};
-use streams::{answer_all, answer_next, write_refused};
+use streams::{answer_all, answer_next, split_part, write_refused};
 use tlv::bytes::Number;
 use tlv::refusal::Refusal;
 
@@ -30,9 +30,6 @@ const ADDRESS_QUERY: u8 = 1;
 const NEAREST_QUERY: u8 = 2;
 
 const INSIDE_QUERY: u8 = 3;
-
-// The length of the tray, which a call begins with.
-const HEAD_SIZE: usize = 4;
 
 // The longest call.
 const CALL_LIMIT: usize = 65536;
@@ -115,6 +112,7 @@ fn answer_query(out: &mut impl Write, tray: &[u8], query: &[u8], list: &mut [u8]
     let first = u64::read(query, FIRST);
     let second = u64::read(query, SECOND);
     let room = u16::read(query, ROOM) as usize;
+    // Stays a match: the kind is a byte of the input, and each kind has a look-up of its own.
     match query[0] {
         ADDRESS_QUERY => answer_address(out, tray, first),
         NEAREST_QUERY => answer_nearest(out, tray, first),
@@ -141,16 +139,11 @@ fn answer_queries(
 }
 
 // The length of the tray (4 bytes), the tray, the queries; false where the call is cut off.
-// Stays apart from the calls of the other programs: each has a head of its own.
 fn answer(out: &mut impl Write, call: &[u8], list: &mut [u8]) -> io::Result<bool> {
-    if call.len() < HEAD_SIZE {
+    let Some((tray, queries)) = split_part(call) else {
         return Ok(false);
-    }
-    let end = HEAD_SIZE + u32::read(call, 0) as usize;
-    if call.len() < end {
-        return Ok(false);
-    }
-    answer_queries(out, &call[HEAD_SIZE..end], &call[end..], list)?;
+    };
+    answer_queries(out, tray, queries, list)?;
     Ok(true)
 }
 

@@ -1,10 +1,10 @@
 // Holds what a pass or an import gave to a recorded answer.
-use crate::cases::Answer;
-use crate::runs::Buffers;
+use crate::cases::{Answer, Lengths};
 use dwarf::model::Imported;
 use std::fmt;
 use std::io::{self, Read};
 use streams::read_full;
+use subprograms::model::Outputs;
 use tlv::refusal::Refusal;
 
 // What stands in the output buffers and in work before a call.
@@ -41,7 +41,7 @@ impl fmt::Display for Difference {
     }
 }
 
-// Stays a function: std's `all` under a name, which five places use.
+// Stays a function: std's `all` under a name, which each test of a buffer uses.
 fn holds_only(buffer: &[u8], b: u8) -> bool {
     buffer.iter().all(|&x| x == b)
 }
@@ -59,13 +59,14 @@ fn judge_buffer(
     if buffer.len() < n {
         return Ok(Some(Difference::Lengths));
     }
-    if read_full(answers, &mut expected[..n])? < n {
+    let recorded = &mut expected[..n];
+    if read_full(answers, recorded)? < n {
         return Ok(Some(Difference::Cut));
     }
-    if &expected[..n] != &buffer[..n] {
+    let Some(past) = buffer.strip_prefix(recorded) else {
         return Ok(Some(Difference::Bytes));
-    }
-    if !holds_only(&buffer[n..], FILLED) {
+    };
+    if !holds_only(past, FILLED) {
         return Ok(Some(Difference::Past));
     }
     Ok(None)
@@ -76,15 +77,24 @@ fn judge_buffers(
     answers: &mut impl Read,
     a: Answer,
     expected: &mut [u8],
-    t: &Buffers,
+    t: &Outputs,
 ) -> io::Result<Option<Difference>> {
-    if let Some(what) = judge_buffer(answers, expected, t.records, a.records)? {
+    if let Some(what) = judge_buffer(answers, expected, t.records, a.written.records)? {
         return Ok(Some(what));
     }
-    if let Some(what) = judge_buffer(answers, expected, t.files, a.files)? {
+    if let Some(what) = judge_buffer(answers, expected, t.files, a.written.files)? {
         return Ok(Some(what));
     }
-    judge_buffer(answers, expected, t.warnings, a.warnings)
+    judge_buffer(answers, expected, t.warnings, a.written.warnings)
+}
+
+// The lengths that an import or its pass says.
+fn lengths_of(said: Imported) -> Lengths {
+    Lengths {
+        records: said.records,
+        files: said.files,
+        warnings: said.warnings,
+    }
 }
 
 fn judge_finished(
@@ -92,12 +102,12 @@ fn judge_finished(
     a: Answer,
     r: Imported,
     expected: &mut [u8],
-    t: &Buffers,
+    t: &Outputs,
 ) -> io::Result<Option<Difference>> {
     if a.refusal != 0 {
         return Ok(Some(Difference::Refusal));
     }
-    if r.records != a.records || r.files != a.files || r.warnings != a.warnings {
+    if lengths_of(r) != a.written {
         return Ok(Some(Difference::Lengths));
     }
     if r.stats != a.stats {
@@ -106,7 +116,7 @@ fn judge_finished(
     judge_buffers(answers, a, expected, t)
 }
 
-fn judge_refused(a: Answer, n: u8, t: &Buffers) -> Option<Difference> {
+fn judge_refused(a: Answer, n: u8, t: &Outputs) -> Option<Difference> {
     if a.refusal != n {
         return Some(Difference::Refusal);
     }
@@ -122,9 +132,10 @@ pub fn judge(
     a: Answer,
     r: Result<Imported, Refusal>,
     expected: &mut [u8],
-    t: &Buffers,
+    work: &[u8],
+    t: &Outputs,
 ) -> io::Result<Option<Difference>> {
-    if !holds_only(t.work, 0) {
+    if !holds_only(work, 0) {
         return Ok(Some(Difference::Work));
     }
     match r {
@@ -134,18 +145,17 @@ pub fn judge(
 }
 
 // Whether the lengths that the pass says are those of a recorded answer; where a buffer was too short, whether it says so of that one first.
-fn are_lengths(a: Answer, said: Imported, lent: [usize; 3]) -> bool {
+fn are_lengths(a: Answer, said: Imported, lent: Lengths) -> bool {
     if a.refusal == 0 {
-        return said.records == a.records && said.files == a.files && said.warnings == a.warnings;
+        return lengths_of(said) == a.written;
     }
-    let [records, files, warnings] = lent;
-    if records < said.records {
+    if lent.records < said.records {
         return a.refusal == Refusal::ShortRecords.number();
     }
-    if files < said.files {
+    if lent.files < said.files {
         return a.refusal == Refusal::ShortFiles.number();
     }
-    warnings < said.warnings && a.refusal == Refusal::ShortWarnings.number()
+    lent.warnings < said.warnings && a.refusal == Refusal::ShortWarnings.number()
 }
 
 // Whether it is the refusal of an output buffer's length.
@@ -157,7 +167,7 @@ fn is_short(refusal: Refusal) -> bool {
 }
 
 // Whether the pass says what is recorded, of an import into buffers of these lengths: the refusal where it is no buffer's, else the lengths and statistics.
-pub fn judge_pass(a: Answer, r: Result<Imported, Refusal>, work: &[u8], lent: [usize; 3]) -> bool {
+pub fn judge_pass(a: Answer, r: Result<Imported, Refusal>, work: &[u8], lent: Lengths) -> bool {
     if !holds_only(work, 0) {
         return false;
     }

@@ -5,13 +5,14 @@
 
 ghost use Rattle.std.specs.Prelude.{◌≡◌, length};
 
-use cases::{ANSWER_HEAD, Answer, CASE_HEAD, Case, answer_of, case_of, read_inputs};
+use cases::{ANSWER_HEAD, Answer, CASE_HEAD, Case, answer_of, read_case};
 use judge::Difference;
-use runs::{Buffers, run_case};
+use runs::run_case;
 use std::fs;
 use std::io::{self, Read, Write};
 use std::rt::Files;
 use streams::read_full;
+use subprograms::model::Outputs;
 
 mod cases;
 mod judge;
@@ -48,7 +49,7 @@ fn next_case(
     if read_full(answers, &mut answer)? < ANSWER_HEAD {
         return Ok(Next::Cut);
     }
-    let Some(c) = read_inputs(cases, case_of(&head), inputs)? else {
+    let Some(c) = read_case(cases, &head, inputs)? else {
         return Ok(Next::Cut);
     };
     Ok(Next::Case(c, answer_of(&answer)))
@@ -86,13 +87,13 @@ fn replay_cases(
         if WORK_SIZE < c.work {
             return write_difference(out, number, Difference::Cut);
         }
-        let mut t = Buffers {
-            work: &mut work[..c.work],
-            records: &mut records[..c.records.min(LARGE)],
-            files: &mut files[..c.files.min(LARGE)],
-            warnings: &mut warnings[..c.warnings.min(LARGE)],
+        let lent = &mut work[..c.work];
+        let mut t = Outputs {
+            records: &mut records[..c.lent.records.min(LARGE)],
+            files: &mut files[..c.lent.files.min(LARGE)],
+            warnings: &mut warnings[..c.lent.warnings.min(LARGE)],
         };
-        if let Some(what) = run_case(answers, c, a, &inputs, &mut expected, &mut t)? {
+        if let Some(what) = run_case(answers, c, a, &inputs, &mut expected, lent, &mut t)? {
             return write_difference(out, number, what);
         }
     }

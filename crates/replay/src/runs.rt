@@ -1,88 +1,83 @@
 // Runs a case: the pass that writes no buffer, then the import.
-use crate::cases::{Answer, Case};
+use crate::cases::{Answer, Case, Lengths};
 use crate::judge::{Difference, FILLED, judge, judge_pass};
 use dwarf::lent::Inputs;
 use dwarf::model::Imported;
 use std::io::{self, Read};
+use subprograms::model::Outputs;
 use tlv::refusal::Refusal;
-
-// What a case's import writes: work and the three output buffers.
-#[derive(Drop)]
-pub struct Buffers<'a> {
-    pub work: &'a mut [u8],
-    pub records: &'a mut [u8],
-    pub files: &'a mut [u8],
-    pub warnings: &'a mut [u8],
-}
 
 // The pass of a case, with work filled.
 // Stays beside import_case: the pass lends no output buffer.
 fn measure_case(c: Case, i: Inputs, work: &mut [u8]) -> Result<Imported, Refusal> {
     work.fill(FILLED);
-    if c.all {
-        return dwarf::import::measure_dwarf(
+    let o = c.options;
+    match o.ordinal {
+        None => dwarf::import::measure_dwarf(
             i.sheets.main,
             i.sheets.supplementary,
             i.program,
             i.lists.lists,
             i.lists.addresses,
-            c.inlines,
-            c.call_sites,
-            c.first_file,
+            o.inlines,
+            o.call_sites,
+            o.first_file,
             work,
-        );
+        ),
+        Some(ordinal) => dwarf::import::measure_unit(
+            i.sheets.main,
+            i.sheets.supplementary,
+            i.program,
+            i.lists.lists,
+            i.lists.addresses,
+            ordinal,
+            o.inlines,
+            o.call_sites,
+            o.first_file,
+            work,
+        ),
     }
-    dwarf::import::measure_unit(
-        i.sheets.main,
-        i.sheets.supplementary,
-        i.program,
-        i.lists.lists,
-        i.lists.addresses,
-        c.ordinal,
-        c.inlines,
-        c.call_sites,
-        c.first_file,
-        work,
-    )
 }
 
 // The import of a case, with the buffers filled.
-fn import_case(c: Case, i: Inputs, t: &mut Buffers) -> Result<Imported, Refusal> {
-    t.work.fill(FILLED);
+// Stays beside measure_case: the import lends the output buffers too.
+fn import_case(c: Case, i: Inputs, work: &mut [u8], t: &mut Outputs) -> Result<Imported, Refusal> {
+    work.fill(FILLED);
     t.records.fill(FILLED);
     t.files.fill(FILLED);
     t.warnings.fill(FILLED);
-    if c.all {
-        return dwarf::import::import_dwarf(
+    let o = c.options;
+    match o.ordinal {
+        None => dwarf::import::import_dwarf(
             i.sheets.main,
             i.sheets.supplementary,
             i.program,
             i.lists.lists,
             i.lists.addresses,
-            c.inlines,
-            c.call_sites,
-            c.first_file,
-            t.work,
+            o.inlines,
+            o.call_sites,
+            o.first_file,
+            work,
             t.records,
             t.files,
             t.warnings,
-        );
+        ),
+        Some(ordinal) => dwarf::import::import_unit(
+            i.sheets.main,
+            i.sheets.supplementary,
+            i.program,
+            i.lists.lists,
+            i.lists.addresses,
+            ordinal,
+            o.inlines,
+            o.call_sites,
+            o.first_file,
+            work,
+            t.records,
+            t.files,
+            t.warnings,
+        ),
     }
-    dwarf::import::import_unit(
-        i.sheets.main,
-        i.sheets.supplementary,
-        i.program,
-        i.lists.lists,
-        i.lists.addresses,
-        c.ordinal,
-        c.inlines,
-        c.call_sites,
-        c.first_file,
-        t.work,
-        t.records,
-        t.files,
-        t.warnings,
-    )
 }
 
 // A case over its inputs and over buffers of its lengths: the pass, then the import.
@@ -92,15 +87,20 @@ fn run_both(
     a: Answer,
     i: Inputs,
     expected: &mut [u8],
-    t: &mut Buffers,
+    work: &mut [u8],
+    t: &mut Outputs,
 ) -> io::Result<Option<Difference>> {
-    let said = measure_case(c, i, t.work);
-    let lengths = [t.records.len(), t.files.len(), t.warnings.len()];
-    if !judge_pass(a, said, t.work, lengths) {
+    let said = measure_case(c, i, work);
+    let lent = Lengths {
+        records: t.records.len(),
+        files: t.files.len(),
+        warnings: t.warnings.len(),
+    };
+    if !judge_pass(a, said, work, lent) {
         return Ok(Some(Difference::Pass));
     }
-    let r = import_case(c, i, t);
-    judge(answers, a, r, expected, t)
+    let r = import_case(c, i, work, t);
+    judge(answers, a, r, expected, work, t)
 }
 
 // A case whose inputs were read, over those and over buffers of its lengths.
@@ -110,13 +110,19 @@ pub fn run_case(
     a: Answer,
     inputs: &[u8],
     expected: &mut [u8],
-    t: &mut Buffers,
+    work: &mut [u8],
+    t: &mut Outputs,
 ) -> io::Result<Option<Difference>> {
     let main = c.main as usize;
     let second = main + c.supplementary as usize;
     let third = second + c.program as usize;
-    let fourth = third + c.lists as usize;
-    let end = fourth + c.addresses as usize;
+    let (fourth, end) = match c.sections {
+        None => (third, third),
+        Some(sections) => {
+            let fourth = third + sections.lists as usize;
+            (fourth, fourth + sections.addresses as usize)
+        }
+    };
     if inputs.len() < end {
         return Ok(Some(Difference::Cut));
     }
@@ -127,5 +133,5 @@ pub fn run_case(
         &inputs[third..fourth],
         &inputs[fourth..end],
     );
-    run_both(answers, c, a, i, expected, t)
+    run_both(answers, c, a, i, expected, work, t)
 }

@@ -11,7 +11,7 @@ use crate::tables::{build_tables, has_room};
 use files::sheets::Sheets;
 use references::tables::target_at;
 use std::io::{self, Write};
-use streams::{answer_all, answer_next};
+use streams::{answer_all, answer_next, split_parts};
 use tlv::bytes::Number;
 use tlv::grammar::check_input;
 
@@ -32,9 +32,6 @@ const NAME_QUERY: u8 = 1;
 
 const REFERENCE_QUERY: u8 = 2;
 
-// The lengths of both sheets, which a call begins with.
-const HEAD_SIZE: usize = 8;
-
 fn answer_query(out: &mut impl Write, query: &[u8], work: &mut [u8], s: Searches) -> io::Result<()>
     requires query_len { 9 ≤ length query.now }
     requires searches_in { Ready s work.old }
@@ -45,6 +42,7 @@ fn answer_query(out: &mut impl Write, query: &[u8], work: &mut [u8], s: Searches
     let Ok(Some(entry)) = target_at(x.sheets.main, work, x.main, offset) else {
         return write!(out, "no entry");
     };
+    // Stays a match: the kind is a byte of the input, and each kind has a search of its own.
     match query[0] {
         NAME_QUERY => answer_name(out, work, s, entry),
         REFERENCE_QUERY => answer_reference(out, work, s, entry),
@@ -120,21 +118,10 @@ fn answer_sheets(
 
 // The lengths of both sheets (4 bytes each), the main sheet, the supplementary one, the queries; false where the call is cut off or has no room.
 fn answer(out: &mut impl Write, call: &[u8], work: &mut [u8]) -> io::Result<bool> {
-    if call.len() < HEAD_SIZE {
+    let Some((main, supplementary, queries)) = split_parts(call) else {
         return Ok(false);
-    }
-    let start = HEAD_SIZE + u32::read(call, 0) as usize;
-    let end = start + u32::read(call, 4) as usize;
-    if call.len() < end {
-        return Ok(false);
-    }
-    answer_sheets(
-        out,
-        &call[HEAD_SIZE..start],
-        &call[start..end],
-        &call[end..],
-        work,
-    )
+    };
+    answer_sheets(out, main, supplementary, queries, work)
 }
 
 // Stays a `main` of its own: what it lends are arrays of its own sizes.

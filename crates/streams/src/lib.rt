@@ -1,9 +1,10 @@
 // What the programs share: how they read calls from an input and answer them.
 #![tactic(auto)]
 
-ghost use Rattle.std.specs.Prelude.{◌≡◌, true, ◌<◌, ◌≤◌, IfOk, IfSome, length, take};
+ghost use Rattle.std.specs.Prelude.{◌≡◌, true, ◌<◌, ◌≤◌, IfOk, IfSome, MatchOption, length, take};
 ghost use Rattle.std.specs.Io.KnownBytes.{Consumes, IsAtEnd};
 ghost use Rattle.streams.specs.Calls.{NextByte, NextNumber, NextCall, ReadsCall, AnswersAll};
+ghost use Rattle.streams.specs.Parts.{SplitsNumber, NoNumber, SplitsPart, NoPart, SplitsParts, NoParts};
 
 use std::io::{self, Read, Write};
 use tlv::refusal::Refusal;
@@ -63,6 +64,33 @@ pub fn next_call<'a, R: Read>(
         return Ok(None);
     }
     Ok(Some(call))
+}
+
+// The number in the first 4 bytes of a call, and what is behind it; none where the call is cut off.
+pub fn split_number(call: &[u8]) -> Option<(u32, &[u8])>
+    ensures { MatchOption result (NoNumber call.now) (λ p. SplitsNumber call.now p.0 p.1.now) }
+{
+    let (bytes, rest) = call.split_first_chunk()?;
+    Some((u32::from_le_bytes(*bytes), rest))
+}
+
+// The part of a call that stands behind its length of 4 bytes, and what is behind it; none where the call is cut off.
+pub fn split_part(call: &[u8]) -> Option<(&[u8], &[u8])>
+    ensures { MatchOption result (NoPart call.now) (λ p. SplitsPart call.now p.0.now p.1.now) }
+{
+    let (n, rest) = split_number(call)?;
+    rest.split_at_checked(n as usize)
+}
+
+// The two parts of a call that stand behind both their lengths, 4 bytes each, and what is behind them; none where the call is cut off.
+pub fn split_parts(call: &[u8]) -> Option<(&[u8], &[u8], &[u8])>
+    ensures { MatchOption result (NoParts call.now) (λ p. SplitsParts call.now p.0.now p.1.now p.2.now) }
+{
+    let (n, rest) = split_number(call)?;
+    let (m, rest) = split_number(rest)?;
+    let (first, rest) = rest.split_at_checked(n as usize)?;
+    let (second, rest) = rest.split_at_checked(m as usize)?;
+    Some((first, second, rest))
 }
 
 // Answers the next call by `answer`, which says false of a call that is none of its own; false where no call was answered, with a message.

@@ -2,7 +2,7 @@
 #![tactic(auto)]
 
 use std::io::{self, Read, Write};
-use streams::{answer_all, next_u8, next_u32, read_full};
+use streams::{answer_all, next_u8, next_u32, read_full, write_refused};
 use tlv::grammar::check_input;
 use tlv::refusal::Refusal;
 
@@ -16,8 +16,9 @@ fn write_name(input: &mut impl Read, out: &mut impl Write, buffer: &mut [u8]) ->
     if buffer.len() < n {
         return Ok(false);
     }
-    read_full(input, &mut buffer[..n])?;
-    out.write_all(&buffer[..n])?;
+    let name = &mut buffer[..n];
+    read_full(input, name)?;
+    out.write_all(name)?;
     out.write_all(b": ")?;
     Ok(true)
 }
@@ -28,19 +29,24 @@ fn write_verdict(out: &mut impl Write, input: &[u8], program: usize) -> io::Resu
         Ok(n) => writeln!(out, "accepted {n}"),
         Err(Refusal::PastLimit) => writeln!(out, "past limit"),
         Err(Refusal::Misshapen) => writeln!(out, "misshapen"),
-        Err(e) => writeln!(out, "refused {}", e.number()),
+        Err(refusal) => {
+            write_refused(out, refusal)?;
+            writeln!(out)
+        }
     }
 }
 
 // The verdict on the next sheet; false where it is longer than the buffer.
+// Stays apart from `write_name`: two numbers of 4 bytes stand before a sheet, and its bytes are not written.
 fn judge(input: &mut impl Read, out: &mut impl Write, buffer: &mut [u8]) -> io::Result<bool> {
     let program = next_u32(input)? as usize;
     let n = next_u32(input)? as usize;
     if buffer.len() < n {
         return Ok(false);
     }
-    read_full(input, &mut buffer[..n])?;
-    write_verdict(out, &buffer[..n], program)?;
+    let sheet = &mut buffer[..n];
+    read_full(input, sheet)?;
+    write_verdict(out, sheet, program)?;
     Ok(true)
 }
 

@@ -1,5 +1,5 @@
 -- Rows at the front of a table that lie below a range, counted one after another.
-use mathlib.Core.Path.{◌≡◌, ap}
+use mathlib.Core.Path.{◌≡◌, refl, ap}
 use mathlib.Core.List.{List, [], ◌∷◌}
 use Prim.Native.Nat.{ℕ, zero, suc, ◌+◌, ◌*◌, ◌≤◌, ◌<◌}
 use native.Mathlib.Omega.{arith}
@@ -36,10 +36,18 @@ row_more w base n i a v h e g b =
     ap (λ (x : SequencedLine). x.entry.address) (records-at line_of line_size w base n i (line_of []) h) in
     leading-more a (line_of []) (lines_of w base n) i b (rw (records-length line_of line_size w base n) h) (rw (is, ← e) g)
 
-pub one_more : {w : List ℕ} {l : StoredLines} {range : AddressRange} {i : ℕ} (v : ℕ) → RowsBelow w l range i → i < l.line_count
-    → v ≡ (line_at w (l.lines + i * line_size)).entry.address → v < range.start → v < range.end → RowsBelow w l range (i + 1)
-one_more {w} {l} {range} {i} v B h e s t =
+-- row i lies below a range
+pub record Below (w : List ℕ) (l : StoredLines) (range : AddressRange) (i : ℕ) : Type 0 where
+  pub start : (line_at w (l.lines + i * line_size)).entry.address < range.start
+  pub end : (line_at w (l.lines + i * line_size)).entry.address < range.end
+
+pub all_below : (w : List ℕ) (l : StoredLines) (range : AddressRange) (n : ℕ) → n ≤ l.line_count
+    → ((i : ℕ) → i < n → Below w l range i) → RowsBelow w l range n
+all_below w l range zero h f = record { start = omega arith; end = omega arith }
+all_below w l range (suc n) h f =
+    let B = all_below w l range n (omega arith) (λ i k. f i (omega arith)) in
+    let row = f n (omega arith) in
     record {
-      start = omega (arith, row_more w l.lines l.line_count i range.start v h e s B.start);
-      end = omega (arith, row_more w l.lines l.line_count i range.end v h e t B.end);
+      start = row_more w l.lines l.line_count n range.start _ (omega arith) refl row.start B.start;
+      end = row_more w l.lines l.line_count n range.end _ (omega arith) refl row.end B.end;
     }
