@@ -87,6 +87,7 @@ fn write_collected(
 }
 
 // The lengths of the sheet and of the program (4 bytes each), the sheet, the program, the queries.
+// Stays beside search_answers' `answer`: the cut is shared, and what is done with the parts is each program's own.
 fn answer_rows(out: &mut impl Write, call: &[u8], work: &mut [u8]) -> io::Result<bool> {
     let Some((main, program, queries)) = split_parts(call) else {
         return Ok(false);

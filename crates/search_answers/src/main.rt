@@ -117,6 +117,7 @@ fn answer_sheets(
 }
 
 // The lengths of both sheets (4 bytes each), the main sheet, the supplementary one, the queries; false where the call is cut off or has no room.
+// Stays beside line_answers' `answer_rows`: the cut is shared, and what is done with the parts is each program's own.
 fn answer(out: &mut impl Write, call: &[u8], work: &mut [u8]) -> io::Result<bool> {
     let Some((main, supplementary, queries)) = split_parts(call) else {
         return Ok(false);
