@@ -50,7 +50,8 @@ fn write_function(out: &mut impl Write, p: &[u8]) -> io::Result<()> {
     if p.len() < FUNCTION_SIZE {
         return Ok(());
     }
-    write!(out, "function {:x} {:x}", u64::read(p, 0), u64::read(p, 8))?;
+    out.write_all(b"function ")?;
+    write!(out, "{:x} {:x}", u64::read(p, 0), u64::read(p, 8))?;
     write_text(out, &p[FUNCTION_SIZE..])?;
     writeln!(out)
 }
@@ -62,7 +63,8 @@ fn write_row(out: &mut impl Write, p: &[u8]) -> io::Result<()> {
     }
     let (address, file) = (u64::read(p, 0), u32::read(p, 8));
     let (line, column) = (u32::read(p, 12), u16::read(p, ROW_COLUMN));
-    writeln!(out, "row {address:x} {file} {line} {column}")
+    out.write_all(b"row ")?;
+    writeln!(out, "{address:x} {file} {line} {column}")
 }
 
 // 43: depth, call file, call line, name.
@@ -72,7 +74,8 @@ fn write_inline(out: &mut impl Write, p: &[u8]) -> io::Result<()> {
         return Ok(());
     }
     let (depth, file, line) = (u16::read(p, 0), u32::read(p, 2), u32::read(p, 6));
-    write!(out, "inline {depth} {file} {line}")?;
+    out.write_all(b"inline ")?;
+    write!(out, "{depth} {file} {line}")?;
     write_text(out, &p[NODE_SIZE..])?;
     writeln!(out)
 }
@@ -83,7 +86,8 @@ fn write_range(out: &mut impl Write, p: &[u8]) -> io::Result<()> {
     if p.len() < RANGE_SIZE {
         return Ok(());
     }
-    writeln!(out, "range {:x} {:x}", u64::read(p, 0), u64::read(p, 8))
+    out.write_all(b"range ")?;
+    writeln!(out, "{:x} {:x}", u64::read(p, 0), u64::read(p, 8))
 }
 
 // 45: return offset, pattern count, pattern. A site without a pattern ends after its offset.
@@ -92,7 +96,8 @@ fn write_site(out: &mut impl Write, p: &[u8]) -> io::Result<()> {
     if p.len() < SITE_SIZE {
         return Ok(());
     }
-    write!(out, "site {:x}", u64::read(p, 0))?;
+    out.write_all(b"site ")?;
+    write!(out, "{:x}", u64::read(p, 0))?;
     if p[SITE_SIZE - 1] != 0 {
         write_text(out, &p[SITE_SIZE..])?;
     }
@@ -107,7 +112,8 @@ fn write_file(out: &mut impl Write, p: &[u8], number: u64) -> io::Result<()> {
     let Some((directory, name)) = rest.split_at_checked(u16::from_le_bytes(*size) as usize) else {
         return Ok(());
     };
-    write!(out, "file {number}")?;
+    out.write_all(b"file ")?;
+    write!(out, "{number}")?;
     write_text(out, directory)?;
     write_text(out, name)?;
     writeln!(out)
@@ -123,7 +129,8 @@ fn write_warning(out: &mut impl Write, p: &[u8]) -> io::Result<()> {
     let Some((&kind, rest)) = p.split_first() else {
         return Ok(());
     };
-    write!(out, "warning {kind}")?;
+    out.write_all(b"warning ")?;
+    write!(out, "{kind}")?;
     if kind < FIRST_OF_NUMBERS {
         write_text(out, rest)?;
     } else if NUMBERS_SIZE <= rest.len() {
@@ -162,7 +169,8 @@ fn write_fields(out: &mut impl Write, s: &[u8], first: u64) -> io::Result<()> {
 fn write_stats(out: &mut impl Write, s: ConversionStats) -> io::Result<()> {
     let (functions, rows) = (s.functions, s.line_rows);
     let (nodes, rejected) = (s.inline_nodes, s.rejected_ranges);
-    writeln!(out, "stats {functions} {rows} {nodes} {rejected}")
+    out.write_all(b"stats ")?;
+    writeln!(out, "{functions} {rows} {nodes} {rejected}")
 }
 
 // The part of a buffer that was written.

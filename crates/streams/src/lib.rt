@@ -132,7 +132,8 @@ pub fn answer_all<R: Read, F: FnMut(&mut R) -> io::Result<bool>>(
 
 // Writes that there was a refusal, by its number.
 pub fn write_refused(out: &mut impl Write, refusal: Refusal) -> io::Result<()> {
-    write!(out, "refused {}", refusal.number())
+    out.write_all(b"refused ")?;
+    write!(out, "{}", refusal.number())
 }
 
 // Whether a byte of a name or a path is written as it is.
