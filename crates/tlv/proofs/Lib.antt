@@ -10,6 +10,7 @@ pub mod AcceptedCounts
 pub mod AcceptedUnits
 pub mod RefusalLaws
 pub mod WidthLaws
+mod RangeLaws
 pub mod CursorLaws
 pub mod ShapeLaws
 pub mod PayloadFacts

@@ -4,6 +4,7 @@ pub mod Outcome
 pub mod Refusals
 pub mod Addresses
 pub mod RangeTests
+pub mod Sources
 pub mod Lists
 pub mod Bytes
 pub mod Limits

@@ -1,5 +1,5 @@
 // The field cursor: what stands at a place of a byte string.
-ghost use Rattle.std.specs.Prelude.{◌≡◌};
+ghost use Rattle.std.specs.Prelude.{◌≡◌, ◌+◌, ◌≤◌, length, take, drop};
 ghost use Rattle.tlv.specs.Cursor.{field_from};
 
 use crate::bytes::Number;
@@ -14,7 +14,18 @@ pub struct FieldSpan {
     pub next: usize,
 }
 
+impl FieldSpan {
+    // Its payload, in the bytes that it stands in.
+    pub fn payload(self, s: &[u8]) -> &[u8]
+        requires { self.start + self.len ≤ length s.now }
+        ensures { result.now ≡ take self.len (drop self.start s.now) }
+    {
+        &s[self.start..self.start + self.len]
+    }
+}
+
 // The field at a place; none at the end, nor where a field runs past it.
+// Stays a step that loops take: an iterator was tried on one walk: three lines shorter, but its invariant has two facts more, and there is one type more.
 pub fn next_field(s: &[u8], p: usize) -> Option<FieldSpan>
     ensures { result ≡ field_from s.now p }
 {

@@ -31,7 +31,7 @@ const REASON_LIMIT: usize = 4096;
 const DEPTH_LIMIT: u16 = 1024;
 
 // What the fields so far leave to check the next one against.
-#[derive(Clone, Copy, Debug)]
+#[derive(Clone, Copy, Debug, Default)]
 pub struct Context {
     pub previous: u8, // the tag of the last field, 0 before the first
     pub count: u64, // fields so far
@@ -45,6 +45,8 @@ pub struct Context {
     pub encoded: bool, // the last unit has a line encoding, so it may have no row
 }
 
+// Whether a field's payload has its tag's shape.
+// Stays a tag and a payload, here and in the functions below: next_field has the payload's place, and a struct of both would be made anew for each field.
 #[tactic(auto, unfolding(crate::specs::Grammar::payload_shaped))]
 pub fn payload_shaped(c: Context, tag: u8, payload: &[u8]) -> bool
     ensures { result ≡ payload_shaped c tag payload.now }
@@ -158,21 +160,13 @@ pub fn check_input(s: &[u8], program: usize) -> Result<u64, Refusal>
 {
     let mut p: usize = 0;
     let mut c = Context {
-        previous: 0,
-        count: 0,
-        units: 0,
-        end: 0,
-        length: 0,
-        version: 0,
-        offset: 0,
-        depth: 0,
         program: program as u64,
-        encoded: false,
+        ..Context::default()
     };
-    // Stays a loop: each field's own length moves the place, and bytes that are left tell a cut field from the end.
+    // Stays a loop over fields, as next_field says: here bytes that are left tell a cut field from the end besides.
     while p < s.len() {
         let field = next_field(s, p).ok_or(Refusal::Misshapen)?;
-        c = judge(c, field.tag, &s[field.start..field.start + field.len])?;
+        c = judge(c, field.tag, field.payload(s))?;
         p = field.next;
     }
     Ok(c.count)

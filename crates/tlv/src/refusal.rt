@@ -2,7 +2,7 @@
 ghost use Rattle.std.specs.Prelude.{◌≡◌};
 ghost use Rattle.tlv.specs.Refusals.{number_of};
 
-// Stays an enum: each case is a row of the table.
+// An enum with a case for each row of the table.
 #[derive(Clone, Copy, Debug, PartialEq, Eq, Hash)]
 pub enum Refusal {
     // A sheet, or a line program, above its limit of bytes.

@@ -1,7 +1,9 @@
 // The shapes of payloads, a predicate for each tag.
-ghost use Rattle.std.specs.Prelude.{◌≡◌};
-ghost use Rattle.tlv.specs.Grammar.{is_version, is_word, unit_shaped, text_shaped, header_shaped, encoding_shaped, part_shaped, directory_shaped, file_shaped};
-ghost use Rattle.tlv.specs.Grammar.{row_shaped, entry_shaped, value_shaped, attribute_shaped, range_shaped, failure_shaped, list_shaped};
+ghost use Rattle.std.specs.Prelude.{◌≡◌, ◌<◌, length};
+ghost use Rattle.tlv.specs.Bytes.{le_at};
+ghost use Rattle.tlv.specs.Grammar.{is_version, is_word, is_flag, unit_shaped, text_shaped, header_shaped, encoding_shaped, part_shaped};
+ghost use Rattle.tlv.specs.Grammar.{directory_shaped, file_shaped, row_shaped, entry_shaped, value_shaped, attribute_shaped, range_shaped};
+ghost use Rattle.tlv.specs.Grammar.{failure_shaped, list_shaped};
 
 use crate::bytes::Number;
 use crate::grammar::Context;
@@ -106,6 +108,15 @@ fn is_word(n: u8) -> bool
     n == 4 || n == 8
 }
 
+// Whether the byte at a place is a flag: 0 or 1.
+fn flag_at(payload: &[u8], at: usize) -> bool
+    requires { at < length payload.now }
+    ensures { result ≡ is_flag (le_at 1 payload.now at) }
+{
+    u8::read(payload, at) <= 1
+}
+
+// 10 unit: offset, length, version, word size. It lies behind the unit before it.
 #[tactic(auto, unfolding(crate::specs::Grammar::unit_shaped))]
 pub fn unit_shaped(c: Context, payload: &[u8]) -> bool
     ensures { result ≡ unit_shaped c payload.now }
@@ -121,6 +132,7 @@ pub fn unit_shaped(c: Context, payload: &[u8]) -> bool
     is_version(version) && is_word(word) && size <= room && c.end <= offset
 }
 
+// 12 executable range: start, end.
 #[tactic(auto, unfolding(crate::specs::Grammar::text_shaped))]
 pub fn text_shaped(payload: &[u8]) -> bool
     ensures { result ≡ text_shaped payload.now }
@@ -128,6 +140,7 @@ pub fn text_shaped(payload: &[u8]) -> bool
     payload.len() == TEXT_FIELD
 }
 
+// 13 line header: offset, header length, version, word size, opcode base, opcode lengths.
 #[tactic(auto, unfolding(crate::specs::Grammar::header_shaped))]
 pub fn header_shaped(payload: &[u8]) -> bool
     ensures { result ≡ header_shaped payload.now }
@@ -140,17 +153,15 @@ pub fn header_shaped(payload: &[u8]) -> bool
     is_version(version) && is_word(word)
 }
 
+// 1d line encoding: minimum instruction length, operations, default statement flag, line base, line range.
 #[tactic(auto, unfolding(crate::specs::Grammar::encoding_shaped))]
 pub fn encoding_shaped(payload: &[u8]) -> bool
     ensures { result ≡ encoding_shaped payload.now }
 {
-    if payload.len() != ENCODING_FIELD {
-        return false;
-    }
-    u8::read(payload, ENCODING_FLAG) <= 1
+    payload.len() == ENCODING_FIELD && flag_at(payload, ENCODING_FLAG)
 }
 
-// No part passes the program.
+// 1e part of the line program: start, length. No part passes the program.
 #[tactic(auto, unfolding(crate::specs::Grammar::part_shaped))]
 pub fn part_shaped(c: Context, payload: &[u8]) -> bool
     ensures { result ≡ part_shaped c payload.now }
@@ -166,27 +177,23 @@ pub fn part_shaped(c: Context, payload: &[u8]) -> bool
     size <= c.program - from
 }
 
+// 14 directory: a flag, the text.
 #[tactic(auto, unfolding(crate::specs::Grammar::directory_shaped))]
 pub fn directory_shaped(payload: &[u8]) -> bool
     ensures { result ≡ directory_shaped payload.now }
 {
-    if payload.len() < DIRECTORY_TEXT {
-        return false;
-    }
-    u8::read(payload, 0) <= 1
+    DIRECTORY_TEXT <= payload.len() && flag_at(payload, 0)
 }
 
+// 15 file and 1c file 0: a flag, the directory's number, the text.
 #[tactic(auto, unfolding(crate::specs::Grammar::file_shaped))]
 pub fn file_shaped(payload: &[u8]) -> bool
     ensures { result ≡ file_shaped payload.now }
 {
-    if payload.len() < FILE_TEXT {
-        return false;
-    }
-    u8::read(payload, 0) <= 1
+    FILE_TEXT <= payload.len() && flag_at(payload, 0)
 }
 
-// A unit with a line encoding has no rows of its own.
+// 16 row: address, file number, line, column, kind. A unit with a line encoding has no rows of its own.
 #[tactic(auto, unfolding(crate::specs::Grammar::row_shaped))]
 pub fn row_shaped(c: Context, payload: &[u8]) -> bool
     ensures { result ≡ row_shaped c payload.now }
@@ -200,6 +207,7 @@ pub fn row_shaped(c: Context, payload: &[u8]) -> bool
     u8::read(payload, ROW_KIND) <= 2
 }
 
+// 17 entry: offset, depth, tag. Offsets rise and stay below the unit's length; a depth is at most one more than that before.
 #[tactic(auto, unfolding(crate::specs::Grammar::entry_shaped))]
 pub fn entry_shaped(c: Context, payload: &[u8]) -> bool
     ensures { result ≡ entry_shaped c payload.now }
@@ -226,6 +234,7 @@ pub fn value_shaped(kind: u8, n: usize) -> bool
     }
 }
 
+// 18 attribute: name, kind, value.
 #[tactic(auto, unfolding(crate::specs::Grammar::attribute_shaped))]
 pub fn attribute_shaped(payload: &[u8]) -> bool
     ensures { result ≡ attribute_shaped payload.now }
@@ -239,16 +248,15 @@ pub fn attribute_shaped(payload: &[u8]) -> bool
     )
 }
 
+// 19 range: start, end, tombstone flag.
 #[tactic(auto, unfolding(crate::specs::Grammar::range_shaped))]
 pub fn range_shaped(payload: &[u8]) -> bool
     ensures { result ≡ range_shaped payload.now }
 {
-    if payload.len() != RANGE_FIELD {
-        return false;
-    }
-    u8::read(payload, RANGE_TOMBSTONE) <= 1
+    payload.len() == RANGE_FIELD && flag_at(payload, RANGE_TOMBSTONE)
 }
 
+// 1a failure to read ranges: stage, reason. Behind a range it cannot be of the stage before any.
 #[tactic(auto, unfolding(crate::specs::Grammar::failure_shaped))]
 pub fn failure_shaped(previous: u8, payload: &[u8]) -> bool
     ensures { result ≡ failure_shaped previous payload.now }
@@ -260,6 +268,7 @@ pub fn failure_shaped(previous: u8, payload: &[u8]) -> bool
     stage <= 1 && (stage == 1 || previous != RANGE_TAG)
 }
 
+// 1f range list: offset, base address, place of the unit's addresses, address size.
 #[tactic(auto, unfolding(crate::specs::Grammar::list_shaped))]
 pub fn list_shaped(c: Context, payload: &[u8]) -> bool
     ensures { result ≡ list_shaped c payload.now }

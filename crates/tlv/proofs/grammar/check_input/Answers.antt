@@ -3,7 +3,6 @@ use mathlib.Core.Path.{◌≡◌, refl, sym, ◌∙◌}
 use native.Mathlib.Omega.{arith}
 use borrow.Author.Rules.{rules}
 use Rattle.tlv.specs.Grammar.{check_input}
-use Rattle.std.proofs.Math.Nat.{add-sub_cancel_left}
 use Rattle.std.specs.Prelude.{Some}
 use Rattle.tlv.specs.Cursor.{field_from}
 use Rattle.tlv.proofs.AnswerLaws.{handed, err-none}
@@ -13,7 +12,9 @@ use Rattle.tlv.proofs.grammar.check_input.Goals as goal
 
 pub loop-p-init : goal.loop-p-init
 unfolding check_input
-loop-p-init c = (omega arith, refl)
+loop-p-init c =
+    let e = c.default.ensures in
+    (omega arith, rw (e.0, e.1.0, e.1.1.0, e.1.1.1.0, e.1.1.1.1.0, e.1.1.1.1.1.0, e.1.1.1.1.1.1.0, e.1.1.1.1.1.1.1.0, e.1.1.1.1.1.1.1.1.1) refl)
 
 pub returns-in_err-field : goal.returns-in_err-field
 returns-in_err-field c =
@@ -24,13 +25,13 @@ returns-in_err-field c =
 pub returns-in_err-c : goal.returns-in_err-c
 returns-in_err-c c =
     let some : Some c.in_ok-field.field ≡ field_from c.args.s.now c.loop-p.p = sym c.in_ok-field.ensures.ok_part ∙ c.next_field.ensures in
-    let judged = simp add-sub_cancel_left at c.in_err-c.ensures in
+    let judged = rw c.payload.ensures at c.in_err-c.ensures in
     rw (handed _ _ c.from_residual-in_err-c.ensures.1) (search (rules, turn-refused))
 
 pub loop-p-preserved : goal.loop-p-preserved
 loop-p-preserved c =
     let some : Some c.in_ok-field.field ≡ field_from c.args.s.now c.loop-p.p = sym c.in_ok-field.ensures.ok_part ∙ c.next_field.ensures in
-    let judged = simp add-sub_cancel_left at c.in_ok-c.ensures in
+    let judged = rw c.payload.ensures at c.in_ok-c.ensures in
     (next-within _ _ _ some, search turn-passed)
 
 pub returns : goal.returns
