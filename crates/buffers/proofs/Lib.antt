@@ -11,3 +11,4 @@ pub mod ChunkLaws
 pub mod TableLaws
 pub mod RecordLaws
 pub mod ZeroLaws
+pub mod OptionLaws

@@ -4,3 +4,5 @@ pub mod Fits
 pub mod Buffer
 pub mod Search
 pub mod Table
+pub mod Options
+pub mod WarningKinds

@@ -1,6 +1,8 @@
 -- Contract. Tables of records of one size in a list of bytes (document 01: the work slice), and what the functions that write there promise.
 use Rattle.std.specs.Prelude.{◌≡◌, ◌⊎◌, List, [], ◌∷◌, ◌++◌, ℕ, zero, suc, ◌+◌, ◌-◌, ◌*◌, ◌≤◌, take, drop, replicate}
+use Rattle.tlv.specs.declared.model.AddressRange.{AddressRange}
 use Rattle.tlv.specs.Bytes.{bytes_of, le_at}
+use Rattle.tlv.specs.Model.{range_of}
 use Rattle.buffers.specs.Buffer.{overlay}
 
 -- the k bytes of w from place p on
@@ -47,6 +49,11 @@ pub record Wrote (w w' : List ℕ) (p k v : ℕ) : Type 0 where
   pub bytes : w' ≡ overlay p (bytes_of k v) w
   pub value : le_at k w' p ≡ v
   pub rest : Kept w w' p k
+
+-- a range was written at p
+pub record PutRange (w w' : List ℕ) (p : ℕ) (r : AddressRange) : Type 0 where
+  pub value : range_of (chunk w' p 16) ≡ r
+  pub rest : Kept w w' p 16
 
 -- the size bytes at `from` were copied to `to`
 pub record CopiedBytes (w w' : List ℕ) (from to size : ℕ) : Type 0 where

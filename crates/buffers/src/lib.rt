@@ -5,3 +5,4 @@ pub mod numbers;
 pub mod output;
 pub mod search;
 pub mod table;
+pub mod warning;

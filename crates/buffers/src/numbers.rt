@@ -1,8 +1,9 @@
-// Writing numbers of any width.
+// Writing numbers of any width, and numbers that may be missing.
 ghost use Rattle.std.specs.Prelude.{◌≡◌, ◌+◌, ◌≤◌, length};
 ghost use Rattle.tlv.specs.Bytes.{bytes_of};
 ghost use Rattle.buffers.specs.Table.{Wrote};
 ghost use Rattle.buffers.specs.Buffer.{Put};
+ghost use Rattle.buffers.specs.Options.{numbers_of, option_at, PutOption};
 
 use crate::output::{advance, has_room, put_each};
 use tlv::bytes::Number;
@@ -56,4 +57,31 @@ pub fn put<N: Written>(buffer: &mut [u8], at: usize, v: N) -> usize
     let mut bytes = [0u8; 8];
     v.write(&mut bytes, 0);
     put_each(buffer, at, &bytes[..N::WIDTH])
+}
+
+// Writes a number behind a byte 1, or a byte 0 where there is none: what follows that byte stays then.
+pub fn put_option<N: Written>(w: &mut [u8], p: usize, number: Option<N>)
+    requires { p + 1 + N.WIDTH ≤ length w.old }
+    ensures { PutOption w.old w.new p N.WIDTH (numbers_of N.value number) }
+{
+    match number {
+        Some(n) => {
+            1u8.write(w, p);
+            n.write(w, p + 1);
+        }
+        None => {
+            0u8.write(w, p);
+        }
+    }
+}
+
+// The number that stands behind a byte 1 at a place.
+pub fn read_option<N: Number>(s: &[u8], p: usize) -> Option<N>
+    requires { p + 1 + N.WIDTH ≤ length s.now }
+    ensures { numbers_of N.value result ≡ option_at N.WIDTH s.now p }
+{
+    if u8::read(s, p) == 1 {
+        return Some(N::read(s, p + 1));
+    }
+    None
 }

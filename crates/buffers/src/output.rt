@@ -1,4 +1,5 @@
 // Writing into the trays: each function writes what fits and counts on, and returns the place behind what it wrote.
+// Stays a slice and a place, here and in all that write: as one lent struct with `put` as its method a row took 4.2 nanoseconds where it takes 3.6.
 ghost use Rattle.std.specs.Prelude.{◌≡◌, cond, [], ◌∷◌, ◌++◌, ◌+◌, ◌<◌, ◌≤◌, leb, length};
 ghost use Rattle.tlv.specs.Tags.{tray_file_tag, tray_function_tag, tray_node_tag, tray_range_tag, tray_row_tag, tray_site_tag, tray_warning_tag};
 ghost use Rattle.tlv.specs.Lists.{is_empty};
@@ -7,8 +8,10 @@ ghost use Rattle.tlv.specs.Fields.{encode};
 ghost use Rattle.buffers.specs.Output.{function_payload, row_payload, node_payload, range_payload, site_payload, file_payload};
 ghost use Rattle.buffers.specs.Output.{malformed_ranges, warning_payload};
 ghost use Rattle.buffers.specs.Buffer.{moved, Put};
+ghost use Rattle.buffers.specs.WarningKinds.{number_of};
 
 use crate::numbers::put;
+use crate::warning::WarningKind;
 use tlv::model::{AddressRange, FileIndex, LineEntry};
 use tlv::tags::{
     TRAY_FILE_TAG, TRAY_FUNCTION_TAG, TRAY_NODE_TAG, TRAY_RANGE_TAG, TRAY_ROW_TAG, TRAY_SITE_TAG,
@@ -16,7 +19,7 @@ use tlv::tags::{
 };
 
 // A byte. Past the tray's end nothing is laid, and the place goes on.
-// Stays beside `put`: it puts the bytes of a number that meets the end one by one.
+// Stays beside `put`, which calls it, through put_each, for a number that meets the end.
 pub fn put_u8(buffer: &mut [u8], at: usize, b: u8) -> usize
     ensures { Put at (b ∷ []) buffer.old buffer.new result }
 {
@@ -181,24 +184,44 @@ pub fn put_call_site(buffer: &mut [u8], at: usize, return_offset: u64, pattern: 
     put_bytes(buffer, counted, pattern)
 }
 
+// The byte of a warning's kind.
+fn put_kind(buffer: &mut [u8], at: usize, kind: WarningKind) -> usize
+    ensures { Put at (number_of kind ∷ []) buffer.old buffer.new result }
+{
+    put_u8(buffer, at, kind.number())
+}
+
 // 46 warning of two numbers: kind 1 byte, the numbers.
-pub fn put_warning(buffer: &mut [u8], at: usize, kind: u8, first: u64, second: u64) -> usize
-    ensures { Put at (encode tray_warning_tag ((kind ∷ []) ++ bytes_of 8 first ++ bytes_of 8 second)) buffer.old buffer.new result }
+pub fn put_warning(
+    buffer: &mut [u8],
+    at: usize,
+    kind: WarningKind,
+    first: u64,
+    second: u64,
+) -> usize
+    ensures { Put at (encode tray_warning_tag ((number_of kind ∷ []) ++ bytes_of 8 first ++ bytes_of 8 second)) buffer.old
+        buffer.new
+        result }
 {
     let headed = put_head(buffer, at, TRAY_WARNING_TAG, 17);
-    let kinded = put_u8(buffer, headed, kind);
+    let kinded = put_kind(buffer, headed, kind);
     let begun = put(buffer, kinded, first);
     put(buffer, begun, second)
 }
 
 // The kind of a warning of malformed ranges.
-fn malformed_kind(stopped: bool) -> u8
-    ensures { result ≡ cond stopped 2 1 }
+fn malformed_kind(stopped: bool) -> WarningKind
+    ensures { number_of result ≡ cond stopped 2 1 }
 {
-    if stopped { 2 } else { 1 }
+    if stopped {
+        WarningKind::StoppedRanges
+    } else {
+        WarningKind::MalformedRanges
+    }
 }
 
 // 46 warning of malformed ranges: kind 1 byte, the reason.
+// Stays with a bool for the kind: of the eleven kinds two have a reason, so a WarningKind would come with a clause that it is one of these.
 pub fn put_malformed_ranges(buffer: &mut [u8], at: usize, stopped: bool, reason: &[u8]) -> usize
     requires { 1 + length reason.now < 65536 }
     ensures { Put at (encode tray_warning_tag (warning_payload (malformed_ranges stopped reason.now))) buffer.old
@@ -206,6 +229,6 @@ pub fn put_malformed_ranges(buffer: &mut [u8], at: usize, stopped: bool, reason:
 {
     let kind = malformed_kind(stopped);
     let headed = put_head(buffer, at, TRAY_WARNING_TAG, (1 + reason.len()) as u16);
-    let kinded = put_u8(buffer, headed, kind);
+    let kinded = put_kind(buffer, headed, kind);
     put_bytes(buffer, kinded, reason)
 }

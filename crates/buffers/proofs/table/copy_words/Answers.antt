@@ -10,4 +10,4 @@ loop-i-init c = copying-start _ _ _ _ (omega arith) (omega arith)
 
 pub loop-i-preserved : goal.loop-i-preserved
 loop-i-preserved c = let e : c.loop-i.i * 8 + 8 ≡ (c.loop-i.i + 1) * 8 = omega arith in
-    rw e at (copying_more c.loop-i.invariant c.requires.size_in_bounds c.requires.size_in_bounds_2 c.requires.fact (omega arith) c.copy_word.ensures)
+    rw e at (copying_more c.loop-i.invariant c.requires.from_in_bounds c.requires.target_in_bounds c.requires.apart_or_below (omega arith) c.copy_word.ensures)

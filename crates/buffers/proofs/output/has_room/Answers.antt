@@ -1,1 +1,0 @@
--- `has_room` meets its contract: the place is within the tray, or past its end.
