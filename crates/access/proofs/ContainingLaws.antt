@@ -9,27 +9,33 @@ use lib.Dec.{leb, ltb}
 use lib.ListN.{drop}
 use borrow.Author.Tests.{le-leb, lt-leb, lt-ltb, le-ltb}
 use Rattle.tlv.specs.Lists.{first, map_option}
-use Rattle.tlv.specs.Bytes.{le_at}
 use Rattle.tlv.specs.Fields.{fields}
 use Rattle.tlv.specs.Model.{CompilationUnit, units}
-use Rattle.buffers.specs.Table.{records}
+use Rattle.tlv.proofs.TestLaws.{by_less}
+use Rattle.buffers.specs.Table.{chunk, records}
 use Rattle.buffers.proofs.RecordLaws.{records-rest_none, records-rest_cons}
 use Rattle.access.specs.Places.{unit_here, unit_places}
-use Rattle.access.specs.Units.{indexed_unit, unit_of24, within, containing}
+use Rattle.access.specs.declared.units.UnitSpan.{UnitSpan}
+use Rattle.access.specs.Units.{indexed_unit, unit_of24, spans, within, containing}
 use Rattle.access.proofs.UnitPlaceLaws.{units-places}
-use Rattle.access.proofs.UnitsLaws.{unit-is}
 
 -- ---- the test
 
 module _ (target o n : ℕ) where
-  pub before-unit : target < o → within target o n ≡ false
-  before-unit h = rw (lt-leb o target h)
-
   pub in_unit : o ≤ target → target - o < n → within target o n ≡ true
   in_unit h l = rw (le-leb o target h, lt-ltb target (o + n) (omega arith))
 
   pub behind-unit : o ≤ target → n ≤ target - o → within target o n ≡ false
   behind-unit h l = rw (le-leb o target h, le-ltb target (o + n) (omega arith))
+
+  -- the test that needs no sum
+  pub left-of_unit : target < o → leb o target ≡ within target o n
+  left-of_unit h = rw (lt-leb o target h)
+
+  pub left_unit : o ≤ target → ltb (target - o) n ≡ within target o n
+  left_unit h = by_less (ltb (target - o) n ≡ within target o n) (target - o) n
+      (λ l. rw (in_unit h l, lt-ltb (target - o) n l))
+      (λ l. rw (behind-unit h l, le-ltb (target - o) n l))
 
 -- ---- a turn of the search: x is what is looked for, and no unit before number i of the table has the target in it
 
@@ -38,22 +44,17 @@ module _ (w : List ℕ) (base n target : ℕ) (x : Option ℕ) (i : ℕ) (inv : 
   unfolding first map_option
   containing-none h = sym (inv ∙ rw (records-rest_none unit_of24 24 w base n i h))
 
-  module _ (o m : ℕ) (h : i < n) (eo : o ≡ le_at 8 w (base + i * 24)) (em : m ≡ le_at 8 w (base + i * 24 + 8)) where
-    turn : (q : ℕ) → q ≡ le_at 8 w (base + i * 24 + 16)
-        → x ≡ containing target (record { offset = o; length = m; place = q } ∷ drop (i + 1) (records unit_of24 24 w base n))
-    turn q eq = inv ∙ rw (records-rest_cons unit_of24 24 w base n i h, unit-is w (base + i * 24) o m q (sym eo) (sym em) (sym eq))
+  module _ (u : UnitSpan) (h : i < n) (eu : spans u ≡ unit_of24 (chunk w (base + i * 24) 24)) where
+    turn : x ≡ containing target (spans u ∷ drop (i + 1) (records unit_of24 24 w base n))
+    turn = inv ∙ rw (records-rest_cons unit_of24 24 w base n i h, eu)
 
-    pub containing-later : target < o → x ≡ containing target (drop (i + 1) (records unit_of24 24 w base n))
+    pub containing-past : within target u.offset u.length ≡ false → x ≡ containing target (drop (i + 1) (records unit_of24 24 w base n))
     unfolding first
-    containing-later l = rw (before-unit target o m l) at (turn _ refl)
+    containing-past e = rw e at turn
 
-    pub containing-past : o ≤ target → m ≤ target - o → x ≡ containing target (drop (i + 1) (records unit_of24 24 w base n))
-    unfolding first
-    containing-past l k = rw (behind-unit target o m l k) at (turn _ refl)
-
-    pub containing-here : (q : ℕ) → o ≤ target → target - o < m → q ≡ le_at 8 w (base + i * 24 + 16) → some q ≡ x
+    pub containing-here : within target u.offset u.length ≡ true → some u.place ≡ x
     unfolding first map_option
-    containing-here q l k eq = sym (rw (in_unit target o m l k) at (turn q eq))
+    containing-here e = sym (rw e at turn)
 
 -- ---- what is found
 

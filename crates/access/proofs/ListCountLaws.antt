@@ -40,9 +40,6 @@ pub record CountingLists (s : List ℕ) (p₀ p n : ℕ) : Type 0 where
   pub whole : n + lists_from s p ≡ lists_from s p₀
   pub few : n ≤ p
 
-pub counting-lists : (s : List ℕ) (p : ℕ) → CountingLists s p p 0
-counting-lists s p = record { whole = omega arith; few = omega arith }
-
 module _ {s : List ℕ} {p₀ p n : ℕ} (C : CountingLists s p₀ p n) where
   counted-all : lists_from s p ≡ 0 → n ≡ lists_from s p₀
   counted-all z = let w = C.whole in omega arith

@@ -66,6 +66,6 @@ entry_index p q o (more f fs) =
     (entry_index (behind p f) q o fs))
 
 -- q is the place of a unit's field 10
--- Stays a clause: it is of a sheet and a place in it, of which the functions that ask it have but the place in a struct.
+-- Stays a clause: a type of the sheet and the place would be made anew at each call.
 abbrev pub UnitOf : List ℕ → ℕ → Type 0
 UnitOf s q = Any (λ p. p ≡ q) (unit_places 0 (fields s))

@@ -5,6 +5,7 @@ use Rattle.tlv.specs.Lists.{first, map_option}
 use Rattle.tlv.specs.Bytes.{le_at}
 use Rattle.tlv.specs.Fields.{fields}
 use Rattle.buffers.specs.Table.{chunk, records, Kept}
+use Rattle.access.specs.declared.units.UnitSpan.{UnitSpan}
 use Rattle.access.specs.Places.{unit_here, unit_places}
 
 -- bytes of a record of the table
@@ -24,6 +25,10 @@ indexed_unit s q = record { offset = (unit_here s q).offset; length = (unit_here
 -- a record of the table, of 24 bytes: offset in the section 8 bytes, length 8 bytes, place of its field 10 8 bytes
 unfoldable pub unit_of24 : List ℕ → IndexedUnit
 unit_of24 r = record { offset = le_at 8 r 0; length = le_at 8 r 8; place = le_at 8 r 16 }
+
+-- what the code says of a unit in the table
+abbrev pub spans : UnitSpan → IndexedUnit
+spans u = record { offset = u.offset; length = u.length; place = u.place }
 
 -- a record was written at p
 pub record PutUnit (w w' : List ℕ) (p offset size place : ℕ) : Type 0 where

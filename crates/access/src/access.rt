@@ -20,12 +20,13 @@ use tlv::shapes::{ATTRIBUTE_KIND, ATTRIBUTE_VALUE, ROW_FIELD, ROW_WHOLE};
 use tlv::tags::{ATTRIBUTE_TAG, ENTRY_TAG, FIELD_HEAD, LIST_TAG, ROW_TAG, UNIT_TAG};
 
 // The next field of a tag, from a place on, before the next entry or unit, or before the first row where `rows_end` says so.
+// Stays with a bool: `Placed` is asked only of a search that ends at rows; with a closure that clause would speak of all its answers.
 fn next_of(s: &[u8], p: usize, tag: u8, rows_end: bool) -> Option<FieldSpan>
     requires { rows_end ≡ true → Placed s.now p }
     ensures { NextOwn s.now p tag result }
 {
     let mut at = p;
-    // Stays a loop: each field's own length moves the place, so nothing is counted.
+    // Stays a loop over fields: next_field says why.
     while let Some(field) = next_field(s, at) {
         if field.tag == ENTRY_TAG || field.tag == UNIT_TAG {
             return None;
@@ -73,11 +74,12 @@ pub fn next_row(s: &[u8], p: usize) -> Option<FieldSpan>
 }
 
 // The value of an attribute.
-// Stays an enum: the ten kinds of the sheet, the failed one among them, are data.
+// Stays an enum and no Option: the failed kind is one of the sheet's ten and comes from a field; where no attribute is, the answer is None.
 #[derive(Clone, Copy, Debug)]
 pub enum Value {
     Unsigned(u64),
     FileNumber(u64),
+    // Stays a start and a length: a text is told by its place in the sheet, which a slice would lose.
     Text { start: usize, len: usize },
     UnitReference(u64),
     SectionReference(u64),
@@ -107,16 +109,15 @@ fn number_value(kind: u8, n: u64) -> Value
     }
 }
 
-// The value of the attribute whose payload is the `len` bytes from `start` on.
-// Stays a place and a length: a text is told by its place in the sheet, which a slice would lose.
-fn value_at(s: &[u8], start: usize, len: usize) -> Value
-    requires len_in_bounds { start + len ≤ length s.now }
-    requires s_value { attribute_shaped (take len (drop start s.now)) ≡ true }
-    ensures { Says s.now (Some result) (value_of (attribute_of (take len (drop start s.now)))) }
+// The value of the attribute that a field is.
+fn value_at(s: &[u8], field: FieldSpan) -> Value
+    requires lies_within { field.start + field.len ≤ length s.now }
+    requires shaped { attribute_shaped (take field.len (drop field.start s.now)) ≡ true }
+    ensures { Says s.now (Some result) (value_of (attribute_of (take field.len (drop field.start s.now)))) }
 {
-    let kind = u8::read(s, start + ATTRIBUTE_KIND);
-    let at = start + ATTRIBUTE_VALUE;
-    let left = len - ATTRIBUTE_VALUE;
+    let kind = u8::read(s, field.start + ATTRIBUTE_KIND);
+    let at = field.start + ATTRIBUTE_VALUE;
+    let left = field.len - ATTRIBUTE_VALUE;
     if kind == TEXT_KIND {
         return Value::Text {
             start: at,
@@ -136,13 +137,13 @@ pub fn attribute(s: &[u8], p: usize, name: u16) -> Option<Value>
         (first (is_named name) (map attribute_of (payloads attribute_tag (own_fields (fields (drop p s.now))))))) }
 {
     let mut at = p;
-    // Stays a loop: each field's own length moves the place, so nothing is counted.
+    // Stays a loop over fields: next_field says why.
     while let Some(field) = next_field(s, at) {
         if field.tag != ATTRIBUTE_TAG {
             return None;
         }
         if u16::read(s, field.start) == name {
-            return Some(value_at(s, field.start, field.len));
+            return Some(value_at(s, field));
         }
         at = field.next;
     }
@@ -155,7 +156,7 @@ pub fn unit_by_ordinal(s: &[u8], ordinal: u64) -> Option<usize>
 {
     let mut p: usize = 0;
     let mut left = ordinal;
-    // Stays a loop: each field's own length moves the place; what is counted is what was found.
+    // Stays a loop over fields: next_field says why.
     while let Some(field) = next_field(s, p) {
         if field.tag == UNIT_TAG {
             if left == 0 {
@@ -174,7 +175,7 @@ pub fn list_count(s: &[u8], p: usize) -> usize
 {
     let mut at = p;
     let mut n: usize = 0;
-    // Stays a loop: each field's own length moves the place; what is counted is what was found.
+    // Stays a loop over fields: next_field says why.
     while let Some(field) = next_field(s, at) {
         if field.tag == UNIT_TAG {
             return n;

@@ -8,6 +8,7 @@ ghost use Rattle.access.specs.Index.{indexed_of, PutEntry, Indexed, Rising, look
 
 use buffers::numbers::Written;
 use buffers::search::lower_bound;
+use buffers::table::Stored;
 use tlv::bytes::Number;
 use tlv::fields::next_field;
 use tlv::tags::{ENTRY_TAG, UNIT_TAG};
@@ -16,10 +17,11 @@ use tlv::tags::{ENTRY_TAG, UNIT_TAG};
 pub const ENTRY_RECORD: usize = 16;
 
 // A record of the index: offset 8 bytes, place 4 bytes, place of the unit 4 bytes.
+// Stays no method of EntryPlace: a record has besides the offset by which the entry is found.
 fn put_entry(work: &mut [u8], p: usize, offset: u64, place: usize, unit: usize)
-    requires p_in_bounds { p + 16 ≤ length work.old }
-    requires place_bound { place < 2 ^ 32 }
-    requires unit_bound { unit < 2 ^ 32 }
+    requires record_fits { p + 16 ≤ length work.old }
+    requires place_fits { place < 2 ^ 32 }
+    requires unit_fits { unit < 2 ^ 32 }
     ensures { PutEntry work.old work.new p offset place unit }
 {
     offset.write(work, p);
@@ -39,7 +41,7 @@ pub fn index_entries(s: &[u8], work: &mut [u8], base: usize) -> usize
     let mut n: usize = 0;
     let mut unit: usize = 0;
     let mut offset: u64 = 0;
-    // Stays a loop: each field's own length moves the place; what is counted is what was found.
+    // Stays a loop over fields: next_field says why.
     while let Some(field) = next_field(s, p) {
         if field.tag == UNIT_TAG {
             offset = u64::read(s, field.start);
@@ -61,26 +63,28 @@ pub struct EntryPlace {
     pub unit: usize,
 }
 
-// How many of the n records have a lower offset: a binary search.
-fn lower_entry(work: &[u8], base: usize, n: usize, offset: u64) -> usize
-    requires n_in_bounds { base + entry_record * n ≤ length work.now }
-    requires rising { Rising (records indexed_of 16 work.now base n) }
-    ensures { result ≡ lower_than offset (records indexed_of 16 work.now base n) }
+// How many entries of an index have a lower offset: a binary search.
+fn lower_entry(work: &[u8], entries: Stored<EntryPlace>, offset: u64) -> usize
+    requires in_bounds { entries.base + entry_record * entries.count ≤ length work.now }
+    requires rising { Rising (records indexed_of 16 work.now entries.base entries.count) }
+    ensures { result ≡ lower_than offset (records indexed_of 16 work.now entries.base entries.count) }
 {
-    lower_bound(n, |i| u64::read(work, base + i * ENTRY_RECORD) < offset)
+    lower_bound(entries.count, |i| {
+        u64::read(work, entries.base + i * ENTRY_RECORD) < offset
+    })
 }
 
-// The entry of an offset, of a table of n records.
-pub fn find_entry(work: &[u8], base: usize, n: usize, offset: u64) -> Option<EntryPlace>
-    requires n_in_bounds { base + entry_record * n ≤ length work.now }
-    requires rising { Rising (records indexed_of 16 work.now base n) }
-    ensures { found_of offset result ≡ lookup offset (records indexed_of 16 work.now base n) }
+// The entry of an offset, of an index.
+pub fn find_entry(work: &[u8], entries: Stored<EntryPlace>, offset: u64) -> Option<EntryPlace>
+    requires in_bounds { entries.base + entry_record * entries.count ≤ length work.now }
+    requires rising { Rising (records indexed_of 16 work.now entries.base entries.count) }
+    ensures { found_of offset result ≡ lookup offset (records indexed_of 16 work.now entries.base entries.count) }
 {
-    let i = lower_entry(work, base, n, offset);
-    if n <= i {
+    let i = lower_entry(work, entries, offset);
+    if entries.count <= i {
         return None;
     }
-    let p = base + i * ENTRY_RECORD;
+    let p = entries.base + i * ENTRY_RECORD;
     if u64::read(work, p) != offset {
         return None;
     }

@@ -9,8 +9,8 @@ returns-then-field-ne-ATTRIBUTE_TAG c = search (absent-other, c.in-Some.ensures)
 pub read-requires : goal.read-requires
 read-requires c = search (name-within, c.in-Some.ensures)
 
-pub value_at-requires-clause-s_value : goal.value_at-requires-clause-s_value
-value_at-requires-clause-s_value c = search (found-shaped, c.in-Some.ensures)
+pub value_at-requires-clause-shaped : goal.value_at-requires-clause-shaped
+value_at-requires-clause-shaped c = search (found-shaped, c.in-Some.ensures)
 
 pub returns-then-read-name : goal.returns-then-read-name
 returns-then-read-name c = search (attribute-found, c.in-Some.ensures)

@@ -1,11 +1,8 @@
 -- `access::list_count` meets its contract. The loop's invariant: what is counted and what is left to count make the whole.
 use Prim.Native.Nat.{◌+◌, ◌≤◌}
 use native.Mathlib.Omega.{arith}
-use Rattle.access.proofs.ListCountLaws.{counting-lists, counted-end, counted-unit, count-below, counting_one, counting-other}
+use Rattle.access.proofs.ListCountLaws.{counted-end, counted-unit, count-below, counting_one, counting-other}
 use Rattle.access.proofs.access.list_count.Goals as goal
-
-pub loop-field-init : goal.loop-field-init
-loop-field-init c = counting-lists _ _
 
 pub returns-then-field-eq-UNIT_TAG : goal.returns-then-field-eq-UNIT_TAG
 returns-then-field-eq-UNIT_TAG c = search (counted-unit, c.in-Some.ensures)

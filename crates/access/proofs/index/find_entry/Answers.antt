@@ -5,8 +5,8 @@ use Rattle.access.proofs.index.find_entry.Goals as goal
 pub returns : goal.returns
 returns c = search found_at
 
-pub returns-then-n-i : goal.returns-then-n-i
-returns-then-n-i c = search found-past
+pub returns-then-entries-i : goal.returns-then-entries-i
+returns-then-entries-i c = search found-past
 
 pub returns-then-read-offset : goal.returns-then-read-offset
 returns-then-read-offset c = search found-other

@@ -30,16 +30,8 @@ overflow_add-offset c = let small : c.read-own.result < 2 ^ 64 = omega arith in
     let sum : c.loop-field.offset + c.read-own.result < 2 ^ 64 = search (sum_fits, c.in-Some.ensures) in
     omega arith
 
-pub put_entry-requires-clause-p_in_bounds : goal.put_entry-requires-clause-p_in_bounds
-put_entry-requires-clause-p_in_bounds c = let room : c.args.base + c.loop-field.n * 16 + 16 ≤ length c.loop-field.work = search (entry-room, c.in-Some.ensures) in
-    omega arith
-
-pub put_entry-requires-clause-place_bound : goal.put_entry-requires-clause-place_bound
-put_entry-requires-clause-place_bound c = let room : c.args.base + c.loop-field.n * 16 + 16 ≤ length c.loop-field.work = search (entry-room, c.in-Some.ensures) in
-    omega arith
-
-pub put_entry-requires-clause-unit_bound : goal.put_entry-requires-clause-unit_bound
-put_entry-requires-clause-unit_bound c = let room : c.args.base + c.loop-field.n * 16 + 16 ≤ length c.loop-field.work = search (entry-room, c.in-Some.ensures) in
+pub put_entry-requires-clause-record_fits : goal.put_entry-requires-clause-record_fits
+put_entry-requires-clause-record_fits c = let room : c.args.base + c.loop-field.n * 16 + 16 ≤ length c.loop-field.work = search (entry-room, c.in-Some.ensures) in
     omega arith
 
 pub overflow_add-n : goal.overflow_add-n

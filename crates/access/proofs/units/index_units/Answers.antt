@@ -8,15 +8,11 @@ use Rattle.access.proofs.units.index_units.Goals as goal
 pub returns : goal.returns
 returns c = search (listing-end, c.in_default.ensures)
 
-pub read-offset-requires : goal.read-offset-requires
-read-offset-requires c = search (offset_read, c.in-Some.ensures)
+pub read-requires : goal.read-requires
+read-requires c = search (offset_read, c.in-Some.ensures)
 
-pub overflow_add-field : goal.overflow_add-field
-overflow_add-field c = let read : c.in-Some.field.start + 8 ≤ length c.args.s.now = search (offset_read, c.in-Some.ensures) in
-    omega arith
-
-pub read-size-requires : goal.read-size-requires
-read-size-requires c = search (length-read, c.in-Some.ensures)
+pub read-requires-then-field-eq-UNIT_TAG : goal.read-requires-then-field-eq-UNIT_TAG
+read-requires-then-field-eq-UNIT_TAG c = search (length-read, c.in-Some.ensures)
 
 pub overflow_mul-n : goal.overflow_mul-n
 overflow_mul-n c = let room : c.args.base + c.loop-field.n * 24 + 24 ≤ length c.loop-field.work = search (unit-room, c.in-Some.ensures) in
@@ -26,8 +22,8 @@ pub overflow_add-base : goal.overflow_add-base
 overflow_add-base c = let room : c.args.base + c.loop-field.n * 24 + 24 ≤ length c.loop-field.work = search (unit-room, c.in-Some.ensures) in
     omega arith
 
-pub put_unit-requires : goal.put_unit-requires
-put_unit-requires c = search (unit-room, c.in-Some.ensures)
+pub write-requires : goal.write-requires
+write-requires c = search (unit-room, c.in-Some.ensures)
 
 pub overflow_add-n : goal.overflow_add-n
 overflow_add-n c = let room : c.args.base + c.loop-field.n * 24 + 24 ≤ length c.loop-field.work = search (unit-room, c.in-Some.ensures) in
