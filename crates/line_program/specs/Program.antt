@@ -1,6 +1,6 @@
 -- Definition. Operands and instructions of a line program as document 01 ("Rules that bite", skipping; 7 to 12), document 02 (E2, the operand of opcode 3)
 -- and the Rust's scan_line_sequence_offsets have them.
-use Rattle.std.specs.Prelude.{ℕ, zero, suc, ◌+◌, ◌*◌, ◌-◌, ◌%◌, ◌^◌, Bool, false, cond, ◌&&◌, ◌||◌, List, [], ◌∷◌, length, take, drop, replicate, leb, ltb, eqb}
+use Rattle.std.specs.Prelude.{ℕ, zero, suc, ◌+◌, ◌*◌, ◌-◌, ◌%◌, ◌^◌, Bool, false, cond, ◌&&◌, ◌||◌, List, [], ◌∷◌, length, drop, replicate, leb, ltb, eqb}
 use Rattle.tlv.specs.Outcome.{Outcome, refused, done, ◌>>=◌}
 use Rattle.tlv.specs.Model.{LineHeader}
 use Rattle.line_program.specs.Standard.{Operand, SignedOperand, OperandKind, unsigned, signed, half, Opcodes, declared, Passed}

@@ -23,10 +23,35 @@ pub struct Header {
     pub opcode_base: u8,
 }
 
-// The opcode of an extended instruction that ends a sequence (DW_LNE_end_sequence), and of one that sets the address (DW_LNE_set_address).
-pub const END_SEQUENCE: u8 = 1;
+// The standard opcodes, by the Standard's names.
+pub const DW_LNS_COPY: u8 = 1;
 
-pub const SET_ADDRESS: u8 = 2;
+pub const DW_LNS_ADVANCE_PC: u8 = 2;
+
+pub const DW_LNS_ADVANCE_LINE: u8 = 3;
+
+pub const DW_LNS_SET_FILE: u8 = 4;
+
+pub const DW_LNS_SET_COLUMN: u8 = 5;
+
+pub const DW_LNS_NEGATE_STMT: u8 = 6;
+
+pub const DW_LNS_SET_BASIC_BLOCK: u8 = 7;
+
+pub const DW_LNS_CONST_ADD_PC: u8 = 8;
+
+pub const DW_LNS_FIXED_ADVANCE_PC: u8 = 9;
+
+pub const DW_LNS_SET_PROLOGUE_END: u8 = 10;
+
+pub const DW_LNS_SET_EPILOGUE_BEGIN: u8 = 11;
+
+pub const DW_LNS_SET_ISA: u8 = 12;
+
+// The opcode of an extended instruction that ends a sequence, and of one that sets the address, by the Standard's names.
+pub const DW_LNE_END_SEQUENCE: u8 = 1;
+
+pub const DW_LNE_SET_ADDRESS: u8 = 2;
 
 // An extended instruction: its opcode, and from where to below where its operand stands, which ends it.
 #[derive(Clone, Copy, Debug, PartialEq, Eq, Hash)]
@@ -58,7 +83,7 @@ fn skip_extended(program: &[u8], at: usize) -> Result<Skipped, Refusal>
     ensures { Passes program.now at result (extended (length program.now) (drop at program.now)) }
 {
     let instruction = read_extended(program, at)?;
-    if instruction.opcode == END_SEQUENCE {
+    if instruction.opcode == DW_LNE_END_SEQUENCE {
         return Ok(Skipped::Ended(instruction.next));
     }
     Ok(Skipped::To(instruction.next))
@@ -79,8 +104,13 @@ fn skip_standard(program: &[u8], lengths: &[u8], opcode: u8, at: usize) -> Resul
 {
     // Stays a match: the Standard's own table.
     match opcode {
-        9 => take_line_bytes(program, 2, at),
-        1 | 6 | 7 | 8 | 10 | 11 => Ok(at),
+        DW_LNS_FIXED_ADVANCE_PC => take_line_bytes(program, 2, at),
+        DW_LNS_COPY
+        | DW_LNS_NEGATE_STMT
+        | DW_LNS_SET_BASIC_BLOCK
+        | DW_LNS_CONST_ADD_PC
+        | DW_LNS_SET_PROLOGUE_END
+        | DW_LNS_SET_EPILOGUE_BEGIN => Ok(at),
         _ => skip_counted(program, opcode, operand_count(lengths, opcode), at),
     }
 }

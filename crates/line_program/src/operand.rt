@@ -1,11 +1,12 @@
 // Operands of line programs.
-ghost use Rattle.std.specs.Prelude.{◌≡◌, ℕ, Bool, List, ◌+◌, ◌*◌, ◌-◌, ◌≤◌, ◌<◌, length, drop, replicate};
+ghost use Rattle.std.specs.Prelude.{◌≡◌, ℕ, Bool, List, ◌≤◌, length, drop, replicate};
 ghost use Rattle.line_program.specs.Standard.{OperandKind, unsigned, signed};
 ghost use Rattle.line_program.specs.Program.{is_sign, counted_kinds, skip_operand, skip_operands, take_line_bytes};
 ghost use Rattle.line_program.specs.Passing.{pass_within, fits_unsigned};
 ghost use Rattle.line_program.specs.PassLaws.{unsigned_passes, signed_passes};
 ghost use Rattle.line_program.specs.Scan.{Reads, SkipsTo};
 
+use crate::lines::DW_LNS_ADVANCE_LINE;
 use tlv::refusal::Refusal;
 
 // An operand that was read: its value and the place after it.
@@ -16,6 +17,7 @@ pub struct Operand {
 }
 
 // An instruction that was passed over, with the place after it; it may have ended a sequence.
+// Stays an enum and no place with a bool: whoever takes the place says what an end means to it.
 #[derive(Clone, Copy, Debug, PartialEq, Eq, Hash)]
 pub enum Skipped {
     To(usize),
@@ -102,7 +104,8 @@ impl TenthByte for Signed {
     }
 }
 
-// Passes over the operand at a place: for speed without its value.
+// Passes over the operand at a place.
+// Stays beside read_line_uleb: for speed it makes no value.
 fn skip_operand<B: TenthByte>(program: &[u8], at: usize) -> Result<usize, Refusal>
     ensures { SkipsTo program.now at result (skip_operand B.kind (drop at program.now)) }
 {
@@ -131,8 +134,8 @@ fn skip_operand<B: TenthByte>(program: &[u8], at: usize) -> Result<usize, Refusa
     }
 }
 
-// Stays a clause: the place moves with each instruction, so a type of a program and a place in it would be made anew at each step.
 // Passes over n unsigned operands.
+// Stays a clause: the place moves with each instruction, so a type of a program and a place in it would be made anew at each step.
 pub fn skip_operands(program: &[u8], n: u8, at: usize) -> Result<usize, Refusal>
     requires { at ≤ length program.now }
     ensures { SkipsTo program.now at result (skip_operands (replicate n unsigned) (drop at program.now)) }
@@ -144,18 +147,20 @@ pub fn skip_operands(program: &[u8], n: u8, at: usize) -> Result<usize, Refusal>
     Ok(p)
 }
 
-// Passes over the n operands that a header counts for an opcode: opcode 3's single one is signed, all others are unsigned.
+// Passes over the n operands that a header counts for an opcode: the single one of advance_line is signed, all others are unsigned.
+// Stays a clause: the place moves with each instruction, so a type of a program and a place in it would be made anew at each step.
 pub fn skip_counted(program: &[u8], opcode: u8, n: u8, at: usize) -> Result<usize, Refusal>
     requires { at ≤ length program.now }
     ensures { SkipsTo program.now at result (skip_operands (counted_kinds opcode n) (drop at program.now)) }
 {
-    if opcode == 3 && n == 1 {
+    if opcode == DW_LNS_ADVANCE_LINE && n == 1 {
         return skip_operand::<Signed>(program, at);
     }
     skip_operands(program, n, at)
 }
 
 // Passes over n bytes from a place on; an end past the last number is told from one past the program.
+// Stays a clause: the place moves with each instruction, so a type of a program and a place in it would be made anew at each step.
 pub fn take_line_bytes(program: &[u8], n: u64, at: usize) -> Result<usize, Refusal>
     requires { at ≤ length program.now }
     ensures { SkipsTo program.now at result (take_line_bytes (length program.now) n (drop at program.now)) }

@@ -3,7 +3,7 @@ use Rattle.std.proofs.Common.{arith}
 use Rattle.std.proofs.lemmas.Result.{err_from_is_err_and}
 use Rattle.tlv.proofs.AnswerLaws.{ok-some}
 use Rattle.tlv.proofs.OrLaws.{none-refused}
-use Rattle.line_program.proofs.lines.ScanLaws.{scan-start, scan-done, scan-err, scan-to, scan-room, scan-past, scan-ended}
+use Rattle.line_program.proofs.lines.ScanLaws.{scan-start, scan-done, scan-err, scan-to, scan-past, scan-ended}
 use Rattle.line_program.proofs.lines.scan_line_sequence_offsets.Goals as goal
 
 pub loop-p-preserved-in-To : goal.loop-p-preserved-in-To

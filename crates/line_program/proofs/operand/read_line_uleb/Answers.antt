@@ -1,7 +1,7 @@
 -- `operand::read_line_uleb` meets its contract. The value so far, what a bit more is worth, and what is left.
 use Prim.Native.Nat.{◌%◌}
 use native.Mathlib.Omega.{arith}
-use Rattle.line_program.proofs.UlebLaws.{reading-start, turn-cut, turn-overflow, turn-tenth, turn-overlong, turn_end, turn_more, fits_more, fits_last, roomy}
+use Rattle.line_program.proofs.UlebLaws.{reading-start, turn-cut, turn-overflow, turn-tenth, turn-overlong, turn_end, turn_more, fits_more, roomy}
 use Rattle.line_program.proofs.operand.read_line_uleb.Goals as goal
 
 pub loop-p-init : goal.loop-p-init

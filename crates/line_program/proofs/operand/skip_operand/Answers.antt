@@ -1,7 +1,6 @@
 -- `operand::skip_operand` meets its contract. What is left of the operand is passed over as the whole is.
 use mathlib.Core.Path.{sym, ◌∙◌}
-use Rattle.line_program.specs.Program.{skip_operand}
-use Rattle.line_program.proofs.SkipLaws.{passing-start, passing-cut, passing-overflow, passing-tenth, passing-overlong, passing-end, passing-more}
+use Rattle.line_program.proofs.SkipLaws.{passing-cut, passing-overflow, passing-tenth, passing-overlong, passing-end, passing-more}
 use Rattle.line_program.proofs.operand.skip_operand.Goals as goal
 
 pub returns-then-not-fits : goal.returns-then-not-fits

@@ -1,7 +1,7 @@
 -- `operand::skip_operands` meets its contract. What is left of the operands is passed over as all are.
 use Rattle.std.proofs.Common.{◌≡◌, ◌+◌, ◌-◌, arith}
 use Rattle.std.proofs.lemmas.Result.{err_from_is_err_and}
-use Rattle.line_program.proofs.SkipLaws.{going_start, going_done, going_err, going_next}
+use Rattle.line_program.proofs.SkipLaws.{going_done, going_err, going_next}
 use Rattle.line_program.proofs.operand.skip_operands.Goals as goal
 
 pub loop-preserved : goal.loop-preserved
