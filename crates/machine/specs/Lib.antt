@@ -4,3 +4,4 @@ pub mod Conforms
 pub mod Bounds
 pub mod Steps
 pub mod Cases
+pub mod Programs

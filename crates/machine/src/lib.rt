@@ -4,5 +4,6 @@
 pub mod extended;
 pub mod machine;
 pub mod operands;
+pub mod program;
 pub mod registers;
 pub mod steps;

@@ -1,9 +1,10 @@
 // What an instruction does to the registers of the line number state machine (the Standard, 6.2.2 and 6.2.5.1).
-ghost use Rattle.std.specs.Prelude.{◌≡◌, ◌+◌, ◌-◌, ◌/◌, ◌%◌, ◌^◌, ◌<◌};
+ghost use Rattle.std.specs.Prelude.{◌≡◌, ◌+◌, ◌/◌, ◌%◌, ◌^◌};
 ghost use Rattle.tlv.specs.Refusals.{as_outcome};
-ghost use Rattle.machine.specs.Machine.{move_to, advance, add_special_line};
+ghost use Rattle.machine.specs.Machine.{initial, move_to, advance, add_special_line};
 ghost use Rattle.machine.specs.Steps.{line_encoding};
 
+use crate::program::LineProgram;
 use tlv::refusal::Refusal;
 
 // 2^64 - 256: it takes 256 off, modulo 2^64.
@@ -32,61 +33,79 @@ pub struct Registers {
     pub column: u64,
 }
 
-// The registers at an address.
-pub fn move_to(r: Registers, address: u64) -> Result<Registers, Refusal>
-    ensures { as_outcome result ≡ move_to address r }
-{
-    if address < r.address {
-        return Err(Refusal::LineAddress);
+impl Registers {
+    // The registers at the beginning of a sequence.
+    // Stays a function of this name: the Standard begins file and line at 1, which no derived Default does, and `default()` would not say so.
+    pub fn initial() -> Registers
+        ensures { result ≡ initial }
+    {
+        Registers {
+            address: 0,
+            file: 1,
+            line: 1,
+            column: 0,
+        }
     }
-    Ok(Registers { address, ..r })
-}
 
-// The registers n bytes further on.
-pub fn move_by(r: Registers, n: u64) -> Result<Registers, Refusal>
-    ensures { as_outcome result ≡ move_to (r.address + n) r }
-{
-    let address = r.address.checked_add(n).ok_or(Refusal::LineAddress)?;
-    Ok(Registers { address, ..r })
-}
+    // The registers at an address.
+    pub fn move_to(self, address: u64) -> Result<Registers, Refusal>
+        ensures { as_outcome result ≡ move_to address self }
+    {
+        if address < self.address {
+            return Err(Refusal::LineAddress);
+        }
+        Ok(Registers { address, ..self })
+    }
 
-// The registers n operations further on.
-pub fn advance(e: Encoding, r: Registers, n: u64) -> Result<Registers, Refusal>
-    ensures { as_outcome result ≡ advance (line_encoding e) n r }
-{
-    let bytes = u64::from(e.minimum_instruction_length)
-        .checked_mul(n)
-        .ok_or(Refusal::LineAddress)?;
-    move_by(r, bytes)
-}
+    // The registers n bytes further on.
+    pub fn move_by(self, n: u64) -> Result<Registers, Refusal>
+        ensures { as_outcome result ≡ move_to (self.address + n) self }
+    {
+        let address = self.address.checked_add(n).ok_or(Refusal::LineAddress)?;
+        Ok(Registers { address, ..self })
+    }
 
-// Stays a clause: a header's encoding is read with a range of 0 too, which is refused only once its program begins.
-// The registers as far on as the special opcode of an adjusted opcode moves them.
-pub fn advance_special(e: Encoding, r: Registers, adjusted: u8) -> Result<Registers, Refusal>
-    requires { 0 < e.line_range }
-    ensures { as_outcome result ≡ advance (line_encoding e) (adjusted / e.line_range) r }
-{
-    advance(e, r, u64::from(adjusted / e.line_range))
-}
-
-// The registers with a number added to the line, modulo 2^64.
-pub fn add_line(r: Registers, n: u64) -> Registers
-    ensures { result ≡ record { address = r.address; file = r.file; line = (r.line + n) % 2 ^ 64; column = r.column } }
-{
-    Registers {
-        line: r.line.wrapping_add(n),
-        ..r
+    // The registers with a number added to the line, modulo 2^64.
+    pub fn add_line(self, n: u64) -> Registers
+        ensures { result ≡ record { address = self.address; file = self.file; line = (self.line + n) % 2 ^ 64; column = self.column } }
+    {
+        Registers {
+            line: self.line.wrapping_add(n),
+            ..self
+        }
     }
 }
 
-// The registers with the line of the special opcode of an adjusted opcode.
-pub fn add_special_line(e: Encoding, r: Registers, adjusted: u8) -> Registers
-    requires { 0 < e.line_range }
-    ensures { result ≡ add_special_line (line_encoding e) adjusted r }
-{
-    let up = u64::from(e.line_base) + u64::from(adjusted % e.line_range);
-    if NEGATIVE <= e.line_base {
-        return add_line(add_line(r, up), LESS_256);
+impl Encoding {
+    // The registers n operations further on.
+    pub fn advance(self, r: Registers, n: u64) -> Result<Registers, Refusal>
+        ensures { as_outcome result ≡ advance (line_encoding self) n r }
+    {
+        let bytes = u64::from(self.minimum_instruction_length)
+            .checked_mul(n)
+            .ok_or(Refusal::LineAddress)?;
+        r.move_by(bytes)
     }
-    add_line(r, up)
+}
+
+impl LineProgram<'_> {
+    // The registers as far on as the special opcode of an adjusted opcode moves them.
+    pub fn advance_special(self, r: Registers, adjusted: u8) -> Result<Registers, Refusal>
+        ensures { as_outcome result ≡ advance (line_encoding self.entry.encoding) (adjusted / self.entry.encoding.line_range) r }
+    {
+        let operations = adjusted / self.encoding.line_range;
+        self.encoding.advance(r, u64::from(operations))
+    }
+
+    // The registers with the line of the special opcode of an adjusted opcode.
+    pub fn add_special_line(self, r: Registers, adjusted: u8) -> Registers
+        ensures { result ≡ add_special_line (line_encoding self.entry.encoding) adjusted r }
+    {
+        let e = self.encoding;
+        let up = u64::from(e.line_base) + u64::from(adjusted % e.line_range);
+        if NEGATIVE <= e.line_base {
+            return r.add_line(up).add_line(LESS_256);
+        }
+        r.add_line(up)
+    }
 }

@@ -1,9 +1,0 @@
--- `registers::move_to` meets its contract: the registers at an address that does not fall.
-use Rattle.machine.proofs.RegisterLaws.{move_falls, move_done}
-use Rattle.machine.proofs.registers.move_to.Goals as goal
-
-pub returns : goal.returns
-returns c = search move_done
-
-pub returns-then-address-r : goal.returns-then-address-r
-returns-then-address-r c = search move_falls
