@@ -4,13 +4,12 @@ use mathlib.Core.Bool.{Bool, cond, ◌||◌, or-true}
 use mathlib.Core.Logic.{inl}
 use mathlib.Core.List.{List, [], ◌∷◌, ◌++◌}
 use Prim.Native.Nat.{ℕ, suc, ◌+◌, ◌-◌, ◌≤◌, ◌<◌}
-use native.Mathlib.Nat.{add-zero}
 use native.Mathlib.Omega.{arith}
 use borrow.Author.Tests.{eq-eqb, ne_eqb}
 use lib.Dec.{eqb}
 use lib.Seq.{drop-drop}
 use borrow.Rule.Slice.PartMut.{put_mid}
-use lib.ListN.{length, get_or, drop, set, length-set, length-append, drop_of_length-le}
+use lib.ListN.{length, get_or, set, length-append}
 use Rattle.tlv.proofs.TestLaws.{by_test}
 use Rattle.buffers.specs.Buffer.{overlay}
 use Rattle.buffers.specs.Table.{chunk, Kept}
@@ -19,7 +18,7 @@ use Rattle.buffers.proofs.TableLaws.{kept-over, kept_refl, kept-wide, kept_trans
 use Rattle.line_program.specs.Standard.{slash}
 use Rattle.paths.specs.Paths.{starts_with, ends_with, append_path}
 use Rattle.paths.specs.Join.{Laid}
-use Rattle.paths.proofs.PathCodeLaws.{drop_byte, starts_first}
+use Rattle.paths.proofs.PathCodeLaws.{starts_first}
 use Rattle.paths.proofs.Joining.{append_none, append-first}
 
 -- a path that was put in the place of so many bytes

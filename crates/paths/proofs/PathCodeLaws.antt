@@ -1,19 +1,20 @@
 -- The functions that take a path apart and test it: one law for each way through a function.
 use mathlib.Core.Path.{◌≡◌, refl, sym, ap, ◌∙◌}
-use mathlib.Core.Bool.{Bool, true, false, cond, ◌&&◌, ◌||◌, not, and-true, and-false}
-use mathlib.Core.List.{List, [], ◌∷◌, ◌++◌}
-use Prim.Native.Nat.{ℕ, suc, ◌+◌, ◌-◌, ◌≤◌, ◌<◌}
+use mathlib.Core.Bool.{Bool, true, false, cond, ◌&&◌, ◌||◌, not}
+use mathlib.Core.List.{List, [], ◌∷◌, ◌++◌, reverse}
+use Prim.Native.Nat.{ℕ, zero, suc, ◌+◌, ◌-◌, ◌≤◌, ◌<◌}
 use native.Mathlib.Omega.{arith}
 use native.Mathlib.Numerals.{add-one}
-use borrow.Author.Tests.{lt-ltb, le-ltb, le-leb, lt-leb, eq-eqb, ne_eqb, not-true, not-false}
-use lib.Dec.{leb, ltb, eqb}
-use lib.ListN.{length, get_or, take, drop, length-take, length-drop, drop_of_length-le}
+use borrow.Author.Tests.{lt-ltb, le-leb, lt-leb}
+use lib.Dec.{eqb}
+use lib.ListN.{length, get_or, take, drop, length-take, length-drop}
 use lib.Seq.{take-suc, take-length, take_all, drop-cons}
-use Rattle.std.specs.List.{list_any}
+use Rattle.std.specs.List.{list_any, AllWithin, HoldsAt}
+use Rattle.std.proofs.lemmas.List.{get_or-reverse, length-reverse}
 use Rattle.tlv.specs.Lists.{exists}
 use Rattle.line_program.specs.Standard.{slash}
-use Rattle.paths.specs.Paths.{is_separator, starts_with, is_drive, is_share, is_absolute, is_letter, starts_with_letter, has_drive_letter, starts_doubled}
-use Rattle.paths.specs.Paths.{is_windows, splits_at, after_last, base_start, basename_of, root_length, directory_name, needs_compilation}
+use Rattle.paths.specs.Paths.{is_separator, starts_with, is_drive, is_share, is_letter, starts_with_letter, has_drive_letter}
+use Rattle.paths.specs.Paths.{is_windows, splits_at, after_last, base_start, basename_of, root_length, directory_name}
 
 -- what is left from a place on is its byte and what is left after it
 pub drop_byte : (s : List ℕ) (p b : ℕ) → p < length s → b ≡ get_or s p 0 → drop p s ≡ b ∷ drop (p + 1) s
@@ -38,23 +39,52 @@ take_last s i h g =
     ap (λ (x : ℕ). take x s) z ∙ take-suc s (i - 1) 0 (omega arith)
 
 module _ (s : List ℕ) where
-  pub base-start : (w : Bool) → w ≡ is_windows s → base_start s ≡ after_last (splits_at w) (take (length s) s)
+  base-start : (w : Bool) → w ≡ is_windows s → base_start s ≡ after_last (splits_at w) (take (length s) s)
   unfolding base_start
   base-start w e = λ i. after_last (splits_at (sym e i)) (sym (take-length s) i)
 
   module _ (splits : ℕ → Bool) (i v : ℕ) (e : v ≡ after_last splits (take i s)) where
-    pub base-none : i ≤ 0 → 0 ≡ v
-    unfolding after_last
-    base-none h = let z : i ≡ 0 = omega arith in sym (e ∙ ap (λ (x : ℕ). after_last splits (take x s)) z)
-
     module _ (h : 0 < i) (g : i ≤ length s) (r : Bool) (q : r ≡ splits (get_or s (i - 1) 0)) where
-      pub base-found : r ≡ true → i ≡ v
+      base-found : r ≡ true → i ≡ v
       base-found k =
           let l : length (take (i - 1) s) + 1 ≡ i = simp length-take (omega arith) in
           sym (e ∙ ap (after_last splits) (take_last s i h g) ∙ last-here splits (take (i - 1) s) (get_or s (i - 1) 0) (sym q ∙ k) ∙ l)
 
-      pub base-pass : r ≡ false → v ≡ after_last splits (take (i - 1) s)
+      base-pass : r ≡ false → v ≡ after_last splits (take (i - 1) s)
       base-pass k = e ∙ ap (after_last splits) (take_last s i h g) ∙ last-other splits (take (i - 1) s) (get_or s (i - 1) 0) (sym q ∙ k)
+
+-- none of the last k bytes splits: what counts stands before them
+module _ (s : List ℕ) (splits : ℕ → Bool) where
+  back : (k : ℕ) → k ≤ length s → AllWithin (λ b. splits b ≡ false) (reverse s) 0 k → after_last splits s ≡ after_last splits (take (length s - k) s)
+  back zero h others =
+      let z : length s - 0 ≡ length s = omega arith in
+      ap (after_last splits) (sym (take-length s)) ∙ ap (λ (i : ℕ). after_last splits (take i s)) (sym z)
+  back (suc k) h others =
+      let next : length s - k - 1 ≡ length s - suc k = omega arith in
+      let byte : get_or (reverse s) k 0 ≡ get_or s (length s - k - 1) 0 = get_or-reverse s k 0 (omega arith) ∙ ap (λ (i : ℕ). get_or s i 0) (omega arith) in
+      base-pass s splits (length s - k) (after_last splits s) (back k (omega arith) (λ i d a b. others i d a (omega arith))) (omega arith) (omega arith)
+      (splits (get_or (reverse s) k 0)) (ap splits byte) (others k 0 (omega arith) (omega arith))
+      ∙ ap (λ (i : ℕ). after_last splits (take i s)) next
+
+module _ (s : List ℕ) (w : Bool) (e : w ≡ is_windows s) where
+  here : base_start s ≡ after_last (splits_at w) s
+  here = base-start s w e ∙ ap (after_last (splits_at w)) (take-length s)
+
+  pub base-nowhere : AllWithin (λ b. splits_at w b ≡ false) (reverse s) 0 (length (reverse s)) → 0 ≡ base_start s
+  unfolding after_last
+  base-nowhere others =
+      let all : length (reverse s) ≡ length s = length-reverse s in
+      let z : length s - length s ≡ 0 = omega arith in
+      sym (here ∙ back s (splits_at w) (length s) (omega arith) (λ i d a b. others i d a (omega arith)) ∙ ap (λ (i : ℕ). after_last (splits_at w) (take i s)) z)
+
+  pub base-behind : (k : ℕ) → k < length (reverse s) → HoldsAt (λ b. splits_at w b ≡ true) (reverse s) k
+      → AllWithin (λ b. splits_at w b ≡ false) (reverse s) 0 k → length s - k ≡ base_start s
+  base-behind k h found others =
+      let all : length (reverse s) ≡ length s = length-reverse s in
+      let byte : get_or (reverse s) k 0 ≡ get_or s (length s - k - 1) 0 = get_or-reverse s k 0 (omega arith) ∙ ap (λ (i : ℕ). get_or s i 0) (omega arith) in
+      base-found s (splits_at w) (length s - k) (after_last (splits_at w) s) (back s (splits_at w) k (omega arith) others) (omega arith) (omega arith)
+      (splits_at w (get_or (reverse s) k 0)) (ap (splits_at w) byte) (found 0)
+      ∙ sym here
 
 -- what the code returns is the directory, and the basename
 

@@ -1,5 +1,5 @@
 // Paths: parts of a path, and paths joined in a work slice.
-ghost use Rattle.std.specs.Prelude.{◌≡◌, true, false, ◌+◌, ◌-◌, ◌≤◌, length};
+ghost use Rattle.std.specs.Prelude.{◌≡◌, ◌+◌, ◌≤◌, length};
 ghost use Rattle.std.specs.List.{list_any};
 ghost use Rattle.buffers.specs.Buffer.{overlay};
 ghost use Rattle.buffers.specs.Table.{chunk};
@@ -14,12 +14,11 @@ fn base_start(path: &[u8]) -> usize
     ensures { (result ≡ base_start path.now) × (result ≤ length path.now) }
 {
     let windows = is_windows(path);
-    for i in (0..path.len()).rev() {
-        if splits_at(windows, path[i]) {
-            return i + 1;
-        }
+    let last = path.iter().rev().position(|&b| splits_at(windows, b));
+    match last {
+        Some(behind) => path.len() - behind,
+        None => 0,
     }
-    0
 }
 
 // What stands before the basename of a path; the separator between them stays with the root.
@@ -147,6 +146,7 @@ fn copy_in(work: &mut [u8], to: usize, path: &[u8])
 }
 
 // Puts a component below the path of n bytes that stands at a place of the work slice, and returns its length then.
+// Stays a place and a length: each call moves the length alone, so a table of bytes would be made anew for each part.
 pub fn append_path(work: &mut [u8], at: usize, n: usize, component: &[u8]) -> usize
     requires { at + n + 1 + length component.now ≤ length work.old }
     ensures { Laid work.old work.new at result (append_path (chunk work.old at n) component.now) }

@@ -1,10 +1,5 @@
 -- `path::append_path` meets its contract. Four ways: nothing to put, nothing before it, a slash at the end of the path or the start of the component, and
 -- neither.
-use mathlib.Core.Logic.{inl, inr}
-use mathlib.Core.Path.{◌∙◌}
-use Prim.Native.Nat.{◌+◌}
-use native.Mathlib.Omega.{arith}
-use lib.ListN.{length-set}
 use Rattle.paths.proofs.JoinLaws.{append_empty, append-start, append_ends, append_starts, append-slash}
 use Rattle.paths.proofs.path.append_path.Goals.{then-work-end-eq47-via-then-work-end-eq47, then-work-end-eq47-via-else-work-end-eq47+then-component-eq47}
 use Rattle.paths.proofs.path.append_path.Goals as goal
@@ -20,9 +15,6 @@ returns-then-work-end-eq47 c = elim c.then-work-end-eq47.branch [
   | then-work-end-eq47-via-then-work-end-eq47 w ↦ search append_ends
   | then-work-end-eq47-via-else-work-end-eq47+then-component-eq47 w ↦ search append_starts
 ]
-
-pub shape_of-work : goal.shape_of-work
-shape_of-work c = c.copy_in-2.auto.work ∙ length-set c.args.work.now (c.args.at + c.args.n) 47
 
 pub returns : goal.returns
 returns c = search append-slash

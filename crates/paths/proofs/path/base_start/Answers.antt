@@ -1,18 +1,21 @@
--- `path::base_start` meets its contract. The loop goes backward: the last byte that splits the path is that of the part that is left.
-use Rattle.std.proofs.Common.{◌≡◌, ◌+◌, ◌-◌, arith}
-use Rattle.paths.proofs.PathCodeLaws.{base-start, base-none, base-found, base-pass}
+-- `path::base_start` meets its contract: the first byte from the end that splits the path is its last.
+use Rattle.std.proofs.Common.{◌≡◌, true, false, arith, rules, tests}
+use Rattle.std.proofs.lemmas.Iterator.{IsFirst-from_position}
+use Rattle.std.proofs.lemmas.Iterator.Adapters.{YieldsList-from_rev_slice}
+use Rattle.paths.specs.Paths.{splits_at}
+use Rattle.paths.proofs.PathCodeLaws.{base-nowhere, base-behind}
 use Rattle.paths.proofs.path.base_start.Goals as goal
 
-pub loop-i-init : goal.loop-i-init
-loop-i-init c = search base-start
+pub returns-in-Some : goal.returns-in-Some
+returns-in-Some c =
+    let w = c.is_windows-windows.result in
+    let first = rw c.in-Some.is at (IsFirst-from_position _ _ _ (λ b. splits_at w b ≡ true) (λ b. splits_at w b ≡ false) c.position-last.ensures.ran
+    (YieldsList-from_rev_slice c.args.path.now cc) (λ x q k. search (rules, tests)) (λ x q k. search (rules, tests))) in
+    (base-behind c.args.path.now w c.is_windows-windows.ensures c.in-Some.behind first.0 first.1 first.2, omega arith)
 
-pub loop-i-preserved : goal.loop-i-preserved
-loop-i-preserved c = search base-pass
-
-pub returns-then-splits_at : goal.returns-then-splits_at
-returns-then-splits_at c =
-    let e : c.loop-i.i - 1 + 1 ≡ c.loop-i.i = omega arith in
-    rw e (search base-found, omega arith)
-
-pub returns : goal.returns
-returns c = (search base-none, omega arith)
+pub returns-in-None : goal.returns-in-None
+returns-in-None c =
+    let w = c.is_windows-windows.result in
+    let none = rw c.in-None.is at (IsFirst-from_position _ _ _ (λ b. splits_at w b ≡ true) (λ b. splits_at w b ≡ false) c.position-last.ensures.ran
+    (YieldsList-from_rev_slice c.args.path.now cc) (λ x q k. search (rules, tests)) (λ x q k. search (rules, tests))) in
+    (base-nowhere c.args.path.now w c.is_windows-windows.ensures none, omega arith)

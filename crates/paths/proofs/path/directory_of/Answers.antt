@@ -1,11 +1,6 @@
 -- `path::directory_of` meets its contract. The part before the basename, with the separator where it stays with the root.
-use native.Mathlib.Omega.{arith}
-use lib.ListN.{length-take}
 use Rattle.paths.proofs.PathCodeLaws.{directory-short, directory-long}
 use Rattle.paths.proofs.path.directory_of.Goals as goal
-
-pub slice_bounds-result-end : goal.slice_bounds-result-end
-slice_bounds-result-end c = simp length-take (omega arith)
 
 pub returns-then-n-root : goal.returns-then-n-root
 returns-then-n-root c = search directory-short
