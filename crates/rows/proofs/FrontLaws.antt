@@ -132,8 +132,8 @@ module _ (w : List ℕ) (l : StoredLines) (range : AddressRange) where
   pub none_below : RowsBelow w l range 0
   none_below = record { start = omega arith; end = omega arith }
 
-  pub start-below : {n : ℕ} → range.start ≤ range.end → n ≡ leading range.start (lines_of w l.lines l.line_count) → RowsBelow w l range n
-  start-below h e = record { start = omega arith; end = omega (arith, leading-mono range.start range.end (lines_of w l.lines l.line_count) h) }
+  pub start-below : {n : ℕ} → range.start ≤ range.end → n ≡ leading range.start (lines_of w l.lines.base l.lines.count) → RowsBelow w l range n
+  start-below h e = record { start = omega arith; end = omega (arith, leading-mono range.start range.end (lines_of w l.lines.base l.lines.count) h) }
 
 -- ---- of sorted rows
 
@@ -162,10 +162,10 @@ same_rows l r s t = front-sorted r s 0 l.entries t
 
 pub owned_alike : OwnedAlike
 owned_alike w w' v v' l m range asked to at r q O P h e =
-    let xs : List SequencedLine = lines_of w l.lines l.line_count in
-    let ys : List SequencedLine = lines_of v m.lines m.line_count in
+    let xs : List SequencedLine = lines_of w l.lines.base l.lines.count in
+    let ys : List SequencedLine = lines_of v m.lines.base m.lines.count in
     let same : front_rows range (sequence_of asked) ys ≡ front_rows range (sequence_of asked) xs =
-    local range (sequence_of asked) xs ys (rw (lines-length w l.lines l.line_count, ← O.past) h) (rw (← O.past) e) in
+    local range (sequence_of asked) xs ys (rw (lines-length w l.lines.base l.lines.count, ← O.past) h) (rw (← O.past) e) in
     let rows : entries_of v' at q.count ≡ entries_of w' to r.count = P.rows ∙ ap (λ (f : FrontRows). f.rows) same ∙ sym O.rows in (
       P.past ∙ ap (λ (f : FrontRows). f.past) same ∙ sym O.past,
       sym (entries-length v' at q.count) ∙ ap length rows ∙ entries-length w' to r.count,

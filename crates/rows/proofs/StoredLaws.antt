@@ -8,19 +8,22 @@ use Prim.Native.Nat.{ℕ, ◌+◌, ◌*◌, ◌≤◌, ◌<◌}
 use native.Mathlib.Omega.{arith}
 use lib.Dec.{eqb}
 use lib.ListN.{length, take, drop, get_or}
+use lib.Seq.{drop-drop}
 use borrow.Author.Tests.{eq-eqb, ne_eqb}
 use Rattle.std.specs.Prelude.{Option as Maybe, Some, None}
 use Rattle.std.specs.Option.{option_eq}
 use Rattle.tlv.specs.declared.model.AddressRange.{AddressRange}
 use Rattle.tlv.specs.declared.model.LineEntry.{LineEntry}
 use Rattle.tlv.specs.Bytes.{le_at}
-use Rattle.buffers.specs.Table.{chunk, records, Apart, Kept, Clear, KeptBut, Wrote, CopiedBytes}
+use Rattle.tlv.specs.Model.{range_of as range_at_front}
+use Rattle.buffers.specs.Table.{chunk, records, Apart, Kept, Clear, KeptBut, Wrote, PutRange, CopiedBytes}
+use Rattle.buffers.specs.Options.{numbers_of, option_at, PutOption}
 use Rattle.buffers.proofs.ChunkLaws.{le_at-chunk, le_at-front}
 use Rattle.buffers.proofs.TableLaws.{le_at-kept, kept-wide, kept_trans}
 use Rattle.buffers.proofs.RecordLaws.{records-length, records-nil, records-at, records-suc, records-add, records-part, records-rest_none, records-rest_cons, records-kept, records-but, records-push, records-copy_push, tab-take}
 use Rattle.lines.specs.Lines.{LineSequenceRange, same_sequence}
-use Rattle.rows.specs.Sizes.{column_at, entry_size, line_size, range_sequence_at, range_size, sequence_size}
-use Rattle.rows.specs.Stored.{sequence_of, stored_sequence, entry_of, entries_of, line_of, line_at, lines_of, range_of, range_at, ranges_of, PutEntry, PutSequence, PutLine, PutSequenceRange}
+use Rattle.rows.specs.Sizes.{column_at, entry_size, line_size, range_sequence_at, sequence_range_size, sequence_size}
+use Rattle.rows.specs.Stored.{sequence_of, stored_sequence, entry_of, entries_of, line_of, line_at, lines_of, range_of, range_at, ranges_of, PutEntry, PutLine, PutSequenceRange}
 
 -- ---- a sequence
 
@@ -31,13 +34,18 @@ same-is None (Some n) = refl
 same-is (Some m) None = refl
 same-is (Some m) (Some n) = refl
 
-pub stored_some : (w : List ℕ) (p : ℕ) {r n : ℕ} → r ≡ le_at 1 w p → r ≡ 1 → n ≡ le_at 8 w (p + 1) → some n ≡ stored_sequence w p
-unfolding stored_sequence
-stored_some w p e t v = rw (eq-eqb (le_at 1 w p) 1 (sym e ∙ t)) (ap some v)
+-- as it is written and read
+code-is : (s : Maybe ℕ) → numbers_of (λ n. n) s ≡ sequence_of s
+code-is None = refl
+code-is (Some n) = refl
 
-pub stored_none : (w : List ℕ) (p : ℕ) {r : ℕ} → r ≡ le_at 1 w p → ((r ≡ 1) → ⊥) → none ≡ stored_sequence w p
-unfolding stored_sequence
-stored_none w p e t = rw (ne_eqb (le_at 1 w p) 1 (λ h. t (e ∙ h)))
+pub sequence-got : (w : List ℕ) (p : ℕ) (s : Maybe ℕ) → numbers_of (λ n. n) s ≡ option_at 8 w p → sequence_of s ≡ stored_sequence w p
+unfolding stored_sequence option_at
+sequence-got w p s e = sym (code-is s) ∙ e
+
+sequence-put : {w w' : List ℕ} {p : ℕ} (s : Maybe ℕ) → PutOption w w' p 8 (numbers_of (λ n. n) s) → stored_sequence w' p ≡ sequence_of s
+unfolding stored_sequence option_at
+sequence-put s P = P.value ∙ code-is s
 
 -- in a record it is as in the table
 stored-chunk : (w : List ℕ) (p m i : ℕ) → i + sequence_size ≤ m → stored_sequence (chunk w p m) i ≡ stored_sequence w (p + i)
@@ -102,13 +110,19 @@ module _ (w : List ℕ) (p : ℕ) where
     statement_sequence = stored_sequence w (p + range_sequence_at);
   }
   unfolding range_at range_of
-  range-is = λ i. record { range = record { start = le_at-front 8 w p range_size (omega arith) i; end = le_at-chunk 8 w p range_size 8 (omega arith) i }; statement_sequence = stored-chunk w p range_size range_sequence_at (omega arith) i }
+  range-is = λ i. record { range = record { start = le_at-front 8 w p sequence_range_size (omega arith) i; end = le_at-chunk 8 w p sequence_range_size 8 (omega arith) i }; statement_sequence = stored-chunk w p sequence_range_size range_sequence_at (omega arith) i }
 
-  pub range-start : (range_at w p).range.start ≡ le_at 8 w p
-  range-start = ap (λ (q : LineSequenceRange). q.range.start) range-is
+  -- its addresses are the range at the front of what stands there
+  le-front : (k j : ℕ) → le_at k w (p + j) ≡ le_at k (drop p w) j
+  unfolding le_at
+  le-front k j = rw (drop-drop j p w)
 
-  pub range-end : (range_at w p).range.end ≡ le_at 8 w (p + 8)
-  range-end = ap (λ (q : LineSequenceRange). q.range.end) range-is
+  pub range-front : (range_at w p).range ≡ range_at_front (drop p w)
+  unfolding range_at_front
+  range-front =
+      let here : p ≡ p + 0 = omega arith in
+      let start : le_at 8 w p ≡ le_at 8 (drop p w) 0 = ap (le_at 8 w) here ∙ le-front 8 0 in
+      ap (λ (q : LineSequenceRange). q.range) range-is ∙ (λ i. record { start = start i; end = le-front 8 8 i })
 
   pub range-sequence : (range_at w p).statement_sequence ≡ stored_sequence w (p + range_sequence_at)
   range-sequence = ap (λ (q : LineSequenceRange). q.statement_sequence) range-is
@@ -137,34 +151,23 @@ put-entry {w} {w₁} {w₂} {w₃} {w₄} {p} {l} A F L C =
           (kept_trans (kept-wide p entry_size L.rest (omega arith) (omega arith)) (kept-wide p entry_size C.rest (omega arith) (omega arith))));
     }
 
-pub put_some : {w w₁ w₂ : List ℕ} {p n : ℕ} → Wrote w w₁ p 1 1 → Wrote w₁ w₂ (p + 1) 8 n → PutSequence w w₂ p (Some n)
-put_some {w} {w₁} {w₂} {p} {n} T N = record {
-  sequence = sym (stored_some w₂ p (sym (le_at-kept 1 p N.rest (inl (omega arith)) ∙ T.value)) refl (sym N.value));
-  rest = kept_trans (kept-wide p sequence_size T.rest (omega arith) (omega arith)) (kept-wide p sequence_size N.rest (omega arith) (omega arith));
-}
-
-pub put-none : {w w₁ : List ℕ} {p : ℕ} → Wrote w w₁ p 1 0 → PutSequence w w₁ p None
-put-none {w} {w₁} {p} T = record {
-  sequence = sym (stored_none w₁ p (sym T.value) (λ e. (omega arith)));
-  rest = kept-wide p sequence_size T.rest (omega arith) (omega arith);
-}
-
-pub put-line : {w w₁ w₂ : List ℕ} {p : ℕ} {l : LineEntry} {s : Maybe ℕ} → PutEntry w w₁ p l → PutSequence w₁ w₂ (p + entry_size) s
+pub put-line : {w w₁ w₂ : List ℕ} {p : ℕ} {l : LineEntry} {s : Maybe ℕ} → PutEntry w w₁ p l → PutOption w₁ w₂ (p + entry_size) 8 (numbers_of (λ n. n) s)
     → PutLine w w₂ p l s
 put-line {w} {w₁} {w₂} {p} {l} {s} E S = record {
-  line = line-is w₂ p ∙ (λ i. record { entry = (ap entry_of (S.rest.same p entry_size (inl (omega arith))) ∙ E.entry) i; statement_sequence = S.sequence i });
+  line = line-is w₂ p ∙ (λ i. record { entry = (ap entry_of (S.rest.same p entry_size (inl (omega arith))) ∙ E.entry) i; statement_sequence = sequence-put s S i });
   rest = kept_trans (kept-wide p line_size E.rest (omega arith) (omega arith)) (kept-wide p line_size S.rest (omega arith) (omega arith));
 }
 
-pub put-range : {w w₁ w₂ w₃ : List ℕ} {p : ℕ} {r : AddressRange} {s : Maybe ℕ} → Wrote w w₁ p 8 r.start → Wrote w₁ w₂ (p + 8) 8 r.end → PutSequence w₂ w₃ (p + range_sequence_at) s → PutSequenceRange w w₃ p r s
-put-range {w} {w₁} {w₂} {w₃} {p} {r} {s} A B S =
-    let ea : le_at 8 w₃ p ≡ r.start = le_at-kept 8 p S.rest (inl (omega arith)) ∙ le_at-kept 8 p B.rest (inl (omega arith)) ∙ A.value in
-    let eb : le_at 8 w₃ (p + 8) ≡ r.end = le_at-kept 8 (p + 8) S.rest (inl (omega arith)) ∙ B.value in
+pub put-range : {w w₁ w₂ : List ℕ} {p : ℕ} {r : AddressRange} {s : Maybe ℕ} → PutRange w w₁ p r → PutOption w₁ w₂ (p + range_sequence_at) 8 (numbers_of (λ n. n) s)
+    → PutSequenceRange w w₂ p r s
+unfolding range_at_front
+put-range {w} {w₁} {w₂} {p} {r} {s} A S =
+    let kept : range_at_front (chunk w₂ p 16) ≡ r = ap range_at_front (S.rest.same p 16 (inl (omega arith))) ∙ A.value in
+    let ea : le_at 8 w₂ p ≡ r.start = sym (le_at-front 8 w₂ p 16 (omega arith)) ∙ ap (λ (x : AddressRange). x.start) kept in
+    let eb : le_at 8 w₂ (p + 8) ≡ r.end = sym (le_at-chunk 8 w₂ p 16 8 (omega arith)) ∙ ap (λ (x : AddressRange). x.end) kept in
     record {
-      range = range-is w₃ p ∙ (λ i. record { range = record { start = ea i; end = eb i }; statement_sequence = S.sequence i });
-      rest =
-          kept_trans (kept-wide p range_size A.rest (omega arith) (omega arith))
-          (kept_trans (kept-wide p range_size B.rest (omega arith) (omega arith)) (kept-wide p range_size S.rest (omega arith) (omega arith)));
+      range = range-is w₂ p ∙ (λ i. record { range = record { start = ea i; end = eb i }; statement_sequence = sequence-put s S i });
+      rest = kept_trans (kept-wide p sequence_range_size A.rest (omega arith) (omega arith)) (kept-wide p sequence_range_size S.rest (omega arith) (omega arith));
     }
 
 -- ---- tables of a unit's rows
@@ -252,24 +255,24 @@ entries-kept = records-kept entry_of entry_size
 
 pub ranges-length : (w : List ℕ) (b n : ℕ) → length (ranges_of w b n) ≡ n
 unfolding ranges_of
-ranges-length = records-length range_of range_size
+ranges-length = records-length range_of sequence_range_size
 
 pub ranges-nil : (w : List ℕ) (b : ℕ) → ranges_of w b 0 ≡ []
 unfolding ranges_of
-ranges-nil = records-nil range_of range_size
+ranges-nil = records-nil range_of sequence_range_size
 
 pub ranges-rest_none : (w : List ℕ) (b n x : ℕ) → n ≤ x → drop x (ranges_of w b n) ≡ []
 unfolding ranges_of
-ranges-rest_none = records-rest_none range_of range_size
+ranges-rest_none = records-rest_none range_of sequence_range_size
 
-pub ranges-rest_cons : (w : List ℕ) (b n x : ℕ) → x < n → drop x (ranges_of w b n) ≡ range_at w (b + x * range_size) ∷ drop (x + 1) (ranges_of w b n)
+pub ranges-rest_cons : (w : List ℕ) (b n x : ℕ) → x < n → drop x (ranges_of w b n) ≡ range_at w (b + x * sequence_range_size) ∷ drop (x + 1) (ranges_of w b n)
 unfolding ranges_of range_at
-ranges-rest_cons = records-rest_cons range_of range_size
+ranges-rest_cons = records-rest_cons range_of sequence_range_size
 
-pub ranges-kept : {w w' : List ℕ} {p m : ℕ} (b n : ℕ) → Kept w w' p m → Apart b (n * range_size) p m → ranges_of w' b n ≡ ranges_of w b n
+pub ranges-kept : {w w' : List ℕ} {p m : ℕ} (b n : ℕ) → Kept w w' p m → Apart b (n * sequence_range_size) p m → ranges_of w' b n ≡ ranges_of w b n
 unfolding ranges_of
-ranges-kept = records-kept range_of range_size
+ranges-kept = records-kept range_of sequence_range_size
 
-pub ranges-push : {w w' : List ℕ} {r : AddressRange} {s : Maybe ℕ} (b n : ℕ) → PutSequenceRange w w' (b + n * range_size) r s → ranges_of w' b (n + 1) ≡ ranges_of w b n ++ (record { range = r; statement_sequence = sequence_of s } ∷ [])
+pub ranges-push : {w w' : List ℕ} {r : AddressRange} {s : Maybe ℕ} (b n : ℕ) → PutSequenceRange w w' (b + n * sequence_range_size) r s → ranges_of w' b (n + 1) ≡ ranges_of w b n ++ (record { range = r; statement_sequence = sequence_of s } ∷ [])
 unfolding ranges_of range_at
-ranges-push {w} {w'} {r} {s} b n P = records-push range_of range_size b n (record { range = r; statement_sequence = sequence_of s }) P.rest P.range
+ranges-push {w} {w'} {r} {s} b n P = records-push range_of sequence_range_size b n (record { range = r; statement_sequence = sequence_of s }) P.rest P.range

@@ -20,8 +20,8 @@ line_size = entry_size + sequence_size
 abbrev pub range_sequence_at : ℕ
 range_sequence_at = 16
 
-abbrev pub range_size : ℕ
-range_size = range_sequence_at + sequence_size
+abbrev pub sequence_range_size : ℕ
+sequence_range_size = range_sequence_at + sequence_size
 
 -- a unit's row, and as much again while rows are sorted
 abbrev pub row_room : ℕ

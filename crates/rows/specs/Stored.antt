@@ -6,7 +6,7 @@ use Rattle.tlv.specs.declared.model.LineEntry.{LineEntry}
 use Rattle.tlv.specs.Bytes.{le_at}
 use Rattle.buffers.specs.Table.{chunk, records, Kept}
 use Rattle.lines.specs.Lines.{SequencedLine, LineSequenceRange}
-use Rattle.rows.specs.Sizes.{column_at, entry_size, line_size, range_sequence_at, range_size, sequence_size}
+use Rattle.rows.specs.Sizes.{column_at, entry_size, line_size, range_sequence_at, sequence_range_size, sequence_size}
 
 -- what the code's Option says, in the definitions' own
 abbrev pub sequence_of : Maybe ℕ → Option ℕ
@@ -42,10 +42,10 @@ unfoldable pub range_of : List ℕ → LineSequenceRange
 range_of b = record { range = record { start = le_at 8 b 0; end = le_at 8 b 8 }; statement_sequence = stored_sequence b range_sequence_at }
 
 unfoldable pub range_at : List ℕ → ℕ → LineSequenceRange
-range_at w p = range_of (chunk w p range_size)
+range_at w p = range_of (chunk w p sequence_range_size)
 
 unfoldable pub ranges_of : List ℕ → ℕ → ℕ → List LineSequenceRange
-ranges_of w base n = records range_of range_size w base n
+ranges_of w base n = records range_of sequence_range_size w base n
 
 -- ---- what the writes promise
 
@@ -53,14 +53,10 @@ pub record PutEntry (w w' : List ℕ) (p : ℕ) (l : LineEntry) : Type 0 where
   pub entry : entry_of (chunk w' p entry_size) ≡ l
   pub rest : Kept w w' p entry_size
 
-pub record PutSequence (w w' : List ℕ) (p : ℕ) (s : Maybe ℕ) : Type 0 where
-  pub sequence : stored_sequence w' p ≡ sequence_of s
-  pub rest : Kept w w' p sequence_size
-
 pub record PutLine (w w' : List ℕ) (p : ℕ) (l : LineEntry) (s : Maybe ℕ) : Type 0 where
   pub line : line_at w' p ≡ record { entry = l; statement_sequence = sequence_of s }
   pub rest : Kept w w' p line_size
 
 pub record PutSequenceRange (w w' : List ℕ) (p : ℕ) (r : AddressRange) (s : Maybe ℕ) : Type 0 where
   pub range : range_at w' p ≡ record { range = r; statement_sequence = sequence_of s }
-  pub rest : Kept w w' p range_size
+  pub rest : Kept w w' p sequence_range_size

@@ -3,27 +3,55 @@ ghost use Rattle.std.specs.Prelude.{◌≡◌, ◌&&◌, ◌+◌, ◌*◌, ◌�
 ghost use Rattle.std.specs.Option.{option_to_list};
 ghost use Rattle.tlv.specs.Lists.{first, last};
 ghost use Rattle.lines.specs.Rows.{contains, belongs, moved_to, earlier_row, starts_late};
-ghost use Rattle.rows.specs.Sizes.{entry_size, range_size};
+ghost use Rattle.rows.specs.Sizes.{entry_size, sequence_range_size};
 ghost use Rattle.rows.specs.Stored.{sequence_of, entries_of, lines_of, range_at, ranges_of};
-ghost use Rattle.rows.specs.Selects.{unit_lines_of, RowsIn, covering_of, Fronted};
+ghost use Rattle.rows.specs.Selects.{unit_lines_of, RowsIn, FirstAt, covering_of, Fronted};
 
 use crate::line::{
-    ENTRY_SIZE, LINE_SIZE, RANGE_SEQUENCE, RANGE_SIZE, belongs_to, entry_at, put_entry, sequence_at,
+    ENTRY_SIZE, LINE_SIZE, LineSequenceRange, RANGE_SEQUENCE, SEQUENCE_RANGE_SIZE, belongs_to,
+    entry_at, put_entry, sequence_at,
 };
-use crate::search::lower_bound;
-use crate::unit_lines::{Rows, StoredLines};
+use crate::search::lower_row;
+use crate::unit_lines::StoredLines;
+use buffers::table::Stored;
 use tlv::bytes::Number;
 use tlv::model::{AddressRange, LineEntry};
 
 // Whether the sequence at p belongs to the one that is asked for and covers an address.
+// Stays bare parameters: last_before asks for another sequence, takes_row has a row's own address; for the other three a struct would be made and taken apart.
 fn covers(work: &[u8], p: usize, address: u64, asked: Option<u64>) -> bool
-    requires { p + range_size ≤ length work.now }
+    requires { p + sequence_range_size ≤ length work.now }
     ensures { result ≡ (belongs (sequence_of asked) (range_at work.now p).statement_sequence
         && contains (range_at work.now p).range address) }
 {
     belongs_to(asked, sequence_at(work, p + RANGE_SEQUENCE))
-        && u64::read(work, p) <= address
-        && address < u64::read(work, p + 8)
+        && AddressRange::read(work, p).holds(address)
+}
+
+// The number of the first sequence that covers an address and belongs to the one that is asked for.
+// Stays apart from references' is_scanned: that asks by `any` of targets, this by `find` of sequences; only the walk over a table is alike.
+fn first_covering(
+    work: &[u8],
+    sequences: Stored<LineSequenceRange>,
+    address: u64,
+    asked: Option<u64>,
+) -> Option<usize>
+    requires { sequences.base + sequences.count * sequence_range_size ≤ length work.now }
+    ensures { FirstAt (λ q. belongs (sequence_of asked) q.statement_sequence && contains q.range address)
+        work.now sequences.base sequences.count result }
+{
+    (0..sequences.count).find(
+        |&i|
+            requires { sequences.base + (i + 1) * sequence_range_size ≤ length work.now }
+        {
+            covers(
+                work,
+                sequences.base + i * SEQUENCE_RANGE_SIZE,
+                address,
+                asked,
+            )
+        },
+    )
 }
 
 // The first sequence that covers an address and belongs to the one that is asked for.
@@ -35,25 +63,22 @@ fn covering_sequence(
 ) -> Option<Option<u64>>
     requires { RowsIn work.now l }
     ensures { covering_of result (first (λ q. belongs (sequence_of asked) q.statement_sequence && contains q.range address)
-        (ranges_of work.now l.sequences l.sequence_count)) }
+        (ranges_of work.now l.sequences.base l.sequences.count)) }
 {
-    for i in 0..l.sequence_count {
-        let p = l.sequences + i * RANGE_SIZE;
-        if covers(work, p, address, asked) {
-            return Some(sequence_at(work, p + RANGE_SEQUENCE));
-        }
-    }
-    None
+    let i = first_covering(work, l.sequences, address, asked)?;
+    let p = l.sequences.base + i * SEQUENCE_RANGE_SIZE;
+    Some(sequence_at(work, p + RANGE_SEQUENCE))
 }
 
 // The last row below an address that belongs to the sequence that is asked for, moved to the address.
 fn last_before(work: &[u8], l: StoredLines, address: u64, asked: Option<u64>) -> Option<LineEntry>
     requires { RowsIn work.now l }
     ensures { option_to_list result ≡ moved_to address (last (λ x. ltb x.entry.address address && belongs (sequence_of asked) x.statement_sequence)
-        (lines_of work.now l.lines l.line_count)) }
+        (lines_of work.now l.lines.base l.lines.count)) }
 {
-    for i in (0..lower_bound(work, l.lines, l.line_count, address)).rev() {
-        let p = l.lines + i * LINE_SIZE;
+    // Stays a loop: of `find` over a range that is reversed std's lemmas say nothing.
+    for i in (0..lower_row(work, l.lines, address)).rev() {
+        let p = l.lines.base + i * LINE_SIZE;
         if belongs_to(asked, sequence_at(work, p + ENTRY_SIZE)) {
             return Some(LineEntry {
                 address,
@@ -78,12 +103,12 @@ fn earlier_row(
     last_before(work, l, range.start, asked.or(own))
 }
 
-// Whether the `count` rows at p are none, or the first is above a start.
-fn starts_late(work: &[u8], p: usize, count: usize, start: u64) -> bool
-    requires { p + count * entry_size ≤ length work.now }
-    ensures { result ≡ starts_late start (entries_of work.now p count) }
+// Whether rows are none, or the first is above a start.
+fn starts_late(work: &[u8], rows: Stored<LineEntry>, start: u64) -> bool
+    requires { rows.base + rows.count * entry_size ≤ length work.now }
+    ensures { result ≡ starts_late start (entries_of work.now rows.base rows.count) }
 {
-    count == 0 || start < u64::read(work, p)
+    rows.count == 0 || start < u64::read(work, rows.base)
 }
 
 // Puts the row in force at the start before the `count` own rows, which stand a row past the buffer's begin, where they start late.
@@ -93,24 +118,18 @@ pub fn put_earlier(
     range: AddressRange,
     asked: Option<u64>,
     count: usize,
-) -> Rows
+) -> Stored<LineEntry>
     requires rows_in { RowsIn work.old l }
-    requires count_bound { count ≤ l.line_count }
+    requires count_bound { count ≤ l.lines.count }
     ensures { Fronted work.old work.new l range asked count result }
 {
-    let own = Rows {
-        rows: l.buffer + ENTRY_SIZE,
-        count,
-    };
-    if !starts_late(work, own.rows, count, range.start) {
+    let own = Stored::new(l.buffer + ENTRY_SIZE, count);
+    if !starts_late(work, own, range.start) {
         return own;
     }
     let Some(entry) = earlier_row(work, l, range, asked) else {
         return own;
     };
     put_entry(work, l.buffer, entry);
-    Rows {
-        rows: l.buffer,
-        count: count + 1,
-    }
+    Stored::new(l.buffer, count + 1)
 }

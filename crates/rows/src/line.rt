@@ -2,11 +2,27 @@
 ghost use Rattle.std.specs.Prelude.{◌≡◌, ◌+◌, ◌≤◌, length};
 ghost use Rattle.buffers.specs.Table.{chunk};
 ghost use Rattle.lines.specs.Rows.{belongs};
-ghost use Rattle.rows.specs.Sizes.{entry_size, line_size, range_size, sequence_size};
-ghost use Rattle.rows.specs.Stored.{sequence_of, stored_sequence, entry_of, line_at, PutEntry, PutSequence, PutLine, PutSequenceRange};
+ghost use Rattle.rows.specs.Sizes.{entry_size, line_size, sequence_range_size, sequence_size};
+ghost use Rattle.rows.specs.Stored.{sequence_of, stored_sequence, entry_of, line_at, PutEntry, PutLine, PutSequenceRange};
 
-use buffers::numbers::Written;
+use buffers::numbers::{Written, put_option, read_option};
+use buffers::table::put_range_at;
 use tlv::bytes::Number;
+use tlv::model::{AddressRange, FileIndex, LineEntry};
+
+// A unit's row: a function's row, and the offset at which the instructions of its sequence begin, where that is known.
+#[derive(Clone, Copy, Debug)]
+pub struct SequencedLine {
+    pub entry: LineEntry,
+    pub statement_sequence: Option<u64>,
+}
+
+// The addresses of a sequence, and the offset at which its instructions begin, where that is known.
+#[derive(Clone, Copy, Debug)]
+pub struct LineSequenceRange {
+    pub range: AddressRange,
+    pub statement_sequence: Option<u64>,
+}
 
 // The sizes of records. A sequence's offset: whether there is one, 1 byte, and the offset, 8.
 pub const SEQUENCE_SIZE: usize = 9;
@@ -22,7 +38,7 @@ pub const LINE_SIZE: usize = ENTRY_SIZE + SEQUENCE_SIZE;
 // Where the offset stands in the record of a sequence, behind its start and end.
 pub const RANGE_SEQUENCE: usize = 16;
 
-pub const RANGE_SIZE: usize = RANGE_SEQUENCE + SEQUENCE_SIZE;
+pub const SEQUENCE_RANGE_SIZE: usize = RANGE_SEQUENCE + SEQUENCE_SIZE;
 
 // A unit's row, and as much again while rows are sorted.
 pub const ROW_ROOM: usize = 2 * LINE_SIZE;
@@ -39,14 +55,11 @@ pub fn sequence_at(work: &[u8], p: usize) -> Option<u64>
     requires { p + sequence_size ≤ length work.now }
     ensures { sequence_of result ≡ stored_sequence work.now p }
 {
-    if u8::read(work, p) == 1 {
-        return Some(u64::read(work, p + 1));
-    }
-    None
+    read_option(work, p)
 }
 
-// Stays a clause: that a row lies in the work slice cannot be a type's fact, since the slice is lent and written.
 // The address of the row at p.
+// Stays a clause: it is of the place of one record, and a type of the slice and that place would be made anew for each record that is read.
 pub fn address_at(work: &[u8], p: usize) -> u64
     requires { p + line_size ≤ length work.now }
     ensures { result ≡ (line_at work.now p).entry.address }
@@ -55,19 +68,19 @@ pub fn address_at(work: &[u8], p: usize) -> u64
 }
 
 // The function's row at p.
-pub fn entry_at(work: &[u8], p: usize) -> tlv::model::LineEntry
+pub fn entry_at(work: &[u8], p: usize) -> LineEntry
     requires { p + entry_size ≤ length work.now }
     ensures { result ≡ entry_of (chunk work.now p entry_size) }
 {
-    tlv::model::LineEntry {
+    LineEntry {
         address: u64::read(work, p),
-        file: tlv::model::FileIndex(u32::read(work, p + 8)),
+        file: FileIndex(u32::read(work, p + 8)),
         line: u32::read(work, p + 12),
         column: u16::read(work, p + COLUMN),
     }
 }
 
-pub fn put_entry(work: &mut [u8], p: usize, entry: tlv::model::LineEntry)
+pub fn put_entry(work: &mut [u8], p: usize, entry: LineEntry)
     requires { p + entry_size ≤ length work.old }
     ensures { PutEntry work.old work.new p entry }
 {
@@ -77,40 +90,18 @@ pub fn put_entry(work: &mut [u8], p: usize, entry: tlv::model::LineEntry)
     entry.column.write(work, p + COLUMN);
 }
 
-// Stays apart from files' put_index: there a number has 4 bytes and a type of its own, and a trait over both would be longer than they are.
-fn put_sequence(work: &mut [u8], p: usize, sequence: Option<u64>)
-    requires { p + sequence_size ≤ length work.old }
-    ensures { PutSequence work.old work.new p sequence }
-{
-    match sequence {
-        Some(offset) => {
-            1u8.write(work, p);
-            offset.write(work, p + 1);
-        }
-        None => {
-            0u8.write(work, p);
-        }
-    }
-}
-
-pub fn put_line(work: &mut [u8], p: usize, entry: tlv::model::LineEntry, sequence: Option<u64>)
+pub fn put_line(work: &mut [u8], p: usize, line: SequencedLine)
     requires { p + line_size ≤ length work.old }
-    ensures { PutLine work.old work.new p entry sequence }
+    ensures { PutLine work.old work.new p line.entry line.statement_sequence }
 {
-    put_entry(work, p, entry);
-    put_sequence(work, p + ENTRY_SIZE, sequence);
+    put_entry(work, p, line.entry);
+    put_option(work, p + ENTRY_SIZE, line.statement_sequence);
 }
 
-pub fn put_sequence_range(
-    work: &mut [u8],
-    p: usize,
-    range: tlv::model::AddressRange,
-    sequence: Option<u64>,
-)
-    requires { p + range_size ≤ length work.old }
-    ensures { PutSequenceRange work.old work.new p range sequence }
+pub fn put_sequence_range(work: &mut [u8], p: usize, sequence: LineSequenceRange)
+    requires { p + sequence_range_size ≤ length work.old }
+    ensures { PutSequenceRange work.old work.new p sequence.range sequence.statement_sequence }
 {
-    range.start.write(work, p);
-    range.end.write(work, p + 8);
-    put_sequence(work, p + RANGE_SEQUENCE, sequence);
+    put_range_at(work, p, sequence.range);
+    put_option(work, p + RANGE_SEQUENCE, sequence.statement_sequence);
 }

@@ -4,13 +4,17 @@ ghost use Rattle.rows.specs.Sizes.{line_size};
 ghost use Rattle.rows.specs.Stored.{lines_of};
 ghost use Rattle.rows.specs.Sorts.{Sorted, leading};
 
-use crate::line::{LINE_SIZE, address_at};
+use crate::line::{LINE_SIZE, SequencedLine, address_at};
+use buffers::search::lower_bound;
+use buffers::table::Stored;
 
-// Of n sorted rows, the index of the first whose address is at least `address`, or n.
-pub fn lower_bound(work: &[u8], base: usize, n: usize, address: u64) -> usize
-    requires line_size_in_bounds { base + n * line_size ≤ length work.now }
-    requires sorted { Sorted 0 (lines_of work.now base n) }
-    ensures { result ≡ leading address (lines_of work.now base n) }
+// Of sorted rows, the index of the first whose address is at least `address`, or their number.
+pub fn lower_row(work: &[u8], rows: Stored<SequencedLine>, address: u64) -> usize
+    requires rows_within { rows.base + rows.count * line_size ≤ length work.now }
+    requires sorted { Sorted 0 (lines_of work.now rows.base rows.count) }
+    ensures { result ≡ leading address (lines_of work.now rows.base rows.count) }
 {
-    buffers::search::lower_bound(n, |i| address_at(work, base + i * LINE_SIZE) < address)
+    lower_bound(rows.count, |i| {
+        address_at(work, rows.base + i * LINE_SIZE) < address
+    })
 }

@@ -1,34 +1,34 @@
 // The rows of a function out of its unit's (the Rust's UnitLines::for_range).
 ghost use Rattle.std.specs.Prelude.{◌≡◌, cond, ◌&&◌, ◌+◌, ◌*◌, ◌≤◌, leb, length};
 ghost use Rattle.std.proofs.Math.Option.{none};
+ghost use Rattle.lines.specs.Lines.{same_sequence};
 ghost use Rattle.lines.specs.Rows.{belongs, sequence_exists};
-ghost use Rattle.rows.specs.Sizes.{entry_size, line_size};
-ghost use Rattle.rows.specs.Stored.{sequence_of, stored_sequence};
+ghost use Rattle.rows.specs.Sizes.{entry_size, line_size, sequence_range_size};
+ghost use Rattle.rows.specs.Stored.{sequence_of, stored_sequence, range_at};
 ghost use Rattle.rows.specs.Selects.{unit_lines_of, RowsIn, RowsBelow, Owned, ForRange};
 
 use crate::earlier::put_earlier;
 use crate::line::{
-    ENTRY_SIZE, LINE_SIZE, RANGE_SEQUENCE, RANGE_SIZE, address_at, belongs_to, sequence_at,
+    ENTRY_SIZE, LINE_SIZE, LineSequenceRange, RANGE_SEQUENCE, SEQUENCE_RANGE_SIZE, SequencedLine,
+    address_at, belongs_to, sequence_at,
 };
 use crate::normalize::compact_line_rows;
-use crate::search::lower_bound;
-use tlv::model::AddressRange;
+use crate::search::lower_row;
+use buffers::table::{Stored, copy_record};
+use tlv::model::{AddressRange, LineEntry};
 
 // Where a unit's sorted rows and its sequences stand in the work slice, and where the rows of a function are put.
 #[derive(Clone, Copy, Debug)]
 pub struct StoredLines {
-    pub lines: usize,
-    pub line_count: usize,
-    pub sequences: usize,
-    pub sequence_count: usize,
+    pub lines: Stored<SequencedLine>,
+    pub sequences: Stored<LineSequenceRange>,
     pub buffer: usize,
 }
 
 // The rows of a function in the work slice; `invalid`: it asked for a sequence that does not exist, and has rows all the same.
 #[derive(Clone, Copy, Debug)]
 pub struct FunctionRows {
-    pub rows: usize,
-    pub count: usize,
+    pub rows: Stored<LineEntry>,
     pub invalid: bool,
 }
 
@@ -37,13 +37,6 @@ pub struct FunctionRows {
 pub struct OwnRows {
     pub count: usize,
     pub past: usize,
-}
-
-// Rows in the work slice.
-#[derive(Clone, Copy, Debug)]
-pub struct Rows {
-    pub rows: usize,
-    pub count: usize,
 }
 
 // Whether the row at p, which has an address, is at or past a start and belongs to the sequence that is asked for.
@@ -64,26 +57,27 @@ pub fn own_rows(
     to: usize,
     below: usize,
 ) -> OwnRows
-    requires line_size_bound { l.lines + l.line_count * line_size ≤ to }
-    requires entry_size_in_bounds { to + l.line_count * entry_size ≤ length work.old }
-    requires rows_below { RowsBelow work.old l range below }
+    requires rows_below_target { l.lines.base + l.lines.count * line_size ≤ to }
+    requires target_within { to + l.lines.count * entry_size ≤ length work.old }
+    requires below_range { RowsBelow work.old l range below }
     ensures { Owned work.old work.new l range asked to result }
 {
     let mut count = 0;
-    for i in below..l.line_count {
-        let p = l.lines + i * LINE_SIZE;
+    // Stays a loop: rows are copied and counted up to the first past the range, in the slice that they are read from.
+    for i in below..l.lines.count {
+        let p = l.lines.base + i * LINE_SIZE;
         let address = address_at(work, p);
         if range.end <= address {
             return OwnRows { count, past: i };
         }
         if takes_row(work, p, address, range.start, asked) {
-            buffers::table::copy_record(work, p, to + count * ENTRY_SIZE, ENTRY_SIZE);
+            copy_record(work, p, to + count * ENTRY_SIZE, ENTRY_SIZE);
             count += 1;
         }
     }
     OwnRows {
         count,
-        past: l.line_count,
+        past: l.lines.count,
     }
 }
 
@@ -95,7 +89,15 @@ fn rows_below(work: &[u8], l: StoredLines, range: AddressRange) -> usize
     if range.end < range.start {
         return 0;
     }
-    lower_bound(work, l.lines, l.line_count, range.start)
+    lower_row(work, l.lines, range.start)
+}
+
+// Whether the sequence at p is the one that is asked for.
+fn is_sequence(work: &[u8], p: usize, requested: Option<u64>) -> bool
+    requires { p + sequence_range_size ≤ length work.now }
+    ensures { result ≡ same_sequence (sequence_of requested) (range_at work.now p).statement_sequence }
+{
+    requested == sequence_at(work, p + RANGE_SEQUENCE)
 }
 
 // Whether a sequence that is asked for exists.
@@ -106,13 +108,12 @@ pub fn sequence_exists(work: &[u8], l: StoredLines, requested: Option<u64>) -> b
     if requested.is_none() {
         return true;
     }
-    for i in 0..l.sequence_count {
-        let p = l.sequences + i * RANGE_SIZE;
-        if requested == sequence_at(work, p + RANGE_SEQUENCE) {
-            return true;
-        }
-    }
-    false
+    let sequences = l.sequences;
+    (0..sequences.count).any(
+        |i|
+            requires { sequences.base + (i + 1) * sequence_range_size ≤ length work.now }
+        { is_sequence(work, sequences.base + i * SEQUENCE_RANGE_SIZE, requested) },
+    )
 }
 
 // The sequence that is asked for, where it exists.
@@ -137,10 +138,9 @@ pub fn for_range(
     let below = rows_below(work, l, range);
     let own = own_rows(work, l, range, asked, l.buffer + ENTRY_SIZE, below);
     let fronted = put_earlier(work, l, range, asked, own.count);
-    let left = compact_line_rows(work, fronted.rows, fronted.count);
+    let left = compact_line_rows(work, fronted);
     FunctionRows {
-        rows: fronted.rows,
-        count: left,
+        rows: Stored::new(fronted.base, left),
         invalid: !exists && left != 0,
     }
 }

@@ -39,16 +39,16 @@ pub record Backwards (w : List ℕ) (base n a : ℕ) (s : Option ℕ) (i : ℕ) 
 too-late : (a : ℕ) (s : Option ℕ) (x : SequencedLine) → a ≤ x.entry.address → earlier_than a s x ≡ false
 too-late a s x h = rw (le-ltb x.entry.address a h)
 
-pub back_start : {w : List ℕ} {l : StoredLines} {a i : ℕ} (s : Option ℕ) → RowsIn w l → i ≡ leading a (lines_of w l.lines l.line_count) → Backwards w l.lines l.line_count a s i
+pub back_start : {w : List ℕ} {l : StoredLines} {a i : ℕ} (s : Option ℕ) → RowsIn w l → i ≡ leading a (lines_of w l.lines.base l.lines.count) → Backwards w l.lines.base l.lines.count a s i
 back_start {w} {l} {a} {i} s R e =
-    let xs : List SequencedLine = lines_of w l.lines l.line_count in
-    let h : i ≤ l.line_count = omega (arith, leading-most w l.lines l.line_count a) in
+    let xs : List SequencedLine = lines_of w l.lines.base l.lines.count in
+    let h : i ≤ l.lines.count = omega (arith, leading-most w l.lines.base l.lines.count a) in
     record {
       few = omega arith;
       most = h;
       left =
           last-take (earlier_than a s) i xs (all_map (drop i xs) (too-late a s) (all_from a 0 xs i R.sorted (omega arith)))
-          ∙ ap (last (earlier_than a s)) (lines-take w l.lines l.line_count i h);
+          ∙ ap (last (earlier_than a s)) (lines-take w l.lines.base l.lines.count i h);
     }
 
 module _ {w : List ℕ} {base n a i : ℕ} {s : Option ℕ} (B : Backwards w base n a s i) where
@@ -91,16 +91,16 @@ or-is None b = refl
 or-is (Some m) b = refl
 
 module _ (w : List ℕ) (l : StoredLines) (r : AddressRange) (asked : Maybe ℕ) where
-  pub earlier-none : covering_of None (first (covers_at (sequence_of asked) r.start) (ranges_of w l.sequences l.sequence_count))
+  pub earlier-none : covering_of None (first (covers_at (sequence_of asked) r.start) (ranges_of w l.sequences.base l.sequences.count))
       → option_to_list {X = LineEntry} None ≡ earlier_row (unit_lines_of w l) r (sequence_of asked)
   unfolding earlier_row unit_lines_of
   earlier-none C = rw C
 
   pub earlier-some : (own : Maybe ℕ) (e : Maybe LineEntry)
-      → covering_of (Some own) (first (covers_at (sequence_of asked) r.start) (ranges_of w l.sequences l.sequence_count))
-      → option_to_list e ≡ moved_to r.start (last (earlier_than r.start (sequence_of (option_or asked own))) (lines_of w l.lines l.line_count))
+      → covering_of (Some own) (first (covers_at (sequence_of asked) r.start) (ranges_of w l.sequences.base l.sequences.count))
+      → option_to_list e ≡ moved_to r.start (last (earlier_than r.start (sequence_of (option_or asked own))) (lines_of w l.lines.base l.lines.count))
       → option_to_list e ≡ earlier_row (unit_lines_of w l) r (sequence_of asked)
   unfolding earlier_row unit_lines_of
   earlier-some own e C h =
-      let m = mapped (λ x. x.statement_sequence) (first (covers_at (sequence_of asked) r.start) (ranges_of w l.sequences l.sequence_count)) (sequence_of own) C in
+      let m = mapped (λ x. x.statement_sequence) (first (covers_at (sequence_of asked) r.start) (ranges_of w l.sequences.base l.sequences.count)) (sequence_of own) C in
       rw (m.1, m.2, ← or-is asked own) h

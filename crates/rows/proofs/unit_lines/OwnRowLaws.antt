@@ -29,26 +29,26 @@ use Rattle.rows.proofs.StoredLaws.{sequence-kept, line_kept, line-sequence, line
 
 -- what the loop gives from row i on, behind the `count` rows copied so far, is what it gives from the front
 pub record Owning (w₀ w : List ℕ) (l : StoredLines) (range : AddressRange) (asked : Maybe ℕ) (to i count : ℕ) : Type 0 where
-  pub most : i ≤ l.line_count
+  pub most : i ≤ l.lines.count
   pub few : count ≤ i
-  pub rows : entries_of w to count ++ (front_rows range (sequence_of asked) (drop i (lines_of w₀ l.lines l.line_count))).rows
-      ≡ (front_rows range (sequence_of asked) (lines_of w₀ l.lines l.line_count)).rows
-  pub past : i + (front_rows range (sequence_of asked) (drop i (lines_of w₀ l.lines l.line_count))).past
-      ≡ (front_rows range (sequence_of asked) (lines_of w₀ l.lines l.line_count)).past
-  pub rest : Kept w₀ w to (l.line_count * entry_size)
+  pub rows : entries_of w to count ++ (front_rows range (sequence_of asked) (drop i (lines_of w₀ l.lines.base l.lines.count))).rows
+      ≡ (front_rows range (sequence_of asked) (lines_of w₀ l.lines.base l.lines.count)).rows
+  pub past : i + (front_rows range (sequence_of asked) (drop i (lines_of w₀ l.lines.base l.lines.count))).past
+      ≡ (front_rows range (sequence_of asked) (lines_of w₀ l.lines.base l.lines.count)).past
+  pub rest : Kept w₀ w to (l.lines.count * entry_size)
   pub size : length w ≡ length w₀
 
 pub own-start : {w₀ : List ℕ} {l : StoredLines} {range : AddressRange} {asked : Maybe ℕ} {to below : ℕ}
     → RowsBelow w₀ l range below → Owning w₀ w₀ l range asked to below 0
 unfolding entries_of
 own-start {w₀} {l} {range} {asked} {to} {below} B =
-    let skip = front_below range (sequence_of asked) (lines_of w₀ l.lines l.line_count) below B.start B.end in
+    let skip = front_below range (sequence_of asked) (lines_of w₀ l.lines.base l.lines.count) below B.start B.end in
     record {
-      most = omega (arith, B.start, leading-most w₀ l.lines l.line_count range.start);
+      most = omega (arith, B.start, leading-most w₀ l.lines.base l.lines.count range.start);
       few = omega arith;
       rows = rw (records-nil entry_of entry_size w₀ to) (sym (ap (λ (f : FrontRows). f.rows) skip));
       past = sym (ap (λ (f : FrontRows). f.past) skip);
-      rest = kept_refl w₀ to (l.line_count * entry_size);
+      rest = kept_refl w₀ to (l.lines.count * entry_size);
       size = refl;
     }
 
@@ -56,7 +56,7 @@ module _ {w₀ w : List ℕ} {l : StoredLines} {range : AddressRange} {asked : M
     (O : Owning w₀ w l range asked to i count) where
   -- what the loop gives from row n on
   abbrev from : ℕ → FrontRows
-  from n = front_rows range (sequence_of asked) (drop n (lines_of w₀ l.lines l.line_count))
+  from n = front_rows range (sequence_of asked) (drop n (lines_of w₀ l.lines.base l.lines.count))
 
   -- the loop gives nothing more
   ends : from i ≡ record { rows = []; past = 0 } → Owned w₀ w l range asked to (record { count = count; past = i })
@@ -67,24 +67,24 @@ module _ {w₀ w : List ℕ} {l : StoredLines} {range : AddressRange} {asked : M
     rest = O.rest;
   }
 
-  pub own-done : l.line_count ≤ i → Owned w₀ w l range asked to (record { count = count; past = l.line_count })
+  pub own-done : l.lines.count ≤ i → Owned w₀ w l range asked to (record { count = count; past = l.lines.count })
   unfolding front_rows
   own-done h =
-      let last : i ≡ l.line_count = omega (arith, O.most) in
-      rw last at (ends (rw (lines-rest_none w₀ l.lines l.line_count i h)))
+      let last : i ≡ l.lines.count = omega (arith, O.most) in
+      rw last at (ends (rw (lines-rest_none w₀ l.lines.base l.lines.count i h)))
 
-  module _ (b : l.lines + l.line_count * line_size ≤ to) (h : i < l.line_count) {address : ℕ} (a : address ≡ (line_at w (l.lines + i * line_size)).entry.address) where
+  module _ (b : l.lines.base + l.lines.count * line_size ≤ to) (h : i < l.lines.count) {address : ℕ} (a : address ≡ (line_at w (l.lines.base + i * line_size)).entry.address) where
     abbrev x : SequencedLine
-    x = line_at w₀ (l.lines + i * line_size)
+    x = line_at w₀ (l.lines.base + i * line_size)
 
     abbrev rest : List SequencedLine
-    rest = drop (i + 1) (lines_of w₀ l.lines l.line_count)
+    rest = drop (i + 1) (lines_of w₀ l.lines.base l.lines.count)
 
-    cons : drop i (lines_of w₀ l.lines l.line_count) ≡ x ∷ rest
-    cons = lines-rest_cons w₀ l.lines l.line_count i h
+    cons : drop i (lines_of w₀ l.lines.base l.lines.count) ≡ x ∷ rest
+    cons = lines-rest_cons w₀ l.lines.base l.lines.count i h
 
-    same : line_at w (l.lines + i * line_size) ≡ x
-    same = line_kept (l.lines + i * line_size) O.rest (inl (omega arith))
+    same : line_at w (l.lines.base + i * line_size) ≡ x
+    same = line_kept (l.lines.base + i * line_size) O.rest (inl (omega arith))
 
     address_is : address ≡ x.entry.address
     address_is = a ∙ ap (λ (y : SequencedLine). y.entry.address) same
@@ -93,14 +93,14 @@ module _ {w₀ w : List ℕ} {l : StoredLines} {range : AddressRange} {asked : M
     own-past g = ends (rw cons (front_ends range (sequence_of asked) x rest (rw address_is at g)))
 
     module _ {t : Bool} (near : address < range.end)
-        (e : t ≡ (leb range.start address && belongs (sequence_of asked) (stored_sequence w (l.lines + i * line_size + entry_size)))) where
+        (e : t ≡ (leb range.start address && belongs (sequence_of asked) (stored_sequence w (l.lines.base + i * line_size + entry_size)))) where
       near-is : x.entry.address < range.end
       near-is = rw address_is at near
 
       tested : t ≡ (leb range.start x.entry.address && belongs (sequence_of asked) x.statement_sequence)
       tested =
           e ∙ (λ k. leb range.start (address_is k) && belongs (sequence_of asked)
-          ((sequence-kept (l.lines + i * line_size + entry_size) O.rest (inl (omega arith)) ∙ sym (line-sequence w₀ (l.lines + i * line_size))) k))
+          ((sequence-kept (l.lines.base + i * line_size + entry_size) O.rest (inl (omega arith)) ∙ sym (line-sequence w₀ (l.lines.base + i * line_size))) k))
 
       pub own-not : t ≡ false → Owning w₀ w l range asked to (i + 1) count
       own-not f =
@@ -116,14 +116,14 @@ module _ {w₀ w : List ℕ} {l : StoredLines} {range : AddressRange} {asked : M
             size = O.size;
           }
 
-      pub own-take : {w' : List ℕ} → t ≡ true → CopiedBytes w w' (l.lines + i * line_size) (to + count * entry_size) entry_size → length w' ≡ length w
+      pub own-take : {w' : List ℕ} → t ≡ true → CopiedBytes w w' (l.lines.base + i * line_size) (to + count * entry_size) entry_size → length w' ≡ length w
           → Owning w₀ w' l range asked to (i + 1) (count + 1)
       unfolding entries_of
       own-take {w'} f C n =
           let turn : from i ≡ record { rows = x.entry ∷ (from (i + 1)).rows; past = suc (from (i + 1)).past } =
           rw cons (front_takes range (sequence_of asked) x rest near-is tested f) in
-          let is : entry_of (chunk w (l.lines + i * line_size) entry_size) ≡ x.entry =
-          ap entry_of (O.rest.same (l.lines + i * line_size) entry_size (inl (omega arith))) ∙ sym (line-entry w₀ (l.lines + i * line_size)) in
+          let is : entry_of (chunk w (l.lines.base + i * line_size) entry_size) ≡ x.entry =
+          ap entry_of (O.rest.same (l.lines.base + i * line_size) entry_size (inl (omega arith))) ∙ sym (line-entry w₀ (l.lines.base + i * line_size)) in
           let p = rw turn at O.past in
           record {
             most = omega arith;
@@ -131,6 +131,6 @@ module _ {w₀ w : List ℕ} {l : StoredLines} {range : AddressRange} {asked : M
             rows = rw (records-copy_push entry_of entry_size to count C, is) (append_assoc (entries_of w to count) (x.entry ∷ []) (from (i + 1)).rows)
                 ∙ rw turn at O.rows;
             past = omega arith;
-            rest = kept_trans O.rest (kept-wide to (l.line_count * entry_size) C.rest (omega arith) (omega (arith, O.few)));
+            rest = kept_trans O.rest (kept-wide to (l.lines.count * entry_size) C.rest (omega arith) (omega (arith, O.few)));
             size = n ∙ O.size;
           }

@@ -4,4 +4,4 @@ use Rattle.rows.proofs.earlier.EarlierLaws.{Backwards}
 use Rattle.rows.proofs.earlier.last_before.Given as goal
 
 abbrev pub invariant-loop-i : goal.invariant-loop-i
-invariant-loop-i l = Backwards l.work l.l.lines l.l.line_count l.address (sequence_of l.asked) l.i
+invariant-loop-i l = Backwards l.work l.l.lines.base l.l.lines.count l.address (sequence_of l.asked) l.i

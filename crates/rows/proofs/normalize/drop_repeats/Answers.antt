@@ -6,24 +6,17 @@ use Rattle.rows.proofs.normalize.DropLaws.{dropping-start, dropping_same, droppi
 use Rattle.rows.proofs.normalize.drop_repeats.Goals as goal
 use Rattle.rows.proofs.normalize.drop_repeats.Goals.{then-not-repeats, else-not-repeats}
 
-pub returns-then-n-eq0-clause-dropped : goal.returns-then-n-eq0-clause-dropped
-returns-then-n-eq0-clause-dropped g c = λ equal tests. dropped-nothing (λ b. b) c.args.size equal c.args.work.now c.args.base c.args.n c.if-n-eq0.true
+pub returns-then-rows-eq0-clause-dropped : goal.returns-then-rows-eq0-clause-dropped
+returns-then-rows-eq0-clause-dropped g c = λ equal tests. dropped-nothing (λ b. b) c.args.size equal c.args.work.now c.args.rows.base c.args.rows.count c.if-rows-eq0.true
 
 pub loop-i-init : goal.loop-i-init
-loop-i-init g c = (omega arith, λ equal tests. dropping-start (λ b. b) c.args.size equal c.args.work.now c.args.base c.args.n (omega arith))
-
-pub repeats-requires : goal.repeats-requires
-repeats-requires g c =
-    let order : c.loop-i.last < c.loop-i.i = c.loop-i.invariant.0 in
-    let last_in = inside c.loop-i.last c.args.n c.args.size (omega arith) in
-    let i_in = inside c.loop-i.i c.args.n c.args.size (omega arith) in
-    c.requires.may_test _ _ _ (omega arith) (omega arith)
+loop-i-init g c = (omega arith, λ equal tests. dropping-start (λ b. b) c.args.size equal c.args.work.now c.args.rows.base c.args.rows.count (omega arith))
 
 pub loop-i-preserved : goal.loop-i-preserved
 loop-i-preserved g c =
     let order : c.loop-i.last < c.loop-i.i = c.loop-i.invariant.0 in
-    let last_in = inside c.loop-i.last c.args.n c.args.size (omega arith) in
-    let i_in = inside c.loop-i.i c.args.n c.args.size (omega arith) in
+    let last_in = inside c.loop-i.last c.args.rows.count c.args.size (omega arith) in
+    let i_in = inside c.loop-i.i c.args.rows.count c.args.size (omega arith) in
     elim c.if-not-repeats.branch [
       | then-not-repeats w ↦ rw (w.work-is, w.last-is) (
         omega arith,

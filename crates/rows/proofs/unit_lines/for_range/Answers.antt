@@ -8,7 +8,7 @@ pub put_earlier-fronted-requires-clause-rows_in : goal.put_earlier-fronted-requi
 put_earlier-fronted-requires-clause-rows_in c = rows-in_kept c.own_rows-own.ensures.rest c.requires c.own_rows-own.auto.work
 
 pub returns-then-not-exists : goal.returns-then-not-exists
-returns-then-not-exists c = for-missing c.args.requested c.selected_sequence-asked.result c.requires c.sequence_exists-exists.ensures c.selected_sequence-asked.ensures c.own_rows-own.ensures c.put_earlier-fronted.ensures c.compact_line_rows-left.ensures (ap not c.if-not-exists.true)
+returns-then-not-exists c = for-missing c.args.requested c.selected_sequence-asked.result c.requires c.sequence_exists-exists.ensures c.selected_sequence-asked.ensures c.own_rows-own.ensures c.put_earlier-fronted.ensures c.compact_line_rows-left.ensures c.new.ensures.based c.new.ensures.counted (ap not c.if-not-exists.true)
 
 pub returns-else-not-exists : goal.returns-else-not-exists
-returns-else-not-exists c = for-found c.args.requested c.selected_sequence-asked.result c.requires c.sequence_exists-exists.ensures c.selected_sequence-asked.ensures c.own_rows-own.ensures c.put_earlier-fronted.ensures c.compact_line_rows-left.ensures (ap not c.if-not-exists.false)
+returns-else-not-exists c = for-found c.args.requested c.selected_sequence-asked.result c.requires c.sequence_exists-exists.ensures c.selected_sequence-asked.ensures c.own_rows-own.ensures c.put_earlier-fronted.ensures c.compact_line_rows-left.ensures c.new.ensures.based c.new.ensures.counted (ap not c.if-not-exists.false)

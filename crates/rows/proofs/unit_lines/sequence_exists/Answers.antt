@@ -1,15 +1,16 @@
--- `unit_lines::sequence_exists` meets its contract. No sequence before i is the one that is asked for.
-use mathlib.Core.Path.{ap, ◌∙◌}
-use mathlib.Core.Bool.{not}
-use Rattle.rows.proofs.SequenceLaws.{seek_next, seek_found, seek_none, exists-is}
-use Rattle.rows.proofs.StoredLaws.{same-is}
+-- `unit_lines::sequence_exists` meets its contract: `any` asks each sequence.
+use Rattle.std.proofs.Common.{◌∙◌, ap, refl, arith, rules, tests}
+use mathlib.Core.Bool.{not, true, false}
+use Rattle.std.proofs.lemmas.Iterator.{cases_from_any, YieldsList-from_range}
+use Rattle.rows.specs.Stored.{sequence_of}
+use Rattle.rows.proofs.SequenceLaws.{is_sequence, Says, exists-any, exists-is}
 use Rattle.rows.proofs.unit_lines.sequence_exists.Goals as goal
 
-pub returns-then-eq : goal.returns-then-eq
-returns-then-eq c = exists-is _ _ _ (c.is_none.ensures ∙ ap not c.if-is_none.false) (seek_found c.loop-i.invariant c.sequence_at.result c.loop-i-test.true c.sequence_at.ensures (c.eq.ensures ∙ same-is c.args.requested c.sequence_at.result) c.if-eq.true)
-
 pub returns : goal.returns
-returns c = exists-is _ _ _ (c.is_none.ensures ∙ ap not c.if-is_none.false) (seek_none c.loop-i.invariant c.loop-i-test.false)
-
-pub loop-i-preserved : goal.loop-i-preserved
-loop-i-preserved c = seek_next c.loop-i.invariant c.sequence_at.result c.loop-i-test.true c.sequence_at.ensures (c.eq.ensures ∙ same-is c.args.requested c.sequence_at.result) c.if-eq.false
+returns c =
+    let s = sequence_of c.args.requested in
+    let w = c.args.work.now in
+    let q = c.args.l.sequences in
+    let A = cases_from_any _ _ _ (Says (is_sequence s) w q.base q.count true) (Says (is_sequence s) w q.base q.count false) c.any.ensures.ran
+    (YieldsList-from_range 0 q.count q.count refl (omega arith)) (λ x q k. search (rules, tests)) (λ x q k. (search rules, search (rules, tests))) in
+    exists-is w c.args.l c.args.requested (c.is_none.ensures ∙ ap not c.if-is_none.false) (exists-any (is_sequence s) w q.base q.count c.any.result A)
