@@ -1,11 +1,12 @@
 -- Contract. What the functions of range lists promise: a place stands for the bytes from there on.
-use Rattle.std.specs.Prelude.{Result, Ok, Err, Option, Some, None, ℕ, ◌+◌, ◌≤◌, ◌<◌, ◌≡◌, cond, ◌||◌, List, [], length, drop, ltb, eqb}
+use Rattle.std.specs.Prelude.{Result, Ok, Err, Option, Some, None, ℕ, ◌+◌, ◌≤◌, ◌<◌, ◌≡◌, List, [], length, drop}
 use Rattle.tlv.specs.Outcome.{Outcome, refused, done}
 use Rattle.tlv.specs.Model.{EntryRange}
 use Rattle.tlv.specs.declared.refusal.Refusal.{Refusal}
 use Rattle.tlv.specs.Refusals.{number_of, as_outcome}
 use Rattle.line_program.specs.declared.operand.Operand.{Operand}
 use Rattle.line_program.specs.Scan.{operand_of}
+use Rattle.rnglists.specs.declared.entries.EntryRead.{EntryRead}
 use Rattle.rnglists.specs.declared.entries.ListEntry.{ListEntry}
 use Rattle.rnglists.specs.declared.lists.Meant.{Meant}
 use Rattle.rnglists.specs.declared.lists.ListRange.{ListRange}
@@ -13,9 +14,9 @@ use Rattle.rnglists.specs.declared.lists.ListField.{ListField}
 use Rattle.rnglists.specs.Sizes.{width_of}
 use Rattle.tlv.specs.Bytes.{le_at}
 use Rattle.tlv.specs.Grammar.{list_base_at, list_addresses_at, list_size_at}
-use Rattle.rnglists.specs.Standard.{Slot, nothing, number, address, RawEntry, Meaning, ends, base, bounded}
-use Rattle.rnglists.specs.RangeLists.{read_operand, read_entry, address_at, largest, bounded_by, offset_pair, meaning_of, ListRanges, faulty, and_before}
-use Rattle.rnglists.specs.RangeLists.{ranges_in}
+use Rattle.rnglists.specs.Standard.{Slot, slots_of, RawEntry, Meaning, ends, base, bounded}
+use Rattle.rnglists.specs.RangeLists.{read_operand, read_operands, read_entry, address_at, largest, bounded_by, offset_pair, meaning_of}
+use Rattle.rnglists.specs.RangeLists.{ListRanges, faulty, and_before, ranges_in}
 
 -- ---- operands and entries
 
@@ -28,26 +29,59 @@ pub record ReadsOperand (s : List ℕ) (at size : ℕ) (x : Slot) (r : Result Op
   pub is : operand_of s r ≡ read_operand size x (drop at s)
   pub within : OperandWithin s at r
 
--- the slots of the kinds 0 to 7
-unfoldable pub first_slot : ℕ → Slot
-first_slot k = cond (eqb k 0) nothing (cond (ltb k 5) number address)
+-- the number of an entry's kind, and its operands, 0 for one that it has not
+abbrev pub kind_of : ListEntry → ℕ
+kind_of ListEntry.EndOfList = 0
+kind_of (ListEntry.BaseAddressx a) = 1
+kind_of (ListEntry.StartxEndx a b) = 2
+kind_of (ListEntry.StartxLength a b) = 3
+kind_of (ListEntry.OffsetPair a b) = 4
+kind_of (ListEntry.BaseAddress a) = 5
+kind_of (ListEntry.StartEnd a b) = 6
+kind_of (ListEntry.StartLength a b) = 7
 
-unfoldable pub second_slot : ℕ → Slot
-second_slot k = cond (eqb k 0 || eqb k 1 || eqb k 5) nothing (cond (eqb k 6) address number)
+abbrev pub first_of : ListEntry → ℕ
+first_of ListEntry.EndOfList = 0
+first_of (ListEntry.BaseAddressx a) = a
+first_of (ListEntry.StartxEndx a b) = a
+first_of (ListEntry.StartxLength a b) = a
+first_of (ListEntry.OffsetPair a b) = a
+first_of (ListEntry.BaseAddress a) = a
+first_of (ListEntry.StartEnd a b) = a
+first_of (ListEntry.StartLength a b) = a
+
+abbrev pub second_of : ListEntry → ℕ
+second_of ListEntry.EndOfList = 0
+second_of (ListEntry.BaseAddressx a) = 0
+second_of (ListEntry.StartxEndx a b) = b
+second_of (ListEntry.StartxLength a b) = b
+second_of (ListEntry.OffsetPair a b) = b
+second_of (ListEntry.BaseAddress a) = 0
+second_of (ListEntry.StartEnd a b) = b
+second_of (ListEntry.StartLength a b) = b
 
 -- an entry, before the bytes that follow it
 abbrev pub raw_entry : ListEntry → List ℕ → RawEntry
-raw_entry e rest = record { kind = e.kind; first = e.first; second = e.second; rest = rest }
+raw_entry e rest = record { kind = kind_of e; first = first_of e; second = second_of e; rest = rest }
 
-abbrev pub entry_of : List ℕ → Result ListEntry Refusal → Outcome RawEntry
-entry_of s (Ok e) = done (raw_entry e (drop e.next s))
+abbrev pub entry_of : List ℕ → Result EntryRead Refusal → Outcome RawEntry
+entry_of s (Ok e) = done (raw_entry e.entry (drop e.next s))
 entry_of s (Err e) = refused (number_of e)
 
-abbrev pub EntryWithin : List ℕ → ℕ → Result ListEntry Refusal → Type 0
+abbrev pub KindWithin : List ℕ → ℕ → Result EntryRead Refusal → Type 0
+KindWithin s at (Ok e) = (at ≤ e.next) × (e.next ≤ length s)
+KindWithin s at (Err e) = Unit
+
+-- r is the entry of a kind whose operands begin at a place
+pub record ReadsKind (s : List ℕ) (at size k : ℕ) (r : Result EntryRead Refusal) : Type 0 where
+  pub is : entry_of s r ≡ read_operands size k (drop at s) (slots_of k)
+  pub within : KindWithin s at r
+
+abbrev pub EntryWithin : List ℕ → ℕ → Result EntryRead Refusal → Type 0
 EntryWithin s at (Ok e) = (at < e.next) × (e.next ≤ length s)
 EntryWithin s at (Err e) = Unit
 
-pub record ReadsEntry (s : List ℕ) (at size : ℕ) (r : Result ListEntry Refusal) : Type 0 where
+pub record ReadsEntry (s : List ℕ) (at size : ℕ) (r : Result EntryRead Refusal) : Type 0 where
   pub is : entry_of s r ≡ read_entry size (drop at s)
   pub within : EntryWithin s at r
 

@@ -1,24 +1,61 @@
 // One entry of a range list (DWARF 5, 7.25): its kind and its operands. The faults are 7, 10, 11 and 23.
-ghost use Rattle.std.specs.Prelude.{◌≤◌, length};
+ghost use Rattle.std.specs.Prelude.{◌≡◌, ◌≤◌, length};
 ghost use Rattle.rnglists.specs.Standard.{address};
 ghost use Rattle.rnglists.specs.Sizes.{width_of};
-ghost use Rattle.rnglists.specs.Steps.{ReadsOperand, ReadsEntry, first_slot, second_slot};
+ghost use Rattle.rnglists.specs.Steps.{ReadsOperand, ReadsKind, ReadsEntry};
 
 use crate::sizes::AddressSize;
 use line_program::operand::{Operand, read_line_uleb};
 use tlv::refusal::Refusal;
 
-// An entry: its kind, its operands, 0 for one that it has not, and the place after it.
+// The kinds, as the Standard's table 7.30 numbers them.
+const DW_RLE_END_OF_LIST: u8 = 0;
+
+const DW_RLE_BASE_ADDRESSX: u8 = 1;
+
+const DW_RLE_STARTX_ENDX: u8 = 2;
+
+const DW_RLE_STARTX_LENGTH: u8 = 3;
+
+const DW_RLE_OFFSET_PAIR: u8 = 4;
+
+const DW_RLE_BASE_ADDRESS: u8 = 5;
+
+const DW_RLE_START_END: u8 = 6;
+
+const DW_RLE_START_LENGTH: u8 = 7;
+
+// An entry by its kind, with its operands as they stand: with an `x` the first is an index of an address, and in StartxEndx both are.
 #[derive(Clone, Copy, Debug)]
-pub struct ListEntry {
-    pub kind: u8,
-    pub first: u64,
-    pub second: u64,
+pub enum ListEntry {
+    EndOfList,
+    BaseAddressx(u64),
+    StartxEndx(u64, u64),
+    StartxLength(u64, u64),
+    OffsetPair(u64, u64),
+    BaseAddress(u64),
+    StartEnd(u64, u64),
+    StartLength(u64, u64),
+}
+
+// An entry that was read, and the place after it.
+#[derive(Clone, Copy, Debug)]
+pub struct EntryRead {
+    pub entry: ListEntry,
     pub next: usize,
 }
 
-// Stays a clause: the place moves with each operand, so a type of the lists and a place in them would be made anew at each step.
+impl ListEntry {
+    // This entry, which ends at a place.
+    fn until(self, next: usize) -> EntryRead
+        ensures { result ≡ record { entry = self; next = next } }
+    {
+        EntryRead { entry: self, next }
+    }
+}
+
 // A target address.
+// Stays with its place required to lie in the lists: it moves with each operand, so a type of both would be made anew at each.
 fn read_address(lists: &[u8], at: usize, size: AddressSize) -> Result<Operand, Refusal>
     requires { at ≤ length lists.now }
     ensures { ReadsOperand lists.now at (width_of size) address result }
@@ -33,52 +70,57 @@ fn read_address(lists: &[u8], at: usize, size: AddressSize) -> Result<Operand, R
     })
 }
 
-// The first operand of an entry of a kind that the Standard knows.
-#[tactic(auto, using(crate::proofs::entries::ReadLaws::first_operands))]
-fn first_operand(lists: &[u8], at: usize, size: AddressSize, kind: u8) -> Result<Operand, Refusal>
+// The entry of a kind whose operands begin at a place.
+fn read_kind(lists: &[u8], at: usize, size: AddressSize, kind: u8) -> Result<EntryRead, Refusal>
     requires { at ≤ length lists.now }
-    ensures { ReadsOperand lists.now at (width_of size) (first_slot kind) result }
+    ensures { ReadsKind lists.now at (width_of size) kind result }
 {
-    if kind == 0 {
-        return Ok(Operand { value: 0, next: at });
+    // Stays a match: each kind has operands of its own.
+    match kind {
+        DW_RLE_END_OF_LIST => Ok(ListEntry::EndOfList.until(at)),
+        DW_RLE_BASE_ADDRESSX => {
+            let index = read_line_uleb(lists, at)?;
+            Ok(ListEntry::BaseAddressx(index.value).until(index.next))
+        }
+        DW_RLE_STARTX_ENDX => {
+            let start = read_line_uleb(lists, at)?;
+            let end = read_line_uleb(lists, start.next)?;
+            Ok(ListEntry::StartxEndx(start.value, end.value).until(end.next))
+        }
+        DW_RLE_STARTX_LENGTH => {
+            let start = read_line_uleb(lists, at)?;
+            let length = read_line_uleb(lists, start.next)?;
+            Ok(ListEntry::StartxLength(start.value, length.value).until(length.next))
+        }
+        DW_RLE_OFFSET_PAIR => {
+            let start = read_line_uleb(lists, at)?;
+            let end = read_line_uleb(lists, start.next)?;
+            Ok(ListEntry::OffsetPair(start.value, end.value).until(end.next))
+        }
+        DW_RLE_BASE_ADDRESS => {
+            let base = read_address(lists, at, size)?;
+            Ok(ListEntry::BaseAddress(base.value).until(base.next))
+        }
+        DW_RLE_START_END => {
+            let start = read_address(lists, at, size)?;
+            let end = read_address(lists, start.next, size)?;
+            Ok(ListEntry::StartEnd(start.value, end.value).until(end.next))
+        }
+        DW_RLE_START_LENGTH => {
+            let start = read_address(lists, at, size)?;
+            let length = read_line_uleb(lists, start.next)?;
+            Ok(ListEntry::StartLength(start.value, length.value).until(length.next))
+        }
+        _ => Err(Refusal::CutList),
     }
-    if kind < 5 {
-        return read_line_uleb(lists, at);
-    }
-    read_address(lists, at, size)
-}
-
-// The second one.
-fn second_operand(lists: &[u8], at: usize, size: AddressSize, kind: u8) -> Result<Operand, Refusal>
-    requires { at ≤ length lists.now }
-    ensures { ReadsOperand lists.now at (width_of size) (second_slot kind) result }
-{
-    if kind <= 1 || kind == 5 {
-        return Ok(Operand { value: 0, next: at });
-    }
-    if kind == 6 {
-        return read_address(lists, at, size);
-    }
-    read_line_uleb(lists, at)
 }
 
 // The entry at a place.
-pub fn read_entry(lists: &[u8], at: usize, size: AddressSize) -> Result<ListEntry, Refusal>
+pub fn read_entry(lists: &[u8], at: usize, size: AddressSize) -> Result<EntryRead, Refusal>
     ensures { ReadsEntry lists.now at (width_of size) result }
 {
     if lists.len() <= at {
         return Err(Refusal::CutList);
     }
-    let kind = lists[at];
-    if 7 < kind {
-        return Err(Refusal::CutList);
-    }
-    let first = first_operand(lists, at + 1, size, kind)?;
-    let second = second_operand(lists, first.next, size, kind)?;
-    Ok(ListEntry {
-        kind,
-        first: first.value,
-        second: second.value,
-        next: second.next,
-    })
+    read_kind(lists, at + 1, size, lists[at])
 }

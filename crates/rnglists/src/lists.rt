@@ -13,8 +13,7 @@ use tlv::refusal::Refusal;
 use tlv::shapes::{LIST_ADDRESSES, LIST_BASE, LIST_SIZE};
 
 // The range lists of an import, and the table of addresses that they refer to.
-// Stays bare: the two slices may hold gigabytes, and no program prints them.
-#[derive(Clone, Copy)]
+#[derive(Clone, Copy, Debug)]
 pub struct RangeLists<'a> {
     pub lists: &'a [u8],
     pub addresses: &'a [u8],
@@ -24,8 +23,9 @@ pub struct RangeLists<'a> {
 // The fewest bytes of a list that give a range.
 pub const RANGE_LEAST: usize = 3;
 
-// What an entry says: the list ends; the base address changes; a range, and whether it is dead.
-// Stays an enum: after the end, another base and a range a list goes on in three ways.
+// What an entry says.
+// Stays an enum: the list ends, goes on from another base, or gives a range, and a range may be dead. `dead` stays beside the range, as in ListRange: inlined
+// entries take the range alone, and what judges a subprogram's asks for the range five times and for `dead` once, so a struct of both would be taken apart.
 #[derive(Clone, Copy, Debug, PartialEq, Eq)]
 pub enum Meant {
     End,
@@ -151,25 +151,26 @@ fn meaning_of(
     ensures { Says addresses.now place (width_of size) base entry result }
 {
     let top = size.largest();
-    match entry.kind {
-        0 => Ok(Meant::End),
-        1 => {
-            let base = address_at(addresses, place, entry.first, size)?;
+    // Stays a match: each kind says a thing of its own.
+    match entry {
+        ListEntry::EndOfList => Ok(Meant::End),
+        ListEntry::BaseAddressx(index) => {
+            let base = address_at(addresses, place, index, size)?;
             Ok(Meant::Base(base))
         }
-        2 => {
-            let start = address_at(addresses, place, entry.first, size)?;
-            let end = address_at(addresses, place, entry.second, size)?;
+        ListEntry::StartxEndx(start, end) => {
+            let start = address_at(addresses, place, start, size)?;
+            let end = address_at(addresses, place, end, size)?;
             bounded(top, start, end)
         }
-        3 => {
-            let start = address_at(addresses, place, entry.first, size)?;
-            bounded_length(top, start, entry.second)
+        ListEntry::StartxLength(start, length) => {
+            let start = address_at(addresses, place, start, size)?;
+            bounded_length(top, start, length)
         }
-        4 => offset_pair(top, base, entry.first, entry.second),
-        5 => Ok(Meant::Base(entry.first)),
-        6 => bounded(top, entry.first, entry.second),
-        _ => bounded_length(top, entry.first, entry.second),
+        ListEntry::OffsetPair(start, end) => offset_pair(top, base, start, end),
+        ListEntry::BaseAddress(base) => Ok(Meant::Base(base)),
+        ListEntry::StartEnd(start, end) => bounded(top, start, end),
+        ListEntry::StartLength(start, length) => bounded_length(top, start, length),
     }
 }
 
@@ -188,20 +189,20 @@ impl<'a> RangeLists<'a> {
         let mut base = base;
         // Stays a loop: each entry's own length moves the place.
         loop {
-            let entry = read_entry(self.lists, p, size)?;
-            match meaning_of(self.addresses, place, size, base, entry)? {
+            let read = read_entry(self.lists, p, size)?;
+            match meaning_of(self.addresses, place, size, base, read.entry)? {
                 Meant::End => {
                     return Ok(None);
                 }
                 Meant::Base(next) => {
                     base = next;
-                    p = entry.next;
+                    p = read.next;
                 }
                 Meant::Range { range, dead } => {
                     return Ok(Some(ListRange {
                         range,
                         dead,
-                        next: entry.next,
+                        next: read.next,
                         base,
                     }));
                 }

@@ -1,26 +1,23 @@
 -- Reading an entry: the branches of the code, each with the definition's.
 use mathlib.Core.Path.{◌≡◌, refl, sym, ◌∙◌}
-use mathlib.Core.Logic.{◌⊎◌, inl, inr}
-use mathlib.Core.Bool.{Bool, true, false, cond, ◌||◌}
 use mathlib.Core.List.{List}
-use mathlib.Core.Option.{Option, none}
 use Prim.Native.Nat.{ℕ, ◌+◌, ◌-◌, ◌≤◌, ◌<◌}
 use native.Mathlib.Omega.{arith}
-use borrow.Author.Tests.{eq-eqb, ne_eqb, eqb-false, lt-ltb, le-ltb, le-leb, lt-leb}
-use lib.Dec.{eqb}
-use lib.ListN.{length, get_or, drop, length-drop, drop_of_length-le}
+use borrow.Author.Tests.{ne_eqb, le-leb, lt-leb}
+use lib.ListN.{length, get_or, length-drop, drop_of_length-le}
 use lib.Seq.{drop-drop}
 use Rattle.std.specs.Prelude.{Result, Ok, Err}
 use Rattle.tlv.specs.Outcome.{◌>>=◌}
 use Rattle.tlv.specs.declared.refusal.Refusal.{Refusal}
 use Rattle.tlv.specs.Bytes.{le_at}
+use Rattle.rnglists.specs.declared.entries.EntryRead.{EntryRead}
+use Rattle.rnglists.specs.declared.entries.ListEntry.{ListEntry}
 use Rattle.line_program.specs.declared.operand.Operand.{Operand}
 use Rattle.line_program.specs.Scan.{Reads, OperandWithin as OperandRead}
 use Rattle.line_program.proofs.UlebLaws.{drop_at}
-use Rattle.rnglists.specs.Standard.{nothing, number, address, Slots, slots, slots_of}
-use Rattle.rnglists.specs.RangeLists.{read_operand, read_operands, read_entry}
-use Rattle.rnglists.specs.Steps.{OperandWithin, ReadsOperand, first_slot, second_slot, ReadsEntry}
-use Rattle.rnglists.proofs.EntryLaws.{KindIs, kind0, kind1, kind2, kind3, kind4, kind5, kind6, kind7, other, kind-is}
+use Rattle.rnglists.specs.Standard.{Slot, nothing, number, address, slots, slots_of}
+use Rattle.rnglists.specs.RangeLists.{read_operand, read_entry}
+use Rattle.rnglists.specs.Steps.{OperandWithin, ReadsOperand, kind_of, first_of, second_of, KindWithin, ReadsKind, EntryWithin, ReadsEntry}
 
 -- ---- an address
 
@@ -36,41 +33,44 @@ module _ {s : List ℕ} {at size : ℕ} where
 
 -- ---- the operands of a kind
 
-known-slots : (k : ℕ) → k ≤ 7 → slots_of k ≡ slots (first_slot k) (second_slot k)
-unfolding first_slot second_slot
-known-slots k h = go (slots_of k) (kind-is k)
-  where
-    go : (o : Option Slots) → KindIs k o → o ≡ slots (first_slot k) (second_slot k)
-    go o (kind0 e) = rw e
-    go o (kind1 e) = rw e
-    go o (kind2 e) = rw e
-    go o (kind3 e) = rw e
-    go o (kind4 e) = rw e
-    go o (kind5 e) = rw e
-    go o (kind6 e) = rw e
-    go o (kind7 e) = rw e
-    go o (other l) = absurd (omega arith)
+pub slots0 : {k : ℕ} → k ≡ 0 → slots_of k ≡ slots nothing nothing
+unfolding slots_of
+slots0 e = rw e
 
-unknown-slots : (k : ℕ) → 7 < k → slots_of k ≡ none
-unknown-slots k h = go (slots_of k) (kind-is k)
-  where
-    go : (o : Option Slots) → KindIs k o → o ≡ none
-    go o (kind0 e) = absurd (omega arith)
-    go o (kind1 e) = absurd (omega arith)
-    go o (kind2 e) = absurd (omega arith)
-    go o (kind3 e) = absurd (omega arith)
-    go o (kind4 e) = absurd (omega arith)
-    go o (kind5 e) = absurd (omega arith)
-    go o (kind6 e) = absurd (omega arith)
-    go o (kind7 e) = absurd (omega arith)
-    go o (other l) = refl
+pub slots1 : {k : ℕ} → k ≡ 1 → slots_of k ≡ slots number nothing
+unfolding slots_of
+slots1 e = rw e
+
+pub slots2 : {k : ℕ} → k ≡ 2 → slots_of k ≡ slots number number
+unfolding slots_of
+slots2 e = rw e
+
+pub slots3 : {k : ℕ} → k ≡ 3 → slots_of k ≡ slots number number
+unfolding slots_of
+slots3 e = rw e
+
+pub slots4 : {k : ℕ} → k ≡ 4 → slots_of k ≡ slots number number
+unfolding slots_of
+slots4 e = rw e
+
+pub slots5 : {k : ℕ} → k ≡ 5 → slots_of k ≡ slots address nothing
+unfolding slots_of
+slots5 e = rw e
+
+pub slots6 : {k : ℕ} → k ≡ 6 → slots_of k ≡ slots address address
+unfolding slots_of
+slots6 e = rw e
+
+pub slots7 : {k : ℕ} → k ≡ 7 → slots_of k ≡ slots address number
+unfolding slots_of
+slots7 e = rw e
 
 module _ {s : List ℕ} {at size : ℕ} where
-  nothing_read : at ≤ length s → ReadsOperand s at size nothing (Ok (record { value = 0; next = at }))
+  pub nothing_read : at ≤ length s → ReadsOperand s at size nothing (Ok (record { value = 0; next = at }))
   unfolding read_operand
   nothing_read h = record { is = refl; within = (omega arith, h) }
 
-  number_read : {r : Result Operand Refusal} → Reads s at r → ReadsOperand s at size number r
+  pub number_read : {r : Result Operand Refusal} → Reads s at r → ReadsOperand s at size number r
   unfolding read_operand
   number_read {r} R = record { is = R.is; within = go r R.within }
     where
@@ -78,67 +78,40 @@ module _ {s : List ℕ} {at size : ℕ} where
       go (Ok o) w = (omega (arith, w.0), w.1)
       go (Err f) w = tt
 
-  module _ {k : ℕ} where
-    pub first-none : k ≡ 0 → at ≤ length s → ReadsOperand s at size (first_slot k) (Ok (record { value = 0; next = at }))
-    unfolding first_slot
-    first-none e h = rw e (nothing_read h)
+  pub kind-unknown : {k : ℕ} → (k ≡ 0 → ⊥) → (k ≡ 1 → ⊥) → (k ≡ 2 → ⊥) → (k ≡ 3 → ⊥) → (k ≡ 4 → ⊥) → (k ≡ 5 → ⊥) → (k ≡ 6 → ⊥) → (k ≡ 7 → ⊥)
+      → ReadsKind s at size k (Err Refusal.CutList)
+  unfolding slots_of
+  kind-unknown {k} n0 n1 n2 n3 n4 n5 n6 n7 = record {
+    is = sym (rw (ne_eqb k 0 n0, ne_eqb k 1 n1, ne_eqb k 2 n2, ne_eqb k 3 n3, ne_eqb k 4 n4, ne_eqb k 5 n5, ne_eqb k 6 n6, ne_eqb k 7 n7));
+    within = tt;
+  }
 
-    pub first-number : {r : Result Operand Refusal} → (k ≡ 0 → ⊥) → k < 5 → Reads s at r → ReadsOperand s at size (first_slot k) r
-    unfolding first_slot
-    first-number n h R = rw (ne_eqb k 0 n, lt-ltb k 5 h) (number_read R)
+  module _ {k : ℕ} {A B : Slot} (K : slots_of k ≡ slots A B) where
+    pub first-refused : {f : Refusal} → ReadsOperand s at size A (Err f) → ReadsKind s at size k (Err f)
+    unfolding ◌>>=◌
+    first-refused P = record { is = sym (rw (K, ← P.is)); within = tt }
 
-    pub first-address : {r : Result Operand Refusal} → (k ≡ 0 → ⊥) → 5 ≤ k → ReadsOperand s at size address r → ReadsOperand s at size (first_slot k) r
-    unfolding first_slot
-    first-address n h R = rw (ne_eqb k 0 n, le-ltb k 5 h) R
+    module _ {o : Operand} (P : ReadsOperand s at size A (Ok o)) where
+      pub second-refused : {f : Refusal} → ReadsOperand s o.next size B (Err f) → ReadsKind s at size k (Err f)
+      unfolding ◌>>=◌
+      second-refused Q = record { is = sym (rw (K, ← P.is, ← Q.is)); within = tt }
 
-    pub second_none : (k ≤ 1) ⊎ ((1 < k) × (k ≡ 5)) → at ≤ length s → ReadsOperand s at size (second_slot k) (Ok (record { value = 0; next = at }))
-    unfolding second_slot
-    second_none (inl l) h = go (eqb k 0) refl
-      where
-        go : (b : Bool) → eqb k 0 ≡ b → ReadsOperand s at size (cond (b || eqb k 1 || eqb k 5) nothing (cond (eqb k 6) address number)) (Ok (record { value = 0; next = at }))
-        go true e = nothing_read h
-        go false e = rw (eq-eqb k 1 (omega (arith, eqb-false k 0 e))) (nothing_read h)
-    second_none (inr e) h = rw e.1 (nothing_read h)
-
-    pub second-address : {r : Result Operand Refusal} → k ≡ 6 → ReadsOperand s at size address r → ReadsOperand s at size (second_slot k) r
-    unfolding second_slot
-    second-address e R = rw e R
-
-    pub second-number : {r : Result Operand Refusal} → 1 < k → (k ≡ 5 → ⊥) → (k ≡ 6 → ⊥) → Reads s at r → ReadsOperand s at size (second_slot k) r
-    unfolding second_slot
-    second-number a c d R = rw (ne_eqb k 0 (λ e. omega arith), ne_eqb k 1 (λ e. omega arith), ne_eqb k 5 c, ne_eqb k 6 d) (number_read R)
+      pub operands_read : {q : Operand} {e : ListEntry} → ReadsOperand s o.next size B (Ok q) → kind_of e ≡ k → first_of e ≡ o.value → second_of e ≡ q.value
+          → ReadsKind s at size k (Ok (record { entry = e; next = q.next }))
+      unfolding ◌>>=◌
+      operands_read Q ek ea eb = record { is = sym (rw (K, ← P.is, ← Q.is, ek, ea, eb)); within = (omega (arith, P.within, Q.within), Q.within.1) }
 
 -- ---- an entry
-
-entry-by : (s : List ℕ) (at size k : ℕ) → at < length s → k ≡ get_or s at 0 → k ≤ 7
-    → read_entry size (drop at s) ≡ read_operands size k (drop (at + 1) s) (slots (first_slot k) (second_slot k))
-unfolding read_entry
-entry-by s at size k l g h = rw (drop_at s at k l g, known-slots k h)
 
 module _ {s : List ℕ} {at size : ℕ} where
   pub entry-none : length s ≤ at → ReadsEntry s at size (Err Refusal.CutList)
   unfolding read_entry
   entry-none h = record { is = sym (rw (drop_of_length-le s {i = at} h)); within = tt }
 
-  module _ {k : ℕ} (l : at < length s) (g : k ≡ get_or s at 0) where
-    pub entry-unknown : 7 < k → ReadsEntry s at size (Err Refusal.CutList)
-    unfolding read_entry
-    entry-unknown h = record { is = sym (rw (drop_at s at k l g, unknown-slots k h)); within = tt }
-
-    module _ (h : k ≤ 7) where
-      pub entry_first : {f : Refusal} → ReadsOperand s (at + 1) size (first_slot k) (Err f) → ReadsEntry s at size (Err f)
-      unfolding ◌>>=◌
-      entry_first P = record { is = sym (entry-by s at size k l g h ∙ rw (← P.is)); within = tt }
-
-      module _ {o : Operand} (P : ReadsOperand s (at + 1) size (first_slot k) (Ok o)) where
-        pub entry-second : {f : Refusal} → ReadsOperand s o.next size (second_slot k) (Err f) → ReadsEntry s at size (Err f)
-        unfolding ◌>>=◌
-        entry-second Q = record { is = sym (entry-by s at size k l g h ∙ rw (← P.is, ← Q.is)); within = tt }
-
-        pub entry_read : {q : Operand} → ReadsOperand s o.next size (second_slot k) (Ok q)
-            → ReadsEntry s at size (Ok (record { kind = k; first = o.value; second = q.value; next = q.next }))
-        unfolding ◌>>=◌
-        entry_read Q = record { is = sym (entry-by s at size k l g h ∙ rw (← P.is, ← Q.is)); within = (omega (arith, P.within, Q.within), Q.within.1) }
-
--- for the goals that a test names: found, not named
-pub ruleset first_operands = (first-number, first-address)
+  pub entry-of-kind : {k : ℕ} {r : Result EntryRead Refusal} → at < length s → k ≡ get_or s at 0 → ReadsKind s (at + 1) size k r → ReadsEntry s at size r
+  unfolding read_entry
+  entry-of-kind {k} {r} l g R = record { is = R.is ∙ sym (rw (drop_at s at k l g)); within = go r R.within }
+    where
+      go : (r : Result EntryRead Refusal) → KindWithin s (at + 1) r → EntryWithin s at r
+      go (Ok e) w = (omega (arith, w.0), w.1)
+      go (Err f) w = tt

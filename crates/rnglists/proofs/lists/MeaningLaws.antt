@@ -1,5 +1,5 @@
 -- What an entry says: the branches of the code, each with the definition's.
-use mathlib.Core.Path.{◌≡◌, sym, ◌∙◌}
+use mathlib.Core.Path.{◌≡◌, refl, sym, ◌∙◌}
 use mathlib.Core.Logic.{◌⊎◌, inl, inr}
 use mathlib.Core.Bool.{true, false}
 use mathlib.Core.List.{List}
@@ -112,64 +112,58 @@ module _ {table : List ℕ} {place i : ℕ} (a : AddressSize) where
 
 -- ---- what an entry says, by its kind
 
-module _ {table : List ℕ} {place size from : ℕ} {e : ListEntry} where
-  pub says-end : e.kind ≡ 0 → Says table place size from e (Ok Meant.End)
+module _ {table : List ℕ} {place size from : ℕ} where
+  pub says-end : Says table place size from ListEntry.EndOfList (Ok Meant.End)
   unfolding meaning_of
-  says-end k = record { is = sym (rw k) }
+  says-end = record { is = refl }
 
-  pub says-base : e.kind ≡ 5 → Says table place size from e (Ok (Meant.Base e.first))
+  pub says-base : {a : ℕ} → Says table place size from (ListEntry.BaseAddress a) (Ok (Meant.Base a))
   unfolding meaning_of
-  says-base k = record { is = sym (rw k) }
+  says-base = record { is = refl }
 
-  pub says-pair : {r : Result Meant Refusal} {top : ℕ} → e.kind ≡ 4 → top ≡ largest size → SaysPair top from e.first e.second r → Says table place size from e r
-  unfolding meaning_of
-  says-pair k t S = record { is = S.is size t ∙ sym (rw k) }
+  module _ {r : Result Meant Refusal} {top a b : ℕ} (t : top ≡ largest size) where
+    pub says-pair : SaysPair top from a b r → Says table place size from (ListEntry.OffsetPair a b) r
+    unfolding meaning_of
+    says-pair S = record { is = S.is size t }
 
-  pub says-between : {r : Result Meant Refusal} {top : ℕ} → e.kind ≡ 6 → top ≡ largest size → SaysBounded top e.first e.second r
-      → Says table place size from e r
-  unfolding meaning_of
-  says-between k t S = record { is = S.is size t ∙ sym (rw k) }
+    pub says-between : SaysBounded top a b r → Says table place size from (ListEntry.StartEnd a b) r
+    unfolding meaning_of
+    says-between S = record { is = S.is size t }
 
-  pub says-length : {r : Result Meant Refusal} {top : ℕ} → (e.kind ≡ 0 → ⊥) → (e.kind ≡ 1 → ⊥) → (e.kind ≡ 2 → ⊥) → (e.kind ≡ 3 → ⊥) → (e.kind ≡ 4 → ⊥)
-      → (e.kind ≡ 5 → ⊥) → (e.kind ≡ 6 → ⊥)
-      → top ≡ largest size → SaysBounded top e.first (e.first + e.second) r → Says table place size from e r
-  unfolding meaning_of
-  says-length n0 n1 n2 n3 n4 n5 n6 t S =
-      record { is = S.is size t ∙ sym (rw (ne_eqb e.kind 0 n0, ne_eqb e.kind 1 n1, ne_eqb e.kind 2 n2, ne_eqb e.kind 3 n3, ne_eqb e.kind 4 n4, ne_eqb e.kind 5 n5, ne_eqb e.kind 6 n6)) }
+    pub says-length : SaysBounded top a (a + b) r → Says table place size from (ListEntry.StartLength a b) r
+    unfolding meaning_of
+    says-length S = record { is = S.is size t }
 
-  module _ {f : Refusal} (F : FindsAddress table place size e.first (Err f)) where
-    pub past-base : e.kind ≡ 1 → Says table place size from e (Err f)
+  module _ {f : Refusal} {a : ℕ} (F : FindsAddress table place size a (Err f)) where
+    pub past-base : Says table place size from (ListEntry.BaseAddressx a) (Err f)
     unfolding meaning_of ◌>>=◌
-    past-base k = record { is = sym (rw (k, ← F.is)) }
+    past-base = record { is = sym (rw (← F.is)) }
 
-    pub past-start : e.kind ≡ 2 → Says table place size from e (Err f)
+    pub past-start : {b : ℕ} → Says table place size from (ListEntry.StartxEndx a b) (Err f)
     unfolding meaning_of ◌>>=◌
-    past-start k = record { is = sym (rw (k, ← F.is)) }
+    past-start = record { is = sym (rw (← F.is)) }
 
-    pub past-length : e.kind ≡ 3 → Says table place size from e (Err f)
+    pub past-length : {b : ℕ} → Says table place size from (ListEntry.StartxLength a b) (Err f)
     unfolding meaning_of ◌>>=◌
-    past-length k = record { is = sym (rw (k, ← F.is)) }
+    past-length = record { is = sym (rw (← F.is)) }
 
-  module _ {x : ℕ} (F : FindsAddress table place size e.first (Ok x)) where
-    pub found-base : e.kind ≡ 1 → Says table place size from e (Ok (Meant.Base x))
+  module _ {x a : ℕ} (F : FindsAddress table place size a (Ok x)) where
+    pub found-base : Says table place size from (ListEntry.BaseAddressx a) (Ok (Meant.Base x))
     unfolding meaning_of ◌>>=◌
-    found-base k = record { is = sym (rw (k, ← F.is)) }
+    found-base = record { is = sym (rw (← F.is)) }
 
-    pub found-length : {r : Result Meant Refusal} {top : ℕ} → e.kind ≡ 3 → top ≡ largest size → SaysBounded top x (x + e.second) r
-        → Says table place size from e r
+    pub found-length : {b : ℕ} {r : Result Meant Refusal} {top : ℕ} → top ≡ largest size → SaysBounded top x (x + b) r
+        → Says table place size from (ListEntry.StartxLength a b) r
     unfolding meaning_of ◌>>=◌
-    found-length k t S = record { is = S.is size t ∙ sym (rw (k, ← F.is)) }
+    found-length t S = record { is = S.is size t ∙ sym (rw (← F.is)) }
 
-    pub past_end : {f : Refusal} → e.kind ≡ 2 → FindsAddress table place size e.second (Err f) → Says table place size from e (Err f)
+    pub past_end : {b : ℕ} {f : Refusal} → FindsAddress table place size b (Err f) → Says table place size from (ListEntry.StartxEndx a b) (Err f)
     unfolding meaning_of ◌>>=◌
-    past_end k H = record { is = sym (rw (k, ← F.is, ← H.is)) }
+    past_end H = record { is = sym (rw (← F.is, ← H.is)) }
 
-    pub found-end : {y : ℕ} {r : Result Meant Refusal} {top : ℕ} → e.kind ≡ 2 → FindsAddress table place size e.second (Ok y) → top ≡ largest size
-        → SaysBounded top x y r → Says table place size from e r
+    pub found-end : {b y : ℕ} {r : Result Meant Refusal} {top : ℕ} → FindsAddress table place size b (Ok y) → top ≡ largest size
+        → SaysBounded top x y r → Says table place size from (ListEntry.StartxEndx a b) r
     unfolding meaning_of ◌>>=◌
-    found-end k H t S = record { is = S.is size t ∙ sym (rw (k, ← F.is, ← H.is)) }
-
--- the laws by which `search` follows the kinds
-pub ruleset saying = (says-end, says-base, says-pair, says-between, says-length)
+    found-end H t S = record { is = S.is size t ∙ sym (rw (← F.is, ← H.is)) }
 
 pub ruleset pairs = (pair-dead, pair-start)
