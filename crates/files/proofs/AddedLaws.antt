@@ -2,15 +2,17 @@
 use mathlib.Core.Path.{◌≡◌, refl, sym, ap, ◌∙◌}
 use mathlib.Core.Logic.{inl, inr, ⊎_elim}
 use mathlib.Core.List.{List, [], ◌∷◌, ◌++◌, append-nil}
-use mathlib.Core.Option.{none, some}
+use mathlib.Core.Option.{Option, none, some, none-ne-some, some-ne-none, some-injective}
 use Prim.Native.Nat.{ℕ, ◌+◌, ◌-◌, ◌*◌, ◌%◌, ◌^◌, ◌≤◌, ◌<◌}
 use native.Mathlib.Omega.{arith}
-use lib.ListN.{length, take, drop}
+use lib.ListN.{length, take, drop, length-take}
 use borrow.Author.Tests.{lt-ltb, le-ltb}
 use Rattle.tlv.specs.Outcome.{done}
 use Rattle.tlv.specs.Fields.{encode}
-use Rattle.tlv.specs.Limits.{joined_limit}
+use Rattle.tlv.specs.Limits.{string_limit, joined_limit}
+use Rattle.tlv.specs.Lists.{map_option}
 use Rattle.tlv.specs.declared.model.DebugSource.{DebugSource}
+use Rattle.tlv.specs.declared.model.FileIndex.{FileIndex}
 use Rattle.buffers.specs.Buffer.{top, Put}
 use Rattle.buffers.specs.Table.{chunk}
 use Rattle.buffers.specs.Output.{FileEntry, file_payload, files_bytes, each_of}
@@ -31,9 +33,11 @@ use Rattle.tlv.specs.declared.refusal.Refusal.{Refusal}
 use Rattle.files.specs.declared.store.AddedFile.{AddedFile}
 use Rattle.files.specs.declared.store.LaidHash.{LaidHash}
 use Rattle.files.specs.Pieces.{source_in, span_in, file_in, PiecesIn}
-use Rattle.files.specs.Hash.{modulus, hash_from, hash_of}
+use Rattle.files.specs.Hash.{hash_from, hash_of}
 use Rattle.files.specs.Possible.{Possible}
-use Rattle.files.specs.Store.{extent, entries_of, table_of, FilesIn, Linked, LaidFile, LaidAt, found_of, AddedAfter, Adds}
+use Rattle.files.specs.Indices.{number_of}
+use Rattle.files.specs.Reached.{number_in}
+use Rattle.files.specs.Store.{scratch_from, extent, entries_of, table_of, FilesIn, Linked, LaidFile, LaidAt, found_of, AddedAfter, Adds}
 use Rattle.files.proofs.DirectoryLaws.{cut-span}
 use Rattle.files.proofs.StoreLaws.{head-before}
 use Rattle.files.proofs.SameLaws.{place-within}
@@ -59,61 +63,62 @@ laid-room {s} {p = p} P L =
       P.own.short,
     )
 
-pub laid-at : {s w w' : List ℕ} {p : FilePieces} {at n h r : ℕ} → PiecesIn s p → Laid w w' at n (file_in s p).directory → (h ≡ hash_from 0 (take (at + n - at) (drop at w'))) × (h < modulus)
-    → (r ≡ hash_from h (take (p.base.start + p.base.len - p.base.start) (drop p.base.start s))) × (r < modulus) → LaidAt w w' at (file_in s p) (record { n = n; hash = r })
+pub laid-at : {s w w' : List ℕ} {p : FilePieces} {at n h r : ℕ} → PiecesIn s p → Laid w w' at n (file_in s p).directory → h ≡ hash_from 0 (take (at + n - at) (drop at w'))
+    → r ≡ hash_from h (span_in s p.base) → LaidAt w w' at (file_in s p) (record { len = n; hash = r })
 unfolding hash_of file_in
 laid-at {s} {w} {w'} {p} {at} {n} {h} {r} P L a b = record {
   directory = L.path;
   short = laid-room P L;
-  hashed = b.0 ∙ (λ i. hash_from (start i) (cut-span s p.base.start p.base.len i));
-  small = b.1;
+  hashed = b ∙ ap (λ (h : ℕ). hash_from h (span_in s p.base)) start;
   rest = kept-wide at joined_limit L.rest (omega arith) (omega (arith, laid-room P L));
 }
   where
     start : h ≡ hash_from 0 (append_path (append_path (span_in s p.compilation) (span_in s p.directory)) (span_in s p.own))
-    start = a.0 ∙ ap (hash_from 0) (cut-span w' at n ∙ L.path)
+    start = a ∙ ap (hash_from 0) (cut-span w' at n ∙ L.path)
 
-module _ {main supplementary w w₁ : List ℕ} {t : StoredFiles} {e : FileEntry} {l : LaidHash} (F : FilesIn main supplementary w t) (L : LaidAt w w₁ (t.base + t.room * 45) e l) where
+module _ {main supplementary w w₁ : List ℕ} {t : StoredFiles} {e : FileEntry} {l : LaidHash} {at : ℕ} (F : FilesIn main supplementary w t)
+    (ea : at ≡ scratch_from t) (L : LaidAt w w₁ at e l) where
   pub laid-files : length w₁ ≡ length w → FilesIn main supplementary w₁ t
   laid-files same = files-apart F L.rest (inl (omega arith)) (omega arith)
 
-  pub laid-file : LaidFile w₁ t l.n l.hash e
-  laid-file = record { directory = L.directory; short = L.short; hashed = L.hashed; small = L.small }
+  pub laid-file : LaidFile w₁ t l.len l.hash e
+  laid-file = record { directory = ap (λ (a : ℕ). chunk w₁ a l.len) (sym ea) ∙ L.directory; short = L.short; hashed = L.hashed }
 
 -- the file as it is looked up
-pub laid-is : (s : List ℕ) {w w₁ : List ℕ} {at : ℕ} (p : FilePieces) {l : LaidHash} → LaidAt w w₁ at (file_in s p) l
-    → ◌≡◌ {A = FileEntry} (record { directory = chunk w₁ at l.n; basename = take (p.base.start + p.base.len - p.base.start) (drop p.base.start s) }) (file_in s p)
+pub laid-entry : (s : List ℕ) {w : List ℕ} {t : StoredFiles} {at : ℕ} (p : FilePieces) {l : LaidHash} {b : List ℕ} → at ≡ scratch_from t → b ≡ span_in s p.base
+    → LaidFile w t l.len l.hash (file_in s p) → ◌≡◌ {A = FileEntry} (record { directory = take (at + l.len - at) (drop at w); basename = b }) (file_in s p)
 unfolding file_in
-laid-is s p L = λ i. record { directory = L.directory i; basename = cut-span s p.base.start p.base.len i }
-
--- .. in the sheet of its source
-pub laid-as : {s s' : List ℕ} {w w₁ : List ℕ} {at : ℕ} (p : FilePieces) {l : LaidHash} → s' ≡ s → LaidAt w w₁ at (file_in s' p) l
-    → ◌≡◌ {A = FileEntry} (record { directory = chunk w₁ at l.n; basename = take (p.base.start + p.base.len - p.base.start) (drop p.base.start s') }) (file_in s p)
-laid-as {s} {s'} p e L = laid-is s' p L ∙ ap (λ (x : List ℕ). file_in x p) e
+laid-entry s {w} {at = at} p {l} ea eb D =
+    λ i. record { directory = (cut-span w at l.len ∙ ap (λ (k : ℕ). chunk w k l.len) ea ∙ D.directory) i; basename = eb i }
 
 -- ---- a file that is found
 
 -- e is looked up as e₁
-module _ {main supplementary w w₁ : List ℕ} {t : StoredFiles} {e e₁ : FileEntry} {l : LaidHash} (F : FilesIn main supplementary w t)
-    (L : LaidAt w w₁ (t.base + t.room * 45) e l) (q : e₁ ≡ e) where
-  laid-place : place_of e₁ (entries_of main supplementary w₁ t) ≡ place_of e (entries_of main supplementary w t)
-  laid-place = λ j. place_of (q j) (entries-apart F L.rest (inl (omega arith)) j)
-
-  pub found_number : {i : ℕ} → found_of (Some i) ≡ place_of e₁ (entries_of main supplementary w₁ t) → t.first + i < 2 ^ 32
+module _ {main supplementary w : List ℕ} {t : StoredFiles} {e e₁ : FileEntry} (F : FilesIn main supplementary w t) (q : e₁ ≡ e) where
+  pub found_number : {i : ℕ} → found_of (Some i) ≡ place_of e₁ (entries_of main supplementary w t) → t.first + i < 2 ^ 32
   found_number {i} f =
-      let place : place_of e (entries_of main supplementary w t) ≡ some i = sym laid-place ∙ sym f in
+      let place : place_of e (entries_of main supplementary w t) ≡ some i = sym (f ∙ λ j. place_of (q j) (entries_of main supplementary w t)) in
       omega (arith, place-within e (entries_of main supplementary w t) i place, entries-length main supplementary w t, F.numbered)
 
-  pub found-adds : {files : List ℕ} {i : ℕ} → found_of (Some i) ≡ place_of e₁ (entries_of main supplementary w₁ t) → length w₁ ≡ length w → t.written ≤ top → length files < top
-      → Adds main supplementary w w₁ files files t e (Ok (record { table = t; number = file_index (t.first + i) }))
-  unfolding add_file table_of files_bytes each_of
-  found-adds {files} {i} f same small fits = record {
-    is = (λ j. done (record { table = record { first = t.first; entries = entries-apart F L.rest (inl (omega arith)) j }; number = file_index (t.first + i) }))
-        ∙ ap (add_file_at (table_of main supplementary w t) e) (f ∙ laid-place);
+-- the number that was found for e, laid in w₁
+module _ {main supplementary w w₁ : List ℕ} {t : StoredFiles} {e : FileEntry} {l : LaidHash} {at : ℕ} (F : FilesIn main supplementary w t)
+    (ea : at ≡ scratch_from t) (L : LaidAt w w₁ at e l) where
+  entries-laid : entries_of main supplementary w₁ t ≡ entries_of main supplementary w t
+  entries-laid = entries-apart F L.rest (inl (omega arith))
+
+  pub table-laid : table_of main supplementary w₁ t ≡ table_of main supplementary w t
+  unfolding table_of
+  table-laid = λ j. record { first = t.first; entries = entries-laid j }
+
+  pub found-adds : {files : List ℕ} {n : FileIndex} → number_of (Some n) ≡ number_in (table_of main supplementary w₁ t) (done (some e)) → length w₁ ≡ length w → t.written ≤ top → length files < top
+      → Adds main supplementary w w₁ files files t e (Ok (record { table = t; number = n }))
+  unfolding add_file table_of files_bytes each_of map_option
+  found-adds {files} {n} f same small fits = record {
+    is = go (place_of e (entries_of main supplementary w t)) (f ∙ λ j. number_in (table-laid j) (done (some e)));
     after = record {
       new = [];
-      entries = entries-apart F L.rest (inl (omega arith)) ∙ sym (append-nil (entries_of main supplementary w t));
-      holds = laid-files F L same;
+      entries = entries-laid ∙ sym (append-nil (entries_of main supplementary w t));
+      holds = laid-files F ea L same;
       put = put-none small fits;
       base = refl;
       room = refl;
@@ -121,17 +126,27 @@ module _ {main supplementary w w₁ : List ℕ} {t : StoredFiles} {e e₁ : File
     };
     rest = kept-wide t.base (extent t) L.rest (omega arith) (omega arith);
   }
+    where
+      go : (o : Option ℕ) → some n ≡ map_option (λ k. file_index (t.first + k)) o
+          → done (record { table = table_of main supplementary w₁ t; number = n }) ≡ add_file_at (table_of main supplementary w t) e o
+      go none x = absurd (some-ne-none n x)
+      go (some k) x = λ j. done (record { table = table-laid j; number = some-injective _ _ x j })
 
-  pub missing-place : found_of None ≡ place_of e₁ (entries_of main supplementary w₁ t) → place_of e (entries_of main supplementary w₁ t) ≡ none
-  missing-place f = ap (λ (x : FileEntry). place_of x (entries_of main supplementary w₁ t)) (sym q) ∙ sym f
+  pub missing-place : number_of None ≡ number_in (table_of main supplementary w₁ t) (done (some e)) → place_of e (entries_of main supplementary w₁ t) ≡ none
+  unfolding table_of map_option
+  missing-place = go (place_of e (entries_of main supplementary w₁ t))
+    where
+      go : (o : Option ℕ) → none ≡ map_option (λ k. file_index (t.first + k)) o → o ≡ none
+      go none x = refl
+      go (some k) x = absurd (none-ne-some (file_index (t.first + k)) x)
 
 -- ---- a new file
 
 -- what it gives does not depend on what was laid before
-pub adds-laid : {main supplementary w w₁ w₂ files files' : List ℕ} {t : StoredFiles} {e : FileEntry} {l : LaidHash} {r : Result AddedFile Refusal} → FilesIn main supplementary w t
-    → LaidAt w w₁ (t.base + t.room * 45) e l → Adds main supplementary w₁ w₂ files files' t e r → Adds main supplementary w w₂ files files' t e r
+pub adds-laid : {main supplementary w w₁ w₂ files files' : List ℕ} {t : StoredFiles} {e : FileEntry} {l : LaidHash} {at : ℕ} {r : Result AddedFile Refusal} → FilesIn main supplementary w t
+    → at ≡ scratch_from t → LaidAt w w₁ at e l → Adds main supplementary w₁ w₂ files files' t e r → Adds main supplementary w w₂ files files' t e r
 unfolding table_of
-adds-laid {main} {supplementary} {w} {w₁} {w₂} {files} {files'} {t} {e} {l} {r} F L A = record {
+adds-laid {main} {supplementary} {w} {w₁} {w₂} {files} {files'} {t} {e} {l} {at} {r} F ea L A = record {
   is = A.is ∙ ap (λ (es : List FileEntry). add_file (record { first = t.first; entries = es }) e) old;
   after = go r A.after;
   rest = kept_trans (kept-wide t.base (extent t) L.rest (omega arith) (omega arith)) A.rest;
@@ -166,19 +181,23 @@ full-adds {main} {supplementary} {w} {files} {t} {e} new h = record {
   rest = kept_refl w t.base (extent t);
 }
 
+-- a path is short enough for a field of the tray
+pub path-short : (w b : List ℕ) (a n : ℕ) → n ≤ joined_limit → length b ≤ string_limit → 2 + length (take (a + n - a) (drop a w)) + length b < 65536
+path-short w b a n h k = simp length-take (omega arith)
+
 -- it is written behind the others, cut out of the sheet s
 module _ {main supplementary w w' files files' : List ℕ} {t : StoredFiles} {source : DebugSource} {p : FilePieces} {l : LaidHash} where
-  pub new-adds : (s : List ℕ) {r : ℕ} → s ≡ source_in main supplementary source → FilesIn main supplementary w t → PiecesIn (source_in main supplementary source) p
-      → Possible main supplementary (file_in (source_in main supplementary source) p) → LaidFile w t l.n l.hash (file_in (source_in main supplementary source) p)
+  pub new-adds : (s : List ℕ) {r a : ℕ} {b : List ℕ} → a ≡ scratch_from t → b ≡ span_in s p.base → s ≡ source_in main supplementary source → FilesIn main supplementary w t → PiecesIn (source_in main supplementary source) p
+      → Possible main supplementary (file_in (source_in main supplementary source) p) → LaidFile w t l.len l.hash (file_in (source_in main supplementary source) p)
       → place_of (file_in (source_in main supplementary source) p) (entries_of main supplementary w t) ≡ none → t.first + t.count ≤ 4294967295
       → Put t.written (encode 0x40 (file_payload (record {
-        directory = take (t.base + t.room * 45 + l.n - (t.base + t.room * 45)) (drop (t.base + t.room * 45) w);
-        basename = take (p.base.start + p.base.len - p.base.start) (drop p.base.start s);
+        directory = take (a + l.len - a) (drop a w);
+        basename = b;
       }))) files files' r
       → Linked w w' t source p l.hash → length w' ≡ length w
       → Adds main supplementary w w' files files' t (file_in (source_in main supplementary source) p) (Ok (record { table = grown_by t r; number = file_index (t.first + t.count) }))
   unfolding add_file append_file table_of files_bytes each_of file_in
-  new-adds s {r} es F P M D new h W L same = record {
+  new-adds s {r} {a} {b} ea eb es F P M D new h W L same = record {
     is = sym (rw (new, entries-length main supplementary w t, lt-ltb (t.first + t.count) (2 ^ 32) (omega arith), ← grown));
     after = record {
       new = file_in (source_in main supplementary source) p ∷ [];
@@ -202,8 +221,8 @@ module _ {main supplementary w w' files files' : List ℕ} {t : StoredFiles} {so
       grown = entries-grown F refl P M new D.hashed L r
 
       laid : ◌≡◌ {A = FileEntry} (record {
-        directory = take (t.base + t.room * 45 + l.n - (t.base + t.room * 45)) (drop (t.base + t.room * 45) w);
-        basename = take (p.base.start + p.base.len - p.base.start) (drop p.base.start s);
+        directory = take (a + l.len - a) (drop a w);
+        basename = b;
       }) (file_in (source_in main supplementary source) p)
-      laid = (λ i. record { directory = (cut-span w (t.base + t.room * 45) l.n ∙ D.directory) i; basename = cut-span s p.base.start p.base.len i })
+      laid = (λ i. record { directory = (cut-span w a l.len ∙ ap (λ (k : ℕ). chunk w k l.len) ea ∙ D.directory) i; basename = eb i })
           ∙ (λ i. record { directory = (file_in (source_in main supplementary source) p).directory; basename = span_in (es i) p.base })

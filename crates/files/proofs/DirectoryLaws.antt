@@ -7,11 +7,12 @@ use native.Mathlib.Omega.{arith}
 use lib.ListN.{length, take, drop, length-append}
 use borrow.Author.Count.{below_none, below_more}
 use Rattle.tlv.specs.Bytes.{le_at}
+use Rattle.tlv.specs.Limits.{string_limit}
 use Rattle.tlv.specs.Fields.{fields, payloads}
 use Rattle.tlv.specs.Checked.{Placed}
 use Rattle.tlv.proofs.PlacePromises.{placed-directory, placed-directory-string}
 use Rattle.buffers.specs.Table.{chunk, Kept, Wrote}
-use Rattle.buffers.proofs.ChunkLaws.{le_at-chunk, le_at-front}
+use Rattle.buffers.proofs.ChunkLaws.{chunk-length, le_at-chunk, le_at-front}
 use Rattle.buffers.proofs.TableLaws.{kept_refl, kept_trans, kept-wide, le_at-kept}
 use Rattle.buffers.proofs.RecordLaws.{records-length, records-nil, records-push}
 use Rattle.std.specs.Prelude.{Option, Some, None}
@@ -21,14 +22,21 @@ use Rattle.access.specs.Places.{own_fields}
 use Rattle.access.specs.Access.{own_payloads, NextOwn}
 use Rattle.access.proofs.OwnLaws.{own-within, own-field, own-placed}
 use Rattle.files.specs.declared.spans.Span.{Span}
-use Rattle.files.specs.Pieces.{span_in, span_of, spanned_of, PutSpan, DirectoryIn, DirectoriesIn}
+use Rattle.files.specs.Pieces.{span_in, SpanIn, span_of, spanned_of, PutSpan, DirectoryIn, DirectoriesIn}
 
 -- ---- a span
+
+-- the default one is empty
+pub empty-span : {a : Span} → (a.start ≡ 0) × (a.len ≡ 0) → a ≡ record { start = 0; len = 0 }
+empty-span e = λ i. record { start = e.0 i; len = e.1 i }
 
 -- what is cut out of a sheet is a span of it
 pub cut-span : (s : List ℕ) (a n : ℕ) → take (a + n - a) (drop a s) ≡ chunk s a n
 unfolding chunk
 cut-span s a n = let e : a + n - a ≡ n = omega arith in rw e
+
+pub span-short : (s : List ℕ) (a : Span) → SpanIn s a → length (span_in s a) ≤ string_limit
+span-short s a S = omega (arith, chunk-length s a.start a.len S.within, S.short)
 
 -- the numbers of a span in the table
 pub span-is : (w : List ℕ) (p : ℕ) (a : Span) → le_at 4 w p ≡ a.start → le_at 4 w (p + 4) ≡ a.len → span_of (chunk w p 8) ≡ a

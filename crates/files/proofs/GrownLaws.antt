@@ -20,12 +20,12 @@ pub use Rattle.files.proofs.KeptLaws.{clear-part}
 -- ---- what lies apart stays
 
 -- a unit's directories
-pub unit_kept : {s w w' : List ℕ} {rs : List (ℕ × ℕ)} {u : FileUnit} → FileUnitIn s w u → KeptBut w w' rs → Clear u.directories (u.directory_count * 8) rs → length w' ≡ length w
+pub unit_kept : {s w w' : List ℕ} {rs : List (ℕ × ℕ)} {u : FileUnit} → FileUnitIn s w u → KeptBut w w' rs → Clear u.directories.base (u.directories.count * 8) rs → length w' ≡ length w
     → FileUnitIn s w' u
 unfolding spanned_of
 unit_kept {s} {w} {w'} {rs} {u} U K c size =
-    let base = u.directories in
-    let n = u.directory_count in
+    let base = u.directories.base in
+    let n = u.directories.count in
     let each : (i : ℕ) → i < n → chunk w' (base + i * 8) 8 ≡ chunk w (base + i * 8) 8 = λ i h. K.same (base + i * 8) 8 (clear-part base (n * 8) (base + i * 8) 8 rs c (omega arith) (omega arith)) in
     record {
       version = U.version;

@@ -9,6 +9,7 @@ use lib.Dec.{eqb}
 use lib.Pointwise.{pointwise}
 use lib.ListN.{length, get_or, take, drop, replicate, length-append, length-replicate}
 use Rattle.std.specs.Prelude.{◌==◌}
+use Rattle.std.proofs.Math.Seq.{take-length}
 use Rattle.tlv.specs.Lists.{same}
 use Rattle.tlv.proofs.TestLaws.{by_test, same_true}
 use Rattle.buffers.specs.Table.{chunk}
@@ -173,7 +174,11 @@ module _ (w s : List ℕ) (at n : ℕ) (one : n ≤ 1) (z : n ≡ 0 → ⊥) (ro
 
 -- ---- is_joined
 
-module _ (w : List ℕ) (at n f g : ℕ) (c d o : List ℕ) (S : Separated c d f) (T : Separated (append_path c d) o g) where
+chunk-whole : (w : List ℕ) → chunk w 0 (length w) ≡ w
+unfolding chunk
+chunk-whole w = take-length w
+
+module _ (w : List ℕ) (f g : ℕ) (c d o : List ℕ) (S : Separated c d f) (T : Separated (append_path c d) o g) where
   abbrev whole : List ℕ
   whole = append_path (append_path c d) o
 
@@ -182,37 +187,40 @@ module _ (w : List ℕ) (at n f g : ℕ) (c d o : List ℕ) (S : Separated c d f
       T.joined ∙ ap (λ (l : List ℕ). l ++ replicate g slash ++ o) S.joined
       ∙ simp append_assoc
 
-  pub joined_length : at + n ≤ length w → (n ≡ length c + f + length d + g + length o → ⊥) → false ≡ same (chunk w at n) whole
-  joined_length room k =
+  pub joined_length : (length w ≡ length c + f + length d + g + length o → ⊥) → false ≡ same w whole
+  joined_length k =
       let l : length whole ≡ length c + f + length d + g + length o = ap length whole_is ∙ simp (length-append, length-replicate) (omega arith) in
-      sym (same_length (chunk w at n) whole (λ e. k (sym (chunk-length w at n room) ∙ e ∙ l)))
+      sym (same_length w whole (λ e. k (e ∙ l)))
 
-  module _ (room : at + n ≤ length w) (z : n ≡ length c + f + length d + g + length o) where
-    joined_is : same (chunk w at n) whole ≡ (same (chunk w at (length c)) c && (component_at w (at + length c) f d && component_at w (at + length c + f + length d) g o))
+  module _ (z : length w ≡ length c + f + length d + g + length o) where
+    joined_is : same w whole ≡ (same (chunk w 0 (length c)) c && (component_at w (length c) f d && component_at w (length c + f + length d) g o))
     unfolding component_at
     joined_is =
         let x : List ℕ = replicate f slash ++ d in
         let y : List ℕ = replicate g slash ++ o in
         let k : ℕ = f + length d in
         let m : ℕ = g + length o in
-        let q : n ≡ length c + (k + m) = omega arith in
-        let p : at + length c + k ≡ at + length c + f + length d = omega arith in
+        let q : length w ≡ length c + (k + m) = omega arith in
+        let p : length c + k ≡ length c + f + length d = omega arith in
+        let start : 0 + length c ≡ length c = omega arith in
         let e : length x ≡ k = simp (length-append, length-replicate) in
-        (λ i. same (chunk w at (q i)) (whole_is i))
-        ∙ ap (λ (l : List ℕ). same l (c ++ (x ++ y))) (chunk-add w at (length c) (k + m))
-        ∙ same-append (chunk w at (length c)) (chunk w (at + length c) (k + m)) c (x ++ y) (chunk-length w at (length c) (omega arith))
-        ∙ ap (λ (l : List ℕ). same (chunk w at (length c)) c && same l (x ++ y)) (chunk-add w (at + length c) k m)
-        ∙ ap (λ (b : Bool). same (chunk w at (length c)) c && b)
-        (same-append (chunk w (at + length c) k) (chunk w (at + length c + k) m) x y (chunk-length w (at + length c) k (omega arith) ∙ sym e))
-        ∙ ap (λ (z : ℕ). same (chunk w at (length c)) c && (component_at w (at + length c) f d && same (chunk w z m) y)) p
+        ap (λ (l : List ℕ). same l whole) (sym (chunk-whole w))
+        ∙ (λ i. same (chunk w 0 (q i)) (whole_is i))
+        ∙ ap (λ (l : List ℕ). same l (c ++ (x ++ y))) (chunk-add w 0 (length c) (k + m))
+        ∙ ap (λ (j : ℕ). same (chunk w 0 (length c) ++ chunk w j (k + m)) (c ++ (x ++ y))) start
+        ∙ same-append (chunk w 0 (length c)) (chunk w (length c) (k + m)) c (x ++ y) (chunk-length w 0 (length c) (omega arith))
+        ∙ ap (λ (l : List ℕ). same (chunk w 0 (length c)) c && same l (x ++ y)) (chunk-add w (length c) k m)
+        ∙ ap (λ (b : Bool). same (chunk w 0 (length c)) c && b)
+        (same-append (chunk w (length c) k) (chunk w (length c + k) m) x y (chunk-length w (length c) k (omega arith) ∙ sym e))
+        ∙ ap (λ (z : ℕ). same (chunk w 0 (length c)) c && (component_at w (length c) f d && same (chunk w z m) y)) p
 
-    module _ {a : Bool} (ea : a ≡ same (chunk w at (length c)) c) where
-      pub joined-first : not a ≡ true → false ≡ same (chunk w at n) whole
+    module _ {a : Bool} (ea : a ≡ same (chunk w 0 (length c)) c) where
+      pub joined-first : not a ≡ true → false ≡ same w whole
       joined-first k = sym (rw (← ea, not-true a k) at joined_is)
 
-      module _ (k : not a ≡ false) {b : Bool} (eb : b ≡ component_at w (at + length c) f d) where
-        pub joined-second : b ≡ false → b ≡ same (chunk w at n) whole
+      module _ (k : not a ≡ false) {b : Bool} (eb : b ≡ component_at w (length c) f d) where
+        pub joined-second : b ≡ false → b ≡ same w whole
         joined-second t = t ∙ sym (rw (← ea, not-false a k, ← eb, t) at joined_is)
 
-        pub joined-third : {r : Bool} → b ≡ true → r ≡ component_at w (at + length c + f + length d) g o → r ≡ same (chunk w at n) whole
+        pub joined-third : {r : Bool} → b ≡ true → r ≡ component_at w (length c + f + length d) g o → r ≡ same w whole
         joined-third t e = e ∙ sym (rw (← ea, not-false a k, ← eb, t) at joined_is)

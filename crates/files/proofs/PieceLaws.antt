@@ -6,8 +6,8 @@ use mathlib.Core.Option.{none, some}
 use Prim.Native.Nat.{ℕ, zero, suc, ◌+◌, ◌-◌, ◌*◌, ◌≤◌, ◌<◌}
 use native.Mathlib.Nat.{not-suc-le-zero, le_of_suc-le-suc}
 use native.Mathlib.Omega.{arith}
-use borrow.Author.Tests.{lt-ltb, le-ltb, eq-eqb, ne_eqb}
-use lib.Dec.{eqb, leb}
+use borrow.Author.Tests.{lt-ltb, le-ltb, leb-true, leb-false, eq-eqb, ne_eqb}
+use lib.Dec.{eqb, leb, ltb}
 use lib.ListN.{length, take, drop, get_or, length-take, length-drop}
 use lib.Seq.{take-take}
 use Rattle.std.specs.Prelude.{Option, Some, None, Result, Ok, Err}
@@ -33,7 +33,7 @@ use Rattle.files.specs.declared.pieces.FilePieces.{FilePieces}
 use Rattle.files.specs.declared.pieces.PathParts.{PathParts}
 use Rattle.files.specs.Pieces.{span_in, file_in, SpanIn, span_of, spanned_of, header_here, DirectoryIn, FileUnitIn, PartsIn, Reads, Before, relative_entry}
 use Rattle.files.specs.Pieces.{Relative, Pieced}
-use Rattle.files.proofs.DirectoryLaws.{cut-span, span-is, spanned-length}
+use Rattle.files.proofs.DirectoryLaws.{spanned-length}
 
 -- the span of no bytes
 abbrev no_span : Span
@@ -41,14 +41,6 @@ no_span = record { start = 0; len = 0 }
 
 no_span-in : (s : List ℕ) → SpanIn s no_span
 no_span-in s = record { within = omega arith; short = omega arith }
-
--- ---- a part of a slice
-
-pub absolute-span : (s : List ℕ) (a : Span) (r : Bool) → r ≡ is_absolute (take (a.start + a.len - a.start) (drop a.start s)) → r ≡ is_absolute (span_in s a)
-absolute-span s a r e = e ∙ ap is_absolute (cut-span s a.start a.len)
-
-pub below_span : (s : List ℕ) (version n : ℕ) (a : Span) (r : Bool) → r ≡ needs_compilation version n (take (a.start + a.len - a.start) (drop a.start s)) → r ≡ needs_compilation version n (span_in s a)
-below_span s version n a r e = e ∙ ap (needs_compilation version n) (cut-span s a.start a.len)
 
 -- ---- the parts of a path
 
@@ -76,8 +68,8 @@ module _ (s : List ℕ) (path : Span) (P : SpanIn s path) where
   path-length : length (span_in s path) ≡ path.len
   path-length = chunk-length s path.start path.len P.within
 
-  pub basename-fits : {b : List ℕ} → b ≡ basename_of (take (path.start + path.len - path.start) (drop path.start s)) → length b ≤ path.start + path.len
-  basename-fits eb = omega (arith, ap length (eb ∙ ap basename_of (cut-span s path.start path.len)), basename-length (span_in s path), path-length)
+  pub basename-fits : {b : List ℕ} → b ≡ basename_of (span_in s path) → length b ≤ path.start + path.len
+  basename-fits eb = omega (arith, ap length eb, basename-length (span_in s path), path-length)
 
   own-part : span_in s (record { start = path.start; len = length (directory_name (span_in s path)) }) ≡ directory_name (span_in s path)
   unfolding chunk
@@ -94,15 +86,15 @@ module _ (s : List ℕ) (path : Span) (P : SpanIn s path) where
       let f : path.start + path.len - length (drop k l) ≡ path.start + k = omega (arith, base_start-within l, path-length) in
       (λ i. take (e i) (drop (f i) s)) ∙ sym (drop_part s path.start path.len k)
 
-  pub parts_in : {o b : List ℕ} → o ≡ directory_name (take (path.start + path.len - path.start) (drop path.start s))
-      → b ≡ basename_of (take (path.start + path.len - path.start) (drop path.start s))
+  pub parts_in : {o b : List ℕ} → o ≡ directory_name (span_in s path)
+      → b ≡ basename_of (span_in s path)
       → PartsIn s path (record { own = record { start = path.start; len = length o }; base = record { start = path.start + path.len - length b; len = length b } })
   parts_in {o} {b} eo eb =
       let w = P.within in
       let h = P.short in
       let lo = rw path-length at (directory-length (span_in s path)) in
       let lb = rw path-length at (basename-length (span_in s path)) in
-      rw (eo, eb, cut-span s path.start path.len) (record {
+      rw (eo, eb) (record {
         own = own-part;
         base = base-part;
         own_in = record { within = omega arith; short = omega arith };
@@ -125,71 +117,71 @@ module _ {A : Type 0} where
   at_none (x ∷ xs) (suc i) h = at_none xs i (le_of_suc-le-suc h)
 
 module _ {s w : List ℕ} {u : FileUnit} (U : FileUnitIn s w u) where
-  listed : (i : ℕ) → at (unit_here s u.place).directories i ≡ map_option directory_of (at (spanned_of s w u.directories u.directory_count) i)
-  listed i = rw (← U.directories) (at-image directory_of (spanned_of s w u.directories u.directory_count) i)
+  listed : (i : ℕ) → at (unit_here s u.place).directories i ≡ map_option directory_of (at (spanned_of s w u.directories.base u.directories.count) i)
+  listed i = rw (← U.directories) (at-image directory_of (spanned_of s w u.directories.base u.directories.count) i)
 
-  pub directory-past : (i : ℕ) → u.directory_count ≤ i → Reads s (Ok (record { start = 0; len = 0 })) (read_directory (at (unit_here s u.place).directories i))
+  pub directory-past : (i : ℕ) → u.directories.count ≤ i → Reads s (Ok (record { start = 0; len = 0 })) (read_directory (at (unit_here s u.place).directories i))
   unfolding map_option chunk
   directory-past i h =
-      let l : length (spanned_of s w u.directories u.directory_count) ≤ i = rw spanned-length h in
-      record { is = rw (listed i, at_none (spanned_of s w u.directories u.directory_count) i l); within = no_span-in s }
+      let l : length (spanned_of s w u.directories.base u.directories.count) ≤ i = rw spanned-length h in
+      record { is = rw (listed i, at_none (spanned_of s w u.directories.base u.directories.count) i l); within = no_span-in s }
 
-  module _ (i : ℕ) (h : i < u.directory_count) (start len : ℕ) (es : start ≡ le_at 4 w (u.directories + i * 8)) (el : len ≡ le_at 4 w (u.directories + i * 8 + 4)) where
-    span-here : span_of (chunk w (u.directories + i * 8) 8) ≡ record { start = start; len = len }
-    span-here = span-is w (u.directories + i * 8) (record { start = start; len = len }) (sym es) (sym el)
+  module _ (i : ℕ) (h : i < u.directories.count) (a : Span) (ea : a ≡ span_of (chunk w (u.directories.base + i * 8) 8)) where
+    directory-here : DirectoryIn s a
+    directory-here = rw ea (U.spans i h)
 
-    directory-here : DirectoryIn s (record { start = start; len = len })
-    directory-here = rw span-here at (U.spans i h)
+    pub flag_read : a.start + 1 ≤ length s
+    flag_read = omega (arith, directory-here.within, directory-here.flagged)
 
-    pub flag_read : start + 1 ≤ length s
-    flag_read = let d = directory-here in let a = d.within in let b = d.flagged in omega arith
-
-    pub flag-before : 1 ≤ len
+    pub flag-before : 1 ≤ a.len
     flag-before = directory-here.flagged
 
-    spanned_here : at (spanned_of s w u.directories u.directory_count) i ≡ some (take len (drop start s))
+    spanned_here : at (spanned_of s w u.directories.base u.directories.count) i ≡ some (span_in s a)
     unfolding spanned_of chunk
     spanned_here =
         let f : List ℕ → List ℕ = λ b. span_in s (span_of b) in
-        let n = u.directory_count in
-        at_some (records f 8 w u.directories n) i [] (rw (records-length f 8 w u.directories n) h)
-        ∙ ap (λ (x : List ℕ). some x) (records-at f 8 w u.directories n i [] h ∙ ap (span_in s) span-here)
+        let n = u.directories.count in
+        at_some (records f 8 w u.directories.base n) i [] (rw (records-length f 8 w u.directories.base n) h)
+        ∙ ap (λ (x : List ℕ). some x) (records-at f 8 w u.directories.base n i [] h ∙ ap (span_in s) (sym ea))
 
-    module _ (f : ℕ) (ef : f ≡ le_at 1 s start) where
-      read_is : read_directory (at (unit_here s u.place).directories i) ≡ cond (eqb f 1) (refused 6) (done (span_in s (record { start = start + 1; len = len - 1 })))
+    module _ (f : ℕ) (ef : f ≡ le_at 1 s a.start) where
+      read_is : read_directory (at (unit_here s u.place).directories i) ≡ cond (eqb f 1) (refused 6) (done (span_in s (record { start = a.start + 1; len = a.len - 1 })))
       unfolding map_option directory_of chunk
       read_is =
           let d = directory-here.flagged in
-          rw (listed i, spanned_here, number-first s start len 1 f d ef, drop_part s start len 1)
+          rw (listed i, spanned_here, number-first s a.start a.len 1 f d ef, drop_part s a.start a.len 1)
 
       pub directory-failed : f ≡ 1 → Reads s (Err Refusal.Decoder) (read_directory (at (unit_here s u.place).directories i))
       directory-failed e = record { is = rw (read_is, eq-eqb f 1 e); within = tt }
 
-      pub directory-path : (f ≡ 1 → ⊥) → Reads s (Ok (record { start = start + 1; len = len - 1 })) (read_directory (at (unit_here s u.place).directories i))
+      pub directory-path : (f ≡ 1 → ⊥) → Reads s (Ok (record { start = a.start + 1; len = a.len - 1 })) (read_directory (at (unit_here s u.place).directories i))
       directory-path e =
           let d = directory-here in
-          let a = d.within in
-          let b = d.flagged in
-          let c = d.short in
-          record { is = rw (read_is, ne_eqb f 1 e); within = record { within = omega arith; short = omega arith } }
+          record { is = rw (read_is, ne_eqb f 1 e); within = record { within = omega (arith, d.within, d.flagged); short = omega (arith, d.flagged, d.short) } }
 
   -- ---- the directory of a number
 
-  module _ (n : ℕ) where
-    pub named-zero : u.version < 5 → n ≡ 0 → Reads s (Ok (record { start = 0; len = 0 })) (named_directory (unit_here s u.place) (header_here s u.place).version n)
+  module _ (n : ℕ) {old : Bool} (eo : old ≡ leb u.version 4) where
+    before_five : old ≡ true → ltb u.version 5 ≡ true
+    before_five o = lt-ltb u.version 5 (omega (arith, leb-true u.version 4 (sym eo ∙ o)))
+
+    from_five : old ≡ false → ltb u.version 5 ≡ false
+    from_five o = le-ltb u.version 5 (omega (arith, leb-false u.version 4 (sym eo ∙ o)))
+
+    pub named-zero : old ≡ true → n ≡ 0 → Reads s (Ok (record { start = 0; len = 0 })) (named_directory (unit_here s u.place) (header_here s u.place).version n)
     unfolding named_directory chunk
-    named-zero h e = record { is = rw (← U.version, lt-ltb u.version 5 h, eq-eqb n 0 e); within = no_span-in s }
+    named-zero o e = record { is = rw (← U.version, before_five o, eq-eqb n 0 e); within = no_span-in s }
 
     module _ (r : Result Span Refusal) where
-      pub named-old : u.version < 5 → (n ≡ 0 → ⊥) → Reads s r (read_directory (at (unit_here s u.place).directories (n - 1)))
+      pub named-old : old ≡ true → (n ≡ 0 → ⊥) → Reads s r (read_directory (at (unit_here s u.place).directories (n - 1)))
           → Reads s r (named_directory (unit_here s u.place) (header_here s u.place).version n)
       unfolding named_directory
-      named-old h e R = rw (← U.version, lt-ltb u.version 5 h, ne_eqb n 0 e) R
+      named-old o e R = rw (← U.version, before_five o, ne_eqb n 0 e) R
 
-      pub named_new : 5 ≤ u.version → Reads s r (read_directory (at (unit_here s u.place).directories n))
+      pub named_new : old ≡ false → Reads s r (read_directory (at (unit_here s u.place).directories n))
           → Reads s r (named_directory (unit_here s u.place) (header_here s u.place).version n)
       unfolding named_directory
-      named_new h R = rw (← U.version, le-ltb u.version 5 h) R
+      named_new o R = rw (← U.version, from_five o) R
 
 -- ---- the compilation directory before it
 

@@ -9,7 +9,8 @@ use Rattle.tlv.specs.declared.model.DebugSource.{DebugSource}
 use Rattle.buffers.specs.Output.{FileEntry}
 use Rattle.lines.specs.Files.{place_of}
 use Rattle.files.specs.declared.store.StoredFiles.{StoredFiles}
-use Rattle.files.specs.Pieces.{source_in}
+use Rattle.files.specs.declared.pieces.FilePieces.{FilePieces}
+use Rattle.files.specs.Pieces.{source_in, PiecesIn, PiecesSmall}
 use Rattle.files.specs.Possible.{possible_files, Possible}
 use Rattle.files.specs.Store.{stored_file, record_in, entries_of, FilesIn}
 use Rattle.files.proofs.PigeonLaws.{pigeons, one_more}
@@ -46,3 +47,12 @@ module _ {main supplementary w : List ℕ} {t : StoredFiles} (F : FilesIn main s
 pub source-small : {main supplementary w s : List ℕ} {t : StoredFiles} (source : DebugSource) → FilesIn main supplementary w t → s ≡ source_in main supplementary source → length s < 2 ^ 32
 source-small DebugSource.Main F e = rw e F.main-small
 source-small DebugSource.Supplementary F e = rw e F.supplementary-small
+
+-- pieces of a short sheet end at numbers of 4 bytes
+pub pieces-small : {s : List ℕ} {p : FilePieces} → PiecesIn s p → length s < 2 ^ 32 → PiecesSmall p
+pieces-small P h = record {
+  compilation = omega (arith, P.compilation.within);
+  directory = omega (arith, P.directory.within);
+  own = omega (arith, P.own.within);
+  base = omega (arith, P.base.within);
+}

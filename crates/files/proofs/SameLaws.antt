@@ -1,20 +1,20 @@
 -- Files that test the same are the same: by their names and directories, by their records, by their hashes, and by their places.
 use mathlib.Core.Path.{◌≡◌, refl, sym, ap, ◌∙◌}
-use mathlib.Core.Bool.{Bool, true, false, cond, ◌&&◌}
+use mathlib.Core.Bool.{Bool, true, false, cond, not, ◌&&◌}
 use mathlib.Core.List.{List, [], ◌∷◌, ◌++◌}
 use mathlib.Core.Option.{Option, none, some, none-ne-some}
-use Prim.Native.Nat.{ℕ, suc, ◌+◌, ◌-◌, ◌<◌}
+use Prim.Native.Nat.{ℕ, suc, ◌+◌, ◌<◌}
 use native.Mathlib.Omega.{arith}
 use lib.Dec.{eqb}
-use lib.ListN.{length, take, drop, get_or}
-use borrow.Author.Tests.{eqb-true, eq-eqb, ne_eqb}
+use lib.ListN.{length, get_or}
+use lib.Pointwise.{pointwise}
+use borrow.Author.Tests.{eqb-true, eq-eqb, ne_eqb, not-true, not-false}
 use Rattle.tlv.specs.Lists.{same, map_option}
 use Rattle.tlv.specs.Bytes.{le_at}
 use Rattle.tlv.proofs.TestLaws.{and_left, and_right, same_true}
 use Rattle.tlv.specs.declared.model.DebugSource.{DebugSource}
 use Rattle.buffers.specs.Table.{chunk}
 use Rattle.buffers.specs.Output.{FileEntry}
-use Rattle.buffers.proofs.ChunkLaws.{chunk-length}
 use Rattle.paths.specs.Paths.{append_path}
 use Rattle.lines.specs.Files.{same_file, place_of}
 use Rattle.files.specs.declared.pieces.FilePieces.{FilePieces}
@@ -22,8 +22,7 @@ use Rattle.files.specs.Pieces.{source_in, span_in, file_in, PiecesIn}
 use Rattle.files.specs.Hash.{hash_of}
 use Rattle.files.specs.Store.{pieces_of, source_of, stored_file, StoredAt}
 use Rattle.files.proofs.StoreLaws.{hash_at}
-use Rattle.files.proofs.JoinedLaws.{same_length}
-use Rattle.files.proofs.DirectoryLaws.{cut-span}
+use Rattle.files.proofs.JoinedLaws.{same-pointwise}
 
 -- ---- byte strings
 
@@ -67,35 +66,22 @@ and_true false = refl
 
 -- ---- a file, and the pieces of a sheet
 
-module _ {s : List ℕ} {p : FilePieces} (P : PiecesIn s p) (w : List ℕ) (at n : ℕ) (base : List ℕ) where
+module _ {s : List ℕ} {p : FilePieces} (P : PiecesIn s p) (dir base : List ℕ) where
   -- the test of the directories
   abbrev directories : Bool
-  directories = same (chunk w at n) (append_path (append_path (span_in s p.compilation) (span_in s p.directory)) (span_in s p.own))
+  directories = same dir (append_path (append_path (span_in s p.compilation) (span_in s p.directory)) (span_in s p.own))
 
-  pub other_length : (length base ≡ p.base.len → ⊥) → false ≡ same_file (record { directory = chunk w at n; basename = base }) (file_in s p)
+  pub other_name : {b : Bool} → b ≡ not (pointwise eqb (span_in s p.base) base) → b ≡ true → false ≡ same_file (record { directory = dir; basename = base }) (file_in s p)
   unfolding file_in
-  other_length ne =
-      let f : same base (span_in s p.base) ≡ false = same_length base (span_in s p.base) (λ q. ne (q ∙ chunk-length s p.base.start p.base.len P.base.within)) in
-      sym (ap (λ (b : Bool). directories && b) f ∙ and_false directories)
+  other_name q z =
+      sym (ap (λ (b : Bool). directories && b) (same-sym base (span_in s p.base) ∙ sym (same-pointwise (span_in s p.base) base) ∙ not-true _ (sym q ∙ z)) ∙ and_false directories)
 
-  -- the test of the names
-  names : {b : Bool} → length base ≡ p.base.len → b ≡ same (chunk s p.base.start (length base)) base → same base (span_in s p.base) ≡ b
-  names e q = same-sym base (span_in s p.base) ∙ ap (λ (k : ℕ). same (chunk s p.base.start k) base) (sym e) ∙ sym q
-
-  pub other_name : {b : Bool} → length base ≡ p.base.len → b ≡ same (chunk s p.base.start (length base)) base → b ≡ false
-      → false ≡ same_file (record { directory = chunk w at n; basename = base }) (file_in s p)
+  pub by-directory : {b r : Bool} → b ≡ not (pointwise eqb (span_in s p.base) base) → b ≡ false
+      → r ≡ same dir (append_path (append_path (span_in s p.compilation) (span_in s p.directory)) (span_in s p.own))
+      → r ≡ same_file (record { directory = dir; basename = base }) (file_in s p)
   unfolding file_in
-  other_name e q z =
-      sym (ap (λ (b : Bool). directories && b) (names e q ∙ z) ∙ and_false directories)
-
-  pub by-directory : {b r : Bool} → length base ≡ p.base.len → b ≡ same (chunk s p.base.start (length base)) base → b ≡ true
-      → r ≡ same (chunk w at n) (append_path (append_path (take (p.compilation.start + p.compilation.len - p.compilation.start) (drop p.compilation.start s))
-      (take (p.directory.start + p.directory.len - p.directory.start) (drop p.directory.start s))) (take (p.own.start + p.own.len - p.own.start) (drop p.own.start s)))
-      → r ≡ same_file (record { directory = chunk w at n; basename = base }) (file_in s p)
-  unfolding file_in
-  by-directory e q z d =
-      d ∙ (λ i. same (chunk w at n) (append_path (append_path (cut-span s p.compilation.start p.compilation.len i) (cut-span s p.directory.start p.directory.len i)) (cut-span s p.own.start p.own.len i)))
-      ∙ sym (ap (λ (b : Bool). directories && b) (names e q ∙ z) ∙ and_true directories)
+  by-directory q z d =
+      d ∙ sym (ap (λ (b : Bool). directories && b) (same-sym base (span_in s p.base) ∙ sym (same-pointwise (span_in s p.base) base) ∙ not-false _ (sym q ∙ z)) ∙ and_true directories)
 
 -- ---- a file, and the record at a place
 

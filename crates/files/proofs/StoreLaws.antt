@@ -5,7 +5,7 @@ use mathlib.Core.List.{List}
 use Prim.Native.Nat.{ℕ, ◌+◌, ◌*◌, ◌%◌, ◌≤◌, ◌<◌}
 use native.Mathlib.Nat.{add-zero, mod-lt, mul-le-mul_right}
 use native.Mathlib.Omega.{arith}
-use borrow.Author.Tests.{eq-eqb, ne_eqb}
+use Rattle.tlv.specs.Sources.{source_of_byte}
 use Rattle.tlv.specs.Bytes.{le_at}
 use denote.Enum.Declared.{tag_of}
 use Rattle.tlv.specs.contracts.model.DebugSource.{the_type}
@@ -45,13 +45,9 @@ got-pieces w at = pieces_are w at 41 (omega arith)
 pieces-front : (w : List ℕ) (at : ℕ) → pieces_of (chunk w at 41) ≡ pieces_of (chunk w at 32)
 pieces-front w at = sym (pieces_are w at 41 (omega arith) refl refl refl refl) ∙ pieces_are w at 32 (omega arith) refl refl refl refl
 
-pub got_main : (w : List ℕ) (p : ℕ) {b : ℕ} → b ≡ le_at 1 w (p + 32) → b ≡ 0 → DebugSource.Main ≡ source_of (chunk w p 41)
+pub got-source : (w : List ℕ) (p : ℕ) {b : ℕ} → b ≡ le_at 1 w (p + 32) → source_of_byte b ≡ source_of (chunk w p 41)
 unfolding source_of
-got_main w p {b} e z = rw (eq-eqb (le_at 1 (chunk w p 41) 32) 0 (le_at-chunk 1 w p 41 32 (omega arith) ∙ sym e ∙ z))
-
-pub got-supplementary : (w : List ℕ) (p : ℕ) {b : ℕ} → b ≡ le_at 1 w (p + 32) → (b ≡ 0 → ⊥) → DebugSource.Supplementary ≡ source_of (chunk w p 41)
-unfolding source_of
-got-supplementary w p {b} e z = rw (ne_eqb (le_at 1 (chunk w p 41) 32) 0 (λ q. z (e ∙ sym (le_at-chunk 1 w p 41 32 (omega arith)) ∙ q)))
+got-source w p e = ap source_of_byte (e ∙ sym (le_at-chunk 1 w p 41 32 (omega arith)))
 
 pub hash_at : (w : List ℕ) (p : ℕ) → stored_hash (chunk w p 41) ≡ le_at 4 w (p + 33)
 unfolding stored_hash
@@ -77,8 +73,8 @@ put-pieces {w} {w₁} {w₂} {w₃} {w₄} {at} {p} A B C D = record {
 }
 
 source-back : (w : List ℕ) (p : ℕ) (s : DebugSource) → le_at 1 w (p + 32) ≡ byte_of s → source_of (chunk w p 41) ≡ s
-source-back w p DebugSource.Main e = sym (got_main w p (sym e) refl)
-source-back w p DebugSource.Supplementary e = sym (got-supplementary w p (sym e) (λ q. omega arith))
+source-back w p DebugSource.Main e = sym (got-source w p (sym e))
+source-back w p DebugSource.Supplementary e = sym (got-source w p (sym e))
 
 -- the number of a case is its byte
 pub byte-is : (source : DebugSource) → tag_of the_type source ≡ byte_of source

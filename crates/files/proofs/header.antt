@@ -1,1 +1,1 @@
-mod HeaderLaws
+pub mod HeaderLaws

@@ -1,1 +1,1 @@
-mod LookupLaws
+pub mod LookupLaws

@@ -82,8 +82,8 @@ pub record InternsAt (main supplementary w w' files files' : List ℕ) (t : Stor
 
 -- the table stands below the directories' spans, and these below the map at base, which has room for the unit's files and one more
 pub record MapRoom (s w : List ℕ) (t : StoredFiles) (u : FileUnit) (base : ℕ) : Type 0 where
-  pub table : t.base + extent t ≤ u.directories
-  pub directories : u.directories + u.directory_count * 8 ≤ base
+  pub table : t.base + extent t ≤ u.directories.base
+  pub directories : u.directories.base + u.directories.count * 8 ≤ base
   pub map : base + index_record * (1 + length (unit_here s u.place).files) ≤ length w
 
 abbrev pub indexed_of : List ℕ → List ℕ → List ℕ → ℕ → Result InternedFiles Refusal → Outcome Indexed

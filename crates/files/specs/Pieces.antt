@@ -1,5 +1,5 @@
 -- Contract. A file by the pieces of a sheet that its path is joined from.
-use Rattle.std.specs.Prelude.{Option, Some, None, Result, Ok, Err, ℕ, ◌+◌, ◌*◌, ◌≤◌, ◌<◌, ◌≡◌, cond, List, [], ◌++◌, map, length, drop, replicate}
+use Rattle.std.specs.Prelude.{Option, Some, None, Result, Ok, Err, ℕ, ◌+◌, ◌*◌, ◌≤◌, ◌<◌, ◌^◌, ◌≡◌, cond, List, [], ◌++◌, map, length, drop, replicate}
 use Rattle.std.proofs.Math.Option.{none, some}
 use Rattle.std.proofs.Math.Option as math
 use Rattle.tlv.specs.Tags.{compilation_tag, directory_tag, header_tag, unit_tag, unit_whole, field_head}
@@ -41,18 +41,26 @@ file_in s p = record {
 }
 
 -- a span is a string of the sheet
--- Stays a clause: spans stand as numbers in tables of the work slice too, where no type can hold the sheet beside them.
+-- Stays a clause: spans are also read from the work slice, where no sheet is at hand, and most are made for one call.
 pub record SpanIn (s : List ℕ) (a : Span) : Type 0 where
   pub within : a.start + a.len ≤ length s
   pub short : a.len ≤ string_limit
 
 -- the same of the pieces of a file
--- Stays a clause: the table of files says it of each of its records, which are bytes of the work slice.
+-- Stays a clause for the reason at SpanIn, which it asks of four spans.
 pub record PiecesIn (s : List ℕ) (p : FilePieces) : Type 0 where
   pub compilation : SpanIn s p.compilation
   pub directory : SpanIn s p.directory
   pub own : SpanIn s p.own
   pub base : SpanIn s p.base
+
+-- the pieces end at numbers of 4 bytes
+-- Stays a clause: a span is any stretch of a sheet, and only one that is written to a record must be so small.
+pub record PiecesSmall (p : FilePieces) : Type 0 where
+  pub compilation : p.compilation.start + p.compilation.len < 2 ^ 32
+  pub directory : p.directory.start + p.directory.len < 2 ^ 32
+  pub own : p.own.start + p.own.len < 2 ^ 32
+  pub base : p.base.start + p.base.len < 2 ^ 32
 
 -- the number of slashes, 0 or 1, that joining puts between a path and a component
 pub record Separated (path component : List ℕ) (r : ℕ) : Type 0 where
@@ -108,7 +116,7 @@ unfoldable pub version_in : List ℕ → ℕ → ℕ
 version_in s p = (or_header (map_option header_of (payload_of header_tag (own_fields (fields (drop p s)))))).version
 
 -- a unit's field stands at p in an accepted sheet
--- Stays a clause: it speaks of a sheet's bytes, and which of the two sheets it is a caller picks by a source.
+-- Stays a clause: a type of the sheet and the place would be made anew at each call, since a unit is handed on by its source and its place.
 pub record UnitPlaced (s : List ℕ) (p : ℕ) : Type 0 where
   pub placed : Placed s p
   pub is : step_at s p ≡ field_here unit_tag (p + field_head) 18 (p + unit_whole)
@@ -118,19 +126,19 @@ pub record UnitPlaced (s : List ℕ) (p : ℕ) : Type 0 where
 pub record FileUnitIn (s w : List ℕ) (u : FileUnit) : Type 0 where
   pub version : u.version ≡ (header_here s u.place).version
   pub compilation : span_in s u.compilation ≡ or_empty (unit_here s u.place).directory
-  pub directories : map directory_of (spanned_of s w u.directories u.directory_count) ≡ (unit_here s u.place).directories
+  pub directories : map directory_of (spanned_of s w u.directories.base u.directories.count) ≡ (unit_here s u.place).directories
   pub string : SpanIn s u.compilation
-  pub spans : (i : ℕ) → i < u.directory_count → DirectoryIn s (span_of (chunk w (u.directories + i * 8) 8))
-  pub within : u.directories + u.directory_count * 8 ≤ length w
+  pub spans : (i : ℕ) → i < u.directories.count → DirectoryIn s (span_of (chunk w (u.directories.base + i * 8) 8))
+  pub within : u.directories.base + u.directories.count * 8 ≤ length w
 
 -- the unit at p was described, its directories' spans written at base
 pub record Described (s w w' : List ℕ) (source : DebugSource) (p base : ℕ) (r : FileUnit) : Type 0 where
   pub unit : FileUnitIn s w' r
   pub source-is : r.source ≡ source
   pub place : r.place ≡ p
-  pub directories : r.directories ≡ base
-  pub count : r.directory_count ≡ length (unit_here s p).directories
-  pub rest : Kept w w' base (r.directory_count * 8)
+  pub directories : r.directories.base ≡ base
+  pub count : r.directories.count ≡ length (unit_here s p).directories
+  pub rest : Kept w w' base (r.directories.count * 8)
 
 -- ---- the pieces of a header's file
 

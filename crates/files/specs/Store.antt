@@ -8,6 +8,7 @@ use Rattle.tlv.specs.Refusals as refusals
 use Rattle.tlv.specs.Outcome.{Outcome, refused, done}
 use Rattle.tlv.specs.Bytes.{le_at}
 use Rattle.tlv.specs.Limits.{joined_limit}
+use Rattle.tlv.specs.Sources.{source_of_byte}
 use Rattle.tlv.specs.declared.model.DebugSource.{DebugSource}
 use Rattle.buffers.specs.Buffer.{top, Put}
 use Rattle.buffers.specs.Table.{chunk, records, Kept, KeptBut}
@@ -18,7 +19,7 @@ use Rattle.files.specs.declared.store.StoredFiles.{StoredFiles}
 use Rattle.files.specs.declared.store.AddedFile.{AddedFile}
 use Rattle.files.specs.declared.store.LaidHash.{LaidHash}
 use Rattle.files.specs.Pieces.{source_in, span_of, file_in, PiecesIn}
-use Rattle.files.specs.Hash.{modulus, hash_of}
+use Rattle.files.specs.Hash.{hash_of}
 use Rattle.files.specs.Possible.{possible_files, Possible}
 
 -- ---- a record: four spans of 8, the source 1, the hash 4, the link 4
@@ -32,7 +33,7 @@ pieces_of b = record {
 }
 
 unfoldable pub source_of : List ℕ → DebugSource
-source_of b = cond (eqb (le_at 1 b 32) 0) DebugSource.Main DebugSource.Supplementary
+source_of b = source_of_byte (le_at 1 b 32)
 
 unfoldable pub stored_file : List ℕ → List ℕ → List ℕ → FileEntry
 stored_file main supplementary b = file_in (source_in main supplementary (source_of b)) (pieces_of b)
@@ -116,7 +117,6 @@ pub record LaidFile (w : List ℕ) (t : StoredFiles) (n hash : ℕ) (e : FileEnt
   pub directory : chunk w (scratch_from t) n ≡ e.directory
   pub short : n ≤ joined_limit
   pub hashed : hash ≡ hash_of e
-  pub small : hash < modulus
 
 -- ---- what is promised
 
@@ -148,10 +148,9 @@ pub record Linked (w w' : List ℕ) (t : StoredFiles) (source : DebugSource) (p 
 
 -- a file's directory was laid, and its hash is this
 pub record LaidAt (w w' : List ℕ) (at : ℕ) (e : FileEntry) (r : LaidHash) : Type 0 where
-  pub directory : chunk w' at r.n ≡ e.directory
-  pub short : r.n ≤ joined_limit
+  pub directory : chunk w' at r.len ≡ e.directory
+  pub short : r.len ≤ joined_limit
   pub hashed : r.hash ≡ hash_of e
-  pub small : r.hash < modulus
   pub rest : Kept w w' at joined_limit
 
 -- the table t of w has become the table t' of w': with `new` files at its end, which were written to the files tray

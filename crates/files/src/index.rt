@@ -3,8 +3,8 @@ ghost use Rattle.std.specs.Prelude.{◌≡◌, ◌+◌, ◌*◌, ◌≤◌, leng
 ghost use Rattle.lines.specs.Files.{get};
 ghost use Rattle.files.specs.Indices.{indices_in, number_of, PutIndex, Inserted, index_record};
 
-use buffers::numbers::Written;
-use tlv::bytes::Number;
+use buffers::numbers::{put_option, read_option};
+use buffers::table::Stored;
 use tlv::model::FileIndex;
 
 // Bytes of a record of the map.
@@ -14,32 +14,16 @@ pub const INDEX_RECORD: usize = 5;
 #[derive(Clone, Copy, Debug)]
 pub struct FileNumber(pub u64);
 
-// Where the map stands in the work slice.
-#[derive(Clone, Copy, Debug)]
-pub struct StoredIndices {
-    pub base: usize,
-    pub count: usize,
-}
-
 // Writes a record of the map: the table's number of a file, if it has one.
-// Stays apart from rows' put_sequence: a contract over any width and its reading would be longer than both.
 pub fn put_index(work: &mut [u8], p: usize, index: Option<FileIndex>)
     requires { p + 5 ≤ length work.old }
     ensures { PutIndex work.old work.new p (number_of index) }
 {
-    match index {
-        Some(number) => {
-            1u8.write(work, p);
-            number.0.write(work, p + 1);
-        }
-        None => {
-            0u8.write(work, p);
-        }
-    }
+    put_option(work, p, index.map(|number| number.0));
 }
 
 // The table's number for one of DWARF's.
-pub fn get_index(work: &[u8], indices: StoredIndices, number: FileNumber) -> Option<FileIndex>
+pub fn get_index(work: &[u8], indices: Stored<FileIndex>, number: FileNumber) -> Option<FileIndex>
     requires { indices.base + indices.count * index_record ≤ length work.now }
     ensures { number_of result ≡ get (indices_in work.now indices) number.0 }
 {
@@ -47,14 +31,17 @@ pub fn get_index(work: &[u8], indices: StoredIndices, number: FileNumber) -> Opt
         return None;
     }
     let p = indices.base + number.0 as usize * INDEX_RECORD;
-    if u8::read(work, p) != 1 {
-        return None;
-    }
-    Some(FileIndex(u32::read(work, p + 1)))
+    let number = read_option(work, p)?;
+    Some(FileIndex(number))
 }
 
 // Gives one of DWARF's numbers a number of the table; one past the map stays without.
-pub fn insert_index(work: &mut [u8], indices: StoredIndices, number: FileNumber, index: FileIndex)
+pub fn insert_index(
+    work: &mut [u8],
+    indices: Stored<FileIndex>,
+    number: FileNumber,
+    index: FileIndex,
+)
     requires { indices.base + indices.count * index_record ≤ length work.old }
     ensures { Inserted work.old work.new indices number index }
 {

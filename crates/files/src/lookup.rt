@@ -9,10 +9,10 @@ ghost use Rattle.files.specs.Store.{table_of, FilesIn};
 ghost use Rattle.files.specs.Reached.{number_in, nth_number, NthFile, Found, LookedUp};
 
 use crate::index::FileNumber;
-use crate::pieces::{FilePieces, file_pieces};
+use crate::pieces::FilePieces;
 use crate::sheets::Sheets;
 use crate::spans::{FileUnit, Span};
-use crate::store::{FILE_RECORD, StoredFiles, find_file, lay_file};
+use crate::store::StoredFiles;
 use access::access::next_before_rows;
 use tlv::fields::FieldSpan;
 use tlv::model::FileIndex;
@@ -25,7 +25,7 @@ fn nth_file(s: &[u8], p: usize, n: u64) -> Option<FieldSpan>
 {
     let mut at = p;
     let mut left = n;
-    // Stays a loop: each field's own length moves the place; what is counted is what was found.
+    // Stays a loop over fields: next_field says why.
     while let Some(field) = next_before_rows(s, at, FILE_TAG) {
         if left == 0 {
             return Some(field);
@@ -36,73 +36,67 @@ fn nth_file(s: &[u8], p: usize, n: u64) -> Option<FieldSpan>
     None
 }
 
-// The table's number of the file of pieces of s; its directory is laid in the table's scratch.
-fn look_up_pieces(
-    d: Sheets,
-    s: &[u8],
-    p: FilePieces,
-    work: &mut [u8],
-    t: StoredFiles,
-) -> Option<FileIndex>
-    requires files_in { FilesIn d.main.now d.supplementary.now work.old t }
-    requires pieces_in { PiecesIn s.now p }
-    ensures { Found d.entry.main.now d.entry.supplementary.now work.old work.new t
-        (number_in (table_of d.entry.main.now d.entry.supplementary.now work.old t) (done (some (file_in s.now p)))) result }
-{
-    let at = t.base + t.room * FILE_RECORD;
-    let start = p.base.start;
-    let past = start + p.base.len;
-    let l = lay_file(s, p, work, at);
-    let i = find_file(d, work, t, l, at, &s[start..past])?;
-    Some(FileIndex(t.first + i as u32))
-}
-
-// The table's number of the n-th file of a unit of s.
-fn look_up_nth(
-    d: Sheets,
-    s: &[u8],
-    unit: FileUnit,
-    n: u64,
-    work: &mut [u8],
-    t: StoredFiles,
-) -> Option<FileIndex>
-    requires files_in { FilesIn d.main.now d.supplementary.now work.old t }
-    requires file_unit_in { FileUnitIn s.now work.old unit }
-    requires unit_placed { UnitPlaced s.now unit.place }
-    ensures { Found d.entry.main.now d.entry.supplementary.now work.old work.new t
-        (nth_number (unit_here s.now unit.place) (header_here s.now unit.place)
-        (table_of d.entry.main.now d.entry.supplementary.now work.old t) n) result }
-{
-    let field = nth_file(s, unit.place + UNIT_WHOLE, n)?;
-    let file = Span {
-        start: field.start,
-        len: field.len,
-    };
-    let p = file_pieces(s, work, unit, file).ok()??;
-    look_up_pieces(d, s, p, work, t)
-}
-
-// The table's number for one of DWARF's, of a unit whose files are in the table: before version 5 there is no file 0.
-pub fn look_up_file(
-    d: Sheets,
-    unit: FileUnit,
-    number: FileNumber,
-    work: &mut [u8],
-    t: StoredFiles,
-) -> Option<FileIndex>
-    requires files_in { FilesIn d.main.now d.supplementary.now work.old t }
-    requires file_unit_in { FileUnitIn (sheet_in d unit.source) work.old unit }
-    requires unit_placed { UnitPlaced (sheet_in d unit.source) unit.place }
-    ensures { LookedUp d.entry.main.now d.entry.supplementary.now work.old work.new t
-        (sheet_in d.entry unit.source) unit number result }
-{
-    let s = d.of(unit.source);
-    let n = number.0;
-    if unit.version <= 4 {
-        if n == 0 {
-            return None;
-        }
-        return look_up_nth(d, s, unit, n - 1, work, t);
+impl StoredFiles {
+    // The table's number of the file of pieces of s; its directory is laid in the table's scratch.
+    fn look_up_pieces(
+        self,
+        sheets: Sheets,
+        s: &[u8],
+        pieces: FilePieces,
+        work: &mut [u8],
+    ) -> Option<FileIndex>
+        requires files_in { FilesIn sheets.main.now sheets.supplementary.now work.old self }
+        requires pieces_in { PiecesIn s.now pieces }
+        ensures { Found sheets.entry.main.now sheets.entry.supplementary.now work.old work.new self
+            (number_in (table_of sheets.entry.main.now sheets.entry.supplementary.now work.old self) (done (some (file_in s.now pieces)))) result }
+    {
+        let laid = pieces.lay(s, work, self.scratch());
+        self.laid_number(sheets, s, pieces, work, laid)
     }
-    look_up_nth(d, s, unit, n, work, t)
+
+    // The table's number of the n-th file of a unit of s.
+    fn look_up_nth(
+        self,
+        sheets: Sheets,
+        s: &[u8],
+        unit: FileUnit,
+        n: u64,
+        work: &mut [u8],
+    ) -> Option<FileIndex>
+        requires files_in { FilesIn sheets.main.now sheets.supplementary.now work.old self }
+        requires file_unit_in { FileUnitIn s.now work.old unit }
+        requires unit_placed { UnitPlaced s.now unit.place }
+        ensures { Found sheets.entry.main.now sheets.entry.supplementary.now work.old work.new self
+            (nth_number (unit_here s.now unit.place) (header_here s.now unit.place)
+            (table_of sheets.entry.main.now sheets.entry.supplementary.now work.old self) n) result }
+    {
+        let field = nth_file(s, unit.place + UNIT_WHOLE, n)?;
+        let pieces = unit.file_pieces(s, work, Span::from(field)).ok()??;
+        self.look_up_pieces(sheets, s, pieces, work)
+    }
+
+    // The table's number for one of DWARF's, of a unit whose files are in the table: before version 5 there is no file 0.
+    pub fn look_up_file(
+        self,
+        sheets: Sheets,
+        unit: FileUnit,
+        number: FileNumber,
+        work: &mut [u8],
+    ) -> Option<FileIndex>
+        requires files_in { FilesIn sheets.main.now sheets.supplementary.now work.old self }
+        requires file_unit_in { FileUnitIn (sheet_in sheets unit.source) work.old unit }
+        requires unit_placed { UnitPlaced (sheet_in sheets unit.source) unit.place }
+        ensures { LookedUp sheets.entry.main.now sheets.entry.supplementary.now work.old work.new self
+            (sheet_in sheets.entry unit.source) unit number result }
+    {
+        let s = sheets.of(unit.source);
+        let n = number.0;
+        if unit.counts_from_one() {
+            if n == 0 {
+                return None;
+            }
+            return self.look_up_nth(sheets, s, unit, n - 1, work);
+        }
+        self.look_up_nth(sheets, s, unit, n, work)
+    }
 }

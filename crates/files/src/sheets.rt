@@ -6,8 +6,7 @@ ghost use Rattle.tlv.specs.Bytes.{AreBytes};
 use tlv::model::DebugSource;
 
 // The sheets of the main and of the supplementary debug data.
-// Stays bare: it holds slices.
-#[derive(Clone, Copy)]
+#[derive(Clone, Copy, Debug)]
 pub struct Sheets<'a> {
     pub main: &'a [u8],
     pub supplementary: &'a [u8],

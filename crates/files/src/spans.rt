@@ -1,17 +1,20 @@
-// Where a unit's directories and its compilation directory stand.
-ghost use Rattle.std.specs.Prelude.{◌≡◌, ◌+◌, ◌*◌, ◌≤◌, ◌<◌, ◌^◌, length, drop};
+// Spans of a sheet, and what of a unit tells the paths of its files.
+ghost use Rattle.std.specs.Prelude.{◌≡◌, ◌+◌, ◌*◌, ◌≤◌, ◌<◌, ◌^◌, leb, length, drop};
 ghost use Rattle.tlv.specs.Tags.{directory_tag};
 ghost use Rattle.tlv.specs.Lists.{at};
 ghost use Rattle.tlv.specs.Fields.{fields, payloads};
 ghost use Rattle.tlv.specs.Checked.{Placed};
+ghost use Rattle.buffers.specs.Table.{chunk};
 ghost use Rattle.access.specs.Places.{own_fields, unit_here};
-ghost use Rattle.files.specs.Pieces.{PutSpan, UnitPlaced, version_in, DirectoriesIn, CompilationIn, span_record, Described};
+ghost use Rattle.files.specs.Pieces.{PutSpan, span_in, span_of, UnitPlaced, version_in, DirectoriesIn, CompilationIn, span_record, Described};
 ghost use Rattle.files.specs.Sheets.{sheet_in};
 
 use crate::sheets::Sheets;
 use access::access::next_before_rows;
 use buffers::numbers::Written;
+use buffers::table::Stored;
 use tlv::bytes::Number;
+use tlv::fields::FieldSpan;
 use tlv::model::DebugSource;
 use tlv::shapes::HEADER_VERSION;
 use tlv::tags::{COMPILATION_TAG, DIRECTORY_TAG, HEADER_TAG, UNIT_WHOLE};
@@ -19,51 +22,80 @@ use tlv::tags::{COMPILATION_TAG, DIRECTORY_TAG, HEADER_TAG, UNIT_WHOLE};
 // Bytes of a span in a table of spans.
 pub const SPAN_RECORD: usize = 8;
 
-// A stretch of a sheet.
-#[derive(Clone, Copy, Debug)]
+// A stretch of a sheet; the default one is empty.
+#[derive(Clone, Copy, Debug, Default)]
 pub struct Span {
     pub start: usize,
     pub len: usize,
 }
 
+impl From<FieldSpan> for Span {
+    // That of a field's payload.
+    fn from(field: FieldSpan) -> Span
+        ensures { result ≡ record { start = field.start; len = field.len } }
+    {
+        Span {
+            start: field.start,
+            len: field.len,
+        }
+    }
+}
+
+impl Span {
+    // The bytes of s that the span covers.
+    pub fn of<'a>(self, s: &'a [u8]) -> &'a [u8]
+        requires within { self.start + self.len ≤ length s.now }
+        ensures { result.now ≡ span_in s.now self }
+    {
+        let end = self.start + self.len;
+        &s[self.start..end]
+    }
+
+    // The span of a record in a table of spans.
+    pub fn read(work: &[u8], p: usize) -> Span
+        requires { p + 8 ≤ length work.now }
+        ensures { result ≡ span_of (chunk work.now p 8) }
+    {
+        Span {
+            start: u32::read(work, p) as usize,
+            len: u32::read(work, p + 4) as usize,
+        }
+    }
+
+    // Writes its record in a table of spans: its start and its length, of 4 bytes each.
+    pub fn write(self, work: &mut [u8], p: usize)
+        requires record_fits { p + 8 ≤ length work.old }
+        requires end_small { self.start + self.len < 2 ^ 32 }
+        ensures { PutSpan work.old work.new p self }
+    {
+        (self.start as u32).write(work, p);
+        (self.len as u32).write(work, p + 4);
+    }
+}
+
 // What of a unit tells the paths of its files: its sheet's source, its place, its line header's version, its compilation directory,
-// and a table of its directories' spans in the work slice.
+// and where its directories' spans stand in the work slice.
 #[derive(Clone, Copy, Debug)]
 pub struct FileUnit {
     pub source: DebugSource,
     pub place: usize,
     pub version: u8,
     pub compilation: Span,
-    pub directories: usize,
-    pub directory_count: usize,
-}
-
-// Writes a span: its start and its length, of 4 bytes each.
-pub fn put_span(work: &mut [u8], p: usize, a: Span)
-    requires p_in_bounds { p + 8 ≤ length work.old }
-    requires len_bound { a.start + a.len < 2 ^ 32 }
-    ensures { PutSpan work.old work.new p a }
-{
-    (a.start as u32).write(work, p);
-    (a.len as u32).write(work, p + 4);
+    pub directories: Stored<Span>,
 }
 
 // Writes the spans of the directories of the unit whose fields follow place p, and returns their number.
 fn index_directories(s: &[u8], p: usize, work: &mut [u8], base: usize) -> usize
     requires placed { Placed s.now p }
-    requires s_len_bound { length s.now < 2 ^ 32 }
-    requires s_in_bounds { base + span_record * length (payloads directory_tag (own_fields (fields (drop p s.now)))) ≤ length work.old }
+    requires sheet_small { length s.now < 2 ^ 32 }
+    requires spans_fit { base + span_record * length (payloads directory_tag (own_fields (fields (drop p s.now)))) ≤ length work.old }
     ensures { DirectoriesIn s.now work.old work.new p base result }
 {
     let mut at = p;
     let mut n: usize = 0;
-    // Stays a loop: each field's own length moves the place; what is counted is what was found.
+    // Stays a loop over fields: next_field says why.
     while let Some(field) = next_before_rows(s, at, DIRECTORY_TAG) {
-        let directory = Span {
-            start: field.start,
-            len: field.len,
-        };
-        put_span(work, base + n * SPAN_RECORD, directory);
+        Span::from(field).write(work, base + n * SPAN_RECORD);
         n += 1;
         at = field.next;
     }
@@ -76,12 +108,9 @@ fn compilation_span(s: &[u8], p: usize) -> Span
     ensures { CompilationIn s.now p result }
 {
     let Some(field) = next_before_rows(s, p, COMPILATION_TAG) else {
-        return Span { start: 0, len: 0 };
+        return Span::default();
     };
-    Span {
-        start: field.start,
-        len: field.len,
-    }
+    Span::from(field)
 }
 
 // The version of the line header of the unit whose fields follow place p; 0 where it has none.
@@ -95,30 +124,38 @@ fn header_version(s: &[u8], p: usize) -> u8
     u8::read(s, field.start + HEADER_VERSION)
 }
 
-// Describes the unit at a place of a source's sheet, the spans of its directories written at base.
-pub fn file_unit(
-    d: Sheets,
-    source: DebugSource,
-    place: usize,
-    work: &mut [u8],
-    base: usize,
-) -> FileUnit
-    requires unit_placed { UnitPlaced (sheet_in d source) place }
-    requires s_len_bound { length (sheet_in d source) < 2 ^ 32 }
-    requires place_in_bounds { base + span_record * length (unit_here (sheet_in d source) place).directories ≤ length work.old }
-    ensures { Described (sheet_in d.entry source) work.old work.new source place base result }
-{
-    let s = d.of(source);
-    let p = place + UNIT_WHOLE;
-    let version = header_version(s, p);
-    let compilation = compilation_span(s, p);
-    let directory_count = index_directories(s, p, work, base);
-    FileUnit {
-        source,
-        place,
-        version,
-        compilation,
-        directories: base,
-        directory_count,
+impl FileUnit {
+    // Describes the unit at a place of a source's sheet, the spans of its directories written at base.
+    pub fn describe(
+        sheets: Sheets,
+        source: DebugSource,
+        place: usize,
+        work: &mut [u8],
+        base: usize,
+    ) -> FileUnit
+        requires unit_placed { UnitPlaced (sheet_in sheets source) place }
+        requires sheet_small { length (sheet_in sheets source) < 2 ^ 32 }
+        requires spans_fit { base + span_record * length (unit_here (sheet_in sheets source) place).directories ≤ length work.old }
+        ensures { Described (sheet_in sheets.entry source) work.old work.new source place base result }
+    {
+        let s = sheets.of(source);
+        let p = place + UNIT_WHOLE;
+        let version = header_version(s, p);
+        let compilation = compilation_span(s, p);
+        let count = index_directories(s, p, work, base);
+        FileUnit {
+            source,
+            place,
+            version,
+            compilation,
+            directories: Stored::new(base, count),
+        }
+    }
+
+    // Whether files and directories are counted from 1: before version 5 there is no file 0, and directory 0 is the compilation directory.
+    pub fn counts_from_one(self) -> bool
+        ensures { result ≡ leb self.version 4 }
+    {
+        self.version <= 4
     }
 }

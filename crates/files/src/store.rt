@@ -1,18 +1,20 @@
 // The file table in the work slice (the Rust's GsymBuilder::add_file): a file is looked up by its hash, and a new one is written to the files tray.
 ghost use Rattle.std.specs.Prelude.{◌≡◌, ◌+◌, ◌*◌, ◌≤◌, ◌<◌, ◌^◌, length};
-ghost use Rattle.std.proofs.Math.Option.{none};
+ghost use Rattle.std.proofs.Math.Option.{none, some};
+ghost use Rattle.tlv.specs.Outcome.{done};
 ghost use Rattle.tlv.specs.Limits.{joined_limit};
-ghost use Rattle.buffers.specs.Table.{chunk};
 ghost use Rattle.lines.specs.Files.{place_of};
-ghost use Rattle.files.specs.Pieces.{file_in, PiecesIn};
+ghost use Rattle.files.specs.Pieces.{file_in, PiecesIn, PiecesSmall};
 ghost use Rattle.files.specs.Sheets.{sheet_in};
 ghost use Rattle.files.specs.Hash.{hash_of};
 ghost use Rattle.files.specs.Possible.{possible_files, Possible};
-ghost use Rattle.files.specs.Store.{extent, Linked, LaidFile, LaidAt, FilesIn, file_record, found_of, entries_of, Empty, Adds};
+ghost use Rattle.files.specs.Indices.{number_of};
+ghost use Rattle.files.specs.Store.{scratch_from, extent, table_of, Linked, LaidFile, LaidAt, FilesIn, file_record, found_of, entries_of, Empty, Adds};
+ghost use Rattle.files.specs.Reached.{number_in};
 
 use crate::hash::hash_bytes;
-use crate::pieces::{FilePieces, lay_directory};
-use crate::records::{is_file, put_record};
+use crate::pieces::FilePieces;
+use crate::records::{LINK_AT, is_file, put_record};
 use crate::sheets::Sheets;
 use buffers::numbers::Written;
 use tlv::bytes::Number;
@@ -51,173 +53,184 @@ pub struct AddedFile {
 // The length of a directory that was laid, and the hash of its file.
 #[derive(Clone, Copy, Debug)]
 pub struct LaidHash {
-    pub n: usize,
-    pub hash: u64,
+    pub len: usize,
+    pub hash: u32,
 }
 
-// The place of the file whose directory was laid at `at`, and whose name is base.
-pub fn find_file(
-    d: Sheets,
-    work: &[u8],
-    t: StoredFiles,
-    l: LaidHash,
-    at: usize,
-    base: &[u8],
-) -> Option<usize>
-    requires files_in { FilesIn d.main.now d.supplementary.now work.now t }
-    requires n_in_bounds { at + l.n ≤ length work.now }
-    requires hash_value { l.hash ≡ hash_of (record { directory = chunk work.now at l.n; basename = base.now }) }
-    ensures { found_of result ≡ place_of (record { directory = chunk work.now at l.n; basename = base.now })
-        (entries_of d.entry.main.now d.entry.supplementary.now work.now t) }
-{
-    let bucket = (l.hash % t.room as u64) as usize;
-    let mut k = u32::read(work, t.base + bucket * FILE_HEAD) as usize;
-    // Stays a loop: each record names the one before it in its chain, so nothing is counted.
-    while k != 0 {
-        let p = t.base + t.room * FILE_HEAD + (k - 1) * FILE_BODY;
-        if is_file(d, work, p, l, at, base) {
-            return Some(k - 1);
-        }
-        k = u32::read(work, p + 37) as usize;
-    }
-    None
-}
-
-// Writes the record of a file that is not in the table, at the table's end, and makes it the first of its chain.
-fn link_file(
-    s: &[u8],
-    work: &mut [u8],
-    t: StoredFiles,
-    source: DebugSource,
-    p: FilePieces,
-    hash: u64,
-)
-    requires count_lt_room { (t.count < t.room) × (t.room < 2 ^ 32) }
-    requires t_in_bounds { t.base + extent t ≤ length work.old }
-    requires pieces_in { PiecesIn s.now p }
-    requires s_len_bound { length s.now < 2 ^ 32 }
-    requires hash_bound { hash < 2 ^ 32 }
-    ensures { Linked work.old work.new t source p hash }
-{
-    let head = t.base + (hash % t.room as u64) as usize * FILE_HEAD;
-    let link = u32::read(work, head);
-    put_record(
-        s,
-        work,
-        t.base + t.room * FILE_HEAD + t.count * FILE_BODY,
-        source,
-        p,
-        hash,
-        link,
-    );
-    ((t.count + 1) as u32).write(work, head);
-}
-
-// Adds a file that is not in the table, of pieces of the source's sheet; its directory is the n bytes at the table's scratch.
-fn append_file(
-    d: Sheets,
-    source: DebugSource,
-    p: FilePieces,
-    work: &mut [u8],
-    files: &mut [u8],
-    t: StoredFiles,
-    l: LaidHash,
-) -> Result<AddedFile, Refusal>
-    requires files_in { FilesIn d.main.now d.supplementary.now work.old t }
-    requires pieces_in { PiecesIn (sheet_in d source) p }
-    requires possible { Possible d.main.now d.supplementary.now (file_in (sheet_in d source) p) }
-    requires laid_file { LaidFile work.old t l.n l.hash (file_in (sheet_in d source) p) }
-    requires t_value { place_of (file_in (sheet_in d source) p)
-        (entries_of d.main.now d.supplementary.now work.old t) ≡ none }
-    ensures { Adds d.entry.main.now d.entry.supplementary.now work.old work.new files.old files.new t
-        (file_in (sheet_in d.entry source) p) result }
-{
-    let number = t
-        .first
-        .checked_add(t.count as u32)
-        .ok_or(Refusal::FilesFull)?;
-    let s = d.of(source);
-    let at = t.base + t.room * FILE_RECORD;
-    let end = at + l.n;
-    let start = p.base.start;
-    let past = start + p.base.len;
-    let written = buffers::output::put_file(files, t.written, &work[at..end], &s[start..past]);
-    link_file(s, work, t, source, p, l.hash);
-    Ok(AddedFile {
-        table: StoredFiles {
-            count: t.count + 1,
+impl StoredFiles {
+    // An empty table at base, whose first file gets the number `first` and is written at the place `written` of the files tray.
+    // Stays with base and room apart: Stored has a base and a count, and this table's count starts at 0 whatever its room.
+    pub fn new(
+        sheets: Sheets,
+        work: &mut [u8],
+        base: usize,
+        room: usize,
+        first: u32,
+        written: usize,
+    ) -> StoredFiles
+        requires files_few { length (possible_files sheets.main.now sheets.supplementary.now) < room }
+        requires room_small { room < 2 ^ 32 }
+        requires table_within { base + (room * file_record + joined_limit) ≤ length work.old }
+        requires main_small { length sheets.main.now < 2 ^ 32 }
+        requires supplementary_small { length sheets.supplementary.now < 2 ^ 32 }
+        ensures { Empty sheets.entry.main.now sheets.entry.supplementary.now work.old work.new base room first written result }
+    {
+        buffers::table::fill_zero(work, base, base + room * FILE_HEAD);
+        StoredFiles {
+            first,
+            base,
+            room,
+            count: 0,
             written,
-            ..t
-        },
-        number: FileIndex(number),
-    })
-}
+        }
+    }
 
-// Lays the directory of a file, and gives its length and the file's hash.
-pub fn lay_file(s: &[u8], p: FilePieces, work: &mut [u8], at: usize) -> LaidHash
-    requires pieces_in { PiecesIn s.now p }
-    requires joined_limit_in_bounds { at + joined_limit ≤ length work.old }
-    ensures { LaidAt work.old work.new at (file_in s.now p) result }
-{
-    let start = p.base.start;
-    let past = start + p.base.len;
-    let n = lay_directory(s, p, work, at);
-    let end = at + n;
-    let hash = hash_bytes(hash_bytes(0, &work[at..end]), &s[start..past]);
-    LaidHash { n, hash }
-}
+    // Where the room stands in which a path is joined, behind its records.
+    pub fn scratch(self) -> usize
+        requires { self.base + extent self < 2 ^ 64 }
+        ensures { result ≡ scratch_from self }
+    {
+        self.base + self.room * FILE_RECORD
+    }
 
-// Adds the file of pieces of the source's sheet, unless the table has it, and gives its number.
-pub fn add_file(
-    d: Sheets,
-    source: DebugSource,
-    p: FilePieces,
-    work: &mut [u8],
-    files: &mut [u8],
-    t: StoredFiles,
-) -> Result<AddedFile, Refusal>
-    requires files_in { FilesIn d.main.now d.supplementary.now work.old t }
-    requires pieces_in { PiecesIn (sheet_in d source) p }
-    requires possible { Possible d.main.now d.supplementary.now (file_in (sheet_in d source) p) }
-    ensures { Adds d.entry.main.now d.entry.supplementary.now work.old work.new files.old files.new t
-        (file_in (sheet_in d.entry source) p) result }
-{
-    let s = d.of(source);
-    let at = t.base + t.room * FILE_RECORD;
-    let start = p.base.start;
-    let past = start + p.base.len;
-    let l = lay_file(s, p, work, at);
-    match find_file(d, work, t, l, at, &s[start..past]) {
-        Some(i) => Ok(AddedFile {
-            table: t,
-            number: FileIndex(t.first + i as u32),
-        }),
-        None => append_file(d, source, p, work, files, t, l),
+    // The place of the file of a directory and a name, which has the hash.
+    pub fn find_file(
+        self,
+        sheets: Sheets,
+        work: &[u8],
+        directory: &[u8],
+        base: &[u8],
+        hash: u32,
+    ) -> Option<usize>
+        requires files_in { FilesIn sheets.main.now sheets.supplementary.now work.now self }
+        requires hashed { hash ≡ hash_of (record { directory = directory.now; basename = base.now }) }
+        ensures { found_of result ≡ place_of (record { directory = directory.now; basename = base.now })
+            (entries_of sheets.entry.main.now sheets.entry.supplementary.now work.now self) }
+    {
+        let bucket = hash as usize % self.room;
+        let mut k = u32::read(work, self.base + bucket * FILE_HEAD) as usize;
+        // Stays a loop: it follows a chain, whose links lead to ever lower places; nothing is counted.
+        while k != 0 {
+            let p = self.base + self.room * FILE_HEAD + (k - 1) * FILE_BODY;
+            if is_file(sheets, work, p, directory, base, hash) {
+                return Some(k - 1);
+            }
+            k = u32::read(work, p + LINK_AT) as usize;
+        }
+        None
+    }
+
+    // The table's number of the file of pieces of s, whose directory was laid in the table's scratch.
+    pub(crate) fn laid_number(
+        self,
+        sheets: Sheets,
+        s: &[u8],
+        pieces: FilePieces,
+        work: &[u8],
+        laid: LaidHash,
+    ) -> Option<FileIndex>
+        requires files_in { FilesIn sheets.main.now sheets.supplementary.now work.now self }
+        requires pieces_in { PiecesIn s.now pieces }
+        requires laid_file { LaidFile work.now self laid.len laid.hash (file_in s.now pieces) }
+        ensures { number_of result ≡ number_in (table_of sheets.entry.main.now sheets.entry.supplementary.now work.now self)
+            (done (some (file_in s.now pieces))) }
+    {
+        let at = self.scratch();
+        let end = at + laid.len;
+        let i = self.find_file(sheets, work, &work[at..end], pieces.base.of(s), laid.hash)?;
+        Some(FileIndex(self.first + i as u32))
+    }
+
+    // Writes the record of a file that is not in the table, at the table's end, and makes it the first of its chain.
+    fn link_file(self, work: &mut [u8], source: DebugSource, pieces: FilePieces, hash: u32)
+        requires has_room { (self.count < self.room) × (self.room < 2 ^ 32) }
+        requires table_within { self.base + extent self ≤ length work.old }
+        requires pieces_small { PiecesSmall pieces }
+        ensures { Linked work.old work.new self source pieces hash }
+    {
+        let head = self.base + hash as usize % self.room * FILE_HEAD;
+        let link = u32::read(work, head);
+        let at = self.base + self.room * FILE_HEAD + self.count * FILE_BODY;
+        put_record(work, at, source, pieces, hash, link);
+        ((self.count + 1) as u32).write(work, head);
+    }
+
+    // Adds a file that is not in the table, of pieces of the source's sheet; its directory was laid at the table's scratch.
+    fn append_file(
+        self,
+        sheets: Sheets,
+        source: DebugSource,
+        pieces: FilePieces,
+        work: &mut [u8],
+        files: &mut [u8],
+        laid: LaidHash,
+    ) -> Result<AddedFile, Refusal>
+        requires files_in { FilesIn sheets.main.now sheets.supplementary.now work.old self }
+        requires pieces_in { PiecesIn (sheet_in sheets source) pieces }
+        requires possible { Possible sheets.main.now sheets.supplementary.now (file_in (sheet_in sheets source) pieces) }
+        requires laid_file { LaidFile work.old self laid.len laid.hash (file_in (sheet_in sheets source) pieces) }
+        requires is_new { place_of (file_in (sheet_in sheets source) pieces)
+            (entries_of sheets.main.now sheets.supplementary.now work.old self) ≡ none }
+        ensures { Adds sheets.entry.main.now sheets.entry.supplementary.now work.old work.new files.old files.new self
+            (file_in (sheet_in sheets.entry source) pieces) result }
+    {
+        let number = self
+            .first
+            .checked_add(self.count as u32)
+            .ok_or(Refusal::FilesFull)?;
+        let s = sheets.of(source);
+        let at = self.scratch();
+        let end = at + laid.len;
+        let name = pieces.base.of(s);
+        let written = buffers::output::put_file(files, self.written, &work[at..end], name);
+        self.link_file(work, source, pieces, laid.hash);
+        Ok(AddedFile {
+            table: StoredFiles {
+                count: self.count + 1,
+                written,
+                ..self
+            },
+            number: FileIndex(number),
+        })
+    }
+
+    // Adds the file of pieces of the source's sheet, unless the table has it, and gives its number.
+    pub fn add_file(
+        self,
+        sheets: Sheets,
+        source: DebugSource,
+        pieces: FilePieces,
+        work: &mut [u8],
+        files: &mut [u8],
+    ) -> Result<AddedFile, Refusal>
+        requires files_in { FilesIn sheets.main.now sheets.supplementary.now work.old self }
+        requires pieces_in { PiecesIn (sheet_in sheets source) pieces }
+        requires possible { Possible sheets.main.now sheets.supplementary.now (file_in (sheet_in sheets source) pieces) }
+        ensures { Adds sheets.entry.main.now sheets.entry.supplementary.now work.old work.new files.old files.new self
+            (file_in (sheet_in sheets.entry source) pieces) result }
+    {
+        let s = sheets.of(source);
+        let laid = pieces.lay(s, work, self.scratch());
+        match self.laid_number(sheets, s, pieces, work, laid) {
+            Some(number) => Ok(AddedFile {
+                table: self,
+                number,
+            }),
+            None => self.append_file(sheets, source, pieces, work, files, laid),
+        }
     }
 }
 
-// An empty table at base, whose first file gets the number `first` and is written at the place `written` of the files tray.
-pub fn new_files(
-    d: Sheets,
-    work: &mut [u8],
-    base: usize,
-    room: usize,
-    first: u32,
-    written: usize,
-) -> StoredFiles
-    requires supplementary_len_bound { length (possible_files d.main.now d.supplementary.now) < room }
-    requires room_bound { room < 2 ^ 32 }
-    requires joined_limit_in_bounds { base + (room * file_record + joined_limit) ≤ length work.old }
-    requires main_len_bound { length d.main.now < 2 ^ 32 }
-    requires supplementary_len_bound_2 { length d.supplementary.now < 2 ^ 32 }
-    ensures { Empty d.entry.main.now d.entry.supplementary.now work.old work.new base room first written result }
-{
-    buffers::table::fill_zero(work, base, base + room * FILE_HEAD);
-    StoredFiles {
-        first,
-        base,
-        room,
-        count: 0,
-        written,
+impl FilePieces {
+    // Lays the directory of the file, and gives its length and the file's hash.
+    pub fn lay(self, s: &[u8], work: &mut [u8], at: usize) -> LaidHash
+        requires pieces_in { PiecesIn s.now self }
+        requires path_fits { at + joined_limit ≤ length work.old }
+        ensures { LaidAt work.old work.new at (file_in s.now self) result }
+    {
+        let len = self.lay_directory(s, work, at);
+        let end = at + len;
+        let hash = hash_bytes(hash_bytes(0, &work[at..end]), self.base.of(s));
+        LaidHash { len, hash }
     }
 }

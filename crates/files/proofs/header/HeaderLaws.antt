@@ -1,14 +1,13 @@
 -- The map of a unit from its start on: before version 5 file 0 has no number.
-use Prim.Native.Nat.{ℕ, ◌+◌, ◌*◌, ◌≤◌, ◌<◌}
+use Prim.Native.Nat.{ℕ, ◌+◌, ◌*◌}
 use native.Mathlib.Omega.{arith}
-use mathlib.Core.Path.{◌≡◌, ◌∙◌}
+use mathlib.Core.Path.{◌≡◌, sym, ◌∙◌}
 use mathlib.Core.Bool.{Bool, true, false, cond}
 use mathlib.Core.Logic.{inl}
 use mathlib.Core.List.{List, [], ◌∷◌}
 use mathlib.Core.Option.{none}
 use lib.Dec.{leb}
 use lib.ListN.{length}
-use borrow.Author.Tests.{le-leb, lt-leb}
 use Rattle.std.specs.Prelude.{Result, Ok, Err}
 use Rattle.tlv.specs.declared.refusal.Refusal.{Refusal}
 use Rattle.tlv.specs.Outcome.{◌>>=◌}
@@ -18,6 +17,8 @@ use Rattle.buffers.proofs.TableLaws.{here, there, but_of, but_one, but_trans}
 use Rattle.buffers.proofs.RecordLaws.{records-nil, records-suc}
 use Rattle.access.specs.Places.{unit_here}
 use Rattle.lines.specs.Files.{FileTable, FileIndices, intern_files, intern_header_files}
+use Rattle.tlv.specs.declared.model.FileIndex.{FileIndex}
+use Rattle.buffers.specs.declared.table.Stored.{Stored}
 use Rattle.files.specs.declared.spans.FileUnit.{FileUnit}
 use Rattle.files.specs.declared.store.StoredFiles.{StoredFiles}
 use Rattle.files.specs.declared.header.InternedFiles.{InternedFiles}
@@ -63,18 +64,19 @@ module _ {w w₁ : List ℕ} {t : StoredFiles} {s : List ℕ} {u : FileUnit} {ba
     grown-from w₂ files files₂ m (Err e) a = tt
     grown-from w₂ files files₂ m (Ok x) a = (grown-after F (but_one P.rest) table-clear a.0, a.1)
 
-    pub header-before : {w₂ files files₂ : List ℕ} {r : Result InternedFiles Refusal} → FileUnitIn s w u → u.version ≤ 4 → InternsFiles main supplementary w₁ w₂ files files₂ t s u base 1 r → InternsHeader main supplementary w w₂ files files₂ t s u base r
-    header-before {w₂} {files} {files₂} {r} U v I = record {
+    pub header-before : {w₂ files files₂ : List ℕ} {r : Result InternedFiles Refusal} {old : Bool} {m : Stored FileIndex} → FileUnitIn s w u → old ≡ leb u.version 4 → old ≡ true
+        → m.base ≡ base → m.count ≡ 1 → InternsFiles main supplementary w₁ w₂ files files₂ t s u m.base m.count r → InternsHeader main supplementary w w₂ files files₂ t s u base r
+    header-before {w₂} {files} {files₂} {r} U eo o eb en I = let I = rw (eb, en) at I in record {
       is = I.is ∙ rw (table_kept F (but_one P.rest) table-clear)
-          (header_is (unit_here s u.place) (header_here s u.place) (table_of main supplementary w t) (indices_of w₁ base 1) true (rw (← U.version) (le-leb u.version 4 v)) (first-none w₁ base P.index));
+          (header_is (unit_here s u.place) (header_here s u.place) (table_of main supplementary w t) (indices_of w₁ base 1) true (rw (← U.version) (sym eo ∙ o)) (first-none w₁ base P.index));
       after = grown-from w₂ files files₂ (1 + length (unit_here s u.place).files) r I.after;
       rest = but_trans (but_of P.rest (there (here (omega arith) (omega arith)))) I.rest;
     }
 
-pub header-from : {main supplementary w w₂ files files₂ : List ℕ} {t : StoredFiles} {s : List ℕ} {u : FileUnit} {base : ℕ} {r : Result InternedFiles Refusal} → FileUnitIn s w u → 4 < u.version
-    → InternsFiles main supplementary w w₂ files files₂ t s u base 0 r → InternsHeader main supplementary w w₂ files files₂ t s u base r
-header-from {main} {supplementary} {w} {t = t} {s = s} {u = u} {base = base} U v I = record {
-  is = I.is ∙ header_is (unit_here s u.place) (header_here s u.place) (table_of main supplementary w t) (indices_of w base 0) false (rw (← U.version) (lt-leb u.version 4 v)) (first-nothing w base);
+pub header-from : {main supplementary w w₂ files files₂ : List ℕ} {t : StoredFiles} {s : List ℕ} {u : FileUnit} {base : ℕ} {r : Result InternedFiles Refusal} {old : Bool} {m : Stored FileIndex} → FileUnitIn s w u → old ≡ leb u.version 4 → old ≡ false
+    → m.base ≡ base → m.count ≡ 0 → InternsFiles main supplementary w w₂ files files₂ t s u m.base m.count r → InternsHeader main supplementary w w₂ files files₂ t s u base r
+header-from {main} {supplementary} {w} {t = t} {s = s} {u = u} {base = base} U eo o eb en I = let I = rw (eb, en) at I in record {
+  is = I.is ∙ header_is (unit_here s u.place) (header_here s u.place) (table_of main supplementary w t) (indices_of w base 0) false (rw (← U.version) (sym eo ∙ o)) (first-nothing w base);
   after = I.after;
   rest = I.rest;
 }

@@ -1,14 +1,12 @@
 -- A file's number is looked up in the table: the unit's n-th file, its place in the table, and before version 5 no file 0.
-use Prim.Native.Nat.{ℕ, zero, suc, ◌+◌, ◌-◌, ◌*◌, ◌≤◌, ◌<◌}
+use Prim.Native.Nat.{ℕ, zero, suc, ◌+◌, ◌-◌, ◌<◌}
 use native.Mathlib.Omega.{arith}
 use mathlib.Core.Path.{◌≡◌, refl, sym, ap, ◌∙◌}
 use mathlib.Core.Bool.{Bool, true, false, cond}
-use mathlib.Core.Logic.{inl}
 use mathlib.Core.List.{List, [], ◌∷◌, map}
 use mathlib.Core.Option.{Option, none, some}
 use lib.Dec.{leb}
 use lib.ListN.{length, drop}
-use borrow.Author.Tests.{le-leb, lt-leb}
 use Rattle.tlv.specs.declared.model.FileIndex.{FileIndex}
 use Rattle.std.specs.Prelude.{Some, None, Result, Ok, Err}
 use Rattle.std.specs.Prelude as std
@@ -38,12 +36,11 @@ use Rattle.files.specs.declared.spans.FileUnit.{FileUnit}
 use Rattle.files.specs.declared.store.StoredFiles.{StoredFiles}
 use Rattle.files.specs.declared.store.LaidHash.{LaidHash}
 use Rattle.files.specs.Pieces.{span_in, file_in, header_here, UnitPlaced, FileUnitIn, named_of, Pieced}
-use Rattle.files.specs.Store.{extent, entries_of, table_of, FilesIn, LaidAt, found_of}
+use Rattle.files.specs.Store.{scratch_from, extent, entries_of, table_of, FilesIn, LaidAt, found_of}
 use Rattle.files.specs.Indices.{number_of}
 use Rattle.files.specs.Reached.{number_in, reached_indices, own_file, NthFile, Found, nth_number, LookedUp}
 use Rattle.files.proofs.InterningLaws.{file-span}
-use Rattle.files.proofs.KeptLaws.{entries-apart}
-use Rattle.files.proofs.AddedLaws.{laid-files}
+use Rattle.files.proofs.AddedLaws.{laid-files, table-laid}
 
 -- ---- the n-th field of a file
 
@@ -85,31 +82,22 @@ module _ {s : List ℕ} {p n q left : ℕ} (J : Passing s p n q left) where
 
 -- ---- the place of a file
 
+-- the number of e, whose place was looked up as e₁'s
+pub numbered-place : (main supplementary w : List ℕ) (t : StoredFiles) {e e₁ : FileEntry} (f : std.Option ℕ) → e₁ ≡ e → found_of f ≡ place_of e₁ (entries_of main supplementary w t)
+    → map_option (λ k. file_index (t.first + k)) (found_of f) ≡ number_in (table_of main supplementary w t) (done (some e))
+unfolding table_of
+numbered-place main supplementary w t f q is = ap (map_option (λ k. file_index (t.first + k))) (is ∙ λ j. place_of (q j) (entries_of main supplementary w t))
+
 -- what is found where only the scratch was written
-module _ {main supplementary w w₁ : List ℕ} {t : StoredFiles} {e e₁ : FileEntry} {l : LaidHash} (F : FilesIn main supplementary w t)
-    (L : LaidAt w w₁ (t.base + t.room * 45) e l) (q : e₁ ≡ e) (size : length w₁ ≡ length w) where
-  entries-laid : entries_of main supplementary w₁ t ≡ entries_of main supplementary w t
-  entries-laid = entries-apart F L.rest (inl (omega arith))
-
-  found-by : (f : std.Option ℕ) (r : std.Option FileIndex) → found_of f ≡ place_of e₁ (entries_of main supplementary w₁ t) → number_of r ≡ map_option (λ k. file_index (t.first + k)) (found_of f)
-      → Found main supplementary w w₁ t (number_in (table_of main supplementary w t) (done (some e))) r
-  unfolding table_of
-  found-by f r is number = record {
-    is = number ∙ ap (map_option (λ k. file_index (t.first + k))) (is ∙ λ j. place_of (q j) (entries-laid j));
-    same = λ j. record { first = t.first; entries = entries-laid j };
-    holds = laid-files F L size;
-    rest = kept-wide t.base (extent t) L.rest (omega arith) (omega arith);
-  }
-
-  pub found_at : {i : ℕ} → found_of (Some i) ≡ place_of e₁ (entries_of main supplementary w₁ t)
-      → Found main supplementary w w₁ t (number_in (table_of main supplementary w t) (done (some e))) (Some (file_index (t.first + i)))
-  unfolding map_option
-  found_at {i} is = found-by (Some i) (Some (file_index (t.first + i))) is refl
-
-  pub found-missing : found_of None ≡ place_of e₁ (entries_of main supplementary w₁ t)
-      → Found main supplementary w w₁ t (number_in (table_of main supplementary w t) (done (some e))) None
-  unfolding map_option
-  found-missing is = found-by None None is refl
+pub found-laid : {main supplementary w w₁ : List ℕ} {t : StoredFiles} {e : FileEntry} {l : LaidHash} {at : ℕ} {r : std.Option FileIndex} → FilesIn main supplementary w t
+    → at ≡ scratch_from t → LaidAt w w₁ at e l → length w₁ ≡ length w → number_of r ≡ number_in (table_of main supplementary w₁ t) (done (some e))
+    → Found main supplementary w w₁ t (number_in (table_of main supplementary w t) (done (some e))) r
+found-laid {t = t} {e} F ea L size is = record {
+  is = is ∙ ap (λ (x : FileTable). number_in x (done (some e))) (table-laid F ea L);
+  same = table-laid F ea L;
+  holds = laid-files F ea L size;
+  rest = kept-wide t.base (extent t) L.rest (omega arith) (omega arith);
+}
 
 -- ---- the number of the n-th file
 
@@ -185,11 +173,11 @@ unfolding get
 get-next is zero h = absurd (h refl)
 get-next is (suc n) h = let z : suc n - 1 ≡ n = omega arith in rw z
 
-module _ {main supplementary w : List ℕ} {t : StoredFiles} {s : List ℕ} {u : FileUnit} {number : FileNumber} (U : FileUnitIn s w u) where
-  pub looked-zero : FilesIn main supplementary w t → u.version ≤ 4 → number.0 ≡ 0 → LookedUp main supplementary w w t s u number None
+module _ {main supplementary w : List ℕ} {t : StoredFiles} {s : List ℕ} {u : FileUnit} {number : FileNumber} (U : FileUnitIn s w u) {old : Bool} (eo : old ≡ leb u.version 4) where
+  pub looked-zero : FilesIn main supplementary w t → old ≡ true → number.0 ≡ 0 → LookedUp main supplementary w w t s u number None
   unfolding get
-  looked-zero F v z = record {
-    is = sym (reached-is (unit_here s u.place) (header_here s u.place) (table_of main supplementary w t) number.0 true (rw (← U.version) (le-leb u.version 4 v)) ∙ rw z);
+  looked-zero F o z = record {
+    is = sym (reached-is (unit_here s u.place) (header_here s u.place) (table_of main supplementary w t) number.0 true (rw (← U.version) (sym eo ∙ o)) ∙ rw z);
     same = refl;
     holds = F;
     rest = kept_refl w t.base (extent t);
@@ -197,21 +185,21 @@ module _ {main supplementary w : List ℕ} {t : StoredFiles} {s : List ℕ} {u :
 
   -- looked up in the sheet of the unit's source
   module _ {w' s' : List ℕ} {r : std.Option FileIndex} (e : s' ≡ s) where
-    pub looked-before : u.version ≤ 4 → (number.0 ≡ 0 → ⊥)
+    pub looked-before : old ≡ true → (number.0 ≡ 0 → ⊥)
         → Found main supplementary w w' t (nth_number (unit_here s' u.place) (header_here s' u.place) (table_of main supplementary w t) (number.0 - 1)) r → LookedUp main supplementary w w' t s u number r
     unfolding nth_number
-    looked-before v ne A = record {
-      is = (rw e at A.is) ∙ sym (reached-is (unit_here s u.place) (header_here s u.place) (table_of main supplementary w t) number.0 true (rw (← U.version) (le-leb u.version 4 v)) ∙ get-next _ number.0 ne);
+    looked-before o ne A = record {
+      is = (rw e at A.is) ∙ sym (reached-is (unit_here s u.place) (header_here s u.place) (table_of main supplementary w t) number.0 true (rw (← U.version) (sym eo ∙ o)) ∙ get-next _ number.0 ne);
       same = A.same;
       holds = A.holds;
       rest = A.rest;
     }
 
-    pub looked-from : 4 < u.version → Found main supplementary w w' t (nth_number (unit_here s' u.place) (header_here s' u.place) (table_of main supplementary w t) number.0) r
+    pub looked-from : old ≡ false → Found main supplementary w w' t (nth_number (unit_here s' u.place) (header_here s' u.place) (table_of main supplementary w t) number.0) r
         → LookedUp main supplementary w w' t s u number r
     unfolding nth_number
-    looked-from v A = record {
-      is = (rw e at A.is) ∙ sym (reached-is (unit_here s u.place) (header_here s u.place) (table_of main supplementary w t) number.0 false (rw (← U.version) (lt-leb u.version 4 v)));
+    looked-from o A = record {
+      is = (rw e at A.is) ∙ sym (reached-is (unit_here s u.place) (header_here s u.place) (table_of main supplementary w t) number.0 false (rw (← U.version) (sym eo ∙ o)));
       same = A.same;
       holds = A.holds;
       rest = A.rest;

@@ -1,9 +1,7 @@
 -- `index::put_index` meets its contract.
-use Rattle.files.proofs.index.IndexLaws.{put-number, put-missing}
+use borrow.Author.Rules.{rules}
+use Rattle.files.proofs.index.IndexLaws.{put-index}
 use Rattle.files.proofs.index.put_index.Goals as goal
 
-pub returns-in-None : goal.returns-in-None
-returns-in-None c = search put-missing
-
-pub returns-in-Some : goal.returns-in-Some
-returns-in-Some c = search put-number
+pub returns : goal.returns
+returns c = put-index _ (λ a n h. search rules) _ _ c.map.ensures.cases c.put_option.ensures

@@ -8,8 +8,8 @@ returns-else-component_at c = search joined-second
 pub returns-then-component_at : goal.returns-then-component_at
 returns-then-component_at c = search joined-third
 
-pub returns-then-n-compilation : goal.returns-then-n-compilation
-returns-then-n-compilation c = search joined_length
+pub returns-then-path-compilation : goal.returns-then-path-compilation
+returns-then-path-compilation c = search joined_length
 
 pub returns-then-not-bytes_at : goal.returns-then-not-bytes_at
 returns-then-not-bytes_at c = search joined-first

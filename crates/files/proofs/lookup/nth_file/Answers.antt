@@ -1,6 +1,5 @@
 -- `lookup::nth_file` meets its contract. The loop's invariant: the file that is looked for has the number `left` among those from `at` on; the measure is
 -- what is left of the sheet.
-use Rattle.access.proofs.OwnLaws.{own-less}
 use Rattle.files.proofs.lookup.LookupLaws.{passing-over, passing-found, passing-next}
 use Rattle.files.proofs.lookup.nth_file.Goals as goal
 

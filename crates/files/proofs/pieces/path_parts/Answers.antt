@@ -3,7 +3,7 @@ use Rattle.files.proofs.PieceLaws.{basename-fits, parts_in}
 use Rattle.files.proofs.pieces.path_parts.Goals as goal
 
 pub overflow_sub-result : goal.overflow_sub-result
-overflow_sub-result c = search basename-fits
+overflow_sub-result c = basename-fits _ _ c.requires (rw c.of-bytes.ensures at c.basename_of-base.ensures)
 
 pub returns : goal.returns
-returns c = search parts_in
+returns c = parts_in _ _ c.requires (rw c.of-bytes.ensures at c.directory_of-own.ensures) (rw c.of-bytes.ensures at c.basename_of-base.ensures)

@@ -1,7 +1,4 @@
 -- `spans::header_version` meets its contract. A byte of the first field 13 of the unit, or 0.
-use Prim.Native.Nat.{◌+◌, ◌≤◌}
-use native.Mathlib.Omega.{arith}
-use lib.ListN.{length}
 use Rattle.files.proofs.UnitLaws.{version-none, version-read, version-found}
 use Rattle.files.proofs.spans.header_version.Goals as goal
 

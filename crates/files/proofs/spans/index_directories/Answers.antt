@@ -2,8 +2,7 @@
 use Prim.Native.Nat.{◌+◌, ◌*◌, ◌≤◌}
 use native.Mathlib.Omega.{arith}
 use lib.ListN.{length}
-use Rattle.access.proofs.OwnLaws.{own-less}
-use Rattle.files.proofs.DirectoryLaws.{listing_start, listing-done, listing-room, listing-small, listing_step}
+use Rattle.files.proofs.DirectoryLaws.{listing_start, listing-done, listing-room, listing_step}
 use Rattle.files.proofs.spans.index_directories.Goals as goal
 
 pub overflow_mul-n : goal.overflow_mul-n
@@ -14,15 +13,15 @@ pub overflow_add-base : goal.overflow_add-base
 overflow_add-base c = let room : c.args.base + c.loop-field.n * 8 + 8 ≤ length c.loop-field.work = search (listing-room, c.in-Some.ensures) in
     omega arith
 
-pub put_span-requires-clause-p_in_bounds : goal.put_span-requires-clause-p_in_bounds
-put_span-requires-clause-p_in_bounds c = search (listing-room, c.in-Some.ensures)
+pub write-requires-clause-record_fits : goal.write-requires-clause-record_fits
+write-requires-clause-record_fits c = search (listing-room, c.in-Some.ensures)
 
 pub overflow_add-n : goal.overflow_add-n
 overflow_add-n c = let room : c.args.base + c.loop-field.n * 8 + 8 ≤ length c.loop-field.work = search (listing-room, c.in-Some.ensures) in
     omega arith
 
 pub loop-field-preserved : goal.loop-field-preserved
-loop-field-preserved c = search (listing_step, c.in-Some.ensures)
+loop-field-preserved c = search (listing_step, (rw c.from.ensures at c.write.ensures), c.in-Some.ensures)
 
 pub returns : goal.returns
 returns c = search (listing-done, c.in_default.ensures)
