@@ -5,10 +5,12 @@ use mathlib.Core.Option.{none, some}
 use Prim.Native.Nat.{ℕ, ◌+◌, ◌≤◌, ◌<◌}
 use native.Mathlib.Omega.{arith}
 use lib.ListN.{length}
-use Rattle.std.specs.Prelude.{None, Ok}
+use Rattle.std.specs.Prelude.{Option as Maybe, None, Ok}
+use Rattle.tlv.specs.declared.model.FileIndex.{FileIndex}
 use Rattle.tlv.specs.Outcome.{Outcome, refused, done, ◌>>=◌}
 use Rattle.tlv.specs.Checked.{Placed}
 use Rattle.tlv.specs.Model.{CompilationUnit, LineHeader, LineRow}
+use Rattle.buffers.specs.declared.table.Stored.{Stored}
 use Rattle.buffers.specs.Buffer.{top}
 use Rattle.buffers.proofs.TableLaws.{but_refl}
 use Rattle.buffers.proofs.RecordLaws.{records-nil}
@@ -20,12 +22,15 @@ use Rattle.lines.specs.Lines.{Run, run_rows, Collected, collect_header}
 use Rattle.files.specs.declared.store.StoredFiles.{StoredFiles}
 use Rattle.files.specs.Pieces.{header_here}
 use Rattle.files.specs.Store.{table_of, FilesIn}
-use Rattle.files.specs.Indices.{index_of, indices_of}
+use Rattle.files.specs.Indices.{index_of, indices_of, indices_in}
 use Rattle.files.proofs.UnitLaws.{unit-next, unit-within}
 use Rattle.files.proofs.GrownLaws.{grown-none}
+use Rattle.rows.specs.declared.line.LineSequenceRange.{LineSequenceRange}
+use Rattle.rows.specs.declared.line.SequencedLine.{SequencedLine}
+use Rattle.rows.specs.Stored.{lines_of, ranges_of}
 use Rattle.rows.proofs.StoredLaws.{lines-nil, ranges-nil}
 use Rattle.machine.specs.LineRows.{line_rows, rows_most, collect_from, collect_lines}
-use Rattle.collect.specs.declared.source.RowSource.{RowSource}
+use Rattle.collect.specs.declared.source.UnitProgram.{UnitProgram}
 use Rattle.collect.specs.Passes.{Counted, count_rows, count_all}
 use Rattle.collect.specs.Sources.{source_rows, most_rows, SourceFound, first_fault}
 use Rattle.collect.specs.Collects.{lines_in, lines_extent, UnitIn, LinesRoom, CollectsLines}
@@ -90,18 +95,22 @@ module _ (u : CompilationUnit) (program : List ℕ) (t : FileTable) where
 -- ---- a unit without a header
 
 module _ {main supplementary program w files warnings : List ℕ} {p warned free : ℕ} {t : StoredFiles} (h : Placed main 0) (U : UnitIn main p) (F : FilesIn main supplementary w t) (R : LinesRoom main w program t p free)
-    (own : NextOwn main (p + 21) 0x13 None) where
+    (own : NextOwn main (p + 21) 0x13 None) {lines : Stored SequencedLine} {sequences : Stored LineSequenceRange} (b₁ : lines.base ≡ free) (n₁ : lines.count ≡ 0) (b₂ : sequences.base ≡ free) (n₂ : sequences.count ≡ 0)
+    {indices : Stored FileIndex} (b₃ : indices.base ≡ free) (n₃ : indices.count ≡ 0) where
   pub collected-nothing : length files < top → length warnings < top → warned ≤ top
       → CollectsLines main supplementary program w w files files warnings warnings p t warned free
       (Ok (record {
-        lines = record { lines = free; line_count = 0; sequences = free; sequence_count = 0; buffer = free };
-        indices = record { base = free; count = 0 };
+        lines = record { lines = lines; sequences = sequences; buffer = free };
+        indices = indices;
         table = t;
         warned = warned;
       }))
   unfolding lines_in indices_of lines_extent
   collected-nothing small-files small-warnings most =
       let room = R.room in
+      let no-lines : lines_of w lines.base lines.count ≡ [] = rw (n₁) (lines-nil w lines.base) in
+      let no-files : indices_in w indices ≡ [] = rw (n₃) (records-nil index_of 5 w indices.base) in
+      let no-ranges : ranges_of w sequences.base sequences.count ≡ [] = rw (n₂) (ranges-nil w sequences.base) in
       record {
         is = record {
           new = [];
@@ -109,12 +118,12 @@ module _ {main supplementary program w files warnings : List ℕ} {p warned free
               collects_none (unit_here main p) program (table_of main supplementary w t) (header-none (unit-stands h U) own)
               ∙ (λ i. done (record {
                 table = table_of main supplementary w t;
-                lines = record { entries = sym (lines-nil w free) i; files = sym (records-nil index_of 5 w free) i; sequences = sym (ranges-nil w free) i };
+                lines = record { entries = sym no-lines i; files = sym no-files i; sequences = sym no-ranges i };
                 warnings = [];
               }));
           grown = grown-none F small-files;
           put = none-put most small-warnings;
-          rows = record { lines = omega arith; sequences = omega arith; buffer = omega arith; sorted = rw (lines-nil w free) tt };
+          rows = record { lines = omega arith; sequences = omega arith; buffer = omega arith; sorted = rw no-lines tt };
           from = omega arith;
           indices = omega arith;
           sequences = omega arith;
@@ -138,7 +147,7 @@ module _ {main : List ℕ} {p : ℕ} (h : Placed main 0) (U : UnitIn main p) whe
   rows-placed = unit-next (unit-stands h U)
 
   module _ {payload : List ℕ} (H : HeaderIn main p payload) where
-    module _ {program : List ℕ} {source : RowSource} (F : SourceFound main (p + 21) payload program source) where
+    module _ {program : List ℕ} {source : Maybe UnitProgram} (F : SourceFound main (p + 21) payload program source) where
       -- the source that was found is that of its rows
       pub source-here : source_rows main (p + 21) source ≡ line_rows (unit_here main p) (header_here main p) program
       source-here =

@@ -2,11 +2,10 @@
 use mathlib.Core.Path.{◌≡◌, refl, sym, ap, ◌∙◌}
 use mathlib.Core.List.{List}
 use mathlib.Core.Option.{none, some}
-use Prim.Native.Nat.{ℕ, ◌+◌, ◌-◌, ◌≤◌}
+use Prim.Native.Nat.{ℕ, ◌+◌, ◌≤◌}
 use native.Mathlib.Omega.{arith}
 use lib.ListN.{length, take, drop, length-take, length-drop}
 use Rattle.std.specs.Prelude.{Some, None}
-use Rattle.std.proofs.Math.Seq.{take-length}
 use Rattle.tlv.specs.declared.fields.FieldSpan.{FieldSpan}
 use Rattle.tlv.specs.Lists.{at, map_option}
 use Rattle.tlv.specs.Fields.{payload_of, fields}
@@ -29,7 +28,8 @@ use Rattle.files.proofs.UnitLaws.{first-none, first_found, unit-next}
 use Rattle.files.proofs.ListedLaws.{listed}
 use Rattle.collect.specs.Passes.{rows_from}
 use Rattle.collect.specs.Collects.{UnitIn}
-use Rattle.collect.specs.Stages.{HeaderRead, HeaderIn}
+use Rattle.collect.specs.Headers.{HeaderRead}
+use Rattle.collect.specs.Stages.{HeaderIn}
 
 -- ---- the unit
 
@@ -81,30 +81,26 @@ module _ {s : List ℕ} {p : ℕ} (U : UnitPlaced s p) where
     pub header-within : f.start + f.len ≤ length s
     header-within = (own-within s (p + 21) 0x13 f own).0
 
-    pub header-found : HeaderIn s p (take (f.start + f.len - f.start) (drop f.start s))
+    -- its payload, in any form that is this one
+    pub header-found : {payload : List ℕ} → payload ≡ take f.len (drop f.start s) → HeaderIn s p payload
     unfolding map_option
-    header-found =
+    header-found e = record { is = rw e (header-first ∙ ap (map_option header_of) (first_found s (p + 21) 0x13 f own)) }
+
+    pub header-long : {payload : List ℕ} → payload ≡ take f.len (drop f.start s) → 19 ≤ length payload
+    header-long e =
         let x = own-field s (p + 21) 0x13 f own (unit-next U) in
         let long = placed-header s x.place (step_at s x.place) 0x13 f.start f.len f.next x.here refl x.is refl in
         let fits = header-within in
-        let e : f.start + f.len - f.start ≡ f.len = omega arith in
-        rw e (record {
-          is = header-first ∙ ap (map_option header_of) (first_found s (p + 21) 0x13 f own);
-          long = omega (arith, length-take f.len (drop f.start s), length-drop f.start s, long);
-        })
-
--- the opcode lengths, cut out of the payload
-pub lengths-are : (s : List ℕ) → take (length s - 19) (drop 19 s) ≡ drop 19 s
-lengths-are s = ap (λ (k : ℕ). take k (drop 19 s)) (sym (length-drop 19 s)) ∙ take-length (drop 19 s)
+        rw e (omega (arith, length-take f.len (drop f.start s), length-drop f.start s, long))
 
 -- what was read of a header, with its opcode lengths, is the header
-pub header-with : {s : List ℕ} {r : Header} → HeaderRead s r → header_with r (take (length s - 19) (drop 19 s)) ≡ header_of s
+pub header-with : {s lengths : List ℕ} {r : Header} → HeaderRead s r → lengths ≡ drop 19 s → header_with r lengths ≡ header_of s
 unfolding header_of
-header-with {s} R = λ i. record {
+header-with R e = λ i. record {
   offset = R.offset i;
   header_length = R.header-length i;
   version = R.version i;
   word_size = R.word_size i;
   opcode_base = R.opcode_base-is i;
-  opcode_lengths = lengths-are s i;
+  opcode_lengths = e i;
 }

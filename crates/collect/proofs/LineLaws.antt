@@ -47,11 +47,11 @@ warnings-append (x ∷ a) b = rw (warnings-append a b) (sym (append_assoc (encod
 -- ---- the line
 
 module _ {w : List ℕ} {c : Conversion} {r : Row} {file : FileIndex} where
-  pub line-appended : {w' : List ℕ} {count : ℕ} {o : Maybe ℕ} → r.line < 4294967296 → sequence_of o ≡ at (offsets_of w c) r.sequence
-      → PutLine w w' (c.lines + count * line_size) (record { address = r.address; file = file; line = r.line; column = r.column }) o → LineAppended w w' c r file count
+  pub line-appended : {w' : List ℕ} {count : ℕ} {o : Maybe ℕ} {line : ℕ} → (r.line < 2 ^ 32) × (line ≡ r.line) → sequence_of o ≡ at (offsets_of w c) r.sequence
+      → PutLine w w' (c.lines + count * line_size) (record { address = r.address; file = file; line = line; column = r.column }) o → LineAppended w w' c r file count
   unfolding convert_line
   line-appended {count = count} h e P = record {
-    is = λ table indices. rw (lt-ltb r.line (2 ^ 32) h, lines-push c.lines count P, e);
+    is = λ table indices. rw (lt-ltb r.line (2 ^ 32) h.0, lines-push c.lines count P, e, h.1);
     rest = P.rest;
   }
 
@@ -66,17 +66,17 @@ module _ {w : List ℕ} {c : Conversion} {r : Row} {file : FileIndex} where
     rest = A.rest;
   }
 
-  pub line-warned : {warnings warnings' : List ℕ} {st : Converting} {n : ℕ} → 4294967296 ≤ r.line → Put st.warned (encode 0x46 ((7 ∷ []) ++ bytes_of 8 r.address ++ bytes_of 8 r.line)) warnings warnings' n
-      → LineConverted w w warnings warnings' c st r file (record { table = st.table; count = st.count; warned = n })
+  pub line-warned : {w' warnings warnings' : List ℕ} {st : Converting} {n : ℕ} → (w' ≡ w) × (2 ^ 32 ≤ r.line) → Put st.warned (encode 0x46 ((7 ∷ []) ++ bytes_of 8 r.address ++ bytes_of 8 r.line)) warnings warnings' n
+      → LineConverted w w' warnings warnings' c st r file (record { table = st.table; count = st.count; warned = n })
   unfolding convert_line kind_number
-  line-warned {st = st} h P = record {
+  line-warned {st = st} h P = rw h.0 (record {
     new = about unrepresentable_line r.address r.line ∷ [];
-    is = λ table indices. rw (le-ltb r.line (2 ^ 32) h);
+    is = λ table indices. rw (le-ltb r.line (2 ^ 32) h.1);
     put = about-put unrepresentable_line 7 r.address r.line refl P;
     table_same = refl;
     more = (omega arith, omega arith);
     rest = kept_refl w (c.lines + st.count * line_size) line_size;
-  }
+  })
 
 -- ---- a row of the sheet
 

@@ -1,9 +1,9 @@
 -- The loop that counts the rows of a program: its start, its turns and its ends.
 use mathlib.Core.Path.{◌≡◌, refl, sym, ◌∙◌}
+use mathlib.Core.Bool.{true, false}
 use mathlib.Core.List.{List, ◌∷◌}
 use Prim.Native.Nat.{ℕ, ◌+◌, ◌≤◌}
 use native.Mathlib.Omega.{arith}
-use borrow.Author.Tests.{eq-eqb, ne_eqb}
 use lib.ListN.{length, drop}
 use Rattle.std.specs.Prelude.{Some, None, Ok, Err}
 use Rattle.tlv.specs.declared.refusal.Refusal.{Refusal}
@@ -14,7 +14,7 @@ use Rattle.machine.specs.declared.registers.Encoding.{Encoding}
 use Rattle.machine.specs.declared.registers.Registers.{Registers}
 use Rattle.machine.specs.declared.machine.Emitted.{Emitted}
 use Rattle.machine.specs.Machine.{initial, appended_row, rest_rows, unsupported, program_rows}
-use Rattle.machine.specs.Steps.{machine_of, Emits}
+use Rattle.machine.specs.Steps.{line_encoding, machine_of, Emits}
 use Rattle.collect.specs.Passes.{Counted, count_rows, count_from, count_all}
 use Rattle.collect.specs.Sources.{program_in}
 
@@ -22,13 +22,9 @@ abbrev asked : Encoding → List ℕ → List ℕ → Outcome Counted
 asked e ls s = count_all (program_in e ls s)
 
 -- 21
-pub no-range : (e : Encoding) (ls s : List ℕ) → e.line_range ≡ 0 → refused 21 ≡ asked e ls s
-unfolding program_in program_rows unsupported ◌>>=◌
-no-range e ls s z = rw (eq-eqb e.line_range 0 z)
-
-pub no-operation : (e : Encoding) (ls s : List ℕ) → (e.line_range ≡ 0 → ⊥) → (e.maximum_operations ≡ 1 → ⊥) → refused 21 ≡ asked e ls s
-unfolding program_in program_rows unsupported ◌>>=◌
-no-operation e ls s n m = rw (ne_eqb e.line_range 0 n, ne_eqb e.maximum_operations 1 m)
+pub program-refused : (e : Encoding) (ls s : List ℕ) → unsupported (line_encoding e) ≡ true → refused 21 ≡ asked e ls s
+unfolding program_in program_rows ◌>>=◌
+program-refused e ls s u = rw u
 
 -- the rows from here on, with the counts so far, count as those of the program; each row that was counted takes a byte at least
 pub record CountingProgram (e : Encoding) (ls s : List ℕ) (r : Registers) (at lines opened n : ℕ) : Type 0 where
@@ -36,11 +32,10 @@ pub record CountingProgram (e : Encoding) (ls s : List ℕ) (r : Registers) (at 
   pub small : lines + opened + n ≤ at
   pub within : at ≤ length s
 
-pub program-start : (e : Encoding) (ls s : List ℕ) (r : Registers) → (e.line_range ≡ 0 → ⊥) → e.maximum_operations ≡ 1 → r ≡ initial
-    → CountingProgram e ls s r 0 0 0 0
-unfolding program_in program_rows unsupported
-program-start e ls s r n m i = record {
-  same = rw (i, ne_eqb e.line_range 0 n, eq-eqb e.maximum_operations 1 m);
+pub program-start : (e : Encoding) (ls s : List ℕ) (r : Registers) → unsupported (line_encoding e) ≡ false → r ≡ initial → CountingProgram e ls s r 0 0 0 0
+unfolding program_in program_rows
+program-start e ls s r u i = record {
+  same = rw (i, u);
   small = omega arith;
   within = omega arith;
 }

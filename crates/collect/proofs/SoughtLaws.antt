@@ -1,6 +1,6 @@
 -- The file that a header has at a number for which the unit's map has none: nothing, a file with no path, or file 0 before version 5.
 use mathlib.Core.Path.{◌≡◌, refl, sym, subst, ◌∙◌}
-use mathlib.Core.Bool.{true}
+use mathlib.Core.Bool.{Bool, true, false}
 use mathlib.Core.Logic.{inl, ⊎_elim}
 use mathlib.Core.List.{List, []}
 use mathlib.Core.Option.{none, some}
@@ -38,18 +38,18 @@ use Rattle.collect.specs.Converts.{unit_at, header_in, ConversionIn, zero_of, li
 
 -- ---- what the code finds
 
-module _ (c : Conversion) (n : ℕ) {r : SoughtFile} where
-  pub sought_zero : c.unit.version ≤ 4 → n ≡ 0 → r ≡ zero_of c.zero → r ≡ sought_of c n
+module _ (c : Conversion) (n : ℕ) {r : SoughtFile} {early : Bool} (is : early ≡ leb c.unit.version 4) where
+  pub sought_zero : early ≡ true → n ≡ 0 → r ≡ zero_of c.zero → r ≡ sought_of c n
   unfolding sought_of
-  sought_zero h z e = e ∙ rw (le-leb c.unit.version 4 h, eq-eqb n 0 z)
+  sought_zero h z e = e ∙ rw (← is, h, eq-eqb n 0 z)
 
-  pub sought_early : c.unit.version ≤ 4 → (n ≡ 0 → ⊥) → r ≡ listed_of c.indices.count n → r ≡ sought_of c n
+  pub sought_early : early ≡ true → (n ≡ 0 → ⊥) → r ≡ listed_of c.indices.count n → r ≡ sought_of c n
   unfolding sought_of
-  sought_early h z e = e ∙ rw (le-leb c.unit.version 4 h, ne_eqb n 0 z)
+  sought_early h z e = e ∙ rw (← is, h, ne_eqb n 0 z)
 
-  pub sought_late : 4 < c.unit.version → r ≡ listed_of c.indices.count n → r ≡ sought_of c n
+  pub sought_late : early ≡ false → r ≡ listed_of c.indices.count n → r ≡ sought_of c n
   unfolding sought_of
-  sought_late h e = e ∙ rw (lt-leb c.unit.version 4 h)
+  sought_late h e = e ∙ rw (← is, h)
 
 -- ---- what it means
 
@@ -120,16 +120,16 @@ module _ {main supplementary w : List ℕ} {c : Conversion} {st : Converting} (C
       let b : leb v 4 ≡ true = le-leb v 4 h in
       let count : c.indices.count ≡ 1 + length files = rw b at C.all in
       ⊎_elim
-      (λ z. let z₀ : n ≡ 0 = omega arith in means_as (sought_zero c n early z₀ refl) (zero-means (rw (b, eq-eqb n 0 z₀)) c.zero C.zero))
+      (λ z. let z₀ : n ≡ 0 = omega arith in means_as (sought_zero c n refl (le-leb c.unit.version 4 early) z₀ refl) (zero-means (rw (b, eq-eqb n 0 z₀)) c.zero C.zero))
       (λ z.
       let z₀ : n ≡ 0 → ⊥ = λ e. omega arith in
-      means_as (sought_early c n early z₀ refl) (listed-means (n - 1) (rw (b, ne_eqb n 0 z₀)) (λ i. omega arith) (λ o. omega arith) (λ x. z₀ x.0)))
+      means_as (sought_early c n refl (le-leb c.unit.version 4 early) z₀ refl) (listed-means (n - 1) (rw (b, ne_eqb n 0 z₀)) (λ i. omega arith) (λ o. omega arith) (λ x. z₀ x.0)))
       (le-or_lt n 0))
       (λ h.
       let late : 4 < c.unit.version = omega arith in
       let b = lt-leb v 4 h in
       let count : c.indices.count ≡ 0 + length files = rw b at C.all in
-      means_as (sought_late c n late refl) (listed-means n (rw b) (λ i. omega arith) (λ o. omega arith) (λ x. let y = x.1 in let z : ◌≡◌ {A = ℕ} 0 1 = cc in omega arith)))
+      means_as (sought_late c n refl (lt-leb c.unit.version 4 late) refl) (listed-means n (rw b) (λ i. omega arith) (λ o. omega arith) (λ x. let y = x.1 in let z : ◌≡◌ {A = ℕ} 0 1 = cc in omega arith)))
       (le-or_lt v 4)
 
   module _ {r : SoughtFile} (found : r ≡ sought_of c n) where

@@ -1,5 +1,5 @@
 -- A unit's directories and then its files: the steps of intern_unit, and how many numbers the map has.
-use mathlib.Core.Path.{◌≡◌, refl, sym, ap, ◌∙◌}
+use mathlib.Core.Path.{◌≡◌, sym, ap, ◌∙◌}
 use mathlib.Core.Bool.{Bool, true, false, cond}
 use mathlib.Core.Logic.{inl, inr}
 use mathlib.Core.List.{List, [], ◌∷◌}
@@ -14,6 +14,8 @@ use Rattle.tlv.specs.declared.model.DebugSource.{DebugSource}
 use Rattle.tlv.specs.Outcome.{done, ◌>>=◌}
 use Rattle.tlv.specs.Model.{CompilationUnit, LineHeader, HeaderFile}
 use Rattle.tlv.proofs.OutcomeLaws.{done-is, with_done}
+use Rattle.buffers.specs.declared.table.Stored.{Stored}
+use Rattle.tlv.specs.declared.model.FileIndex.{FileIndex}
 use Rattle.buffers.specs.Table.{KeptBut}
 use Rattle.buffers.proofs.TableLaws.{here, there, but_of, but_one, but_trans}
 use Rattle.access.specs.Places.{unit_here}
@@ -61,7 +63,7 @@ module _ {main supplementary w w₁ : List ℕ} {p : ℕ} {t : StoredFiles} {bas
   pub described-files : FilesIn main supplementary w₁ t
   described-files = files-kept F (but_one D.rest) (inl R.table, tt) size
 
-  pub described-room : MapRoom main w₁ t u (base + u.directory_count * 8)
+  pub described-room : MapRoom main w₁ t u (base + u.directories.count * 8)
   described-room =
       let a = R.table in
       let b = R.room in
@@ -73,8 +75,8 @@ module _ {main supplementary w w₁ : List ℕ} {p : ℕ} {t : StoredFiles} {bas
         map = rw D.place (omega arith);
       }
 
-  module _ {w₂ files files₂ : List ℕ} {r : Result InternedFiles Refusal} (I : InternsHeader main supplementary w₁ w₂ files files₂ t main u (base + u.directory_count * 8) r) where
-    interned_is : indexed_of main supplementary w₂ (base + u.directory_count * 8) r ≡ intern_header_files (unit_here main p) (header_here main p) (table_of main supplementary w t)
+  module _ {w₂ files files₂ : List ℕ} {r : Result InternedFiles Refusal} (I : InternsHeader main supplementary w₁ w₂ files files₂ t main u (base + u.directories.count * 8) r) where
+    interned_is : indexed_of main supplementary w₂ (base + u.directories.count * 8) r ≡ intern_header_files (unit_here main p) (header_here main p) (table_of main supplementary w t)
     interned_is = rw (D.place, table_kept F (but_one D.rest) (inl R.table, tt)) at I.is
 
     interned_rest : KeptBut w w₂ ((t.base, extent t) ∷ (base, map_extent main p) ∷ [])
@@ -84,20 +86,19 @@ module _ {main supplementary w w₁ : List ℕ} {p : ℕ} {t : StoredFiles} {bas
         but_trans (but_of D.rest (there (here (omega arith) (omega arith))))
         (but_wide ((t.base, extent t) ∷ (base, map_extent main p) ∷ []) I.rest (here (omega arith) (omega arith), (there (here (omega arith) (omega arith)), tt)))
 
-  module _ {w₂ files files₂ : List ℕ} {e : Refusal} (I : InternsHeader main supplementary w₁ w₂ files files₂ t main u (base + u.directory_count * 8) (Err e)) where
+  module _ {w₂ files files₂ : List ℕ} {e : Refusal} (I : InternsHeader main supplementary w₁ w₂ files files₂ t main u (base + u.directories.count * 8) (Err e)) where
     pub interned-refused : InternsUnit main supplementary w w₂ files files₂ p t base (Err e)
     interned-refused = record { is = interned_is I; after = tt; rest = interned_rest I }
 
-  module _ {w₂ files files₂ : List ℕ} {r : InternedFiles} (I : InternsHeader main supplementary w₁ w₂ files files₂ t main u (base + u.directory_count * 8) (Ok r)) where
-    pub interned_done : length w₂ ≡ length w
-        → InternsUnit main supplementary w w₂ files files₂ p t base
-        (Ok (record { unit = u; indices = record { base = base + u.directory_count * 8; count = r.count }; table = r.table }))
-    interned_done last =
+  module _ {w₂ files files₂ : List ℕ} {r : InternedFiles} (I : InternsHeader main supplementary w₁ w₂ files files₂ t main u (base + u.directories.count * 8) (Ok r)) where
+    pub interned_done : length w₂ ≡ length w → {is : Stored FileIndex} → is.base ≡ base + u.directories.count * 8 → is.count ≡ r.count
+        → InternsUnit main supplementary w w₂ files files₂ p t base (Ok (record { unit = u; indices = is; table = r.table }))
+    interned_done last from many =
         let after = I.after in
         let a = R.table in
         let d = D.directories in
         record {
-          is = interned_is I;
+          is = rw (from, many) (interned_is I);
           after = record {
             grown = grown-after F (but_one D.rest) (inl R.table, tt) after.0;
             described = unit_kept D.unit I.rest (inr (omega arith), (inl (omega arith), tt)) (omega arith);
@@ -105,8 +106,8 @@ module _ {main supplementary w w₁ : List ℕ} {p : ℕ} {t : StoredFiles} {bas
             place = D.place;
             directories = D.directories;
             count = D.count;
-            map = refl;
-            few = rw D.place at after.1;
+            map = from;
+            few = rw many (rw D.place at after.1);
           };
           rest = interned_rest I;
         }

@@ -4,8 +4,7 @@ use mathlib.Core.List.{List}
 use Prim.Native.Nat.{ℕ, ◌+◌, ◌*◌, ◌≤◌}
 use native.Mathlib.Omega.{arith}
 use lib.ListN.{length}
-use denote.Bor.{Bor}
-use Rattle.std.specs.Prelude.{Ok, Err}
+use Rattle.std.specs.Prelude.{Option as Maybe, Some, None, Ok, Err}
 use Rattle.tlv.specs.declared.refusal.Refusal.{Refusal}
 use Rattle.tlv.specs.Outcome.{Outcome, ◌>>=◌}
 use Rattle.tlv.specs.Grammar.{row_field_size}
@@ -14,9 +13,8 @@ use Rattle.buffers.specs.Table.{Clear, KeptBut}
 use Rattle.buffers.proofs.TableLaws.{kept_refl, kept-wide}
 use Rattle.buffers.proofs.RecordLaws.{records-length, records-but}
 use Rattle.rows.specs.Sizes.{line_size, row_room}
-use Rattle.machine.specs.declared.registers.Encoding.{Encoding}
 use Rattle.collect.specs.declared.program.ProgramRows.{ProgramRows}
-use Rattle.collect.specs.declared.source.RowSource.{RowSource}
+use Rattle.collect.specs.declared.source.UnitProgram.{UnitProgram}
 use Rattle.collect.specs.declared.unit_rows.UnitRows.{UnitRows}
 use Rattle.collect.specs.declared.source.GatheredRows.{GatheredRows}
 use Rattle.collect.specs.Passes.{rows_from, count_rows, counted_of}
@@ -25,7 +23,7 @@ use Rattle.collect.specs.Sources.{program_in, source_rows, most_rows, rows_here,
 
 -- ---- from the row fields
 
-module _ (main w : List ℕ) (p lines : ℕ) (source : RowSource) (is : source ≡ RowSource.Fields) where
+module _ (main w : List ℕ) (p lines : ℕ) (source : Maybe UnitProgram) (is : source ≡ None) where
   pub fields-fault : {e : Refusal} → counted_of (Err e) ≡ count_rows (rows_from main p) 0 0 0
       → GathersUnit (source_rows main p source) main w w lines (most_rows main p source) (Err e)
   unfolding ◌>>=◌
@@ -33,22 +31,22 @@ module _ (main w : List ℕ) (p lines : ℕ) (source : RowSource) (is : source �
 
 -- ---- from the program
 
-module _ (main w : List ℕ) (p lines : ℕ) (source : RowSource) {e : Encoding} {lengths program : Bor (List ℕ)} (is : source ≡ RowSource.Program e lengths program) where
-  pub most-program : most_rows main p source ≡ length program.now
+module _ (main w : List ℕ) (p lines : ℕ) (source : Maybe UnitProgram) {u : UnitProgram} (is : source ≡ Some u) where
+  pub most-program : most_rows main p source ≡ length u.program.now
   most-program = rw is
 
   pub program-fault : {w' : List ℕ} {e' : Refusal}
-      → GathersRows (program_in e lengths.now program.now) w w' (lines + length program.now * line_size) (length program.now) (Err e')
+      → GathersRows (program_in u.encoding u.lengths.now u.program.now) w w' (lines + length u.program.now * line_size) (length u.program.now) (Err e')
       → GathersUnit (source_rows main p source) main w w' lines (most_rows main p source) (Err e')
-  program-fault G = record { is = rw is G.is; rest = rw most-program (kept-wide lines (row_room * length program.now) G.rest (omega arith) (omega arith)) }
+  program-fault G = record { is = rw is G.is; rest = rw most-program (kept-wide lines (row_room * length u.program.now) G.rest (omega arith) (omega arith)) }
 
   pub program-rows : {w' : List ℕ} {r : ProgramRows} → lines + row_room * most_rows main p source ≤ length w → length w' ≡ length w
-      → GathersRows (program_in e lengths.now program.now) w w' (lines + length program.now * line_size) (length program.now) (Ok r)
+      → GathersRows (program_in u.encoding u.lengths.now u.program.now) w w' (lines + length u.program.now * line_size) (length u.program.now) (Ok r)
       → GathersUnit (source_rows main p source) main w w' lines (most_rows main p source)
-      (Ok (record { lines = r.lines; sequences = r.sequences; rows = UnitRows.Table (record { at = lines + length program.now * line_size; count = r.count }) }))
+      (Ok (record { counted = r.counted; rows = UnitRows.Table r.rows }))
   program-rows {w'} {r} room size G =
-      let at = lines + length program.now * line_size in
-      let k : length (table_rows w' at r.count) ≡ r.count = records-length row_of row_field_size w' at r.count in
+      let k : length (table_rows w' r.rows.base r.rows.count) ≡ r.rows.count = records-length row_of row_field_size w' r.rows.base r.rows.count in
+      let from = G.is.from in
       let few = G.is.few in
       let most = most-program in
       record {
@@ -58,7 +56,7 @@ module _ (main w : List ℕ) (p lines : ℕ) (source : RowSource) {e : Encoding}
           few = omega arith;
           ready = record { is = (omega arith, omega arith) };
         };
-        rest = rw most-program (kept-wide lines (row_room * length program.now) G.rest (omega arith) (omega arith));
+        rest = rw most-program (kept-wide lines (row_room * length u.program.now) G.rest (omega arith) (omega arith));
       }
 
 -- ---- the fault of rows comes first
@@ -74,7 +72,7 @@ module _ {x : Outcome (List LineRow)} {main w w' : List ℕ} {free most : ℕ} (
 pub rows-still : {main w w' : List ℕ} {low : ℕ} {rs : List (ℕ × ℕ)} (rows : UnitRows) → RowsReady main w low rows → KeptBut w w' rs
     → ((q k : ℕ) → low ≤ q → Clear q k rs) → rows_here main w' rows ≡ rows_here main w rows
 rows-still (UnitRows.Fields p) R K c = refl
-rows-still (UnitRows.Table r) R K c = records-but row_of row_field_size r.at r.count K (c r.at (r.count * row_field_size) R.is.0)
+rows-still (UnitRows.Table r) R K c = records-but row_of row_field_size r.base r.count K (c r.base (r.count * row_field_size) R.is.0)
 
 pub ready-still : {main w w' : List ℕ} {low low' : ℕ} (rows : UnitRows) → RowsReady main w low rows → low' ≤ low → length w' ≡ length w
     → RowsReady main w' low' rows

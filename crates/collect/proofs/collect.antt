@@ -1,2 +1,2 @@
 mod CollectLaws
-mod GatheredLaws
+pub mod GatheredLaws

@@ -1,2 +1,2 @@
-mod FinishLaws
-mod StoreLaws
+pub mod FinishLaws
+pub mod StoreLaws

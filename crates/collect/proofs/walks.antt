@@ -1,2 +1,2 @@
-mod ConvertingLaws
+pub mod ConvertingLaws
 mod CollectingLaws

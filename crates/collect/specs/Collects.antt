@@ -6,6 +6,7 @@ use Rattle.tlv.specs.Refusals.{number_of}
 use Rattle.tlv.specs.Outcome.{refused, done}
 use Rattle.tlv.specs.Lists.{at}
 use Rattle.tlv.specs.Fields.{fields}
+use Rattle.buffers.specs.declared.table.Stored.{Stored}
 use Rattle.buffers.specs.Buffer.{Put}
 use Rattle.buffers.specs.Table.{KeptBut}
 use Rattle.buffers.specs.Output.{Warning, warnings_bytes}
@@ -13,7 +14,7 @@ use Rattle.access.specs.Places.{unit_here, unit_places}
 use Rattle.line_program.specs.Scan.{offset_record, sequence_least}
 use Rattle.lines.specs.Lines.{UnitLines}
 use Rattle.files.specs.declared.store.StoredFiles.{StoredFiles}
-use Rattle.files.specs.declared.index.StoredIndices.{StoredIndices}
+use Rattle.tlv.specs.declared.model.FileIndex.{FileIndex}
 use Rattle.files.specs.Store.{extent, table_of, Grown}
 use Rattle.files.specs.Indices.{indices_in, index_record}
 use Rattle.files.specs.Interns.{map_extent}
@@ -31,11 +32,11 @@ pub record UnitIn (s : List ℕ) (p : ℕ) : Type 0 where
   pub is : at (unit_places 0 (fields s)) number ≡ some p
 
 -- the unit's lines that stand in w
-unfoldable pub lines_in : List ℕ → StoredLines → StoredIndices → UnitLines
+unfoldable pub lines_in : List ℕ → StoredLines → Stored FileIndex → UnitLines
 lines_in w l is = record {
-  entries = lines_of w l.lines l.line_count;
+  entries = lines_of w l.lines.base l.lines.count;
   files = indices_in w is;
-  sequences = ranges_of w l.sequences l.sequence_count;
+  sequences = ranges_of w l.sequences.base l.sequences.count;
 }
 
 -- how many bytes the lines of the unit at a place may take
@@ -50,7 +51,7 @@ pub record LinesRoom (main w program : List ℕ) (t : StoredFiles) (p free : ℕ
   pub room : free + lines_extent main p program ≤ length w
 
 pub record CollectedIn (main supplementary program w w' files files' warnings warnings' : List ℕ) (p : ℕ) (t : StoredFiles) (warned free : ℕ)
-    (l : StoredLines) (is : StoredIndices) (t' : StoredFiles) (warned' : ℕ) : Type 0 where
+    (l : StoredLines) (is : Stored FileIndex) (t' : StoredFiles) (warned' : ℕ) : Type 0 where
   pub new : List Warning
   pub collected : collect_lines (unit_here main p) program (table_of main supplementary w t)
       ≡ done (record { table = table_of main supplementary w' t'; lines = lines_in w' l is; warnings = new })
@@ -58,9 +59,9 @@ pub record CollectedIn (main supplementary program w w' files files' warnings wa
   pub put : Put warned (warnings_bytes new) warnings warnings' warned'
   pub rows : RowsIn w' l
   pub from : free ≤ is.base
-  pub indices : is.base + is.count * index_record ≤ l.lines
-  pub sequences : l.lines + l.line_count * line_size ≤ l.sequences
-  pub within : l.buffer + entry_size + l.line_count * entry_size ≤ free + lines_extent main p program
+  pub indices : is.base + is.count * index_record ≤ l.lines.base
+  pub sequences : l.lines.base + l.lines.count * line_size ≤ l.sequences.base
+  pub within : l.buffer + entry_size + l.lines.count * entry_size ≤ free + lines_extent main p program
   pub rest : KeptBut w w' ((t.base, extent t) ∷ (free, lines_extent main p program) ∷ [])
 
 abbrev pub CollectsBy : List ℕ → List ℕ → List ℕ → List ℕ → List ℕ → List ℕ → List ℕ → List ℕ → List ℕ → ℕ → StoredFiles

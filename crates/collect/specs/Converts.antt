@@ -1,5 +1,5 @@
 -- Contract. What the conversion of a row promises: the file of a row, its line and its sequence.
-use Rattle.std.specs.Prelude.{ℕ, ◌+◌, ◌*◌, ◌≤◌, ◌≡◌, Bool, true, false, cond, ◌⊎◌, List, [], ◌∷◌, leb, ltb, eqb, length}
+use Rattle.std.specs.Prelude.{ℕ, ◌+◌, ◌*◌, ◌^◌, ◌≤◌, ◌≡◌, Bool, true, false, cond, ◌⊎◌, List, [], ◌∷◌, leb, ltb, eqb, length}
 use Rattle.std.specs.Prelude.{Option as Maybe, Some, None, Result, Ok, Err}
 use Rattle.std.proofs.Math.Option.{none, some}
 use Rattle.tlv.specs.Tags.{file_zero_tag, unit_whole}
@@ -67,8 +67,8 @@ pub record ConversionIn (main supplementary w : List ℕ) (c : Conversion) (st :
   pub unnamed : Unnamed (unit_at main c) (header_in main c) (indices_in w c.indices)
   pub all : c.indices.count ≡ cond (leb (header_in main c).version 4) 1 0 + length (unit_at main c).files
   pub table : st.table.base + extent st.table ≤ c.offsets.base
-  pub offsets : c.offsets.base + c.offsets.count * offset_record ≤ c.unit.directories
-  pub directories : c.unit.directories + c.unit.directory_count * 8 ≤ c.indices.base
+  pub offsets : c.offsets.base + c.offsets.count * offset_record ≤ c.unit.directories.base
+  pub directories : c.unit.directories.base + c.unit.directories.count * 8 ≤ c.indices.base
   pub indices : c.indices.base + c.indices.count * index_record ≤ c.lines
   pub lines : c.lines + st.count * line_size ≤ length w
 
@@ -101,6 +101,11 @@ pub record LineAppended (w w' : List ℕ) (c : Conversion) (r : Row) (file : Fil
   pub is : (table : FileTable) (indices : FileIndices) → convert_line (offsets_of w c) (raw_of r) file (lined_in w c count table indices [])
       ≡ lined_in w' c (count + 1) table indices []
   pub rest : Kept w w' (c.lines + count * line_size) line_size
+
+-- where its line is past 32 bits, nothing is written
+abbrev pub AppendsLine : List ℕ → List ℕ → Conversion → Row → FileIndex → ℕ → Bool → Type 0
+AppendsLine w w' c r file count true = LineAppended w w' c r file count
+AppendsLine w w' c r file count false = (w' ≡ w) × (2 ^ 32 ≤ r.line)
 
 pub record LineConverted (w w' warnings warnings' : List ℕ) (c : Conversion) (st : Converting) (r : Row) (file : FileIndex)
     (st' : Converting) : Type 0 where

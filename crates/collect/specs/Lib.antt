@@ -1,3 +1,4 @@
+pub mod Headers
 pub mod Passes
 pub mod Tables
 pub mod Sources

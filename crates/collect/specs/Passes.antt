@@ -12,7 +12,7 @@ use Rattle.buffers.specs.Table.{Kept}
 use Rattle.access.specs.Places.{own_fields}
 use Rattle.line_program.specs.Scan.{offsets_at}
 use Rattle.lines.specs.Lines.{RawSequence, LineSequenceRange, raw_line, Converted, convert_row}
-use Rattle.rows.specs.Sizes.{range_size}
+use Rattle.rows.specs.Sizes.{sequence_range_size}
 use Rattle.rows.specs.Stored.{range_at, ranges_of}
 use Rattle.collect.specs.declared.passes.CountedRows.{CountedRows}
 
@@ -68,12 +68,12 @@ with_offset offsets s = record { range = s.range; statement_sequence = at offset
 -- a sequence was written at p with its offset
 pub record SequencePut (w w' : List ℕ) (p offsets n : ℕ) (q : RawSequence) : Type 0 where
   pub is : range_at w' p ≡ with_offset (offsets_at w offsets n) q
-  pub rest : Kept w w' p range_size
+  pub rest : Kept w w' p sequence_range_size
 
 -- the sequences of rows were written at base
 pub record SequencesIn (rows : List LineRow) (w w' : List ℕ) (offsets n base r : ℕ) : Type 0 where
   pub is : ranges_of w' base r ≡ map (with_offset (offsets_at w offsets n)) (sequences_from rows 0 none)
-  pub rest : Kept w w' base (r * range_size)
+  pub rest : Kept w w' base (r * sequence_range_size)
 
 -- `left` rows from here on, each by convert_row
 unfoldable pub convert_from : CompilationUnit → LineHeader → List ℕ → List LineRow → ℕ → ℕ → Converted → Outcome Converted

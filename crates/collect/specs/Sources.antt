@@ -1,5 +1,5 @@
 -- Contract. Where the rows of a unit come from: its row fields, or the line program (document 02, E8).
-use Rattle.std.specs.Prelude.{ℕ, ◌+◌, ◌*◌, ◌≤◌, ◌≡◌, List, length, drop, eqb, Result, Ok, Err}
+use Rattle.std.specs.Prelude.{ℕ, ◌+◌, ◌*◌, ◌≤◌, ◌≡◌, List, length, drop, eqb, Option, Some, None, Result, Ok, Err}
 use Rattle.tlv.specs.declared.refusal.Refusal.{Refusal}
 use Rattle.tlv.specs.Refusals.{number_of}
 use Rattle.tlv.specs.Outcome.{Outcome, refused, done}
@@ -17,7 +17,7 @@ use Rattle.machine.specs.declared.registers.Encoding.{Encoding}
 use Rattle.machine.specs.Machine.{program_rows}
 use Rattle.machine.specs.Steps.{line_encoding, opcodes_with}
 use Rattle.machine.specs.LineRows.{line_rows, rows_most}
-use Rattle.collect.specs.declared.source.RowSource.{RowSource}
+use Rattle.collect.specs.declared.source.UnitProgram.{UnitProgram}
 use Rattle.collect.specs.declared.unit_rows.UnitRows.{UnitRows}
 use Rattle.collect.specs.declared.source.GatheredRows.{GatheredRows}
 use Rattle.collect.specs.Passes.{Counted, rows_from, count_all, RowsCounted}
@@ -28,14 +28,14 @@ unfoldable pub program_in : Encoding → List ℕ → List ℕ → Outcome (List
 program_in e lengths program = program_rows (line_encoding e) (opcodes_with e lengths) program
 
 -- the rows of the unit whose fields follow place p
-abbrev pub source_rows : List ℕ → ℕ → RowSource → Outcome (List LineRow)
-source_rows main p RowSource.Fields = done (rows_from main p)
-source_rows main p (RowSource.Program e lengths program) = program_in e lengths.now program.now
+abbrev pub source_rows : List ℕ → ℕ → Option UnitProgram → Outcome (List LineRow)
+source_rows main p None = done (rows_from main p)
+source_rows main p (Some u) = program_in u.encoding u.lengths.now u.program.now
 
 -- how many rows there can be, for the room of their tables
-abbrev pub most_rows : List ℕ → ℕ → RowSource → ℕ
-most_rows main p RowSource.Fields = length (rows_from main p)
-most_rows main p (RowSource.Program e lengths program) = length program.now
+abbrev pub most_rows : List ℕ → ℕ → Option UnitProgram → ℕ
+most_rows main p None = length (rows_from main p)
+most_rows main p (Some u) = length u.program.now
 
 -- the numbers of the encoding whose payload starts at a place
 pub record EncodingRead (s : List ℕ) (start base : ℕ) (e : Encoding) : Type 0 where
@@ -47,7 +47,7 @@ pub record EncodingRead (s : List ℕ) (start base : ℕ) (e : Encoding) : Type 
   pub opcode_base-is : e.opcode_base ≡ base
 
 -- the source of the rows, and how many there can be, of any unit whose fields follow p, with its header's payload and its program
-pub record SourceFound (main : List ℕ) (p : ℕ) (payload program : List ℕ) (source : RowSource) : Type 0 where
+pub record SourceFound (main : List ℕ) (p : ℕ) (payload program : List ℕ) (source : Option UnitProgram) : Type 0 where
   pub is : (u : CompilationUnit) → u.encoding ≡ map_option encoding_of (payload_of encoding_tag (own_fields (fields (drop p main))))
       → u.rows ≡ rows_from main p → source_rows main p source ≡ line_rows u (header_of payload) program
   pub most : (u : CompilationUnit) → u.encoding ≡ map_option encoding_of (payload_of encoding_tag (own_fields (fields (drop p main))))
@@ -57,12 +57,12 @@ pub record SourceFound (main : List ℕ) (p : ℕ) (payload program : List ℕ) 
 
 abbrev pub rows_here : List ℕ → List ℕ → UnitRows → List LineRow
 rows_here main w (UnitRows.Fields p) = rows_from main p
-rows_here main w (UnitRows.Table r) = table_rows w r.at r.count
+rows_here main w (UnitRows.Table r) = table_rows w r.base r.count
 
 -- fields of an accepted sheet are left, or a table stands in w, and not below a place
 abbrev pub ReadyBy : List ℕ → List ℕ → ℕ → UnitRows → Type 0
 ReadyBy main w low (UnitRows.Fields p) = Placed main p
-ReadyBy main w low (UnitRows.Table r) = (low ≤ r.at) × (r.at + r.count * row_field_size ≤ length w)
+ReadyBy main w low (UnitRows.Table r) = (low ≤ r.base) × (r.base + r.count * row_field_size ≤ length w)
 
 -- they can be walked over while the bytes below a place are written
 -- Stays a clause: it speaks of the work slice, which each write changes.
@@ -77,7 +77,7 @@ pub record UnitGathered (x : Outcome (List LineRow)) (main w : List ℕ) (lines 
   pub ready : RowsReady main w (lines + line_size * length (rows_here main w rows)) rows
 
 abbrev pub GathersUnitBy : Outcome (List LineRow) → List ℕ → List ℕ → ℕ → ℕ → Result GatheredRows Refusal → Type 0
-GathersUnitBy x main w lines most (Ok r) = UnitGathered x main w lines most r.lines r.sequences r.rows
+GathersUnitBy x main w lines most (Ok r) = UnitGathered x main w lines most r.counted.lines r.counted.sequences r.rows
 GathersUnitBy x main w lines most (Err e) = count_all x ≡ refused (number_of e)
 
 -- there are `most` of them at most; a fault too keeps what lies outside the room of the lines

@@ -19,7 +19,7 @@ pub record FoundAt (s : List ℕ) (start n : ℕ) (rest : UnitRows) (r : FoundRo
 -- where the rows that are left begin
 abbrev pub begin_at : UnitRows → ℕ
 begin_at (UnitRows.Fields p) = p
-begin_at (UnitRows.Table r) = r.at
+begin_at (UnitRows.Table r) = r.base
 
 -- a row of sequence n, and the rows behind it, which can be walked over as all can
 pub record RowFound (main w : List ℕ) (rows : UnitRows) (n : ℕ) (r : FoundRow) : Type 0 where

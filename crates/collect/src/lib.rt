@@ -4,6 +4,7 @@
 pub mod collect;
 pub mod convert;
 pub mod finish;
+pub mod header;
 pub mod interned;
 pub mod passes;
 pub mod program;

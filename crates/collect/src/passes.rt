@@ -1,15 +1,15 @@
-// The walks over a unit's row fields.
-ghost use Rattle.std.specs.Prelude.{◌≡◌, ◌+◌, ◌*◌, ◌≤◌, length};
-ghost use Rattle.std.proofs.Math.Option.{none};
+// A unit's row fields counted, and the record of one of its sequences.
+ghost use Rattle.std.specs.Prelude.{◌≡◌, ◌+◌, ◌*◌, ◌^◌, ◌≤◌, ◌<◌, length};
 ghost use Rattle.tlv.specs.Checked.{Placed};
 ghost use Rattle.tlv.specs.Lists.{at};
 ghost use Rattle.line_program.specs.Scan.{offset_record, offsets_at};
-ghost use Rattle.rows.specs.Sizes.{range_size};
+ghost use Rattle.rows.specs.Sizes.{sequence_range_size};
 ghost use Rattle.rows.specs.Stored.{sequence_of};
-ghost use Rattle.collect.specs.Passes.{rows_from, count_rows, counted_of, sequences_from, SequencePut, SequencesIn};
+ghost use Rattle.collect.specs.Passes.{rows_from, count_rows, counted_of, SequencePut};
 
+use buffers::table::Stored;
 use line_program::lines::OFFSET_RECORD;
-use rows::line::RANGE_SIZE;
+use rows::line::{LineSequenceRange, put_sequence_range};
 use tlv::bytes::Number;
 use tlv::model::AddressRange;
 use tlv::refusal::Refusal;
@@ -22,18 +22,33 @@ pub const END_ROW: u8 = 1;
 
 pub const FAILED_ROW: u8 = 2;
 
-// Where the table of the offsets of a unit's sequences stands in the work slice.
-#[derive(Clone, Copy, Debug)]
-pub struct StoredOffsets {
-    pub base: usize,
-    pub count: usize,
-}
-
-// How many rows stand in finished sequences, and how many sequences are finished.
-#[derive(Clone, Copy, Debug)]
+// Rows that were counted: those in finished sequences, those of the sequence that is open, and how many sequences are finished.
+#[derive(Clone, Copy, Debug, Default)]
 pub struct CountedRows {
     pub lines: usize,
+    pub opened: usize,
     pub sequences: usize,
+}
+
+impl CountedRows {
+    // Counts a row of the open sequence.
+    pub fn count_row(&mut self)
+        requires { self.old.opened < usize.MAX }
+        ensures { self.new ≡ record { lines = self.old.lines; opened = self.old.opened + 1; sequences = self.old.sequences } }
+    {
+        self.opened += 1;
+    }
+
+    // Counts the end of the open sequence: its rows now stand in a finished one.
+    pub fn end_sequence(&mut self)
+        requires lines_fit { self.old.lines + self.old.opened < 2 ^ 64 }
+        requires sequences_fit { self.old.sequences < usize.MAX }
+        ensures { self.new ≡ record { lines = self.old.lines + self.old.opened; opened = 0; sequences = self.old.sequences + 1 } }
+    {
+        self.lines += self.opened;
+        self.opened = 0;
+        self.sequences += 1;
+    }
 }
 
 // Counts the row fields of the unit whose fields follow place p; a row may be one that could not be read.
@@ -42,9 +57,7 @@ pub fn count_rows(s: &[u8], p: usize) -> Result<CountedRows, Refusal>
     ensures { counted_of result ≡ count_rows (rows_from s.now p) 0 0 0 }
 {
     let mut at = p;
-    let mut lines = 0;
-    let mut opened = 0;
-    let mut sequences = 0;
+    let mut counted = CountedRows::default();
     // Stays a loop: each field's own length moves the place; what is counted is what was found.
     while let Some(field) = access::access::next_row(s, at) {
         let kind = u8::read(s, field.start + ROW_KIND);
@@ -53,18 +66,16 @@ pub fn count_rows(s: &[u8], p: usize) -> Result<CountedRows, Refusal>
         }
         at = field.next;
         if kind == END_ROW {
-            lines += opened;
-            opened = 0;
-            sequences += 1;
+            counted.end_sequence();
         } else {
-            opened += 1;
+            counted.count_row();
         }
     }
-    Ok(CountedRows { lines, sequences })
+    Ok(counted)
 }
 
 // The offset of the sequence of a number.
-pub fn sequence_offset(work: &[u8], offsets: StoredOffsets, sequence: usize) -> Option<u64>
+pub fn sequence_offset(work: &[u8], offsets: Stored<u64>, sequence: usize) -> Option<u64>
     requires { offsets.base + offsets.count * offset_record ≤ length work.now }
     ensures { sequence_of result ≡ at (offsets_at work.now offsets.base offsets.count) sequence }
 {
@@ -77,15 +88,18 @@ pub fn sequence_offset(work: &[u8], offsets: StoredOffsets, sequence: usize) -> 
 // Writes at p the record of the sequence of a number, with its offset.
 pub fn put_sequence_record(
     work: &mut [u8],
-    offsets: StoredOffsets,
+    offsets: Stored<u64>,
     sequence: usize,
     p: usize,
     range: AddressRange,
 )
-    requires offset_record_bound { offsets.base + offsets.count * offset_record ≤ p }
-    requires range_size_in_bounds { p + range_size ≤ length work.old }
+    requires offsets_below { offsets.base + offsets.count * offset_record ≤ p }
+    requires record_fits { p + sequence_range_size ≤ length work.old }
     ensures { SequencePut work.old work.new p offsets.base offsets.count (record { range = range; sequence = sequence }) }
 {
-    let offset = sequence_offset(work, offsets, sequence);
-    rows::line::put_sequence_range(work, p, range, offset);
+    let sequence = LineSequenceRange {
+        range,
+        statement_sequence: sequence_offset(work, offsets, sequence),
+    };
+    put_sequence_range(work, p, sequence);
 }

@@ -5,22 +5,25 @@ ghost use Rattle.machine.specs.Machine.{appended_row};
 ghost use Rattle.collect.specs.Tables.{RowPut, GathersRows};
 ghost use Rattle.collect.specs.Sources.{program_in};
 
-use crate::passes::{END_ROW, PLAIN_ROW};
+use crate::convert::Row;
+use crate::passes::{CountedRows, END_ROW, PLAIN_ROW};
+use crate::source::UnitProgram;
 use buffers::numbers::Written;
-use machine::machine::{Emitted, initial, next_row};
-use machine::registers::{Encoding, Registers};
+use buffers::table::Stored;
+use machine::machine::Emitted;
+use machine::program::LineProgram;
+use machine::registers::Registers;
 use tlv::refusal::Refusal;
 use tlv::shapes::{ROW_COLUMN, ROW_FIELD, ROW_KIND, ROW_LINE};
 
 // The largest column that a row has: a larger one is written so.
 const LAST_COLUMN: u64 = 65535;
 
-// How many rows stand in finished sequences, how many sequences are finished, and how many rows there are in all.
+// How many rows and sequences a program has, and the table of all its rows.
 #[derive(Clone, Copy, Debug)]
 pub struct ProgramRows {
-    pub lines: usize,
-    pub sequences: usize,
-    pub count: usize,
+    pub counted: CountedRows,
+    pub rows: Stored<Row>,
 }
 
 // The column that a row shows.
@@ -45,27 +48,21 @@ fn put_row(work: &mut [u8], p: usize, r: Registers, kind: u8)
 
 // Writes the rows of a program from base on; 21 before any instruction.
 pub fn gather_program_rows(
-    program: &[u8],
-    lengths: &[u8],
-    e: Encoding,
+    unit: UnitProgram,
     work: &mut [u8],
     base: usize,
 ) -> Result<ProgramRows, Refusal>
-    requires { base + length program.now * row_field_size ≤ length work.old }
-    ensures { GathersRows (program_in e lengths.now program.now) work.old work.new base
-        (length program.now) result }
+    requires { base + length unit.program.now * row_field_size ≤ length work.old }
+    ensures { GathersRows (program_in unit.entry.encoding unit.entry.lengths.now unit.entry.program.now) work.old work.new base
+        (length unit.entry.program.now) result }
 {
-    if e.line_range == 0 || e.maximum_operations != 1 {
-        return Err(Refusal::LineEncoding);
-    }
-    let mut registers = initial();
+    let program = LineProgram::new(unit.program, unit.lengths, unit.encoding)?;
+    let mut registers = Registers::initial();
     let mut at = 0;
-    let mut lines = 0;
-    let mut opened = 0;
-    let mut sequences = 0;
+    let mut counted = CountedRows::default();
     let mut count = 0;
     // Stays a loop: each instruction's own length moves the place; the rows are counted as they come.
-    while let Some(emitted) = next_row(program, lengths, e, registers, at)? {
+    while let Some(emitted) = program.next_row(registers, at)? {
         let to = base + count * ROW_FIELD;
         count += 1;
         match emitted {
@@ -74,7 +71,7 @@ pub fn gather_program_rows(
                 next,
             } => {
                 put_row(work, to, shown, PLAIN_ROW);
-                opened += 1;
+                counted.count_row();
                 registers = shown;
                 at = next;
             }
@@ -83,17 +80,14 @@ pub fn gather_program_rows(
                 next,
             } => {
                 put_row(work, to, shown, END_ROW);
-                lines += opened;
-                opened = 0;
-                sequences += 1;
-                registers = initial();
+                counted.end_sequence();
+                registers = Registers::initial();
                 at = next;
             }
         }
     }
     Ok(ProgramRows {
-        lines,
-        sequences,
-        count,
+        counted,
+        rows: Stored::new(base, count),
     })
 }

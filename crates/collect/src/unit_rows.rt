@@ -10,22 +10,16 @@ ghost use Rattle.collect.specs.Walks.{FoundAt, FindsRow};
 
 use crate::convert::Row;
 use crate::passes::END_ROW;
+use buffers::table::Stored;
 use files::index::FileNumber;
 use tlv::bytes::Number;
 use tlv::shapes::{ROW_COLUMN, ROW_FIELD, ROW_KIND, ROW_LINE};
-
-// A table of `count` rows in the work slice.
-#[derive(Clone, Copy, Debug)]
-pub struct RowTable {
-    pub at: usize,
-    pub count: usize,
-}
 
 // The rows that are left: those of the fields that follow a place, or those of a table.
 #[derive(Clone, Copy, Debug)]
 pub enum UnitRows {
     Fields { place: usize },
-    Table(RowTable),
+    Table(Stored<Row>),
 }
 
 // A row, whether it ends its sequence, and the rows behind it.
@@ -36,53 +30,56 @@ pub struct FoundRow {
     pub rest: UnitRows,
 }
 
-// The row whose payload starts at a place, of the sequence of a number.
-fn read_row(s: &[u8], start: usize, sequence: usize) -> Row
-    requires { start + row_field_size ≤ length s.now }
-    ensures { raw_of result ≡ raw_line (row_of (chunk s.now start row_field_size)) sequence }
-{
-    Row {
-        address: u64::read(s, start),
-        file: FileNumber(u64::read(s, start + 8)),
-        line: u64::read(s, start + ROW_LINE),
-        column: u16::read(s, start + ROW_COLUMN),
-        sequence,
-    }
-}
-
-// The same, with the rows behind it.
-fn found_row(s: &[u8], start: usize, sequence: usize, rest: UnitRows) -> FoundRow
-    requires { start + row_field_size ≤ length s.now }
-    ensures { FoundAt s.now start sequence rest result }
-{
-    FoundRow {
-        row: read_row(s, start, sequence),
-        ends: u8::read(s, start + ROW_KIND) == END_ROW,
-        rest,
-    }
-}
-
-// The first of the rows that are left, of the sequence of a number.
-pub fn next_row(main: &[u8], work: &[u8], rows: UnitRows, sequence: usize) -> Option<FoundRow>
-    requires { RowsReady main.now work.now 0 rows }
-    ensures { FindsRow main.now work.now rows sequence result }
-{
-    // Stays a match: the next field and the next place of a table are found in two ways.
-    match rows {
-        UnitRows::Fields { place } => {
-            let field = access::access::next_row(main, place)?;
-            let rest = UnitRows::Fields { place: field.next };
-            Some(found_row(main, field.start, sequence, rest))
+impl Row {
+    // The row whose payload starts at a place, of the sequence of a number.
+    fn read(s: &[u8], start: usize, sequence: usize) -> Row
+        requires { start + row_field_size ≤ length s.now }
+        ensures { raw_of result ≡ raw_line (row_of (chunk s.now start row_field_size)) sequence }
+    {
+        Row {
+            address: u64::read(s, start),
+            file: FileNumber(u64::read(s, start + 8)),
+            line: u64::read(s, start + ROW_LINE),
+            column: u16::read(s, start + ROW_COLUMN),
+            sequence,
         }
-        UnitRows::Table(table) => {
-            if table.count == 0 {
-                return None;
+    }
+}
+
+impl FoundRow {
+    // The same, with the rows behind it.
+    fn read(s: &[u8], start: usize, sequence: usize, rest: UnitRows) -> FoundRow
+        requires { start + row_field_size ≤ length s.now }
+        ensures { FoundAt s.now start sequence rest result }
+    {
+        FoundRow {
+            row: Row::read(s, start, sequence),
+            ends: u8::read(s, start + ROW_KIND) == END_ROW,
+            rest,
+        }
+    }
+}
+
+impl UnitRows {
+    // The first of the rows that are left, of the sequence of a number.
+    pub fn first(self, main: &[u8], work: &[u8], sequence: usize) -> Option<FoundRow>
+        requires { RowsReady main.now work.now 0 self }
+        ensures { FindsRow main.now work.now self sequence result }
+    {
+        // Stays a match: the next field and the next place of a table are found in two ways.
+        match self {
+            UnitRows::Fields { place } => {
+                let field = access::access::next_row(main, place)?;
+                let rest = UnitRows::Fields { place: field.next };
+                Some(FoundRow::read(main, field.start, sequence, rest))
             }
-            let rest = RowTable {
-                at: table.at + ROW_FIELD,
-                count: table.count - 1,
-            };
-            Some(found_row(work, table.at, sequence, UnitRows::Table(rest)))
+            UnitRows::Table(table) => {
+                if table.count == 0 {
+                    return None;
+                }
+                let rest = Stored::new(table.base + ROW_FIELD, table.count - 1);
+                Some(FoundRow::read(work, table.base, sequence, UnitRows::Table(rest)))
+            }
         }
     }
 }

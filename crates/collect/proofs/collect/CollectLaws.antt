@@ -5,13 +5,14 @@ use mathlib.Core.List.{List, [], ◌∷◌}
 use Prim.Native.Nat.{ℕ, ◌+◌, ◌*◌, ◌/◌, ◌≤◌}
 use native.Mathlib.Omega.{arith}
 use lib.ListN.{length}
-use Rattle.std.specs.Prelude.{Result, Ok, Err}
+use Rattle.std.specs.Prelude.{Option as Maybe, Result, Ok, Err}
 use Rattle.tlv.specs.declared.refusal.Refusal.{Refusal}
 use Rattle.tlv.specs.Refusals.{number_of}
 use Rattle.tlv.specs.Outcome.{Outcome, refused, done}
 use Rattle.tlv.specs.Bytes.{le}
 use Rattle.tlv.specs.Checked.{Placed}
 use Rattle.tlv.specs.Model.{LineRow, header_of}
+use Rattle.buffers.specs.declared.table.Stored.{Stored}
 use Rattle.buffers.specs.Table.{KeptBut}
 use Rattle.buffers.proofs.TableLaws.{here, there, but_of, but_one, but_trans}
 use Rattle.buffers.proofs.RecordLaws.{records-length, records-but}
@@ -20,7 +21,7 @@ use Rattle.line_program.specs.Program.{line_sequence_offsets}
 use Rattle.line_program.specs.Scan.{CountWithin, Scanned, offsets_at}
 use Rattle.lines.specs.Files.{Indexed, intern_header_files}
 use Rattle.lines.specs.Lines.{Run, run_rows, Collected}
-use Rattle.files.specs.declared.index.StoredIndices.{StoredIndices}
+use Rattle.tlv.specs.declared.model.FileIndex.{FileIndex}
 use Rattle.files.specs.declared.spans.FileUnit.{FileUnit}
 use Rattle.files.specs.declared.sheets.Sheets.{Sheets}
 use Rattle.files.specs.declared.store.StoredFiles.{StoredFiles}
@@ -36,7 +37,7 @@ use Rattle.machine.specs.LineRows.{line_rows, rows_most, collect_lines}
 use Rattle.collect.specs.declared.collect.CollectedLines.{CollectedLines}
 use Rattle.collect.specs.declared.interned.InternedUnit.{InternedUnit}
 use Rattle.collect.specs.declared.convert.Conversion.{Conversion}
-use Rattle.collect.specs.declared.source.RowSource.{RowSource}
+use Rattle.collect.specs.declared.source.UnitProgram.{UnitProgram}
 use Rattle.collect.specs.Sources.{source_rows, most_rows, SourceFound, FindsFault}
 use Rattle.collect.specs.Converts.{ConversionIn}
 use Rattle.collect.specs.Collects.{lines_extent, CollectsBy, CollectsLines}
@@ -46,7 +47,7 @@ use Rattle.collect.proofs.HeaderPlaces.{header_is, unit-stands, unit-listed}
 use Rattle.collect.proofs.CollectSteps.{source-here, most-here, header-there, collects-first, collects_program-refused, collects_files-refused, collects_end}
 use Rattle.collect.proofs.UnitInternLaws.{indices-length}
 
-module _ (d : Sheets) {program w payload : List ℕ} {p free : ℕ} {source : RowSource} {t : StoredFiles}
+module _ (d : Sheets) {program w payload : List ℕ} {p free : ℕ} {source : Maybe UnitProgram} {t : StoredFiles}
     (B : UnitFound d.main.now d.supplementary.now program w t p payload free) (F : SourceFound d.main.now (p + 21) payload program source) where
   abbrev main : List ℕ
   main = d.main.now
@@ -165,7 +166,7 @@ module _ (d : Sheets) {program w payload : List ℕ} {p free : ℕ} {source : Ro
           rest = fault-rest X (interned_rest I);
         }
 
-    module _ {w₂ files files₁ : List ℕ} {u : FileUnit} {is : StoredIndices} {t' : StoredFiles}
+    module _ {w₂ files files₁ : List ℕ} {u : FileUnit} {is : Stored FileIndex} {t' : StoredFiles}
         (I : InternsUnit main supplementary w₁ w₂ files files₁ p t (free + k * 8) (Ok (record { unit = u; indices = is; table = t' }))) where
       interned : UnitInterned main supplementary w₁ w₂ files files₁ p t (free + k * 8) u is t'
       interned = I.after
@@ -193,9 +194,9 @@ module _ (d : Sheets) {program w payload : List ℕ} {p free : ℕ} {source : Ro
       unfolding indices_of
       map-length = sym (records-length index_of 5 w₂ is.base is.count)
 
-      module _ {cv : Conversion} (M : ConversionOf d u is (record { base = free; count = k }) cv) where
+      module _ {cv : Conversion} {offsets : Stored ℕ} (from : offsets.base ≡ free) (many : offsets.count ≡ k) (M : ConversionOf d u is offsets cv) where
         made : Conversion
-        made = record { sheets = d; unit = u; zero = cv.zero; indices = is; offsets = record { base = free; count = k }; lines = is.base + is.count * 5 }
+        made = record { sheets = d; unit = u; zero = cv.zero; indices = is; offsets = offsets; lines = is.base + is.count * 5 }
 
         place_is : cv.unit.place ≡ p
         place_is = ap (λ (x : Conversion). x.unit.place) M.is ∙ interned.place
@@ -241,8 +242,8 @@ module _ (d : Sheets) {program w payload : List ℕ} {p free : ℕ} {source : Ro
             let room = B.room.room in
             rw (place_is, sheet-is) (omega arith)
 
-        offsets-kept : offsets_at w₂ free k ≡ offsets_at w₁ free k
-        offsets-kept = let below = B.room.table in records-but le 8 free k I.rest (inr (omega arith), (inl (omega arith), tt))
+        offsets-kept : offsets_at w₂ offsets.base offsets.count ≡ offsets_at w₁ free k
+        offsets-kept = let below = B.room.table in rw (from, many) (records-but le 8 free k I.rest (inr (omega arith), (inl (omega arith), tt)))
 
         end_is : (y : Outcome Collected) → finish_rows (source_rows main (u.place + 21) source) main supplementary w₂ made t' ≡ y
             → collect_lines (unit_here main p) program (table_of main supplementary w t) ≡ y
@@ -278,9 +279,9 @@ module _ (d : Sheets) {program w payload : List ℕ} {p free : ℕ} {source : Ro
         by_end w₃ files₂ warnings warnings' warned (Err e) E K = end_is (refused (number_of e)) E
         by_end w₃ files₂ warnings warnings' warned (Ok r) E K =
             let fits = interned-room in
-            let map : is.base ≡ free + k * 8 + u.directory_count * 8 = interned.map in
-            let eb : r.indices.base ≡ is.base = ap (λ (x : StoredIndices). x.base) E.map in
-            let ec : r.indices.count ≡ is.count = ap (λ (x : StoredIndices). x.count) E.map in
+            let map : is.base ≡ free + k * 8 + u.directories.count * 8 = interned.map in
+            let eb : r.indices.base ≡ is.base = ap (λ (x : Stored FileIndex). x.base) E.map in
+            let ec : r.indices.count ≡ is.count = ap (λ (x : Stored FileIndex). x.count) E.map in
             let from = E.from in
             let within = rw interned.place at E.within in
             record {

@@ -92,7 +92,7 @@ module _ {x : Outcome (List LineRow)} {most : ℕ} {main supplementary w w₁ : 
   gathered-fault {e = e} G = record { is = finish-fault x (number_of e) G.is main supplementary w c t; rest = gathered-rest C G }
 
   module _ {k : GatheredRows} (G : GathersUnit x main w w₁ c.lines most (Ok k)) where
-    pub gathered : UnitGathered x main w₁ c.lines most k.lines k.sequences k.rows
+    pub gathered : UnitGathered x main w₁ c.lines most k.counted.lines k.counted.sequences k.rows
     gathered = G.is
 
     abbrev given : List LineRow

@@ -26,7 +26,7 @@ use Rattle.files.specs.Store.{extent, table_of}
 use Rattle.files.specs.Indices.{index_of, indices_of, indices_in}
 use Rattle.files.proofs.GrownLaws.{table_kept, grown-kept}
 use Rattle.rows.specs.declared.unit_lines.StoredLines.{StoredLines}
-use Rattle.rows.specs.Sizes.{entry_size, line_size, range_size, row_room}
+use Rattle.rows.specs.Sizes.{entry_size, line_size, sequence_range_size, row_room}
 use Rattle.rows.specs.Stored.{ranges_of}
 use Rattle.rows.proofs.StoredLaws.{lines-nil}
 use Rattle.collect.specs.declared.convert.Conversion.{Conversion}
@@ -130,7 +130,7 @@ module _ {rows : List LineRow} {main supplementary w : List ℕ} {c : Conversion
       sequences-few : length (sequences_from rows 0 none) ≤ m
       sequences-few = rw rows-counted.sequences at rows-counted.few
 
-      store-small : st.count * row_room + range_size * length (sequences_from rows 0 none) + entry_size
+      store-small : st.count * row_room + sequence_range_size * length (sequences_from rows 0 none) + entry_size
           ≤ row_room * length rows + entry_size
       store-small =
           let a = rows-counted.all in
@@ -138,11 +138,11 @@ module _ {rows : List LineRow} {main supplementary w : List ℕ} {c : Conversion
           let f = sequences-few in
           omega arith
 
-      pub store-room : c.lines + row_room * length rows + entry_size ≤ length w₁ → c.lines + st.count * row_room + range_size * length (sequences_from rows 0 none) + entry_size ≤ length w₁
+      pub store-room : c.lines + row_room * length rows + entry_size ≤ length w₁ → c.lines + st.count * row_room + sequence_range_size * length (sequences_from rows 0 none) + entry_size ≤ length w₁
       store-room h = let a = store-small in omega arith
 
       -- the sequences too have room below a table of the rows
-      pub store_below : c.lines + st.count * line_size + range_size * length (sequences_from rows 0 none) ≤ c.lines + line_size * length rows
+      pub store_below : c.lines + st.count * line_size + sequence_range_size * length (sequences_from rows 0 none) ≤ c.lines + line_size * length rows
       store_below =
           let a = rows-counted.all in
           let b = rows-converted.more in
@@ -166,7 +166,7 @@ module _ {rows : List LineRow} {main supplementary w : List ℕ} {c : Conversion
         unfolding indices_of
         indices-same = sym (records-kept index_of 5 c.indices.base c.indices.count S.rest (inl C.indices))
 
-        sequences-same : map (with_offset (offsets_of w c)) rows-counted.run.sequences ≡ ranges_of w₂ l.sequences l.sequence_count
+        sequences-same : map (with_offset (offsets_of w c)) rows-counted.run.sequences ≡ ranges_of w₂ l.sequences.base l.sequences.count
         sequences-same =
             ap (map (with_offset (offsets_of w c))) rows-counted.sequences
             ∙ ap (λ (o : List ℕ). map (with_offset o) (sequences_from rows 0 none))

@@ -1,5 +1,5 @@
 -- A unit's lines are stored: its sequences behind its lines, and these sorted and freed of equal neighbours.
-use mathlib.Core.Path.{◌≡◌, refl, sym, ap, ◌∙◌}
+use mathlib.Core.Path.{◌≡◌, sym, ap, ◌∙◌}
 use mathlib.Core.Logic.{inl, inr}
 use mathlib.Core.List.{List}
 use mathlib.Core.Option.{none}
@@ -7,11 +7,14 @@ use Prim.Native.Nat.{ℕ, ◌+◌, ◌*◌, ◌≤◌}
 use native.Mathlib.Omega.{arith}
 use lib.ListN.{length, length-map}
 use Rattle.tlv.specs.Model.{LineRow}
+use Rattle.buffers.specs.declared.table.Stored.{Stored}
 use Rattle.buffers.proofs.TableLaws.{here, kept-wide, kept_trans}
 use Rattle.buffers.proofs.RecordLaws.{records-but}
 use Rattle.line_program.specs.Scan.{offsets_at}
 use Rattle.lines.specs.Lines.{sort_rows, same_row, drop_neighbours}
-use Rattle.rows.specs.Sizes.{entry_size, line_size, range_size, row_room}
+use Rattle.rows.specs.declared.line.LineSequenceRange.{LineSequenceRange}
+use Rattle.rows.specs.declared.line.SequencedLine.{SequencedLine}
+use Rattle.rows.specs.Sizes.{entry_size, line_size, sequence_range_size, row_room}
 use Rattle.rows.specs.Stored.{lines_of, range_of, ranges_of}
 use Rattle.rows.specs.Sorts.{SortedRows, Deduped}
 use Rattle.rows.proofs.StoredLaws.{lines-kept, ranges-length, ranges-kept}
@@ -24,7 +27,7 @@ module _ {rows : List LineRow} {w w₁ : List ℕ} {offsets n m : ℕ} (lines co
   pub sequences-counted : m ≡ length (sequences_from rows 0 none)
   sequences-counted = sym (ranges-length w₁ (lines + count * line_size) m) ∙ ap length S.is ∙ length-map (sequences_from rows 0 none) (with_offset (offsets_at w offsets n))
 
-  module _ {w₂ w₃ : List ℕ} {r : ℕ} (T : SortedRows w₁ w₂ lines (lines + count * line_size + m * range_size) count) (D : Deduped w₂ w₃ lines count r) where
+  module _ {w₂ w₃ : List ℕ} {r : ℕ} (T : SortedRows w₁ w₂ lines (lines + count * line_size + m * sequence_range_size) count) (D : Deduped w₂ w₃ lines count r) where
     entries-are : lines_of w₃ lines r ≡ drop_neighbours same_row (sort_rows (lines_of w lines count))
     entries-are = D.rows ∙ ap (drop_neighbours same_row) (T.rows ∙ ap sort_rows (lines-kept lines count S.rest (inl (omega arith))))
 
@@ -32,23 +35,25 @@ module _ {rows : List LineRow} {w w₁ : List ℕ} {offsets n m : ℕ} (lines co
     unfolding ranges_of
     ranges-are =
         ranges-kept (lines + count * line_size) m D.rest (inr (omega arith))
-        ∙ records-but range_of range_size (lines + count * line_size) m T.rest (inr (omega arith), (inl (omega arith), tt))
+        ∙ records-but range_of sequence_range_size (lines + count * line_size) m T.rest (inr (omega arith), (inl (omega arith), tt))
 
-    pub stored_lines : lines + count * row_room + range_size * length (sequences_from rows 0 none) + entry_size ≤ length w → length w₃ ≡ length w
-        → StoresLines rows w w₃ offsets n lines count (record { lines = lines; line_count = r; sequences = lines + count * line_size; sequence_count = m; buffer = lines + count * line_size + m * range_size })
-    stored_lines room size =
+    pub stored_lines : lines + count * row_room + sequence_range_size * length (sequences_from rows 0 none) + entry_size ≤ length w → length w₃ ≡ length w
+        → {kept : Stored SequencedLine} {found : Stored LineSequenceRange} → kept.base ≡ lines → kept.count ≡ r → found.base ≡ lines + count * line_size
+        → found.count ≡ m
+        → StoresLines rows w w₃ offsets n lines count (record { lines = kept; sequences = found; buffer = lines + count * line_size + m * sequence_range_size })
+    stored_lines room size kept_from kept_many found_from found_many =
         let k = sequences-counted in
         let few = D.within in
-        let all = count * row_room + range_size * length (sequences_from rows 0 none) + entry_size in
+        let all = count * row_room + sequence_range_size * length (sequences_from rows 0 none) + entry_size in
         record {
-          from = refl;
-          entries = entries-are;
-          ranges = ranges-are ∙ S.is;
+          from = kept_from;
+          entries = rw (kept_from, kept_many) entries-are;
+          ranges = rw (found_from, found_many) (ranges-are ∙ S.is);
           rows = record {
             lines = omega arith;
             sequences = omega arith;
             buffer = omega arith;
-            sorted = rw entries-are (neighbours-sorted same_row 0 (sort_rows (lines_of w lines count)) (sort_sorted (lines_of w lines count)));
+            sorted = rw (kept_from, kept_many, entries-are) (neighbours-sorted same_row 0 (sort_rows (lines_of w lines count)) (sort_sorted (lines_of w lines count)));
           };
           sequences = omega arith;
           within = omega arith;

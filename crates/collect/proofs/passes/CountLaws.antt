@@ -22,7 +22,7 @@ pub record CountingRows (s : List ℕ) (p at lines opened n : ℕ) : Type 0 wher
   pub small : lines + opened + n ≤ at
 
 module _ (s : List ℕ) (p at lines opened n : ℕ) (inv : CountingRows s p at lines opened n) where
-  pub counting_done : NextOwn s at 0x16 None → counted_of (Ok (record { lines = lines; sequences = n })) ≡ count_rows (rows_from s p) 0 0 0
+  pub counting_done : NextOwn s at 0x16 None → counted_of (Ok (record { lines = lines; opened = opened; sequences = n })) ≡ count_rows (rows_from s p) 0 0 0
   unfolding count_rows
   counting_done own = rw (inv.same, rows_end s at own)
 

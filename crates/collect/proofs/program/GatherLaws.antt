@@ -1,17 +1,18 @@
 -- The rows of a program are written as a table: one row, and the loop's start, its turns and its ends.
 use mathlib.Core.Path.{◌≡◌, refl, sym, ◌∙◌}
 use mathlib.Core.Logic.{inl}
+use mathlib.Core.Bool.{false}
 use mathlib.Core.List.{List, [], ◌∷◌, ◌++◌, append_assoc, append-nil}
 use Prim.Native.Nat.{ℕ, ◌+◌, ◌*◌, ◌≤◌, ◌<◌, min}
 use native.Mathlib.Omega.{arith}
 use lib.ListN.{length, drop}
-use borrow.Author.Tests.{eq-eqb, ne_eqb}
 use Rattle.std.specs.Prelude.{Some, None, Ok, Err}
 use Rattle.tlv.specs.declared.refusal.Refusal.{Refusal}
 use Rattle.tlv.specs.Outcome.{Outcome, refused, done, ◌>>=◌}
 use Rattle.tlv.specs.Bytes.{le_at}
 use Rattle.tlv.specs.Grammar.{row_line_at, row_column_at, row_kind_at, row_field_size}
 use Rattle.tlv.specs.Model.{LineRow, row_of}
+use Rattle.buffers.specs.declared.table.Stored.{Stored}
 use Rattle.buffers.specs.Table.{chunk, Kept, Wrote}
 use Rattle.buffers.proofs.ChunkLaws.{le_at-chunk, le_at-front}
 use Rattle.buffers.proofs.TableLaws.{kept_refl, kept_trans, kept-wide, le_at-kept}
@@ -20,10 +21,12 @@ use Rattle.machine.specs.declared.registers.Encoding.{Encoding}
 use Rattle.machine.specs.declared.registers.Registers.{Registers}
 use Rattle.machine.specs.declared.machine.Emitted.{Emitted}
 use Rattle.machine.specs.Machine.{initial, appended_row, rest_rows, unsupported, program_rows}
-use Rattle.machine.specs.Steps.{machine_of, Emits}
+use Rattle.machine.specs.Steps.{line_encoding, machine_of, Emits}
+use Rattle.machine.specs.Programs.{ProgramMade}
+use Rattle.collect.specs.declared.convert.Row.{Row}
 use Rattle.collect.specs.Tables.{table_rows, RowPut, GathersRows}
 use Rattle.collect.specs.Sources.{program_in}
-use Rattle.collect.proofs.ProgramCountLaws.{CountingProgram, no-range, no-operation, program-start, program-done, program-fault}
+use Rattle.collect.proofs.ProgramCountLaws.{CountingProgram, program-refused, program-start, program-done, program-fault}
 use Rattle.collect.proofs.ProgramCountLaws.{program-plain, program-ended}
 
 -- ---- one row
@@ -81,20 +84,16 @@ pub record GatheringProgram (e : Encoding) (ls s w₀ w : List ℕ) (base : ℕ)
 
 module _ (e : Encoding) (ls s w : List ℕ) (base : ℕ) where
   -- 21
-  pub gather-range : e.line_range ≡ 0 → GathersRows (program_in e ls s) w w base (length s) (Err Refusal.LineEncoding)
-  gather-range z = record { is = sym (no-range e ls s z); rest = kept_refl w base _ }
+  pub gather-refused : {f : Refusal} → ProgramMade s ls e (Err f) → GathersRows (program_in e ls s) w w base (length s) (Err f)
+  gather-refused M = rw M.0 (record { is = sym (program-refused e ls s M.1); rest = kept_refl w base _ })
 
-  pub gather-operation : (e.line_range ≡ 0 → ⊥) → (e.maximum_operations ≡ 1 → ⊥)
-      → GathersRows (program_in e ls s) w w base (length s) (Err Refusal.LineEncoding)
-  gather-operation n m = record { is = sym (no-operation e ls s n m); rest = kept_refl w base _ }
-
-  pub gather-start : (r : Registers) → (e.line_range ≡ 0 → ⊥) → e.maximum_operations ≡ 1 → r ≡ initial
+  pub gather-start : (r : Registers) → unsupported (line_encoding e) ≡ false → r ≡ initial
       → base + length s * row_field_size ≤ length w → GatheringProgram e ls s w w base r 0 0 0 0 0
-  unfolding program_in program_rows unsupported
-  gather-start r n m i room = record {
-    counting = program-start e ls s r n m i;
+  unfolding program_in program_rows
+  gather-start r u i room = record {
+    counting = program-start e ls s r u i;
     rows = none_written (rest_rows (machine_of e ls (length s)) r s) (table_rows w base 0) (records-nil row_of row_field_size w base)
-        ∙ rw (i, ne_eqb e.line_range 0 n, eq-eqb e.maximum_operations 1 m);
+        ∙ rw (i, u);
     few = omega arith;
     kept = kept_refl w base _;
     room = room;
@@ -106,13 +105,15 @@ module _ {e : Encoding} {ls s w₀ w : List ℕ} {base : ℕ} {r : Registers} {a
   pub gather-fault : {f : Refusal} → Emits (machine_of e ls (length s)) s r at (Err f) → GathersRows (program_in e ls s) w₀ w base (length s) (Err f)
   gather-fault E = record { is = sym (program-fault G.counting E); rest = G.kept }
 
-  pub gather-end : Emits (machine_of e ls (length s)) s r at (Ok None)
-      → GathersRows (program_in e ls s) w₀ w base (length s) (Ok (record { lines = lines; sequences = n; count = count }))
+  pub gather-end : Emits (machine_of e ls (length s)) s r at (Ok None) → {rows : Stored Row} → rows.base ≡ base → rows.count ≡ count
+      → GathersRows (program_in e ls s) w₀ w base (length s)
+      (Ok (record { counted = record { lines = lines; opened = opened; sequences = n }; rows = rows }))
   unfolding ◌>>=◌
-  gather-end E =
-      let all : program_in e ls s ≡ done (table_rows w base count) = sym (rw (← E.is, append-nil) at G.rows) in
+  gather-end E {rows} from many =
+      let all : program_in e ls s ≡ done (table_rows w rows.base rows.count) = rw (from, many) (sym (rw (← E.is, append-nil) at G.rows)) in
       record {
         is = record {
+          from = from;
           is = all;
           counted = record { is = sym (rw all at (program-done G.counting E)) };
           few = omega (arith, G.few, G.counting.within);

@@ -25,14 +25,13 @@ use Rattle.machine.specs.declared.registers.Encoding.{Encoding}
 use Rattle.machine.specs.Machine.{program_rows}
 use Rattle.machine.specs.Steps.{line_encoding, opcodes_with}
 use Rattle.machine.specs.LineRows.{line_rows, rows_most}
-use Rattle.collect.specs.declared.source.RowSource.{RowSource}
 use Rattle.collect.specs.Sources.{program_in, EncodingRead, SourceFound}
 
 -- ---- the source that is found
 
 module _ {main : List ℕ} {p : ℕ} where
   -- no encoding
-  pub source-fields : (payload program : List ℕ) → NextOwn main p encoding_tag None → SourceFound main p payload program RowSource.Fields
+  pub source-fields : (payload program : List ℕ) → NextOwn main p encoding_tag None → SourceFound main p payload program None
   unfolding line_rows rows_most map_option
   source-fields payload program own = record {
     is = λ u enc rows. rw (enc, first-none main p encoding_tag own, rows);
@@ -72,7 +71,7 @@ module _ {main : List ℕ} {p : ℕ} where
 
         -- an encoding: the program's rows
         pub source-program : (lengths program : Bor (List ℕ)) → lengths.now ≡ drop 19 payload
-            → SourceFound main p payload program.now (RowSource.Program q lengths program)
+            → SourceFound main p payload program.now (Some (record { program = program; lengths = lengths; encoding = q }))
         unfolding line_rows rows_most map_option program_in
         source-program lengths program cut = record {
           is = λ u enc rows. rw (enc, first_found main p encoding_tag field own, cut)

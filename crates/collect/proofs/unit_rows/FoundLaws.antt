@@ -10,12 +10,13 @@ use Rattle.std.specs.Prelude.{Some, None}
 use Rattle.tlv.specs.declared.fields.FieldSpan.{FieldSpan}
 use Rattle.tlv.specs.Grammar.{row_field_size, row_kind_at}
 use Rattle.tlv.specs.Model.{LineRow, row_of}
+use Rattle.buffers.specs.declared.table.Stored.{Stored}
 use Rattle.buffers.specs.Table.{chunk}
 use Rattle.buffers.proofs.ChunkLaws.{le_at-chunk}
 use Rattle.buffers.proofs.RecordLaws.{records-nil, records-suc, records-add}
 use Rattle.access.specs.Access.{NextOwn}
 use Rattle.access.proofs.OwnLaws.{own-within, own-placed}
-use Rattle.collect.specs.declared.unit_rows.RowTable.{RowTable}
+use Rattle.collect.specs.declared.convert.Row.{Row}
 use Rattle.collect.specs.declared.unit_rows.UnitRows.{UnitRows}
 use Rattle.collect.specs.declared.unit_rows.FoundRow.{FoundRow}
 use Rattle.collect.specs.Tables.{table_rows}
@@ -57,25 +58,25 @@ table-front w at m =
     records-suc row_of row_field_size w at 0 ∙ rw (records-nil row_of row_field_size w at, add-zero at) in
     records-add row_of row_field_size w at 1 m ∙ ap (λ (rs : List LineRow). rs ++ table_rows w (at + row_field_size) m) one
 
-module _ (main w : List ℕ) (rows : UnitRows) {t : RowTable} (is : rows ≡ UnitRows.Table t) where
+module _ (main w : List ℕ) (rows : UnitRows) {t : Stored Row} (is : rows ≡ UnitRows.Table t) where
   pub no-row : (n : ℕ) → t.count ≡ 0 → FindsRow main w rows n None
-  no-row n e = rw (is, e) (records-nil row_of row_field_size w t.at)
+  no-row n e = rw (is, e) (records-nil row_of row_field_size w t.base)
 
   module _ (some : t.count ≡ 0 → ⊥) (R : RowsReady main w 0 rows) where
     table-ready : RowsReady main w 0 (UnitRows.Table t)
     table-ready = rw is at R
 
-    pub row-within : t.at + row_field_size ≤ length w
+    pub row-within : t.base + row_field_size ≤ length w
     row-within = omega (arith, table-ready.is.1)
 
-    pub found-row : {n : ℕ} {r : FoundRow} → FoundAt w t.at n (UnitRows.Table (record { at = t.at + row_field_size; count = t.count - 1 })) r
-        → FindsRow main w rows n (Some r)
+    pub found-row : {n : ℕ} {r : FoundRow} {others : Stored Row} → others.base ≡ t.base + row_field_size → others.count ≡ t.count - 1
+        → FoundAt w t.base n (UnitRows.Table others) r → FindsRow main w rows n (Some r)
     unfolding row_of
-    found-row {n} {r} F = let e : t.count ≡ 1 + (t.count - 1) = omega arith in rw (is, F.rest_is) (record {
-      row = row_of (chunk w t.at row_field_size);
-      is = ap (table_rows w t.at) e ∙ table-front w t.at (t.count - 1);
+    found-row {n} {r} {others} from many F = let e : t.count ≡ 1 + (t.count - 1) = omega arith in rw (is, F.rest_is) (record {
+      row = row_of (chunk w t.base row_field_size);
+      is = rw (from, many) (ap (table_rows w t.base) e ∙ table-front w t.base (t.count - 1));
       raw = F.raw;
-      ends = F.ends ∙ ap (λ (k : ℕ). eqb k 1) (sym (le_at-chunk 1 w t.at row_field_size row_kind_at (omega arith)));
+      ends = F.ends ∙ ap (λ (k : ℕ). eqb k 1) (sym (le_at-chunk 1 w t.base row_field_size row_kind_at (omega arith)));
       ready = λ low Q. record { is = (omega (arith, Q.is.0), omega (arith, Q.is.1)) };
       behind = omega arith;
       within = let x = row-within in omega arith;

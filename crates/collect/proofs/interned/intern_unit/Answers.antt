@@ -5,10 +5,10 @@ use Rattle.collect.proofs.UnitInternLaws.{main-sheet, described-files, interned-
 use Rattle.collect.proofs.interned.intern_unit.Goals as goal
 
 pub intern_header_files-requires-clause-files_in : goal.intern_header_files-requires-clause-files_in
-intern_header_files-requires-clause-files_in c = described-files c.file_unit-unit.ensures c.requires.files_in c.requires.unit_room c.file_unit-unit.auto.work
+intern_header_files-requires-clause-files_in c = described-files c.describe-unit.ensures c.requires.files_in c.requires.unit_room c.describe-unit.auto.work
 
 pub returns-in_err-interned : goal.returns-in_err-interned
-returns-in_err-interned c = rw (handed _ _ c.from_residual.ensures.1) (interned-refused c.file_unit-unit.ensures c.requires.files_in c.requires.unit_room c.file_unit-unit.auto.work (rw (main-sheet c.args.d.main.now c.args.d.supplementary.now _ c.file_unit-unit.ensures.source-is) at c.in_err-interned.ensures))
+returns-in_err-interned c = rw (handed _ _ c.from_residual.ensures.1) (interned-refused c.describe-unit.ensures c.requires.files_in c.requires.unit_room c.describe-unit.auto.work (rw (main-sheet c.args.sheets.main.now c.args.sheets.supplementary.now _ c.describe-unit.ensures.source-is) at c.in_err-interned.ensures))
 
 pub returns : goal.returns
-returns c = interned_done c.file_unit-unit.ensures c.requires.files_in c.requires.unit_room c.file_unit-unit.auto.work (rw (main-sheet c.args.d.main.now c.args.d.supplementary.now _ c.file_unit-unit.ensures.source-is) at c.in_ok-interned.ensures) (omega arith)
+returns c = interned_done c.describe-unit.ensures c.requires.files_in c.requires.unit_room c.describe-unit.auto.work (rw (main-sheet c.args.sheets.main.now c.args.sheets.supplementary.now _ c.describe-unit.ensures.source-is) at c.in_ok-interned.ensures) (omega arith) c.new.ensures.based c.new.ensures.counted

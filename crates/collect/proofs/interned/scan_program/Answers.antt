@@ -3,4 +3,4 @@ use Rattle.collect.proofs.HeaderPlaces.{header-with}
 use Rattle.collect.proofs.interned.scan_program.Goals as goal
 
 pub returns : goal.returns
-returns c = rw (header-with c.read_header-read.ensures) at c.line_sequence_offsets.ensures
+returns c = rw (header-with c.header.ensures c.lengths.ensures) at c.line_sequence_offsets.ensures

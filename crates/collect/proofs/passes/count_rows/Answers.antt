@@ -14,10 +14,10 @@ pub returns-then-kind-eq-FAILED_ROW : goal.returns-then-kind-eq-FAILED_ROW
 returns-then-kind-eq-FAILED_ROW c = counting-failed _ _ _ _ _ _ c.loop-field.invariant _ c.in-Some.ensures _ c.read-kind.ensures c.if-kind-eq-FAILED_ROW.true
 
 pub loop-field-preserved-then-kind-eq-END_ROW : goal.loop-field-preserved-then-kind-eq-END_ROW
-loop-field-preserved-then-kind-eq-END_ROW c = counting-end _ _ _ _ _ _ c.loop-field.invariant _ c.in-Some.ensures _ c.read-kind.ensures c.if-kind-eq-FAILED_ROW.false c.if-kind-eq-END_ROW.true
+loop-field-preserved-then-kind-eq-END_ROW c = rw c.end_sequence.ensures (counting-end _ _ _ _ _ _ c.loop-field.invariant _ c.in-Some.ensures _ c.read-kind.ensures c.if-kind-eq-FAILED_ROW.false c.if-kind-eq-END_ROW.true)
 
 pub loop-field-preserved : goal.loop-field-preserved
-loop-field-preserved c = counting-plain _ _ _ _ _ _ c.loop-field.invariant _ c.in-Some.ensures _ c.read-kind.ensures c.if-kind-eq-FAILED_ROW.false c.if-kind-eq-END_ROW.false
+loop-field-preserved c = rw c.count_row.ensures (counting-plain _ _ _ _ _ _ c.loop-field.invariant _ c.in-Some.ensures _ c.read-kind.ensures c.if-kind-eq-FAILED_ROW.false c.if-kind-eq-END_ROW.false)
 
 pub returns : goal.returns
 returns c = counting_done _ _ _ _ _ _ c.loop-field.invariant c.in_default.ensures

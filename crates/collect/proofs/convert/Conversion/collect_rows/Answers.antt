@@ -1,8 +1,8 @@
--- `collect::collect_rows` meets its contract: the rows are gathered, and then finished.
+-- `convert::Conversion::collect_rows` meets its contract: the rows are gathered, and then finished.
 use Rattle.files.proofs.UnitLaws.{unit-next}
 use Rattle.tlv.proofs.AnswerLaws.{handed}
 use Rattle.collect.proofs.collect.GatheredLaws.{gathered-conversion, gathered-fault, gathered-finish}
-use Rattle.collect.proofs.collect.collect_rows.Goals as goal
+use Rattle.collect.proofs.convert.Conversion.collect_rows.Goals as goal
 
 pub gather_unit_rows-requires-clause-placed : goal.gather_unit_rows-requires-clause-placed
 gather_unit_rows-requires-clause-placed c = unit-next c.requires.conversion_in.placed

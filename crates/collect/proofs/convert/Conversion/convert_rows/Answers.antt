@@ -1,12 +1,12 @@
--- `walks::convert_rows` meets its contract. The loop's invariant: the rows that are left, with what the others have become, give what was asked.
+-- `convert::Conversion::convert_rows` meets its contract. The loop's invariant: the rows that are left, with what the others have become, give what was asked.
 use native.Mathlib.Omega.{arith}
 use Rattle.tlv.proofs.AnswerLaws.{handed}
 use Rattle.collect.proofs.walks.ConvertingLaws.{converting-start, converting-full, converting-over, converting-ended, converting-known}
 use Rattle.collect.proofs.walks.ConvertingLaws.{converting-refused, converting-more}
-use Rattle.collect.proofs.walks.convert_rows.Goals as goal
+use Rattle.collect.proofs.convert.Conversion.convert_rows.Goals as goal
 
 pub loop-found-init : goal.loop-found-init
-loop-found-init c = converting-start c.requires.rows_ready c.requires.conversion_in c.requires.line_size_in_bounds (omega (arith, c.well_formed.1.1.1.1.0)) (omega (arith, c.well_formed.1.1.1.1.1.1.0)) (omega (arith, c.well_formed.1.1.1.1.1.0))
+loop-found-init c = converting-start c.requires.rows_ready c.requires.conversion_in c.requires.lines_fit (omega (arith, c.well_formed.1.1.1.1.0)) (omega (arith, c.well_formed.1.1.1.1.1.1.0)) (omega (arith, c.well_formed.1.1.1.1.1.0))
 
 pub returns-then-more-eq0 : goal.returns-then-more-eq0
 returns-then-more-eq0 c = converting-full c.loop-found.invariant c.if-more-eq0.true
