@@ -42,19 +42,19 @@ use Rattle.references.proofs.KeyLaws.{keys_below, room-left, keys-in_pushed, pos
 -- ---- a target is written down
 
 -- the tables of a sheet lie clear of what is written
-pub index-clear : {s w w' : List ℕ} {x : Index} {rs : List (ℕ × ℕ)} → IndexIn s w x → KeptBut w w' rs → Clear x.units (x.unit_count * 24) rs → Clear x.entries (x.entry_count * 16) rs
+pub index-clear : {s w w' : List ℕ} {x : Index} {rs : List (ℕ × ℕ)} → IndexIn s w x → KeptBut w w' rs → Clear x.units.base (x.units.count * 24) rs → Clear x.entries.base (x.entries.count * 16) rs
     → length w' ≡ length w → IndexIn s w' x
 index-clear {x = x} I K cu ce size = record {
   number = I.number;
   accepted = I.accepted;
-  units = records-but unit_of24 24 x.units x.unit_count K cu ∙ I.units;
-  entries = records-but indexed_of 16 x.entries x.entry_count K ce ∙ I.entries;
+  units = records-but unit_of24 24 x.units.base x.units.count K cu ∙ I.units;
+  entries = records-but indexed_of 16 x.entries.base x.entries.count K ce ∙ I.entries;
   units-within = rw size I.units-within;
   entries-within = rw size I.entries-within;
 }
 
 -- .. at or above a place
-pub index_kept : {s w w' : List ℕ} {x : Index} {p m : ℕ} → IndexIn s w x → Kept w w' p m → x.units + 24 * x.unit_count ≤ p → x.entries + 16 * x.entry_count ≤ p → length w' ≡ length w
+pub index_kept : {s w w' : List ℕ} {x : Index} {p m : ℕ} → IndexIn s w x → Kept w w' p m → x.units.base + 24 * x.units.count ≤ p → x.entries.base + 16 * x.entries.count ≤ p → length w' ≡ length w
     → IndexIn s w' x
 index_kept I K below-units below-entries size = index-clear I (but_one K) (inl (omega arith), tt) (inl (omega arith), tt) size
 
@@ -96,18 +96,18 @@ module _ {main supplementary w : List ℕ} {x : Tables} {n : ℕ} (S : SearchIn 
     index-here same = rw (is, same) (index_at input)
 
   pub stands_unit : {at : EntryAt} → Stands main supplementary at
-      → Any (λ q. q ≡ at.unit) (unit_places 0 (fields (source_in main supplementary at.input)))
+      → Any (λ q. q ≡ at.entry.unit) (unit_places 0 (fields (source_in main supplementary at.input)))
   stands_unit {at} A = known-unit (index_at at.input).number (index_at at.input).accepted A.known
 
   -- a reference to an offset of the own unit can be remembered
   pub possible-unit : {at : EntryAt} {o : ℕ} (name : ℕ) → Stands main supplementary at
-      → reference_of (attribute (entry_here (source_in main supplementary at.input) at.place) name) ≡ Some (Reference.Unit o)
-      → PossibleKey main supplementary (key_in at.source ((unit_here (source_in main supplementary at.input) at.unit).offset + o))
+      → reference_of (attribute (entry_here (source_in main supplementary at.input) at.entry.place) name) ≡ Some (Reference.Unit o)
+      → PossibleKey main supplementary (key_in at.source ((unit_here (source_in main supplementary at.input) at.entry.unit).offset + o))
   possible-unit {at} {o} name A is = go at.input A.known A.sourced is
     where
-      go : (input : DebugSource) → EntryKnown (source_in main supplementary input) at.unit at.place → Sourced input at.source
-          → reference_of (attribute (entry_here (source_in main supplementary input) at.place) name) ≡ Some (Reference.Unit o)
-          → PossibleKey main supplementary (key_in at.source ((unit_here (source_in main supplementary input) at.unit).offset + o))
+      go : (input : DebugSource) → EntryKnown (source_in main supplementary input) at.entry.unit at.entry.place → Sourced input at.source
+          → reference_of (attribute (entry_here (source_in main supplementary input) at.entry.place) name) ≡ Some (Reference.Unit o)
+          → PossibleKey main supplementary (key_in at.source ((unit_here (source_in main supplementary input) at.entry.unit).offset + o))
       go DebugSource.Main known sourced is = rw sourced (possible-main_unit name S.main-index.accepted known is)
       go DebugSource.Supplementary known sourced is = possible-supplementary_unit name S.supplementary-index.accepted known at.source is
 

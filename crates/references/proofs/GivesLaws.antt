@@ -22,13 +22,12 @@ use Rattle.std.specs.declared.option.Option.{Option as Given}
 use Rattle.tlv.specs.declared.refusal.Refusal.{Refusal}
 use Rattle.tlv.specs.Refusals.{number_of}
 use Rattle.access.specs.declared.index.EntryPlace.{EntryPlace}
-use Rattle.references.specs.declared.ways.EntryAt.{EntryAt}
 use Rattle.references.specs.declared.ways.OffsetAt.{OffsetAt}
 use Rattle.references.specs.Search.{Trail, DieKey, same_key, is_visited, visit, visit_entry, unit_containing, units_in, follow_in, follow_absolute, Named}
 use Rattle.references.specs.Reads.{Counted, after, ◌>>>◌, counted_name}
 use Rattle.references.specs.Tables.{Leads, bytes_given}
 use Rattle.references.specs.Keys.{keys_at, key_in, Pushed, PossibleKey, keys_from, keys_extent, TrailIn}
-use Rattle.references.specs.Names.{dwarf_of, search_source, place_at, Stands, Aims, trail_at, SearchIn, is_answer, named_given, counted_given, Gives, resolve_absolute_name}
+use Rattle.references.specs.Names.{dwarf_of, search_source, place_at, Stands, Aims, trail_at, SearchIn, is_answer, named_given, counted_given, Gives, resolve_absolute_name, at_entry}
 use Rattle.references.proofs.FollowLaws.{push_room, push_kept, push_search}
 use Rattle.references.proofs.WayLaws.{key-source}
 
@@ -90,10 +89,6 @@ absolute depth main supplementary at = resolve_absolute_name depth (dwarf_of mai
 abbrev key_at : OffsetAt → DieKey
 key_at at = record { source = search_source at.source; offset = at.target }
 
--- where the search stands at an entry
-abbrev entry_there : OffsetAt → ℕ → ℕ → EntryAt
-entry_there at p q = record { input = at.input; source = at.source; unit = q; place = p; left = at.left }
-
 -- an offset that was not followed yet
 module _ {main supplementary w : List ℕ} {x : Tables} {n : ℕ} {at : OffsetAt} {v : Bool} (S : SearchIn main supplementary w x n) (A : Aims main supplementary at)
     (seen : v ≡ exists (same_key (key_in at.source at.target)) (keys_at w (keys_from x) n)) (new : v ≡ false) where
@@ -127,7 +122,7 @@ module _ {main supplementary w : List ℕ} {x : Tables} {n : ℕ} {at : OffsetAt
         rw leads.is.0
         (gives-refused (absolute depth main supplementary at) S few (λ z. omega arith) (rw (follows none.containing (trail_at w (keys_from x) n a) refl, none.missing)))
 
-    pub absolute-stands : (f : EntryPlace) → r ≡ Ok (Some f) → Stands main supplementary (entry_there at f.place f.unit)
+    pub absolute-stands : (f : EntryPlace) → r ≡ Ok (Some f) → Stands main supplementary (at_entry at f)
     absolute-stands f to = let leads = rw (is, to) at L in record { known = leads.is.2; sourced = A.sourced }
 
     module _ {w₁ : List ℕ} (P : Pushed w w₁ x n (key_in at.source at.target)) where
@@ -141,12 +136,12 @@ module _ {main supplementary w : List ℕ} {x : Tables} {n : ℕ} {at : OffsetAt
           (ap (λ (key : DieKey). after (visit (trail_at w (keys_from x) n a) key) (done (record { trail = visit (trail_at w (keys_from x) n a) key; name = [] }))) (key-source at.source at.target)))
 
       pub absolute-at : (f : EntryPlace) → r ≡ Ok (Some f) → {w₂ name : List ℕ} {n₂ a b st : ℕ}
-          → Gives (counted_name depth (dwarf_of main supplementary) (place_at main supplementary (entry_there at f.place f.unit))) main supplementary x w₁ (n + 1) (a + 1) w₂ n₂ b st name
+          → Gives (counted_name depth (dwarf_of main supplementary) (place_at main supplementary (at_entry at f))) main supplementary x w₁ (n + 1) (a + 1) w₂ n₂ b st name
           → Gives (absolute depth main supplementary at) main supplementary x w n a w₂ n₂ b st name
       unfolding resolve_absolute_name ◌>>=◌
       absolute-at f to {a = a} G =
           let leads = rw (is, to) at L in
-          let inner : Trail → Counted Named = counted_name depth (dwarf_of main supplementary) (place_at main supplementary (entry_there at f.place f.unit)) in
+          let inner : Trail → Counted Named = counted_name depth (dwarf_of main supplementary) (place_at main supplementary (at_entry at f)) in
           gives-pushed S A.possible (sym seen ∙ new) P (absolute depth main supplementary at) inner
           (rw (follows leads.is.0 (trail_at w (keys_from x) n a) refl, leads.is.1)
           (ap (λ (key : DieKey). inner (visit_entry (trail_at w (keys_from x) n a) key)) (key-source at.source at.target)))

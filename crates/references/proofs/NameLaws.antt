@@ -15,6 +15,7 @@ use Rattle.tlv.specs.Lists.{is_empty}
 use Rattle.tlv.specs.Model.{CompilationUnit, Entry, Attribute}
 use Rattle.buffers.specs.Table.{Kept}
 use Rattle.buffers.proofs.TableLaws.{kept_refl, kept_trans}
+use Rattle.access.specs.declared.index.EntryPlace.{EntryPlace}
 use Rattle.access.specs.Places.{unit_here, entry_here}
 use Rattle.files.specs.Pieces.{source_in}
 use Rattle.references.specs.declared.tables.Tables.{Tables}
@@ -127,17 +128,17 @@ module _ {main supplementary w : List ℕ} {x : Tables} {n a : ℕ} {at : EntryA
   unfolding counted_name
   inner_deep h z = gives_nothing (inner main supplementary at) S few z (rw h)
 
-  module _ {s own : List ℕ} {st : ℕ} {v : Bool} (shallow : at.left ≡ 0 → ⊥) (is : s ≡ source_in main supplementary at.input) (O : OwnNamed s at.place st own) (e : v ≡ is_answer st own) where
+  module _ {s own : List ℕ} {st : ℕ} {v : Bool} (shallow : at.left ≡ 0 → ⊥) (is : s ≡ source_in main supplementary at.input) (O : OwnNamed s at.entry.place st own) (e : v ≡ is_answer st own) where
     inner_own : (t : Trail) → inner main supplementary at t
         ≡ (after t (bytes_given st own) >>> λ own. cond (is_empty own) (referenced main supplementary at origin_attributes t) (after t (done (record { trail = t; name = own }))))
     unfolding counted_name
     inner_own t =
         let more_left : at.left ≡ suc (at.left - 1) = omega arith in
-        let name-is : bytes_given st own ≡ own_name (entry_here (source_in main supplementary at.input) at.place) name_attributes = rw is at O.is in
+        let name-is : bytes_given st own ≡ own_name (entry_here (source_in main supplementary at.input) at.entry.place) name_attributes = rw is at O.is in
         one-more at.left (at.left - 1) more_left t ∙ rw (← name-is)
       where
         one-more : (m k : ℕ) → m ≡ suc k → (t : Trail) → counted_name m (dwarf_of main supplementary) (place_at main supplementary at) t
-            ≡ (after t (own_name (entry_here (source_in main supplementary at.input) at.place) name_attributes) >>> λ own.
+            ≡ (after t (own_name (entry_here (source_in main supplementary at.input) at.entry.place) name_attributes) >>> λ own.
             cond (is_empty own) (counted_referenced_name (counted_name k (dwarf_of main supplementary)) (dwarf_of main supplementary) (place_at main supplementary at) origin_attributes t)
             (after t (done (record { trail = t; name = own }))))
         one-more m k e t = rw e
@@ -214,6 +215,16 @@ module _ {main supplementary w₀ w : List ℕ} {x : Tables} {at : EntryAt} {n�
       let g : Trail → Counted Named = λ t. after t (done (record { trail = t; name = [] })) in
       gives_after (inner main supplementary at) g G.rest (G.goes ∙ rw (drop_all i names over)) (gives_nothing g G.ready G.few refl refl)
 
+-- the last reference's answer is the search's
+pub last-turn : {main supplementary w₀ w w₁ bytes : List ℕ} {x : Tables} {at : EntryAt} {n₀ a₀ n a n₁ b st name : ℕ} → Going main supplementary x at w₀ n₀ a₀ w n a (name ∷ [])
+    → Gives (referred_name (at.left - 1) main supplementary at name) main supplementary x w n a w₁ n₁ b st bytes → length w₁ ≡ length w
+    → Gives (inner main supplementary at) main supplementary x w₀ n₀ a₀ w₁ n₁ b st bytes
+last-turn {main} {supplementary} {w₀} {w} {w₁} {bytes} {x} {at} {n₀} {a₀} {n} {a} {n₁} {b} {st} G T same = go (is_answer st bytes) refl
+  where
+    go : (v : Bool) → v ≡ is_answer st bytes → Gives (inner main supplementary at) main supplementary x w₀ n₀ a₀ w₁ n₁ b st bytes
+    go true e = turn-ends G T e refl
+    go false e = let h = no_answer st bytes (sym e) in rw (h.0, h.1) (inner_done [] 0 (turn-goes G T e refl same) (omega arith))
+
 -- ---- the searches that start at an entry of the main sheet
 
 -- a reference's name, where there is a reference: without its count
@@ -228,44 +239,41 @@ reference-name d u e name = go (attribute e name)
         let all = counts-after {trail = λ r. r.trail} empty_trail (follow d (place_in u e) empty_trail (some a)) (λ f. counts-name_at (counts_name d 63) f.trail f.target) in
         sym (bind_assoc (follow d (place_in u e) empty_trail (some a)) _ _) ∙ ap (λ (o : Outcome Named). o >>= λ m. done m.name) (sym all.same)
 
-module _ {main supplementary : List ℕ} (q p : ℕ) {at : EntryAt} (is : at ≡ start_at q p) where
-  pub start-stands : EntryKnown main q p → Stands main supplementary at
-  start-stands known = rw is (record { known = known; sourced = refl })
-
+module _ {main supplementary : List ℕ} (e : EntryPlace) {at : EntryAt} (is : at ≡ start_at e) where
   module _ {w w' bytes : List ℕ} {x : Tables} {n' b st : ℕ} (G : Gives (inner main supplementary at) main supplementary x w 0 1 w' n' b st bytes) where
-    pub resolved_name : Resolved main supplementary x w w' (resolve_name (dwarf_of main supplementary) (unit_here main q) (entry_here main p)) st bytes
+    pub resolved_name : Resolved main supplementary x w w' (resolve_name (dwarf_of main supplementary) (unit_here main e.unit) (entry_here main e.place)) st bytes
     unfolding resolve_name resolve_named keys_at
     resolved_name =
         let H = rw is at G in
-        let found = sym (counts_name (dwarf_of main supplementary) 64 (place_in (unit_here main q) (entry_here main p)) empty_trail).same ∙ ap (λ (c : Counted Named). c.outcome) H.is in
+        let found = sym (counts_name (dwarf_of main supplementary) 64 (place_in (unit_here main e.unit) (entry_here main e.place)) empty_trail).same ∙ ap (λ (c : Counted Named). c.outcome) H.is in
         record {
           is = sym (ap (λ (o : Outcome Named). o >>= λ m. done m.name) found ∙ name-bytes st bytes (trail_at w' (keys_from x) n' b));
           rest = H.rest;
         }
 
-    pub name-read : b ≡ name_reads (dwarf_of main supplementary) (unit_here main q) (entry_here main p)
+    pub name-read : b ≡ name_reads (dwarf_of main supplementary) (unit_here main e.unit) (entry_here main e.place)
     unfolding name_reads keys_at
     name-read = let H = rw is at G in sym (ap (λ (c : Counted Named). c.reads) H.is)
 
-    pub name-within : SearchIn main supplementary w x 0 → EntryKnown main q p → ReadsWithin (dwarf_of main supplementary) b
+    pub name-within : SearchIn main supplementary w x 0 → EntryKnown main e.unit e.place → ReadsWithin (dwarf_of main supplementary) b
     name-within S known = rw name-read (bounded_at supplementary S.main-index.number S.main-index.accepted known).name
 
   module _ {w w' bytes : List ℕ} {x : Tables} {n' b st : ℕ} (name : ℕ) (G : Gives (referred_name (at.left - 1) main supplementary at name) main supplementary x w 0 1 w' n' b st bytes) where
-    pub resolved-reference : Resolved main supplementary x w w' (reference_name (dwarf_of main supplementary) (unit_here main q) (entry_here main p) (attribute (entry_here main p) name)) st bytes
+    pub resolved-reference : Resolved main supplementary x w w' (reference_name (dwarf_of main supplementary) (unit_here main e.unit) (entry_here main e.place) (attribute (entry_here main e.place) name)) st bytes
     unfolding referred_name follow_from counted_reference_name keys_at
     resolved-reference =
         let H = rw is at G in
         record {
-          is = sym (reference-name (dwarf_of main supplementary) (unit_here main q) (entry_here main p) name
+          is = sym (reference-name (dwarf_of main supplementary) (unit_here main e.unit) (entry_here main e.place) name
               ∙ ap (λ (c : Counted Named). c.outcome >>= λ m. done m.name) H.is ∙ name-bytes st bytes (trail_at w' (keys_from x) n' b));
           rest = H.rest;
         }
 
-    pub reference-read : b ≡ reference_name_reads (dwarf_of main supplementary) (unit_here main q) (entry_here main p) name
+    pub reference-read : b ≡ reference_name_reads (dwarf_of main supplementary) (unit_here main e.unit) (entry_here main e.place) name
     unfolding reference_name_reads referred_name follow_from counted_reference_name keys_at
     reference-read = let H = rw is at G in sym (ap (λ (c : Counted Named). c.reads) H.is)
 
-    pub reference-within : SearchIn main supplementary w x 0 → EntryKnown main q p → ReadsWithin (dwarf_of main supplementary) b
+    pub reference-within : SearchIn main supplementary w x 0 → EntryKnown main e.unit e.place → ReadsWithin (dwarf_of main supplementary) b
     reference-within S known = rw reference-read ((bounded_at supplementary S.main-index.number S.main-index.accepted known).reference name)
 
 -- ---- what was found by its bytes

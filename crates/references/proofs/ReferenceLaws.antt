@@ -1,6 +1,6 @@
 -- What is read of the entry at a place: that its field 17 stands there, the reference that an attribute is, and the entry's own name.
 use mathlib.Core.Path.{◌≡◌, refl, sym, ap, ◌∙◌}
-use mathlib.Core.Bool.{false}
+use mathlib.Core.Bool.{Bool, true, false}
 use mathlib.Core.List.{List, [], ◌∷◌, map}
 use mathlib.Core.Option.{Option, none, some}
 use Prim.Native.Nat.{ℕ, ◌+◌, ◌-◌, ◌≤◌}
@@ -22,7 +22,7 @@ use Rattle.tlv.proofs.CursorLaws.{fields-at, fields-field, field-within, row-ind
 use Rattle.tlv.proofs.AcceptedGroups.{passed-both}
 use Rattle.tlv.proofs.PlaceFacts.{placed-next}
 use Rattle.tlv.proofs.PlacePromises.{placed-entry}
-use Rattle.std.specs.Prelude.{Some, None}
+use Rattle.std.specs.Prelude.{Some, None, ◌==◌}
 use Rattle.std.specs.declared.option.Option.{Option as Given}
 use Rattle.access.specs.declared.access.Value.{Value}
 use Rattle.access.specs.Places.{own_fields, entry_here, behind, IndexedEntry, entry_index}
@@ -215,10 +215,6 @@ module _ {s : List ℕ} (p : ℕ) {v : Given Value} (name : ℕ) (says : Says s 
     unfolding name_then
     name-refused h = record { is = λ other. named other ∙ rw there (no_text s y other h) }
 
-    -- a text lies in the sheet
-    pub text-inside : {start len : ℕ} → y ≡ Value.Text start len → start + len ≤ length s
-    text-inside is = rw (there, is) at says.within
-
 -- ---- the entry's own name: the first of several that is not empty
 
 own-or : (r : List ℕ) (other : Outcome (List ℕ)) → (length r ≡ 0 → ⊥) → if_empty r other ≡ done r
@@ -243,14 +239,14 @@ module _ {s : List ℕ} {p n st : ℕ} {r : List ℕ} (read : NameRead s p n st 
   unfolding name_then bytes_given
   own-refused ns h = rw (ne_eqb st 0 h) (rw (ne_eqb st 0 h) at (own_is ns))
 
-  pub own-found : (ns : List ℕ) → st ≡ 0 → (length r ≡ 0 → ⊥) → bytes_given st r ≡ own_name (entry_here s p) (n ∷ ns)
+  pub own-found : (ns : List ℕ) {v : Bool} → st ≡ 0 → v ≡ (length r == 0) → v ≡ false → bytes_given st r ≡ own_name (entry_here s p) (n ∷ ns)
   unfolding name_then bytes_given
-  own-found ns z h = rw (eq-eqb st 0 z) (sym (own-or r (own_name (entry_here s p) ns) h) ∙ rw (eq-eqb st 0 z) at (own_is ns))
+  own-found ns z e h = rw (eq-eqb st 0 z) (sym (own-or r (own_name (entry_here s p) ns) (eqb-false (length r) 0 (sym e ∙ h))) ∙ rw (eq-eqb st 0 z) at (own_is ns))
 
-  pub own-later : (ns : List ℕ) (st' : ℕ) (r' : List ℕ) → st ≡ 0 → length r ≡ 0 → bytes_given st' r' ≡ own_name (entry_here s p) ns
+  pub own-later : (ns : List ℕ) (st' : ℕ) (r' : List ℕ) {v : Bool} → st ≡ 0 → v ≡ (length r == 0) → v ≡ true → bytes_given st' r' ≡ own_name (entry_here s p) ns
       → bytes_given st' r' ≡ own_name (entry_here s p) (n ∷ ns)
   unfolding name_then
-  own-later ns st' r' z h later = later ∙ sym (own-empty r (own_name (entry_here s p) ns) h) ∙ rw (eq-eqb st 0 z) at (own_is ns)
+  own-later ns st' r' z e h later = later ∙ sym (own-empty r (own_name (entry_here s p) ns) (eqb-true (length r) 0 (sym e ∙ h))) ∙ rw (eq-eqb st 0 z) at (own_is ns)
 
   pub own-last : bytes_given st r ≡ own_name (entry_here s p) (n ∷ [])
   unfolding name_then bytes_given own_name

@@ -15,7 +15,7 @@ use Rattle.tlv.specs.Model.{units}
 use Rattle.tlv.proofs.TestLaws.{by_test, and_left}
 use Rattle.tlv.proofs.AnswerLaws.{ok-some, err-none}
 use Rattle.buffers.specs.Table.{records}
-use Rattle.std.specs.Prelude.{Result, Some, None, Ok, Err, ok_or}
+use Rattle.std.specs.Prelude.{Some, None, Ok, Err, ok_or}
 use Rattle.tlv.specs.declared.refusal.Refusal.{Refusal}
 use Rattle.std.specs.declared.option.Option.{Option as Given}
 use Rattle.access.specs.declared.index.EntryPlace.{EntryPlace}
@@ -52,8 +52,8 @@ module _ {A : Type 0} (t : A → Bool) (a : A) where
 
 -- ---- the tables
 
-pub index-table-rising : {s w : List ℕ} {x : Index} → IndexIn s w x → Rising (records indexed_of 16 w x.entries x.entry_count)
-index-table-rising {s} {w} {x} I = table-rising s w x.entries x.entry_count I.number I.accepted I.entries
+pub index-table-rising : {s w : List ℕ} {x : Index} → IndexIn s w x → Rising (records indexed_of 16 w x.entries.base x.entries.count)
+index-table-rising {s} {w} {x} I = table-rising s w x.entries.base x.entries.count I.number I.accepted I.entries
 
 -- the places of a unit's table are those of the sheet
 module _ (s : List ℕ) (o q : ℕ) (found : containing o (map (indexed_unit s) (unit_places 0 (fields s))) ≡ some q) where
@@ -86,7 +86,7 @@ entry_known s x e found = record { entry = e; listed = first_any (λ d. eqb d.of
 
 module _ {s w : List ℕ} {x : Index} (I : IndexIn s w x) (o : ℕ) where
   -- the unit
-  module _ (r : Given ℕ) (e : place_of r ≡ containing o (records unit_of24 24 w x.units x.unit_count)) where
+  module _ (r : Given ℕ) (e : place_of r ≡ containing o (records unit_of24 24 w x.units.base x.units.count)) where
     place_is : place_of r ≡ containing o (map (indexed_unit s) (unit_places 0 (fields s)))
     place_is = e ∙ ap (containing o) I.units
 
@@ -94,13 +94,13 @@ module _ {s w : List ℕ} {x : Index} (I : IndexIn s w x) (o : ℕ) where
     leads_outside is = record { is = unit-none s o (sym (rw is at place_is)) }
 
     -- no entry of the unit starts there
-    pub leads_no-entry : (q : ℕ) → r ≡ Some q → found_of o None ≡ lookup o (records indexed_of 16 w x.entries x.entry_count) → Leads s o (Err Refusal.NoEntry)
+    leads_no-entry : (q : ℕ) → r ≡ Some q → found_of o None ≡ lookup o (records indexed_of 16 w x.entries.base x.entries.count) → Leads s o (Err Refusal.NoEntry)
     unfolding entry_at entry_in
     leads_no-entry q is answer =
         let found = sym (rw is at place_is) in
         let low = unit-low s o q found in
         let sum : (unit_here s q).offset + (o - (unit_here s q).offset) ≡ o = omega arith in
-        let gone = answer-missing s w x.entries x.entry_count o I.entries answer in
+        let gone = answer-missing s w x.entries.base x.entries.count o I.entries answer in
         record {
           is = (
             refl,
@@ -112,7 +112,7 @@ module _ {s w : List ℕ} {x : Index} (I : IndexIn s w x) (o : ℕ) where
           );
         }
 
-    pub leads-missing : (q : ℕ) → r ≡ Some q → (f : Given EntryPlace) → found_of o f ≡ lookup o (records indexed_of 16 w x.entries x.entry_count)
+    pub leads-missing : (q : ℕ) → r ≡ Some q → (f : Given EntryPlace) → found_of o f ≡ lookup o (records indexed_of 16 w x.entries.base x.entries.count)
         → {e : Refusal} → Err e ≡ ok_or f Refusal.NoEntry → Leads s o (Err e)
     leads-missing q is f answer made =
         let none = err-none f made in
@@ -124,14 +124,14 @@ module _ {s w : List ℕ} {x : Index} (I : IndexIn s w x) (o : ℕ) where
     unfolding entry_at
     own-entry = ap or_no_entry (index-finds s I.number q own I.accepted listed) ∙ rw sum
 
-    pub leads_in-missing : found_of o None ≡ lookup o (records indexed_of 16 w x.entries x.entry_count) → LeadsIn s q own None
+    pub leads_in-missing : found_of o None ≡ lookup o (records indexed_of 16 w x.entries.base x.entries.count) → LeadsIn s q own None
     unfolding entry_in
-    leads_in-missing answer = record { is = own-entry ∙ rw (answer-missing s w x.entries x.entry_count o I.entries answer) }
+    leads_in-missing answer = record { is = own-entry ∙ rw (answer-missing s w x.entries.base x.entries.count o I.entries answer) }
 
   -- the entry
-  module _ (f : EntryPlace) (answer : found_of o (Some f) ≡ lookup o (records indexed_of 16 w x.entries x.entry_count)) where
+  module _ (f : EntryPlace) (answer : found_of o (Some f) ≡ lookup o (records indexed_of 16 w x.entries.base x.entries.count)) where
     found : lookup o (entry_index 0 0 0 (fields s)) ≡ some (record { offset = o; place = f.place; unit = f.unit })
-    found = answer_at s w x.entries x.entry_count o I.entries f answer
+    found = answer_at s w x.entries.base x.entries.count o I.entries f answer
 
     pub leads_at : Leads s o (Ok (Some f))
     unfolding entry_at
@@ -161,7 +161,7 @@ module _ {s w : List ℕ} {x : Index} (I : IndexIn s w x) (o : ℕ) where
       }
 
   -- as `ok_or` has it
-  pub leads-found : (f : Given EntryPlace) {v : EntryPlace} → found_of o f ≡ lookup o (records indexed_of 16 w x.entries x.entry_count) → Ok v ≡ ok_or f Refusal.NoEntry
+  pub leads-found : (f : Given EntryPlace) {v : EntryPlace} → found_of o f ≡ lookup o (records indexed_of 16 w x.entries.base x.entries.count) → Ok v ≡ ok_or f Refusal.NoEntry
       → Leads s o (Ok (Some v))
   leads-found f {v} answer made = leads_at v (rw (ok-some f _ made) at answer)
 

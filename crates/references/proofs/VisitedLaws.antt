@@ -1,12 +1,16 @@
 -- A target among those that a search has followed: whether a record is it, and the turns of the loop over them.
-use mathlib.Core.Path.{◌≡◌, refl, sym, ◌∙◌}
-use mathlib.Core.Bool.{Bool, true, false, cond, ◌&&◌, not}
+use mathlib.Core.Path.{◌≡◌, refl, sym, ap, ◌∙◌}
+use mathlib.Core.Bool.{Bool, true, false, cond, ◌&&◌, ◌||◌}
+use Rattle.std.specs.List.{list_any, range_with_len}
 use mathlib.Core.List.{List, ◌∷◌}
-use Prim.Native.Nat.{ℕ, zero, suc, ◌+◌, ◌-◌, ◌*◌, ◌≤◌, ◌<◌}
+use Prim.Native.Nat.{ℕ, zero, suc, ◌+◌, ◌-◌, ◌*◌, ◌<◌}
 use native.Mathlib.Omega.{arith}
 use lib.Dec.{eqb}
+use denote.Enum.Bare.{sameb}
 use borrow.Author.Tests.{eq-eqb, ne_eqb}
 use Rattle.tlv.specs.declared.model.DebugSource.{DebugSource}
+use Rattle.tlv.specs.contracts.model.DebugSource.{the_type}
+use Rattle.tlv.specs.Sources.{source_of_byte}
 use Rattle.tlv.specs.Lists.{exists}
 use Rattle.tlv.specs.Bytes.{le_at}
 use Rattle.buffers.specs.Table.{chunk}
@@ -41,47 +45,45 @@ module _ (w : List ℕ) (p : ℕ) (source : DebugSource) (offset v : ℕ) (ev : 
   key-other h = rw (key_is w p (le_at 1 w p) v refl (sym ev)) (offsets-differ (key_in source offset) (record { source = cond (eqb (le_at 1 w p) 0) main_source supplementary_source; offset = v }) (λ e. h (sym e ∙ offset-in source offset)))
 
   module _ (b : ℕ) (same : v ≡ offset) (eb : b ≡ le_at 1 w p) where
-    is-main : (c : Bool) → c ≡ (same_source main_source (cond c main_source supplementary_source) && true)
-    is-main true = refl
-    is-main false = refl
+    is-source : (source : DebugSource) (c : Bool) → sameb the_type (cond c DebugSource.Main DebugSource.Supplementary) source ≡ (same_source (key_in source offset).source (cond c main_source supplementary_source) && true)
+    is-source DebugSource.Main true = refl
+    is-source DebugSource.Main false = refl
+    is-source DebugSource.Supplementary true = refl
+    is-source DebugSource.Supplementary false = refl
 
-    is-supplementary : (c : Bool) → not c ≡ (same_source supplementary_source (cond c main_source supplementary_source) && true)
-    is-supplementary true = refl
-    is-supplementary false = refl
+    -- the byte that was read is the source's
+    pub key_source : {r : DebugSource} {t : Bool} → r ≡ source_of_byte b → t ≡ sameb the_type r source → t ≡ same_key (key_in source offset) (key_of (chunk w p 9))
+    key_source is e = e ∙ rw (key_is w p b v (sym eb) (sym ev), is, eq-eqb (key_in source offset).offset v (offset-in source offset ∙ sym same)) (is-source source (eqb b 0))
 
-    pub key_main : source ≡ DebugSource.Main → eqb b 0 ≡ same_key (key_in source offset) (key_of (chunk w p 9))
-    key_main is = rw (key_is w p b v (sym eb) (sym ev), is, eq-eqb offset v (sym same)) (is-main (eqb b 0))
-
-    pub key-supplementary : source ≡ DebugSource.Supplementary → not (eqb b 0) ≡ same_key (key_in source offset) (key_of (chunk w p 9))
-    key-supplementary is = rw (key_is w p b v (sym eb) (sym ev), is, eq-eqb offset v (sym same)) (is-supplementary (eqb b 0))
-
--- ---- whether a key is among those at base: the loop counts down
+-- ---- whether a key is among those at base
 
 pub keys_step : (w : List ℕ) (base i : ℕ) → 0 < i → keys_at w base i ≡ key_of (chunk w (base + (i - 1) * 13) 9) ∷ keys_at w base (i - 1)
 unfolding keys_at
 keys_step w base zero h = absurd (omega arith)
 keys_step w base (suc j) h = let z : suc j - 1 ≡ j = omega arith in rw z
 
--- a target is among the n exactly if it is among the first i
-pub record Looking (w : List ℕ) (base n : ℕ) (source : DebugSource) (offset i : ℕ) : Type 0 where
-  pub left : i ≤ n
-  pub same : exists (same_key (key_in source offset)) (keys_at w base n) ≡ exists (same_key (key_in source offset)) (keys_at w base i)
+-- of a or b or c, in another order
+or_swap : (a b c : Bool) → (a || (b || c)) ≡ (b || (a || c))
+or_swap true true c = refl
+or_swap true false c = refl
+or_swap false b c = refl
 
-pub looking-start : (w : List ℕ) (base n : ℕ) (source : DebugSource) (offset : ℕ) → Looking w base n source offset n
-looking-start w base n source offset = record { left = omega arith; same = refl }
+or_else : (a b : Bool) → (a || b) ≡ cond a true b
+or_else true b = refl
+or_else false b = refl
 
-module _ {w : List ℕ} {base n : ℕ} {source : DebugSource} {offset i : ℕ} (L : Looking w base n source offset i) where
-  pub looking-done : i ≤ 0 → false ≡ exists (same_key (key_in source offset)) (keys_at w base n)
-  unfolding keys_at exists
-  looking-done h = let z : i ≡ 0 = omega arith in sym (L.same ∙ rw z)
+-- the last number of a range is looked at first
+any_more : (f : ℕ → Bool) (a n : ℕ) → list_any f (range_with_len a (suc n)) ≡ (f (a + n) || list_any f (range_with_len a n))
+any_more f a zero = let z : a + 0 ≡ a = omega arith in rw z
+any_more f a (suc n) =
+    let z : a + suc n ≡ a + 1 + n = omega arith in
+    ap (λ b. f a || b) (any_more f (a + 1) n) ∙ rw z (or_swap (f a) (f (a + 1 + n)) (list_any f (range_with_len (a + 1) n)))
 
-  module _ (more : 0 < i) (r : Bool) (e : r ≡ same_key (key_in source offset) (key_of (chunk w (base + (i - 1) * 13) 9))) where
-    turn : exists (same_key (key_in source offset)) (keys_at w base n) ≡ cond r true (exists (same_key (key_in source offset)) (keys_at w base (i - 1)))
-    unfolding exists
-    turn = L.same ∙ rw (keys_step w base i more, e)
-
-    pub looking-found : r ≡ true → true ≡ exists (same_key (key_in source offset)) (keys_at w base n)
-    looking-found is = sym (rw is at turn)
-
-    pub looking-turn : r ≡ false → Looking w base n source offset (i - 1)
-    looking-turn is = let l = L.left in record { left = omega arith; same = rw is at turn }
+-- a look at each by its number
+pub scanned_is : (w : List ℕ) (base n : ℕ) (k : DieKey) → list_any (λ i. same_key k (key_of (chunk w (base + i * 13) 9))) (range_with_len 0 n) ≡ exists (same_key k) (keys_at w base n)
+unfolding keys_at exists
+scanned_is w base zero k = refl
+scanned_is w base (suc n) k =
+    let z : 0 + n ≡ n = omega arith in
+    any_more (λ i. same_key k (key_of (chunk w (base + i * 13) 9))) 0 n
+    ∙ rw (z, scanned_is w base n k) (or_else (same_key k (key_of (chunk w (base + n * 13) 9))) (exists (same_key k) (keys_at w base n)))

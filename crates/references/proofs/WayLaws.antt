@@ -67,19 +67,19 @@ sum_is u o t e = go (ltb (u.offset + o) (2 ^ 64)) e
 module _ {main supplementary w s : List ℕ} {x : Tables} {n : ℕ} {at : EntryAt} (o : ℕ) (S : SearchIn main supplementary w x n) (A : Stands main supplementary at)
     (is : s ≡ source_in main supplementary at.input) where
   -- what is asked on the way
-  pub way-listed : Any (λ q. q ≡ at.unit) (unit_places 0 (fields s))
+  pub way-listed : Any (λ q. q ≡ at.entry.unit) (unit_places 0 (fields s))
   way-listed = rw is (stands_unit S A)
 
-  pub way_overflow : (r : Refusal) → refused (number_of r) ≡ absolute_entry_offset (unit_here s at.unit) o → Ways (follow_unit_from main supplementary at o) main supplementary w x n at.left (Err r)
+  pub way_overflow : (r : Refusal) → refused (number_of r) ≡ absolute_entry_offset (unit_here s at.entry.unit) o → Ways (follow_unit_from main supplementary at o) main supplementary w x n at.left (Err r)
   unfolding follow_unit_from follow_unit ◌>>=◌
   way_overflow r e = record { is = λ k. rw (← is, ← e) }
 
-  module _ {target : ℕ} (e : done target ≡ absolute_entry_offset (unit_here s at.unit) o) where
-    there : absolute_entry_offset (unit_here (source_in main supplementary at.input) at.unit) o ≡ done target
+  module _ {target : ℕ} (e : done target ≡ absolute_entry_offset (unit_here s at.entry.unit) o) where
+    there : absolute_entry_offset (unit_here (source_in main supplementary at.input) at.entry.unit) o ≡ done target
     there = rw is at (sym e)
 
-    pub way_sum : target ≡ (unit_here s at.unit).offset + o
-    way_sum = sum_is (unit_here s at.unit) o target e
+    pub way_sum : target ≡ (unit_here s at.entry.unit).offset + o
+    way_sum = sum_is (unit_here s at.entry.unit) o target e
 
     module _ (v : Bool) (seen : v ≡ exists (same_key (key_in at.source target)) (keys_at w (keys_from x) n)) where
       follows : (t : Trail) → follow_unit_from main supplementary at o t ≡ unit_step (place_at main supplementary at) o t (key_in at.source target)
@@ -90,13 +90,13 @@ module _ {main supplementary w s : List ℕ} {x : Tables} {n : ℕ} {at : EntryA
       way_seen y = record { is = λ k. follows _ ∙ rw (← seen, y) }
 
       module _ (new : v ≡ false) where
-        pub way_no-entry : LeadsIn s at.unit o None → Ways (follow_unit_from main supplementary at o) main supplementary w x n at.left (Err Refusal.NoEntry)
+        pub way_no-entry : LeadsIn s at.entry.unit o None → Ways (follow_unit_from main supplementary at o) main supplementary w x n at.left (Err Refusal.NoEntry)
         unfolding ◌>>=◌
         way_no-entry L = record { is = λ k. follows _ ∙ rw (← seen, new, rw is at L.is) }
 
-        pub way-entry : {p : ℕ} → LeadsIn s at.unit o (Some p) → PossibleKey main supplementary (key_in at.source ((unit_here (source_in main supplementary at.input) at.unit).offset + o))
+        pub way-entry : {p : ℕ} → LeadsIn s at.entry.unit o (Some p) → PossibleKey main supplementary (key_in at.source ((unit_here (source_in main supplementary at.input) at.entry.unit).offset + o))
             → Ways (follow_unit_from main supplementary at o) main supplementary w x n at.left
-            (Ok (Some (Way.Entry (record { input = at.input; source = at.source; unit = at.unit; place = p; left = at.left - 1 }) target)))
+            (Ok (Some (Way.Entry (record { input = at.input; source = at.source; entry = record { place = p; unit = at.entry.unit }; left = at.left - 1 }) target)))
         unfolding ◌>>=◌
         way-entry L possible =
             let leads = rw is at L.is in
@@ -138,8 +138,8 @@ from-none d [] t o DebugSource.Supplementary h = refl
 from-none d (u ∷ us) t o input h = absurd (let z : ⊥ = omega arith in z)
 
 module _ {main supplementary w s : List ℕ} {x : Tables} {n : ℕ} {at : EntryAt} (name : ℕ) (S : SearchIn main supplementary w x n) (A : Stands main supplementary at)
-    (is : s ≡ source_in main supplementary at.input) {r : Given Reference} (e : r ≡ reference_of (attribute (entry_here s at.place) name)) where
-  pub reference-is : {q : Given Reference} → r ≡ q → reference_of (attribute (entry_here (source_in main supplementary at.input) at.place) name) ≡ q
+    (is : s ≡ source_in main supplementary at.input) {r : Given Reference} (e : r ≡ reference_of (attribute (entry_here s at.entry.place) name)) where
+  pub reference-is : {q : Given Reference} → r ≡ q → reference_of (attribute (entry_here (source_in main supplementary at.input) at.entry.place) name) ≡ q
   reference-is to = sym (rw is at e) ∙ to
 
   followed : (q : Given Reference) → r ≡ q → (t : Trail) → follow_from main supplementary at name t ≡ follow_by (dwarf_of main supplementary) (place_at main supplementary at) t q
@@ -169,26 +169,26 @@ module _ {main supplementary w s : List ℕ} {x : Tables} {n : ℕ} {at : EntryA
       sourced DebugSource.Main = refl
       sourced DebugSource.Supplementary = tt
 
-      possible : (input : DebugSource) → EntryKnown (source_in main supplementary input) at.unit at.place
-          → reference_of (attribute (entry_here (source_in main supplementary input) at.place) name) ≡ Some (Reference.Section o) → PossibleKey main supplementary (key_in DebugSource.Main o)
+      possible : (input : DebugSource) → EntryKnown (source_in main supplementary input) at.entry.unit at.entry.place
+          → reference_of (attribute (entry_here (source_in main supplementary input) at.entry.place) name) ≡ Some (Reference.Section o) → PossibleKey main supplementary (key_in DebugSource.Main o)
       possible DebugSource.Main known is = possible-main_section name S.main-index.accepted known is
       possible DebugSource.Supplementary known is = possible-supplementary_section name S.supplementary-index.accepted known is
 
   -- how many units the supplementary sheet has
-  unit-number : length (units supplementary) ≡ x.supplementary.unit_count
+  unit-number : length (units supplementary) ≡ x.supplementary.units.count
   unit-number =
       let places = unit_places 0 (fields supplementary) in
       ap length (units-places supplementary) ∙ length-map places (unit_here supplementary) ∙ sym (length-map places (indexed_unit supplementary))
-      ∙ sym (ap length S.supplementary-index.units) ∙ records-length unit_of24 24 w x.supplementary.units x.supplementary.unit_count
+      ∙ sym (ap length S.supplementary-index.units) ∙ records-length unit_of24 24 w x.supplementary.units.base x.supplementary.units.count
 
   module _ (o : ℕ) (to : r ≡ Some (Reference.Supplementary o)) where
-    pub way_no-units : x.supplementary.unit_count ≡ 0 → Ways (follow_from main supplementary at name) main supplementary w x n at.left (Ok None)
+    pub way_no-units : x.supplementary.units.count ≡ 0 → Ways (follow_from main supplementary at name) main supplementary w x n at.left (Ok None)
     way_no-units z = record { is = λ k. followed (Some (Reference.Supplementary o)) to _ ∙ from-none (dwarf_of main supplementary) (units supplementary) _ o at.input (unit-number ∙ z) }
 
     pub way-inside : at.input ≡ DebugSource.Supplementary → Ways (follow_from main supplementary at name) main supplementary w x n at.left (Ok None)
     way-inside z = record { is = λ k. followed (Some (Reference.Supplementary o)) to _ ∙ rw z }
 
-    pub way-supplementary : at.input ≡ DebugSource.Main → (x.supplementary.unit_count ≡ 0 → ⊥)
+    pub way-supplementary : at.input ≡ DebugSource.Main → (x.supplementary.units.count ≡ 0 → ⊥)
         → Ways (follow_from main supplementary at name) main supplementary w x n at.left
         (Ok (Some (Way.Offset (record { input = DebugSource.Supplementary; source = DebugSource.Supplementary; target = o; left = at.left - 1 }))))
     way-supplementary z some-units = record {

@@ -36,7 +36,7 @@ source_byte DebugSource.Supplementary = 1
 -- ---- the chains of a hash table over the keys: the heads stand first, 4 bytes each, and the records behind them
 
 abbrev pub chain_count : Tables → ℕ
-chain_count x = x.main.entry_count + x.supplementary.entry_count + 1
+chain_count x = x.main.entries.count + x.supplementary.entries.count + 1
 
 -- where the records stand
 abbrev pub keys_from : Tables → ℕ

@@ -9,6 +9,7 @@ use Rattle.tlv.specs.Outcome.{Outcome, refused, done}
 use Rattle.tlv.specs.Lists.{exists, is_empty}
 use Rattle.tlv.specs.Model.{CompilationUnit, Entry, Attribute, units}
 use Rattle.buffers.specs.Table.{Kept}
+use Rattle.access.specs.declared.index.EntryPlace.{EntryPlace}
 use Rattle.access.specs.Places.{entry_here, unit_here}
 use Rattle.access.specs.Units.{unit_record}
 use Rattle.access.specs.Index.{entry_record}
@@ -44,13 +45,17 @@ abbrev pub place_at : List ℕ → List ℕ → EntryAt → Place
 place_at main supplementary at = record {
   input = search_source at.input;
   source = search_source at.source;
-  unit = unit_here (source_in main supplementary at.input) at.unit;
-  entry = entry_here (source_in main supplementary at.input) at.place;
+  unit = unit_here (source_in main supplementary at.input) at.entry.unit;
+  entry = entry_here (source_in main supplementary at.input) at.entry.place;
 }
 
 -- an entry of the main sheet, where a search starts
-abbrev pub start_at : ℕ → ℕ → EntryAt
-start_at q p = record { input = DebugSource.Main; source = DebugSource.Main; unit = q; place = p; left = chain_limit }
+abbrev pub start_at : EntryPlace → EntryAt
+start_at e = record { input = DebugSource.Main; source = DebugSource.Main; entry = e; left = chain_limit }
+
+-- at the entry of an offset that it followed
+abbrev pub at_entry : OffsetAt → EntryPlace → EntryAt
+at_entry at e = record { input = at.input; source = at.source; entry = e; left = at.left }
 
 -- entries of the main sheet are remembered under no other source
 abbrev pub Sourced : DebugSource → DebugSource → Type 0
@@ -58,9 +63,9 @@ Sourced DebugSource.Main source = source ≡ DebugSource.Main
 Sourced DebugSource.Supplementary source = Unit
 
 -- a search can stand there
--- Stays a clause: it ties a place to the sheets, which the tables hold and a place does not
+-- Stays a clause: it ties a place to the sheets, which the tables hold and a place does not.
 pub record Stands (main supplementary : List ℕ) (at : EntryAt) : Type 0 where
-  pub known : EntryKnown (source_in main supplementary at.input) at.unit at.place
+  pub known : EntryKnown (source_in main supplementary at.input) at.entry.unit at.entry.place
   pub sourced : Sourced at.input at.source
 
 -- a search can come to follow that offset
@@ -73,15 +78,15 @@ abbrev pub trail_at : List ℕ → ℕ → ℕ → ℕ → Trail
 trail_at w base n reads = record { visited = keys_at w base n; reads = reads }
 
 -- both sheets' tables stand in w, below the n followed targets, for which there is room
--- Stays a clause: it speaks of the work slice, which is written between two calls
+-- Stays a clause: it speaks of the work slice, which is written between two calls.
 pub record SearchIn (main supplementary w : List ℕ) (x : Tables) (n : ℕ) : Type 0 where
   pub main-index : IndexIn main w x.main
   pub supplementary-index : IndexIn supplementary w x.supplementary
   pub keys : KeysIn main supplementary w x n
-  pub main-units : x.main.units + unit_record * x.main.unit_count ≤ x.keys
-  pub main-entries : x.main.entries + entry_record * x.main.entry_count ≤ x.keys
-  pub supplementary-units : x.supplementary.units + unit_record * x.supplementary.unit_count ≤ x.keys
-  pub supplementary-entries : x.supplementary.entries + entry_record * x.supplementary.entry_count ≤ x.keys
+  pub main-units : x.main.units.base + unit_record * x.main.units.count ≤ x.keys
+  pub main-entries : x.main.entries.base + entry_record * x.main.entries.count ≤ x.keys
+  pub supplementary-units : x.supplementary.units.base + unit_record * x.supplementary.units.count ≤ x.keys
+  pub supplementary-entries : x.supplementary.entries.base + entry_record * x.supplementary.entries.count ≤ x.keys
 
 -- ---- how a search goes on from a reference; f follows it
 

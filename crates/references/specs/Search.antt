@@ -253,13 +253,8 @@ warn_declaration kind u e n s = absolute_entry_offset u e.offset >>= λ o.
 abbrev pub declaration_of : CompilationUnit → Entry → ℕ → ℕ → Option FileIndex → Declaring → Outcome Declaring
 declaration_of u e file line none s = warn_declaration invalid_declaration_file u e file s
 declaration_of u e file line (some i) s =
-    cond (ltb line (2 ^ 32)) (done (with_found s (some (record {
-      address =
-          0;
-      file = i;
-      line = line;
-      column = 0;
-    })))) (warn_declaration invalid_declaration_line u e line s)
+    cond (ltb line (2 ^ 32)) (done (with_found s (some (record { address = 0; file = i; line = line; column = 0 }))))
+    (warn_declaration invalid_declaration_line u e line s)
 
 abbrev pub declaration_from : CompilationUnit → Entry → FileIndices → Option ℕ → Option ℕ → Declaring → Outcome Declaring
 declaration_from u e is none line s = done s

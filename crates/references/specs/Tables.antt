@@ -23,13 +23,13 @@ use Rattle.references.specs.Search.{attribute, if_empty, name_from, own_name, na
 pub record IndexIn (s w : List ℕ) (x : Index) : Type 0 where
   pub number : ℕ
   pub accepted : Accepts s number
-  pub units : records unit_of24 24 w x.units x.unit_count ≡ map (indexed_unit s) (unit_places 0 (fields s))
-  pub entries : records indexed_of 16 w x.entries x.entry_count ≡ entry_index 0 0 0 (fields s)
-  pub units-within : x.units + unit_record * x.unit_count ≤ length w
-  pub entries-within : x.entries + entry_record * x.entry_count ≤ length w
+  pub units : records unit_of24 24 w x.units.base x.units.count ≡ map (indexed_unit s) (unit_places 0 (fields s))
+  pub entries : records indexed_of 16 w x.entries.base x.entries.count ≡ entry_index 0 0 0 (fields s)
+  pub units-within : x.units.base + unit_record * x.units.count ≤ length w
+  pub entries-within : x.entries.base + entry_record * x.entries.count ≤ length w
 
 -- the entry at place p of the unit at place q
--- Stays a clause: most functions that ask for it hold the tables too, to whose sheet and unit an entry with a sheet of its own would be tied by two equations
+-- Stays a clause: an entry that held its sheet would have to be told equal to the sheet of the tables, which most of these functions take too.
 pub record EntryKnown (s : List ℕ) (q p : ℕ) : Type 0 where
   pub entry : IndexedEntry
   pub listed : Any (λ e. e ≡ entry) (entry_index 0 0 0 (fields s))

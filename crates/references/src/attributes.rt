@@ -8,6 +8,7 @@ ghost use Rattle.references.specs.Search.{attribute, unsigned_attribute, file_in
 ghost use Rattle.references.specs.Tables.{EntryKnown, reference_of, reference_in, number_given, file_number_in, line_number_in, NameRead, OwnNamed, bytes_of};
 
 use access::access::Value;
+use access::index::EntryPlace;
 use tlv::constants::{DW_AT_LINKAGE_NAME, DW_AT_MIPS_LINKAGE_NAME, DW_AT_NAME};
 use tlv::refusal::Refusal;
 use tlv::tags::ENTRY_WHOLE;
@@ -20,13 +21,13 @@ pub enum Reference {
     Supplementary(u64),
 }
 
-// The value of the attribute of a name of the entry at place p.
-pub fn attribute_at(s: &[u8], unit: usize, p: usize, name: u16) -> Option<Value>
+// The value of the attribute of a name of an entry.
+pub fn attribute_at(s: &[u8], entry: EntryPlace, name: u16) -> Option<Value>
     requires placed { Placed s.now 0 }
-    requires entry_known { EntryKnown s.now unit p }
-    ensures { Says s.now result (meaning_of (attribute (entry_here s.now p) name)) }
+    requires entry_known { EntryKnown s.now entry.unit entry.place }
+    ensures { Says s.now result (meaning_of (attribute (entry_here s.now entry.place) name)) }
 {
-    access::access::attribute(s, p + ENTRY_WHOLE, name)
+    access::access::attribute(s, entry.place + ENTRY_WHOLE, name)
 }
 
 // The reference that a value is.
@@ -41,13 +42,13 @@ fn reference_of(v: Option<Value>) -> Option<Reference>
     }
 }
 
-// The reference that the attribute of a name of the entry at place p is.
-pub fn reference_at(s: &[u8], unit: usize, p: usize, name: u16) -> Option<Reference>
+// The reference that the attribute of a name of an entry is.
+pub fn reference_at(s: &[u8], entry: EntryPlace, name: u16) -> Option<Reference>
     requires placed { Placed s.now 0 }
-    requires entry_known { EntryKnown s.now unit p }
-    ensures { result ≡ reference_of (attribute (entry_here s.now p) name) }
+    requires entry_known { EntryKnown s.now entry.unit entry.place }
+    ensures { result ≡ reference_of (attribute (entry_here s.now entry.place) name) }
 {
-    reference_of(attribute_at(s, unit, p, name))
+    reference_of(attribute_at(s, entry, name))
 }
 
 // The file number that a value is.
@@ -70,31 +71,32 @@ fn line_number_in(v: Option<Value>) -> Option<u64>
     }
 }
 
-// The file number that the attribute of a name of the entry at place p is.
-pub fn file_index_attribute(s: &[u8], unit: usize, p: usize, name: u16) -> Option<u64>
+// The file number that the attribute of a name of an entry is.
+pub fn file_index_attribute(s: &[u8], entry: EntryPlace, name: u16) -> Option<u64>
     requires placed { Placed s.now 0 }
-    requires entry_known { EntryKnown s.now unit p }
-    ensures { result ≡ number_given (file_index_attribute (entry_here s.now p) name) }
+    requires entry_known { EntryKnown s.now entry.unit entry.place }
+    ensures { result ≡ number_given (file_index_attribute (entry_here s.now entry.place) name) }
 {
-    file_number_in(attribute_at(s, unit, p, name))
+    file_number_in(attribute_at(s, entry, name))
 }
 
-// The unsigned number that the attribute of a name of the entry at place p is.
-pub fn unsigned_attribute(s: &[u8], unit: usize, p: usize, name: u16) -> Option<u64>
+// The unsigned number that the attribute of a name of an entry is.
+pub fn unsigned_attribute(s: &[u8], entry: EntryPlace, name: u16) -> Option<u64>
     requires placed { Placed s.now 0 }
-    requires entry_known { EntryKnown s.now unit p }
-    ensures { result ≡ number_given (unsigned_attribute (entry_here s.now p) name) }
+    requires entry_known { EntryKnown s.now entry.unit entry.place }
+    ensures { result ≡ number_given (unsigned_attribute (entry_here s.now entry.place) name) }
 {
-    line_number_in(attribute_at(s, unit, p, name))
+    line_number_in(attribute_at(s, entry, name))
 }
 
-// The name that an attribute of the entry at place p is, empty where there is none.
-fn name_at<'a>(s: &'a [u8], unit: usize, p: usize, name: u16) -> Result<&'a [u8], Refusal>
+// The name that an attribute of an entry is, empty where there is none.
+// Stays an empty part, and no Option: the form that document 01 names.
+fn name_at<'a>(s: &'a [u8], entry: EntryPlace, name: u16) -> Result<&'a [u8], Refusal>
     requires placed { Placed s.now 0 }
-    requires entry_known { EntryKnown s.now unit p }
-    ensures { NameRead s.now p name (status_of result) (bytes_of result) }
+    requires entry_known { EntryKnown s.now entry.unit entry.place }
+    ensures { NameRead s.now entry.place name (status_of result) (bytes_of result) }
 {
-    let Some(value) = attribute_at(s, unit, p, name) else {
+    let Some(value) = attribute_at(s, entry, name) else {
         return Ok(&s[..0]);
     };
     match value {
@@ -103,19 +105,20 @@ fn name_at<'a>(s: &'a [u8], unit: usize, p: usize, name: u16) -> Result<&'a [u8]
     }
 }
 
-// The name that the entry at place p has itself: the first that is not empty.
-pub fn own_name<'a>(s: &'a [u8], unit: usize, p: usize) -> Result<&'a [u8], Refusal>
+// The name that an entry has itself: the first that is not empty.
+// Stays three calls, the third the answer: a loop would need an invariant of the names that were empty, which the tests say one by one.
+pub fn own_name<'a>(s: &'a [u8], entry: EntryPlace) -> Result<&'a [u8], Refusal>
     requires placed { Placed s.now 0 }
-    requires entry_known { EntryKnown s.now unit p }
-    ensures { OwnNamed s.now p (status_of result) (bytes_of result) }
+    requires entry_known { EntryKnown s.now entry.unit entry.place }
+    ensures { OwnNamed s.now entry.place (status_of result) (bytes_of result) }
 {
-    let linkage = name_at(s, unit, p, DW_AT_LINKAGE_NAME)?;
-    if linkage.len() != 0 {
+    let linkage = name_at(s, entry, DW_AT_LINKAGE_NAME)?;
+    if !linkage.is_empty() {
         return Ok(linkage);
     }
-    let mips = name_at(s, unit, p, DW_AT_MIPS_LINKAGE_NAME)?;
-    if mips.len() != 0 {
+    let mips = name_at(s, entry, DW_AT_MIPS_LINKAGE_NAME)?;
+    if !mips.is_empty() {
         return Ok(mips);
     }
-    name_at(s, unit, p, DW_AT_NAME)
+    name_at(s, entry, DW_AT_NAME)
 }

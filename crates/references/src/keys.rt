@@ -8,7 +8,7 @@ ghost use Rattle.references.specs.Keys.{key_record};
 
 use crate::tables::Tables;
 use buffers::numbers::Written;
-use buffers::table::fill_zero;
+use buffers::table::{Stored, fill_zero};
 use tlv::bytes::Number;
 use tlv::model::DebugSource;
 
@@ -17,20 +17,35 @@ const KEY_RECORD: usize = 13;
 
 const CHAIN_HEAD: usize = 4;
 
+// So many targets are found as fast by a look at each.
+const FEW_KEYS: usize = 64;
+
+// What a link of 4 bytes cannot number.
+const LINKS: usize = 4294967296;
+
+// An offset's chain comes of its lower 32 bits, multiplied, without the product's lowest 16.
+const HASHED: u64 = 4294967296;
+
+const HASH_FACTOR: u64 = 2654435761;
+
+const HASH_DROPPED: u64 = 65536;
+
+// A target that a search follows: the source that it is remembered under, and its offset in the section.
+#[derive(Clone, Copy, Debug)]
+pub struct Key {
+    pub source: DebugSource,
+    pub offset: u64,
+}
+
 // Whether the key at place p is a target.
-fn is_key(work: &[u8], p: usize, source: DebugSource, offset: u64) -> bool
+fn is_key(work: &[u8], p: usize, key: Key) -> bool
     requires { p + 9 ≤ length work.now }
-    ensures { result ≡ same_key (key_in source offset) (key_of (chunk work.now p 9)) }
+    ensures { result ≡ same_key (key_in key.source key.offset) (key_of (chunk work.now p 9)) }
 {
-    if u64::read(work, p + 1) != offset {
+    if u64::read(work, p + 1) != key.offset {
         return false;
     }
-    let first = u8::read(work, p);
-    // Stays a match: any byte but 0 is read as the supplementary sheet's.
-    match source {
-        DebugSource::Main => first == 0,
-        DebugSource::Supplementary => first != 0,
-    }
+    DebugSource::from(u8::read(work, p)) == key.source
 }
 
 // The byte that a source is written as.
@@ -40,12 +55,12 @@ fn source_byte(source: DebugSource) -> u8
     source as u8
 }
 
-// Whether n targets are kept in chains: a few are found as fast by a look at each, and a link numbers no more.
+// Whether n targets are kept in chains.
 #[tactic(auto, unfolding(crate::specs::Keys::many))]
 fn is_many(n: usize) -> bool
     ensures { result ≡ many n }
 {
-    64 < n && n < 4294967296
+    FEW_KEYS < n && n < LINKS
 }
 
 // How many chains there are.
@@ -53,7 +68,7 @@ fn chain_count(x: Tables) -> usize
     requires { keys_from x < 18446744073709551616 }
     ensures { result ≡ chain_count x.entry }
 {
-    x.main.entry_count + x.supplementary.entry_count + 1
+    x.main.entries.count + x.supplementary.entries.count + 1
 }
 
 // The chain of an offset, of n.
@@ -61,7 +76,7 @@ fn chain_of(n: usize, offset: u64) -> usize
     requires { 0 < n }
     ensures { result ≡ chain_of n offset }
 {
-    (offset % 4294967296 * 2654435761 / 65536 % n as u64) as usize
+    (offset % HASHED * HASH_FACTOR / HASH_DROPPED % n as u64) as usize
 }
 
 // Where the targets stand, behind the heads of the chains.
@@ -72,33 +87,33 @@ fn keys_from(x: Tables) -> usize
     x.keys + chain_count(x) * CHAIN_HEAD
 }
 
-// Whether a target is among the n at base, by a look at each.
-fn is_scanned(work: &[u8], base: usize, n: usize, source: DebugSource, offset: u64) -> bool
-    requires { base + n * key_record ≤ length work.now }
-    ensures { result ≡ exists (same_key (key_in source offset)) (keys_at work.now base n) }
+// Whether a target is among some, by a look at each.
+// Stays apart from rows' first_covering: this asks by `any` whether one is there, that by `find` which is the first.
+fn is_scanned(work: &[u8], keys: Stored<Key>, key: Key) -> bool
+    requires { keys.base + keys.count * key_record ≤ length work.now }
+    ensures { result ≡ exists (same_key (key_in key.source key.offset)) (keys_at work.now keys.base keys.count) }
 {
-    for i in (0..n).rev() {
-        if is_key(work, base + i * KEY_RECORD, source, offset) {
-            return true;
-        }
-    }
-    false
+    (0..keys.count).any(
+        |i|
+            requires { keys.base + (i + 1) * key_record ≤ length work.now }
+        { is_key(work, keys.base + i * KEY_RECORD, key) },
+    )
 }
 
 // Whether a target is among the n that were followed: a chain leads from newer to older ones.
-pub fn is_visited(work: &[u8], x: Tables, n: usize, source: DebugSource, offset: u64) -> bool
+pub fn is_visited(work: &[u8], x: Tables, n: usize, key: Key) -> bool
     requires { TrailIn work.now x n 0 }
-    ensures { result ≡ exists (same_key (key_in source offset)) (keys_at work.now (keys_from x.entry) n) }
+    ensures { result ≡ exists (same_key (key_in key.source key.offset)) (keys_at work.now (keys_from x.entry) n) }
 {
     if !is_many(n) {
-        return is_scanned(work, keys_from(x), n, source, offset);
+        return is_scanned(work, Stored::new(keys_from(x), n), key);
     }
-    let c = chain_of(chain_count(x), offset);
+    let c = chain_of(chain_count(x), key.offset);
     let mut k = u32::read(work, x.keys + c * CHAIN_HEAD) as usize;
     // Stays a loop: each target's own link says which is next, so nothing is counted.
     while k != 0 {
         let p = keys_from(x) + (k - 1) * KEY_RECORD;
-        if is_key(work, p, source, offset) {
+        if is_key(work, p, key) {
             return true;
         }
         k = u32::read(work, p + 9) as usize;
@@ -108,8 +123,8 @@ pub fn is_visited(work: &[u8], x: Tables, n: usize, source: DebugSource, offset:
 
 // Makes target i the first of its chain, where the older ones are in chains.
 fn chain_key(work: &mut [u8], x: Tables, i: usize)
-    requires key_record_in_bounds { keys_from x + i * key_record + key_record ≤ length work.old }
-    requires i_bound { i + 1 < 4294967296 }
+    requires keys_fit { keys_from x + i * key_record + key_record ≤ length work.old }
+    requires linkable { i + 1 < 4294967296 }
     requires chained { Chained work.old x i }
     ensures { Chains work.old work.new x.entry (i + 1) }
 {
@@ -124,8 +139,8 @@ fn chain_key(work: &mut [u8], x: Tables, i: usize)
 
 // Makes chains of the first n targets.
 fn chain_keys(work: &mut [u8], x: Tables, n: usize)
-    requires key_record_in_bounds { keys_from x + n * key_record ≤ length work.old }
-    requires n_bound { n < 4294967296 }
+    requires keys_fit { keys_from x + n * key_record ≤ length work.old }
+    requires linkable { n < 4294967296 }
     ensures { Chains work.old work.new x.entry n }
 {
     let base = keys_from(x);
@@ -136,13 +151,13 @@ fn chain_keys(work: &mut [u8], x: Tables, n: usize)
 }
 
 // Writes a target behind n others.
-pub fn push_key(work: &mut [u8], x: Tables, n: usize, source: DebugSource, offset: u64)
+pub fn push_key(work: &mut [u8], x: Tables, n: usize, key: Key)
     requires { TrailIn work.old x n 1 }
-    ensures { Pushed work.old work.new x.entry n (key_in source offset) }
+    ensures { Pushed work.old work.new x.entry n (key_in key.source key.offset) }
 {
     let p = keys_from(x) + n * KEY_RECORD;
-    source_byte(source).write(work, p);
-    offset.write(work, p + 1);
+    source_byte(key.source).write(work, p);
+    key.offset.write(work, p + 1);
     if !is_many(n + 1) {
         return;
     }

@@ -9,10 +9,11 @@ ghost use Rattle.references.specs.Names.{dwarf_of, search_source, place_at, Stan
 ghost use Rattle.references.specs.Names.{referred_name, resolve_absolute_name, start_at, Resolved};
 
 use crate::attributes::own_name;
-use crate::keys::{is_visited, push_key};
-use crate::tables::{Tables, target_at};
-use crate::trails::Trail;
+use crate::keys::{Key, is_visited, push_key};
+use crate::tables::Tables;
+use crate::trails::{Counted, Trail};
 use crate::ways::{EntryAt, OffsetAt, Way, way_of};
+use access::index::EntryPlace;
 use tlv::constants::{DW_AT_ABSTRACT_ORIGIN, DW_AT_SPECIFICATION};
 use tlv::model::DebugSource;
 use tlv::refusal::Refusal;
@@ -20,14 +21,7 @@ use tlv::refusal::Refusal;
 // How many entries in a row a search looks at.
 const CHAIN_LIMIT: u8 = 64;
 
-// What a search answered, and how many entries it read for it.
-#[derive(Clone, Copy, Debug)]
-pub struct Searched<'a> {
-    pub name: Result<&'a [u8], Refusal>,
-    pub reads: usize,
-}
-
-// The name that a search found: no bytes are none.
+// The name that a search found: no bytes are none, the form that document 01 names.
 pub fn found_name<'a>(name: &'a [u8]) -> Option<&'a [u8]>
     ensures { name_given result ≡ found_name name.now }
 {
@@ -38,6 +32,7 @@ pub fn found_name<'a>(name: &'a [u8]) -> Option<&'a [u8]>
 }
 
 // The name of an entry: its own, or the first that its references lead to; no bytes are none.
+// Stays two calls, the second the answer: a loop over both names has the same call, test and return, and a line more for no name.
 #[cycle(referred_name_resolve_absolute_name_resolve_name_inner)]
 pub fn resolve_name_inner<'a>(
     work: &mut [u8],
@@ -55,17 +50,15 @@ pub fn resolve_name_inner<'a>(
     if at.left == 0 {
         return Ok(&x.sheets.main[..0]);
     }
-    let own = own_name(x.sheets.of(at.input), at.unit, at.place)?;
+    let own = own_name(x.sheets.of(at.input), at.entry)?;
     if !own.is_empty() {
         return Ok(own);
     }
-    for &name in &[DW_AT_ABSTRACT_ORIGIN, DW_AT_SPECIFICATION] {
-        let r = referred_name(work, trail, x, at, name)?;
-        if !r.is_empty() {
-            return Ok(r);
-        }
+    let origin = referred_name(work, trail, x, at, DW_AT_ABSTRACT_ORIGIN)?;
+    if !origin.is_empty() {
+        return Ok(origin);
     }
-    Ok(&x.sheets.main[..0])
+    referred_name(work, trail, x, at, DW_AT_SPECIFICATION)
 }
 
 // The name that the attribute of a name of an entry leads to.
@@ -87,7 +80,11 @@ pub fn referred_name<'a>(
     match way_of(work, x, trail.count, at, name)? {
         None => Ok(&x.sheets.main[..0]),
         Some(Way::Entry(next, target)) => {
-            push_key(work, x, trail.count, next.source, target);
+            let key = Key {
+                source: next.source,
+                offset: target,
+            };
+            push_key(work, x, trail.count, key);
             *trail = trail.with_entry();
             resolve_name_inner(work, trail, x, next)
         }
@@ -111,63 +108,58 @@ pub fn resolve_absolute_name<'a>(
         x.entry work.old trail.old.count trail.old.reads work.new trail.new.count trail.new.reads
         (status_of result) (bytes_of result) }
 {
-    let input = at.input;
-    let source = at.source;
-    if is_visited(work, x, trail.count, source, at.target) {
+    let key = Key {
+        source: at.source,
+        offset: at.target,
+    };
+    if is_visited(work, x, trail.count, key) {
         return Ok(&x.sheets.main[..0]);
     }
-    let found = target_at(x.sheets.of(input), work, x.index(input), at.target)?;
-    push_key(work, x, trail.count, source, at.target);
+    let found = x
+        .index(at.input)
+        .target_at(x.sheets.of(at.input), work, at.target)?;
+    push_key(work, x, trail.count, key);
     let Some(entry) = found else {
         *trail = trail.with_target();
         return Ok(&x.sheets.main[..0]);
     };
     *trail = trail.with_entry();
-    let next = EntryAt {
-        input,
-        source,
-        unit: entry.unit,
-        place: entry.place,
-        left: at.left,
-    };
-    resolve_name_inner(work, trail, x, next)
+    resolve_name_inner(work, trail, x, at.to_entry(entry))
 }
 
 // An entry of the main sheet, where a search starts.
-pub fn start_at(unit: usize, place: usize) -> EntryAt
-    ensures { result ≡ start_at unit place }
+pub fn start_at(entry: EntryPlace) -> EntryAt
+    ensures { result ≡ start_at entry }
 {
     EntryAt {
         input: DebugSource::Main,
         source: DebugSource::Main,
-        unit,
-        place,
+        entry,
         left: CHAIN_LIMIT,
     }
 }
 
-// The name of the entry at a place of the unit at a place of the main sheet, and how many entries were read for it.
-// Stays apart from resolve_reference_name_counted: both but start a search of their own, and one function over a closure would be longer.
+// The name of an entry of the main sheet, and how many entries were read for it.
+// Stays apart from resolve_reference_name_counted: what the two share is a trail, made and read in a line each, and each has a search of its own.
 pub fn resolve_name_counted<'a>(
     work: &mut [u8],
     x: Tables<'a>,
-    unit: usize,
-    place: usize,
-) -> Searched<'a>
+    entry: EntryPlace,
+) -> Counted<Result<&'a [u8], Refusal>>
     requires search_in { SearchIn x.sheets.main.now x.sheets.supplementary.now work.old x 0 }
-    requires entry_known { EntryKnown x.sheets.main.now unit place }
+    requires entry_known { EntryKnown x.sheets.main.now entry.unit entry.place }
     ensures resolved { let main = x.entry.sheets.main.now in let supplementary = x.entry.sheets.supplementary.now in
         Resolved main supplementary x.entry work.old work.new
-        (resolve_name (dwarf_of main supplementary) (unit_here main unit) (entry_here main place))
-        (status_of result.name) (bytes_of result.name) }
+        (resolve_name (dwarf_of main supplementary) (unit_here main entry.unit) (entry_here main entry.place))
+        (status_of result.answer) (bytes_of result.answer) }
     ensures reads_after { let main = x.entry.sheets.main.now in let supplementary = x.entry.sheets.supplementary.now in
-        result.reads ≡ name_reads (dwarf_of main supplementary) (unit_here main unit) (entry_here main place) }
+        result.reads ≡ name_reads (dwarf_of main supplementary) (unit_here main entry.unit) (entry_here main entry.place) }
     ensures reads_within { ReadsWithin (dwarf_of x.entry.sheets.main.now x.entry.sheets.supplementary.now) result.reads }
 {
     let mut trail = Trail::start();
-    let name = resolve_name_inner(work, &mut trail, x, start_at(unit, place));
-    Searched {
-        name,
+    let answer = resolve_name_inner(work, &mut trail, x, start_at(entry));
+    Counted {
+        answer,
         reads: trail.reads,
     }
 }
@@ -176,15 +168,14 @@ pub fn resolve_name_counted<'a>(
 pub fn resolve_name<'a>(
     work: &mut [u8],
     x: Tables<'a>,
-    unit: usize,
-    place: usize,
+    entry: EntryPlace,
 ) -> Result<&'a [u8], Refusal>
     requires search_in { SearchIn x.sheets.main.now x.sheets.supplementary.now work.old x 0 }
-    requires entry_known { EntryKnown x.sheets.main.now unit place }
+    requires entry_known { EntryKnown x.sheets.main.now entry.unit entry.place }
     ensures { let main = x.entry.sheets.main.now in let supplementary = x.entry.sheets.supplementary.now in
         Resolved main supplementary x.entry work.old work.new
-        (resolve_name (dwarf_of main supplementary) (unit_here main unit) (entry_here main place))
+        (resolve_name (dwarf_of main supplementary) (unit_here main entry.unit) (entry_here main entry.place))
         (status_of result) (bytes_of result) }
 {
-    resolve_name_counted(work, x, unit, place).name
+    resolve_name_counted(work, x, entry).answer
 }

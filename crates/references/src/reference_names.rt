@@ -7,33 +7,34 @@ ghost use Rattle.references.specs.Reads.{reference_name_reads, ReadsWithin};
 ghost use Rattle.references.specs.Tables.{EntryKnown, bytes_of};
 ghost use Rattle.references.specs.Names.{dwarf_of, SearchIn, reference_name, Resolved};
 
-use crate::names::{Searched, referred_name, start_at};
+use crate::names::{referred_name, start_at};
 use crate::tables::Tables;
-use crate::trails::Trail;
+use crate::trails::{Counted, Trail};
+use access::index::EntryPlace;
 use tlv::refusal::Refusal;
 
 // The name that the attribute of a name of such an entry refers to, and how many entries were read for it.
+// Stays apart from resolve_name_counted, which says why.
 pub fn resolve_reference_name_counted<'a>(
     work: &mut [u8],
     x: Tables<'a>,
-    unit: usize,
-    place: usize,
+    entry: EntryPlace,
     name: u16,
-) -> Searched<'a>
+) -> Counted<Result<&'a [u8], Refusal>>
     requires search_in { SearchIn x.sheets.main.now x.sheets.supplementary.now work.old x 0 }
-    requires entry_known { EntryKnown x.sheets.main.now unit place }
+    requires entry_known { EntryKnown x.sheets.main.now entry.unit entry.place }
     ensures resolved { let main = x.entry.sheets.main.now in let supplementary = x.entry.sheets.supplementary.now in
         Resolved main supplementary x.entry work.old work.new
-        (reference_name (dwarf_of main supplementary) (unit_here main unit) (entry_here main place)
-        (attribute (entry_here main place) name)) (status_of result.name) (bytes_of result.name) }
+        (reference_name (dwarf_of main supplementary) (unit_here main entry.unit) (entry_here main entry.place)
+        (attribute (entry_here main entry.place) name)) (status_of result.answer) (bytes_of result.answer) }
     ensures reads_after { let main = x.entry.sheets.main.now in let supplementary = x.entry.sheets.supplementary.now in
-        result.reads ≡ reference_name_reads (dwarf_of main supplementary) (unit_here main unit) (entry_here main place) name }
+        result.reads ≡ reference_name_reads (dwarf_of main supplementary) (unit_here main entry.unit) (entry_here main entry.place) name }
     ensures reads_within { ReadsWithin (dwarf_of x.entry.sheets.main.now x.entry.sheets.supplementary.now) result.reads }
 {
     let mut trail = Trail::start();
-    let found = referred_name(work, &mut trail, x, start_at(unit, place), name);
-    Searched {
-        name: found,
+    let answer = referred_name(work, &mut trail, x, start_at(entry), name);
+    Counted {
+        answer,
         reads: trail.reads,
     }
 }
@@ -42,16 +43,15 @@ pub fn resolve_reference_name_counted<'a>(
 pub fn resolve_reference_name<'a>(
     work: &mut [u8],
     x: Tables<'a>,
-    unit: usize,
-    place: usize,
+    entry: EntryPlace,
     name: u16,
 ) -> Result<&'a [u8], Refusal>
     requires search_in { SearchIn x.sheets.main.now x.sheets.supplementary.now work.old x 0 }
-    requires entry_known { EntryKnown x.sheets.main.now unit place }
+    requires entry_known { EntryKnown x.sheets.main.now entry.unit entry.place }
     ensures { let main = x.entry.sheets.main.now in let supplementary = x.entry.sheets.supplementary.now in
         Resolved main supplementary x.entry work.old work.new
-        (reference_name (dwarf_of main supplementary) (unit_here main unit) (entry_here main place)
-        (attribute (entry_here main place) name)) (status_of result) (bytes_of result) }
+        (reference_name (dwarf_of main supplementary) (unit_here main entry.unit) (entry_here main entry.place)
+        (attribute (entry_here main entry.place) name)) (status_of result) (bytes_of result) }
 {
-    resolve_reference_name_counted(work, x, unit, place, name).name
+    resolve_reference_name_counted(work, x, entry, name).answer
 }

@@ -9,11 +9,18 @@ pub struct Trail {
     ghost few: { reads ≤ count + 1 },
 }
 
+// What a search answered, and how many entries it read for it.
+#[derive(Clone, Copy, Debug)]
+pub struct Counted<T> {
+    pub answer: T,
+    pub reads: usize,
+}
+
 impl Trail {
     // Nothing was followed, and the entry where the search starts was read.
     pub fn start() -> Trail
-        ensures count_value { result.count ≡ 0 }
-        ensures reads_value { result.reads ≡ 1 }
+        ensures none_followed { result.count ≡ 0 }
+        ensures start_read { result.reads ≡ 1 }
     {
         Trail { count: 0, reads: 1 }
     }
@@ -21,9 +28,10 @@ impl Trail {
     // A target was followed that leads to no entry.
     pub fn with_target(self) -> Trail
         requires { self.count + 2 < 18446744073709551616 }
-        ensures count_value { result.count ≡ self.count + 1 }
-        ensures reads_value { result.reads ≡ self.reads }
+        ensures one_followed { result.count ≡ self.count + 1 }
+        ensures none_read { result.reads ≡ self.reads }
     {
+        // Stays field by field, as below: a struct with a ghost field takes no `..self`.
         Trail {
             count: self.count + 1,
             reads: self.reads,
@@ -33,8 +41,8 @@ impl Trail {
     // A target was followed, and its entry read.
     pub fn with_entry(self) -> Trail
         requires { self.count + 2 < 18446744073709551616 }
-        ensures count_value { result.count ≡ self.count + 1 }
-        ensures reads_value { result.reads ≡ self.reads + 1 }
+        ensures one_followed { result.count ≡ self.count + 1 }
+        ensures one_read { result.reads ≡ self.reads + 1 }
     {
         Trail {
             count: self.count + 1,

@@ -6,24 +6,24 @@ ghost use Rattle.access.specs.Places.{unit_here, UnitOf};
 ghost use Rattle.files.specs.Pieces.{source_in};
 ghost use Rattle.references.specs.Search.{absolute_entry_offset};
 ghost use Rattle.references.specs.Keys.{key_in, PossibleKey};
-ghost use Rattle.references.specs.Names.{Stands, SearchIn, follow_unit_from, follow_from, Ways};
+ghost use Rattle.references.specs.Names.{at_entry, Stands, SearchIn, follow_unit_from, follow_from, Ways};
 
 use crate::attributes::{Reference, reference_at};
-use crate::keys::is_visited;
-use crate::tables::{Tables, target_in};
+use crate::keys::{Key, is_visited};
+use crate::tables::Tables;
+use access::index::EntryPlace;
 use tlv::bytes::Number;
 use tlv::model::DebugSource;
 use tlv::refusal::Refusal;
 use tlv::tags::UNIT_OFFSET;
 
-// Where a search stands: the entry at a place of the unit at a place of a sheet, the source that its unit's targets are remembered under, and
+// Where a search stands: an entry of a sheet, the source that its unit's targets are remembered under, and
 // how many entries in a row are left to look at, this one included.
 #[derive(Clone, Copy, Debug)]
 pub struct EntryAt {
     pub input: DebugSource,
     pub source: DebugSource,
-    pub unit: usize,
-    pub place: usize,
+    pub entry: EntryPlace,
     pub left: u8,
 }
 
@@ -34,6 +34,20 @@ pub struct OffsetAt {
     pub source: DebugSource,
     pub target: u64,
     pub left: u8,
+}
+
+impl OffsetAt {
+    // Where the search stands at the entry of that offset.
+    pub fn to_entry(self, entry: EntryPlace) -> EntryAt
+        ensures { result ≡ at_entry self entry }
+    {
+        EntryAt {
+            input: self.input,
+            source: self.source,
+            entry,
+            left: self.left,
+        }
+    }
 }
 
 // How a search goes on from a reference: at an entry of the same unit, by its offset in the section; or at an offset of a section.
@@ -65,20 +79,26 @@ fn unit_way<'a>(
     requires search_in { SearchIn x.sheets.main.now x.sheets.supplementary.now work.now x n }
     requires stands { Stands x.sheets.main.now x.sheets.supplementary.now at }
     requires possible_key { PossibleKey x.sheets.main.now x.sheets.supplementary.now (key_in at.source
-        ((unit_here (source_in x.sheets.main.now x.sheets.supplementary.now at.input) at.unit).offset + offset)) }
+        ((unit_here (source_in x.sheets.main.now x.sheets.supplementary.now at.input) at.entry.unit).offset + offset)) }
     ensures { let main = x.entry.sheets.main.now in let supplementary = x.entry.sheets.supplementary.now in
         Ways (follow_unit_from main supplementary at offset) main supplementary work.now x.entry n at.left result }
 {
-    let unit = at.unit;
+    let unit = at.entry.unit;
     let s = x.sheets.of(at.input);
     let target = absolute_entry_offset(s, unit, offset)?;
-    if is_visited(work, x, n, at.source, target) {
+    let key = Key {
+        source: at.source,
+        offset: target,
+    };
+    if is_visited(work, x, n, key) {
         return Ok(None);
     }
-    let y = x.index(at.input);
-    let place = target_in(s, work, y, unit, offset, target).ok_or(Refusal::NoEntry)?;
+    let index = x.index(at.input);
+    let place = index
+        .target_in(s, work, unit, offset, target)
+        .ok_or(Refusal::NoEntry)?;
     let next = EntryAt {
-        place,
+        entry: EntryPlace { place, unit },
         left: at.left.saturating_sub(1),
         ..at
     };
@@ -100,7 +120,7 @@ pub fn way_of<'a>(
 {
     let here = at.input;
     let left = at.left.saturating_sub(1);
-    match reference_at(x.sheets.of(here), at.unit, at.place, name) {
+    match reference_at(x.sheets.of(here), at.entry, name) {
         None => Ok(None),
         Some(Reference::Unit(o)) => unit_way(work, x, n, at, o),
         Some(Reference::Section(o)) => Ok(Some(Way::Offset(OffsetAt {
@@ -110,9 +130,10 @@ pub fn way_of<'a>(
             left,
         }))),
         Some(Reference::Supplementary(o)) => {
-            if x.supplementary.unit_count == 0 {
+            if x.supplementary.units.count == 0 {
                 return Ok(None);
             }
+            // Stays a match: the main sheet refers to the other one, and that to none.
             match here {
                 DebugSource::Supplementary => Ok(None),
                 DebugSource::Main => Ok(Some(Way::Offset(OffsetAt {

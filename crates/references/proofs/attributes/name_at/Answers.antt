@@ -1,16 +1,8 @@
 -- `attributes::name_at` meets its contract.
 use borrow.Author.Rules.{rules}
 use mathlib.Core.Path.{refl}
-use native.Mathlib.Omega.{arith}
-use Rattle.references.proofs.ReferenceLaws.{name-absent, name-text, name-refused, text-inside}
+use Rattle.references.proofs.ReferenceLaws.{name-absent, name-text, name-refused}
 use Rattle.references.proofs.attributes.name_at.Goals as goal
-
-pub overflow_add-result : goal.overflow_add-result
-overflow_add-result c = let inside = text-inside _ _ c.attribute_at.ensures c.in-Some.is c.in-Text.is in
-    omega arith
-
-pub slice_bounds-result-end-in-Text : goal.slice_bounds-result-end-in-Text
-slice_bounds-result-end-in-Text c = text-inside _ _ c.attribute_at.ensures c.in-Some.is c.in-Text.is
 
 pub returns-in_default : goal.returns-in_default
 returns-in_default c = name-absent _ _ c.attribute_at.ensures c.in_default.is

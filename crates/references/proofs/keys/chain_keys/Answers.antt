@@ -1,10 +1,6 @@
 -- `keys::chain_keys` meets its contract: the heads lead nowhere at first, then to the newest of those that joined.
-use native.Mathlib.Omega.{arith}
 use Rattle.references.proofs.ChainLaws.{chaining-start, chaining-done}
 use Rattle.references.proofs.keys.chain_keys.Goals as goal
-
-pub fill_zero-requires : goal.fill_zero-requires
-fill_zero-requires c = (omega arith, omega arith)
 
 pub loop-i-init : goal.loop-i-init
 loop-i-init c = chaining-start _ c.keys_from-base.ensures c.fill_zero.ensures

@@ -3,9 +3,6 @@ use native.Mathlib.Omega.{arith}
 use Rattle.references.proofs.ChainLaws.{chain-small, many-chained, walk_start, walk-less, walk-found, walk_step, walk_none}
 use Rattle.references.proofs.keys.is_visited.Goals as goal
 
-pub returns-then-not-is_many : goal.returns-then-not-is_many
-returns-then-not-is_many c = rw c.keys_from.ensures at c.is_scanned.ensures
-
 pub overflow_mul-c : goal.overflow_mul-c
 overflow_mul-c c = let s = chain-small c.args.x _ c.chain_of-c.ensures c.chain_count.ensures in omega arith
 

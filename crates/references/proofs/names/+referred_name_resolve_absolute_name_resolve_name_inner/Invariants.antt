@@ -1,7 +1,5 @@
--- The cycle of resolve_name_inner, referred_name and resolve_absolute_name: thrice the number of entries that are left falls; and the loop.
-use Rattle.std.proofs.Common.{◌+◌, ◌*◌, ◌-◌, drop}
-use Rattle.references.proofs.NameLaws.{Going}
-use Rattle.references.specs.Search.{origin_attributes}
+-- The cycle of resolve_name_inner, referred_name and resolve_absolute_name: thrice the number of entries that are left falls.
+use Rattle.std.proofs.Common.{◌+◌, ◌*◌, ◌-◌}
 use Rattle.references.proofs.names.+referred_name_resolve_absolute_name_resolve_name_inner.Given as goal
 
 abbrev pub decreases-resolve_absolute_name : goal.decreases-resolve_absolute_name
@@ -12,7 +10,3 @@ decreases-resolve_name_inner l = 3 * l.at.left
 
 abbrev pub decreases-referred_name : goal.decreases-referred_name
 decreases-referred_name l = 3 * (l.at.left - 1) + 2
-
-abbrev pub invariant-resolve_name_inner-loop-name : goal.invariant-resolve_name_inner-loop-name
-invariant-resolve_name_inner-loop-name l =
-    Going l.x.sheets.main.now l.x.sheets.supplementary.now l.x l.at l.initial.work l.initial.trail.count l.initial.trail.reads l.work l.trail.count l.trail.reads (drop l.name-index origin_attributes)

@@ -2,7 +2,7 @@
 use Rattle.tlv.proofs.AnswerLaws.{handed}
 use Rattle.references.proofs.KeyLaws.{keys-inside}
 use Rattle.tlv.proofs.AnswerLaws.{ok-some, err-none}
-use Rattle.references.proofs.FollowLaws.{index-here, placed_at}
+use Rattle.references.proofs.FollowLaws.{placed_at}
 use Rattle.references.proofs.WayLaws.{way-listed, way_sum, way_overflow, way_seen, way_no-entry, way-entry}
 use Rattle.references.proofs.ways.unit_way.Goals as goal
 
@@ -21,14 +21,11 @@ is_visited-requires c = keys-inside c.requires.search_in.keys
 pub returns-then-is_visited : goal.returns-then-is_visited
 returns-then-is_visited c = way_seen c.args.offset c.requires.search_in c.requires.stands c.of-s.ensures c.in_ok-target.ensures _ c.is_visited.ensures c.if-is_visited.true
 
-pub target_in-requires-clause-index_in : goal.target_in-requires-clause-index_in
-target_in-requires-clause-index_in c = index-here c.requires.search_in c.args.at.input c.of-s.ensures c.index-y.ensures
+pub target_in-requires-clause-unit_listed : goal.target_in-requires-clause-unit_listed
+target_in-requires-clause-unit_listed c = way-listed c.args.offset c.requires.search_in c.requires.stands c.of-s.ensures
 
-pub target_in-requires-clause-any : goal.target_in-requires-clause-any
-target_in-requires-clause-any c = way-listed c.args.offset c.requires.search_in c.requires.stands c.of-s.ensures
-
-pub target_in-requires-clause-target_value : goal.target_in-requires-clause-target_value
-target_in-requires-clause-target_value c = way_sum c.args.offset c.requires.search_in c.requires.stands c.of-s.ensures c.in_ok-target.ensures
+pub target_in-requires-clause-offset_sum : goal.target_in-requires-clause-offset_sum
+target_in-requires-clause-offset_sum c = way_sum c.args.offset c.requires.search_in c.requires.stands c.of-s.ensures c.in_ok-target.ensures
 
 pub returns-in_err-place : goal.returns-in_err-place
 returns-in_err-place c =

@@ -1,7 +1,7 @@
--- `tables::target_at` meets its contract.
+-- `tables::Index::target_at` meets its contract.
 use Rattle.tlv.proofs.AnswerLaws.{handed}
 use Rattle.references.proofs.TargetLaws.{index-table-rising, leads_outside, leads-missing, leads-found}
-use Rattle.references.proofs.tables.target_at.Goals as goal
+use Rattle.references.proofs.tables.Index.target_at.Goals as goal
 
 pub returns-in_default : goal.returns-in_default
 returns-in_default c = leads_outside c.requires c.args.target _ c.unit_containing_offset.ensures c.in_default.is
