@@ -18,7 +18,7 @@ use Rattle.references.specs.declared.ways.OffsetAt.{OffsetAt}
 use Rattle.references.specs.Search.{Trail, DieKey, same_key, Followed, is_visited, visit, visit_entry, nothing, by_offset, followed_nothing, units_in, unit_containing, follow_in, follow_absolute}
 use Rattle.references.specs.Tables.{Leads}
 use Rattle.references.specs.Keys.{keys_at, key_in, keys_from}
-use Rattle.references.specs.Names.{dwarf_of, search_source, place_at, trail_at, Stands, Aims}
+use Rattle.references.specs.Names.{at_entry, dwarf_of, search_source, place_at, trail_at, Stands, Aims}
 
 key_is : (source : DebugSource) (o : ℕ) → record { source = search_source source; offset = o } ≡ key_in source o
 key_is DebugSource.Main o = refl
@@ -73,11 +73,11 @@ module _ (main supplementary w : List ℕ) (x : Tables) (n : ℕ) (at : OffsetAt
         }
 
     pub aim-entry : Aims main supplementary at → {f : EntryPlace} → Leads s at.target (Ok (Some f))
-        → AimEntry main supplementary w x n at (record { input = at.input; source = at.source; unit = f.unit; place = f.place; left = at.left })
+        → AimEntry main supplementary w x n at (at_entry at f)
     unfolding ◌>>=◌
     aim-entry A {f} L =
         let l = rw is at L.is in
-        let next : EntryAt = record { input = at.input; source = at.source; unit = f.unit; place = f.place; left = at.left } in
+        let next : EntryAt = at_entry at f in
         record {
           is = λ k. follows k ∙ rw (not_so, l.0, l.1)
               (ap (λ (y : DieKey). done (record { trail = visit_entry (trail_at w (keys_from x) n k) y; target = by_offset (place_at main supplementary next) })) (key_is at.source at.target));

@@ -38,10 +38,6 @@ module _ {main supplementary w : List ℕ} {d : Places} {st : DeclaringState} (D
   table_below : st.table.base + extent st.table ≤ d.spans
   table_below = let a = D.table in let b = D.indices in omega arith
 
-  pub sheet-small : (input : DebugSource) → length (source_in main supplementary input) < 4294967296
-  sheet-small DebugSource.Main = D.files.main-small
-  sheet-small DebugSource.Supplementary = D.files.supplementary-small
-
   pub unit-room : (input : DebugSource) (q : ℕ) → Any (λ p. p ≡ q) (unit_places 0 (fields (source_in main supplementary input)))
       → 8 * length (unit_here (source_in main supplementary input) q).directories + 5 * (1 + length (unit_here (source_in main supplementary input) q).files) ≤ d.room
   unit-room DebugSource.Main q h = D.room-main q h
@@ -49,9 +45,6 @@ module _ {main supplementary w : List ℕ} {d : Places} {st : DeclaringState} (D
 
   pub spans-inside : d.spans + d.room ≤ length w
   spans-inside = let a = D.keys in let b = D.search-tables.keys.room in omega arith
-
-  pub map-inside : d.indices.base + d.indices.count * 5 ≤ length w
-  map-inside = let a = D.indices in omega (arith, spans-inside)
 
   -- ---- the table and the spans are written
   module _ {w' : List ℕ} (K : KeptBut w w' (lower d st.table)) (size : length w' ≡ length w) where

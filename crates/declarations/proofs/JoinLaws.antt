@@ -96,22 +96,22 @@ module _ {main supplementary w : List ℕ} {d : Places} {st : DeclaringState} (D
     pub join-listed : Listed main supplementary (unit_here (source_in main supplementary u.source) u.place) (header_here (source_in main supplementary u.source) u.place)
     join-listed = rw (B.source-is, B.place) (listed_at main supplementary input q U.listed there)
 
-    pub join-room : MapRoom (source_in main supplementary u.source) w₁ st.table u (d.spans + u.directory_count * 8)
+    pub join-room : MapRoom (source_in main supplementary u.source) w₁ st.table u (d.spans + u.directories.count * 8)
     join-room =
         let r = described-room D input U e not_so B size in
         let a = D.table in
         let b = D.indices in
         let i = spans-inside D in
         let z = B.directories in
-        let m : d.spans + u.directory_count * 8 + 5 * (1 + length (unit_here (source_in main supplementary input) q).files) ≤ length w = omega arith in
+        let m : d.spans + u.directories.count * 8 + 5 * (1 + length (unit_here (source_in main supplementary input) q).files) ≤ length w = omega arith in
         record { table = omega arith; directories = omega arith; map = rw (B.source-is, B.place, size) m }
 
     module _ {w₂ files files₂ : List ℕ} {r : Result InternedFiles Refusal}
-        (I : InternsHeader main supplementary w₁ w₂ files files₂ st.table (source_in main supplementary u.source) u (d.spans + u.directory_count * 8) r) where
-      here : InternsHeader main supplementary w₁ w₂ files files₂ st.table (source_in main supplementary input) u (d.spans + u.directory_count * 8) r
-      here = subst (λ (i : DebugSource). InternsHeader main supplementary w₁ w₂ files files₂ st.table (source_in main supplementary i) u (d.spans + u.directory_count * 8) r) B.source-is I
+        (I : InternsHeader main supplementary w₁ w₂ files files₂ st.table (source_in main supplementary u.source) u (d.spans + u.directories.count * 8) r) where
+      here : InternsHeader main supplementary w₁ w₂ files files₂ st.table (source_in main supplementary input) u (d.spans + u.directories.count * 8) r
+      here = subst (λ (i : DebugSource). InternsHeader main supplementary w₁ w₂ files files₂ st.table (source_in main supplementary i) u (d.spans + u.directories.count * 8) r) B.source-is I
 
-      interned : indexed_of main supplementary w₂ (d.spans + u.directory_count * 8) r
+      interned : indexed_of main supplementary w₂ (d.spans + u.directories.count * 8) r
           ≡ intern_header_files (unit_here (source_in main supplementary input) q) (or_header (unit_here (source_in main supplementary input) q).header) (table_of main supplementary w st.table)
       unfolding header_here
       interned = rw (B.place, described-table D input U e not_so B size) at here.is

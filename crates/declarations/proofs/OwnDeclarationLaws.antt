@@ -26,6 +26,8 @@ use Rattle.tlv.proofs.PlaceFacts.{placed-start}
 use Rattle.tlv.proofs.PlacePromises.{placed-unit}
 use Rattle.buffers.specs.Buffer.{top, Put}
 use Rattle.buffers.specs.Table.{Clear, KeptBut}
+use Rattle.buffers.specs.declared.warning.WarningKind.{WarningKind as Told}
+use Rattle.buffers.specs.WarningKinds as told
 use Rattle.buffers.specs.Output.{WarningKind, about, invalid_declaration_file, invalid_declaration_line, kind_number, warning_payload, each_of, files_bytes, warnings_bytes}
 use Rattle.buffers.proofs.TableLaws.{here, there, but_of, but_one, but_refl, but_trans}
 use Rattle.buffers.proofs.BufferLaws.{put-none, put_as}
@@ -72,11 +74,11 @@ module _ {main supplementary w : List ℕ} {d : Places} {st : DeclaringState} (D
       let I = index_at D.search-tables input in
       placed-start (source_in main supplementary input) I.number I.accepted
 
-  pub unit-known : (at : EntryAt) → Stands main supplementary at → UnitKnown (source_in main supplementary at.input) at.unit
+  pub unit-known : (at : EntryAt) → Stands main supplementary at → UnitKnown (source_in main supplementary at.input) at.entry.unit
   unit-known at A =
       let I = index_at D.search-tables at.input in
       let listed = known-unit I.number I.accepted A.known in
-      record { placed = unit-placed at.unit (accepted-at at.input) listed; listed = listed }
+      record { placed = unit-placed at.entry.unit (accepted-at at.input) listed; listed = listed }
 
   -- ---- the table's number
 
@@ -93,9 +95,6 @@ module _ {main supplementary w : List ℕ} {d : Places} {st : DeclaringState} (D
 
   -- of a unit that was reached
   module _ (input : DebugSource) {q : ℕ} (U : UnitKnown (source_in main supplementary input) q) where
-    pub spans-here : d.spans + 8 * length (unit_here (source_in main supplementary input) q).directories ≤ length w
-    spans-here = let a = unit-room D input q U.listed in let b = spans-inside D in omega arith
-
     module _ {lacks : Bool} (e : lacks ≡ is_none (unit_here (source_in main supplementary input) q).header) where
       no_header : (u : CompilationUnit) (o : Option LineHeader) (t : FileTable) (n : ℕ) → is_none o ≡ true → none ≡ get (reached_files u o t) n
       unfolding get
@@ -116,7 +115,7 @@ module _ {main supplementary w : List ℕ} {d : Places} {st : DeclaringState} (D
       some-header u (some h) t y = refl
 
       module _ {w₁ : List ℕ} {u : FileUnit} (not_so : lacks ≡ false) (B : Described (source_in main supplementary input) w w₁ input q d.spans u) (size : length w₁ ≡ length w) where
-        pub described-clear : Clear st.table.base (extent st.table) ((d.spans, u.directory_count * 8) ∷ [])
+        pub described-clear : Clear st.table.base (extent st.table) ((d.spans, u.directories.count * 8) ∷ [])
         described-clear = let a = D.table in let b = D.indices in (inl (omega arith), tt)
 
         pub described-files : FilesIn main supplementary w₁ st.table
@@ -125,16 +124,10 @@ module _ {main supplementary w : List ℕ} {d : Places} {st : DeclaringState} (D
         pub described-table : table_of main supplementary w₁ st.table ≡ table_of main supplementary w st.table
         described-table = table_kept D.files (but_one B.rest) described-clear
 
-        pub described-unit : FileUnitIn (source_in main supplementary u.source) w₁ u
-        described-unit = subst (λ (i : DebugSource). FileUnitIn (source_in main supplementary i) w₁ u) (sym B.source-is) B.unit
-
-        pub described-placed : UnitPlaced (source_in main supplementary u.source) u.place
-        described-placed = rw (B.source-is, B.place) U.placed
-
-        pub described-room : u.directory_count * 8 + 5 * (1 + length (unit_here (source_in main supplementary input) q).files) ≤ d.room
+        pub described-room : u.directories.count * 8 + 5 * (1 + length (unit_here (source_in main supplementary input) q).files) ≤ d.room
         described-room =
             let a = unit-room D input q U.listed in
-            let b : u.directory_count ≡ length (unit_here (source_in main supplementary input) q).directories = B.count in
+            let b : u.directories.count ≡ length (unit_here (source_in main supplementary input) q).directories = B.count in
             omega arith
 
         pub described-rest : KeptBut w w₁ (lower d st.table)
@@ -155,17 +148,17 @@ module _ {main supplementary w : List ℕ} {d : Places} {st : DeclaringState} (D
 
 -- ---- a warning
 
-module _ {s : List ℕ} {q p kind number : ℕ} {warnings : List ℕ} {st : DeclaringState} where
+module _ {s : List ℕ} {q p number : ℕ} {kind : Told} {warnings : List ℕ} {st : DeclaringState} where
   pub warns-refused : {warnings' : List ℕ} {n : Refusal} → as_outcome (Err n) ≡ absolute_entry_offset (unit_here s q) (entry_here s p).offset → Warns s q p kind number warnings warnings' st (Err n)
   warns-refused e = record { is = sym e }
 
   pub warns-written : {warnings' : List ℕ} {n r : ℕ} → as_outcome (Ok n) ≡ absolute_entry_offset (unit_here s q) (entry_here s p).offset
-      → Put st.warned (encode 0x46 ((kind ∷ []) ++ bytes_of 8 n ++ bytes_of 8 number)) warnings warnings' r
+      → Put st.warned (encode 0x46 ((told.number_of kind ∷ []) ++ bytes_of 8 n ++ bytes_of 8 number)) warnings warnings' r
       → Warns s q p kind number warnings warnings' st (none_found (record { trail = st.trail; table = st.table; warned = r }))
   warns-written {n = n} e P = record { is = (record { offset = n; is = sym e; put = P; trail = refl; table = refl }, refl) }
 
-module _ {main supplementary w : List ℕ} {d : Places} {st : DeclaringState} (D : DeclaringIn main supplementary w d st) {s : List ℕ} {q p kind number : ℕ} {warnings warnings' : List ℕ} where
-  declares-warned : (k : WarningKind) (r : Result Declared Refusal) (files : List ℕ) → length files < top → kind ≡ kind_number k → {a : ℕ} → a ≤ st.trail.count + 1 → Warns s q p kind number warnings warnings' st r
+module _ {main supplementary w : List ℕ} {d : Places} {st : DeclaringState} (D : DeclaringIn main supplementary w d st) {s : List ℕ} {q p number : ℕ} {kind : Told} {warnings warnings' : List ℕ} where
+  declares-warned : (k : WarningKind) (r : Result Declared Refusal) (files : List ℕ) → length files < top → told.number_of kind ≡ kind_number k → {a : ℕ} → a ≤ st.trail.count + 1 → Warns s q p kind number warnings warnings' st r
       → DeclaresCounted (λ y. still y.trail (warn_declaration k (unit_here s q) (entry_here s p) number y)) main supplementary w w files files warnings warnings' d st a a r
   unfolding warn_declaration ◌>>=◌ warnings_bytes each_of
   declares-warned k (Err n) files few kd read W = declares-refused n (λ m. m) (λ m. refl) (λ m ws. rw W.is) (but_refl _ _)
@@ -179,7 +172,7 @@ module _ {main supplementary w : List ℕ} {d : Places} {st : DeclaringState} (D
         is = λ m ws. rw (X.is, X.trail, X.table, W.is.1);
         after = record {
           grown = rw X.table (grown-none D.files few);
-          put = put_as (append-nil (encode 0x46 (warning_payload (about k X.offset number)))) (put-about k kind X.offset number kd X.put);
+          put = put_as (append-nil (encode 0x46 (warning_payload (about k X.offset number)))) (put-about k (told.number_of kind) X.offset number kd X.put);
           ready = lower-ready D (but_refl w _) refl (rw X.trail refl) (rw X.table D.files) (rw X.table) (rw X.table) (let z = X.put.place in omega arith);
         };
         rest = but_refl _ _;
@@ -188,7 +181,7 @@ module _ {main supplementary w : List ℕ} {d : Places} {st : DeclaringState} (D
 -- ---- the search
 
 module _ {main supplementary w : List ℕ} {d : Places} {st : DeclaringState} (D : DeclaringIn main supplementary w d st) {s : List ℕ} (at : EntryAt) (ids : FileIndices)
-    (is : s ≡ source_in main supplementary at.input) {o : Given OwnLine} (O : OwnAt s at.place o) where
+    (is : s ≡ source_in main supplementary at.input) {o : Given OwnLine} (O : OwnAt s at.entry.place o) where
   pub own-nothing : {warnings : List ℕ} → length warnings < top → o ≡ None
       → Owns (own_declaration (place_at main supplementary at).unit (place_at main supplementary at).entry ids) main supplementary w w warnings warnings d st (none_found st)
   own-nothing short none_is = record {
@@ -225,12 +218,12 @@ module _ {main supplementary w : List ℕ} {d : Places} {st : DeclaringState} (D
         (λ k ws.
         let e = rw is at (O.is (place_at main supplementary at).unit ids (declaring_at main supplementary w d st ws k)) in
         let same : declaring_at main supplementary w d st ws k ≡ declaring_at main supplementary w₁ d st (ws ++ []) k = rw (append-nil ws, lower-keys D N.rest size, N.same) in
-        let told : declared_by (place_at main supplementary at).unit (source_in main supplementary at.input) at.place ids o (declaring_at main supplementary w d st ws k) ≡ g (declaring_at main supplementary w d st ws k)
+        let told : declared_by (place_at main supplementary at).unit (source_in main supplementary at.input) at.entry.place ids o (declaring_at main supplementary w d st ws k) ≡ g (declaring_at main supplementary w d st ws k)
         = rw (there-is, ← N.is_number) (to _) in
         ap (still (trail_at w (keys_from d.tables) st.trail.count k)) (e ∙ told) ∙ ap (λ (y : Declaring). still y.trail (g y)) same)
         x G
 
-    pub own-no_file : {warnings warnings₂ : List ℕ} {x : Result Declared Refusal} → length warnings < top → r ≡ None → Warns s at.unit at.place 10 l.file.0 warnings warnings₂ st x
+    pub own-no_file : {warnings warnings₂ : List ℕ} {x : Result Declared Refusal} → length warnings < top → r ≡ None → Warns s at.entry.unit at.entry.place Told.InvalidDeclarationFile l.file.0 warnings warnings₂ st x
         → Owns (own_declaration (place_at main supplementary at).unit (place_at main supplementary at).entry ids) main supplementary w w₁ warnings warnings₂ d st x
     unfolding kind_number
     own-no_file {warnings} {warnings₂} {x} short missing W = record {
@@ -239,7 +232,7 @@ module _ {main supplementary w : List ℕ} {d : Places} {st : DeclaringState} (D
           (declares-warned ready invalid_declaration_file x files few refl read (rw is at W));
     }
 
-    pub own-long_line : {warnings warnings₂ : List ℕ} {x : Result Declared Refusal} {i : FileIndex} → length warnings < top → r ≡ Some i → 2 ^ 32 ≤ l.line → Warns s at.unit at.place 11 l.line warnings warnings₂ st x
+    pub own-long_line : {warnings warnings₂ : List ℕ} {x : Result Declared Refusal} {i : FileIndex} → length warnings < top → r ≡ Some i → 2 ^ 32 ≤ l.line → Warns s at.entry.unit at.entry.place Told.InvalidDeclarationLine l.line warnings warnings₂ st x
         → Owns (own_declaration (place_at main supplementary at).unit (place_at main supplementary at).entry ids) main supplementary w w₁ warnings warnings₂ d st x
     unfolding kind_number
     own-long_line {warnings} {warnings₂} {x} short number long W = record {

@@ -104,15 +104,15 @@ module _ {main supplementary w : List ℕ} {d : Places} {st : DeclaringState} (D
       entry-reaching = reaching_as R (pushed-table D N.possible N.new P) next-unit
 
       pub reference-entry : {files warnings w₂ files₂ warnings₂ : List ℕ} {a b : ℕ} → length w₁ ≡ length w → length files < top → length warnings < top → (r : Result Declared Refusal)
-          → DeclaresCounted (counted_declaration next.left (dwarf_of main supplementary) (place_at main supplementary next) (indices_at main supplementary w₁ d (more st t) next.input next.unit reached))
+          → DeclaresCounted (counted_declaration next.left (dwarf_of main supplementary) (place_at main supplementary next) (indices_at main supplementary w₁ d (more st t) next.input next.entry.unit reached))
           main supplementary w₁ w₂ files files₂ warnings warnings₂ d (more st t) (a + 1) b r
-          → DeclaresCounted (resolve_reference (at.left - 1) main supplementary at (indices_at main supplementary w d st at.input at.unit reached) name)
+          → DeclaresCounted (resolve_reference (at.left - 1) main supplementary at (indices_at main supplementary w d st at.input at.entry.unit reached) name)
           main supplementary w w₂ files files₂ warnings warnings₂ d st a b r
       unfolding resolve_reference
       reference-entry {files} {warnings} size few short r G =
           let ids = indices-as main supplementary w w₁ d st (more st t) at next reached (pushed_map D N.possible N.new P) (pushed-table D N.possible N.new P) next-unit in
           declares-after (pushed-state D N.possible N.new P t one size files warnings few short) (pushed_rest D N.possible N.new P) (λ k. k + 1) (λ k. omega arith)
-          (λ k ws. rw (N.is k) (ap (counted_declaration (at.left - 1) (dwarf_of main supplementary) (place_at main supplementary next) (indices_at main supplementary w d st at.input at.unit reached))
+          (λ k ws. rw (N.is k) (ap (counted_declaration (at.left - 1) (dwarf_of main supplementary) (place_at main supplementary next) (indices_at main supplementary w d st at.input at.entry.unit reached))
           (pushed_at D N.possible N.new P t one size ws (k + 1))))
           r (rw (ids, N.deeper) at G)
 
@@ -169,7 +169,7 @@ module _ {main supplementary w : List ℕ} {d : Places} {st : DeclaringState} (D
         }
 
     module _ {next : EntryAt} (A : AimEntry main supplementary w d.tables st.trail.count at next) {files files₂ w₂ : List ℕ} {j : Result StoredFiles Refusal}
-        (J : Joins main supplementary w₁ w₂ files files₂ d st.table (unit_here (source_in main supplementary next.input) next.unit) j) where
+        (J : Joins main supplementary w₁ w₂ files files₂ d st.table (unit_here (source_in main supplementary next.input) next.entry.unit) j) where
       ready₁ : DeclaringIn main supplementary w₁ d (more st t)
       ready₁ = pushed_ready D a.possible A.new P t one size
 
@@ -184,7 +184,7 @@ module _ {main supplementary w : List ℕ} {d : Places} {st : DeclaringState} (D
           declares-refused n (λ k. k + 1) (λ k. omega arith) (λ k ws. rw (A.is k, ← pushed-table D a.possible A.new P, e)) rest₂
 
       module _ (table : StoredFiles) (to : j ≡ Ok table) (size₂ : length w₂ ≡ length w₁) where
-        joined : JoinedTo main supplementary w₁ w₂ files files₂ st.table table (unit_here (source_in main supplementary next.input) next.unit)
+        joined : JoinedTo main supplementary w₁ w₂ files files₂ st.table table (unit_here (source_in main supplementary next.input) next.entry.unit)
         joined = rw to at J.is
 
         pub joined-ready : DeclaringIn main supplementary w₂ d (joining st t table)
@@ -204,7 +204,7 @@ module _ {main supplementary w : List ℕ} {d : Places} {st : DeclaringState} (D
 
         pub absolute-entry : {warnings w₃ files₃ warnings₃ : List ℕ} {c b : ℕ} → length files < top → length warnings < top → (r : Result Declared Refusal)
             → DeclaresCounted (counted_declaration next.left (dwarf_of main supplementary) (place_at main supplementary next)
-            (indices_at main supplementary w₂ d (joining st t table) next.input next.unit true))
+            (indices_at main supplementary w₂ d (joining st t table) next.input next.entry.unit true))
             main supplementary w₂ w₃ files₂ files₃ warnings warnings₃ d (joining st t table) (c + 1) b r
             → DeclaresCounted (resolve_absolute at.left main supplementary at) main supplementary w w₃ files files₃ warnings warnings₃ d st c b r
         unfolding resolve_absolute follow_offset indices_at

@@ -17,6 +17,7 @@ use Rattle.buffers.specs.Buffer.{top}
 use Rattle.buffers.specs.Table.{KeptBut}
 use Rattle.buffers.proofs.TableLaws.{but_refl}
 use Rattle.buffers.specs.Output.{Warning}
+use Rattle.access.specs.declared.index.EntryPlace.{EntryPlace}
 use Rattle.access.specs.Places.{unit_here, entry_here}
 use Rattle.lines.specs.Files.{FileIndices}
 use Rattle.files.specs.declared.store.StoredFiles.{StoredFiles}
@@ -99,7 +100,7 @@ same-unit main supplementary at name t t' x e = given (follow-stays (dwarf_of ma
 
 pub indices-as : (main supplementary w w' : List ℕ) (d : Places) (st st' : DeclaringState) (at at' : EntryAt) (reached : Bool) → indices_in w' d.indices ≡ indices_in w d.indices
     → table_of main supplementary w' st'.table ≡ table_of main supplementary w st.table → (place_at main supplementary at').unit ≡ (place_at main supplementary at).unit
-    → indices_at main supplementary w' d st' at'.input at'.unit reached ≡ indices_at main supplementary w d st at.input at.unit reached
+    → indices_at main supplementary w' d st' at'.input at'.entry.unit reached ≡ indices_at main supplementary w d st at.input at.entry.unit reached
 unfolding indices_at
 indices-as main supplementary w w' d st st' at at' reached map table unit = rw (unit, table, map)
 
@@ -122,7 +123,7 @@ module _ {main supplementary w w' files files' : List ℕ} {d : Places} {st : De
   reaching-grown = record { unit = λ y. (grown-reached (place_at main supplementary at).unit (place_at main supplementary at).unit.header G (R.unit y)).1 }
 
   pub indices-grown : KeptBut w w' (searched main supplementary d st.table)
-      → indices_at main supplementary w' d st' at.input at.unit reached ≡ indices_at main supplementary w d st at.input at.unit reached
+      → indices_at main supplementary w' d st' at.input at.entry.unit reached ≡ indices_at main supplementary w d st at.input at.entry.unit reached
   unfolding indices_at
   indices-grown K = go reached R.unit
     where
@@ -137,77 +138,77 @@ module _ {main supplementary w w' files files' : List ℕ} {d : Places} {st : De
 module _ {main supplementary w : List ℕ} {d : Places} {st : DeclaringState} (D : DeclaringIn main supplementary w d st) {at : EntryAt} {reached : Bool}
     (R : Reaching main supplementary w st at reached) where
   pub resolve-deep : {files warnings : List ℕ} {a : ℕ} → length files < top → length warnings < top → a ≤ st.trail.count + 1 → at.left ≡ 0
-      → DeclaresCounted (counted_declaration at.left (dwarf_of main supplementary) (place_at main supplementary at) (indices_at main supplementary w d st at.input at.unit reached))
+      → DeclaresCounted (counted_declaration at.left (dwarf_of main supplementary) (place_at main supplementary at) (indices_at main supplementary w d st at.input at.entry.unit reached))
       main supplementary w w files files warnings warnings d st a a (none_found st)
   unfolding counted_declaration
   resolve-deep few short read deep = rw deep (declares-here D few short None read (λ k ws. refl))
 
   module _ (shallow : at.left ≡ 0 → ⊥) where
-    step : (x : Declaring) → (counted_declaration at.left (dwarf_of main supplementary) (place_at main supplementary at) (indices_at main supplementary w d st at.input at.unit reached)) x
-        ≡ and_then (λ y. after y.trail (own_declaration (place_at main supplementary at).unit (place_at main supplementary at).entry (indices_at main supplementary w d st at.input at.unit reached) y))
+    step : (x : Declaring) → (counted_declaration at.left (dwarf_of main supplementary) (place_at main supplementary at) (indices_at main supplementary w d st at.input at.entry.unit reached)) x
+        ≡ and_then (λ y. after y.trail (own_declaration (place_at main supplementary at).unit (place_at main supplementary at).entry (indices_at main supplementary w d st at.input at.entry.unit reached) y))
         (counted_referenced_declaration (counted_declaration (at.left - 1) (dwarf_of main supplementary)) (dwarf_of main supplementary) (place_at main supplementary at)
-        (indices_at main supplementary w d st at.input at.unit reached) origin_attributes) x
+        (indices_at main supplementary w d st at.input at.entry.unit reached) origin_attributes) x
     unfolding counted_declaration
     step x = let more_left : at.left ≡ suc (at.left - 1) = omega arith in one-more at.left (at.left - 1) more_left x
       where
         one-more : (m k : ℕ) → m ≡ suc k → (x : Declaring)
-            → (counted_declaration m (dwarf_of main supplementary) (place_at main supplementary at) (indices_at main supplementary w d st at.input at.unit reached)) x
-            ≡ and_then (λ y. after y.trail (own_declaration (place_at main supplementary at).unit (place_at main supplementary at).entry (indices_at main supplementary w d st at.input at.unit reached) y))
+            → (counted_declaration m (dwarf_of main supplementary) (place_at main supplementary at) (indices_at main supplementary w d st at.input at.entry.unit reached)) x
+            ≡ and_then (λ y. after y.trail (own_declaration (place_at main supplementary at).unit (place_at main supplementary at).entry (indices_at main supplementary w d st at.input at.entry.unit reached) y))
             (counted_referenced_declaration (counted_declaration k (dwarf_of main supplementary)) (dwarf_of main supplementary) (place_at main supplementary at)
-            (indices_at main supplementary w d st at.input at.unit reached) origin_attributes) x
+            (indices_at main supplementary w d st at.input at.entry.unit reached) origin_attributes) x
         one-more m k e x = rw e
 
     turn : (n : ℕ) (ns : List ℕ) (x : Declaring)
         → (counted_referenced_declaration (counted_declaration (at.left - 1) (dwarf_of main supplementary)) (dwarf_of main supplementary) (place_at main supplementary at)
-        (indices_at main supplementary w d st at.input at.unit reached) (n ∷ ns)) x
-        ≡ and_then (resolve_reference (at.left - 1) main supplementary at (indices_at main supplementary w d st at.input at.unit reached) n)
+        (indices_at main supplementary w d st at.input at.entry.unit reached) (n ∷ ns)) x
+        ≡ and_then (resolve_reference (at.left - 1) main supplementary at (indices_at main supplementary w d st at.input at.entry.unit reached) n)
         (counted_referenced_declaration (counted_declaration (at.left - 1) (dwarf_of main supplementary)) (dwarf_of main supplementary) (place_at main supplementary at)
-        (indices_at main supplementary w d st at.input at.unit reached) ns) x
+        (indices_at main supplementary w d st at.input at.entry.unit reached) ns) x
     unfolding counted_referenced_declaration resolve_reference follow_from
     turn n ns x = sym (counted-assoc x.trail (follow (dwarf_of main supplementary) (place_at main supplementary at) x.trail (attribute (place_at main supplementary at).entry n)) _ _)
 
     none_left : (x : Declaring) → (counted_referenced_declaration (counted_declaration (at.left - 1) (dwarf_of main supplementary)) (dwarf_of main supplementary) (place_at main supplementary at)
-        (indices_at main supplementary w d st at.input at.unit reached) []) x ≡ after x.trail (done x)
+        (indices_at main supplementary w d st at.input at.entry.unit reached) []) x ≡ after x.trail (done x)
     unfolding counted_referenced_declaration
     none_left x = refl
 
     module _ {files warnings w₁ files₁ warnings₁ : List ℕ} {a a₁ : ℕ} where
       pub resolve-own : (r : Result Declared Refusal) → Stops r
-          → DeclaresCounted (λ y. after y.trail (own_declaration (place_at main supplementary at).unit (place_at main supplementary at).entry (indices_at main supplementary w d st at.input at.unit reached) y))
+          → DeclaresCounted (λ y. after y.trail (own_declaration (place_at main supplementary at).unit (place_at main supplementary at).entry (indices_at main supplementary w d st at.input at.entry.unit reached) y))
           main supplementary w w₁ files files₁ warnings warnings₁ d st a a₁ r
-          → DeclaresCounted (counted_declaration at.left (dwarf_of main supplementary) (place_at main supplementary at) (indices_at main supplementary w d st at.input at.unit reached))
+          → DeclaresCounted (counted_declaration at.left (dwarf_of main supplementary) (place_at main supplementary at) (indices_at main supplementary w d st at.input at.entry.unit reached))
           main supplementary w w₁ files files₁ warnings warnings₁ d st a a₁ r
       resolve-own r stop F = declares-as r (λ k ws. step _) (then_stop _ r stop F)
 
-      module _ {st₁ : DeclaringState} (F : DeclaresCounted (λ y. after y.trail (own_declaration (place_at main supplementary at).unit (place_at main supplementary at).entry (indices_at main supplementary w d st at.input at.unit reached) y))
+      module _ {st₁ : DeclaringState} (F : DeclaresCounted (λ y. after y.trail (own_declaration (place_at main supplementary at).unit (place_at main supplementary at).entry (indices_at main supplementary w d st at.input at.entry.unit reached) y))
           main supplementary w w₁ files files₁ warnings warnings₁ d st a a₁ (none_found st₁)) where
         pub first-reaching : Reaching main supplementary w₁ st₁ at reached
         first-reaching = reaching-grown D st₁ R F.after.grown
 
         module _ {w₂ files₂ warnings₂ : List ℕ} {b : ℕ} where
-          first-as : {r : Result Declared Refusal} → DeclaresCounted (resolve_reference (at.left - 1) main supplementary at (indices_at main supplementary w₁ d st₁ at.input at.unit reached) 0x31)
+          first-as : {r : Result Declared Refusal} → DeclaresCounted (resolve_reference (at.left - 1) main supplementary at (indices_at main supplementary w₁ d st₁ at.input at.entry.unit reached) 0x31)
               main supplementary w₁ w₂ files₁ files₂ warnings₁ warnings₂ d st₁ a₁ b r
-              → DeclaresCounted (resolve_reference (at.left - 1) main supplementary at (indices_at main supplementary w d st at.input at.unit reached) 0x31)
+              → DeclaresCounted (resolve_reference (at.left - 1) main supplementary at (indices_at main supplementary w d st at.input at.entry.unit reached) 0x31)
               main supplementary w₁ w₂ files₁ files₂ warnings₁ warnings₂ d st₁ a₁ b r
           first-as G = rw (indices-grown D st₁ R F.after.grown F.rest) at G
 
           pub resolve-first : (r : Result Declared Refusal) → Stops r
-              → DeclaresCounted (resolve_reference (at.left - 1) main supplementary at (indices_at main supplementary w₁ d st₁ at.input at.unit reached) 0x31)
+              → DeclaresCounted (resolve_reference (at.left - 1) main supplementary at (indices_at main supplementary w₁ d st₁ at.input at.entry.unit reached) 0x31)
               main supplementary w₁ w₂ files₁ files₂ warnings₁ warnings₂ d st₁ a₁ b r
-              → DeclaresCounted (counted_declaration at.left (dwarf_of main supplementary) (place_at main supplementary at) (indices_at main supplementary w d st at.input at.unit reached))
+              → DeclaresCounted (counted_declaration at.left (dwarf_of main supplementary) (place_at main supplementary at) (indices_at main supplementary w d st at.input at.entry.unit reached))
               main supplementary w w₂ files files₂ warnings warnings₂ d st a b r
           resolve-first r stop G =
               declares-as r (λ k ws. step _) (then-missing r F (declares-as r (λ k ws. turn 0x31 (0x47 ∷ []) _) (then_stop _ r stop (first-as G))))
 
-          module _ {st₂ : DeclaringState} (G : DeclaresCounted (resolve_reference (at.left - 1) main supplementary at (indices_at main supplementary w₁ d st₁ at.input at.unit reached) 0x31)
+          module _ {st₂ : DeclaringState} (G : DeclaresCounted (resolve_reference (at.left - 1) main supplementary at (indices_at main supplementary w₁ d st₁ at.input at.entry.unit reached) 0x31)
               main supplementary w₁ w₂ files₁ files₂ warnings₁ warnings₂ d st₁ a₁ b (none_found st₂)) where
             pub second-reaching : Reaching main supplementary w₂ st₂ at reached
             second-reaching = reaching-grown F.after.ready st₂ first-reaching G.after.grown
 
             pub resolve-second : {w₃ files₃ warnings₃ : List ℕ} {e : ℕ} (r : Result Declared Refusal)
-                → DeclaresCounted (resolve_reference (at.left - 1) main supplementary at (indices_at main supplementary w₂ d st₂ at.input at.unit reached) 0x47)
+                → DeclaresCounted (resolve_reference (at.left - 1) main supplementary at (indices_at main supplementary w₂ d st₂ at.input at.entry.unit reached) 0x47)
                 main supplementary w₂ w₃ files₂ files₃ warnings₂ warnings₃ d st₂ b e r
-                → DeclaresCounted (counted_declaration at.left (dwarf_of main supplementary) (place_at main supplementary at) (indices_at main supplementary w d st at.input at.unit reached))
+                → DeclaresCounted (counted_declaration at.left (dwarf_of main supplementary) (place_at main supplementary at) (indices_at main supplementary w d st at.input at.entry.unit reached))
                 main supplementary w w₃ files files₃ warnings warnings₃ d st a e r
             resolve-second r H =
                 let I = rw (indices-grown F.after.ready st₂ first-reaching G.after.grown G.rest, indices-grown D st₁ R F.after.grown F.rest) at H in
@@ -231,11 +232,11 @@ module _ {f : Declaring → Counted Declaring} {main supplementary w w' files fi
   from-as r e F = subst (λ (m : ℕ). DeclaresCounted f main supplementary w w' files files' warnings warnings' d st m b r) e F
 
 -- the search of an entry of the unit that is imported, as the definition says it: from no followed targets on
-pub declaration-line : (main supplementary w : List ℕ) (d : Places) (st : DeclaringState) (q p : ℕ) (is : FileIndices) (ws : List Warning) → st.trail.count ≡ 0
-    → resolve_declaration_line (dwarf_of main supplementary) (unit_here main q) (entry_here main p) is (table_of main supplementary w st.table) ws
-    ≡ resolve_declaration 64 (dwarf_of main supplementary) (place_at main supplementary (start_at q p)) is (declaring_at main supplementary w d st ws 1)
+pub declaration-line : (main supplementary w : List ℕ) (d : Places) (st : DeclaringState) (e : EntryPlace) (is : FileIndices) (ws : List Warning) → st.trail.count ≡ 0
+    → resolve_declaration_line (dwarf_of main supplementary) (unit_here main e.unit) (entry_here main e.place) is (table_of main supplementary w st.table) ws
+    ≡ resolve_declaration 64 (dwarf_of main supplementary) (place_at main supplementary (start_at e)) is (declaring_at main supplementary w d st ws 1)
 unfolding resolve_declaration_line keys_at
-declaration-line main supplementary w d st q p is ws none-followed = rw none-followed
+declaration-line main supplementary w d st e is ws none-followed = rw none-followed
 
 -- ---- without the count, and the count
 
@@ -263,26 +264,22 @@ restart-as (Ok r) same G = record {
   rest = G.rest;
 }
 
-pub restarted : {main supplementary w : List ℕ} {d : Places} {st : DeclaringState} {t : Walked} → DeclaringIn main supplementary w d st → t.count ≡ st.trail.count
-    → DeclaringIn main supplementary w d (more st t)
-restarted D same = lower-ready D (but_refl _ _) refl same D.files refl refl D.warned
-
-module _ {main supplementary w w' files files' warnings warnings' : List ℕ} {d : Places} {st : DeclaringState} {b : ℕ} (q p : ℕ) (r : Result Declared Refusal)
-    (G : DeclaresCounted (counted_declaration 64 (dwarf_of main supplementary) (place_at main supplementary (start_at q p)) (indices_in w d.indices)) main supplementary w w' files files' warnings warnings' d st 1 b r) where
-  pub line_plain : Declares (resolve_declaration 64 (dwarf_of main supplementary) (place_at main supplementary (start_at q p)) (indices_in w d.indices)) main supplementary w w' files files' warnings warnings' d st r
+module _ {main supplementary w w' files files' warnings warnings' : List ℕ} {d : Places} {st : DeclaringState} {b : ℕ} (e : EntryPlace) (r : Result Declared Refusal)
+    (G : DeclaresCounted (counted_declaration 64 (dwarf_of main supplementary) (place_at main supplementary (start_at e)) (indices_in w d.indices)) main supplementary w w' files files' warnings warnings' d st 1 b r) where
+  pub line_plain : Declares (resolve_declaration 64 (dwarf_of main supplementary) (place_at main supplementary (start_at e)) (indices_in w d.indices)) main supplementary w w' files files' warnings warnings' d st r
   line_plain = record {
     reads = G.reads;
     new = G.new;
     is = λ k ws. outcome-as main supplementary w' d ws G.new (G.reads k) _ _ r
-        (counts-declaration (dwarf_of main supplementary) 64 (place_at main supplementary (start_at q p)) (indices_in w d.indices) (declaring_at main supplementary w d st ws k)).same (G.is k ws);
+        (counts-declaration (dwarf_of main supplementary) 64 (place_at main supplementary (start_at e)) (indices_in w d.indices) (declaring_at main supplementary w d st ws k)).same (G.is k ws);
     after = G.after;
     rest = G.rest;
   }
 
-  pub line_read : DeclaringIn main supplementary w d st → st.trail.count ≡ 0 → EntryKnown main q p → LineRead main supplementary w d st q p b
+  pub line_read : DeclaringIn main supplementary w d st → st.trail.count ≡ 0 → EntryKnown main e.unit e.place → LineRead main supplementary w d st e.unit e.place b
   unfolding declaration_reads keys_at
   line_read D none-followed known =
-      let is : (ws : List Warning) → b ≡ declaration_reads (dwarf_of main supplementary) (unit_here main q) (entry_here main p) (indices_in w d.indices) (table_of main supplementary w st.table) ws
+      let is : (ws : List Warning) → b ≡ declaration_reads (dwarf_of main supplementary) (unit_here main e.unit) (entry_here main e.place) (indices_in w d.indices) (table_of main supplementary w st.table) ws
       = λ ws. let n = G.adds 1 in let same : b ≡ G.reads 1 = omega arith in same ∙ rw none-followed at (sym (reads_as main supplementary w' d ws G.new (G.reads 1) _ r (G.is 1 ws))) in
       record {
         is = is;

@@ -63,7 +63,7 @@ Beside d t p n = (d.spans + d.room ≤ p) ⊎ (p + n ≤ t.base)
 
 -- the file table stands below the imported unit's map, this below the spans of a unit's directories, these below the followed targets; the tables of both
 -- sheets stand beside them; there is room for the directories of every unit, and for its map, which is written and not read
--- Stays a clause: it speaks of the work slice, which is written between two calls
+-- Stays a clause: it speaks of the work slice, which is written between two calls.
 pub record DeclaringIn (main supplementary w : List ℕ) (d : Places) (st : DeclaringState) : Type 0 where
   pub search-tables : SearchIn main supplementary w d.tables st.trail.count
   pub files : FilesIn main supplementary w st.table
@@ -71,10 +71,10 @@ pub record DeclaringIn (main supplementary w : List ℕ) (d : Places) (st : Decl
   pub table : st.table.base + extent st.table ≤ d.indices.base
   pub indices : d.indices.base + d.indices.count * index_record ≤ d.spans
   pub keys : d.spans + d.room ≤ d.tables.keys
-  pub main-units : Beside d st.table d.tables.main.units (unit_record * d.tables.main.unit_count)
-  pub main-entries : Beside d st.table d.tables.main.entries (entry_record * d.tables.main.entry_count)
-  pub supplementary-units : Beside d st.table d.tables.supplementary.units (unit_record * d.tables.supplementary.unit_count)
-  pub supplementary-entries : Beside d st.table d.tables.supplementary.entries (entry_record * d.tables.supplementary.entry_count)
+  pub main-units : Beside d st.table d.tables.main.units.base (unit_record * d.tables.main.units.count)
+  pub main-entries : Beside d st.table d.tables.main.entries.base (entry_record * d.tables.main.entries.count)
+  pub supplementary-units : Beside d st.table d.tables.supplementary.units.base (unit_record * d.tables.supplementary.units.count)
+  pub supplementary-entries : Beside d st.table d.tables.supplementary.entries.base (entry_record * d.tables.supplementary.entries.count)
   pub room-main : (q : ℕ) → UnitOf main q
       → map_extent main q ≤ d.room
   pub room-supplementary : (q : ℕ) → UnitOf supplementary q
@@ -161,7 +161,7 @@ pub record LineRead (main supplementary w : List ℕ) (d : Places) (st : Declari
 -- the files of a unit that was reached by section offset are in the table
 pub record Reaching (main supplementary w : List ℕ) (st : DeclaringState) (at : EntryAt) (reached : Bool) : Type 0 where
   pub unit : reached ≡ true
-      → ReachedUnit (unit_here (source_in main supplementary at.input) at.unit) (unit_here (source_in main supplementary at.input) at.unit).header
+      → ReachedUnit (unit_here (source_in main supplementary at.input) at.entry.unit) (unit_here (source_in main supplementary at.input) at.entry.unit).header
       (table_of main supplementary w st.table)
 
 -- ---- the members of the cycle

@@ -11,6 +11,8 @@ use Rattle.tlv.specs.Fields.{encode}
 use Rattle.tlv.specs.Model.{CompilationUnit}
 use Rattle.buffers.specs.Buffer.{top, Put}
 use Rattle.buffers.specs.Table.{KeptBut}
+use Rattle.buffers.specs.declared.warning.WarningKind.{WarningKind}
+use Rattle.buffers.specs.WarningKinds as kinds
 use Rattle.access.specs.Places.{unit_here, entry_here, UnitOf}
 use Rattle.lines.specs.Files.{FileIndices, get}
 use Rattle.files.specs.declared.store.StoredFiles.{StoredFiles}
@@ -48,18 +50,19 @@ pub record Numbered (main supplementary w w' : List ℕ) (d : Places) (st : Decl
 -- ---- a warning
 
 -- a warning of the entry at p of the unit at q was written, with its offset o
-pub record WarnedOf (s : List ℕ) (q p kind number : ℕ) (warnings warnings' : List ℕ) (st st' : DeclaringState) : Type 0 where
+pub record WarnedOf (s : List ℕ) (q p : ℕ) (kind : WarningKind) (number : ℕ) (warnings warnings' : List ℕ) (st st' : DeclaringState) : Type 0 where
   pub offset : ℕ
   pub is : absolute_entry_offset (unit_here s q) (entry_here s p).offset ≡ done offset
-  pub put : Put st.warned (encode tray_warning_tag ((kind ∷ []) ++ bytes_of 8 offset ++ bytes_of 8 number)) warnings warnings' st'.warned
+  pub put : Put st.warned (encode tray_warning_tag ((kinds.number_of kind ∷ []) ++ bytes_of 8 offset ++ bytes_of 8 number)) warnings warnings' st'.warned
   pub trail : st'.trail ≡ st.trail
   pub table : st'.table ≡ st.table
 
-abbrev pub WarnedIs : List ℕ → ℕ → ℕ → ℕ → ℕ → List ℕ → List ℕ → DeclaringState → Result Declared Refusal → Type 0
+abbrev pub WarnedIs : List ℕ → ℕ → ℕ → WarningKind → ℕ → List ℕ → List ℕ → DeclaringState → Result Declared Refusal → Type 0
 WarnedIs s q p kind number warnings warnings' st (Ok r) = WarnedOf s q p kind number warnings warnings' st r.state × (r.found ≡ None)
 WarnedIs s q p kind number warnings warnings' st (Err e) = absolute_entry_offset (unit_here s q) (entry_here s p).offset ≡ refused (refusals.number_of e)
 
-pub record Warns (s : List ℕ) (q p kind number : ℕ) (warnings warnings' : List ℕ) (st : DeclaringState) (r : Result Declared Refusal) : Type 0 where
+pub record Warns (s : List ℕ) (q p : ℕ) (kind : WarningKind) (number : ℕ) (warnings warnings' : List ℕ) (st : DeclaringState)
+    (r : Result Declared Refusal) : Type 0 where
   pub is : WarnedIs s q p kind number warnings warnings' st r
 
 -- ---- an entry's own declaration: it adds no files

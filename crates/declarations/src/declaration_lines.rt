@@ -8,47 +8,41 @@ ghost use Rattle.declarations.specs.Declarations.{DeclaringIn, Declares, LineRea
 
 use crate::declarations::resolve;
 use crate::declaring::{Declared, DeclaringState, Places, Position};
+use access::index::EntryPlace;
 use references::names::start_at;
-use references::trails::Trail;
+use references::trails::{Counted, Trail};
 use tlv::refusal::Refusal;
 
-// What a search answered, and how many entries it read for it.
-#[derive(Clone, Copy, Debug)]
-pub struct SearchedLine {
-    pub answer: Result<Declared, Refusal>,
-    pub reads: usize,
-}
-
-// The declaration of the entry at a place of the unit that is imported, from no followed targets on, and how many entries were read for it.
+// The declaration of an entry of the unit that is imported, from no followed targets on, and how many entries were read for it.
+// Stays with its slices apart: own_declaration and join_files are lent two of the three, and of a struct they would have to promise that the third stays.
 pub fn resolve_declaration_line_counted<'a>(
     work: &mut [u8],
     files: &mut [u8],
     warnings: &mut [u8],
     d: Places<'a>,
-    unit: usize,
-    place: usize,
+    entry: EntryPlace,
     st: DeclaringState,
-) -> SearchedLine
+) -> Counted<Result<Declared, Refusal>>
     requires declaring_in { DeclaringIn d.tables.sheets.main.now d.tables.sheets.supplementary.now work.old d st }
-    requires count_value { st.trail.count ≡ 0 }
-    requires entry_known { EntryKnown d.tables.sheets.main.now unit place }
+    requires none_followed { st.trail.count ≡ 0 }
+    requires entry_known { EntryKnown d.tables.sheets.main.now entry.unit entry.place }
     ensures declares { let main = d.entry.tables.sheets.main.now in let supplementary = d.entry.tables.sheets.supplementary.now in
-        Declares (resolve_declaration 64 (dwarf_of main supplementary) (place_at main supplementary (start_at unit place))
+        Declares (resolve_declaration 64 (dwarf_of main supplementary) (place_at main supplementary (start_at entry))
         (indices_in work.old d.entry.indices)) main supplementary work.old work.new files.old files.new warnings.old
         warnings.new d.entry st result.answer }
     ensures line_read { let main = d.entry.tables.sheets.main.now in let supplementary = d.entry.tables.sheets.supplementary.now in
-        LineRead main supplementary work.old d.entry st unit place result.reads }
+        LineRead main supplementary work.old d.entry st entry.unit entry.place result.reads }
 {
     let mut state = DeclaringState {
         trail: Trail::start(),
         ..st
     };
     let here = Position {
-        at: start_at(unit, place),
+        at: start_at(entry),
         reached: false,
     };
     let found = resolve(work, files, warnings, d, here, &mut state);
-    SearchedLine {
+    Counted {
         answer: state.answered(found),
         reads: state.trail.reads,
     }
@@ -60,17 +54,16 @@ pub fn resolve_declaration_line<'a>(
     files: &mut [u8],
     warnings: &mut [u8],
     d: Places<'a>,
-    unit: usize,
-    place: usize,
+    entry: EntryPlace,
     st: DeclaringState,
 ) -> Result<Declared, Refusal>
     requires declaring_in { DeclaringIn d.tables.sheets.main.now d.tables.sheets.supplementary.now work.old d st }
-    requires count_value { st.trail.count ≡ 0 }
-    requires entry_known { EntryKnown d.tables.sheets.main.now unit place }
+    requires none_followed { st.trail.count ≡ 0 }
+    requires entry_known { EntryKnown d.tables.sheets.main.now entry.unit entry.place }
     ensures { let main = d.entry.tables.sheets.main.now in let supplementary = d.entry.tables.sheets.supplementary.now in
-        Declares (resolve_declaration 64 (dwarf_of main supplementary) (place_at main supplementary (start_at unit place))
+        Declares (resolve_declaration 64 (dwarf_of main supplementary) (place_at main supplementary (start_at entry))
         (indices_in work.old d.entry.indices)) main supplementary work.old work.new files.old files.new warnings.old
         warnings.new d.entry st result }
 {
-    resolve_declaration_line_counted(work, files, warnings, d, unit, place, st).answer
+    resolve_declaration_line_counted(work, files, warnings, d, entry, st).answer
 }

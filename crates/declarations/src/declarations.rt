@@ -8,13 +8,14 @@ ghost use Rattle.declarations.specs.Declarations.{answered, indices_at, Declarin
 use crate::declaring::{Declaration, DeclaringState, Places, Position};
 use crate::joins::join_files;
 use crate::own_declarations::own_declaration;
-use references::keys::{is_visited, push_key};
-use references::tables::target_at;
-use references::ways::{EntryAt, OffsetAt, Way, way_of};
+use references::keys::{Key, is_visited, push_key};
+use references::ways::{OffsetAt, Way, way_of};
 use tlv::constants::{DW_AT_ABSTRACT_ORIGIN, DW_AT_SPECIFICATION};
 use tlv::refusal::Refusal;
 
 // The declaration of the entry at a place: its own, or the first that its references lead to.
+// Stays beside references' name search, of the same shape: one search over both would lend the file table and the warnings to that of a name as well.
+// Stays two calls, the second the answer, as references' resolve_name_inner, which says why.
 #[cycle(resolve_resolve_absolute_resolve_reference)]
 pub fn resolve<'a>(
     work: &mut [u8],
@@ -30,7 +31,7 @@ pub fn resolve<'a>(
     ensures { let main = d.entry.tables.sheets.main.now in let supplementary = d.entry.tables.sheets.supplementary.now in
         DeclaresCounted (counted_declaration here.at.left (dwarf_of main supplementary)
         (place_at main supplementary here.at)
-        (indices_at main supplementary work.old d.entry st.old here.at.input here.at.unit here.reached))
+        (indices_at main supplementary work.old d.entry st.old here.at.input here.at.entry.unit here.reached))
         main supplementary work.old work.new files.old files.new warnings.old warnings.new d.entry st.old
         st.old.trail.reads st.new.trail.reads (answered st.new result) }
 {
@@ -64,14 +65,18 @@ fn resolve_reference<'a>(
     requires reaching { Reaching d.tables.sheets.main.now d.tables.sheets.supplementary.now work.old st.old here.at here.reached }
     ensures { let main = d.entry.tables.sheets.main.now in let supplementary = d.entry.tables.sheets.supplementary.now in
         DeclaresCounted (resolve_reference (here.at.left - 1) main supplementary here.at
-        (indices_at main supplementary work.old d.entry st.old here.at.input here.at.unit here.reached) name)
+        (indices_at main supplementary work.old d.entry st.old here.at.input here.at.entry.unit here.reached) name)
         main supplementary work.old work.new files.old files.new warnings.old warnings.new d.entry st.old
         st.old.trail.reads st.new.trail.reads (answered st.new result) }
 {
     match way_of(work, d.tables, st.trail.count, here.at, name)? {
         None => Ok(None),
         Some(Way::Entry(next, target)) => {
-            push_key(work, d.tables, st.trail.count, next.source, target);
+            let key = Key {
+                source: next.source,
+                offset: target,
+            };
+            push_key(work, d.tables, st.trail.count, key);
             st.trail = st.trail.with_entry();
             let there = Position { at: next, ..here };
             resolve(work, files, warnings, d, there, st)
@@ -97,33 +102,24 @@ pub fn resolve_absolute<'a>(
         main supplementary work.old work.new files.old files.new warnings.old warnings.new d.entry st.old
         st.old.trail.reads st.new.trail.reads (answered st.new result) }
 {
-    let input = at.input;
-    let source = at.source;
-    if is_visited(work, d.tables, st.trail.count, source, at.target) {
+    let key = Key {
+        source: at.source,
+        offset: at.target,
+    };
+    if is_visited(work, d.tables, st.trail.count, key) {
         return Ok(None);
     }
-    let found = target_at(
-        d.tables.sheets.of(input),
-        work,
-        d.tables.index(input),
-        at.target,
-    )?;
-    push_key(work, d.tables, st.trail.count, source, at.target);
+    let s = d.tables.sheets.of(at.input);
+    let found = d.tables.index(at.input).target_at(s, work, at.target)?;
+    push_key(work, d.tables, st.trail.count, key);
     let Some(entry) = found else {
         st.trail = st.trail.with_target();
         return Ok(None);
     };
     st.trail = st.trail.with_entry();
-    st.table = join_files(work, files, d, input, entry.unit, *st)?;
-    let next = EntryAt {
-        input,
-        source,
-        unit: entry.unit,
-        place: entry.place,
-        left: at.left,
-    };
+    st.table = join_files(work, files, d, at.input, entry.unit, *st)?;
     let there = Position {
-        at: next,
+        at: at.to_entry(entry),
         reached: true,
     };
     resolve(work, files, warnings, d, there, st)

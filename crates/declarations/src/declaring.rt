@@ -2,7 +2,7 @@
 ghost use Rattle.std.specs.Prelude.{◌≡◌};
 ghost use Rattle.declarations.specs.Declarations.{answered};
 
-use files::index::StoredIndices;
+use buffers::table::Stored;
 use files::store::StoredFiles;
 use references::tables::Tables;
 use references::trails::Trail;
@@ -11,11 +11,10 @@ use tlv::model::FileIndex;
 use tlv::refusal::Refusal;
 
 // The search's tables, the map of the unit that is imported, and where the spans of a unit's directories and its map are put.
-// Stays bare: it holds the sheets.
-#[derive(Clone, Copy)]
+#[derive(Clone, Copy, Debug)]
 pub struct Places<'a> {
     pub tables: Tables<'a>,
-    pub indices: StoredIndices,
+    pub indices: Stored<FileIndex>,
     pub spans: usize,
     pub room: usize,
 }
@@ -54,9 +53,6 @@ impl DeclaringState {
     pub fn answered(self, answer: Result<Option<Declaration>, Refusal>) -> Result<Declared, Refusal>
         ensures { result ≡ answered self answer }
     {
-        match answer {
-            Ok(found) => Ok(Declared { state: self, found }),
-            Err(e) => Err(e),
-        }
+        answer.map(|found| Declared { state: self, found })
     }
 }

@@ -6,7 +6,7 @@ ghost use Rattle.declarations.specs.DeclaredSteps.{UnitKnown, Joins};
 
 use crate::declaring::{DeclaringState, Places};
 use crate::own_declarations::lacks_header;
-use files::spans::SPAN_RECORD;
+use files::spans::{FileUnit, SPAN_RECORD};
 use files::store::StoredFiles;
 use tlv::model::DebugSource;
 use tlv::refusal::Refusal;
@@ -29,15 +29,10 @@ pub fn join_files<'a>(
     if lacks_header(d.tables.sheets.of(input), unit) {
         return Ok(st.table);
     }
-    let described = files::spans::file_unit(d.tables.sheets, input, unit, work, d.spans);
-    let base = d.spans + described.directory_count * SPAN_RECORD;
-    let joined = files::header::intern_header_files(
-        d.tables.sheets,
-        described,
-        work,
-        files,
-        st.table,
-        base,
-    )?;
+    let described = FileUnit::describe(d.tables.sheets, input, unit, work, d.spans);
+    let base = d.spans + described.directories.count * SPAN_RECORD;
+    let joined = st
+        .table
+        .intern_header_files(d.tables.sheets, described, work, files, base)?;
     Ok(joined.table)
 }

@@ -13,20 +13,18 @@ ghost use Rattle.declarations.specs.DeclaredSteps.{OwnAt, Numbered, Warns, Owns,
 
 use crate::declaring::{Declaration, DeclaringState, Places, Position};
 use access::access::next_own;
+use access::index::EntryPlace;
+use buffers::output::put_warning;
+use buffers::warning::WarningKind;
 use files::index::{FileNumber, get_index};
-use files::lookup::look_up_file;
+use files::spans::FileUnit;
 use references::attributes::{file_index_attribute, unsigned_attribute};
-use references::ways::{EntryAt, absolute_entry_offset};
+use references::ways::absolute_entry_offset;
 use tlv::bytes::Number;
 use tlv::constants::{DW_AT_DECL_FILE, DW_AT_DECL_LINE};
 use tlv::model::FileIndex;
 use tlv::refusal::Refusal;
 use tlv::tags::{FIELD_HEAD, HEADER_TAG, UNIT_WHOLE};
-
-// The kinds of the warnings of a bad declaration: of a file number that the unit does not have, of a line that is too large.
-const INVALID_FILE: u8 = 10;
-
-const INVALID_LINE: u8 = 11;
 
 // The file number and the line that an entry has.
 #[derive(Clone, Copy, Debug)]
@@ -35,14 +33,14 @@ pub struct OwnLine {
     pub line: u64,
 }
 
-// The file number and the line of the declaration of the entry at place p, where it has both.
-fn declared_at(s: &[u8], unit: usize, p: usize) -> Option<OwnLine>
+// The file number and the line of the declaration of an entry, where it has both.
+fn declared_at(s: &[u8], entry: EntryPlace) -> Option<OwnLine>
     requires placed { Placed s.now 0 }
-    requires entry_known { EntryKnown s.now unit p }
-    ensures { OwnAt s.now p result }
+    requires entry_known { EntryKnown s.now entry.unit entry.place }
+    ensures { OwnAt s.now entry.place result }
 {
-    let file = file_index_attribute(s, unit, p, DW_AT_DECL_FILE)?;
-    let line = unsigned_attribute(s, unit, p, DW_AT_DECL_LINE)?;
+    let file = file_index_attribute(s, entry, DW_AT_DECL_FILE)?;
+    let line = unsigned_attribute(s, entry, DW_AT_DECL_LINE)?;
     Some(OwnLine {
         file: FileNumber(file),
         line,
@@ -67,40 +65,42 @@ fn number_of<'a>(
     st: DeclaringState,
 ) -> Option<FileIndex>
     requires declaring_in { DeclaringIn d.tables.sheets.main.now d.tables.sheets.supplementary.now work.old d st }
-    requires unit_known { UnitKnown (sheet_in d.tables.sheets here.at.input) here.at.unit }
+    requires unit_known { UnitKnown (sheet_in d.tables.sheets here.at.input) here.at.entry.unit }
     ensures { let main = d.entry.tables.sheets.main.now in let supplementary = d.entry.tables.sheets.supplementary.now in
         Numbered main supplementary work.old work.new d.entry st
-        (indices_at main supplementary work.old d.entry st here.at.input here.at.unit here.reached) file result }
+        (indices_at main supplementary work.old d.entry st here.at.input here.at.entry.unit here.reached) file result }
 {
     if !here.reached {
         return get_index(work, d.indices, file);
     }
     let input = here.at.input;
-    let unit = here.at.unit;
+    let unit = here.at.entry.unit;
     if lacks_header(d.tables.sheets.of(input), unit) {
         return None;
     }
-    let described = files::spans::file_unit(d.tables.sheets, input, unit, work, d.spans);
-    look_up_file(d.tables.sheets, described, file, work, st.table)
+    let described = FileUnit::describe(d.tables.sheets, input, unit, work, d.spans);
+    st.table
+        .look_up_file(d.tables.sheets, described, file, work)
 }
 
 // Warns of a bad declaration, with the entry's offset in its section and a number: it is none.
+// Stays beside dies' warn_about: alike are a sum and a warning, a call each, and one for both would be these two calls.
 fn warn_declaration(
     s: &[u8],
     warnings: &mut [u8],
-    at: EntryAt,
-    kind: u8,
+    entry: EntryPlace,
+    kind: WarningKind,
     number: u64,
     st: &mut DeclaringState,
 ) -> Result<Option<Declaration>, Refusal>
-    requires listed { UnitOf s.now at.unit }
+    requires listed { UnitOf s.now entry.unit }
     requires placed { Placed s.now 0 }
-    requires entry_known { EntryKnown s.now at.unit at.place }
-    ensures warns { Warns s.now at.unit at.place kind number warnings.old warnings.new st.old (answered st.new result) }
+    requires entry_known { EntryKnown s.now entry.unit entry.place }
+    ensures warns { Warns s.now entry.unit entry.place kind number warnings.old warnings.new st.old (answered st.new result) }
     ensures same_trail { st.new.trail ≡ st.old.trail }
 {
-    let offset = absolute_entry_offset(s, at.unit, u64::read(s, at.place + FIELD_HEAD))?;
-    st.warned = buffers::output::put_warning(warnings, st.warned, kind, offset, number);
+    let offset = absolute_entry_offset(s, entry.unit, u64::read(s, entry.place + FIELD_HEAD))?;
+    st.warned = put_warning(warnings, st.warned, kind, offset, number);
     Ok(None)
 }
 
@@ -116,19 +116,33 @@ pub fn own_declaration<'a>(
     requires stands { Stands d.tables.sheets.main.now d.tables.sheets.supplementary.now here.at }
     ensures owns { let main = d.entry.tables.sheets.main.now in let supplementary = d.entry.tables.sheets.supplementary.now in
         let p = place_at main supplementary here.at in
-        Owns (own_declaration p.unit p.entry (indices_at main supplementary work.old d.entry st.old here.at.input here.at.unit here.reached))
+        Owns (own_declaration p.unit p.entry (indices_at main supplementary work.old d.entry st.old here.at.input here.at.entry.unit here.reached))
         main supplementary work.old work.new warnings.old warnings.new d.entry st.old (answered st.new result) }
     ensures same_trail { st.new.trail ≡ st.old.trail }
 {
     let s = d.tables.sheets.of(here.at.input);
-    let Some(own) = declared_at(s, here.at.unit, here.at.place) else {
+    let Some(own) = declared_at(s, here.at.entry) else {
         return Ok(None);
     };
     let Some(file) = number_of(work, d, here, own.file, *st) else {
-        return warn_declaration(s, warnings, here.at, INVALID_FILE, own.file.0, st);
+        return warn_declaration(
+            s,
+            warnings,
+            here.at.entry,
+            WarningKind::InvalidDeclarationFile,
+            own.file.0,
+            st,
+        );
     };
     let Ok(line) = u32::try_from(own.line) else {
-        return warn_declaration(s, warnings, here.at, INVALID_LINE, own.line, st);
+        return warn_declaration(
+            s,
+            warnings,
+            here.at.entry,
+            WarningKind::InvalidDeclarationLine,
+            own.line,
+            st,
+        );
     };
     Ok(Some(Declaration { file, line }))
 }

@@ -6,9 +6,6 @@ use Rattle.declarations.proofs.own_declarations.own_declaration.Goals as goal
 pub declared_at-requires-clause-placed : goal.declared_at-requires-clause-placed
 declared_at-requires-clause-placed c = rw c.of-s.ensures (accepted-at c.requires.declaring_in c.args.here.at.input)
 
-pub declared_at-requires-clause-entry_known : goal.declared_at-requires-clause-entry_known
-declared_at-requires-clause-entry_known c = rw c.of-s.ensures c.requires.stands.known
-
 pub number_of-requires-clause-unit_known : goal.number_of-requires-clause-unit_known
 number_of-requires-clause-unit_known c = unit-known c.requires.declaring_in c.args.here.at c.requires.stands
 
@@ -17,9 +14,6 @@ warn_declaration-requires-clause-listed c = rw c.of-s.ensures (unit-known c.requ
 
 pub warn_declaration-requires-clause-placed : goal.warn_declaration-requires-clause-placed
 warn_declaration-requires-clause-placed c = rw c.of-s.ensures (accepted-at c.requires.declaring_in c.args.here.at.input)
-
-pub warn_declaration-requires-clause-entry_known : goal.warn_declaration-requires-clause-entry_known
-warn_declaration-requires-clause-entry_known c = rw c.of-s.ensures c.requires.stands.known
 
 pub returns-in_default-try_from-clause-owns : goal.returns-in_default-try_from-clause-owns
 returns-in_default-try_from-clause-owns c = own-long_line c.requires.declaring_in c.args.here.at _ c.of-s.ensures c.declared_at.ensures c.in-Some.is c.number_of.ensures c.number_of.auto.work (omega (arith, c.well_formed)) c.in-Some-number_of.is (omega (arith, c.in_default-try_from.ensures)) c.warn_declaration-in_default-try_from.ensures.warns
@@ -38,6 +32,3 @@ warn_declaration-requires-in_default-try_from-clause-listed c = rw c.of-s.ensure
 
 pub warn_declaration-requires-in_default-try_from-clause-placed : goal.warn_declaration-requires-in_default-try_from-clause-placed
 warn_declaration-requires-in_default-try_from-clause-placed c = rw c.of-s.ensures (accepted-at c.requires.declaring_in c.args.here.at.input)
-
-pub warn_declaration-requires-in_default-try_from-clause-entry_known : goal.warn_declaration-requires-in_default-try_from-clause-entry_known
-warn_declaration-requires-in_default-try_from-clause-entry_known c = rw c.of-s.ensures c.requires.stands.known

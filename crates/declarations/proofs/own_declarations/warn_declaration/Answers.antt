@@ -5,8 +5,8 @@ use Rattle.declarations.proofs.OwnDeclarationLaws.{warns-refused, warns-written}
 use Rattle.declarations.proofs.own_declarations.OwnLineLaws.{place_inside, entry-is}
 use Rattle.declarations.proofs.own_declarations.warn_declaration.Goals as goal
 
-pub overflow_add-at : goal.overflow_add-at
-overflow_add-at c = omega (arith, place_inside c.requires.placed c.requires.entry_known)
+pub overflow_add-entry : goal.overflow_add-entry
+overflow_add-entry c = omega (arith, place_inside c.requires.placed c.requires.entry_known)
 
 pub read-requires : goal.read-requires
 read-requires c = place_inside c.requires.placed c.requires.entry_known
