@@ -1,16 +1,16 @@
 -- The ranges of an inlined entry, of its fields 19 or of its list: what each source gives, and which one it is.
-use mathlib.Core.Path.{◌≡◌, refl, sym, ap, ◌∙◌}
+use mathlib.Core.Path.{◌≡◌, refl, sym, ap, ◌∙◌, subst}
 use mathlib.Core.Bool.{Bool, true, false, true≢false, false≢true, ◌&&◌, ◌||◌}
 use mathlib.Core.Logic.{◌⊎◌, inl, inr}
 use mathlib.Core.List.{List, [], ◌∷◌}
 use Prim.Native.Nat.{ℕ, ◌+◌, ◌*◌, ◌/◌, ◌≤◌}
 use native.Mathlib.Omega.{arith}
-use borrow.Author.Tests.{eq-eqb, ne_eqb, eqb-true}
+use borrow.Author.Tests.{eqb-true}
 use lib.Dec.{eqb}
 use lib.ListN.{length, take, drop}
 use Rattle.tlv.specs.Addresses.{Nonempty}
 use Rattle.tlv.specs.Bytes.{le_at}
-use Rattle.tlv.specs.Lists.{All, is_none, map_option}
+use Rattle.tlv.specs.Lists.{All, map_option}
 use Rattle.tlv.specs.Fields.{fields, payloads, payload_of}
 use Rattle.tlv.specs.Grammar.{may_follow, payload_shaped, shaped, list_shaped}
 use Rattle.tlv.specs.Model.{range_list_of}
@@ -19,31 +19,22 @@ use Rattle.tlv.proofs.TestLaws.{and_right, or_either}
 use Rattle.tlv.proofs.ShapeLaws.{number_at, number-first}
 use Rattle.tlv.proofs.PlaceFacts.{placed-shaped}
 use Rattle.tlv.proofs.PlacePromises.{placed-list}
-use Rattle.buffers.proofs.TableLaws.{kept_refl, kept-wide, kept_trans}
+use Rattle.buffers.proofs.TableLaws.{kept_refl}
 use Rattle.std.specs.Prelude.{Result, Ok, Err, Option, Some, None, IsSome, IsNone}
 use Rattle.tlv.specs.declared.refusal.Refusal.{Refusal}
 use Rattle.tlv.specs.declared.fields.FieldSpan.{FieldSpan}
 use Rattle.tlv.specs.Cursor.{step_at}
-use Rattle.tlv.specs.Refusals.{number_of}
 use Rattle.access.specs.Places.{own_fields}
 use Rattle.access.specs.Access.{NextOwn}
 use Rattle.access.proofs.OwnLaws.{own-field, own-within}
 use Rattle.rnglists.specs.declared.lists.ListField.{ListField}
 use Rattle.rnglists.specs.Sizes.{width_of}
 use Rattle.rnglists.specs.Steps.{FieldIs}
-use Rattle.rnglists.specs.RangeLists.{ListRanges, list_ranges, failure_by}
-use Rattle.imports.specs.Ranges.{coalesce_ranges}
-use Rattle.imports.specs.Tree.{fit}
-use Rattle.ranges.specs.RangeTable.{ranges_at, range_fields, own_lists, MergedAt, Gathered, list_at, list_of, list_given, GatheredList, read_at, Merges, MergesList, MergesFields}
+use Rattle.rnglists.specs.RangeLists.{ListRanges, list_ranges, listed}
+use Rattle.ranges.specs.RangeTable.{ranges_at, range_fields, own_lists, Gathered, list_at, list_of, list_given, GatheredList, MergedBy, read_at, Merges, MergesList, MergesFields}
 use Rattle.ranges.proofs.GatherLaws.{fit-nonempty}
 
 -- ---- a list
-
-fault-some : (n : ℕ) → 7 ≤ n → is_none (failure_by n) ≡ false
-fault-some n h = rw (ne_eqb n 0 (λ z. omega arith))
-
-fault-none : (n : ℕ) → n ≡ 0 → is_none (failure_by n) ≡ true
-fault-none n h = rw (eq-eqb n 0 h)
 
 -- the list by the numbers of its field
 list_same : (lists addresses : List ℕ) {s : List ℕ} {start : ℕ} {f : ListField} → FieldIs s start f
@@ -54,25 +45,6 @@ module _ {lists addresses w w₁ : List ℕ} {place size offset base q m to : �
   module _ {n : ℕ} (G : GatheredList lists addresses place size offset base w w₁ q m to (Ok n)) where
     pub list-nonempty : All Nonempty (ranges_at w₁ to n)
     list-nonempty = rw G.is.1 (fit-nonempty (ranges_at w q m) (list_given (list_at lists addresses place size offset base)))
-
-module _ {lists addresses w w₁ : List ℕ} {q m to : ℕ} {s : List ℕ} {start : ℕ} {f : ListField} (F : FieldIs s start f) where
-  pub list-refused : {e : Refusal} → GatheredList lists addresses f.addresses (width_of f.size) f.offset f.base w w₁ q m to (Err e) → MergesList (list_of s lists addresses start) lists w w₁ q m to (Err e)
-  list-refused {e} G =
-      let z : (list_of s lists addresses start).fault ≡ number_of e = ap (λ (l : ListRanges). l.fault) (sym (list_same lists addresses F)) ∙ G.is.0 in
-      record { is = (ap (λ (n : ℕ). is_none (failure_by n)) z ∙ fault-some (number_of e) G.is.1, z, omega (arith, G.is.1)); few = tt; rest = G.rest }
-
-  pub list-merged : {n : ℕ} → GatheredList lists addresses f.addresses (width_of f.size) f.offset f.base w w₁ q m to (Ok n) → {w₂ : List ℕ} {k : ℕ} → MergedAt w₁ w₂ to n k
-      → MergesList (list_of s lists addresses start) lists w w₂ q m to (Ok k)
-  list-merged G M =
-      let z : (list_of s lists addresses start).fault ≡ 0 = ap (λ (l : ListRanges). l.fault) (sym (list_same lists addresses F)) ∙ G.is.0 in
-      record {
-        is = (
-          fault-none (list_of s lists addresses start).fault z,
-          M.ranges ∙ ap coalesce_ranges G.is.1 ∙ ap (λ (l : ListRanges). coalesce_ranges (fit (ranges_at w q m) (list_given l))) (list_same lists addresses F),
-        );
-        few = omega (arith, M.few, G.is.2);
-        rest = kept_trans G.rest (kept-wide to (16 * (length lists / 3)) M.rest (omega arith) (omega (arith, G.is.2, M.few)));
-      }
 
 -- ---- fields 19 and 1a
 
@@ -146,8 +118,14 @@ module _ {s : List ℕ} {p : ℕ} {f : FieldSpan} (N : NextOwn s p 0x1f (Some f)
           | inr x ↦ inr (sym size_is ∙ eqb-true n 8 x)
         ]
 
-    pub inline-list : (lists addresses : List ℕ) {w w' : List ℕ} {q m to : ℕ} {r : Result ℕ Refusal}
-        → MergesList (list_at lists addresses (le_at 8 s (f.start + 16)) (le_at 1 s (f.start + 24)) (le_at 8 s f.start) (le_at 8 s (f.start + 8))) lists w w' q m to r
+    pub inline-list : (lists addresses : List ℕ) {w w' : List ℕ} {q m to : ℕ} {r : Result ℕ Refusal} {l : ListField} → FieldIs s f.start l
+        → MergesList (list_at lists addresses l.addresses (width_of l.size) l.offset l.base) lists w w' q m to r
         → Merges (read_at lists addresses s p) s lists p w w' q m to r
     unfolding payload_of map_option list_ranges
-    inline-list lists addresses M = record { is = rw (fields-are, read_is) M.is; most = length lists / 3; few = M.few; own = inr (refl, list-there); rest = M.rest }
+    inline-list lists addresses {w} {w'} {q} {m} {to} {r} F M = record {
+      is = rw (fields-are, read_is) (subst (λ (x : ListRanges). MergedBy (listed x) w w' q m to r) (list_same lists addresses F) M.is);
+      most = length lists / 3;
+      few = M.few;
+      own = inr (refl, list-there);
+      rest = M.rest;
+    }

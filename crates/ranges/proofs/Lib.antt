@@ -3,3 +3,4 @@ pub mod RangeTableLaws
 pub mod ReorderLaws
 pub mod GatherLaws
 pub mod InlinedLaws
+pub mod NumberLaws

@@ -3,41 +3,31 @@ use mathlib.Core.Path.{◌≡◌, refl, sym, ap, ◌∙◌}
 use mathlib.Core.Logic.{inl, inr}
 use mathlib.Core.List.{List, [], ◌∷◌, ◌++◌, append_assoc, append-nil}
 use mathlib.Core.Bool.{Bool, true, false, cond, ◌&&◌, ◌||◌}
-use Prim.Native.Nat.{ℕ, ◌+◌, ◌-◌, ◌*◌, ◌≤◌, ◌<◌, min, max}
+use Prim.Native.Nat.{ℕ, ◌+◌, ◌-◌, ◌*◌, ◌≤◌, ◌<◌}
 use native.Mathlib.Nat.{add-zero}
 use native.Mathlib.Omega.{arith}
 use lib.Dec.{leb}
-use lib.ListN.{length, drop}
-use borrow.Author.Tests.{lt-ltb, le-ltb}
+use lib.ListN.{length, take, drop}
+use borrow.Author.Tests.{lt-ltb, le-ltb, leb-true, leb-false}
 use Rattle.tlv.specs.declared.model.AddressRange.{AddressRange}
 use Rattle.tlv.specs.Addresses.{Nonempty}
-use Rattle.tlv.specs.Bytes.{le_at}
 use Rattle.tlv.specs.Lists.{exists}
 use Rattle.tlv.specs.Model.{range_of}
 use Rattle.buffers.specs.Output.{range_bytes, each_of}
-use Rattle.buffers.specs.Table.{chunk, Apart as Beside, Kept, Clear, KeptBut, Wrote}
-use Rattle.buffers.proofs.ChunkLaws.{le_at-chunk, le_at-front}
-use Rattle.buffers.proofs.TableLaws.{kept_refl, kept-wide, kept_trans, le_at-kept}
+use Rattle.buffers.specs.Table.{chunk, Apart as Beside, Kept, Clear, KeptBut, PutRange}
+use Rattle.buffers.proofs.TableLaws.{kept_refl, kept-wide, kept_trans}
 use Rattle.buffers.proofs.RecordLaws.{records-length, records-nil, records-suc, records-add, records-rest_none, records-rest_cons, records-kept, records-but, records-push}
 use Rattle.imports.specs.Ranges.{Apart}
 use Rattle.imports.specs.Tree.{lies_in, fit}
-use Rattle.ranges.specs.RangeTable.{ranges_at, PutRange, hull, add_one, Inserted, Added, PutFit}
+use Rattle.ranges.specs.RangeTable.{ranges_at, hull, add_one, Inserted, Added, PutFit}
 use Rattle.ranges.proofs.InsertLaws.{add_stay, add_pass, add_join, add_apart, add_is, add_last}
 
 -- ---- a range at a place
 
-range-of : (w : List ℕ) (p : ℕ) → range_of (chunk w p 16) ≡ record { start = le_at 8 w p; end = le_at 8 w (p + 8) }
-unfolding range_of
-range-of w p = λ i. record { start = le_at-front 8 w p 16 (omega arith) i; end = le_at-chunk 8 w p 16 8 (omega arith) i }
-
-pub range-read : {a b : ℕ} (w : List ℕ) (p : ℕ) → a ≡ le_at 8 w p → b ≡ le_at 8 w (p + 8) → record { start = a; end = b } ≡ range_of (chunk w p 16)
-range-read w p ea eb = rw (range-of w p, ea, eb)
-
-pub range-put : {w w₁ w₂ : List ℕ} {p : ℕ} {r : AddressRange} → Wrote w w₁ p 8 r.start → Wrote w₁ w₂ (p + 8) 8 r.end → PutRange w w₂ p r
-range-put {w} {w₁} {w₂} {p} {r} A B = record {
-  value = range-of w₂ p ∙ (λ i. record { start = (le_at-kept 8 p B.rest (inl (omega arith)) ∙ A.value) i; end = B.value i });
-  rest = kept_trans (kept-wide p 16 A.rest (omega arith) (omega arith)) (kept-wide p 16 B.rest (omega arith) (omega arith));
-}
+-- as it is read
+pub read_chunk : (w : List ℕ) (p : ℕ) {r : AddressRange} → r ≡ range_of (take 16 (drop p w)) → r ≡ range_of (chunk w p 16)
+unfolding chunk
+read_chunk w p e = e
 
 -- ---- the ranges of a table
 
@@ -89,29 +79,7 @@ pub ranges-push : {w w' : List ℕ} {r : AddressRange} (p o : ℕ) → PutRange 
 unfolding ranges_at
 ranges-push {w} {w'} {r} p o P = records-push range_of 16 p o r P.rest P.value
 
--- ---- whether one of some passes a test: none of the first i does
-
-pub record Passing (test : AddressRange → Bool) (w : List ℕ) (p n i : ℕ) : Type 0 where
-  pub rest : exists test (ranges_at w p n) ≡ exists test (drop i (ranges_at w p n))
-
-pub passing-start : (test : AddressRange → Bool) (w : List ℕ) (p n : ℕ) → Passing test w p n 0
-passing-start test w p n = record { rest = refl }
-
-module _ {test : AddressRange → Bool} {w : List ℕ} {p n i : ℕ} (L : Passing test w p n i) where
-  pub passing-end : n ≤ i → false ≡ exists test (ranges_at w p n)
-  unfolding exists
-  passing-end h = sym (L.rest ∙ ap (λ (l : List AddressRange). exists test l) (ranges-end w p n i h))
-
-  module _ (h : i < n) {m : AddressRange} (em : m ≡ range_of (chunk w (p + i * 16) 16)) {b : Bool} (eb : b ≡ test m) where
-    turn : exists test (ranges_at w p n) ≡ cond b true (exists test (drop (i + 1) (ranges_at w p n)))
-    unfolding exists
-    turn = L.rest ∙ ap (λ (l : List AddressRange). exists test l) (ranges-cons w p n i h) ∙ rw (← em, ← eb)
-
-    pub passing-hit : b ≡ true → true ≡ exists test (ranges_at w p n)
-    passing-hit e = sym (turn ∙ rw e)
-
-    pub passing-miss : b ≡ false → Passing test w p n (i + 1)
-    passing-miss e = record { rest = turn ∙ rw e }
+-- ---- whether a range lies inside one of some, as a test of each
 
 pub lies-exists : (rs : List AddressRange) (x : AddressRange) → lies_in rs x ≡ exists (λ r. leb r.start x.start && leb x.end r.end) rs
 unfolding exists
@@ -143,10 +111,10 @@ module _ {w₀ w : List ℕ} {p n : ℕ} {x held : AddressRange} {i o : ℕ} (A 
     rest = kept_trans (kept-wide p (n * 16 + 16) A.rest (omega arith) (omega arith)) (kept-wide p (n * 16 + 16) P.rest (omega arith) (omega arith));
   }
 
-  module _ (h : i < n) {m : AddressRange} (em : m ≡ range_of (chunk w (p + i * 16) 16)) where
+  module _ (h : i < n) {m : AddressRange} (em : m ≡ range_of (take 16 (drop (p + i * 16) w))) where
     -- what is not read yet is as at the start
     next : drop i (ranges_at w₀ p n) ≡ m ∷ drop (i + 1) (ranges_at w₀ p n)
-    next = ranges-cons w₀ p n i h ∙ (λ k. sym (em ∙ ap range_of (A.rest.same (p + i * 16) 16 (inr (omega arith)))) k ∷ drop (i + 1) (ranges_at w₀ p n))
+    next = ranges-cons w₀ p n i h ∙ (λ k. sym (read_chunk w (p + i * 16) em ∙ ap range_of (A.rest.same (p + i * 16) 16 (inr (omega arith)))) k ∷ drop (i + 1) (ranges_at w₀ p n))
 
     turned : (out : List AddressRange) → add_one held (m ∷ drop (i + 1) (ranges_at w₀ p n)) ≡ out → ranges_at w p o ++ out ≡ add_one x (ranges_at w₀ p n)
     turned out q = ap (λ (l : List AddressRange). ranges_at w p o ++ l) (sym q ∙ ap (add_one held) (sym next)) ∙ A.done
@@ -191,12 +159,12 @@ added-pass {w} {w'} {p} {n} {x} a h I = record {
 }
 
 -- at the end: nothing before the last range changes
-module _ (w : List ℕ) (p n : ℕ) (x l : AddressRange) (a : Apart (ranges_at w p n)) (h : Nonempty x) (some : (n ≡ 0) → ⊥) (el : l ≡ range_of (chunk w (p + (n - 1) * 16) 16)) (s : l.start ≤ x.start) where
+module _ (w : List ℕ) (p n : ℕ) (x l : AddressRange) (a : Apart (ranges_at w p n)) (h : Nonempty x) (some : (n ≡ 0) → ⊥) (el : l ≡ range_of (take 16 (drop (p + (n - 1) * 16) w))) (s : l.start ≤ x.start) where
   one : n - 1 + 1 ≡ n
   one = let g : (n ≡ 0) → ⊥ = some in omega arith
 
   split : ranges_at w p n ≡ ranges_at w p (n - 1) ++ (l ∷ [])
-  split = rw one at (ranges-suc w p (n - 1) ∙ ap (λ (r : AddressRange). ranges_at w p (n - 1) ++ (r ∷ [])) (sym el))
+  split = rw one at (ranges-suc w p (n - 1) ∙ ap (λ (r : AddressRange). ranges_at w p (n - 1) ++ (r ∷ [])) (sym (read_chunk w (p + (n - 1) * 16) el)))
 
   at-end : add_one x (ranges_at w p n) ≡ ranges_at w p (n - 1) ++ add_one x (l ∷ [])
   at-end = rw split (add_last x l (ranges_at w p (n - 1)) (rw split at a) s)
@@ -225,11 +193,14 @@ module _ (w : List ℕ) (q m p n : ℕ) (x : AddressRange) where
   left_out : fit (ranges_at w q m) (x ∷ []) ≡ [] → PutFit w w q m p n x n
   left_out e = record { ranges = rw (e, append-nil); few = omega arith; rest = kept_refl w p (n * 16 + 16) }
 
-  pub fit-empty : x.end ≤ x.start → PutFit w w q m p n x n
+  pub fit-empty : {a : Bool} → a ≡ leb x.end x.start → a ≡ true → PutFit w w q m p n x n
   unfolding fit
-  fit-empty h = left_out (rw (le-ltb x.start x.end h))
+  fit-empty ea e = left_out (rw (le-ltb x.start x.end (leb-true x.end x.start (sym ea ∙ e))))
 
-  module _ (h : x.start < x.end) {b : Bool} (eb : b ≡ lies_in (ranges_at w q m) x) where
+  module _ {a b : Bool} (ea : a ≡ leb x.end x.start) (e : a ≡ false) (eb : b ≡ lies_in (ranges_at w q m) x) where
+    h : x.start < x.end
+    h = leb-false x.end x.start (sym ea ∙ e)
+
     pub fit-out : b ≡ false → PutFit w w q m p n x n
     unfolding fit
     fit-out no' = left_out (rw (lt-ltb x.start x.end h, ← eb, no'))

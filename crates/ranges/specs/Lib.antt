@@ -1,3 +1,3 @@
 pub mod RangeTable
-pub mod Stays
+pub mod Unmoved
 pub mod Passing

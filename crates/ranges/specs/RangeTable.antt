@@ -10,7 +10,7 @@ use Rattle.tlv.specs.Grammar.{list_base_at, list_addresses_at, list_size_at}
 use Rattle.tlv.specs.Fields.{fields, payloads, payload_of}
 use Rattle.tlv.specs.Model.{RangeList, range_of, entry_range_of, failure_of, range_list_of}
 use Rattle.tlv.specs.Lists.{Any, is_none, map_option}
-use Rattle.buffers.specs.Table.{chunk, records, Kept}
+use Rattle.buffers.specs.Table.{records, Kept}
 use Rattle.access.specs.Places.{own_fields}
 use Rattle.rnglists.specs.RangeLists.{ListRanges, ranges_in, list_ranges, DieRanges, listed}
 use Rattle.rnglists.specs.Room.{range_least}
@@ -24,11 +24,6 @@ range_record = 16
 -- the n ranges from place p on
 unfoldable pub ranges_at : List ℕ → ℕ → ℕ → List AddressRange
 ranges_at w p n = records range_of range_record w p n
-
--- a range was written at p
-pub record PutRange (w w' : List ℕ) (p : ℕ) (r : AddressRange) : Type 0 where
-  pub value : range_of (chunk w' p range_record) ≡ r
-  pub rest : Kept w w' p range_record
 
 -- ---- one range more, as a pass in place does it
 

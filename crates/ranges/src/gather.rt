@@ -5,8 +5,9 @@ ghost use Rattle.rnglists.specs.Room.{range_least};
 ghost use Rattle.rnglists.specs.Sizes.{width_of};
 ghost use Rattle.ranges.specs.RangeTable.{range_fields, PutFit, GatheredFit, GatheredList, range_record};
 
-use crate::ranges::{RANGE_RECORD, RangeNest, lies_in, put_range_at, range_at};
+use crate::ranges::{RANGE_RECORD, RangeNest, RangeTable};
 use access::access::next_own;
+use buffers::table::put_range_at;
 use rnglists::lists::{ListField, RangeLists};
 use tlv::model::AddressRange;
 use tlv::refusal::Refusal;
@@ -17,7 +18,11 @@ fn put_fitting(work: &mut [u8], nest: RangeNest, n: usize, range: AddressRange) 
     requires { nest.to + n * range_record + range_record ≤ length work.old }
     ensures { PutFit work.old work.new nest.parent.base nest.parent.count nest.to n range result }
 {
-    if range.end <= range.start || !lies_in(work, nest.parent.base, nest.parent.count, range) {
+    let parent = RangeTable {
+        work,
+        stored: nest.parent,
+    };
+    if range.is_empty() || !parent.lies_in(range) {
         return n;
     }
     put_range_at(work, nest.to + n * RANGE_RECORD, range);
@@ -27,14 +32,14 @@ fn put_fitting(work: &mut [u8], nest: RangeNest, n: usize, range: AddressRange) 
 // The ranges of the entry whose field ends at `at` that are nonempty and lie inside one of its parent's, at the nest's place as they come.
 pub fn gather_ranges(s: &[u8], at: usize, work: &mut [u8], nest: RangeNest) -> usize
     requires placed { Placed s.now at }
-    requires at_in_bounds { nest.to + range_record * length (range_fields s.now at) ≤ length work.old }
+    requires fields_fit { nest.to + range_record * length (range_fields s.now at) ≤ length work.old }
     ensures { GatheredFit s.now at work.old work.new nest.parent.base nest.parent.count nest.to result }
 {
     let mut p = at;
     let mut n: usize = 0;
-    // Stays a loop: each field's own length moves the place, so nothing is counted.
+    // Stays a loop over fields: next_field says why; what is counted is what was found.
     while let Some(field) = next_own(s, p, RANGE_TAG) {
-        n = put_fitting(work, nest, n, range_at(s, field.start));
+        n = put_fitting(work, nest, n, AddressRange::read(s, field.start));
         p = field.next;
     }
     n
@@ -47,14 +52,14 @@ pub fn gather_list(
     work: &mut [u8],
     nest: RangeNest,
 ) -> Result<usize, Refusal>
-    requires range_least_in_bounds { nest.to + range_record * (length lists.lists.now / range_least) ≤ length work.old }
+    requires { nest.to + range_record * (length lists.lists.now / range_least) ≤ length work.old }
     ensures { GatheredList lists.entry.lists.now lists.entry.addresses.now list.addresses (width_of list.size)
         list.offset list.base work.old work.new nest.parent.base nest.parent.count nest.to result }
 {
     let mut at = list.offset as usize;
     let mut from = list.base;
     let mut n: usize = 0;
-    // Stays a loop: each entry's own length moves the place, so nothing is counted.
+    // Stays a loop: each entry's own length moves the place; what is counted is what was found.
     while let Some(found) = lists.next_range(list.addresses, list.size, at, from)? {
         n = put_fitting(work, nest, n, found.range);
         at = found.next;

@@ -1,41 +1,37 @@
 // The ranges of an inlined entry in the work slice: of its fields 19, or of its range list.
-ghost use Rattle.std.specs.Prelude.{◌≡◌, false, ◌⊎◌, ◌+◌, ◌*◌, ◌/◌, ◌≤◌, length};
-ghost use Rattle.tlv.specs.Bytes.{le_at};
-ghost use Rattle.tlv.specs.Grammar.{list_size_at, list_field_size};
+ghost use Rattle.std.specs.Prelude.{◌≡◌, false, ◌+◌, ◌*◌, ◌/◌, ◌≤◌, length};
 ghost use Rattle.tlv.specs.Checked.{Placed};
 ghost use Rattle.rnglists.specs.Room.{range_least};
-ghost use Rattle.ranges.specs.RangeTable.{range_fields, own_lists, list_of, read_at, Merges, MergesList, MergesFields, range_record};
+ghost use Rattle.rnglists.specs.Sizes.{width_of};
+ghost use Rattle.ranges.specs.RangeTable.{range_fields, own_lists, list_at, read_at, Merges, MergesList, MergesFields, range_record};
 
 use crate::gather::gather_list;
 use crate::ranges::{RangeNest, coalesce_at, coalesce_ranges};
 use access::access::next_own;
+use buffers::table::Stored;
 use rnglists::lists::{ListField, RangeLists};
 use tlv::refusal::Refusal;
 use tlv::tags::{FAILURE_TAG, LIST_TAG};
 
-// Of the list whose field's payload starts at `start`, the ranges that are nonempty and lie inside one of its parent's, merged at the nest's place.
+// Of a list, the ranges that are nonempty and lie inside one of its parent's, merged at the nest's place.
 fn list_ranges(
-    main: &[u8],
     lists: RangeLists,
+    list: ListField,
     work: &mut [u8],
-    start: usize,
     nest: RangeNest,
 ) -> Result<usize, Refusal>
-    requires list_field_size_in_bounds { start + list_field_size ≤ length main.now }
-    requires fact { (le_at 1 main.now (start + list_size_at) ≡ 4) ⊎ (le_at 1 main.now (start + list_size_at) ≡ 8) }
-    requires range_least_in_bounds { nest.to + range_record * (length lists.lists.now / range_least) ≤ length work.old }
-    ensures { MergesList (list_of main.now lists.entry.lists.now lists.entry.addresses.now start) lists.entry.lists.now
-        work.old work.new nest.parent.base nest.parent.count nest.to result }
+    requires { nest.to + range_record * (length lists.lists.now / range_least) ≤ length work.old }
+    ensures { MergesList (list_at lists.entry.lists.now lists.entry.addresses.now list.addresses (width_of list.size) list.offset list.base)
+        lists.entry.lists.now work.old work.new nest.parent.base nest.parent.count nest.to result }
 {
-    let list = ListField::read(main, start);
     let n = gather_list(lists, list, work, nest)?;
-    Ok(coalesce_at(work, nest.to, n))
+    Ok(coalesce_at(work, Stored::new(nest.to, n)))
 }
 
 // The same of the fields 19 of the entry whose field ends at `at`; one with a range failure is refused.
 fn field_ranges(main: &[u8], at: usize, work: &mut [u8], nest: RangeNest) -> Result<usize, Refusal>
     requires placed { Placed main.now at }
-    requires at_in_bounds { nest.to + range_record * length (range_fields main.now at) ≤ length work.old }
+    requires fields_fit { nest.to + range_record * length (range_fields main.now at) ≤ length work.old }
     ensures { MergesFields main.now at work.old work.new nest.parent.base nest.parent.count nest.to result }
 {
     if next_own(main, at, FAILURE_TAG).is_some() {
@@ -54,16 +50,17 @@ pub fn inline_ranges(
     nest: RangeNest,
 ) -> Result<usize, Refusal>
     requires placed { Placed main.now at }
-    requires at_in_bounds { nest.to + range_record * length (range_fields main.now at) ≤ length work.old }
-    requires range_least_in_bounds { 1 ≤ own_lists main.now at
+    requires fields_fit { nest.to + range_record * length (range_fields main.now at) ≤ length work.old }
+    requires lists_fit { 1 ≤ own_lists main.now at
         → nest.to + range_record * (length lists.lists.now / range_least) ≤ length work.old }
-    requires at_value { with_lists ≡ false → own_lists main.now at ≡ 0 }
+    requires lists_known { with_lists ≡ false → own_lists main.now at ≡ 0 }
     ensures { Merges (read_at lists.entry.lists.now lists.entry.addresses.now main.now at) main.now lists.entry.lists.now at
         work.old work.new nest.parent.base nest.parent.count nest.to result }
 {
     if with_lists {
         if let Some(field) = next_own(main, at, LIST_TAG) {
-            return list_ranges(main, lists, work, field.start, nest);
+            let list = ListField::read(main, field.start);
+            return list_ranges(lists, list, work, nest);
         }
     }
     field_ranges(main, at, work, nest)

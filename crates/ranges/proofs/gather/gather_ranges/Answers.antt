@@ -1,20 +1,12 @@
 -- `gather::gather_ranges` meets its contract. The loop's invariant: the ranges put so far, and those of the fields from here on that fit, are all that fit.
-use native.Mathlib.Omega.{arith}
-use Rattle.access.proofs.OwnLaws.{own-less}
-use Rattle.ranges.proofs.GatherLaws.{gathering-start, gathering-within, gathering_room, gathering_turn, gathering_done}
+use Rattle.ranges.proofs.GatherLaws.{gathering-start, gathering-within, gathering_turn, gathering_done}
 use Rattle.ranges.proofs.gather.gather_ranges.Goals as goal
 
 pub loop-field-init : goal.loop-field-init
 loop-field-init c = search gathering-start
 
-pub range_at-requires : goal.range_at-requires
-range_at-requires c = gathering-within c.loop-field.invariant c.in-Some.ensures
-
-pub put_fitting-n-requires : goal.put_fitting-n-requires
-put_fitting-n-requires c = gathering_room c.loop-field.invariant c.in-Some.ensures (omega arith)
-
-pub loop-field-smaller : goal.loop-field-smaller
-loop-field-smaller c = own-less _ _ _ _ c.in-Some.ensures
+pub read-requires : goal.read-requires
+read-requires c = gathering-within c.loop-field.invariant c.in-Some.ensures
 
 pub loop-field-preserved : goal.loop-field-preserved
 loop-field-preserved c = search (gathering_turn, c.in-Some.ensures)
