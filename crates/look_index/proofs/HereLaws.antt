@@ -1,12 +1,12 @@
 -- One function of a tray of any content: its form, and that each function of a tray in document 01's form is found at its place.
-use mathlib.Core.Path.{◌≡◌, refl, sym, ap, subst, ◌∙◌}
-use mathlib.Core.Bool.{Bool, true, false, ◌&&◌, not}
+use mathlib.Core.Path.{◌≡◌, refl, sym}
+use mathlib.Core.Bool.{Bool, true, false}
 use mathlib.Core.List.{List}
 use Prim.Native.Nat.{ℕ, zero, suc, ◌-◌, ◌≤◌, ◌<◌}
 use native.Mathlib.Omega.{arith}
 use lib.Dec.{eqb}
 use lib.ListN.{length, take, drop}
-use borrow.Author.Tests.{eqb-true, eqb-false, ne_eqb, not-true, not-false}
+use borrow.Author.Tests.{eqb-true, eqb-false, ne_eqb}
 use Rattle.std.specs.Prelude.{Option, Some, None, Ok, Err}
 use Rattle.tlv.specs.declared.fields.FieldSpan.{FieldSpan}
 use Rattle.tlv.specs.declared.refusal.Refusal.{Refusal}
@@ -15,8 +15,7 @@ use Rattle.tlv.specs.Lists.{All, exists}
 use Rattle.tlv.specs.Fields.{FieldList, fields}
 use Rattle.tlv.specs.Cursor.{field_from}
 use Rattle.tlv.specs.Checked.{field_in}
-use Rattle.tlv.proofs.CursorLaws.{fields-at, step_end}
-use Rattle.tlv.proofs.FieldLaws.{at-none, cut-here, fields-field, next-less, next-within}
+use Rattle.tlv.proofs.FieldLaws.{at-none, fields-field, next-less, next-within}
 use Rattle.buffers.specs.Reader.{records_after, records_formed, depth_after, records_form}
 use Rattle.access.specs.Places.{behind}
 use Rattle.lookup.specs.Tray.{GroupAt, up_to_next}

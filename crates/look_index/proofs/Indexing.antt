@@ -98,14 +98,14 @@ module _ (tray w : List ℕ) (n a : ℕ) where
     extent-of : (m : ℕ) (g : GroupAt) → at fs m ≡ some g → Among w n (extent_of g)
     extent-of m g e = (I.same refl (extent_of g)).1 (m, g, e, refl)
 
-    filled_at : (k : ℕ) → k < n → (extent_at w k).start < (extent_at w k).end
+    filled_at : (k : ℕ) → k < n → (extent_at w k).range.start < (extent_at w k).range.end
     unfolding functions_of
     filled_at k l =
         let q = (I.same refl (extent_at w k)).0 (k, l, refl) in
         let all = filled tray fs (rw I.formed) in
         let f : Nonempty (function_range q.1) = given-some (λ f. Nonempty (function_range f)) (at fs q.0) q.1
         (all-at (λ f. Nonempty (function_range f)) fs q.0 all) q.2 in
-        subst (λ (x : Extent). x.start < x.end) q.3 f
+        subst (λ (x : Extent). x.range.start < x.range.end) q.3 f
 
     -- no two hold one address
     one : (j k : ℕ) → j < n → k < n → ExtentHolds (extent_at w j) a → ExtentHolds (extent_at w k) a → j ≡ k
@@ -129,14 +129,14 @@ module _ (tray w : List ℕ) (n a : ℕ) where
       where
         behind : m ≤ j → ⊥
         behind g =
-            let up : a < (extent_at w m).start = B.above (omega arith) in
+            let up : a < (extent_at w m).range.start = B.above (omega arith) in
             by_less ⊥ m j
             (λ z. let f = filled_at m (omega arith) in let o = I.order refl m j z l in let s = h.0 in omega arith)
-            (λ z. let e : m ≡ j = omega arith in let s = h.0 in omega (arith, ap (λ (k : ℕ). (extent_at w k).start) e))
+            (λ z. let e : m ≡ j = omega arith in let s = h.0 in omega (arith, ap (λ (k : ℕ). (extent_at w k).range.start) e))
 
         before : j < m → ⊥
         before g =
-            let low : (extent_at w (m - 1)).start ≤ a = B.below (omega arith) in
+            let low : (extent_at w (m - 1)).range.start ≤ a = B.below (omega arith) in
             let wide = B.within in
             by_less ⊥ j (m - 1)
             (λ z. let o = I.order refl j (m - 1) z (omega arith) in let t = h.1 in omega arith)

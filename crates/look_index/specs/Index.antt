@@ -1,7 +1,7 @@
 -- Contract. Beyond the request: an index of a tray's functions, made once in a lent slice for a service that asks many addresses of one tray, and look-ups by
 -- it.
 --
-use Rattle.std.specs.Prelude.{Result, Ok, Err, ◌⊎◌, ℕ, ◌+◌, ◌*◌, ◌≤◌, ◌<◌, ◌≡◌, ◌↔◌, ◌≢◌, Bool, true, false, cond, not, List, length, drop, replicate}
+use Rattle.std.specs.Prelude.{Result, Ok, Err, ◌⊎◌, ℕ, ◌+◌, ◌*◌, ◌≤◌, ◌<◌, ◌≡◌, ◌↔◌, Bool, true, false, cond, not, List, length, drop, replicate}
 use Rattle.std.proofs.Math.Option.{some}
 use Rattle.tlv.specs.Tags.{tray_function_tag}
 use Rattle.tlv.specs.Outcome.{Outcome, refused, done}
@@ -23,17 +23,17 @@ extent_size = 24
 
 -- at a place
 abbrev pub extent_from : List ℕ → ℕ → Extent
-extent_from w p = record { start = le_at 8 w p; end = le_at 8 w (p + 8); place = le_at 8 w (p + 16) }
+extent_from w p = record { range = record { start = le_at 8 w p; end = le_at 8 w (p + 8) }; place = le_at 8 w (p + 16) }
 
 abbrev pub extent_at : List ℕ → ℕ → Extent
 extent_at w k = extent_from w (k * extent_size)
 
 abbrev pub extent_of : GroupAt → Extent
-extent_of f = record { start = (function_range f).start; end = (function_range f).end; place = f.place }
+extent_of f = record { range = function_range f; place = f.place }
 
 -- an extent holds an address, as its function does
 abbrev pub ExtentHolds : Extent → ℕ → Type 0
-ExtentHolds x a = (x.start ≤ a) × (a < x.end)
+ExtentHolds x a = (x.range.start ≤ a) × (a < x.range.end)
 
 -- x is one of the n extents
 abbrev pub Among : List ℕ → ℕ → Extent → Type 0
@@ -41,7 +41,7 @@ Among w n x = (k : ℕ) × (k < n) × (extent_at w k ≡ x)
 
 -- each of the n ends at or before the start of every later one
 abbrev pub Rising : List ℕ → ℕ → Type 0
-Rising w n = (j k : ℕ) → j < k → k < n → (extent_at w j).end ≤ (extent_at w k).start
+Rising w n = (j k : ℕ) → j < k → k < n → (extent_at w j).range.end ≤ (extent_at w k).range.start
 
 -- the n extents are the tray's functions in its order
 abbrev pub InOrder : List ℕ → List ℕ → ℕ → Type 0

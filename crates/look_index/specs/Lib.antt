@@ -1,3 +1,3 @@
 pub mod Index
-pub mod Stays
+pub mod Unmoved
 pub mod LookIn

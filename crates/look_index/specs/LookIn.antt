@@ -15,8 +15,8 @@ use Rattle.look_index.specs.Index.{extent_at, ExtentHolds, IndexOf, function_her
 -- as many extents as a binary search passed: the last of them starts at or below the address, the next one above it
 pub record Boundary (w : List ℕ) (n a m : ℕ) : Type 0 where
   pub within : m ≤ n
-  pub below : 0 < m → (extent_at w (m - 1)).start ≤ a
-  pub above : m < n → a < (extent_at w m).start
+  pub below : 0 < m → (extent_at w (m - 1)).range.start ≤ a
+  pub above : m < n → a < (extent_at w m).range.start
 
 -- by a search: the last that was passed, if it holds the address
 abbrev pub Searched : List ℕ → ℕ → ℕ → Option ℕ → Type 0

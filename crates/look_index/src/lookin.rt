@@ -1,11 +1,12 @@
 // Look-ups by an index of a tray: a binary search where it is in the order of addresses, else a pass over it. Of the tray only the function that is found
 // is read, and its form is tested. Any bytes are taken for an index, and for a tray.
+ghost use Rattle.std.specs.Prelude.{◌<◌};
 ghost use Rattle.look_index.specs.LookIn.{Boundary, SearchedBy, ScannedBy, Chosen, IsHere, LooksUpIn};
 
 use crate::index::{EXTENT_SIZE, Extents};
 use buffers::search::lower_bound;
 use lookup::address::{chain_at, row_in_force};
-use lookup::form::{function_formed, own_formed, payload_of};
+use lookup::form::{function_formed, own_formed};
 use lookup::model::{Indexed, LookedUp};
 use tlv::fields::next_field;
 use tlv::refusal::Refusal;
@@ -15,35 +16,38 @@ use tlv::tags::TRAY_FUNCTION_TAG;
 fn boundary(extents: Extents, address: u64) -> usize
     ensures { Boundary extents.entry.index.now extents.entry.count address result }
 {
-    lower_bound(extents.count, |k| extents.at(k).start <= address)
+    lower_bound(extents.count, |k| extents.at(k).range.start <= address)
 }
 
 // The last of the extents that start at or below the address, if it holds it.
 fn by_search(extents: Extents, address: u64) -> Option<usize>
     ensures { SearchedBy extents.entry.index.now extents.entry.count address result }
 {
-    let m = boundary(extents, address);
-    if m == 0 {
+    let past = boundary(extents, address);
+    if past == 0 {
         return None;
     }
-    let x = extents.at(m - 1);
-    if address < x.end { Some(m - 1) } else { None }
+    let last = past - 1;
+    if address < extents.at(last).range.end {
+        Some(last)
+    } else {
+        None
+    }
 }
 
 // The first extent that holds the address.
 fn by_pass(extents: Extents, address: u64) -> Option<usize>
     ensures { ScannedBy extents.entry.index.now extents.entry.count address result }
 {
-    for i in 0..extents.count {
-        let x = extents.at(i);
-        if x.start <= address && address < x.end {
-            return Some(i);
-        }
-    }
-    None
+    (0..extents.count).find(
+        |&i|
+            requires { i < extents.count }
+        { extents.at(i).range.holds(address) },
+    )
 }
 
 // By a search where the extents rise, else by a pass.
+// Stays a bool: it is the caller's word, `Indexed::rising`, which C keeps beside the index and hands back.
 fn choose(extents: Extents, rising: bool, address: u64) -> Option<usize>
     ensures { Chosen extents.entry.index.now extents.entry.count rising address result }
 {
@@ -60,7 +64,7 @@ fn check_function(s: &[u8], place: usize) -> Result<usize, Refusal>
 {
     let field = next_field(s, place).ok_or(Refusal::MisshapenRecords)?;
     if field.tag != TRAY_FUNCTION_TAG
-        || !function_formed(payload_of(s, field))
+        || !function_formed(field.payload(s))
         || !own_formed(s, field.next)
     {
         return Err(Refusal::MisshapenRecords);

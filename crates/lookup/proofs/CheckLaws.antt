@@ -1,11 +1,17 @@
 -- The test of a records tray's form, field by field.
 use mathlib.Core.Path.{◌≡◌, refl, sym, ap, ◌∙◌}
 use mathlib.Core.Bool.{Bool, true, false, ◌&&◌, not}
+use mathlib.Core.Logic.{inl, inr}
 use mathlib.Core.List.{List}
 use Prim.Native.Nat.{ℕ, ◌≤◌, ◌<◌}
-use lib.Dec.{eqb}
+use lib.Dec.{eqb, leb, ltb}
 use lib.ListN.{length, take, drop}
 use Rattle.std.specs.Prelude.{Some, None}
+use borrow.Author.Tests.{lt-ltb, le-ltb}
+use Rattle.std.proofs.lemmas.Bool.Decides.{leb_tells}
+use Rattle.tlv.specs.Bytes.{le_at}
+use Rattle.tlv.specs.Model.{range_of}
+use Rattle.tlv.specs.declared.model.AddressRange.{AddressRange}
 use Rattle.tlv.specs.declared.fields.FieldSpan.{FieldSpan}
 use Rattle.tlv.specs.Lists.{exists}
 use Rattle.tlv.specs.Fields.{FieldList, end, cut, more, fields}
@@ -13,9 +19,21 @@ use Rattle.tlv.specs.Cursor.{field_from}
 use Rattle.tlv.specs.Checked.{field_in}
 use Rattle.tlv.proofs.CursorLaws.{step_end, fields-at}
 use Rattle.tlv.proofs.FieldLaws.{cut-here, fields-field}
-use Rattle.buffers.specs.Reader.{records_after, records_formed, depth_after, records_form}
+use Rattle.buffers.specs.Reader.{records_after, range_formed, records_formed, depth_after, records_form}
 use Rattle.lookup.specs.Tray.{up_to_next}
 use Rattle.lookup.specs.Walk.{until}
+
+-- ---- a range that is read
+
+not-leb : (a b : ℕ) → not (leb a b) ≡ ltb b a
+not-leb a b = elim (leb_tells a b) [
+  | inl t ↦ rw (t.0, le-ltb b a t.1)
+  | inr t ↦ rw (t.0, lt-ltb b a t.1)
+]
+
+pub range-filled : (p : List ℕ) {r : AddressRange} {b : Bool} → r ≡ range_of p → b ≡ leb r.end r.start → not b ≡ range_formed p
+unfolding range_formed range_of
+range-filled p e eb = rw (eb, e) (not-leb (le_at 8 p 8) (le_at 8 p 0))
 
 -- ---- a turn of the loop: v is the answer for all, and a turn begins at place p
 

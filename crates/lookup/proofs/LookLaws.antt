@@ -3,7 +3,6 @@ use mathlib.Core.Path.{◌≡◌, sym, ap, ◌∙◌}
 use mathlib.Core.Bool.{Bool, true, false, not}
 use mathlib.Core.List.{List}
 use Prim.Native.Nat.{ℕ, ◌-◌, ◌≤◌}
-use native.Mathlib.Omega.{arith}
 use lib.ListN.{take, drop, replicate}
 use borrow.Author.Tests.{not-true, not-false}
 use Rattle.std.specs.Prelude.{Option, Some, None, Result, Ok, Err, IfOk, IsErrAnd, ok_or}
@@ -19,7 +18,7 @@ use Rattle.lookup.specs.declared.model.LookedUp.{LookedUp}
 use Rattle.lookup.specs.declared.address.FunctionPlace.{FunctionPlace}
 use Rattle.lookup.specs.Tray.{nodes_at, functions_at, functions_of, function_range}
 use Rattle.lookup.specs.Lookup.{holds, row_in_force, chain, frames_of, qualifying, look_up}
-use Rattle.lookup.specs.Walk.{Stands, StandsOwn, FunctionFound, row_from, ChainAt}
+use Rattle.lookup.specs.Walk.{StandsOwn, FunctionFound, row_from, ChainAt}
 use Rattle.access.specs.Access.{place_of}
 use Rattle.lookup.specs.Answers.{frames_given, LooksUp}
 use Rattle.lookup.proofs.DemandLaws.{explaining}

@@ -4,11 +4,11 @@ ghost use Rattle.lookup.specs.Walk.{Stands, StandsOwn, FunctionFound, row_from, 
 ghost use Rattle.access.specs.Access.{place_of};
 ghost use Rattle.lookup.specs.Answers.{LooksUp};
 
-use crate::form::{check_records, payload_of};
+use crate::form::check_records;
 use crate::model::{CHAIN_MOST, Chain, LookedUp};
-use crate::ranges::{holds, range_of};
 use tlv::bytes::Number;
 use tlv::fields::next_field;
+use tlv::model::AddressRange;
 use tlv::refusal::Refusal;
 use tlv::tags::{TRAY_FUNCTION_TAG, TRAY_NODE_TAG, TRAY_RANGE_TAG, TRAY_ROW_TAG};
 
@@ -25,9 +25,11 @@ pub fn function_at(s: &[u8], address: u64) -> Option<FunctionPlace>
     ensures { FunctionFound s.now address result }
 {
     let mut p = 0;
-    // Stays a loop: each field's own length moves the place, so nothing is counted.
+    // Stays a loop over fields: next_field says why.
     while let Some(field) = next_field(s, p) {
-        if field.tag == TRAY_FUNCTION_TAG && holds(range_of(payload_of(s, field)), address) {
+        if field.tag == TRAY_FUNCTION_TAG
+            && AddressRange::read(field.payload(s), 0).holds(address)
+        {
             return Some(FunctionPlace {
                 place: p,
                 own: field.next,
@@ -45,7 +47,7 @@ pub fn row_in_force(s: &[u8], own: usize, address: u64) -> Option<usize>
 {
     let mut p = own;
     let mut row = None;
-    // Stays a loop: each field's own length moves the place, so nothing is counted.
+    // Stays a loop over fields: next_field says why.
     while let Some(field) = next_field(s, p) {
         if field.tag == TRAY_FUNCTION_TAG {
             return row;
@@ -64,12 +66,12 @@ fn node_holds(s: &[u8], own: usize, address: u64) -> bool
     ensures { result ≡ held_from s.now own address }
 {
     let mut p = own;
-    // Stays a loop: each field's own length moves the place, so nothing is counted.
+    // Stays a loop over fields: next_field says why.
     while let Some(field) = next_field(s, p) {
         if field.tag == TRAY_FUNCTION_TAG || field.tag == TRAY_NODE_TAG {
             return false;
         }
-        if field.tag == TRAY_RANGE_TAG && holds(range_of(payload_of(s, field)), address) {
+        if field.tag == TRAY_RANGE_TAG && AddressRange::read(field.payload(s), 0).holds(address) {
             return true;
         }
         p = field.next;
@@ -85,7 +87,7 @@ pub fn chain_at(s: &[u8], own: usize, address: u64) -> Chain
     let mut places = [0; CHAIN_MOST];
     let mut nodes = 0;
     let mut p = own;
-    // Stays a loop: each field's own length moves the place; what is counted is what was found.
+    // Stays a loop over fields: next_field says why.
     while let Some(field) = next_field(s, p) {
         if field.tag == TRAY_FUNCTION_TAG {
             break;

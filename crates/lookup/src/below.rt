@@ -4,9 +4,9 @@ ghost use Rattle.tlv.specs.Refusals.{as_outcome};
 ghost use Rattle.lookup.specs.Lookup.{nearest_below};
 ghost use Rattle.lookup.specs.Walk.{Stands, NearestFound};
 
-use crate::form::{check_records, payload_of};
-use crate::ranges::range_of;
+use crate::form::check_records;
 use tlv::fields::next_field;
+use tlv::model::AddressRange;
 use tlv::refusal::Refusal;
 use tlv::tags::TRAY_FUNCTION_TAG;
 
@@ -18,10 +18,10 @@ fn ending_below(s: &[u8], address: u64) -> Option<usize>
     let mut p = 0;
     let mut latest = 0;
     let mut found = None;
-    // Stays a loop: each field's own length moves the place, so nothing is counted.
+    // Stays a loop over fields: next_field says why.
     while let Some(field) = next_field(s, p) {
         if field.tag == TRAY_FUNCTION_TAG {
-            let end = range_of(payload_of(s, field)).end;
+            let end = AddressRange::read(field.payload(s), 0).end;
             if latest < end && end <= address {
                 latest = end;
                 found = Some(p);

@@ -1,32 +1,24 @@
 // The form of a records tray (19): document 01's fields in their order.
-ghost use Rattle.std.specs.Prelude.{◌≡◌, true, ◌+◌, ◌≤◌, eqb, ltb, length, take, drop};
+ghost use Rattle.std.specs.Prelude.{◌≡◌, true, ◌≤◌, eqb, length, drop};
 ghost use Rattle.tlv.specs.Tags.{tray_function_tag, tray_node_tag, tray_range_tag};
 ghost use Rattle.tlv.specs.Lists.{exists};
 ghost use Rattle.tlv.specs.Fields.{fields};
-ghost use Rattle.buffers.specs.Reader.{records_after, records_formed, depth_after, records_form};
+ghost use Rattle.buffers.specs.Reader.{records_after, range_formed, records_formed, depth_after, records_form};
 ghost use Rattle.lookup.specs.Tray.{up_to_next};
 ghost use Rattle.lookup.specs.Walk.{FieldsFormed};
 
 use crate::model::{DEEPEST, FUNCTION_SIZE, NODE_SIZE, RANGE_SIZE, ROW_SIZE, SITE_SIZE};
-use crate::ranges::range_of;
 use tlv::bytes::Number;
-use tlv::fields::{FieldSpan, next_field};
+use tlv::fields::next_field;
 use tlv::model::AddressRange;
 use tlv::tags::{TRAY_FUNCTION_TAG, TRAY_NODE_TAG, TRAY_RANGE_TAG, TRAY_ROW_TAG, TRAY_SITE_TAG};
-
-// The payload of a field of a tray.
-pub fn payload_of(s: &[u8], field: FieldSpan) -> &[u8]
-    requires { field.start + field.len ≤ length s.now }
-    ensures { result.now ≡ take field.len (drop field.start s.now) }
-{
-    &s[field.start..field.start + field.len]
-}
 
 // Whether a field of a tag may stand after one of the tag `previous`.
 #[tactic(auto, unfolding(buffers::specs::Reader::records_after, tlv::specs::Lists::exists))]
 pub fn may_follow(previous: u8, tag: u8) -> bool
     ensures { result ≡ exists (eqb tag) (records_after previous) }
 {
+    // Stays a match: after each tag others may stand.
     match previous {
         TRAY_FUNCTION_TAG | TRAY_ROW_TAG => {
             matches!(
@@ -46,18 +38,19 @@ pub fn may_follow(previous: u8, tag: u8) -> bool
     }
 }
 
-// Whether the start of a range is below its end.
-fn is_filled(range: AddressRange) -> bool
-    ensures { result ≡ ltb range.start range.end }
+// Whether the range that a payload begins with holds an address.
+fn begins_with_addresses(payload: &[u8]) -> bool
+    requires { 16 ≤ length payload.now }
+    ensures { result ≡ range_formed payload.now }
 {
-    range.start < range.end
+    !AddressRange::read(payload, 0).is_empty()
 }
 
-#[tactic(auto, unfolding(buffers::specs::Reader::records_formed, buffers::specs::Reader::range_formed, tlv::specs::Model::range_of))]
+#[tactic(auto, unfolding(buffers::specs::Reader::records_formed))]
 pub fn function_formed(payload: &[u8]) -> bool
     ensures { result ≡ records_formed 0 tray_function_tag payload.now }
 {
-    FUNCTION_SIZE <= payload.len() && is_filled(range_of(payload))
+    FUNCTION_SIZE <= payload.len() && begins_with_addresses(payload)
 }
 
 #[tactic(auto, unfolding(buffers::specs::Reader::records_formed))]
@@ -71,11 +64,11 @@ fn node_formed(depth: u64, payload: &[u8]) -> bool
     d <= depth && d <= DEEPEST && (1 <= d || depth == 0)
 }
 
-#[tactic(auto, unfolding(buffers::specs::Reader::records_formed, buffers::specs::Reader::range_formed, tlv::specs::Model::range_of))]
+#[tactic(auto, unfolding(buffers::specs::Reader::records_formed))]
 fn range_field_formed(payload: &[u8]) -> bool
     ensures { result ≡ records_formed 0 tray_range_tag payload.now }
 {
-    payload.len() == RANGE_SIZE && is_filled(range_of(payload))
+    payload.len() == RANGE_SIZE && begins_with_addresses(payload)
 }
 
 // Whether the payload of a field is formed, where the next node may be `depth` deep.
@@ -116,7 +109,7 @@ fn fields_formed<F: Fn(u8) -> bool>(s: &[u8], from: usize, after: u8, ends: F) -
     let mut p = from;
     let mut previous = after;
     let mut depth: u64 = 0;
-    // Stays a loop: each field's own length moves the place, so nothing is counted.
+    // Stays a loop over fields: next_field says why.
     while p < s.len() {
         let Some(field) = next_field(s, p) else {
             return false;
@@ -124,7 +117,7 @@ fn fields_formed<F: Fn(u8) -> bool>(s: &[u8], from: usize, after: u8, ends: F) -
         if ends(field.tag) {
             break;
         }
-        let payload = payload_of(s, field);
+        let payload = field.payload(s);
         if !may_follow(previous, field.tag) || !payload_formed(depth, field.tag, payload) {
             return false;
         }

@@ -7,6 +7,6 @@ use tlv::refusal::Refusal;
 pub fn refused<T>(lent: &mut [u8], r: Refusal) -> Result<T, Refusal>
     ensures { Cleared r lent.old lent.new result }
 {
-    buffers::table::clear(lent);
+    lent.fill(0);
     Err(r)
 }

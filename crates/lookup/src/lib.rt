@@ -6,5 +6,4 @@ pub mod below;
 pub mod form;
 pub mod lent;
 pub mod model;
-pub mod ranges;
 pub mod window;

@@ -1,29 +1,22 @@
 // The functions inside a window, and those that cross its edge, as 41 fields in a lent tray.
 ghost use Rattle.std.specs.Prelude.{◌≡◌, ◌≤◌, length};
-ghost use Rattle.lookup.specs.Window.{inside, crosses, functions_inside, functions_crossing};
+ghost use Rattle.lookup.specs.Window.{crosses, functions_inside, functions_crossing};
 ghost use Rattle.lookup.specs.Walk.{Stands};
 ghost use Rattle.lookup.specs.Answers.{list_given};
 ghost use Rattle.lookup.specs.Listing.{LaidPart, LaysPassing, ListsPassing};
 
-use crate::form::{check_records, payload_of};
+use crate::form::check_records;
 use crate::lent::refused;
-use crate::ranges::range_of;
 use tlv::fields::next_field;
 use tlv::model::AddressRange;
 use tlv::refusal::Refusal;
 use tlv::tags::TRAY_FUNCTION_TAG;
 
-fn is_inside(w: AddressRange, r: AddressRange) -> bool
-    ensures { result ≡ inside w r }
-{
-    w.start <= r.start && r.end <= w.end
-}
-
 // Whether a range shares an address with the window and reaches outside it: an empty window shares none.
-fn crosses_edge(w: AddressRange, r: AddressRange) -> bool
-    ensures { result ≡ crosses w r }
+fn crosses_edge(window: AddressRange, range: AddressRange) -> bool
+    ensures { result ≡ crosses window range }
 {
-    w.start.max(r.start) < w.end.min(r.end) && !is_inside(w, r)
+    window.start.max(range.start) < window.end.min(range.end) && !range.is_inside(window)
 }
 
 // The bytes from p to below `next`, laid into the list.
@@ -43,9 +36,9 @@ fn put_functions<F: Fn(AddressRange) -> bool>(s: &[u8], is_wanted: F, list: &mut
 {
     let mut p = 0;
     let mut at = 0;
-    // Stays a loop: each field's own length moves the place, so nothing is counted.
+    // Stays a loop over fields: next_field says why.
     while let Some(field) = next_field(s, p) {
-        if field.tag == TRAY_FUNCTION_TAG && is_wanted(range_of(payload_of(s, field))) {
+        if field.tag == TRAY_FUNCTION_TAG && is_wanted(AddressRange::read(field.payload(s), 0)) {
             at = put_part(s, p, field.next, list, at);
         }
         p = field.next;
@@ -75,15 +68,24 @@ fn list_functions<F: Fn(AddressRange) -> bool>(
 }
 
 // The functions of which no address is outside the window from `start` to below `end`.
+// Stays two numbers, as the one below: its callers have two, from C and from a query, and each would make the range that is made here.
 pub fn functions_inside(s: &[u8], start: u64, end: u64, list: &mut [u8]) -> Result<usize, Refusal>
     ensures { list_given result list.new ≡ functions_inside s.now (record { start = start; end = end }) list.old }
 {
-    list_functions(s, |r| is_inside(AddressRange { start, end }, r), list)
+    list_functions(
+        s,
+        |range| range.is_inside(AddressRange { start, end }),
+        list,
+    )
 }
 
 // The functions that share an address with the window and reach outside it.
 pub fn functions_crossing(s: &[u8], start: u64, end: u64, list: &mut [u8]) -> Result<usize, Refusal>
     ensures { list_given result list.new ≡ functions_crossing s.now (record { start = start; end = end }) list.old }
 {
-    list_functions(s, |r| crosses_edge(AddressRange { start, end }, r), list)
+    list_functions(
+        s,
+        |range| crosses_edge(AddressRange { start, end }, range),
+        list,
+    )
 }

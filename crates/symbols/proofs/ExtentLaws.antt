@@ -14,10 +14,10 @@ use Rattle.tlv.proofs.ListLaws.{all_append}
 use Rattle.buffers.specs.Table.{Kept}
 use Rattle.imports.specs.Ranges.{Holds, Apart, coalesce_ranges}
 use Rattle.imports.proofs.RangeLaws.{merge-holds}
-use Rattle.ranges.specs.RangeTable.{ranges_at, PutRange, Added, Reordered, MergedAt}
+use Rattle.buffers.specs.Table.{PutRange}
+use Rattle.ranges.specs.RangeTable.{ranges_at, Added, MergedAt}
 use Rattle.ranges.proofs.RangeTableLaws.{ranges-nil, ranges-push, ranges-below}
 use Rattle.ranges.proofs.InsertLaws.{apart-nonempty}
-use Rattle.ranges.proofs.ReorderLaws.{reordered-all, reordered-merge}
 use Rattle.lookup.specs.Lookup.{holds}
 use Rattle.lookup.proofs.DemandLaws.{some_holds}
 use Rattle.symbols.specs.declared.extents.RangeTables.{RangeTables}
@@ -46,17 +46,6 @@ module _ (a : ℕ) where
       go : Holds xs a ⊎ Holds ys a → Holds (x ∷ xs) a ⊎ Holds ys a
       go (inl q) = inl (inr q)
       go (inr q) = inr q
-
--- ---- ranges that are merged
-
-pub reordered-filled : {w w₁ : List ℕ} {p n : ℕ} → All Nonempty (ranges_at w p n) → Reordered w w₁ p n → All Nonempty (ranges_at w₁ p n)
-reordered-filled h o = reordered-all Nonempty o h
-
-kept-twice : {w w₁ w₂ : List ℕ} {p m : ℕ} → Kept w w₁ p m → Kept w₁ w₂ p m → Kept w w₂ p m
-kept-twice k l = record { same = λ q n h. l.same q n h ∙ k.same q n h }
-
-pub settled : {w w₁ w₂ : List ℕ} {p n k : ℕ} → All Nonempty (ranges_at w p n) → Reordered w w₁ p n → MergedAt w₁ w₂ p n k → MergedAt w w₂ p n k
-settled h o m = record { ranges = m.ranges ∙ reordered-merge o h; apart = m.apart; few = m.few; rest = kept-twice o.rest m.rest }
 
 -- ---- the tables of a tray
 

@@ -4,7 +4,6 @@ ghost use Rattle.symbols.specs.Symbols.{symbol_formed};
 ghost use Rattle.symbols.specs.Answers.{SymbolsChecked};
 
 use crate::model::{SYMBOL_SIZE, SYMBOL_TAG};
-use lookup::form::payload_of;
 use tlv::bytes::Number;
 use tlv::fields::next_field;
 
@@ -25,12 +24,12 @@ pub fn check_symbols(s: &[u8]) -> bool
     ensures { SymbolsChecked s.now result }
 {
     let mut p: usize = 0;
-    // Stays a loop: each field's own length moves the place, so nothing is counted.
+    // Stays a loop over fields: next_field says why.
     while p < s.len() {
         let Some(field) = next_field(s, p) else {
             return false;
         };
-        if !symbol_formed(field.tag, payload_of(s, field)) {
+        if !symbol_formed(field.tag, field.payload(s)) {
             return false;
         }
         p = field.next;

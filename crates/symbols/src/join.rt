@@ -14,7 +14,7 @@ use crate::extents::{RangeTables, is_held_with, learn, remember};
 use crate::form::check_symbols;
 use crate::model::SYMBOL_SIZE;
 use lookup::address::function_at;
-use lookup::form::{check_records, payload_of};
+use lookup::form::check_records;
 use lookup::lent::refused;
 use tlv::bytes::Number;
 use tlv::fields::next_field;
@@ -22,6 +22,7 @@ use tlv::model::AddressRange;
 use tlv::refusal::Refusal;
 
 // Whether a record in the first `at` bytes of the result holds an address.
+// Stays the result and a place: what writes behind the place asks the same clause of both, which of `&res[..at]` would have to be led to it at each call.
 pub fn is_held(res: &[u8], at: usize, address: u64) -> bool
     requires { Standing res.now at }
     ensures { result ≡ exists (holds address) (ranges_in (take at res.now)) }
@@ -31,8 +32,8 @@ pub fn is_held(res: &[u8], at: usize, address: u64) -> bool
 
 // The addresses of the symbol of a payload.
 fn symbol_range(payload: &[u8]) -> AddressRange
-    requires le_len { 16 ≤ length payload.now }
-    requires start_bound { le_at 8 payload.now 0 + le_at 8 payload.now 8 < 2 ^ 64 }
+    requires has_head { 16 ≤ length payload.now }
+    requires end_fits { le_at 8 payload.now 0 + le_at 8 payload.now 8 < 2 ^ 64 }
     ensures { result ≡ (symbol_of payload.now).range }
 {
     let start = u64::read(payload, 0);
@@ -51,14 +52,15 @@ fn join_symbol(
     work: &[u8],
     tables: Option<RangeTables>,
 ) -> usize
-    requires le_len { 16 ≤ length payload.now }
-    requires len_bound { length payload.now < 65536 }
-    requires start_bound { le_at 8 payload.now 0 + le_at 8 payload.now 8 < 2 ^ 64 }
+    requires has_head { 16 ≤ length payload.now }
+    requires length_fits { length payload.now < 65536 }
+    requires end_fits { le_at 8 payload.now 0 + le_at 8 payload.now 8 < 2 ^ 64 }
     requires standing { Standing res.old at }
     requires known { Known (ranges_in (take at res.old)) work.now tables }
     ensures { Put at (laid_for (ranges_in (take at res.old)) (symbol_of payload.now)) res.old res.new result }
 {
     let range = symbol_range(payload);
+    // Stays beside `is_empty`: a symbol's size is asked for, as the definition asks; that its end is not below its start would be shown for nothing else.
     let empty = range.start == range.end;
     let nameless = payload.len() == SYMBOL_SIZE;
     if empty || nameless || is_held_with(res, at, range.start, work, tables) {
@@ -75,7 +77,7 @@ fn join_all(
     work: &mut [u8],
     learned: Option<RangeTables>,
 ) -> usize
-    requires symbols_value { symbols_form (fields symbols.now) ≡ true }
+    requires formed { symbols_form (fields symbols.now) ≡ true }
     requires bytes { Bytes symbols.now }
     requires standing { Standing res.old from }
     requires known { Known (ranges_in (take from res.old)) work.old learned }
@@ -84,9 +86,9 @@ fn join_all(
     let mut p: usize = 0;
     let mut at = from;
     let mut tables = learned;
-    // Stays a loop: each field's own length moves the place, so nothing is counted.
+    // Stays a loop over fields: next_field says why.
     while let Some(field) = next_field(symbols, p) {
-        let payload = payload_of(symbols, field);
+        let payload = field.payload(symbols);
         let then = join_symbol(payload, res, at, work, tables);
         if res.len() < then {
             return then;
@@ -138,15 +140,14 @@ pub fn join_symbols_with(
     ensures { JoinsWith records.now symbols.now res.old res.new
         work.old work.new result }
 {
-    let r = join_in(records, symbols, res, work);
-    buffers::table::clear(work);
-    r
+    let joined = join_in(records, symbols, res, work);
+    work.fill(0);
+    joined
 }
 
-// The same with no work lent: one byte, since rattle-kit-5 covered no slice of no bytes.
+// The same with no work lent.
 pub fn join_symbols(records: &[u8], symbols: &[u8], res: &mut [u8]) -> Result<usize, Refusal>
     ensures { join_given result res.new ≡ join_symbols records.now symbols.now res.old }
 {
-    let mut none: [u8; 1] = [0; 1];
-    join_in(records, symbols, res, &mut none)
+    join_in(records, symbols, res, &mut [])
 }

@@ -1,38 +1,26 @@
 -- A look-up by an index from its parts: the search, the pass, the function that is found.
-use mathlib.Core.Path.{◌≡◌, refl, sym, ap, subst, ◌∙◌}
-use mathlib.Core.Logic.{◌⊎◌, inl, inr}
-use mathlib.Core.Bool.{Bool, true, false, true≢false, false≢true}
+use mathlib.Core.Path.{◌≡◌, refl, sym, ap, ◌∙◌}
+use mathlib.Core.Bool.{Bool}
 use mathlib.Core.List.{List}
-use Prim.Native.Nat.{ℕ, ◌+◌, ◌*◌, ◌/◌, ◌-◌, ◌≤◌, ◌<◌}
+use Prim.Native.Nat.{ℕ, ◌*◌, ◌/◌, ◌-◌, ◌≤◌}
 use native.Mathlib.Omega.{arith}
 use lib.ListN.{length, take, drop, replicate}
-use borrow.Author.Tests.{lt-ltb, le-ltb}
+use borrow.Author.Tests.{le-ltb}
 use Rattle.std.specs.Prelude.{Option, Some, None, Result, Ok, Err, IfOk}
 use Rattle.tlv.specs.declared.refusal.Refusal.{Refusal}
-use Rattle.tlv.specs.Bytes.{le_at}
-use Rattle.tlv.specs.Outcome.{refused, done, ◌>>=◌}
-use Rattle.tlv.proofs.OutcomeLaws.{refused-not}
-use Rattle.tlv.proofs.TestLaws.{by_less}
+use Rattle.tlv.specs.Outcome.{done, ◌>>=◌}
 use Rattle.lookup.specs.declared.model.Chain.{Chain}
 use Rattle.lookup.specs.declared.model.LookedUp.{LookedUp}
 use Rattle.lookup.specs.Tray.{nodes_at}
 use Rattle.lookup.specs.Lookup.{row_in_force, chain, frames_of}
 use Rattle.access.specs.Access.{place_of}
-use Rattle.tlv.specs.Refusals.{number_of}
-use Rattle.lookup.specs.Walk.{StandsOwn, row_from, ChainAt}
+use Rattle.lookup.specs.Walk.{row_from, ChainAt}
 use Rattle.lookup.specs.Answers.{frames_given}
 use Rattle.lookup.proofs.LookLaws.{looks_up}
 use Rattle.look_index.specs.declared.index.Extent.{Extent}
-use Rattle.look_index.specs.Index.{extent_at, ExtentHolds, function_here}
-use Rattle.look_index.specs.LookIn.{Boundary, Searched, Scanned, SearchedBy, ScannedBy, Chosen, HereIs, IsHere, by_choice, LooksUpIn}
+use Rattle.look_index.specs.Index.{extent_at, function_here}
+use Rattle.look_index.specs.LookIn.{Chosen, IsHere, by_choice, LooksUpIn}
 use Rattle.look_index.proofs.Indexing.{indexing}
-
--- ---- the binary search
-
--- ---- the pass
-
-abbrev pub NoneSo : List ℕ → ℕ → ℕ → Type 0
-NoneSo w a i = (j : ℕ) → j < i → ¬ ExtentHolds (extent_at w j) a
 
 -- ---- the answer
 

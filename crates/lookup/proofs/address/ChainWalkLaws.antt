@@ -1,5 +1,5 @@
 -- A turn of the walk that gathers the chain into an array.
-use mathlib.Core.Path.{◌≡◌, refl, sym, ◌∙◌}
+use mathlib.Core.Path.{◌≡◌, sym, ◌∙◌}
 use mathlib.Core.Bool.{Bool, true, false, cond, ◌&&◌}
 use mathlib.Core.List.{List, [], ◌∷◌, ◌++◌, append-nil, append_assoc}
 use Prim.Native.Nat.{ℕ, suc, ◌+◌, ◌-◌, ◌≤◌, ◌<◌}
@@ -29,9 +29,6 @@ pub record Gathering (all places left : List ℕ) (n : ℕ) : Type 0 where
   pub few : n ≤ 257
   pub zeros : drop n places ≡ replicate (257 - n) 0
   pub size : length places ≡ 257
-
-pub gather-start : (all : List ℕ) → Gathering all (replicate 257 0) all 0
-gather-start all = record { whole = refl; few = omega arith; zeros = refl; size = refl }
 
 module _ {all places left : List ℕ} {n : ℕ} (g : Gathering all places left n) where
   pub gather-same : (other : List ℕ) → left ≡ other → Gathering all places other n

@@ -18,7 +18,8 @@ use Rattle.tlv.specs.Model.{range_of}
 use Rattle.tlv.proofs.TestLaws.{and_right}
 use Rattle.tlv.proofs.ListLaws.{all_append}
 use Rattle.buffers.specs.Reader.{range_formed, records_formed}
-use Rattle.ranges.specs.RangeTable.{ranges_at, PutRange}
+use Rattle.buffers.specs.Table.{PutRange}
+use Rattle.ranges.specs.RangeTable.{ranges_at}
 use Rattle.ranges.proofs.RangeTableLaws.{ranges-nil, ranges-push}
 use Rattle.lookup.specs.Tray.{GroupAt, functions_at, function_range}
 use Rattle.lookup.specs.Walk.{Stands}

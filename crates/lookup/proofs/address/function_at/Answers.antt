@@ -11,8 +11,8 @@ pub loop-field-init : goal.loop-field-init
 unfolding functions_at
 loop-field-init c = (search rules, refl)
 
-pub range_of-requires : goal.range_of-requires
-range_of-requires c = search (rules, function-long, c.in-Some.ensures)
+pub read-requires : goal.read-requires
+read-requires c = search (rules, function-long, c.in-Some.ensures)
 
 pub loop-field-preserved : goal.loop-field-preserved
 loop-field-preserved c = (

@@ -6,8 +6,8 @@ use Rattle.lookup.proofs.address.node_holds.Goals as goal
 use Rattle.lookup.proofs.address.node_holds.Goals.{then-field-eq-TRAY_FUNCTION_TAG-via-then-field-eq-TRAY_FUNCTION_TAG, then-field-eq-TRAY_FUNCTION_TAG-via-else-field-eq-TRAY_FUNCTION_TAG+then-field-eq-TRAY_NODE_TAG}
 use Rattle.lookup.proofs.address.node_holds.Goals.{else-field-eq-TRAY_RANGE_TAG-via-then-field-eq-TRAY_RANGE_TAG+else-holds, else-field-eq-TRAY_RANGE_TAG-via-else-field-eq-TRAY_RANGE_TAG}
 
-pub range_of-requires : goal.range_of-requires
-range_of-requires c = search (rules, range-long, c.in-Some.ensures)
+pub read-requires : goal.read-requires
+read-requires c = search (rules, range-long, c.in-Some.ensures)
 
 pub returns-then-field-eq-TRAY_FUNCTION_TAG : goal.returns-then-field-eq-TRAY_FUNCTION_TAG
 returns-then-field-eq-TRAY_FUNCTION_TAG c = elim c.then-field-eq-TRAY_FUNCTION_TAG.branch [

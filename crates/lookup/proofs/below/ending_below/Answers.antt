@@ -11,8 +11,8 @@ pub loop-field-init : goal.loop-field-init
 unfolding functions_at
 loop-field-init c = (search rules, refl, refl)
 
-pub range_of-end-requires : goal.range_of-end-requires
-range_of-end-requires c = search (rules, function-long, c.in-Some.ensures)
+pub read-end-requires : goal.read-end-requires
+read-end-requires c = search (rules, function-long, c.in-Some.ensures)
 
 pub loop-field-preserved-then-end-address : goal.loop-field-preserved-then-end-address
 loop-field-preserved-then-end-address c = (search (stands-next, c.in-Some.ensures), search (nearest-takes, c.in-Some.ensures), tt)

@@ -13,8 +13,8 @@ pub loop-field-init : goal.loop-field-init
 unfolding functions_at
 loop-field-init g c = record { stands = search rules; left = λ test t. left-start _ _ _ (omega arith) (omega arith) }
 
-pub range_of-requires : goal.range_of-requires
-range_of-requires g c = search (rules, function-long, c.in-Some.ensures)
+pub read-requires : goal.read-requires
+read-requires g c = search (rules, function-long, c.in-Some.ensures)
 
 pub put_part-at-requires-clause-p_le_next : goal.put_part-at-requires-clause-p_le_next
 put_part-at-requires-clause-p_le_next g c = part-below _ _ _ c.in-Some.ensures
@@ -25,16 +25,16 @@ put_part-at-requires-clause-next_in_bounds g c = next-within _ _ _ c.in-Some.ens
 pub loop-field-preserved-then-is_wanted : goal.loop-field-preserved-then-is_wanted
 loop-field-preserved-then-is_wanted g c = record {
   stands = search (stands-next, c.in-Some.ensures);
-  left = λ test t. left_laid _ test _ _ _ _ _ (c.loop-field.invariant.left test t) c.in-Some.ensures c.if-field-eq-TRAY_FUNCTION_TAG.true c.payload_of.ensures
-      c.range_of.ensures (t _ _ (search rules, search rules) c.is_wanted.ensures) c.if-is_wanted.true c.put_part-at.ensures;
+  left = λ test t. left_laid _ test _ _ _ _ _ (c.loop-field.invariant.left test t) c.in-Some.ensures c.if-field-eq-TRAY_FUNCTION_TAG.true c.payload.ensures
+      c.read.ensures.of_rest (t _ _ (search rules, search rules) c.is_wanted.ensures) c.if-is_wanted.true c.put_part-at.ensures;
 }
 
 pub loop-field-preserved : goal.loop-field-preserved
 loop-field-preserved g c = record {
   stands = search (stands-next, c.in-Some.ensures);
   left = λ test t. elim c.else-field-eq-TRAY_FUNCTION_TAG.branch [
-    | else-field-eq-TRAY_FUNCTION_TAG-via-then-field-eq-TRAY_FUNCTION_TAG+else-is_wanted w ↦ left-same (c.loop-field.invariant.left test t) (left_not _ test _ _ c.in-Some.ensures _ _ _ w.if-field-eq-TRAY_FUNCTION_TAG.true w.payload_of.ensures
-        w.range_of.ensures (t _ _ (search rules, search rules) w.is_wanted.ensures) w.if-is_wanted.false)
+    | else-field-eq-TRAY_FUNCTION_TAG-via-then-field-eq-TRAY_FUNCTION_TAG+else-is_wanted w ↦ left-same (c.loop-field.invariant.left test t) (left_not _ test _ _ c.in-Some.ensures _ _ _ w.if-field-eq-TRAY_FUNCTION_TAG.true w.payload.ensures
+        w.read.ensures.of_rest (t _ _ (search rules, search rules) w.is_wanted.ensures) w.if-is_wanted.false)
     | else-field-eq-TRAY_FUNCTION_TAG-via-else-field-eq-TRAY_FUNCTION_TAG w ↦ left-same (c.loop-field.invariant.left test t) (left_other _ test _ _ c.in-Some.ensures w.if-field-eq-TRAY_FUNCTION_TAG.false)
   ];
 }

@@ -10,10 +10,10 @@ pub returns-then-holds_apart-2 : goal.returns-then-holds_apart-2
 returns-then-holds_apart-2 c =
     let k = rw c.in-Some.is at c.requires.known in
     rw c.if-holds_apart-2.true (elim c.if-holds_apart.branch [
-      | then-holds_apart w ↦ by_first k _ _ c.holds_apart.ensures w.if-holds_apart.true
+      | then-holds_apart w ↦ by_first k _ _ (rw (c.new.ensures.based, c.new.ensures.counted) at c.holds_apart.ensures) w.if-holds_apart.true
       | else-holds_apart w ↦
-          by-second k _ _ c.holds_apart.ensures _ w.if-holds_apart.false
-          (in-first _ _ _ _ _ _ k.is.lying.some w.holds_apart-else-holds_apart.ensures (sym w.value-is ∙ c.if-holds_apart-2.true))
+          by-second k _ _ (rw (c.new.ensures.based, c.new.ensures.counted) at c.holds_apart.ensures) _ w.if-holds_apart.false
+          (in-first _ _ _ _ _ _ k.is.lying.some (rw (c.new-2.ensures.based, c.new-2.ensures.counted) at w.holds_apart-else-holds_apart.ensures) (sym w.value-is ∙ c.if-holds_apart-2.true))
     ])
 
 pub returns-else-holds_apart-2 : goal.returns-else-holds_apart-2
@@ -22,6 +22,6 @@ returns-else-holds_apart-2 c =
     elim c.if-holds_apart.branch [
       | then-holds_apart w ↦ absurd (true≢false (sym w.if-holds_apart.true ∙ sym w.value-is ∙ c.if-holds_apart-2.false))
       | else-holds_apart w ↦
-          by-second k _ _ c.holds_apart.ensures _ w.if-holds_apart.false
-          (in_rest _ _ _ _ _ _ k.is.lying.some w.holds_apart-else-holds_apart.ensures _ (sym w.value-is ∙ c.if-holds_apart-2.false) c.holds_among.ensures)
+          by-second k _ _ (rw (c.new.ensures.based, c.new.ensures.counted) at c.holds_apart.ensures) _ w.if-holds_apart.false
+          (in_rest _ _ _ _ _ _ k.is.lying.some (rw (c.new-2.ensures.based, c.new-2.ensures.counted) at w.holds_apart-else-holds_apart.ensures) _ (sym w.value-is ∙ c.if-holds_apart-2.false) (rw (c.new-3.ensures.based, c.new-3.ensures.counted) at c.holds.ensures))
     ]

@@ -16,5 +16,5 @@ returns-then-empty c = put-nothing (elim c.then-empty.branch [
 ]) (omega arith) (omega arith)
 
 pub returns : goal.returns
-returns c = laid-put _ _ _ c.symbol_range-range.ensures _ c.put_function.ensures c.requires.le_len c.if-empty.false c.if-nameless.false c.is_held_with.ensures
+returns c = laid-put _ _ _ c.symbol_range-range.ensures _ c.put_function.ensures c.requires.has_head c.if-empty.false c.if-nameless.false c.is_held_with.ensures
     c.if-is_held_with.false

@@ -1,7 +1,7 @@
--- `extents::RangeTable::holds_apart` meets its contract: only the last range that starts at or below the address can hold it.
+-- `extents::holds_apart` meets its contract: only the last range that starts at or below the address can hold it.
 use borrow.Author.Rules.{rules}
 use Rattle.symbols.proofs.SoughtLaws.{sought-none, sought-last}
-use Rattle.symbols.proofs.extents.RangeTable.holds_apart.Goals as goal
+use Rattle.symbols.proofs.extents.holds_apart.Goals as goal
 
 pub returns-then-past-ne0 : goal.returns-then-past-ne0
 returns-then-past-ne0 c =
