@@ -1,7 +1,7 @@
 -- The return address of an entry, as the walk below a subprogram reads it.
 use mathlib.Core.Path.{◌≡◌, refl, ap, ◌∙◌}
 use mathlib.Core.Bool.{Bool, true, not, ◌||◌}
-use mathlib.Core.List.{List, [], ◌∷◌, map}
+use mathlib.Core.List.{List, [], ◌∷◌}
 use mathlib.Core.Option.{Option, none, some}
 use Prim.Native.Nat.{ℕ, ◌+◌, ◌≤◌}
 use native.Mathlib.Omega.{arith}
@@ -11,7 +11,7 @@ use borrow.Author.Tests.{leb-true, eqb-true, eqb-false}
 use Rattle.std.specs.Prelude.{Option as Maybe, Some, None, Result, Ok, Err}
 use Rattle.tlv.specs.declared.refusal.Refusal.{Refusal}
 use Rattle.tlv.specs.declared.refusal.Refusal.TheVariants.{Decoder}
-use Rattle.tlv.specs.Lists.{All, first, take_while}
+use Rattle.tlv.specs.Lists.{All, take_while}
 use Rattle.tlv.specs.Bytes.{Bytes, le_at}
 use Rattle.tlv.specs.Fields.{Field, fields, whole_fields, payloads}
 use Rattle.tlv.specs.Grammar.{value_shaped, attribute_shaped, payload_shaped}
@@ -24,12 +24,12 @@ use Rattle.tlv.proofs.AcceptedFields.{Promised, promised_all}
 use Rattle.tlv.proofs.PlaceFacts.{placed-start, placed-passed}
 use Rattle.access.specs.declared.access.Value.{Value}
 use Rattle.access.specs.Places.{own_fields, entry_here}
-use Rattle.access.specs.Access.{Meaning, absent, unsigned, file_number, text, unit_reference, section_reference, supplementary_reference, section_offset, line_offset, address, failed, is_named, value_of, meaning_of, said, Says}
+use Rattle.access.specs.Access.{Meaning, absent, unsigned, file_number, text, unit_reference, section_reference, supplementary_reference, section_offset, line_offset, address, failed, value_of, meaning_of, said, Says}
 use Rattle.access.proofs.IndexModel.{either}
 use Rattle.access.proofs.EntryPlaceLaws.{entry-attributes}
 use Rattle.references.specs.Search.{attribute}
 use Rattle.references.specs.Tables.{EntryKnown}
-use Rattle.references.proofs.ReferenceLaws.{by_kind, of_kind, entry-step, entry_next, attribute-says}
+use Rattle.references.proofs.ReferenceLaws.{by_kind, of_kind, entry-step, entry_next}
 use Rattle.dies.specs.Calls.{address_of, address_in}
 
 -- ---- the kinds of an accepted sheet
@@ -121,5 +121,5 @@ meaning-address (some a) h =
 -- ---- what is read of the entry at p
 
 module _ {s : List ℕ} {q p : ℕ} {v : Maybe Value} (A : Accepted s) (K : EntryKnown s q p) where
-  pub address_read : {r : Result (Maybe ℕ) Refusal} → Bytes s → Says s v (meaning_of (first (is_named 0x7d) (map attribute_of (payloads 0x18 (own_fields (fields (drop (p + 15) s))))))) → r ≡ address_in v → r ≡ address_of (attribute (entry_here s p) 0x7d)
-  address_read b says is = is ∙ value-address s v ∙ ap address_meant (attribute-says (accepted-placed A K) K v 0x7d says).is ∙ meaning-address (attribute (entry_here s p) 0x7d) (kind-known A K b 0x7d)
+  pub address_read : {r : Result (Maybe ℕ) Refusal} → Bytes s → Says s v (meaning_of (attribute (entry_here s p) 0x7d)) → r ≡ address_in v → r ≡ address_of (attribute (entry_here s p) 0x7d)
+  address_read b says is = is ∙ value-address s v ∙ ap address_meant says.is ∙ meaning-address (attribute (entry_here s p) 0x7d) (kind-known A K b 0x7d)

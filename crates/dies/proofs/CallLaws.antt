@@ -95,7 +95,7 @@ unfolding call_file_of
 of_number is s p number f read found c ei = rw (number-some (file_index_attribute (entry_here s p) 0x58) number read, ei, ← found)
 
 module _ {is : FileIndices} {s : List ℕ} {q p at : ℕ} {u : List ℕ} (h : at ≤ top) (k : length u < top) where
-  pub file-missing : None ≡ number_given (file_index_attribute (entry_here s p) 0x58) → FileCalled is s q p at u u 0 (record { file = file_index 0; at = at })
+  pub file-missing : None ≡ number_given (file_index_attribute (entry_here s p) 0x58) → FileCalled is s q p at u u 0 (record { value = file_index 0; at = at })
   unfolding call_file_of
   file-missing read = record {
     warnings = [];
@@ -105,7 +105,7 @@ module _ {is : FileIndices} {s : List ℕ} {q p at : ℕ} {u : List ℕ} (h : at
   }
 
   module _ {number : ℕ} {f : Maybe FileIndex} (read : Some number ≡ number_given (file_index_attribute (entry_here s p) 0x58)) (found : number_of f ≡ get is number) where
-    pub file-found : {i : FileIndex} → f ≡ Some i → FileCalled is s q p at u u 0 (record { file = i; at = at })
+    pub file-found : {i : FileIndex} → f ≡ Some i → FileCalled is s q p at u u 0 (record { value = i; at = at })
     file-found is_number = record {
       warnings = [];
       laid = λ z. warn_none h k;
@@ -113,7 +113,7 @@ module _ {is : FileIndices} {s : List ℕ} {q p at : ℕ} {u : List ℕ} (h : at
       no = λ z. absurd (z refl);
     }
 
-    pub file-warned : {u' : List ℕ} {m r : ℕ} → f ≡ None → AboutWarned s q p 8 number at u u' m r → FileCalled is s q p at u u' m (record { file = file_index 0; at = r })
+    pub file-warned : {u' : List ℕ} {m r : ℕ} → f ≡ None → AboutWarned s q p 8 number at u u' m r → FileCalled is s q p at u u' m (record { value = file_index 0; at = r })
     unfolding ◌>>=◌ kind_number
     file-warned missing W = record {
       warnings = about missing_inline_call_file W.offset number ∷ [];
@@ -129,7 +129,7 @@ unfolding call_line_of
 of_line s p number read c = rw (number-some (unsigned_attribute (entry_here s p) 0x59) number read)
 
 module _ {s : List ℕ} {q p at : ℕ} {u : List ℕ} (h : at ≤ top) (k : length u < top) where
-  pub line-missing : None ≡ number_given (unsigned_attribute (entry_here s p) 0x59) → LineCalled s q p at u u 0 (record { line = 0; at = at })
+  pub line-missing : None ≡ number_given (unsigned_attribute (entry_here s p) 0x59) → LineCalled s q p at u u 0 (record { value = 0; at = at })
   unfolding call_line_of
   line-missing read = record {
     warnings = [];
@@ -139,7 +139,7 @@ module _ {s : List ℕ} {q p at : ℕ} {u : List ℕ} (h : at ≤ top) (k : leng
   }
 
   module _ {number : ℕ} (read : Some number ≡ number_given (unsigned_attribute (entry_here s p) 0x59)) where
-    pub line_small : number < 4294967296 → LineCalled s q p at u u 0 (record { line = number; at = at })
+    pub line_small : number < 4294967296 → LineCalled s q p at u u 0 (record { value = number; at = at })
     line_small l = record {
       warnings = [];
       laid = λ z. warn_none h k;
@@ -147,7 +147,7 @@ module _ {s : List ℕ} {q p at : ℕ} {u : List ℕ} (h : at ≤ top) (k : leng
       no = λ z. absurd (z refl);
     }
 
-    pub line-warned : {u' : List ℕ} {m r : ℕ} → 4294967296 ≤ number → AboutWarned s q p 9 number at u u' m r → LineCalled s q p at u u' m (record { line = 0; at = r })
+    pub line-warned : {u' : List ℕ} {m r : ℕ} → 4294967296 ≤ number → AboutWarned s q p 9 number at u u' m r → LineCalled s q p at u u' m (record { value = 0; at = r })
     unfolding ◌>>=◌ kind_number
     line-warned l W = record {
       warnings = about invalid_inline_call_line W.offset number ∷ [];

@@ -53,18 +53,18 @@ unfolding open_of
 frames-length fs zero used w base = refl
 frames-length fs (suc t) used w base = ap suc (frames-length fs t (slot fs t).ranges w base)
 
-pub length-open : (w : List ℕ) (base : ℕ) (st : Open) → length (open_in w base st) ≡ st.n
+pub length-open : (w : List ℕ) (base : ℕ) (st : Open) → length (open_in w base st) ≡ st.count
 unfolding open_in
-length-open w base st = frames-length st.frames st.n st.used w base
+length-open w base st = frames-length st.frames st.count st.used w base
 
 module _ (st : Open) (R : Ready st) where
   -- the function's own range is always there
   pub used-one : 1 ≤ st.used
-  used-one = stacked-one st.frames st.n st.used R.stacked
+  used-one = stacked-one st.frames st.count st.used R.stacked
 
   pub open_but : {w w' : List ℕ} {rs : List (ℕ × ℕ)} (base : ℕ) → KeptBut w w' rs → Clear base (st.used * 16) rs → open_in w' base st ≡ open_in w base st
   unfolding open_in
-  open_but base K c = frames-but st.frames st.n st.used base R.stacked K c
+  open_but base K c = frames-but st.frames st.count st.used base R.stacked K c
 
   pub open_kept : {w w' : List ℕ} {p m : ℕ} (base : ℕ) → Kept w w' p m → Apart base (st.used * 16) p m → open_in w' base st ≡ open_in w base st
   open_kept base K a = open_but base (but_one K) (a, tt)
@@ -77,7 +77,7 @@ none_open fs (suc n) used w base h = absurd (omega arith)
 
 pub open_none : {st : Open} → Empty st → (w : List ℕ) (base : ℕ) → open_in w base st ≡ []
 unfolding open_in
-open_none {st} E w base = none_open st.frames st.n st.used w base E.none
+open_none {st} E w base = none_open st.frames st.count st.used w base E.none
 
 -- ---- popping
 
@@ -117,7 +117,7 @@ lean-used c t fs zero used h = omega (arith, mul_comm t 0)
 lean-used c t fs (suc n) used h = h.0
 
 -- with no frame the stack has the function's range
-pub lean-start : (t : ℕ) {st : Open} → Empty st → Lean 1 t st.frames st.n st.used
+pub lean-start : (t : ℕ) {st : Open} → Empty st → Lean 1 t st.frames st.count st.used
 unfolding Lean
 lean-start t E = rw (E.none, E.used) (omega arith)
 
@@ -146,72 +146,92 @@ lean-push c t fs n used a k x at e few h =
     let m : t * suc n ≡ t * n + t * 1 = ap (λ (y : ℕ). t * y) (sym (add-one n)) ∙ mul-add t n 1 in
     rw (at, e) (omega (arith, lean-used c t fs n used h), lean-more c (c + a) t fs n used (omega arith) h)
 
-pub record Popping (fs : List Frame) (n₀ used₀ d n used : ℕ) : Type 0 where
-  pub few : n ≤ n₀
-  pub lean : (c t : ℕ) → Lean c t fs n₀ used₀ → Lean c t fs n used
-  pub stacked : Stacked fs n used
-  pub less : used ≤ used₀
-  pub left : (w : List ℕ) (base : ℕ) → finish_inlines d (open_of fs n used w base) ≡ finish_inlines d (open_of fs n₀ used₀ w base)
+-- of the nodes n are left, and popping makes of them what it makes of all
+pub record Popping (st : Open) (d n : ℕ) (st' : Open) : Type 0 where
+  pub same : st'.frames ≡ st.frames
+  pub count : st'.count ≡ n
+  pub few : n ≤ st.count
+  pub lean : (c t : ℕ) → Lean c t st.frames st.count st.used → Lean c t st.frames n st'.used
+  pub stacked : Stacked st.frames n st'.used
+  pub less : st'.used ≤ st.used
+  pub left : (w : List ℕ) (base : ℕ) → finish_inlines d (open_of st.frames n st'.used w base) ≡ finish_inlines d (open_in w base st)
 
-module _ {fs : List Frame} {n₀ used₀ d n used : ℕ} (P : Popping fs n₀ used₀ d n used) where
-  pub popping_next : 0 < n → d ≤ (slot fs (n - 1)).depth → Popping fs n₀ used₀ d (n - 1) (slot fs (n - 1)).ranges
-  popping_next h l =
-      let s = stacked-top fs n used h P.stacked in
+pub popping-start : (st : Open) (d : ℕ) → Ready st → Popping st d st.count st
+unfolding open_in
+popping-start st d R = record {
+  same = refl;
+  count = refl;
+  few = omega arith;
+  lean = λ c t h. h;
+  stacked = R.stacked;
+  less = omega arith;
+  left = λ w base. refl;
+}
+
+module _ {st st' : Open} {d n : ℕ} (P : Popping st d n st') where
+  pub popping_next : {st'' : Open} → 0 < n → d ≤ (slot st'.frames (n - 1)).depth → st''.frames ≡ st'.frames → st''.count ≡ n - 1 → st''.used ≡ (slot st'.frames (n - 1)).ranges → Popping st d (n - 1) st''
+  unfolding open_in
+  popping_next h l same count used =
+      let l = rw P.same at l in
+      let used = rw P.same at used in
+      let s = stacked-top st.frames n st'.used h P.stacked in
       record {
+        same = same ∙ P.same;
+        count = count;
         few = omega (arith, P.few);
-        lean = λ c t k. lean-top c t fs n used h (P.lean c t k);
-        stacked = s.1;
+        lean = λ c t k. rw used (lean-top c t st.frames n st'.used h (P.lean c t k));
+        stacked = rw used s.1;
         less = omega (arith, s.0, P.less);
-        left = λ w base. sym (pop_off d _ _ l) ∙ ap (finish_inlines d) (sym (open_top fs n used w base h)) ∙ P.left w base;
+        left = λ w base. rw used (sym (pop_off d _ _ l) ∙ ap (finish_inlines d) (sym (open_top st.frames n st'.used w base h)) ∙ P.left w base);
       }
 
-module _ (st : Open) (d n used : ℕ) (R : Ready st) (P : Popping st.frames st.n st.used d n used) where
-  pub popping_stop : 0 < n → (slot st.frames (n - 1)).depth < d → Popped st (record { frames = st.frames; n = n - 1 + 1; used = used }) d
-  unfolding open_in
-  popping_stop h l = let e : n - 1 + 1 ≡ n = omega arith in rw e (record {
-    ready = record { few = omega (arith, P.few, R.few); full = R.full; stacked = P.stacked };
-    frames = λ w base. open_top st.frames n used w base h ∙ sym (pop_stop d _ _ l) ∙ ap (finish_inlines d) (sym (open_top st.frames n used w base h)) ∙ P.left w base;
-    fewer = P.few;
-    used = P.less;
-    lean = P.lean;
-  })
+  module _ (R : Ready st) where
+    -- the nodes that are left, as they stand
+    left-open : (w : List ℕ) (base : ℕ) → open_in w base st' ≡ open_of st.frames n st'.used w base
+    unfolding open_in
+    left-open w base = rw (P.same, P.count) refl
 
-  pub popping_end : n ≤ 0 → Popped st (record { frames = st.frames; n = 0; used = used }) d
-  unfolding open_in
-  popping_end h = let e : 0 ≡ n = omega arith in rw e (record {
-    ready = record { few = omega (arith, P.few, R.few); full = R.full; stacked = P.stacked };
-    frames = λ w base. pop_none d _ (none_open st.frames n used w base (omega arith)) ∙ P.left w base;
-    fewer = P.few;
-    used = P.less;
-    lean = P.lean;
-  })
+    popped : ((w : List ℕ) (base : ℕ) → open_of st.frames n st'.used w base ≡ finish_inlines d (open_of st.frames n st'.used w base)) → Popped st st' d
+    popped stay = record {
+      ready = record { few = omega (arith, P.few, P.count, R.few); full = rw P.same R.full; stacked = rw (P.same, P.count) P.stacked };
+      frames = λ w base. left-open w base ∙ stay w base ∙ P.left w base;
+      fewer = omega (arith, P.few, P.count);
+      used = P.less;
+      lean = λ c t h. rw (P.same, P.count) (P.lean c t h);
+    }
+
+    pub popping_stop : 0 < n → (slot st'.frames (n - 1)).depth < d → Popped st st' d
+    popping_stop h l = let l = rw P.same at l in popped (λ w base. open_top st.frames n st'.used w base h ∙ sym (pop_stop d _ _ l) ∙ ap (finish_inlines d) (sym (open_top st.frames n st'.used w base h)))
+
+    pub popping_end : n ≤ 0 → Popped st st' d
+    popping_end h = popped (λ w base. pop_none d _ (none_open st.frames n st'.used w base (omega arith)))
 
 -- ---- the innermost node's ranges
 
 module _ (st : Open) (R : Ready st) where
-  none-top : st.n ≡ 0 → Top st 0
+  none-top : st.count ≡ 0 → Top st 0
   unfolding open_in
   none-top h = record {
     within = omega arith;
     ranges = λ f w base e.
-        ap (parent_ranges f) (none_open st.frames st.n st.used w base h)
+        ap (parent_ranges f) (none_open st.frames st.count st.used w base h)
         ∙ sym (ap (λ (p : ℕ). ranges_at w p (st.used - 0)) (let z : base + 0 * 16 ≡ base = omega arith in z) ∙ ap (ranges_at w base) (one h) ∙ e);
   }
     where
-      one : st.n ≡ 0 → st.used - 0 ≡ 1
+      one : st.count ≡ 0 → st.used - 0 ≡ 1
       one h = omega (arith, none-used st.frames st.used (rw h at R.stacked))
 
-  some-top : 0 < st.n → Top st (slot st.frames (st.n - 1)).ranges
+  some-top : 0 < st.count → Top st (slot st.frames (st.count - 1)).ranges
   unfolding open_in
   some-top h = record {
-    within = (stacked-top st.frames st.n st.used h R.stacked).0;
-    ranges = λ f w base e. ap (parent_ranges f) (open_top st.frames st.n st.used w base h);
+    within = (stacked-top st.frames st.count st.used h R.stacked).0;
+    ranges = λ f w base e. ap (parent_ranges f) (open_top st.frames st.count st.used w base h);
   }
 
-  pub top-none : {from : ℕ} → st.n ≤ 0 → from ≡ 0 → Top st from
+  pub top-none : {from : ℕ} → st.count ≤ 0 → from ≡ 0 → Top st from
   top-none h e = rw e (none-top (omega arith))
 
-  pub top-some : {from : ℕ} → 0 < st.n → from ≡ (slot st.frames (st.n - 1)).ranges → Top st from
+  pub top-some : {from : ℕ} → 0 < st.count → from ≡ (slot st.frames (st.count - 1)).ranges → Top st from
   top-some h e = rw e (some-top h)
 
 -- ---- pushing
@@ -220,9 +240,9 @@ module _ (st : Open) (R : Ready st) where
 pub record Pushed (st st' : Open) (d k : ℕ) : Type 0 where
   pub ready : Ready st'
   pub frames : (w : List ℕ) (base : ℕ) → open_in w base st' ≡ record { die_depth = d; ranges = ranges_at w (base + st.used * 16) k } ∷ open_in w base st
-  pub count : st'.n ≡ st.n + 1
+  pub count : st'.count ≡ st.count + 1
   pub used : st'.used ≡ st.used + k
-  pub lean : (c t a : ℕ) → k ≤ a + t → Lean c t st.frames st.n st.used → Lean (c + a) t st'.frames st'.n st'.used
+  pub lean : (c t a : ℕ) → k ≤ a + t → Lean c t st.frames st.count st.used → Lean (c + a) t st'.frames st'.count st'.used
 
 -- one frame more, x, whose place is `used`
 stacked-push : (fs : List Frame) (n used k : ℕ) (x : Frame) → slot fs n ≡ x → Stacked fs n used → x.ranges ≡ used → Stacked fs (suc n) (used + k)
@@ -234,20 +254,20 @@ pub open_push : (fs : List Frame) (n used k : ℕ) (x : Frame) → slot fs n ≡
 unfolding open_of
 open_push fs n used k x at e w base = let z : used + k - used ≡ k = omega arith in rw (at, e, z)
 
-pub pushed_is : (st : Open) (d k : ℕ) → Ready st → st.n < 256 → Pushed st (grown st d k) d k
+pub pushed_is : (st : Open) (d k : ℕ) → Ready st → st.count < 256 → Pushed st (grown st d k) d k
 unfolding open_in
 pushed_is st d k R h =
     let x : Frame = record { depth = d; ranges = st.used } in
-    let at : slot (set st.frames st.n x) st.n ≡ x = get_or-set_same st.frames st.n x (record { depth = 0; ranges = 0 }) (omega (arith, R.full)) in
+    let at : slot (set st.frames st.count x) st.count ≡ x = get_or-set_same st.frames st.count x (record { depth = 0; ranges = 0 }) (omega (arith, R.full)) in
     record {
       ready = record {
         few = omega arith;
-        full = length-set st.frames st.n x ∙ R.full;
-        stacked = rw (add-one st.n) (stacked-push (set st.frames st.n x) st.n st.used k x at (stacked-set st.frames st.n x st.n st.used (omega arith) R.stacked) refl);
+        full = length-set st.frames st.count x ∙ R.full;
+        stacked = rw (add-one st.count) (stacked-push (set st.frames st.count x) st.count st.used k x at (stacked-set st.frames st.count x st.count st.used (omega arith) R.stacked) refl);
       };
-      frames = λ w base. rw (add-one st.n) (open_push (set st.frames st.n x) st.n st.used k x at refl w base
-          ∙ ap (λ (l : List InlineFrame). record { die_depth = d; ranges = ranges_at w (base + st.used * 16) k } ∷ l) (open_set st.frames st.n x st.n st.used w base (omega arith)));
+      frames = λ w base. rw (add-one st.count) (open_push (set st.frames st.count x) st.count st.used k x at refl w base
+          ∙ ap (λ (l : List InlineFrame). record { die_depth = d; ranges = ranges_at w (base + st.used * 16) k } ∷ l) (open_set st.frames st.count x st.count st.used w base (omega arith)));
       count = refl;
       used = refl;
-      lean = λ c t a few l. rw (add-one st.n) (lean-push c t (set st.frames st.n x) st.n st.used a k x at refl few (lean-set c t st.frames st.n x st.n st.used (omega arith) l));
+      lean = λ c t a few l. rw (add-one st.count) (lean-push c t (set st.frames st.count x) st.count st.used a k x at refl few (lean-set c t st.frames st.count x st.count st.used (omega arith) l));
     }

@@ -2,25 +2,21 @@
 use mathlib.Core.Path.{◌≡◌, refl, sym, ap, ◌∙◌}
 use mathlib.Core.Bool.{Bool, ◌||◌}
 use mathlib.Core.List.{List, [], ◌∷◌, ◌++◌, append-nil, append_assoc}
-use Prim.Native.Nat.{ℕ, zero, suc, ◌+◌, ◌*◌, ◌≤◌, ◌<◌}
+use Prim.Native.Nat.{ℕ, suc, ◌+◌, ◌*◌, ◌≤◌, ◌<◌}
 use native.Mathlib.Numerals.{add-one}
 use native.Mathlib.Omega.{arith}
 use lib.ListN.{length}
 use borrow.Author.Tests.{lt-ltb, le-ltb}
-use Rattle.std.specs.Prelude.{Result, Ok, Err}
-use Rattle.tlv.specs.declared.refusal.Refusal.{Refusal}
-use Rattle.tlv.specs.Refusals.{status_of}
-use Rattle.tlv.proofs.AnswerLaws.{numbered}
 use Rattle.tlv.specs.declared.model.AddressRange.{AddressRange}
 use Rattle.tlv.specs.declared.model.FileIndex.{FileIndex}
 use Rattle.tlv.specs.Outcome.{Outcome, refused, done, ◌>>=◌}
 use Rattle.tlv.specs.Bytes.{le_at}
 use Rattle.tlv.specs.Fields.{encode}
 use Rattle.tlv.specs.Model.{Entry}
-use Rattle.buffers.specs.Buffer.{Put, top}
+use Rattle.buffers.specs.Buffer.{Put}
 use Rattle.buffers.specs.Output.{InlineNode, Warning, warning_payload, warnings_bytes, node_payload, range_payload, range_bytes, each_of, node_bytes}
 use Rattle.buffers.specs.Table.{Kept}
-use Rattle.buffers.proofs.BufferLaws.{◌then◌, put-none}
+use Rattle.buffers.proofs.BufferLaws.{◌then◌}
 use Rattle.buffers.proofs.TableLaws.{kept_refl}
 use Rattle.access.specs.Places.{entry_here}
 use Rattle.lines.specs.Files.{file_index}
@@ -31,14 +27,12 @@ use Rattle.ranges.specs.RangeTable.{ranges_at, range_fields}
 use Rattle.ranges.proofs.RangeTableLaws.{ranges-length}
 use Rattle.dies.specs.declared.details.Details.{Details}
 use Rattle.dies.specs.declared.walk.Walk.{Walk}
-use Rattle.dies.specs.declared.calls.CalledFile.{CalledFile}
-use Rattle.dies.specs.declared.calls.CalledLine.{CalledLine}
-use Rattle.dies.specs.declared.nodes.Laid.{Laid}
+use Rattle.dies.specs.declared.frames.Open.{Open}
+use Rattle.dies.specs.declared.calls.Warned.{Warned}
 use Rattle.dies.specs.FrameStack.{open_in, grown}
 use Rattle.dies.specs.Past.{is_past, node_size}
-use Rattle.dies.specs.Answers.{value_or}
 use Rattle.dies.specs.Details.{DetailsIn, context_in, third}
-use Rattle.dies.specs.DetailState.{Later, OwnRanges, origin_name, site_frames_at, sites_at, ranges_later, entries_left, walk_of, Fits, lead_bytes, new_bytes, walked, Advances, laid_of, noded}
+use Rattle.dies.specs.DetailState.{Later, OwnRanges, origin_name, site_frames_at, sites_at, ranges_later, entries_left, walk_of, Fits, lead_bytes, new_bytes, walked, Advances, noded}
 use Rattle.dies.specs.Calls.{FileCalled, LineCalled}
 use Rattle.dies.proofs.FrameLaws.{length-open, Pushed, pushed_is}
 use Rattle.dies.proofs.CallLaws.{entry_depth-here}
@@ -122,7 +116,7 @@ module _ (c : DetailContext) (e : Entry) (name : List ℕ) (rs : List AddressRan
 
 -- a refusal says nothing of what was laid
 pub advance-refused : {G : Descendants → Outcome Descendants} {main supplementary name : List ℕ} {d : Details} {a : Later} {b : ℕ} {w t u : List ℕ} {s : Walk} {w' t' u' : List ℕ} {n : ℕ} {s' : Walk}
-    → (n ≡ 0 → ⊥) → Kept w w' d.ranges (walked main supplementary d) → ((ns : List InlineNode) (ws : List Warning) → G (walk_of main supplementary d w s ns ws) ≡ refused n)
+    → (n ≡ 0 → ⊥) → Kept w w' d.context.ranges (walked main supplementary d) → ((ns : List InlineNode) (ws : List Warning) → G (walk_of main supplementary d w s ns ws) ≡ refused n)
     → Advances G main supplementary name d a b w t u s w' t' u' n s'
 advance-refused n K refuses = record {
   nodes = [];
@@ -137,55 +131,45 @@ advance-refused n K refuses = record {
   no = λ _. refuses;
 }
 
--- nor of the state
-pub refused_as : {G : Descendants → Outcome Descendants} {main supplementary name : List ℕ} {d : Details} {a : Later} {b : ℕ} {w t u : List ℕ} {s : Walk} {w' t' u' : List ℕ} {n : ℕ} {s' s'' : Walk}
-    → Advances G main supplementary name d a b w t u s w' t' u' n s' → (n ≡ 0 → ⊥) → Advances G main supplementary name d a b w t u s w' t' u' n s''
-refused_as A h = advance-refused h A.kept (A.no h)
+-- the frames as they were pushed, and the depth as it was read
+pub noded-as : {G : Descendants → Outcome Descendants} {main supplementary name : List ℕ} {d : Details} {a : Later} {b : ℕ} {w t u : List ℕ} {s : Walk} {w' t' u' : List ℕ} {n depth depth' at warned : ℕ} {past : Bool} {frames : Open} (k : ℕ)
+    → frames ≡ grown s.frames depth k → depth ≡ depth' → Advances G main supplementary name d a b w t u s w' t' u' n (noded s depth' k at warned past)
+    → Advances G main supplementary name d a b w t u s w' t' u' n (record { frames = frames; sites = s.sites; nodes = s.nodes + 1; at = at; warned = warned; past = past })
+noded-as k e f A = rw (e, f) A
 
--- nor of what stands for one
-pub or-any : {G : Descendants → Outcome Descendants} {main supplementary name : List ℕ} {d : Details} {a : Later} {b : ℕ} {w t u : List ℕ} {s : Walk} {w' t' u' : List ℕ} (s' s'' : Walk) (r : Result Walk Refusal)
-    → Advances G main supplementary name d a b w t u s w' t' u' (status_of r) (value_or s' r) → Advances G main supplementary name d a b w t u s w' t' u' (status_of r) (value_or s'' r)
-or-any s' s'' (Ok x) A = A
-or-any s' s'' (Err e) A = refused_as A (numbered e)
-
--- the depth as it was read
-pub noded-at : {G : Descendants → Outcome Descendants} {main supplementary name : List ℕ} {d : Details} {a : Later} {b : ℕ} {w t u : List ℕ} {s : Walk} {w' t' u' : List ℕ} {n depth depth' : ℕ} {r : Laid} (k : ℕ)
-    → depth ≡ depth' → Advances G main supplementary name d a b w t u s w' t' u' n (noded s depth' k r) → Advances G main supplementary name d a b w t u s w' t' u' n (noded s depth k r)
-noded-at k e A = rw e A
-
-module _ {main supplementary w u : List ℕ} {d : Details} {p : ℕ} {s : Walk} (lists addresses name inlined t : List ℕ) (k : ℕ) (D : DetailsIn main supplementary w d) (K : EntryKnown main d.unit p)
+module _ {main supplementary w u : List ℕ} {d : Details} {p : ℕ} {s : Walk} (lists addresses name inlined t : List ℕ) (k : ℕ) (D : DetailsIn main supplementary w d) (K : EntryKnown main d.context.unit p)
     (F : Fits main supplementary w d (ranges_later main p) (entries_left main p) s) (some-k : 0 < k) (O : OwnRanges main d p k)
-    {u₁ : List ℕ} {nf : ℕ} {file : CalledFile} (FC : FileCalled (indices_in w d.indices) main d.unit p s.warned u u₁ nf file) where
-  some-ranges : 0 < length (ranges_at w (d.ranges + s.frames.used * 16) k)
-  some-ranges = omega (arith, ranges-length w (d.ranges + s.frames.used * 16) k)
+    {u₁ : List ℕ} {nf : ℕ} {file : Warned FileIndex} (FC : FileCalled (indices_in w d.context.indices) main d.context.unit p s.warned u u₁ nf file) where
+  some-ranges : 0 < length (ranges_at w (d.context.ranges + s.frames.used * 16) k)
+  some-ranges = omega (arith, ranges-length w (d.context.ranges + s.frames.used * 16) k)
 
-  pub keep_file : (nf ≡ 0 → ⊥)
-      → Advances (push_inline (context_in main supplementary lists addresses w d) (entry_here main p) inlined (ranges_at w (d.ranges + s.frames.used * 16) k)) main supplementary name d (ranges_later main (p + 15)) (entries_left main (p + 15)) w t u s w t u₁ nf
-      (noded s (le_at 2 main (p + 11)) k (laid_of s))
-  keep_file n = advance-refused n (kept_refl w d.ranges (walked main supplementary d)) (λ ns ws. push_file (context_in main supplementary lists addresses w d) (entry_here main p) inlined _ _ some-ranges (FC.no n (context_in main supplementary lists addresses w d) refl refl))
+  pub keep_file : {s' : Walk} → (nf ≡ 0 → ⊥)
+      → Advances (push_inline (context_in main supplementary lists addresses w d) (entry_here main p) inlined (ranges_at w (d.context.ranges + s.frames.used * 16) k)) main supplementary name d (ranges_later main (p + 15)) (entries_left main (p + 15)) w t u s w t u₁ nf
+      s'
+  keep_file n = advance-refused n (kept_refl w d.context.ranges (walked main supplementary d)) (λ ns ws. push_file (context_in main supplementary lists addresses w d) (entry_here main p) inlined _ _ some-ranges (FC.no n (context_in main supplementary lists addresses w d) refl refl))
 
-  module _ (f : nf ≡ 0) {u₂ : List ℕ} {nl : ℕ} {line : CalledLine} (LC : LineCalled main d.unit p file.at u₁ u₂ nl line) where
-    pub keep_line : (nl ≡ 0 → ⊥)
-        → Advances (push_inline (context_in main supplementary lists addresses w d) (entry_here main p) inlined (ranges_at w (d.ranges + s.frames.used * 16) k)) main supplementary name d (ranges_later main (p + 15)) (entries_left main (p + 15)) w t u s w t u₂ nl
-        (noded s (le_at 2 main (p + 11)) k (laid_of s))
-    keep_line n = advance-refused n (kept_refl w d.ranges (walked main supplementary d))
+  module _ (f : nf ≡ 0) {u₂ : List ℕ} {nl : ℕ} {line : Warned ℕ} (LC : LineCalled main d.context.unit p file.at u₁ u₂ nl line) where
+    pub keep_line : {s' : Walk} → (nl ≡ 0 → ⊥)
+        → Advances (push_inline (context_in main supplementary lists addresses w d) (entry_here main p) inlined (ranges_at w (d.context.ranges + s.frames.used * 16) k)) main supplementary name d (ranges_later main (p + 15)) (entries_left main (p + 15)) w t u s w t u₂ nl
+        s'
+    keep_line n = advance-refused n (kept_refl w d.context.ranges (walked main supplementary d))
         (λ ns ws. push_line (context_in main supplementary lists addresses w d) (entry_here main p) inlined _ _ some-ranges (FC.ok f (context_in main supplementary lists addresses w d) refl refl) (LC.no n (context_in main supplementary lists addresses w d) refl))
 
     module _ (l : nl ≡ 0) where
-      stack-length : (ns : List InlineNode) (ws : List Warning) → length (walk_of main supplementary d w s ns ws).inline_stack ≡ s.frames.n
+      stack-length : (ns : List InlineNode) (ws : List Warning) → length (walk_of main supplementary d w s ns ws).inline_stack ≡ s.frames.count
       unfolding walk_of
-      stack-length ns ws = length-open w d.ranges s.frames
+      stack-length ns ws = length-open w d.context.ranges s.frames
 
-      pub keep_deep : 256 ≤ s.frames.n
-          → Advances (push_inline (context_in main supplementary lists addresses w d) (entry_here main p) inlined (ranges_at w (d.ranges + s.frames.used * 16) k)) main supplementary name d (ranges_later main (p + 15)) (entries_left main (p + 15)) w t u s w t u₂ 14
-          (noded s (le_at 2 main (p + 11)) k (laid_of s))
-      keep_deep h = advance-refused (λ z. omega arith) (kept_refl w d.ranges (walked main supplementary d))
+      pub keep_deep : {s' : Walk} → 256 ≤ s.frames.count
+          → Advances (push_inline (context_in main supplementary lists addresses w d) (entry_here main p) inlined (ranges_at w (d.context.ranges + s.frames.used * 16) k)) main supplementary name d (ranges_later main (p + 15)) (entries_left main (p + 15)) w t u s w t u₂ 14
+          s'
+      keep_deep h = advance-refused (λ z. omega arith) (kept_refl w d.context.ranges (walked main supplementary d))
           (λ ns ws. push_deep (context_in main supplementary lists addresses w d) (entry_here main p) inlined _ _ some-ranges (FC.ok f (context_in main supplementary lists addresses w d) refl refl) (LC.ok l (context_in main supplementary lists addresses w d) refl) (omega (arith, stack-length ns ws)))
 
-      module _ (h : s.frames.n < 256) {t₁ t₂ : List ℕ} {q₁ q₂ : ℕ} {b : Bool} (B : b ≡ is_past s.at (node_size s.nodes (length name) (length inlined) k)) (RT : Put s.at (lead_bytes name d.range s.nodes) t t₁ q₁)
-          (ND : Put q₁ (node_bytes (record { depth = s.frames.n + 1; call_file = file.file; call_line = line.line; name = inlined; ranges = ranges_at w (d.ranges + s.frames.used * 16) k })) t₁ t₂ q₂) where
+      module _ (h : s.frames.count < 256) {t₁ t₂ : List ℕ} {q₁ q₂ : ℕ} {b : Bool} (B : b ≡ is_past s.at (node_size s.nodes (length name) (length inlined) k)) (RT : Put s.at (lead_bytes name d.range s.nodes) t t₁ q₁)
+          (ND : Put q₁ (node_bytes (record { depth = s.frames.count + 1; call_file = file.value; call_line = line.value; name = inlined; ranges = ranges_at w (d.context.ranges + s.frames.used * 16) k })) t₁ t₂ q₂) where
         node : InlineNode
-        node = record { depth = s.frames.n + 1; call_file = file.file; call_line = line.line; name = inlined; ranges = ranges_at w (d.ranges + s.frames.used * 16) k }
+        node = record { depth = s.frames.count + 1; call_file = file.value; call_line = line.value; name = inlined; ranges = ranges_at w (d.context.ranges + s.frames.used * 16) k }
 
         laid-node : Put s.at (new_bytes name d.range s.nodes (node ∷ [])) t t₂ q₂
         unfolding node each_of
@@ -193,7 +177,7 @@ module _ {main supplementary w u : List ℕ} {d : Details} {p : ℕ} {s : Walk} 
 
         bytes-are : length (new_bytes name d.range s.nodes (node ∷ [])) ≡ node_size s.nodes (length name) (length inlined) k
         unfolding node
-        bytes-are = size_is name d.range s.nodes node ∙ ap (node_size s.nodes (length name) (length inlined)) (ranges-length w (d.ranges + s.frames.used * 16) k)
+        bytes-are = size_is name d.range s.nodes node ∙ ap (node_size s.nodes (length name) (length inlined)) (ranges-length w (d.context.ranges + s.frames.used * 16) k)
 
         depth_is : (entry_here main p).depth ≡ le_at 2 main (p + 11)
         depth_is = entry_depth-here (details-accepted D) K
@@ -201,8 +185,8 @@ module _ {main supplementary w u : List ℕ} {d : Details} {p : ℕ} {s : Walk} 
         P : Pushed s.frames (grown s.frames (le_at 2 main (p + 11)) k) (le_at 2 main (p + 11)) k
         P = pushed_is s.frames (le_at 2 main (p + 11)) k F.ready h
 
-        pub keep_done : {o : Bool} → o ≡ (s.past || b) → Advances (push_inline (context_in main supplementary lists addresses w d) (entry_here main p) inlined (ranges_at w (d.ranges + s.frames.used * 16) k)) main supplementary name d (ranges_later main (p + 15)) (entries_left main (p + 15)) w t u s w t₂ u₂ 0
-            (noded s (le_at 2 main (p + 11)) k (record { at = q₂; warned = line.at; past = o }))
+        pub keep_done : {o : Bool} → o ≡ (s.past || b) → Advances (push_inline (context_in main supplementary lists addresses w d) (entry_here main p) inlined (ranges_at w (d.context.ranges + s.frames.used * 16) k)) main supplementary name d (ranges_later main (p + 15)) (entries_left main (p + 15)) w t u s w t₂ u₂ 0
+            (noded s (le_at 2 main (p + 11)) k q₂ line.at o)
         unfolding walk_of node
         keep_done passes = record {
           nodes = node ∷ [];
@@ -211,14 +195,14 @@ module _ {main supplementary w u : List ℕ} {d : Details} {p : ℕ} {s : Walk} 
           warned = λ z. rw (warnings-append FC.warnings LC.warnings) (FC.laid f then LC.laid l);
           past = λ z. passes ∙ ap (λ (x : Bool). s.past || x) (B ∙ ap (is_past s.at) (sym bytes-are));
           count = λ z. omega arith;
-          kept = kept_refl w d.ranges (walked main supplementary d);
+          kept = kept_refl w d.context.ranges (walked main supplementary d);
           fits = λ z. record {
             ready = P.ready;
             used = omega (arith, P.used, own-used D K F k O);
             fields = omega (arith, P.used, own-fields D K F k O);
             floor = F.floor + length (range_fields main (p + 15));
             level = omega (arith, F.level, later-here D K);
-            lean = P.lean F.floor (third d.lists) (length (range_fields main (p + 15))) (own-few main d p k O) F.lean;
+            lean = P.lean F.floor (third d.context.lists) (length (range_fields main (p + 15))) (own-few main d p k O) F.lean;
             left = omega (arith, F.left, lists-here D K);
             sites = omega (arith, F.sites, left_here D K);
             nodes = omega (arith, F.nodes, left_here D K);
@@ -231,10 +215,10 @@ module _ {main supplementary w u : List ℕ} {d : Details} {p : ℕ} {s : Walk} 
           ok = λ z ns ws.
               push_done (context_in main supplementary lists addresses w d) (entry_here main p) inlined _ (walk_of main supplementary d w s ns ws) some-ranges (FC.ok f (context_in main supplementary lists addresses w d) refl refl) (LC.ok l (context_in main supplementary lists addresses w d) refl) (omega (arith, stack-length ns ws))
               ∙ ap done (λ i. record {
-                inline_stack = (ap (λ (x : ℕ). record { die_depth = x; ranges = ranges_at w (d.ranges + s.frames.used * 16) k } ∷ open_in w d.ranges s.frames) depth_is ∙ sym (P.frames w d.ranges)) i;
-                inlines = ns ++ (record { depth = (ap suc (length-open w d.ranges s.frames) ∙ sym (add-one s.frames.n)) i; call_file = file.file; call_line = line.line; name = inlined; ranges = ranges_at w (d.ranges + s.frames.used * 16) k } ∷ []);
-                call_site_stack = site_frames_at (origin_name main supplementary d.unit) w d.stack s.opened;
-                call_sites = sites_at (origin_name main supplementary d.unit) w d.sites s.closed;
+                inline_stack = (ap (λ (x : ℕ). record { die_depth = x; ranges = ranges_at w (d.context.ranges + s.frames.used * 16) k } ∷ open_in w d.context.ranges s.frames) depth_is ∙ sym (P.frames w d.context.ranges)) i;
+                inlines = ns ++ (record { depth = (ap suc (length-open w d.context.ranges s.frames) ∙ sym (add-one s.frames.count)) i; call_file = file.value; call_line = line.value; name = inlined; ranges = ranges_at w (d.context.ranges + s.frames.used * 16) k } ∷ []);
+                call_site_stack = site_frames_at (origin_name main supplementary d.context.unit) w d.context.stack s.sites.opened;
+                call_sites = sites_at (origin_name main supplementary d.context.unit) w d.context.sites s.sites.closed;
                 warnings = ws ++ (FC.warnings ++ LC.warnings);
               });
           no = λ z. absurd (z refl);

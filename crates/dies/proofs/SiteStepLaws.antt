@@ -8,7 +8,7 @@ use Prim.Native.Nat.{ℕ, zero, suc, ◌+◌, ◌-◌, ◌*◌, ◌≤◌, ◌<�
 use native.Mathlib.Omega.{arith}
 use lib.Dec.{eqb}
 use lib.ListN.{length}
-use borrow.Author.Tests.{le-leb, lt-leb, lt-ltb, le-ltb, eq-eqb, ne_eqb}
+use borrow.Author.Tests.{eq-eqb, ne_eqb}
 use Rattle.std.specs.Prelude.{Option as Maybe, Some, None, Result, Ok, Err}
 use Rattle.tlv.specs.declared.refusal.Refusal.{Refusal}
 use Rattle.tlv.specs.Refusals.{number_of}
@@ -49,6 +49,7 @@ use Rattle.dies.proofs.FrameLaws.{open_kept}
 use Rattle.dies.proofs.SiteLaws.{site-frames_kept, sites-kept, site-frames_push}
 use Rattle.dies.proofs.EntryWalkLaws.{left-entry, later-entry, lists-entry}
 use Rattle.dies.proofs.AttributeReads.{accepted-placed}
+use Rattle.dies.proofs.CallLaws.{entry_read}
 use Rattle.dies.proofs.WalkStateLaws.{kept-inside, kept-keys, Aside, fits_kept, fits-less, aside_keys}
 
 -- ---- an entry that is known
@@ -56,12 +57,16 @@ use Rattle.dies.proofs.WalkStateLaws.{kept-inside, kept-keys, Aside, fits_kept, 
 pub details-accepted : {main supplementary w : List ℕ} {d : Details} → DetailsIn main supplementary w d → Accepted main
 details-accepted D = record { number = D.tables.main-index.number; is = D.tables.main-index.accepted }
 
+-- its field lies in the sheet
+pub known_inside : {main supplementary w : List ℕ} {d : Details} {p : ℕ} → DetailsIn main supplementary w d → EntryKnown main d.context.unit p → p + 15 ≤ length main
+known_inside D K = entry_read (details-accepted D) K
+
 -- both sheets are bytes
 pub main-bytes : (d : Details) → Bytes (main_of d)
-main-bytes d = slice-bytes (main_of d) (λ k. record { fits = d.tables.sheets.bytes.0 k })
+main-bytes d = slice-bytes (main_of d) (λ k. record { fits = d.context.tables.sheets.bytes.0 k })
 
 pub supplementary-bytes : (d : Details) → Bytes (supplementary_of d)
-supplementary-bytes d = slice-bytes (supplementary_of d) (λ k. record { fits = d.tables.sheets.bytes.1 k })
+supplementary-bytes d = slice-bytes (supplementary_of d) (λ k. record { fits = d.context.tables.sheets.bytes.1 k })
 
 -- its place has 4 bytes in the index
 small-place : (w : List ℕ) (p : ℕ) → Bytes w → (indexed_of (chunk w p 16)).place < 4294967296
@@ -77,11 +82,11 @@ small-table : (w : List ℕ) (base n : ℕ) → Bytes w → All (λ e. e.place <
 unfolding records
 small-table w base n b = small-tab w b n (λ i. base + i * 16)
 
-module _ {main supplementary w : List ℕ} {d : Details} {p : ℕ} (D : DetailsIn main supplementary w d) (K : EntryKnown main d.unit p) where
+module _ {main supplementary w : List ℕ} {d : Details} {p : ℕ} (D : DetailsIn main supplementary w d) (K : EntryKnown main d.context.unit p) where
   pub place-small : Bytes w → p < 4294967296
   place-small b =
       let I = D.tables.main-index in
-      let all = rw I.entries at (small-table w d.tables.main.entries d.tables.main.entry_count b) in
+      let all = rw I.entries at (small-table w d.context.tables.main.entries.base d.context.tables.main.entries.count b) in
       any_one (entry_index 0 0 0 (fields main)) (λ e l same. let is : e.place ≡ p = ap (λ (x : IndexedEntry). x.place) same ∙ K.place in omega arith) all K.listed
 
   -- its field
@@ -126,18 +131,6 @@ reference-same : (main supplementary lists addresses : List ℕ) (u : Compilatio
 reference-same main supplementary lists addresses u e none = refl
 reference-same main supplementary lists addresses u e (some a) = reference_name-same lists addresses (dwarf_of main supplementary) u e a
 
-inside-range : (c : DetailContext) (a : ℕ) → c.function_range.start ≤ a → a < c.function_range.end → contains c.function_range a ≡ true
-unfolding contains
-inside-range c a h k = rw (le-leb c.function_range.start a h, lt-ltb a c.function_range.end k)
-
-below-range : (c : DetailContext) (a : ℕ) → a < c.function_range.start → contains c.function_range a ≡ false
-unfolding contains
-below-range c a h = rw (lt-leb c.function_range.start a h)
-
-above-range : (c : DetailContext) (a : ℕ) → c.function_range.start ≤ a → c.function_range.end ≤ a → contains c.function_range a ≡ false
-unfolding contains
-above-range c a h k = rw (le-leb c.function_range.start a h, le-ltb a c.function_range.end k)
-
 pub given-refused : (st : ℕ) (r : List ℕ) {o : Outcome (List ℕ)} → bytes_given st r ≡ o → (st ≡ 0 → ⊥) → o ≡ refused st
 unfolding bytes_given
 given-refused st r e h = sym e ∙ rw (ne_eqb st 0 h)
@@ -148,7 +141,7 @@ given-done st r e h = sym e ∙ rw (eq-eqb st 0 h)
 
 -- ---- the step
 
-module _ {main supplementary w : List ℕ} {d : Details} {p : ℕ} {s : Walk} (D : DetailsIn main supplementary w d) (K : EntryKnown main d.unit p)
+module _ {main supplementary w : List ℕ} {d : Details} {p : ℕ} {s : Walk} (D : DetailsIn main supplementary w d) (K : EntryKnown main d.context.unit p)
     (F : Fits main supplementary w d (ranges_later main p) (entries_left main p) s) where
   -- the state at the place behind the entry
   pub later-fits : Fits main supplementary w d (ranges_later main (p + 15)) (entries_left main (p + 15)) s
@@ -167,7 +160,7 @@ module _ {main supplementary w : List ℕ} {d : Details} {p : ℕ} {s : Walk} (D
       warned = refl;
       nodes = refl;
       past = refl;
-      kept = kept_refl w d.ranges (walked main supplementary d);
+      kept = kept_refl w d.context.ranges (walked main supplementary d);
       fits = λ z. later-fits;
       ok = λ z ns ws. site-is (walk_of main supplementary d w s ns ws) ∙ rw e;
       no = λ z. absurd (z refl);
@@ -184,28 +177,25 @@ module _ {main supplementary w : List ℕ} {d : Details} {p : ℕ} {s : Walk} (D
       warned = refl;
       nodes = refl;
       past = refl;
-      kept = kept_refl w d.ranges (walked main supplementary d);
+      kept = kept_refl w d.context.ranges (walked main supplementary d);
       fits = λ z. absurd (numbered x z);
       ok = λ z. absurd (numbered x z);
       no = λ z ns ws. site-is (walk_of main supplementary d w s ns ws) ∙ rw e;
     }
 
     module _ {a : ℕ} (e : r ≡ Ok (Some a)) where
-      pub site-low : a < d.range.start → Quiet (collect_site (context_in main supplementary lists addresses w d) (entry_here main p)) main supplementary d (ranges_later main (p + 15)) (entries_left main (p + 15)) w s w 0 s
-      site-low h = passed (rw (e, below-range (context_in main supplementary lists addresses w d) a h))
+      pub site-outside : contains d.range a ≡ false → Quiet (collect_site (context_in main supplementary lists addresses w d) (entry_here main p)) main supplementary d (ranges_later main (p + 15)) (entries_left main (p + 15)) w s w 0 s
+      site-outside h = passed (rw (e, h))
 
-      pub site-high : d.range.start ≤ a → d.range.end ≤ a → Quiet (collect_site (context_in main supplementary lists addresses w d) (entry_here main p)) main supplementary d (ranges_later main (p + 15)) (entries_left main (p + 15)) w s w 0 s
-      site-high h k = passed (rw (e, above-range (context_in main supplementary lists addresses w d) a h k))
-
-      module _ (h : d.range.start ≤ a) (k : a < d.range.end) {w₁ : List ℕ} {st' : ℕ} {name : List ℕ}
-          (R : Resolved main supplementary d.tables w w₁ (reference_name (dwarf_of main supplementary) (unit_here main d.unit) (entry_here main p) (attribute (entry_here main p) 0x7f)) st' name) where
+      module _ (h : contains d.range a ≡ true) {w₁ : List ℕ} {st' : ℕ} {name : List ℕ}
+          (R : Resolved main supplementary d.context.tables w w₁ (reference_name (dwarf_of main supplementary) (unit_here main d.context.unit) (entry_here main p) (attribute (entry_here main p) 0x7f)) st' name) where
         site-named : (x : Descendants) → collect_site (context_in main supplementary lists addresses w d) (entry_here main p) x
-            ≡ (reference_name (dwarf_of main supplementary) (unit_here main d.unit) (entry_here main p) (attribute (entry_here main p) 0x7f) >>= (λ n. done (some (record { return_offset = a - d.range.start; pattern = n }))) >>= λ y. done (push_call_site (entry_here main p) x y))
+            ≡ (reference_name (dwarf_of main supplementary) (unit_here main d.context.unit) (entry_here main p) (attribute (entry_here main p) 0x7f) >>= (λ n. done (some (record { return_offset = a - d.range.start; pattern = n }))) >>= λ y. done (push_call_site (entry_here main p) x y))
         site-named x = site-is x ∙ rw (
           e,
-          inside-range (context_in main supplementary lists addresses w d) a h k,
+          h,
           origin_site (context_in main supplementary lists addresses w d) (entry_here main p) (a - d.range.start) (attribute (entry_here main p) 0x7f),
-          reference-same main supplementary lists addresses (unit_here main d.unit) (entry_here main p) (attribute (entry_here main p) 0x7f),
+          reference-same main supplementary lists addresses (unit_here main d.context.unit) (entry_here main p) (attribute (entry_here main p) 0x7f),
         )
 
         pub site-unnamed : (st' ≡ 0 → ⊥)
@@ -223,22 +213,22 @@ module _ {main supplementary w : List ℕ} {d : Details} {p : ℕ} {s : Walk} (D
         }
 
         module _ (z : st' ≡ 0) {w₂ : List ℕ} {depth : ℕ} (ed : (entry_here main p).depth ≡ depth)
-            (P : PutSite w₁ w₂ (d.stack + s.opened * 14) depth p (a - d.range.start)) where
-          found : reference_name (dwarf_of main supplementary) (unit_here main d.unit) (entry_here main p) (attribute (entry_here main p) 0x7f) ≡ done name
+            (P : PutSite w₁ w₂ (d.context.stack + s.sites.opened * 14) depth p (a - d.range.start)) where
+          found : reference_name (dwarf_of main supplementary) (unit_here main d.context.unit) (entry_here main p) (attribute (entry_here main p) 0x7f) ≡ done name
           found = given-done st' name R.is z
 
-          known : SiteKnown main supplementary d.unit p
+          known : SiteKnown main supplementary d.context.unit p
           unfolding origin_of origin_name
           known = record { entry = K; name = rw found }
 
-          name-is : name ≡ origin_name main supplementary d.unit p
+          name-is : name ≡ origin_name main supplementary d.context.unit p
           unfolding origin_of origin_name
           name-is = rw found
 
-          one_more : s.opened + s.closed + 1 + entries_left main (p + 15) ≤ entry_count main
+          one_more : s.sites.opened + s.sites.closed + 1 + entries_left main (p + 15) ≤ entry_count main
           one_more = omega (arith, F.sites, left_here D K)
 
-          beside : Aside d s (d.stack + s.opened * 14) 14
+          beside : Aside d s (d.context.stack + s.sites.opened * 14) 14
           beside = record {
             frames = inl (omega (arith, F.used, D.ranges));
             stack = inl (omega arith);
@@ -251,28 +241,28 @@ module _ {main supplementary w : List ℕ} {d : Details} {p : ℕ} {s : Walk} (D
           second : Fits main supplementary w₂ d (ranges_later main (p + 15)) (entries_left main (p + 15)) s
           second = fits_kept first P.rest beside
 
-          stacked-next : (i : ℕ) → i < s.opened + 1 → SiteKnown main supplementary d.unit (le_at 4 w₂ (d.stack + i * 14 + 2))
-          stacked-next i l = go (le-or_lt s.opened i)
+          stacked-next : (i : ℕ) → i < s.sites.opened + 1 → SiteKnown main supplementary d.context.unit (le_at 4 w₂ (d.context.stack + i * 14 + 2))
+          stacked-next i l = go (le-or_lt s.sites.opened i)
             where
-              go : (s.opened ≤ i) ⊎ (i < s.opened) → SiteKnown main supplementary d.unit (le_at 4 w₂ (d.stack + i * 14 + 2))
-              go (inl g) = let q : i ≡ s.opened = omega arith in rw (q, P.place_is) known
+              go : (s.sites.opened ≤ i) ⊎ (i < s.sites.opened) → SiteKnown main supplementary d.context.unit (le_at 4 w₂ (d.context.stack + i * 14 + 2))
+              go (inl g) = let q : i ≡ s.sites.opened = omega arith in rw (q, P.place_is) known
               go (inr g) = second.stacked i g
 
-          same-frames : open_in w₂ d.ranges s.frames ≡ open_in w d.ranges s.frames
-          same-frames = open_kept s.frames F.ready d.ranges P.rest beside.frames ∙ open_kept s.frames F.ready d.ranges R.rest (aside_keys D F _).frames
+          same-frames : open_in w₂ d.context.ranges s.frames ≡ open_in w d.context.ranges s.frames
+          same-frames = open_kept s.frames F.ready d.context.ranges P.rest beside.frames ∙ open_kept s.frames F.ready d.context.ranges R.rest (aside_keys D F _).frames
 
-          same-sites : sites_at (origin_name main supplementary d.unit) w₂ d.sites s.closed ≡ sites_at (origin_name main supplementary d.unit) w d.sites s.closed
-          same-sites = sites-kept (origin_name main supplementary d.unit) d.sites s.closed P.rest beside.sites ∙ sites-kept (origin_name main supplementary d.unit) d.sites s.closed R.rest (aside_keys D F _).sites
+          same-sites : sites_at (origin_name main supplementary d.context.unit) w₂ d.context.sites s.sites.closed ≡ sites_at (origin_name main supplementary d.context.unit) w d.context.sites s.sites.closed
+          same-sites = sites-kept (origin_name main supplementary d.context.unit) d.context.sites s.sites.closed P.rest beside.sites ∙ sites-kept (origin_name main supplementary d.context.unit) d.context.sites s.sites.closed R.rest (aside_keys D F _).sites
 
-          pushed_frame : site_frames_at (origin_name main supplementary d.unit) w₂ d.stack (s.opened + 1)
-              ≡ record { die_depth = (entry_here main p).depth; call_site = record { return_offset = a - d.range.start; pattern = name } } ∷ site_frames_at (origin_name main supplementary d.unit) w d.stack s.opened
+          pushed_frame : site_frames_at (origin_name main supplementary d.context.unit) w₂ d.context.stack (s.sites.opened + 1)
+              ≡ record { die_depth = (entry_here main p).depth; call_site = record { return_offset = a - d.range.start; pattern = name } } ∷ site_frames_at (origin_name main supplementary d.context.unit) w d.context.stack s.sites.opened
           pushed_frame =
-              site-frames_push (origin_name main supplementary d.unit) d.stack s.opened P
+              site-frames_push (origin_name main supplementary d.context.unit) d.context.stack s.sites.opened P
               ∙ (λ i. record { die_depth = sym ed i; call_site = record { return_offset = a - d.range.start; pattern = sym name-is i } }
-              ∷ site-frames_kept (origin_name main supplementary d.unit) d.stack s.opened R.rest (aside_keys D F _).stack i)
+              ∷ site-frames_kept (origin_name main supplementary d.context.unit) d.context.stack s.sites.opened R.rest (aside_keys D F _).stack i)
 
           pub site-pushed : Quiet (collect_site (context_in main supplementary lists addresses w d) (entry_here main p)) main supplementary d (ranges_later main (p + 15)) (entries_left main (p + 15)) w s w₂ 0
-              (record { frames = s.frames; opened = s.opened + 1; closed = s.closed; nodes = s.nodes; at = s.at; warned = s.warned; past = s.past })
+              (record { frames = s.frames; sites = record { opened = s.sites.opened + 1; closed = s.sites.closed }; nodes = s.nodes; at = s.at; warned = s.warned; past = s.past })
           unfolding ◌>>=◌ walk_of
           site-pushed = record {
             place = refl;

@@ -31,7 +31,7 @@ use Rattle.dies.proofs.SiteLaws.{site-frames_kept, sites-kept}
 -- ---- the tables below the walk's part of the work slice
 
 module _ {main supplementary w : List ℕ} {d : Details} (D : DetailsIn main supplementary w d) where
-  module _ {w' : List ℕ} {p m : ℕ} (K : Kept w w' p m) (h : d.ranges ≤ p) where
+  module _ {w' : List ℕ} {p m : ℕ} (K : Kept w w' p m) (h : d.context.ranges ≤ p) where
     pub details_kept : length w' ≡ length w → DetailsIn main supplementary w' d
     details_kept z = record {
       tables = record {
@@ -59,44 +59,44 @@ module _ {main supplementary w : List ℕ} {d : Details} (D : DetailsIn main sup
     unfolding indices_of
     context-kept {lists} {addresses} = λ i. record {
       dwarf = dwarf_with main supplementary lists addresses;
-      unit = unit_here main d.unit;
+      unit = unit_here main d.context.unit;
       function_range = d.range;
-      file_indices = records-kept index_of 5 d.indices.base d.indices.count K (inl (omega (arith, D.indices))) i;
-      include_inlines = d.include_inlines;
-      include_call_sites = d.include_call_sites;
+      file_indices = records-kept index_of 5 d.context.indices.base d.context.indices.count K (inl (omega (arith, D.indices))) i;
+      include_inlines = d.context.include_inlines;
+      include_call_sites = d.context.include_call_sites;
     }
 
   -- a stretch of it
-  pub kept-inside : {w₁ w₂ : List ℕ} {p m : ℕ} → Kept w₁ w₂ p m → d.ranges ≤ p → p + m ≤ d.tables.keys + keys_extent main supplementary d.tables → Kept w₁ w₂ d.ranges (walked main supplementary d)
-  kept-inside K h k = kept-wide d.ranges (walked main supplementary d) K h (omega (arith, D.ranges, D.stack, D.sites))
+  pub kept-inside : {w₁ w₂ : List ℕ} {p m : ℕ} → Kept w₁ w₂ p m → d.context.ranges ≤ p → p + m ≤ d.context.tables.keys + keys_extent main supplementary d.context.tables → Kept w₁ w₂ d.context.ranges (walked main supplementary d)
+  kept-inside K h k = kept-wide d.context.ranges (walked main supplementary d) K h (omega (arith, D.ranges, D.stack, D.sites))
 
   -- the followed targets of a search
-  pub kept-keys : {w₁ w₂ : List ℕ} → Kept w₁ w₂ d.tables.keys (keys_extent main supplementary d.tables) → Kept w₁ w₂ d.ranges (walked main supplementary d)
+  pub kept-keys : {w₁ w₂ : List ℕ} → Kept w₁ w₂ d.context.tables.keys (keys_extent main supplementary d.context.tables) → Kept w₁ w₂ d.context.ranges (walked main supplementary d)
   kept-keys K = kept-inside K (omega (arith, D.ranges, D.stack, D.sites)) (omega arith)
 
 -- ---- a write beside the state
 
 pub record Aside (d : Details) (s : Walk) (p m : ℕ) : Type 0 where
-  pub frames : Apart d.ranges (s.frames.used * 16) p m
-  pub stack : Apart d.stack (s.opened * 14) p m
-  pub sites : Apart d.sites (s.closed * 12) p m
+  pub frames : Apart d.context.ranges (s.frames.used * 16) p m
+  pub stack : Apart d.context.stack (s.sites.opened * 14) p m
+  pub sites : Apart d.context.sites (s.sites.closed * 12) p m
 
 module _ {main supplementary w w' : List ℕ} {d : Details} {a : Later} {b : ℕ} {s : Walk} {p m : ℕ} (F : Fits main supplementary w d a b s) (K : Kept w w' p m) (A : Aside d s p m) where
   pub walk_kept : (ns : List InlineNode) (ws : List Warning) → walk_of main supplementary d w' s ns ws ≡ walk_of main supplementary d w s ns ws
   unfolding walk_of
   walk_kept ns ws = λ i. record {
-    inline_stack = open_kept s.frames F.ready d.ranges K A.frames i;
+    inline_stack = open_kept s.frames F.ready d.context.ranges K A.frames i;
     inlines = ns;
-    call_site_stack = site-frames_kept (origin_name main supplementary d.unit) d.stack s.opened K A.stack i;
-    call_sites = sites-kept (origin_name main supplementary d.unit) d.sites s.closed K A.sites i;
+    call_site_stack = site-frames_kept (origin_name main supplementary d.context.unit) d.context.stack s.sites.opened K A.stack i;
+    call_sites = sites-kept (origin_name main supplementary d.context.unit) d.context.sites s.sites.closed K A.sites i;
     warnings = ws;
   }
 
-  stacked-place : (i : ℕ) → i < s.opened → le_at 4 w' (d.stack + i * 14 + 2) ≡ le_at 4 w (d.stack + i * 14 + 2)
-  stacked-place i h = le_at-kept 4 (d.stack + i * 14 + 2) K (⊎_elim (λ l. inl (omega arith)) (λ l. inr (omega arith)) A.stack)
+  stacked-place : (i : ℕ) → i < s.sites.opened → le_at 4 w' (d.context.stack + i * 14 + 2) ≡ le_at 4 w (d.context.stack + i * 14 + 2)
+  stacked-place i h = le_at-kept 4 (d.context.stack + i * 14 + 2) K (⊎_elim (λ l. inl (omega arith)) (λ l. inr (omega arith)) A.stack)
 
-  closed-place : (i : ℕ) → i < s.closed → le_at 4 w' (d.sites + i * 12) ≡ le_at 4 w (d.sites + i * 12)
-  closed-place i h = le_at-kept 4 (d.sites + i * 12) K (⊎_elim (λ l. inl (omega arith)) (λ l. inr (omega arith)) A.sites)
+  closed-place : (i : ℕ) → i < s.sites.closed → le_at 4 w' (d.context.sites + i * 12) ≡ le_at 4 w (d.context.sites + i * 12)
+  closed-place i h = le_at-kept 4 (d.context.sites + i * 12) K (⊎_elim (λ l. inl (omega arith)) (λ l. inr (omega arith)) A.sites)
 
   pub fits_kept : Fits main supplementary w' d a b s
   fits_kept =
@@ -111,7 +111,7 @@ module _ {main supplementary w w' : List ℕ} {d : Details} {a : Later} {b : ℕ
         left = F.left;
         sites = F.sites;
         nodes = F.nodes;
-        bottom = ranges-kept d.ranges 1 K (⊎_elim (λ l. inl (omega arith)) (λ l. inr (omega arith)) A.frames) ∙ F.bottom;
+        bottom = ranges-kept d.context.ranges 1 K (⊎_elim (λ l. inl (omega arith)) (λ l. inr (omega arith)) A.frames) ∙ F.bottom;
         place = F.place;
         warned = F.warned;
         stacked = λ i h. rw (stacked-place i h) (F.stacked i h);
@@ -124,7 +124,7 @@ pub fits-less : {main supplementary w : List ℕ} {d : Details} {a : Later} {b :
 fits-less {d = d} F a' b' h l k = record {
   ready = F.ready;
   used = omega (arith, F.used);
-  fields = omega (arith, F.fields, mul-le-mul_left (third d.lists) l);
+  fields = omega (arith, F.fields, mul-le-mul_left (third d.context.lists) l);
   floor = F.floor;
   level = omega (arith, F.level);
   lean = F.lean;
@@ -140,7 +140,7 @@ fits-less {d = d} F a' b' h l k = record {
 
 module _ {main supplementary w : List ℕ} {d : Details} {a : Later} {b : ℕ} {s : Walk} (D : DetailsIn main supplementary w d) (F : Fits main supplementary w d a b s) where
   -- the followed targets stand above the state
-  pub aside_keys : (m : ℕ) → Aside d s d.tables.keys m
+  pub aside_keys : (m : ℕ) → Aside d s d.context.tables.keys m
   aside_keys m = record {
     frames = inl (omega (arith, F.used, D.ranges, D.stack, D.sites));
     stack = inl (omega (arith, F.sites, D.stack, D.sites));
@@ -148,7 +148,7 @@ module _ {main supplementary w : List ℕ} {d : Details} {a : Later} {b : ℕ} {
   }
 
   -- what is above the stack of ranges, and fits there
-  pub aside-ranges : (m : ℕ) → s.frames.used * 16 + m ≤ 16 * range_room main d → Aside d s (d.ranges + s.frames.used * 16) m
+  pub aside-ranges : (m : ℕ) → s.frames.used * 16 + m ≤ 16 * range_room main d.context → Aside d s (d.context.ranges + s.frames.used * 16) m
   aside-ranges m h = record {
     frames = inl (omega arith);
     stack = inr (omega (arith, D.ranges));
@@ -157,8 +157,8 @@ module _ {main supplementary w : List ℕ} {d : Details} {a : Later} {b : ℕ} {
 
   -- ---- closing
 
-  pub shut_is : {w' : List ℕ} {o : Open} {depth : ℕ} {r : Sites} → Popped s.frames o depth → Closed w w' d.stack s.opened d.sites s.closed depth r
-      → Shut main supplementary d depth w s w' (record { frames = o; opened = r.opened; closed = r.closed; nodes = s.nodes; at = s.at; warned = s.warned; past = s.past })
+  pub shut_is : {w' : List ℕ} {o : Open} {depth : ℕ} {r : Sites} → Popped s.frames o depth → Closed w w' d.context.stack s.sites.opened d.context.sites s.sites.closed depth r
+      → Shut main supplementary d depth w s w' (record { frames = o; sites = r; nodes = s.nodes; at = s.at; warned = s.warned; past = s.past })
   unfolding walk_of finish
   shut_is {w'} {o} {depth} {r} P C = record {
     place = refl;
@@ -172,21 +172,21 @@ module _ {main supplementary w : List ℕ} {d : Details} {a : Later} {b : ℕ} {
       fields = omega (arith, P.used, G.fields);
       floor = G.floor;
       level = G.level;
-      lean = P.lean G.floor (third d.lists) G.lean;
+      lean = P.lean G.floor (third d.context.lists) G.lean;
       left = G.left;
       sites = omega (arith, C.sum, G.sites);
       nodes = G.nodes;
-      bottom = ranges-kept d.ranges 1 C.rest (inl (omega (arith, D.ranges, D.stack))) ∙ G.bottom;
+      bottom = ranges-kept d.context.ranges 1 C.rest (inl (omega (arith, D.ranges, D.stack))) ∙ G.bottom;
       place = G.place;
       warned = G.warned;
-      stacked = λ i h. rw (le_at-kept 4 (d.stack + i * 14 + 2) C.rest (inl (omega (arith, F.sites, D.stack, C.few)))) (G.stacked i (omega (arith, C.few)));
+      stacked = λ i h. rw (le_at-kept 4 (d.context.stack + i * 14 + 2) C.rest (inl (omega (arith, F.sites, D.stack, C.few)))) (G.stacked i (omega (arith, C.few)));
       closed = λ i h. ⊎_elim (λ x. rw x.2 (G.stacked x.0 x.1)) (λ x. rw x.1 (G.closed i x.0)) (C.each i h);
     };
     walk = λ ns ws i. record {
-      inline_stack = (open_kept o P.ready d.ranges C.rest (inl (omega (arith, P.used, F.used, D.ranges, D.stack))) ∙ P.frames w d.ranges) i;
+      inline_stack = (open_kept o P.ready d.context.ranges C.rest (inl (omega (arith, P.used, F.used, D.ranges, D.stack))) ∙ P.frames w d.context.ranges) i;
       inlines = ns;
-      call_site_stack = C.left (origin_name main supplementary d.unit) i;
-      call_sites = C.moved (origin_name main supplementary d.unit) i;
+      call_site_stack = C.left (origin_name main supplementary d.context.unit) i;
+      call_sites = C.moved (origin_name main supplementary d.context.unit) i;
       warnings = ws;
     };
   }

@@ -13,8 +13,8 @@ use Rattle.access.specs.Places.{entry_here, unit_here}
 use Rattle.lines.specs.Files.{FileIndices}
 use Rattle.references.specs.Search.{absolute_entry_offset}
 use Rattle.imports.specs.Tree.{DetailContext, call_file_of, call_line_of}
-use Rattle.dies.specs.declared.calls.CalledFile.{CalledFile}
-use Rattle.dies.specs.declared.calls.CalledLine.{CalledLine}
+use Rattle.tlv.specs.declared.model.FileIndex.{FileIndex}
+use Rattle.dies.specs.declared.calls.Warned.{Warned}
 
 -- ---- the return address of a call site
 
@@ -51,18 +51,18 @@ pub record AboutWarned (main : List ℕ) (unit p kind number at : ℕ) (u u' : L
   pub no : (n ≡ 0 → ⊥) → absolute_entry_offset (unit_here main unit) (entry_here main p).offset ≡ refused n
 
 -- the file of the call of the entry at p, of a unit that has the map `is`; what else a context holds does not matter
-pub record FileCalled (is : FileIndices) (main : List ℕ) (unit p at : ℕ) (u u' : List ℕ) (n : ℕ) (r : CalledFile) : Type 0 where
+pub record FileCalled (is : FileIndices) (main : List ℕ) (unit p at : ℕ) (u u' : List ℕ) (n : ℕ) (r : Warned FileIndex) : Type 0 where
   pub warnings : List Warning
   pub laid : n ≡ 0 → Put at (warnings_bytes warnings) u u' r.at
   pub ok : n ≡ 0 → (c : DetailContext) → c.file_indices ≡ is → c.unit ≡ unit_here main unit → call_file_of c (entry_here main p)
-      ≡ done (record { file = r.file; warnings = warnings })
+      ≡ done (record { file = r.value; warnings = warnings })
   pub no : (n ≡ 0 → ⊥) → (c : DetailContext) → c.file_indices ≡ is → c.unit ≡ unit_here main unit → call_file_of c (entry_here main p)
       ≡ refused n
 
 -- the line
-pub record LineCalled (main : List ℕ) (unit p at : ℕ) (u u' : List ℕ) (n : ℕ) (r : CalledLine) : Type 0 where
+pub record LineCalled (main : List ℕ) (unit p at : ℕ) (u u' : List ℕ) (n : ℕ) (r : Warned ℕ) : Type 0 where
   pub warnings : List Warning
   pub laid : n ≡ 0 → Put at (warnings_bytes warnings) u u' r.at
   pub ok : n ≡ 0 → (c : DetailContext) → c.unit ≡ unit_here main unit → call_line_of c (entry_here main p)
-      ≡ done (record { line = r.line; warnings = warnings })
+      ≡ done (record { line = r.value; warnings = warnings })
   pub no : (n ≡ 0 → ⊥) → (c : DetailContext) → c.unit ≡ unit_here main unit → call_line_of c (entry_here main p) ≡ refused n

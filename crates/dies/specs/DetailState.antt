@@ -28,7 +28,6 @@ use Rattle.dies.specs.declared.details.Details.{Details}
 use Rattle.dies.specs.declared.dies.Extracted.{Extracted}
 use Rattle.dies.specs.declared.walk.Walk.{Walk}
 use Rattle.dies.specs.declared.sites.Sites.{Sites}
-use Rattle.dies.specs.declared.nodes.Laid.{Laid}
 use Rattle.dies.specs.declared.sites.LaidSites.{LaidSites}
 use Rattle.dies.specs.FrameStack.{Lean, open_in, Ready, grown}
 use Rattle.dies.specs.Past.{is_past}
@@ -120,34 +119,34 @@ pub record SiteKnown (main supplementary : List ℕ) (unit p : ℕ) : Type 0 whe
 -- the walk's state, with the nodes and the warnings that were laid
 unfoldable pub walk_of : List ℕ → List ℕ → Details → List ℕ → Walk → List InlineNode → List Warning → Descendants
 walk_of main supplementary d w s nodes warnings = record {
-  inline_stack = open_in w d.ranges s.frames;
+  inline_stack = open_in w d.context.ranges s.frames;
   inlines = nodes;
-  call_site_stack = site_frames_at (origin_name main supplementary d.unit) w d.stack s.opened;
-  call_sites = sites_at (origin_name main supplementary d.unit) w d.sites s.closed;
+  call_site_stack = site_frames_at (origin_name main supplementary d.context.unit) w d.context.stack s.sites.opened;
+  call_sites = sites_at (origin_name main supplementary d.context.unit) w d.context.sites s.sites.closed;
   warnings = warnings;
 }
 
--- Stays a clause: it speaks of the lent work slice, which each step writes to.
 -- the state stands in w, and there is room for what a says of ranges, and for b entries more. The stack has no more than the fields passed can give, and, by
 -- frames, no more than the fields 19 passed and a list for each; the unit has the lists that are still to come
+-- Stays a clause: it speaks of the lent work slice, which each step writes to.
 pub record Fits (main supplementary w : List ℕ) (d : Details) (a : Later) (b : ℕ) (s : Walk) : Type 0 where
   pub ready : Ready s.frames
-  pub used : s.frames.used + a.ranges ≤ range_room main d
-  pub fields : s.frames.used + a.ranges + third d.lists * a.lists ≤ 1 + range_count main + third d.lists * list_count main d
+  pub used : s.frames.used + a.ranges ≤ range_room main d.context
+  pub fields : s.frames.used + a.ranges + third d.context.lists * a.lists ≤ 1 + range_count main + third d.context.lists * list_count main d.context
   pub floor : ℕ
   pub level : floor + a.ranges ≤ 1 + range_count main
-  pub lean : Lean floor (third d.lists) s.frames.frames s.frames.n s.frames.used
-  pub left : a.lists ≤ list_count main d
-  pub sites : s.opened + s.closed + b ≤ entry_count main
+  pub lean : Lean floor (third d.context.lists) s.frames.frames s.frames.count s.frames.used
+  pub left : a.lists ≤ list_count main d.context
+  pub sites : s.sites.opened + s.sites.closed + b ≤ entry_count main
   pub nodes : s.nodes + b ≤ entry_count main
-  pub bottom : ranges_at w d.ranges 1 ≡ d.range ∷ []
+  pub bottom : ranges_at w d.context.ranges 1 ≡ d.range ∷ []
   pub place : s.at ≤ top
   pub warned : s.warned ≤ top
-  pub stacked : (i : ℕ) → i < s.opened → SiteKnown main supplementary d.unit (le_at 4 w (d.stack + i * open_site + 2))
-  pub closed : (i : ℕ) → i < s.closed → SiteKnown main supplementary d.unit (le_at 4 w (d.sites + i * closed_site))
+  pub stacked : (i : ℕ) → i < s.sites.opened → SiteKnown main supplementary d.context.unit (le_at 4 w (d.context.stack + i * open_site + 2))
+  pub closed : (i : ℕ) → i < s.sites.closed → SiteKnown main supplementary d.context.unit (le_at 4 w (d.context.sites + i * closed_site))
 
--- Stays a clause: as Fits, of which it is the form at a place.
 -- .. at place p of the details' own sheet
+-- Stays a clause for the reason at Fits, which it asks at a place.
 abbrev pub FitsAt : List ℕ → Details → ℕ → Walk → Type 0
 FitsAt w d p s = Fits (main_of d) (supplementary_of d) w d (ranges_later (main_of d) p) (entries_left (main_of d) p) s
 
@@ -165,26 +164,21 @@ new_bytes name r n (x ∷ xs) = lead_bytes name r n ++ each_of node_bytes (x ∷
 
 -- ---- the steps
 
--- where a state lays on
-abbrev pub laid_of : Walk → Laid
-laid_of s = record { at = s.at; warned = s.warned; past = s.past }
-
--- the state with one node more, which was laid, of an entry at this depth, whose ranges are the k above the stack of ranges
-abbrev pub noded : Walk → ℕ → ℕ → Laid → Walk
-noded s depth k r =
+-- the state with one node more, of an entry at this depth, whose ranges are the k above the stack of ranges; what follows is laid at these places
+abbrev pub noded : Walk → ℕ → ℕ → ℕ → ℕ → Bool → Walk
+noded s depth k at warned past =
     record {
       frames = grown s.frames depth k;
-      opened = s.opened;
-      closed = s.closed;
+      sites = s.sites;
       nodes = s.nodes + 1;
-      at = r.at;
-      warned = r.warned;
-      past = r.past;
+      at = at;
+      warned = warned;
+      past = past;
     }
 
 -- the part of the work slice that the walk writes to
 abbrev pub walked : List ℕ → List ℕ → Details → ℕ
-walked main supplementary d = d.tables.keys + keys_extent main supplementary d.tables - d.ranges
+walked main supplementary d = d.context.tables.keys + keys_extent main supplementary d.context.tables - d.context.ranges
 
 -- what the definition does by F is done in memory: nodes and warnings are laid, and the rest stands in w', with room for a ranges and b entries; or the
 -- number n refuses it
@@ -196,7 +190,7 @@ pub record Advances (F : Descendants → Outcome Descendants) (main supplementar
   pub warned : n ≡ 0 → Put s.warned (warnings_bytes warnings) u u' s'.warned
   pub past : n ≡ 0 → s'.past ≡ (s.past || is_past s.at (length (new_bytes name d.range s.nodes nodes)))
   pub count : n ≡ 0 → s'.nodes ≡ s.nodes + length nodes
-  pub kept : Kept w w' d.ranges (walked main supplementary d)
+  pub kept : Kept w w' d.context.ranges (walked main supplementary d)
   pub fits : n ≡ 0 → Fits main supplementary w' d a b s'
   pub ok : n ≡ 0 → (ns : List InlineNode) (ws : List Warning) → F (walk_of main supplementary d w s ns ws)
       ≡ done (walk_of main supplementary d w' s' (ns ++ nodes) (ws ++ warnings))
@@ -210,7 +204,7 @@ Steps F d p w t u s w' t' u' n s' =
 
 -- k ranges are no more than the entry at p can give: its fields 19, or its list
 abbrev pub OwnRanges : List ℕ → Details → ℕ → ℕ → Type 0
-OwnRanges main d p k = (k ≤ length (range_fields main (p + entry_whole))) ⊎ ((k ≤ third d.lists) × (1 ≤ own_lists main (p + entry_whole)))
+OwnRanges main d p k = (k ≤ length (range_fields main (p + entry_whole))) ⊎ ((k ≤ third d.context.lists) × (1 ≤ own_lists main (p + entry_whole)))
 
 -- the same of what lays nothing
 pub record Quiet (F : Descendants → Outcome Descendants) (main supplementary : List ℕ) (d : Details) (a : Later) (b : ℕ) (w : List ℕ) (s : Walk)
@@ -219,7 +213,7 @@ pub record Quiet (F : Descendants → Outcome Descendants) (main supplementary :
   pub warned : s'.warned ≡ s.warned
   pub nodes : s'.nodes ≡ s.nodes
   pub past : s'.past ≡ s.past
-  pub kept : Kept w w' d.ranges (walked main supplementary d)
+  pub kept : Kept w w' d.context.ranges (walked main supplementary d)
   pub fits : n ≡ 0 → Fits main supplementary w' d a b s'
   pub ok : n ≡ 0 → (ns : List InlineNode) (ws : List Warning) → F (walk_of main supplementary d w s ns ws)
       ≡ done (walk_of main supplementary d w' s' ns ws)
@@ -231,7 +225,7 @@ pub record Shut (main supplementary : List ℕ) (d : Details) (depth : ℕ) (w :
   pub warned : s'.warned ≡ s.warned
   pub nodes : s'.nodes ≡ s.nodes
   pub past : s'.past ≡ s.past
-  pub kept : Kept w w' d.ranges (walked main supplementary d)
+  pub kept : Kept w w' d.context.ranges (walked main supplementary d)
   pub fits : (a : Later) (b : ℕ) → Fits main supplementary w d a b s → Fits main supplementary w' d a b s'
   pub walk : (ns : List InlineNode) (ws : List Warning) → walk_of main supplementary d w' s' ns ws ≡ finish depth (walk_of main supplementary d w s ns ws)
 
@@ -247,10 +241,11 @@ step_entry c e x = collect_entry c e (finish e.depth x)
 
 -- the n closed call sites were laid
 pub record SitesPut (main supplementary : List ℕ) (d : Details) (n at : ℕ) (w w' t t' : List ℕ) (r : LaidSites) : Type 0 where
-  pub put : Put at (each_of (λ x. encode tray_site_tag (site_payload x)) (sites_at (origin_name main supplementary d.unit) w d.sites n)) t t' r.at
+  pub put : Put at (each_of (λ x. encode tray_site_tag (site_payload x))
+      (sites_at (origin_name main supplementary d.context.unit) w d.context.sites n)) t t' r.at
   pub past : r.past ≡ is_past at (length (each_of (λ x. encode tray_site_tag (site_payload x))
-      (sites_at (origin_name main supplementary d.unit) w d.sites n)))
-  pub rest : Kept w w' d.ranges (walked main supplementary d)
+      (sites_at (origin_name main supplementary d.context.unit) w d.context.sites n)))
+  pub rest : Kept w w' d.context.ranges (walked main supplementary d)
 
 -- ---- the whole, where a switch is on
 
@@ -274,9 +269,9 @@ pub record Descends (main supplementary lists addresses w w' : List ℕ) (d : De
   pub is : DescendedBy (collect_descendants (context_in main supplementary lists addresses w d) (descendants_of depth (entries_from main p)))
       d name at warned t
       t' u u' r
-  pub rest : Kept w w' d.ranges (walked main supplementary d)
+  pub rest : Kept w w' d.context.ranges (walked main supplementary d)
 
 -- .. by the details' own sheets, lists, name and depth
 abbrev pub DescendsTo : Details → List ℕ → List ℕ → ℕ → ℕ → ℕ → List ℕ → List ℕ → List ℕ → List ℕ → Result Extracted Refusal → Type 0
 DescendsTo d w w' p at warned t t' u u' r =
-    Descends (main_of d) (supplementary_of d) d.lists.lists.now d.lists.addresses.now w w' d d.name.now p d.depth at warned t t' u u' r
+    Descends (main_of d) (supplementary_of d) d.context.lists.lists.now d.context.lists.addresses.now w w' d d.name.now p d.depth at warned t t' u u' r

@@ -5,7 +5,6 @@ use Rattle.imports.specs.Tree.{InlineFrame, finish_inlines, parent_ranges}
 use Rattle.ranges.specs.RangeTable.{ranges_at, range_record}
 use Rattle.dies.specs.declared.frames.Frame.{Frame}
 use Rattle.dies.specs.declared.frames.Open.{Open}
-use Rattle.dies.specs.declared.frames.Left.{Left}
 
 abbrev pub slot : List Frame → ℕ → Frame
 slot fs t = get_or fs t (record { depth = 0; ranges = 0 })
@@ -30,30 +29,26 @@ Lean c t fs (suc n) used = (used ≤ c + t * suc n) × Lean c t fs n (slot fs n)
 
 -- the open nodes, with their ranges in w from base on
 unfoldable pub open_in : List ℕ → ℕ → Open → List InlineFrame
-open_in w base st = open_of st.frames st.n st.used w base
+open_in w base st = open_of st.frames st.count st.used w base
 
 pub record Ready (st : Open) : Type 0 where
-  pub few : st.n ≤ 256
+  pub few : st.count ≤ 256
   pub full : length st.frames ≡ 256
-  pub stacked : Stacked st.frames st.n st.used
+  pub stacked : Stacked st.frames st.count st.used
 
 -- no frame
 pub record Empty (st : Open) : Type 0 where
   pub ready : Ready st
-  pub none : st.n ≡ 0
+  pub none : st.count ≡ 0
   pub used : st.used ≡ 1
-
--- the frames where they are, of which fewer are open
-abbrev pub shrunk : Open → Left → Open
-shrunk st r = record { frames = st.frames; n = r.n; used = r.used }
 
 -- the frames at depth d or deeper are gone
 pub record Popped (st st' : Open) (d : ℕ) : Type 0 where
   pub ready : Ready st'
   pub frames : (w : List ℕ) (base : ℕ) → open_in w base st' ≡ finish_inlines d (open_in w base st)
-  pub fewer : st'.n ≤ st.n
+  pub fewer : st'.count ≤ st.count
   pub used : st'.used ≤ st.used
-  pub lean : (c t : ℕ) → Lean c t st.frames st.n st.used → Lean c t st'.frames st'.n st'.used
+  pub lean : (c t : ℕ) → Lean c t st.frames st.count st.used → Lean c t st'.frames st'.count st'.used
 
 -- the innermost node's ranges begin at range `from` of the stack; with none open these are the function's own, f, which is range 0
 pub record Top (st : Open) (from : ℕ) : Type 0 where
@@ -63,4 +58,4 @@ pub record Top (st : Open) (from : ℕ) : Type 0 where
 
 -- one frame more, of depth d, whose ranges are the k from `used` on
 abbrev pub grown : Open → ℕ → ℕ → Open
-grown st d k = record { frames = set st.frames st.n (record { depth = d; ranges = st.used }); n = st.n + 1; used = st.used + k }
+grown st d k = record { frames = set st.frames st.count (record { depth = d; ranges = st.used }); count = st.count + 1; used = st.used + k }

@@ -2,13 +2,17 @@
 ghost use Rattle.std.specs.Prelude.{◌+◌, ◌*◌, ◌≤◌, ◌<◌, length};
 ghost use Rattle.tlv.specs.Checked.{Accepted};
 ghost use Rattle.tlv.specs.Refusals.{status_of};
+ghost use Rattle.buffers.specs.WarningKinds.{number_of};
 ghost use Rattle.files.specs.Indices.{indices_in, index_record};
 ghost use Rattle.lines.specs.Files.{file_index};
 ghost use Rattle.references.specs.Tables.{EntryKnown};
 ghost use Rattle.dies.specs.Answers.{value_or};
 ghost use Rattle.dies.specs.Calls.{AboutWarned, FileCalled, LineCalled};
 
-use files::index::{FileNumber, StoredIndices};
+use access::index::EntryPlace;
+use buffers::table::Stored;
+use buffers::warning::WarningKind;
+use files::index::FileNumber;
 use references::attributes::{file_index_attribute, unsigned_attribute};
 use references::ways::absolute_entry_offset;
 use tlv::bytes::Number;
@@ -20,94 +24,86 @@ use tlv::tags::FIELD_HEAD;
 // Where an entry's offset in its unit stands, from its field's place on.
 const ENTRY_OFFSET: usize = FIELD_HEAD;
 
-// The kinds of the warnings about a call.
-const MISSING_CALL_FILE: u8 = 8;
-
-const INVALID_CALL_LINE: u8 = 9;
-
-// A call's file, and the place in the warnings after it.
+// What was read of a call, and the place in the warnings after it.
 #[derive(Clone, Copy, Debug)]
-pub struct CalledFile {
-    pub file: FileIndex,
+pub struct Warned<T> {
+    pub value: T,
     pub at: usize,
 }
 
-// A call's line, and the place in the warnings after it.
-#[derive(Clone, Copy, Debug)]
-pub struct CalledLine {
-    pub line: u32,
-    pub at: usize,
-}
-
-// A warning of a kind about the entry at place p of the unit at a place, with a number; the place in the warnings after it.
+// A warning of a kind about an entry, with a number; the place in the warnings after it.
 pub fn warn_about(
     main: &[u8],
     warnings: &mut [u8],
-    unit: usize,
-    p: usize,
-    kind: u8,
+    entry: EntryPlace,
+    kind: WarningKind,
     number: u64,
     at: usize,
 ) -> Result<usize, Refusal>
     requires accepted { Accepted main.now }
-    requires entry_known { EntryKnown main.now unit p }
-    ensures { AboutWarned main.now unit p kind number at warnings.old warnings.new (status_of result) (value_or at result) }
+    requires entry_known { EntryKnown main.now entry.unit entry.place }
+    ensures { AboutWarned main.now entry.unit entry.place (number_of kind) number at warnings.old warnings.new
+        (status_of result) (value_or at result) }
 {
-    let offset = absolute_entry_offset(main, unit, u64::read(main, p + ENTRY_OFFSET))?;
-    Ok(buffers::output::put_warning(warnings, at, kind, offset, number))
+    let offset = u64::read(main, entry.place + ENTRY_OFFSET);
+    let target = absolute_entry_offset(main, entry.unit, offset)?;
+    Ok(buffers::output::put_warning(warnings, at, kind, target, number))
 }
 
 // The file of a call; a missing one warns.
+// Stays apart from `call_line`, which says why.
 pub fn call_file(
     main: &[u8],
     work: &[u8],
     warnings: &mut [u8],
-    unit: usize,
-    indices: StoredIndices,
-    p: usize,
+    indices: Stored<FileIndex>,
+    entry: EntryPlace,
     at: usize,
-) -> Result<CalledFile, Refusal>
+) -> Result<Warned<FileIndex>, Refusal>
     requires accepted { Accepted main.now }
-    requires entry_known { EntryKnown main.now unit p }
-    requires index_record_in_bounds { indices.base + indices.count * index_record ≤ length work.now }
-    ensures { FileCalled (indices_in work.now indices) main.now unit p at warnings.old warnings.new (status_of result)
-        (value_or (record { file = file_index 0; at = at }) result) }
+    requires entry_known { EntryKnown main.now entry.unit entry.place }
+    requires map_within { indices.base + indices.count * index_record ≤ length work.now }
+    ensures { FileCalled (indices_in work.now indices) main.now entry.unit entry.place at warnings.old warnings.new (status_of result)
+        (value_or (record { value = file_index 0; at = at }) result) }
 {
-    let file = FileIndex(0);
-    let Some(number) = file_index_attribute(main, unit, p, DW_AT_CALL_FILE) else {
-        return Ok(CalledFile { file, at });
+    let none = FileIndex(0);
+    let Some(number) = file_index_attribute(main, entry, DW_AT_CALL_FILE) else {
+        return Ok(Warned { value: none, at });
     };
-    match files::index::get_index(work, indices, FileNumber(number)) {
-        Some(file) => Ok(CalledFile { file, at }),
-        None => {
-            let warned = warn_about(main, warnings, unit, p, MISSING_CALL_FILE, number, at)?;
-            Ok(CalledFile { file, at: warned })
-        }
+    if let Some(file) = files::index::get_index(work, indices, FileNumber(number)) {
+        return Ok(Warned { value: file, at });
     }
+    let kind = WarningKind::MissingInlineCallFile;
+    let warned = warn_about(main, warnings, entry, kind, number, at)?;
+    Ok(Warned {
+        value: none,
+        at: warned,
+    })
 }
 
 // The line of a call; one past 32 bits warns.
+// Stays apart from `call_file`: one for both would take what is looked up, what stands for none and the warning's kind, and be no shorter.
 pub fn call_line(
     main: &[u8],
     warnings: &mut [u8],
-    unit: usize,
-    p: usize,
+    entry: EntryPlace,
     at: usize,
-) -> Result<CalledLine, Refusal>
+) -> Result<Warned<u32>, Refusal>
     requires accepted { Accepted main.now }
-    requires entry_known { EntryKnown main.now unit p }
-    ensures { LineCalled main.now unit p at warnings.old warnings.new (status_of result)
-        (value_or (record { line = 0; at = at }) result) }
+    requires entry_known { EntryKnown main.now entry.unit entry.place }
+    ensures { LineCalled main.now entry.unit entry.place at warnings.old warnings.new (status_of result)
+        (value_or (record { value = 0; at = at }) result) }
 {
-    let Some(n) = unsigned_attribute(main, unit, p, DW_AT_CALL_LINE) else {
-        return Ok(CalledLine { line: 0, at });
+    let Some(number) = unsigned_attribute(main, entry, DW_AT_CALL_LINE) else {
+        return Ok(Warned { value: 0, at });
     };
-    if n <= u32::MAX as u64 {
-        return Ok(CalledLine { line: n as u32, at });
+    if let Ok(line) = u32::try_from(number) {
+        return Ok(Warned { value: line, at });
     }
-    let warned = warn_about(main, warnings, unit, p, INVALID_CALL_LINE, n, at)?;
-    Ok(CalledLine {
-        line: 0,
+    let kind = WarningKind::InvalidInlineCallLine;
+    let warned = warn_about(main, warnings, entry, kind, number, at)?;
+    Ok(Warned {
+        value: 0,
         at: warned,
     })
 }

@@ -6,8 +6,9 @@ ghost use Rattle.dies.specs.Details.{DetailsIn, EntriesKnown, ExtractsTo, entrie
 ghost use Rattle.dies.specs.DetailState.{DescendsTo};
 
 use crate::details::Details;
-use crate::sites::put_sites;
-use crate::walk::{Walk, close, collect_entries};
+use crate::frames::Open;
+use crate::sites::Sites;
+use crate::walk::Walk;
 use tlv::bytes::Number;
 use tlv::fields::next_field;
 use tlv::refusal::Refusal;
@@ -20,42 +21,6 @@ pub struct Extracted {
     pub at: usize,
     pub warned: usize,
     pub past: bool,
-}
-
-// The nodes and the call sites of the function, from the entries that follow place p and are deeper than it.
-fn collect_descendants(
-    d: Details,
-    work: &mut [u8],
-    records: &mut [u8],
-    warnings: &mut [u8],
-    p: usize,
-    at: usize,
-    warned: usize,
-) -> Result<Extracted, Refusal>
-    requires details_in { DetailsIn (main_of d) (supplementary_of d) work.old d }
-    requires placed { Placed (main_of d) p }
-    requires entries_known { EntriesKnown (main_of d) d.unit p }
-    ensures { DescendsTo d.entry work.old work.new p at warned records.old records.new warnings.old warnings.new result }
-{
-    ranges::ranges::put_range_at(work, d.ranges, d.range);
-    let start = Walk {
-        frames: crate::frames::none_open(),
-        opened: 0,
-        closed: 0,
-        nodes: 0,
-        at,
-        warned,
-        past: false,
-    };
-    let e = collect_entries(d, work, records, warnings, p, start)?;
-    let c = close(d, work, e, 0);
-    let sites = put_sites(d, work, records, c.at, c);
-    Ok(Extracted {
-        nodes: c.nodes,
-        at: sites.at,
-        warned: c.warned,
-        past: c.past || sites.past,
-    })
 }
 
 // Whether an entry deeper than depth may follow place p.
@@ -72,31 +37,69 @@ fn has_entries(main: &[u8], p: usize, depth: u16) -> bool
     field.tag != UNIT_TAG
 }
 
-// Writes the nodes and the call sites of the function, from the entries that follow place p and are deeper than it.
-// Where no such entry follows, and with both switches off, there is nothing to set up.
-pub fn extract_subprogram_details(
-    d: Details,
-    work: &mut [u8],
-    records: &mut [u8],
-    warnings: &mut [u8],
-    p: usize,
-    at: usize,
-    warned: usize,
-) -> Result<Extracted, Refusal>
-    requires details_in { DetailsIn (main_of d) (supplementary_of d) work.old d }
-    requires placed { Placed (main_of d) p }
-    requires entries_known { EntriesKnown (main_of d) d.unit p }
-    ensures { ExtractsTo d.entry work.old work.new p at warned records.old records.new warnings.old warnings.new result }
-{
-    if has_entries(d.tables.sheets.main, p, d.depth)
-        && (d.include_inlines || d.include_call_sites)
+impl<'a> Details<'a> {
+    // The nodes and the call sites of the function, from the entries that follow place p and are deeper than it.
+    // Stays with three slices: close, make_call_site, put_sites and keep_node are lent one or two, or `work` only to be read, and would take a struct apart.
+    fn collect_descendants(
+        &self,
+        work: &mut [u8],
+        records: &mut [u8],
+        warnings: &mut [u8],
+        p: usize,
+        at: usize,
+        warned: usize,
+    ) -> Result<Extracted, Refusal>
+        requires details_in { DetailsIn (main_of self.now) (supplementary_of self.now) work.old self.now }
+        requires placed { Placed (main_of self.now) p }
+        requires entries_known { EntriesKnown (main_of self.now) self.now.context.unit p }
+        ensures { DescendsTo self.now work.old work.new p at warned records.old records.new warnings.old warnings.new result }
     {
-        return collect_descendants(d, work, records, warnings, p, at, warned);
+        buffers::table::put_range_at(work, self.context.ranges, self.range);
+        let mut walk = Walk {
+            frames: Open::none(),
+            sites: Sites::default(),
+            nodes: 0,
+            at,
+            warned,
+            past: false,
+        };
+        self.collect_entries(work, records, warnings, p, &mut walk)?;
+        self.close(work, &mut walk, 0);
+        let sites = self.put_sites(work, records, &walk);
+        Ok(Extracted {
+            nodes: walk.nodes,
+            at: sites.at,
+            warned: walk.warned,
+            past: walk.past || sites.past,
+        })
     }
-    Ok(Extracted {
-        nodes: 0,
-        at,
-        warned,
-        past: false,
-    })
+
+    // Writes the nodes and the call sites of the function, from the entries that follow place p and are deeper than it.
+    // Where no such entry follows, and with both switches off, there is nothing to set up.
+    pub fn extract_subprogram_details(
+        self,
+        work: &mut [u8],
+        records: &mut [u8],
+        warnings: &mut [u8],
+        p: usize,
+        at: usize,
+        warned: usize,
+    ) -> Result<Extracted, Refusal>
+        requires details_in { DetailsIn (main_of self) (supplementary_of self) work.old self }
+        requires placed { Placed (main_of self) p }
+        requires entries_known { EntriesKnown (main_of self) self.context.unit p }
+        ensures { ExtractsTo self.entry work.old work.new p at warned records.old records.new warnings.old warnings.new result }
+    {
+        if has_entries(self.context.tables.sheets.main, p, self.depth)
+            && (self.context.include_inlines || self.context.include_call_sites)
+        {
+            return self.collect_descendants(work, records, warnings, p, at, warned);
+        }
+        Ok(Extracted {
+            nodes: 0,
+            at,
+            warned,
+            past: false,
+        })
+    }
 }

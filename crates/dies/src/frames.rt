@@ -1,5 +1,9 @@
 // The inline nodes that are open, while the entries below a function are walked: frames by value, their ranges on a stack in the work slice.
-ghost use Rattle.dies.specs.FrameStack.{Ready, Empty, Popped, Top, shrunk};
+ghost use Rattle.std.specs.Prelude.{◌≡◌, ◌+◌, ◌^◌, ◌<◌};
+ghost use Rattle.dies.specs.FrameStack.{Ready, Empty, Popped, Top, grown};
+
+// How many nodes can lie within one another: the depth of the deepest.
+pub const DEEPEST_NODE: usize = 256;
 
 // An open node: the depth of its entry, and where its ranges begin in the stack of ranges.
 #[derive(Clone, Copy, Debug)]
@@ -8,59 +12,70 @@ pub struct Frame {
     pub ranges: u32,
 }
 
-// The open nodes, of which there are n. The stack has `used` ranges: the function's own, and then each node's, the innermost last.
-// Stays bare: it holds 256 frames, and nothing prints or compares it.
-#[derive(Clone, Copy)]
-pub struct Open {
-    pub frames: [Frame; 256],
-    pub n: usize,
-    pub used: usize,
-}
-
-pub fn none_open() -> Open
-    ensures { Empty result }
-{
-    let f = Frame {
-        depth: 0,
-        ranges: 0,
-    };
-    Open {
-        frames: [f; 256],
-        n: 0,
-        used: 1,
-    }
-}
-
-// What is left of the open nodes: how many there are, and how many ranges the stack has.
+// The open nodes, and how many. The stack has `used` ranges: the function's own, and then each node's, the innermost last.
+// Stays an array of 256 frames with a count: the form that document 01 names.
 #[derive(Clone, Copy, Debug)]
-pub struct Left {
-    pub n: usize,
+pub struct Open {
+    pub frames: [Frame; DEEPEST_NODE],
+    pub count: usize,
     pub used: usize,
 }
 
-// Closes the nodes of entries at this depth or deeper; the frames that are left stay where they are.
-pub fn finish_inlines(st: Open, depth: u16) -> Left
-    requires { Ready st }
-    ensures { Popped st (shrunk st result) depth }
-{
-    let mut used = st.used;
-    for i in (0..st.n).rev() {
-        let t = st.frames[i];
-        if t.depth < depth {
-            return Left { n: i + 1, used };
+impl Open {
+    // No open node.
+    pub fn none() -> Open
+        ensures { Empty result }
+    {
+        let frame = Frame {
+            depth: 0,
+            ranges: 0,
+        };
+        Open {
+            frames: [frame; DEEPEST_NODE],
+            count: 0,
+            used: 1,
         }
-        used = t.ranges as usize;
     }
-    Left { n: 0, used }
-}
 
-// Where the ranges of the innermost open node begin in the stack; with none open these are the function's own, at 0.
-pub(crate) fn innermost(st: &Open) -> usize
-    requires { Ready st.now }
-    ensures { Top st.now result }
-{
-    if st.n == 0 {
-        return 0;
+    // Closes the nodes of entries at this depth or deeper; the frames that are left stay where they are.
+    pub fn finish_inlines(&mut self, depth: u16)
+        requires { Ready self.old }
+        ensures popped { Popped self.old self.new depth }
+        ensures frames_stay { self.new.frames ≡ self.old.frames }
+    {
+        // Stays a loop: of `find` over a range that is reversed std's lemmas say nothing.
+        for i in (0..self.count).rev() {
+            let frame = self.frames[i];
+            if frame.depth < depth {
+                return;
+            }
+            self.count = i;
+            self.used = frame.ranges as usize;
+        }
     }
-    st.frames[st.n - 1].ranges as usize
+
+    // Where the ranges of the innermost open node begin in the stack; with none open these are the function's own, at 0.
+    pub(crate) fn innermost(&self) -> usize
+        requires { Ready self.now }
+        ensures { Top self.now result }
+    {
+        if self.count == 0 {
+            return 0;
+        }
+        self.frames[self.count - 1].ranges as usize
+    }
+
+    // Opens the node of an entry at this depth, whose ranges are as many as these above the stack.
+    pub(crate) fn push(&mut self, depth: u16, ranges: usize)
+        requires room { self.old.count < 256 }
+        requires fits { (self.old.used < 2 ^ 32) × (ranges < 2 ^ 32 + 1) }
+        ensures { self.new ≡ grown self.old depth ranges }
+    {
+        self.frames[self.count] = Frame {
+            depth,
+            ranges: self.used as u32,
+        };
+        self.count += 1;
+        self.used += ranges;
+    }
 }

@@ -1,4 +1,4 @@
-// Ranges in the work slice, the inline nodes that are open, and the walk over the entries below a subprogram.
+// Inline nodes and call sites of a subprogram: the walk over the entries below it.
 #![tactic(auto)]
 
 pub mod calls;

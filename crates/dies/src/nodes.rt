@@ -1,6 +1,5 @@
 // Inlined nodes: their depth, their bytes, and the frame that each opens.
 ghost use Rattle.std.specs.Prelude.{◌≡◌, ◌+◌, ◌*◌, ◌≤◌, ◌<◌, leb, length};
-ghost use Rattle.tlv.specs.Bytes.{le_at};
 ghost use Rattle.tlv.specs.Refusals.{status_of};
 ghost use Rattle.buffers.specs.Buffer.{Put};
 ghost use Rattle.buffers.specs.Output.{node_bytes};
@@ -8,47 +7,25 @@ ghost use Rattle.access.specs.Places.{entry_here};
 ghost use Rattle.references.specs.Tables.{EntryKnown};
 ghost use Rattle.imports.specs.Tree.{inline_depth_limit, push_inline, make_inline_node};
 ghost use Rattle.ranges.specs.RangeTable.{ranges_at, range_record};
-ghost use Rattle.dies.specs.Answers.{value_or};
 ghost use Rattle.dies.specs.Details.{DetailsIn, context_now, main_of, supplementary_of};
-ghost use Rattle.dies.specs.DetailState.{FitsAt, OwnRanges, Steps, lead_bytes, laid_of, noded};
+ghost use Rattle.dies.specs.DetailState.{FitsAt, OwnRanges, Steps, lead_bytes};
 
 use crate::calls::{call_file, call_line};
 use crate::details::Details;
-use crate::frames::{Frame, innermost};
+use crate::frames::DEEPEST_NODE;
+use crate::past::node_past;
 use crate::walk::Walk;
+use buffers::table::Stored;
 use ranges::inlined::inline_ranges;
-use ranges::ranges::{RANGE_RECORD, RangeNest, StoredRanges};
+use ranges::ranges::{RANGE_RECORD, RangeNest, RangeTable};
 use references::names::{found_name, resolve_name};
 use tlv::bytes::Number;
 use tlv::model::FileIndex;
 use tlv::refusal::Refusal;
 use tlv::tags::{ENTRY_DEPTH, ENTRY_WHOLE};
 
-// How many nodes can lie within one another: the depth of the deepest.
-const DEEPEST_NODE: usize = 256;
-
-// The places in the records and the warnings after a node, and whether the records pass the largest place.
-#[derive(Clone, Copy, Debug)]
-pub struct Laid {
-    pub at: usize,
-    pub warned: usize,
-    pub past: bool,
-}
-
-// The root, which bears the function's name and range, before the first node.
-fn put_root(d: Details, records: &mut [u8], at: usize, nodes: usize) -> usize
-    ensures { Put at (lead_bytes d.entry.name.now d.entry.range nodes) records.old records.new result }
-{
-    if nodes != 0 {
-        return at;
-    }
-    let headed = buffers::output::put_node(records, at, 0, FileIndex(0), 0, d.name);
-    buffers::output::put_range(records, headed, d.range)
-}
-
 // A node but for its ranges: the depth below the root, the call's file and line, the name.
-// Stays bare: it holds a slice.
-#[derive(Clone, Copy)]
+#[derive(Clone, Copy, Debug)]
 struct Node<'a> {
     depth: u16,
     file: FileIndex,
@@ -57,27 +34,20 @@ struct Node<'a> {
     ghost name_bound: { 10 + length name.now < 65536 },
 }
 
-// A node with its ranges, which stand in the work slice.
-fn put_inline_node(
-    work: &[u8],
-    records: &mut [u8],
-    at: usize,
-    node: Node,
-    ranges: StoredRanges,
-) -> usize
-    requires { ranges.base + ranges.count * range_record ≤ length work.now }
+// A node with its ranges.
+fn put_inline_node(records: &mut [u8], at: usize, node: Node, ranges: RangeTable) -> usize
     ensures { Put at (node_bytes (record {
       depth = node.entry.depth;
       call_file = node.entry.file;
       call_line = node.entry.line;
       name = node.entry.name.now;
-      ranges = ranges_at work.now ranges.base ranges.count;
+      ranges = ranges_at ranges.entry.work.now ranges.entry.stored.base ranges.entry.stored.count;
     })) records.old records.new result }
 {
     let headed = buffers::output::put_node(
         records, at, node.depth, node.file, node.line, node.name,
     );
-    ranges::ranges::put_ranges(records, headed, work, ranges.base, ranges.count)
+    ranges::ranges::put_ranges(records, headed, ranges)
 }
 
 // Whether a node that is so many below the root may be kept.
@@ -88,115 +58,125 @@ fn check_inline_depth(depth: usize) -> bool
 }
 
 // An inlined call that is kept: the place of its entry, its name, and how many merged ranges it has, which stand above the stack of ranges.
-// Stays bare: it holds a slice.
-#[derive(Clone, Copy)]
+#[derive(Clone, Copy, Debug)]
 struct InlinedCall<'a> {
     place: usize,
     name: &'a [u8],
-    ranges: usize,
+    range_count: usize,
     ghost name_bound: { 10 + length name.now < 65536 },
-    ghost some: { 0 < ranges },
+    ghost some: { 0 < range_count },
 }
 
-// A call becomes a node: it is laid, and its frame is the caller's to push.
-fn keep_node(
-    d: Details,
-    work: &[u8],
-    records: &mut [u8],
-    warnings: &mut [u8],
-    call: InlinedCall,
-    s: Walk,
-) -> Result<Laid, Refusal>
-    requires details_in { DetailsIn (main_of d) (supplementary_of d) work.now d }
-    requires entry_known { EntryKnown (main_of d) d.unit call.place }
-    requires fits { FitsAt work.now d call.place s }
-    requires own_ranges { OwnRanges (main_of d) d call.place call.ranges }
-    ensures { Steps (push_inline (context_now work.now d.entry) (entry_here (main_of d.entry) call.entry.place)
-        call.entry.name.now (ranges_at work.now (d.entry.ranges + s.frames.used * range_record) call.entry.ranges))
-        d.entry call.entry.place work.now records.old warnings.old s work.now records.new warnings.new (status_of result)
-        (noded s (le_at 2 (main_of d.entry) (call.entry.place + 11)) call.entry.ranges (value_or (laid_of s) result)) }
-{
-    let main = d.tables.sheets.main;
-    let file = call_file(
-        main, work, warnings, d.unit, d.indices, call.place, s.warned,
-    )?;
-    let line = call_line(main, warnings, d.unit, call.place, file.at)?;
-    let n = s.frames.n;
-    if !check_inline_depth(n + 1) {
-        return Err(Refusal::TooDeep);
+impl<'a> Details<'a> {
+    // The root, which bears the function's name and range, before the first node.
+    fn put_root(&self, records: &mut [u8], at: usize, nodes: usize) -> usize
+        ensures { Put at (lead_bytes self.now.name.now self.now.range nodes) records.old records.new result }
+    {
+        if nodes != 0 {
+            return at;
+        }
+        let headed = buffers::output::put_node(records, at, 0, FileIndex(0), 0, self.name);
+        buffers::output::put_range(records, headed, self.range)
     }
-    let past = crate::past::node_past(s.at, s.nodes, d.name.len(), call.name.len(), call.ranges);
-    let rooted = put_root(d, records, s.at, s.nodes);
-    let node = Node {
-        depth: (n + 1) as u16,
-        file: file.file,
-        line: line.line,
-        name: call.name,
-    };
-    let stored = StoredRanges {
-        base: d.ranges + s.frames.used * RANGE_RECORD,
-        count: call.ranges,
-    };
-    Ok(Laid {
-        at: put_inline_node(work, records, rooted, node, stored),
-        warned: line.at,
-        past: s.past || past,
-    })
-}
 
-// An inlined entry.
-pub fn make_inline_node(
-    d: Details,
-    work: &mut [u8],
-    records: &mut [u8],
-    warnings: &mut [u8],
-    p: usize,
-    s: Walk,
-) -> Result<Walk, Refusal>
-    requires details_in { DetailsIn (main_of d) (supplementary_of d) work.old d }
-    requires entry_known { EntryKnown (main_of d) d.unit p }
-    requires fits { FitsAt work.old d p s }
-    ensures { Steps (make_inline_node (context_now work.old d.entry) (entry_here (main_of d.entry) p)) d.entry p
-        work.old records.old warnings.old s work.new records.new warnings.new (status_of result) (value_or s result) }
-{
-    let main = d.tables.sheets.main;
-    let inlined = resolve_name(work, d.tables, d.unit, p)?;
-    let Some(_) = found_name(inlined) else {
-        return Ok(s);
-    };
-    let used = s.frames.used;
-    let top = innermost(&s.frames);
-    let nest = RangeNest {
-        parent: StoredRanges {
-            base: d.ranges + top * RANGE_RECORD,
-            count: used - top,
-        },
-        to: d.ranges + used * RANGE_RECORD,
-    };
-    let k = inline_ranges(main, d.lists, work, d.with_lists, p + ENTRY_WHOLE, nest)?;
-    if k == 0 {
-        return Ok(s);
+    // A call becomes a node, which is laid and opened.
+    fn keep_node(
+        &self,
+        work: &[u8],
+        records: &mut [u8],
+        warnings: &mut [u8],
+        call: InlinedCall,
+        walk: &mut Walk,
+    ) -> Result<(), Refusal>
+        requires details_in { DetailsIn (main_of self.now) (supplementary_of self.now) work.now self.now }
+        requires entry_known { EntryKnown (main_of self.now) self.now.context.unit call.place }
+        requires fits { FitsAt work.now self.now call.place walk.old }
+        requires own_ranges { OwnRanges (main_of self.now) self.now call.place call.range_count }
+        ensures { Steps (push_inline (context_now work.now self.now) (entry_here (main_of self.now) call.entry.place)
+            call.entry.name.now (ranges_at work.now (self.now.context.ranges + walk.old.frames.used * range_record) call.entry.range_count))
+            self.now call.entry.place work.now records.old warnings.old walk.old work.now records.new warnings.new
+            (status_of result) walk.new }
+    {
+        let context = &self.context;
+        let main = context.tables.sheets.main;
+        let entry = context.entry(call.place);
+        let file = call_file(main, work, warnings, context.indices, entry, walk.warned)?;
+        let line = call_line(main, warnings, entry, file.at)?;
+        if !check_inline_depth(walk.frames.count + 1) {
+            return Err(Refusal::TooDeep);
+        }
+        let node = Node {
+            depth: (walk.frames.count + 1) as u16,
+            file: file.value,
+            line: line.value,
+            name: call.name,
+        };
+        let above = context.ranges + walk.frames.used * RANGE_RECORD;
+        let ranges = RangeTable {
+            work,
+            stored: Stored::new(above, call.range_count),
+        };
+        let past = node_past(
+            walk.at,
+            walk.nodes,
+            self.name.len(),
+            call.name.len(),
+            call.range_count,
+        );
+        let rooted = self.put_root(records, walk.at, walk.nodes);
+        walk.at = put_inline_node(records, rooted, node, ranges);
+        walk.warned = line.at;
+        walk.past = walk.past || past;
+        walk.nodes += 1;
+        let depth = u16::read(main, call.place + ENTRY_DEPTH);
+        walk.frames.push(depth, call.range_count);
+        Ok(())
     }
-    let call = InlinedCall {
-        place: p,
-        name: inlined,
-        ranges: k,
-    };
-    let laid = keep_node(d, work, records, warnings, call, s)?;
-    let depth = u16::read(main, p + ENTRY_DEPTH);
-    let mut frames = s.frames;
-    frames.frames[frames.n] = Frame {
-        depth,
-        ranges: used as u32,
-    };
-    frames.n += 1;
-    frames.used += k;
-    Ok(Walk {
-        frames,
-        nodes: s.nodes + 1,
-        at: laid.at,
-        warned: laid.warned,
-        past: laid.past,
-        ..s
-    })
+
+    // An inlined entry.
+    pub(crate) fn make_inline_node(
+        &self,
+        work: &mut [u8],
+        records: &mut [u8],
+        warnings: &mut [u8],
+        p: usize,
+        walk: &mut Walk,
+    ) -> Result<(), Refusal>
+        requires details_in { DetailsIn (main_of self.now) (supplementary_of self.now) work.old self.now }
+        requires entry_known { EntryKnown (main_of self.now) self.now.context.unit p }
+        requires fits { FitsAt work.old self.now p walk.old }
+        ensures { Steps (make_inline_node (context_now work.old self.now) (entry_here (main_of self.now) p)) self.now p
+            work.old records.old warnings.old walk.old work.new records.new warnings.new (status_of result) walk.new }
+    {
+        let context = &self.context;
+        let main = context.tables.sheets.main;
+        let entry = context.entry(p);
+        let inlined = resolve_name(work, context.tables, entry)?;
+        let Some(name) = found_name(inlined) else {
+            return Ok(());
+        };
+        let used = walk.frames.used;
+        let top = walk.frames.innermost();
+        let nest = RangeNest {
+            parent: Stored::new(context.ranges + top * RANGE_RECORD, used - top),
+            to: context.ranges + used * RANGE_RECORD,
+        };
+        let range_count = inline_ranges(
+            main,
+            context.lists,
+            work,
+            context.with_lists,
+            p + ENTRY_WHOLE,
+            nest,
+        )?;
+        if range_count == 0 {
+            return Ok(());
+        }
+        let call = InlinedCall {
+            place: p,
+            name,
+            range_count,
+        };
+        self.keep_node(work, records, warnings, call, walk)
+    }
 }

@@ -7,25 +7,25 @@ use tlv::tags::FIELD_HEAD;
 // The fewest bytes of a node's, a range's and a call site's field in the records: those of one with no name.
 const NODE_LEAST: usize = FIELD_HEAD + 10;
 
-const RANGE_FIELD: usize = FIELD_HEAD + 16;
+const RANGE_LEAST: usize = FIELD_HEAD + 16;
 
 pub const SITE_LEAST: usize = FIELD_HEAD + 9;
 
-// Whether n bytes from a place on do.
-pub fn is_past(at: usize, n: usize) -> bool
-    ensures { result ≡ is_past at n }
+// Whether so many bytes from a place on do.
+pub fn is_past(at: usize, size: usize) -> bool
+    ensures { result ≡ is_past at size }
 {
-    usize::MAX - at < n
+    usize::MAX - at < size
 }
 
-// Whether a node does whose name has so many bytes, with k ranges, behind so many nodes; before the first stands the root, with the function's name.
-pub fn node_past(at: usize, nodes: usize, name: usize, inlined: usize, k: usize) -> bool
-    requires { (name < 2 ^ 16) × (inlined < 2 ^ 16) × (k ≤ 2 ^ 32) }
-    ensures { result ≡ is_past at (node_size nodes name inlined k) }
+// Whether a node does whose name has so many bytes, with so many ranges, behind so many nodes; before the first stands the root, with the function's name.
+pub fn node_past(at: usize, nodes: usize, name: usize, inlined: usize, ranges: usize) -> bool
+    requires { (name < 2 ^ 16) × (inlined < 2 ^ 16) × (ranges ≤ 2 ^ 32) }
+    ensures { result ≡ is_past at (node_size nodes name inlined ranges) }
 {
-    let own = NODE_LEAST + inlined + RANGE_FIELD * k;
+    let own = NODE_LEAST + inlined + RANGE_LEAST * ranges;
     if nodes == 0 {
-        return is_past(at, NODE_LEAST + RANGE_FIELD + name + own);
+        return is_past(at, NODE_LEAST + RANGE_LEAST + name + own);
     }
     is_past(at, own)
 }

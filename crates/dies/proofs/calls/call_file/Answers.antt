@@ -14,8 +14,8 @@ returns-in_default c = file-missing (omega arith) (omega arith) c.in_default.ens
 pub returns-in-Some-get_index : goal.returns-in-Some-get_index
 returns-in-Some-get_index c = file-found (omega arith) (omega arith) c.in-Some.ensures c.get_index.ensures c.in-Some-get_index.is
 
-pub returns-in_err-warned-in-None : goal.returns-in_err-warned-in-None
-returns-in_err-warned-in-None c = rw (handed _ _ c.from_residual.ensures.1) (file-warned (omega arith) (omega arith) c.in-Some.ensures c.get_index.ensures c.in-None.is c.in_err-warned-in-None.ensures)
+pub returns-in_err-warned : goal.returns-in_err-warned
+returns-in_err-warned c = rw (handed _ _ c.from_residual.ensures.1) (file-warned (omega arith) (omega arith) c.in-Some.ensures c.get_index.ensures c.in_default-get_index.is c.in_err-warned.ensures)
 
-pub returns-in_ok-warned-in-None : goal.returns-in_ok-warned-in-None
-returns-in_ok-warned-in-None c = file-warned (omega arith) (omega arith) c.in-Some.ensures c.get_index.ensures c.in-None.is c.in_ok-warned-in-None.ensures
+pub returns : goal.returns
+returns c = file-warned (omega arith) (omega arith) c.in-Some.ensures c.get_index.ensures c.in_default-get_index.is c.in_ok-warned.ensures

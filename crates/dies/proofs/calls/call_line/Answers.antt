@@ -11,8 +11,8 @@ unsigned_attribute-requires-clause-placed c = accepted-placed c.requires.accepte
 pub returns-in_default : goal.returns-in_default
 returns-in_default c = line-missing (omega arith) (omega arith) c.in_default.ensures
 
-pub returns-then-n : goal.returns-then-n
-returns-then-n c = line_small (omega arith) (omega arith) c.in-Some.ensures (omega arith)
+pub returns-in-Ok : goal.returns-in-Ok
+returns-in-Ok c = rw c.in-Ok.ensures.1 (line_small (omega arith) (omega arith) c.in-Some.ensures c.in-Ok.ensures.0)
 
 pub returns-in_err-warned : goal.returns-in_err-warned
 returns-in_err-warned c = rw (handed _ _ c.from_residual.ensures.1) (line-warned (omega arith) (omega arith) c.in-Some.ensures (omega arith) c.in_err-warned.ensures)

@@ -1,0 +1,5 @@
+mod InlineStepLaws
+mod CollectLaws
+mod CollectingLaws
+mod SitesPutLaws
+mod ExtractLaws

@@ -1,9 +1,0 @@
--- `frames::none_open` meets its contract.
-use mathlib.Core.Path.{refl}
-use native.Mathlib.Omega.{arith}
-use Rattle.dies.specs.FrameStack.{Stacked}
-use Rattle.dies.proofs.frames.none_open.Goals as goal
-
-pub returns : goal.returns
-unfolding Stacked
-returns c = record { ready = record { few = omega arith; full = refl; stacked = refl }; none = refl; used = refl }

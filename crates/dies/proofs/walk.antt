@@ -1,2 +1,0 @@
-mod CollectLaws
-mod CollectingLaws

@@ -1,6 +1,0 @@
--- `walk::close` meets its contract.
-use Rattle.dies.proofs.WalkStateLaws.{shut_is}
-use Rattle.dies.proofs.walk.close.Goals as goal
-
-pub returns : goal.returns
-returns c = shut_is c.requires.details_in c.requires.fits c.finish_inlines-left.ensures c.finish_call_sites-sites.ensures
