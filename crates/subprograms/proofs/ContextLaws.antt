@@ -17,7 +17,7 @@ use Rattle.access.specs.Places.{unit_here, unit_places, UnitOf}
 use Rattle.files.specs.declared.store.StoredFiles.{StoredFiles}
 use Rattle.files.specs.Store.{extent, FilesIn}
 use Rattle.files.specs.Indices.{index_of, indices_of, indices_in}
-use Rattle.rows.specs.Sizes.{entry_size, line_size, range_size}
+use Rattle.rows.specs.Sizes.{entry_size, line_size, sequence_range_size}
 use Rattle.rows.specs.Stored.{line_of, lines_of, range_of, ranges_of}
 use Rattle.collect.specs.Collects.{UnitIn, lines_in}
 use Rattle.references.specs.declared.tables.Index.{Index}
@@ -76,20 +76,20 @@ ordered-as b r O = record {
 
 module _ {main supplementary : List ℕ} {q : ImportContext} {t : StoredFiles} (O : Ordered main supplementary q t) where
   -- where the unit's map, rows and sequences stand
-  below_rows : (p k : ℕ) → q.places.indices.base ≤ p → p + k ≤ q.lines.buffer → Clear p k (touched main supplementary q t)
+  below_rows : (p k : ℕ) → q.context.indices.base ≤ p → p + k ≤ q.lines.buffer → Clear p k (touched main supplementary q t)
   unfolding touched
   below_rows p k h g =
-      let up : q.lines.buffer + (entry_size + q.lines.line_count * entry_size) ≤ q.places.spans = omega (arith, O.buffer, O.text) in
-      let far : q.places.spans ≤ q.ranges = omega (arith, O.spans) in
+      let up : q.lines.buffer + (entry_size + q.lines.lines.count * entry_size) ≤ q.spans = omega (arith, O.buffer, O.text) in
+      let far : q.spans ≤ q.context.ranges = omega (arith, O.spans) in
       (inr (omega (arith, O.table)), (inl g, (inl (omega arith), (inl (omega arith), tt))))
 
   -- the executable ranges
-  below-spans : (p k : ℕ) → q.lines.buffer + entry_size + q.lines.line_count * entry_size ≤ p → p + k ≤ q.places.spans
+  below-spans : (p k : ℕ) → q.lines.buffer + entry_size + q.lines.lines.count * entry_size ≤ p → p + k ≤ q.spans
       → Clear p k (touched main supplementary q t)
   unfolding touched
   below-spans p k h g =
       let down : t.base + extent t ≤ q.lines.buffer = omega (arith, O.table, O.indices, O.lines, O.sequences) in
-      let far : q.places.spans ≤ q.ranges = omega (arith, O.spans) in
+      let far : q.spans ≤ q.context.ranges = omega (arith, O.spans) in
       (inr (omega arith), (inr (omega arith), (inl g, (inl (omega arith), tt))))
 
   -- the units and entries of the inputs
@@ -97,8 +97,8 @@ module _ {main supplementary : List ℕ} {q : ImportContext} {t : StoredFiles} (
   unfolding touched
   below-table p k h =
       let down : t.base + extent t ≤ q.lines.buffer = omega (arith, O.table, O.indices, O.lines, O.sequences) in
-      let up : q.lines.buffer ≤ q.places.spans = omega (arith, O.buffer, O.text) in
-      let far : q.places.spans ≤ q.ranges = omega (arith, O.spans) in
+      let up : q.lines.buffer ≤ q.spans = omega (arith, O.buffer, O.text) in
+      let far : q.spans ≤ q.context.ranges = omega (arith, O.spans) in
       (inl h, (inl (omega arith), (inl (omega arith), (inl (omega arith), tt))))
 
 -- ---- what stays
@@ -106,29 +106,29 @@ module _ {main supplementary : List ℕ} {q : ImportContext} {t : StoredFiles} (
 module _ {main supplementary w w' : List ℕ} {q : ImportContext} {t : StoredFiles} (C : ContextIn main supplementary w q t)
     (K : KeptBut w w' (touched main supplementary q t)) where
   -- an input's units and entries
-  index_same : {s : List ℕ} {x : Index} → x.units + 24 * x.unit_count ≤ t.base → x.entries + 16 * x.entry_count ≤ t.base → length w' ≡ length w
+  index_same : {s : List ℕ} {x : Index} → x.units.base + 24 * x.units.count ≤ t.base → x.entries.base + 16 * x.entries.count ≤ t.base → length w' ≡ length w
       → IndexIn s w x → IndexIn s w' x
   index_same to-units to-entries size I = index-clear I K (below-table C.ordered _ _ (omega arith)) (below-table C.ordered _ _ (omega arith)) size
 
-  lines_same : lines_of w' q.lines.lines q.lines.line_count ≡ lines_of w q.lines.lines q.lines.line_count
+  lines_same : lines_of w' q.lines.lines.base q.lines.lines.count ≡ lines_of w q.lines.lines.base q.lines.lines.count
   unfolding lines_of
   lines_same =
       let O = C.ordered in
-      records-but line_of line_size q.lines.lines q.lines.line_count K
+      records-but line_of line_size q.lines.lines.base q.lines.lines.count K
       (below_rows O _ _ (omega (arith, O.indices)) (omega (arith, O.lines, O.sequences)))
 
-  sequences-same : ranges_of w' q.lines.sequences q.lines.sequence_count ≡ ranges_of w q.lines.sequences q.lines.sequence_count
+  sequences-same : ranges_of w' q.lines.sequences.base q.lines.sequences.count ≡ ranges_of w q.lines.sequences.base q.lines.sequences.count
   unfolding ranges_of
   sequences-same =
       let O = C.ordered in
-      records-but range_of range_size q.lines.sequences q.lines.sequence_count K
+      records-but range_of sequence_range_size q.lines.sequences.base q.lines.sequences.count K
       (below_rows O _ _ (omega (arith, O.indices, O.lines)) O.sequences)
 
-  map_same : indices_in w' q.places.indices ≡ indices_in w q.places.indices
+  map_same : indices_in w' q.context.indices ≡ indices_in w q.context.indices
   unfolding indices_of
   map_same =
       let O = C.ordered in
-      records-but index_of 5 q.places.indices.base q.places.indices.count K (below_rows O _ _ (le_refl _) (omega (arith, O.indices, O.lines, O.sequences)))
+      records-but index_of 5 q.context.indices.base q.context.indices.count K (below_rows O _ _ (le_refl _) (omega (arith, O.indices, O.lines, O.sequences)))
 
   text_same : ranges_at w' q.text.base q.text.count ≡ ranges_at w q.text.base q.text.count
   unfolding ranges_at
@@ -164,7 +164,7 @@ module _ {main supplementary w w' : List ℕ} {q : ImportContext} {t : StoredFil
         listless = C.listless;
       }
 
-  lines_in-same : lines_in w' q.lines q.places.indices ≡ lines_in w q.lines q.places.indices
+  lines_in-same : lines_in w' q.lines q.context.indices ≡ lines_in w q.lines q.context.indices
   unfolding lines_in
   lines_in-same = λ i. record { entries = lines_same i; files = map_same i; sequences = sequences-same i }
 
@@ -172,10 +172,10 @@ module _ {main supplementary w w' : List ℕ} {q : ImportContext} {t : StoredFil
   pub context-same : (lists addresses : List ℕ) → context_with main supplementary lists addresses w' q ≡ context_with main supplementary lists addresses w q
   context-same lists addresses = λ i. record {
     dwarf = dwarf_with main supplementary lists addresses;
-    unit = unit_here main q.unit;
+    unit = unit_here main q.context.unit;
     lines = lines_in-same i;
-    include_inlines = q.include_inlines;
-    include_call_sites = q.include_call_sites;
+    include_inlines = q.context.include_inlines;
+    include_call_sites = q.context.include_call_sites;
   }
 
 -- ---- what stretches are written to
@@ -188,11 +188,11 @@ touched-as main supplementary q t t' b r K = record { same = λ p k c. K.same p 
 
 module _ (main supplementary : List ℕ) {w w' : List ℕ} (q : ImportContext) (t : StoredFiles) where
   -- the rows of a function
-  pub touched-rows : Kept w w' q.lines.buffer (entry_size + q.lines.line_count * entry_size) → KeptBut w w' (touched main supplementary q t)
+  pub touched-rows : Kept w w' q.lines.buffer (entry_size + q.lines.lines.count * entry_size) → KeptBut w w' (touched main supplementary q t)
   unfolding touched
   touched-rows K = but_of K (there (here (le_refl _) (le_refl _)))
 
   -- the walk's part
-  pub touched-walk : Kept w w' q.ranges (walk_extent main supplementary q) → KeptBut w w' (touched main supplementary q t)
+  pub touched-walk : Kept w w' q.context.ranges (walk_extent main supplementary q) → KeptBut w w' (touched main supplementary q t)
   unfolding touched
   touched-walk K = but_of K (there (there (there (here (le_refl _) (le_refl _)))))

@@ -5,7 +5,7 @@ use mathlib.Core.List.{List, [], ◌∷◌}
 use mathlib.Core.Option.{Option, none, some}
 use Prim.Native.Nat.{ℕ, ◌+◌}
 use native.Mathlib.Omega.{arith}
-use lib.ListN.{length, take, drop}
+use lib.ListN.{take, drop}
 use Rattle.std.specs.Prelude.{Some, None}
 use Rattle.tlv.specs.declared.fields.FieldSpan.{FieldSpan}
 use Rattle.tlv.specs.Cursor.{field_here, step_at, span_of, field_from}
@@ -23,19 +23,21 @@ use Rattle.access.proofs.OwnLaws.{own-field}
 use Rattle.access.proofs.EntryPlaceLaws.{entry-list}
 use Rattle.access.proofs.ListCountLaws.{lists-other}
 use Rattle.files.specs.declared.store.StoredFiles.{StoredFiles}
-use Rattle.rnglists.specs.RangeLists.{list_ranges, DieRanges, die_ranges_by}
+use Rattle.rnglists.specs.declared.lists.ListField.{ListField}
+use Rattle.rnglists.specs.RangeLists.{ListRanges, list_ranges, DieRanges, die_ranges_by}
+use Rattle.rnglists.specs.Steps.{FieldIs}
 use Rattle.references.specs.Tables.{EntryKnown}
 use Rattle.references.proofs.ReferenceLaws.{entry-step}
 use Rattle.imports.specs.Tree.{die_ranges}
 use Rattle.imports.specs.Import.{State, import_by_failure}
 use Rattle.imports.specs.Import as import
-use Rattle.ranges.specs.RangeTable.{list_of, own_lists}
+use Rattle.ranges.specs.RangeTable.{list_at, list_of, own_lists}
 use Rattle.dies.specs.Details.{EntriesKnown, dwarf_with}
 use Rattle.dies.proofs.EntryWalkLaws.{lists-entry, lists-most}
 use Rattle.subprograms.specs.declared.model.ImportState.{ImportState}
 use Rattle.subprograms.specs.declared.model.ImportContext.{ImportContext}
 use Rattle.subprograms.specs.Contexts.{ContextIn, context_with}
-use Rattle.subprograms.specs.Steps.{sheets, memory, Imports, import_failing, import_listed, below_entry}
+use Rattle.subprograms.specs.Steps.{sheets, memory, Imports, import_failing, import_listed, ranges_listed, below_entry}
 use Rattle.subprograms.proofs.StepLaws.{grows_as}
 use Rattle.subprograms.proofs.RangesLaws.{start-placed}
 
@@ -47,18 +49,10 @@ by-given : (q : import.ImportContext) (e : Entry) (below : List Entry) (name : L
 by-given q e below name none s = refl
 by-given q e below name (some f) s = refl
 
-empty_none : (xs : List (List ℕ)) → length xs ≡ 0 → xs ≡ []
-empty_none [] h = refl
-empty_none (x ∷ xs) h = absurd (omega arith)
-
 -- a field that stands at a place
 span : (s : List ℕ) (p t start len next : ℕ) → step_at s p ≡ field_here t start len next → Some (record { tag = t; start = start; len = len; next = next }) ≡ field_from s p
 unfolding span_of
 span s p t start len next e = rw e
-
--- it is not looked for
-pub field-missing : {main : List ℕ} {at : ℕ} → own_lists main at ≡ 0 → NextOwn main at 0x1f None
-field-missing h = record { is = sym (empty_none _ h); within = tt; stands = tt }
 
 -- what the definition does with the ranges of the entry at p, wherever they come from, and with those of its fields 19 and 1a
 abbrev NamedFrom : List ℕ → List ℕ → List ℕ → List ℕ → ImportContext → List ℕ → ℕ → List ℕ → State → Outcome State
@@ -89,7 +83,7 @@ sourced {main} {supplementary} lists addresses q name p {w = w} e I =
     I
 
 module _ {main supplementary w : List ℕ} {q : ImportContext} {T : StoredFiles} {p : ℕ} (C : ContextIn main supplementary w q T)
-    (K : EntryKnown main q.unit p) where
+    (K : EntryKnown main q.context.unit p) where
   list-is : (entry_here main p).list ≡ map_option range_list_of (payload_of 0x1f (own_fields (fields (drop (p + 15) main))))
   list-is = entry-list main p _ 0x17 (p + 3) 12 (p + 15) refl (entry-step (start-placed C K) K)
 
@@ -105,7 +99,7 @@ module _ {main supplementary w : List ℕ} {q : ImportContext} {T : StoredFiles}
   from_fields lists addresses name e I = sourced lists addresses q name p (ap (die_ranges_by lists addresses (entry_here main p)) (list-none e)) I
 
   -- no entry of a unit without lists has one
-  pub own-listless : EntriesKnown main q.unit (p + 15) → q.with_lists ≡ false → own_lists main (p + 15) ≡ 0
+  pub own-listless : EntriesKnown main q.context.unit (p + 15) → q.context.with_lists ≡ false → own_lists main (p + 15) ≡ 0
   own-listless E n =
       let step = entry-step (start-placed C K) K in
       omega (
@@ -147,9 +141,13 @@ module _ {main supplementary w : List ℕ} {q : ImportContext} {T : StoredFiles}
     list-some = rw (list-is, own_is, read_is)
 
     -- from its list
-    pub named-listed : (lists addresses name : List ℕ) {t f u w' t' f' u' : List ℕ} {n : ℕ} {st r : ImportState}
+    pub named-listed : (lists addresses name : List ℕ) {t f u w' t' f' u' : List ℕ} {n : ℕ} {st r : ImportState} {list : ListField} → FieldIs main field.start list
         → Imports (import_listed (context_with main supplementary lists addresses w q) (entry_here main p) (below_entry main p) name
-        (list_of main lists addresses field.start)) (sheets main supplementary) q (memory w t f u) st (memory w' t' f' u') n r
+        (ranges_listed lists addresses list)) (sheets main supplementary) q (memory w t f u) st (memory w' t' f' u') n r
         → Imports (NamedFrom main supplementary lists addresses q name p w) (sheets main supplementary) q (memory w t f u) st (memory w' t' f' u') n r
     unfolding die_ranges list_ranges
-    named-listed lists addresses name I = sourced lists addresses q name p (ap (die_ranges_by lists addresses (entry_here main p)) list-some) I
+    named-listed lists addresses name {list = list} F I =
+        let whole : ranges_listed lists addresses list ≡ list_of main lists addresses field.start =
+        λ i. list_at lists addresses (F.addresses i) (F.size i) (F.offset i) (F.base i) in
+        sourced lists addresses q name p (ap (die_ranges_by lists addresses (entry_here main p)) list-some)
+        (grows_as (λ s. ap (λ (l : ListRanges). import_listed (context_with main supplementary lists addresses w q) (entry_here main p) (below_entry main p) name l s) (sym whole)) I)

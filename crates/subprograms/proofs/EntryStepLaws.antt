@@ -80,7 +80,7 @@ module _ (x : import.ImportContext) (e : Entry) (below : List Entry) (s : State)
 
 -- ---- the entry and its name, and what the search for it has written
 
-module _ {main supplementary w : List ℕ} {q : ImportContext} {p : ℕ} {table : StoredFiles} (C : ContextIn main supplementary w q table) (K : EntryKnown main q.unit p) where
+module _ {main supplementary w : List ℕ} {q : ImportContext} {p : ℕ} {table : StoredFiles} (C : ContextIn main supplementary w q table) (K : EntryKnown main q.context.unit p) where
   accepted : Accepted main
   accepted = record { number = C.tables.main-index.number; is = C.tables.main-index.accepted }
 
@@ -91,35 +91,35 @@ module _ {main supplementary w : List ℕ} {q : ImportContext} {p : ℕ} {table 
     main-units : All UnitAccepted (units main)
     main-units = accepting main C.tables.main-index.number b C.tables.main-index.accepted
 
-    unit-fine : UnitAccepted (unit_here main q.unit)
+    unit-fine : UnitAccepted (unit_here main q.context.unit)
     unfolding map_option
     unit-fine =
         let k = C.unit.number in
-        given-some UnitAccepted (at (units main) k) (unit_here main q.unit) (all-at UnitAccepted (units main) k main-units) (units-at main k ∙ ap (map_option (unit_here main)) C.unit.is)
+        given-some UnitAccepted (at (units main) k) (unit_here main q.context.unit) (all-at UnitAccepted (units main) k main-units) (units-at main k ∙ ap (map_option (unit_here main)) C.unit.is)
 
-    entry-fine : EntryAccepted (unit_here main q.unit).length (entry_here main p)
+    entry-fine : EntryAccepted (unit_here main q.context.unit).length (entry_here main p)
     entry-fine =
-        any_one (unit_here main q.unit).entries (λ x at same. rw same at at) unit-fine.entries
+        any_one (unit_here main q.context.unit).entries (λ x at same. rw same at at) unit-fine.entries
         (known-entry C.tables.main-index.number C.tables.main-index.accepted K)
 
     -- a name is a string, and so shorter than a field
-    pub name-fits : {st : ℕ} {name w₁ : List ℕ} → Resolved main supplementary q.places.tables w w₁ (resolve_name (dwarf_of main supplementary) (unit_here main q.unit) (entry_here main p)) st name
+    pub name-fits : {st : ℕ} {name w₁ : List ℕ} → Resolved main supplementary q.context.tables w w₁ (resolve_name (dwarf_of main supplementary) (unit_here main q.context.unit) (entry_here main p)) st name
         → st ≡ 0 → 16 + length name < 65536
     name-fits {st} {name} R z =
         let both : DwarfAccepted (dwarf_of main supplementary) = record { main = main-units; supplementary = accepting supplementary C.tables.supplementary-index.number b' C.tables.supplementary-index.accepted } in
-        let s = name-string (dwarf_of main supplementary) (unit_here main q.unit) (entry_here main p) name both unit-fine entry-fine (given-done st name R.is z) in
+        let s = name-string (dwarf_of main supplementary) (unit_here main q.context.unit) (entry_here main p) name both unit-fine entry-fine (given-done st name R.is z) in
         omega (arith, s.1)
 
 module _ {main supplementary w w₁ : List ℕ} {q : ImportContext} {table : StoredFiles} (C : ContextIn main supplementary w q table)
-    (R : Kept w w₁ q.places.tables.keys (keys_extent main supplementary q.places.tables)) where
+    (R : Kept w w₁ q.context.tables.keys (keys_extent main supplementary q.context.tables)) where
   -- it is in the walk's part
   walk-written : KeptBut w w₁ (touched main supplementary q table)
   walk-written =
       let O = C.ordered in
       touched-walk main supplementary q table
-      (kept-wide q.ranges (walk_extent main supplementary q) R (omega (arith, O.ranges, O.stack, O.sites)) (omega (arith, O.ranges, O.stack, O.sites)))
+      (kept-wide q.context.ranges (walk_extent main supplementary q) R (omega (arith, O.ranges, O.stack, O.sites)) (omega (arith, O.ranges, O.stack, O.sites)))
 
-  table_below : table.base + extent table ≤ q.places.tables.keys
+  table_below : table.base + extent table ≤ q.context.tables.keys
   table_below =
       let O = C.ordered in
       omega (arith, O.table, O.indices, O.lines, O.sequences, O.buffer, O.text, O.spans, O.ranges, O.stack, O.sites)
@@ -135,7 +135,7 @@ module _ {main supplementary w w₁ : List ℕ} {q : ImportContext} {table : Sto
 
 -- ---- the step
 
-module _ {main supplementary w : List ℕ} (lists addresses : List ℕ) {q : ImportContext} {p : ℕ} (st : ImportState) (C : ContextIn main supplementary w q st.table) (K : EntryKnown main q.unit p) where
+module _ {main supplementary w : List ℕ} (lists addresses : List ℕ) {q : ImportContext} {p : ℕ} (st : ImportState) (C : ContextIn main supplementary w q st.table) (K : EntryKnown main q.context.unit p) where
   -- another entry than a subprogram
   pub entry-passed : {t f u : List ℕ} → (le_at 2 main (p + 13) ≡ 0x2e → ⊥) → length t < top → length f < top → length u < top
       → Imports (import_entry (context_with main supplementary lists addresses w q) (entry_here main p) (below_entry main p)) (sheets main supplementary) q (memory w t f u) st (memory w t f u) 0 st
@@ -144,10 +144,10 @@ module _ {main supplementary w : List ℕ} (lists addresses : List ℕ) {q : Imp
       (grows_none C.files small tiny few)
 
   module _ (is : le_at 2 main (p + 13) ≡ 0x2e) {w₁ name : List ℕ} {st' : ℕ}
-      (R : Resolved main supplementary q.places.tables w w₁ (resolve_name (dwarf_of main supplementary) (unit_here main q.unit) (entry_here main p)) st' name) where
-    same_name : resolve_name (dwarf_with main supplementary lists addresses) (unit_here main q.unit) (entry_here main p)
-        ≡ resolve_name (dwarf_of main supplementary) (unit_here main q.unit) (entry_here main p)
-    same_name = name-same lists addresses (dwarf_of main supplementary) (unit_here main q.unit) (entry_here main p)
+      (R : Resolved main supplementary q.context.tables w w₁ (resolve_name (dwarf_of main supplementary) (unit_here main q.context.unit) (entry_here main p)) st' name) where
+    same_name : resolve_name (dwarf_with main supplementary lists addresses) (unit_here main q.context.unit) (entry_here main p)
+        ≡ resolve_name (dwarf_of main supplementary) (unit_here main q.context.unit) (entry_here main p)
+    same_name = name-same lists addresses (dwarf_of main supplementary) (unit_here main q.context.unit) (entry_here main p)
 
     pub name-refused : {t f u : List ℕ} → (st' ≡ 0 → ⊥)
         → Imports (import_entry (context_with main supplementary lists addresses w q) (entry_here main p) (below_entry main p)) (sheets main supplementary) q (memory w t f u) st (memory w₁ t f u) st' st

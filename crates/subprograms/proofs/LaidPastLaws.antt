@@ -2,11 +2,10 @@
 use mathlib.Core.Path.{◌≡◌, refl, sym, ap, ◌∙◌}
 use mathlib.Core.Bool.{Bool, true, false, ◌||◌}
 use mathlib.Core.List.{List, [], ◌∷◌, ◌++◌}
-use Prim.Native.Nat.{ℕ, ◌+◌, ◌-◌, ◌*◌, ◌/◌, ◌≤◌, ◌<◌}
+use Prim.Native.Nat.{ℕ, ◌+◌, ◌*◌, ◌<◌}
 use native.Mathlib.Omega.{arith}
-use lib.Dec.{ltb}
 use lib.ListN.{length, length-append}
-use borrow.Author.Tests.{lt-ltb, le-ltb}
+use borrow.Author.Tests.{lt-ltb}
 use Rattle.tlv.specs.declared.model.AddressRange.{AddressRange}
 use Rattle.tlv.specs.declared.model.LineEntry.{LineEntry}
 use Rattle.tlv.specs.Bytes.{bytes_of}
@@ -50,13 +49,6 @@ pub lines-length : (ls : List LineEntry) → length (lines_bytes ls) ≡ 21 * le
 unfolding each_of
 lines-length [] = refl
 lines-length (l ∷ ls) = omega (arith, length-append (encode 0x42 (row_payload l)) (lines_bytes ls), row-length l, lines-length ls)
-
--- the test that the code makes for rows
-pub rows_past-test : (at n : ℕ) → at ≤ top → ltb ((top - at) / 21) n ≡ is_past at (21 * n)
-rows_past-test at n h =
-    by_less (ltb ((top - at) / 21) n ≡ is_past at (21 * n)) top (at + 21 * n)
-    (λ l. rw (lt-ltb ((top - at) / 21) n (omega arith), lt-ltb top (at + 21 * n) l))
-    (λ l. rw (le-ltb ((top - at) / 21) n (omega arith), le-ltb top (at + 21 * n) l))
 
 -- ---- one after the other
 

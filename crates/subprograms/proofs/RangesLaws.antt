@@ -3,10 +3,10 @@ use mathlib.Core.Path.{◌≡◌, refl, sym, ap, ◌∙◌}
 use mathlib.Core.Bool.{Bool, true, false, cond}
 use mathlib.Core.List.{List, [], ◌∷◌, map, append-nil}
 use mathlib.Core.Option.{Option, none, some}
-use Prim.Native.Nat.{ℕ, ◌+◌, ◌-◌, ◌≤◌, ◌<◌}
+use Prim.Native.Nat.{ℕ, zero, suc, ◌+◌, ◌-◌, ◌≤◌, ◌<◌}
 use native.Mathlib.Omega.{arith}
 use lib.Dec.{eqb}
-use lib.ListN.{length, take, drop, length-take}
+use lib.ListN.{length, take, drop, length-take, length-drop}
 use borrow.Author.Tests.{eq-eqb, ne_eqb}
 use Rattle.std.specs.Prelude.{Some, None}
 use Rattle.tlv.specs.declared.fields.FieldSpan.{FieldSpan}
@@ -70,7 +70,7 @@ module _ (q : import.ImportContext) (e : Entry) (below : List Entry) (name : Lis
 -- ---- the fields
 
 -- an entry, by the place of its field 17
-module _ {main supplementary w : List ℕ} {q : ImportContext} {T : StoredFiles} {p : ℕ} (C : ContextIn main supplementary w q T) (K : EntryKnown main q.unit p) where
+module _ {main supplementary w : List ℕ} {q : ImportContext} {T : StoredFiles} {p : ℕ} (C : ContextIn main supplementary w q T) (K : EntryKnown main q.context.unit p) where
   pub start-placed : Placed main 0
   start-placed = placed-start main C.tables.main-index.number C.tables.main-index.accepted
 
@@ -130,7 +130,7 @@ pub record Going (main supplementary lists addresses : List ℕ) (q : ImportCont
       → Imports (RangesFrom main supplementary lists addresses q name p w₀ (entry_here main p).ranges) (sheets main supplementary) q (memory w₀ t₀ f₀ u₀) st₀ (memory w' t' f' u') n r
 
 module _ {main supplementary w₀ : List ℕ} {q : ImportContext} {p : ℕ} {st₀ : ImportState} (lists addresses name t₀ f₀ u₀ : List ℕ) where
-  pub going_start : ContextIn main supplementary w₀ q st₀.table → EntryKnown main q.unit p → Placed main (p + 15)
+  pub going_start : ContextIn main supplementary w₀ q st₀.table → EntryKnown main q.context.unit p → Placed main (p + 15)
       → Going main supplementary lists addresses q name p w₀ t₀ f₀ u₀ st₀ w₀ t₀ f₀ u₀ st₀ (p + 15)
   going_start C K h = record {
     placed = h;
@@ -195,6 +195,11 @@ pub reason-put : {at r : ℕ} {u u' : List ℕ} (stopped : Bool) (reason : List 
 unfolding warnings_bytes each_of
 reason-put stopped reason P = put_as (append-nil (encode 0x46 (warning_payload (malformed_ranges stopped reason)))) P
 
+take_twice : (n : ℕ) (xs : List ℕ) → take n (take n xs) ≡ take n xs
+take_twice zero xs = refl
+take_twice (suc n) [] = refl
+take_twice (suc n) (x ∷ xs) = ap (λ ys. x ∷ ys) (take_twice n xs)
+
 -- the reason, as the code has it
 abbrev reason_at : List ℕ → ℕ → ℕ → List ℕ
 reason_at main start len = take (start + len - (start + 1)) (drop (start + 1) main)
@@ -211,6 +216,18 @@ module _ {main : List ℕ} {at : ℕ} (h : Placed main at) {field : FieldSpan} (
   pub reason-short : 1 + length (reason_at main field.start field.len) < 65536
   reason-short = let w = named-within in rw length-take (omega arith)
 
+  -- of its payload
+  module _ {xs : List ℕ} (is : xs ≡ take field.len (drop field.start main)) where
+    pub payload-length : length xs ≡ field.len
+    payload-length = omega (arith, named-within, ap length is, length-take field.len (drop field.start main), length-drop field.start main)
+
+    pub reason-part : take (length xs - 1) (drop 1 xs) ≡ reason_at main field.start field.len
+    reason-part =
+        let part : drop 1 xs ≡ take (field.len - 1) (drop (field.start + 1) main) = ap (drop 1) is ∙ drop_part main field.start field.len 1 in
+        let same : field.len - 1 ≡ field.start + field.len - (field.start + 1) = omega arith in
+        (λ i. take (payload-length i - 1) (part i)) ∙ take_twice (field.len - 1) (drop (field.start + 1) main)
+        ∙ ap (λ n. take n (drop (field.start + 1) main)) same
+
   -- the failure that the field says
   failure-here : (stage : ℕ) → stage ≡ le_at 1 main field.start → failure_of (take field.len (drop field.start main)) ≡ record { stage = stage; reason = reason_at main field.start field.len }
   unfolding failure_of
@@ -223,7 +240,7 @@ module _ {main : List ℕ} {at : ℕ} (h : Placed main at) {field : FieldSpan} (
       same = omega arith
 
 -- the failure of the entry
-module _ {main supplementary w : List ℕ} {q : ImportContext} {T : StoredFiles} {p : ℕ} (C : ContextIn main supplementary w q T) (K : EntryKnown main q.unit p)
+module _ {main supplementary w : List ℕ} {q : ImportContext} {T : StoredFiles} {p : ℕ} (C : ContextIn main supplementary w q T) (K : EntryKnown main q.context.unit p)
   where
     failure-none : NextOwn main (p + 15) 0x1a None → (entry_here main p).failure ≡ none
     unfolding payload_of map_option
@@ -234,7 +251,7 @@ module _ {main supplementary w : List ℕ} {q : ImportContext} {T : StoredFiles}
     unfolding payload_of map_option
     failure-some h field stage N es = rw (failure-is C K, ← N.is) (ap some (failure-here h N stage es))
 
-module _ {main supplementary w : List ℕ} {q : ImportContext} {st : ImportState} {p : ℕ} (lists addresses name : List ℕ) (C : ContextIn main supplementary w q st.table) (K : EntryKnown main q.unit p)
+module _ {main supplementary w : List ℕ} {q : ImportContext} {st : ImportState} {p : ℕ} (lists addresses name : List ℕ) (C : ContextIn main supplementary w q st.table) (K : EntryKnown main q.context.unit p)
     (h : Placed main (p + 15)) where
   pub named-whole : {t f u w' t' f' u' : List ℕ} {n : ℕ} {r : ImportState} → NextOwn main (p + 15) 0x1a None
       → Imports (RangesFrom main supplementary lists addresses q name p w (entry_here main p).ranges) (sheets main supplementary) q (memory w t f u) st (memory w' t' f' u') n r

@@ -1,2 +1,2 @@
-mod CandidateLaws
+pub mod CandidateLaws
 pub mod NextEntryLaws

@@ -1,3 +1,3 @@
-mod DeclaredLineLaws
-mod FunctionLineLaws
-mod SequenceLaws
+pub mod DeclaredLineLaws
+pub mod FunctionLineLaws
+pub mod SequenceLaws

@@ -1,3 +1,3 @@
-mod DetailStepLaws
-mod RangeStepLaws
-mod SectionStepLaws
+pub mod DetailStepLaws
+pub mod RangeStepLaws
+pub mod SectionStepLaws

@@ -1,1 +1,1 @@
-mod ListStepLaws
+pub mod ListStepLaws

@@ -1,1 +1,1 @@
-mod UnitLaws
+pub mod UnitLaws

@@ -19,7 +19,10 @@ use Rattle.access.specs.Places.{entry_here, unit_here}
 use Rattle.lines.specs.Files.{FileTable}
 use Rattle.lines.specs.Rows.{for_range}
 use Rattle.files.specs.Store.{table_of, Grown}
+use Rattle.rnglists.specs.declared.lists.ListField.{ListField}
 use Rattle.rnglists.specs.RangeLists.{ListRanges, failure_by, decimal}
+use Rattle.rnglists.specs.Sizes.{width_of}
+use Rattle.ranges.specs.RangeTable.{list_at}
 use Rattle.references.specs.Search.{resolve_declaration_line}
 use Rattle.imports.specs.Tree.{Descendants}
 use Rattle.imports.specs.Import.{State, ImportContext, statement_sequence_offset, sequence_warning, declaration_if, lines_with}
@@ -121,7 +124,7 @@ LinesTo F q w t st w' t' r =
 pub record ImportsDetails (o : Outcome Descendants) (main supplementary : List ℕ) (q : Context) (name : List ℕ) (range : AddressRange) (rows : ℕ)
     (w t u : List ℕ) (st : ImportState) (w' t' u' : List ℕ) (n : ℕ) (r : ImportState) : Type 0 where
   pub table : r.table ≡ st.table
-  pub rest : Kept w w' q.ranges (walk_extent main supplementary q)
+  pub rest : Kept w w' q.context.ranges (walk_extent main supplementary q)
   pub descendants : Descendants
   pub ok : n ≡ 0 → o ≡ done descendants
   pub laid : n ≡ 0 → Put st.at (detail_bytes name range descendants) t t' r.at
@@ -224,6 +227,10 @@ import_failing q e below name rs none s = import_ranges q e below name rs s
 import_failing q e below name rs (some f) s =
     cond (eqb f.stage 0) (done (rejected (malformed_ranges false f.reason ∷ []) s))
     (import_ranges q e below name rs s >>= λ t. done (rejected (malformed_ranges true f.reason ∷ []) t))
+
+-- the ranges of the list that a field names
+abbrev pub ranges_listed : List ℕ → List ℕ → ListField → ListRanges
+ranges_listed lists addresses f = list_at lists addresses f.addresses (width_of f.size) f.offset f.base
 
 -- of a list, whose fault is a failure of stage 1
 abbrev pub import_listed : ImportContext → Entry → List Entry → List ℕ → ListRanges → State → Outcome State

@@ -8,80 +8,83 @@ ghost use Rattle.subprograms.specs.Entries.{SubprogramIn};
 ghost use Rattle.subprograms.specs.Outputs.{SameOutputs};
 ghost use Rattle.subprograms.specs.Steps.{below_entry, DetailsTo, ImportsTo};
 
-use crate::function_lines::function_lines;
-use crate::model::{ImportContext, ImportState, Outputs, Subprogram, count_function};
+use crate::function_lines::FoundLines;
+use crate::model::{ImportContext, ImportState, Outputs, Subprogram};
 use buffers::output::put_function;
 use dies::details::Details;
-use dies::dies::extract_subprogram_details;
 use dies::past::is_past;
+use ranges::ranges::RANGE_RECORD;
 use tlv::bytes::Number;
 use tlv::model::AddressRange;
 use tlv::refusal::Refusal;
-use tlv::tags::ENTRY_DEPTH;
+use tlv::tags::{ENTRY_DEPTH, FIELD_HEAD};
 
 // Bytes of a record's head besides the name.
-const HEAD_LEAST: usize = 19;
+const HEAD_LEAST: usize = FIELD_HEAD + RANGE_RECORD;
 
-// The nodes and call sites of a record whose `rows` rows are written, and its count.
-fn import_details(
-    q: ImportContext,
-    s: Subprogram,
-    range: AddressRange,
-    rows: usize,
-    work: &mut [u8],
-    t: &mut Outputs,
-    mut st: ImportState,
-) -> Result<ImportState, Refusal>
-    requires context_in { ContextIn (main_of q) (supplementary_of q) work.old q st.table }
-    requires subprogram_in { SubprogramIn (main_of q) q.unit s }
-    ensures is { DetailsTo (extract_subprogram_details (detail_context (context_now work.old q.entry) range)
-        (below_entry (main_of q.entry) s.entry.place))
-        q.entry s.entry.name.now range rows work.old t.old st work.new t.new result }
-    ensures files { t.new.files.now ≡ t.old.files.now }
-    ensures same { SameOutputs t.old t.new }
-{
-    let d = Details {
-        tables: q.places.tables,
-        lists: q.lists,
-        name: s.name,
-        depth: u16::read(q.places.tables.sheets.main, s.place + ENTRY_DEPTH),
-        unit: q.unit,
-        indices: q.places.indices,
-        range,
-        include_inlines: q.include_inlines,
-        include_call_sites: q.include_call_sites,
-        ranges: q.ranges,
-        stack: q.stack,
-        sites: q.sites,
-        with_lists: q.with_lists,
-    };
-    let x = extract_subprogram_details(d, work, t.records, t.warnings, s.below, st.at, st.warned)?;
-    st.at = x.at;
-    st.warned = x.warned;
-    st.stats = count_function(st.stats, rows, x.nodes);
-    st.past = st.past || x.past;
-    Ok(st)
-}
+impl ImportContext<'_> {
+    // The nodes and call sites of a record whose rows are written, and its count.
+    fn import_details(
+        self,
+        subprogram: Subprogram,
+        range: AddressRange,
+        lined: FoundLines,
+        work: &mut [u8],
+        outputs: &mut Outputs,
+    ) -> Result<ImportState, Refusal>
+        requires context_in { ContextIn (main_of self) (supplementary_of self) work.old self lined.state.table }
+        requires subprogram_in { SubprogramIn (main_of self) self.context.unit subprogram }
+        ensures is { DetailsTo (extract_subprogram_details (detail_context (context_now work.old self.entry) range)
+            (below_entry (main_of self.entry) subprogram.entry.place))
+            self.entry subprogram.entry.name.now range lined.count work.old outputs.old lined.state work.new outputs.new result }
+        ensures files { outputs.new.files.now ≡ outputs.old.files.now }
+        ensures same { SameOutputs outputs.old outputs.new }
+    {
+        let mut state = lined.state;
+        let details = Details {
+            context: self.context,
+            name: subprogram.name,
+            depth: u16::read(
+                self.context.tables.sheets.main,
+                subprogram.place + ENTRY_DEPTH,
+            ),
+            range,
+        };
+        let extracted = details.extract_subprogram_details(
+            work,
+            outputs.records,
+            outputs.warnings,
+            subprogram.below,
+            state.at,
+            state.warned,
+        )?;
+        state.at = extracted.at;
+        state.warned = extracted.warned;
+        state.stats.count_function(lined.count, extracted.nodes);
+        state.past = state.past || extracted.past;
+        Ok(state)
+    }
 
-// The record of a live range of a subprogram.
-pub fn import_range(
-    q: ImportContext,
-    s: Subprogram,
-    range: AddressRange,
-    work: &mut [u8],
-    t: &mut Outputs,
-    mut st: ImportState,
-) -> Result<ImportState, Refusal>
-    requires context_in { ContextIn (main_of q) (supplementary_of q) work.old q st.table }
-    requires subprogram_in { SubprogramIn (main_of q) q.unit s }
-    ensures is { ImportsTo (import_range (context_now work.old q.entry) (entry_here (main_of q.entry) s.entry.place)
-        (below_entry (main_of q.entry) s.entry.place) s.entry.name.now range)
-        q.entry work.old t.old st work.new t.new result }
-    ensures same { SameOutputs t.old t.new }
-{
-    let past = is_past(st.at, HEAD_LEAST + s.name.len());
-    st.past = st.past || past;
-    st.at = put_function(t.records, st.at, range, s.name);
-    let lined = function_lines(q, s.place, range, work, t, st)?;
-    import_details(q, s, range, lined.count, work, t, lined.state)
+    // The record of a live range of a subprogram.
+    pub fn import_range(
+        self,
+        subprogram: Subprogram,
+        range: AddressRange,
+        work: &mut [u8],
+        outputs: &mut Outputs,
+        mut state: ImportState,
+    ) -> Result<ImportState, Refusal>
+        requires context_in { ContextIn (main_of self) (supplementary_of self) work.old self state.table }
+        requires subprogram_in { SubprogramIn (main_of self) self.context.unit subprogram }
+        ensures is { ImportsTo (import_range (context_now work.old self.entry) (entry_here (main_of self.entry) subprogram.entry.place)
+            (below_entry (main_of self.entry) subprogram.entry.place) subprogram.entry.name.now range)
+            self.entry work.old outputs.old state work.new outputs.new result }
+        ensures same { SameOutputs outputs.old outputs.new }
+    {
+        let past = is_past(state.at, HEAD_LEAST + subprogram.name.len());
+        state.past = state.past || past;
+        state.at = put_function(outputs.records, state.at, range, subprogram.name);
+        let lined = self.function_lines(subprogram.place, range, work, outputs, state)?;
+        self.import_details(subprogram, range, lined, work, outputs)
+    }
 }

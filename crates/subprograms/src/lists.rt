@@ -1,23 +1,20 @@
 // Range lists of subprograms (document 02, E9).
-ghost use Rattle.std.specs.Prelude.{◌≡◌, true, false, ◌⊎◌, ◌+◌, ◌≤◌, length};
-ghost use Rattle.tlv.specs.Tags.{list_tag, tray_warning_tag, entry_whole};
-ghost use Rattle.tlv.specs.Bytes.{le_at};
+ghost use Rattle.std.specs.Prelude.{◌≡◌, true, false};
+ghost use Rattle.tlv.specs.Tags.{list_tag, tray_warning_tag};
 ghost use Rattle.tlv.specs.Fields.{encode};
-ghost use Rattle.tlv.specs.Grammar.{list_size_at, list_field_size};
 ghost use Rattle.tlv.specs.Checked.{Placed};
 ghost use Rattle.buffers.specs.Buffer.{Put};
 ghost use Rattle.buffers.specs.Output.{warning_payload, malformed_ranges};
 ghost use Rattle.access.specs.Access.{NextOwn};
 ghost use Rattle.access.specs.Places.{entry_here};
 ghost use Rattle.rnglists.specs.RangeLists.{decimal};
-ghost use Rattle.ranges.specs.RangeTable.{own_lists, list_of};
-ghost use Rattle.dies.specs.Details.{EntriesKnown};
+ghost use Rattle.ranges.specs.RangeTable.{own_lists};
 ghost use Rattle.subprograms.specs.Contexts.{ContextIn, main_of, supplementary_of, context_now};
 ghost use Rattle.subprograms.specs.Entries.{SubprogramIn};
 ghost use Rattle.subprograms.specs.Outputs.{SameOutputs};
-ghost use Rattle.subprograms.specs.Steps.{RejectsList, below_entry, import_listed, ImportsTo};
+ghost use Rattle.subprograms.specs.Steps.{RejectsList, below_entry, import_listed, ranges_listed, ImportsTo};
 
-use crate::candidates::{import_candidate, next_entry, reject};
+use crate::candidates::next_entry;
 use crate::model::{ImportContext, ImportState, Outputs, Subprogram};
 use access::access::next_own;
 use buffers::output::put_malformed_ranges;
@@ -40,65 +37,71 @@ fn put_fault(warnings: &mut [u8], at: usize, n: u8) -> usize
 }
 
 // The state after the fault of a list, which warns and is one rejected range.
-fn reject_list(warnings: &mut [u8], mut st: ImportState, n: u8) -> ImportState
-    ensures { RejectsList st n warnings.old warnings.new result }
+fn reject_list(warnings: &mut [u8], mut state: ImportState, n: u8) -> ImportState
+    ensures { RejectsList state n warnings.old warnings.new result }
 {
-    st.warned = put_fault(warnings, st.warned, n);
-    reject(st)
-}
-
-// The ranges of the list of a subprogram, whose field 1f has its payload at `start`, and the list's fault, which warns behind them.
-pub fn import_list(
-    q: ImportContext,
-    s: Subprogram,
-    start: usize,
-    work: &mut [u8],
-    t: &mut Outputs,
-    st: ImportState,
-) -> Result<ImportState, Refusal>
-    requires context_in { ContextIn (main_of q) (supplementary_of q) work.old q st.table }
-    requires subprogram_in { SubprogramIn (main_of q) q.unit s }
-    requires placed { (Placed (main_of q) (s.place + entry_whole)) × EntriesKnown (main_of q) q.unit (s.place + entry_whole) }
-    requires list_field_size_in_bounds { start + list_field_size ≤ length (main_of q) }
-    requires fact { (le_at 1 (main_of q) (start + list_size_at) ≡ 4) ⊎ (le_at 1 (main_of q) (start + list_size_at) ≡ 8) }
-    ensures is { ImportsTo (import_listed (context_now work.old q.entry) (entry_here (main_of q.entry) s.entry.place)
-        (below_entry (main_of q.entry) s.entry.place) s.entry.name.now
-        (list_of (main_of q.entry) q.entry.lists.lists.now q.entry.lists.addresses.now start))
-        q.entry work.old t.old st work.new t.new result }
-    ensures same { SameOutputs t.old t.new }
-{
-    let main = q.places.tables.sheets.main;
-    let list = ListField::read(main, start);
-    let known = Subprogram {
-        name: s.name,
-        place: s.place,
-        below: next_entry(main, s.below),
-    };
-    let mut r = st;
-    let mut at = list.offset as usize;
-    let mut base = list.base;
-    // Stays a loop: the list's own bytes move the place and the base, and a fault ends it too.
-    loop {
-        match q.lists.next_range(list.addresses, list.size, at, base) {
-            Ok(None) => return Ok(r),
-            Err(e) => return Ok(reject_list(t.warnings, r, e.number())),
-            Ok(Some(given)) => {
-                r = import_candidate(q, known, given.range, given.dead, work, t, r)?;
-                at = given.next;
-                base = given.base;
-            }
-        }
-    }
+    state.warned = put_fault(warnings, state.warned, n);
+    state.rejected()
 }
 
 // The field 1f of the entry whose fields begin at a place; it is looked for only where the main sheet has one.
+// Stays beside the same look in `ranges::inlined::inline_ranges`: one function for both would spare that one an `if`, and ask it for these two facts again.
 pub fn list_field(main: &[u8], with_lists: bool, at: usize) -> Option<FieldSpan>
     requires placed { Placed main.now at }
-    requires at_value { with_lists ≡ false → own_lists main.now at ≡ 0 }
+    requires listless { with_lists ≡ false → own_lists main.now at ≡ 0 }
     ensures { NextOwn main.now at list_tag result }
 {
     if with_lists {
         return next_own(main, at, LIST_TAG);
     }
     None
+}
+
+impl ImportContext<'_> {
+    // The ranges of the list of a subprogram, and the list's fault, which warns behind them.
+    pub fn import_list(
+        self,
+        subprogram: Subprogram,
+        list: ListField,
+        work: &mut [u8],
+        outputs: &mut Outputs,
+        mut state: ImportState,
+    ) -> Result<ImportState, Refusal>
+        requires context_in { ContextIn (main_of self) (supplementary_of self) work.old self state.table }
+        requires subprogram_in { SubprogramIn (main_of self) self.context.unit subprogram }
+        ensures is { ImportsTo (import_listed (context_now work.old self.entry) (entry_here (main_of self.entry) subprogram.entry.place)
+            (below_entry (main_of self.entry) subprogram.entry.place) subprogram.entry.name.now
+            (ranges_listed self.entry.context.lists.lists.now self.entry.context.lists.addresses.now list))
+            self.entry work.old outputs.old state work.new outputs.new result }
+        ensures same { SameOutputs outputs.old outputs.new }
+    {
+        let main = self.context.tables.sheets.main;
+        let mut known = subprogram;
+        known.below = next_entry(main, known.below);
+        let mut at = list.offset as usize;
+        let mut base = list.base;
+        // Stays a loop: the list's own bytes move the place and the base, and a fault ends it too.
+        loop {
+            match self
+                .context
+                .lists
+                .next_range(list.addresses, list.size, at, base)
+            {
+                Ok(None) => return Ok(state),
+                Err(e) => return Ok(reject_list(outputs.warnings, state, e.number())),
+                Ok(Some(given)) => {
+                    state = self.import_candidate(
+                        known,
+                        given.range,
+                        given.dead,
+                        work,
+                        outputs,
+                        state,
+                    )?;
+                    at = given.next;
+                    base = given.base;
+                }
+            }
+        }
+    }
 }

@@ -1,16 +1,17 @@
 // What an import counts and carries along.
 ghost use Rattle.std.specs.Prelude.{◌≡◌, ◌+◌, ◌≤◌, ◌<◌, length};
 ghost use Rattle.buffers.specs.Buffer.{top};
+ghost use Rattle.subprograms.specs.Outputs.{Filled};
 ghost use Rattle.subprograms.specs.Stats.{stats_of, with_function, with_rejected};
 
-use declarations::declaring::Places;
+use buffers::table::Stored;
+use dies::details::UnitContext;
 use files::store::StoredFiles;
-use ranges::ranges::StoredRanges;
-use rnglists::lists::RangeLists;
 use rows::unit_lines::StoredLines;
+use tlv::model::AddressRange;
 
-// The statistics of document 01; each stays at its largest value.
-#[derive(Clone, Copy, Debug, PartialEq, Eq)]
+// The statistics of document 01, at first all 0; each stays at its largest value.
+#[derive(Clone, Copy, Debug, Default, PartialEq, Eq)]
 pub struct ConversionStats {
     pub functions: u64,
     pub line_rows: u64,
@@ -18,27 +19,37 @@ pub struct ConversionStats {
     pub rejected_ranges: u64,
 }
 
-// What is the same for every subprogram of a unit: the places of the searches with both sheets, the range lists, the places of the unit, of its lines and
-// of its executable ranges, the places of the walk below a subprogram, the two switches, and whether the main sheet has range lists.
-// Stays bare: it holds whole sections, which no program prints.
-#[derive(Clone, Copy)]
+impl ConversionStats {
+    // A record with so many rows and nodes below its root is counted.
+    pub fn count_function(&mut self, rows: usize, nodes: usize)
+        ensures { stats_of self.new ≡ with_function rows nodes (stats_of self.old) }
+    {
+        self.functions = self.functions.saturating_add(1);
+        self.line_rows = self.line_rows.saturating_add(rows as u64);
+        self.inline_nodes = self.inline_nodes.saturating_add(nodes as u64);
+    }
+
+    // A rejected range is counted.
+    pub fn count_rejected(&mut self)
+        ensures { stats_of self.new ≡ with_rejected (stats_of self.old) }
+    {
+        self.rejected_ranges = self.rejected_ranges.saturating_add(1);
+    }
+}
+
+// What is the same for every subprogram of a unit: what the walk below each is given, the unit's lines and its executable ranges, and the place and the
+// bytes of the room for another unit that a declaration leads to.
+#[derive(Clone, Copy, Debug)]
 pub struct ImportContext<'a> {
-    pub places: Places<'a>,
-    pub lists: RangeLists<'a>,
-    pub unit: usize,
+    pub context: UnitContext<'a>,
     pub lines: StoredLines,
-    pub text: StoredRanges,
-    pub ranges: usize,
-    pub stack: usize,
-    pub sites: usize,
-    pub include_inlines: bool,
-    pub include_call_sites: bool,
-    pub with_lists: bool,
+    pub text: Stored<AddressRange>,
+    pub spans: usize,
+    pub room: usize,
 }
 
 // A subprogram: its name, which is shorter than a field, the place of its entry, and one from which the entries below it are looked for.
-// Stays bare: no program prints it.
-#[derive(Clone, Copy)]
+#[derive(Clone, Copy, Debug)]
 pub struct Subprogram<'a> {
     pub name: &'a [u8],
     pub place: usize,
@@ -47,11 +58,22 @@ pub struct Subprogram<'a> {
 }
 
 // What is written besides the work slice: the three output buffers.
-#[derive(Drop)]
+#[derive(Debug, Drop)]
 pub struct Outputs<'a> {
     pub records: &'a mut [u8],
     pub files: &'a mut [u8],
     pub warnings: &'a mut [u8],
+}
+
+impl<'a> Outputs<'a> {
+    // All three hold a byte only.
+    pub fn fill(&mut self, byte: u8)
+        ensures { Filled byte self.old self.new }
+    {
+        self.records.fill(byte);
+        self.files.fill(byte);
+        self.warnings.fill(byte);
+    }
 }
 
 // What changes from range to range: the file table, the places in the records and the warnings, the statistics, and whether the records pass the largest place.
@@ -63,38 +85,4 @@ pub struct ImportState {
     pub stats: ConversionStats,
     pub past: bool,
     ghost within: { (at ≤ top) × (warned ≤ top) },
-}
-
-// No statistics yet.
-pub fn no_stats() -> ConversionStats
-    ensures { result ≡ record { functions = 0; line_rows = 0; inline_nodes = 0; rejected_ranges = 0 } }
-{
-    ConversionStats {
-        functions: 0,
-        line_rows: 0,
-        inline_nodes: 0,
-        rejected_ranges: 0,
-    }
-}
-
-// A record with so many rows and nodes below its root is counted.
-pub fn count_function(s: ConversionStats, rows: usize, nodes: usize) -> ConversionStats
-    ensures { stats_of result ≡ with_function rows nodes (stats_of s) }
-{
-    ConversionStats {
-        functions: s.functions.saturating_add(1),
-        line_rows: s.line_rows.saturating_add(rows as u64),
-        inline_nodes: s.inline_nodes.saturating_add(nodes as u64),
-        ..s
-    }
-}
-
-// A rejected range is counted.
-pub fn count_rejected(s: ConversionStats) -> ConversionStats
-    ensures { stats_of result ≡ with_rejected (stats_of s) }
-{
-    ConversionStats {
-        rejected_ranges: s.rejected_ranges.saturating_add(1),
-        ..s
-    }
 }

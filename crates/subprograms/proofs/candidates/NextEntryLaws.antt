@@ -1,7 +1,7 @@
 -- The place of the next entry: no field that is passed over on the way to it is an entry or a unit.
 use mathlib.Core.Path.{◌≡◌, refl, sym, ◌∙◌}
 use mathlib.Core.List.{List}
-use Prim.Native.Nat.{ℕ, ◌+◌}
+use Prim.Native.Nat.{ℕ}
 use Rattle.std.specs.Prelude.{Some}
 use Rattle.tlv.specs.declared.fields.FieldSpan.{FieldSpan}
 use Rattle.tlv.specs.Checked.{Placed}
@@ -10,11 +10,7 @@ use Rattle.tlv.proofs.FieldLaws.{is-step}
 use Rattle.tlv.proofs.PlaceFacts.{placed-next}
 use Rattle.dies.specs.Details.{EntriesKnown}
 use Rattle.dies.proofs.EntryWalkLaws.{from-other, known-other}
-use Rattle.subprograms.specs.declared.model.Subprogram.{Subprogram}
-use Rattle.subprograms.specs.Entries.{BeginsAt, SubprogramIn}
-
-pub begins-here : {s : List ℕ} {unit p : ℕ} → Placed s p → EntriesKnown s unit p → BeginsAt s unit p p
-begins-here h K = record { placed = h; known = K; same = refl }
+use Rattle.subprograms.specs.Entries.{BeginsAt}
 
 pub begins-after : {s : List ℕ} {unit p q r : ℕ} → BeginsAt s unit p q → BeginsAt s unit q r → BeginsAt s unit p r
 begins-after A B = record { placed = B.placed; known = B.known; same = B.same ∙ A.same }
@@ -23,9 +19,6 @@ begins-after A B = record { placed = B.placed; known = B.known; same = B.same �
 pub record Seeking (s : List ℕ) (p at : ℕ) : Type 0 where
   pub placed : Placed s at
   pub begins : (unit : ℕ) → EntriesKnown s unit p → BeginsAt s unit p at
-
-pub seeking-start : {s : List ℕ} {p : ℕ} → Placed s p → Seeking s p p
-seeking-start h = record { placed = h; begins = λ unit K. begins-here h K }
 
 pub seeking-next : {s : List ℕ} {p at : ℕ} {f : FieldSpan} → Seeking s p at → Some f ≡ field_from s at → (f.tag ≡ 0x10 → ⊥) → (f.tag ≡ 0x17 → ⊥) → Seeking s p f.next
 seeking-next {s} {p} {at} {f} S there h k =
@@ -36,8 +29,3 @@ seeking-next {s} {p} {at} {f} S there h k =
           let B = S.begins unit K in
           begins-after B (record { placed = here; known = known-other s at f there B.known h k; same = sym (from-other s at f there h k) });
     }
-
--- what is known of a subprogram stays where the entries below it are looked for further on
-pub subprogram-from : {s : List ℕ} {unit : ℕ} {x y : Subprogram}
-    → SubprogramIn s unit x → BeginsAt s unit (x.place + 15) y.below → y.place ≡ x.place → SubprogramIn s unit y
-subprogram-from S B e = record { entry = rw e S.entry; below = rw e B }

@@ -38,7 +38,7 @@ use Rattle.dies.specs.Details.{dwarf_with}
 use Rattle.subprograms.specs.declared.model.ImportContext.{ImportContext}
 use Rattle.subprograms.specs.declared.model.ImportState.{ImportState}
 use Rattle.subprograms.specs.declared.function_lines.FoundLines.{FoundLines}
-use Rattle.subprograms.specs.Contexts.{ContextIn, context_with, touched}
+use Rattle.subprograms.specs.Contexts.{ContextIn, entry_of, places_of, context_with, touched}
 use Rattle.subprograms.specs.Steps.{FunctionLines, declared_line, FindsLines}
 use Rattle.subprograms.proofs.LaidPastLaws.{lines-length}
 
@@ -49,15 +49,15 @@ declaring_from trail st = record { trail = trail; table = st.table; warned = st.
 -- the search of the declaration of the entry at p has answered r
 abbrev pub Searches : List ℕ → List ℕ → ImportContext → Trail → ImportState → ℕ → List ℕ → List ℕ → List ℕ → List ℕ → List ℕ → List ℕ → Result Declared Refusal → Type 0
 Searches main supplementary q trail st p w w' f f' u u' r =
-    Declares (resolve_declaration 64 (dwarf_of main supplementary) (place_at main supplementary (start_at q.unit p)) (indices_in w q.places.indices))
-    main supplementary w w' f f' u u' q.places (declaring_from trail st) r
+    Declares (resolve_declaration 64 (dwarf_of main supplementary) (place_at main supplementary (start_at (entry_of q p))) (indices_in w q.context.indices))
+    main supplementary w w' f f' u u' (places_of q) (declaring_from trail st) r
 
 -- the rows that an answer of the search leaves
 abbrev rows_of : ℕ → Declaring → FunctionLines
 rows_of start d = record { rows = lines_with (record { start = start; end = start }) d.found []; table = d.table; warnings = d.warnings }
 
 module _ {main supplementary w : List ℕ} {q : ImportContext} (st : ImportState) (C : ContextIn main supplementary w q st.table) where
-  pub declaring_in : (trail : Trail) → trail.count ≡ 0 → DeclaringIn main supplementary w q.places (declaring_from trail st)
+  pub declaring_in : (trail : Trail) → trail.count ≡ 0 → DeclaringIn main supplementary w (places_of q) (declaring_from trail st)
   declaring_in trail none =
       let o = C.ordered in
       record {
@@ -76,29 +76,29 @@ module _ {main supplementary w : List ℕ} {q : ImportContext} (st : ImportState
       }
 
   -- what the search writes to is among what an import may write to
-  pub searched-touched : {w' : List ℕ} → KeptBut w w' (searched main supplementary q.places st.table) → KeptBut w w' (touched main supplementary q st.table)
+  pub searched-touched : {w' : List ℕ} → KeptBut w w' (searched main supplementary (places_of q) st.table) → KeptBut w w' (touched main supplementary q st.table)
   unfolding touched
   searched-touched K =
-      let above : q.ranges ≤ q.places.tables.keys = omega (arith, C.ordered.ranges, C.ordered.stack, C.ordered.sites) in
+      let above : q.context.ranges ≤ q.context.tables.keys = omega (arith, C.ordered.ranges, C.ordered.stack, C.ordered.sites) in
       but_wide (touched main supplementary q st.table) K
       (here (omega arith) (omega arith), (there (there (here (omega arith) (omega arith))), (there (there (there (here (omega arith) (omega arith)))), tt)))
 
   -- the search starts where no target is followed yet, and looks at no list
   module _ (lists addresses : List ℕ) (trail : Trail) (none : trail.count ≡ 0) (p : ℕ) where
     begun : (ws : List Warning)
-        → resolve_declaration_line (dwarf_with main supplementary lists addresses) (unit_here main q.unit) (entry_here main p) (indices_in w q.places.indices)
+        → resolve_declaration_line (dwarf_with main supplementary lists addresses) (unit_here main q.context.unit) (entry_here main p) (indices_in w q.context.indices)
         (table_of main supplementary w st.table) ws
-        ≡ resolve_declaration 64 (dwarf_of main supplementary) (place_at main supplementary (start_at q.unit p)) (indices_in w q.places.indices)
-        (declaring_at main supplementary w q.places (declaring_from trail st) ws 1)
+        ≡ resolve_declaration 64 (dwarf_of main supplementary) (place_at main supplementary (start_at (entry_of q p))) (indices_in w q.context.indices)
+        (declaring_at main supplementary w (places_of q) (declaring_from trail st) ws 1)
     begun ws =
-        declaration-line_same lists addresses (dwarf_of main supplementary) (unit_here main q.unit) (entry_here main p) (indices_in w q.places.indices)
+        declaration-line_same lists addresses (dwarf_of main supplementary) (unit_here main q.context.unit) (entry_here main p) (indices_in w q.context.indices)
         (table_of main supplementary w st.table) ws
-        ∙ declaration-line main supplementary w q.places (declaring_from trail st) q.unit p (indices_in w q.places.indices) ws none
+        ∙ declaration-line main supplementary w (places_of q) (declaring_from trail st) (entry_of q p) (indices_in w q.context.indices) ws none
 
     module _ (start : ℕ) where
       goes : (ws : List Warning) {o : Outcome Declaring}
-          → resolve_declaration 64 (dwarf_of main supplementary) (place_at main supplementary (start_at q.unit p)) (indices_in w q.places.indices)
-          (declaring_at main supplementary w q.places (declaring_from trail st) ws 1) ≡ o
+          → resolve_declaration 64 (dwarf_of main supplementary) (place_at main supplementary (start_at (entry_of q p))) (indices_in w q.context.indices)
+          (declaring_at main supplementary w (places_of q) (declaring_from trail st) ws 1) ≡ o
           → declared_line (context_with main supplementary lists addresses w q) (entry_here main p) start (table_of main supplementary w st.table) ws ≡ (o >>= λ d. done (rows_of start d))
       unfolding declared_line lines_in
       goes ws h = ap (λ (x : Outcome Declaring). x >>= λ d. done (rows_of start d)) (begun ws ∙ h)

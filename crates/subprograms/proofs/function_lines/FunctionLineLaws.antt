@@ -27,7 +27,8 @@ use Rattle.access.specs.Places.{entry_here, unit_here}
 use Rattle.lines.specs.Files.{FileTable, FileIndices}
 use Rattle.lines.specs.Lines.{SequencedLine, LineSequenceRange, UnitLines}
 use Rattle.lines.specs.Rows.{contains, belongs, compact_line_rows, own_rows, earlier_in, earlier_row, starts_late, sequence_exists, selected_sequence, rows_for, for_range}
-use Rattle.files.specs.declared.index.StoredIndices.{StoredIndices}
+use Rattle.tlv.specs.declared.model.FileIndex.{FileIndex}
+use Rattle.buffers.specs.declared.table.Stored.{Stored}
 use Rattle.files.specs.Store.{extent, table_of}
 use Rattle.files.proofs.GrownLaws.{table_kept, files-kept, grown-none, grown-kept, grown-after}
 use Rattle.rows.specs.declared.unit_lines.StoredLines.{StoredLines}
@@ -93,7 +94,7 @@ module _ (es : List SequencedLine) (fs gs : FileIndices) (ss : List LineSequence
   unfolding for_range
   range_same r o = λ i. record { rows = chosen-same r o i; invalid = not (exists-same o i) && not (is_empty (chosen-same r o i)) }
 
-stored_same : (w : List ℕ) (l : StoredLines) (is : StoredIndices) (r : AddressRange) (o : Option ℕ) → for_range (lines_in w l is) r o ≡ for_range (unit_lines_of w l) r o
+stored_same : (w : List ℕ) (l : StoredLines) (is : Stored FileIndex) (r : AddressRange) (o : Option ℕ) → for_range (lines_in w l is) r o ≡ for_range (unit_lines_of w l) r o
 unfolding lines_in unit_lines_of
 stored_same w l is r o = range_same _ _ _ _ r o
 
@@ -155,20 +156,20 @@ finds-any l l' (Err e) A = record {
 -- ---- the steps of function_lines
 
 module _ {main supplementary w w₁ u u₁ : List ℕ} {q : ImportContext} (st : ImportState) {p : ℕ} {range : AddressRange} {requested : Maybe ℕ} {own : FunctionRows} {m x : ℕ}
-    (C : ContextIn main supplementary w q st.table) (asked : sequence_of requested ≡ statement_sequence_offset (unit_here main q.unit) (entry_here main p))
-    (R : ForRange w w₁ q.lines range requested own) (W : SequenceWarned main q.unit p (sequence_of requested) own.invalid st.warned u u₁ m x) where
-  own_is : for_range (lines_in w q.lines q.places.indices) range (statement_sequence_offset (unit_here main q.unit) (entry_here main p)) ≡ for_range (unit_lines_of w q.lines) range (sequence_of requested)
-  own_is = stored_same w q.lines q.places.indices range _ ∙ ap (for_range (unit_lines_of w q.lines) range) (sym asked)
+    (C : ContextIn main supplementary w q st.table) (asked : sequence_of requested ≡ statement_sequence_offset (unit_here main q.context.unit) (entry_here main p))
+    (R : ForRange w w₁ q.lines range requested own) (W : SequenceWarned main q.context.unit p (sequence_of requested) own.invalid st.warned u u₁ m x) where
+  own_is : for_range (lines_in w q.lines q.context.indices) range (statement_sequence_offset (unit_here main q.context.unit) (entry_here main p)) ≡ for_range (unit_lines_of w q.lines) range (sequence_of requested)
+  own_is = stored_same w q.lines q.context.indices range _ ∙ ap (for_range (unit_lines_of w q.lines) range) (sym asked)
 
-  rows_are : (for_range (lines_in w q.lines q.places.indices) range (statement_sequence_offset (unit_here main q.unit) (entry_here main p))).rows ≡ entries_of w₁ own.rows own.count
+  rows_are : (for_range (lines_in w q.lines q.context.indices) range (statement_sequence_offset (unit_here main q.context.unit) (entry_here main p))).rows ≡ entries_of w₁ own.rows.base own.rows.count
   rows_are = (λ i. (own_is i).rows) ∙ sym R.rows
 
-  warns-as : sequence_warning (unit_here main q.unit) (entry_here main p) (statement_sequence_offset (unit_here main q.unit) (entry_here main p))
-      (for_range (lines_in w q.lines q.places.indices) range (statement_sequence_offset (unit_here main q.unit) (entry_here main p))).invalid
-      ≡ sequence_warning (unit_here main q.unit) (entry_here main p) (sequence_of requested) own.invalid
+  warns-as : sequence_warning (unit_here main q.context.unit) (entry_here main p) (statement_sequence_offset (unit_here main q.context.unit) (entry_here main p))
+      (for_range (lines_in w q.lines q.context.indices) range (statement_sequence_offset (unit_here main q.context.unit) (entry_here main p))).invalid
+      ≡ sequence_warning (unit_here main q.context.unit) (entry_here main p) (sequence_of requested) own.invalid
   warns-as =
-      let same : (for_range (lines_in w q.lines q.places.indices) range (statement_sequence_offset (unit_here main q.unit) (entry_here main p))).invalid ≡ own.invalid = (λ i. (own_is i).invalid) ∙ sym R.invalid in
-      λ i. sequence_warning (unit_here main q.unit) (entry_here main p) (sym asked i) (same i)
+      let same : (for_range (lines_in w q.lines q.context.indices) range (statement_sequence_offset (unit_here main q.context.unit) (entry_here main p))).invalid ≡ own.invalid = (λ i. (own_is i).invalid) ∙ sym R.invalid in
+      λ i. sequence_warning (unit_here main q.context.unit) (entry_here main p) (sym asked i) (same i)
 
   -- the warning is refused
   pub finds-unwarned : (lists addresses : List ℕ) {t t' f f' : List ℕ} {r : FoundLines} → (m ≡ 0 → ⊥)
@@ -189,10 +190,10 @@ module _ {main supplementary w w₁ u u₁ : List ℕ} {q : ImportContext} (st :
   }
 
   -- what the rows were written to lies apart from the file table
-  written : KeptBut w w₁ ((q.lines.buffer, entry_size + q.lines.line_count * entry_size) ∷ [])
+  written : KeptBut w w₁ ((q.lines.buffer, entry_size + q.lines.lines.count * entry_size) ∷ [])
   written = but_one R.rest
 
-  apart : Clear st.table.base (extent st.table) ((q.lines.buffer, entry_size + q.lines.line_count * entry_size) ∷ [])
+  apart : Clear st.table.base (extent st.table) ((q.lines.buffer, entry_size + q.lines.lines.count * entry_size) ∷ [])
   apart = (inl (omega (arith, C.ordered.table, C.ordered.indices, C.ordered.lines, C.ordered.sequences)), tt)
 
   rows-touched : KeptBut w w₁ (touched main supplementary q st.table)
@@ -204,24 +205,21 @@ module _ {main supplementary w w₁ u u₁ : List ℕ} {q : ImportContext} (st :
   pub context-next : length w₁ ≡ length w → ContextIn main supplementary w₁ q st.table
   context-next size = context-kept C rows-touched size refl refl (files-kept C.files written apart size)
 
-  pub rows-within : length w₁ ≡ length w → own.rows + own.count * entry_size ≤ length w₁
-  rows-within size = omega (arith, R.within, C.rows.buffer)
-
   -- the warning was laid, or there was none
   module _ (lists addresses : List ℕ) (warned : m ≡ 0) (size : length w₁ ≡ length w) where
-    from : (ws : List Warning) {rows : List LineEntry} → entries_of w₁ own.rows own.count ≡ rows
+    from : (ws : List Warning) {rows : List LineEntry} → entries_of w₁ own.rows.base own.rows.count ≡ rows
         → function_lines (context_with main supplementary lists addresses w q) (entry_here main p) range (table_of main supplementary w st.table) ws
         ≡ lines_from (context_with main supplementary lists addresses w q) (entry_here main p) range (table_of main supplementary w st.table) ws (done W.new) rows
     from ws k = from_is (context_with main supplementary lists addresses w q) (entry_here main p) range (table_of main supplementary w st.table) ws (warns-as ∙ W.ok warned) (rows_are ∙ k)
 
     -- the function's own rows
-    pub finds-own : {t t' f : List ℕ} {a : ℕ} {b : Bool} {fits : (a ≤ top) × (x ≤ top)} → (own.count ≡ 0 → ⊥) → length f < top → b ≡ (st.past || is_past st.at (21 * own.count))
-        → Put st.at (lines_bytes (entries_of w₁ own.rows own.count)) t t' a
+    pub finds-own : {t t' f : List ℕ} {a : ℕ} {b : Bool} {fits : (a ≤ top) × (x ≤ top)} → (own.rows.count ≡ 0 → ⊥) → length f < top → b ≡ (st.past || is_past st.at (21 * own.rows.count))
+        → Put st.at (lines_bytes (entries_of w₁ own.rows.base own.rows.count)) t t' a
         → FindsLines (function_lines (context_with main supplementary lists addresses w q) (entry_here main p) range) main supplementary q w t f u st w₁ t' f u₁ 0
-        (record { state = record { table = st.table; at = a; warned = x; stats = st.stats; past = b; within = fits }; count = own.count })
+        (record { state = record { table = st.table; at = a; warned = x; stats = st.stats; past = b; within = fits }; count = own.rows.count })
     finds-own some-rows small B P =
-        let rows = entries_of w₁ own.rows own.count in
-        let long : length rows ≡ own.count = entries-length w₁ own.rows own.count in
+        let rows = entries_of w₁ own.rows.base own.rows.count in
+        let long : length rows ≡ own.rows.count = entries-length w₁ own.rows.base own.rows.count in
         record {
           rows = rows;
           new = W.new;
@@ -239,12 +237,12 @@ module _ {main supplementary w w₁ u u₁ : List ℕ} {q : ImportContext} (st :
         }
 
     -- the declaration, where it has none
-    pub finds-declared : {fits : (st.at ≤ top) × (x ≤ top)} {t f w₂ t₂ f₂ u₂ : List ℕ} {n : ℕ} {r : FoundLines} → own.count ≡ 0
+    pub finds-declared : {fits : (st.at ≤ top) × (x ≤ top)} {t f w₂ t₂ f₂ u₂ : List ℕ} {n : ℕ} {r : FoundLines} → own.rows.count ≡ 0
         → FindsLines (declared_line (context_with main supplementary lists addresses w₁ q) (entry_here main p) range.start) main supplementary q w₁ t f u₁
         (record { table = st.table; at = st.at; warned = x; stats = st.stats; past = st.past; within = fits }) w₂ t₂ f₂ u₂ n r
         → FindsLines (function_lines (context_with main supplementary lists addresses w q) (entry_here main p) range) main supplementary q w t f u st w₂ t₂ f₂ u₂ n r
     finds-declared {w₂ = w₂} {r = r} no_rows D =
-        let none-own : entries_of w₁ own.rows own.count ≡ [] = ap (entries_of w₁ own.rows) no_rows ∙ entries-nil w₁ own.rows in
+        let none-own : entries_of w₁ own.rows.base own.rows.count ≡ [] = ap (entries_of w₁ own.rows.base) no_rows ∙ entries-nil w₁ own.rows.base in
         let same : (ws : List Warning) → function_lines (context_with main supplementary lists addresses w q) (entry_here main p) range (table_of main supplementary w st.table) ws
         ≡ declared_line (context_with main supplementary lists addresses w₁ q) (entry_here main p) range.start (table_of main supplementary w₁ st.table) (ws ++ W.new) =
         λ ws. from ws none-own

@@ -31,6 +31,9 @@ use Rattle.access.proofs.IndexModel.{either}
 use Rattle.access.proofs.UnitFacts.{unit-word_size}
 use Rattle.files.specs.Pieces.{UnitPlaced}
 use Rattle.files.proofs.UnitLaws.{unit-within}
+use Rattle.rnglists.specs.declared.sizes.AddressSize.{AddressSize}
+use Rattle.rnglists.specs.RangeLists.{largest}
+use Rattle.rnglists.specs.Sizes.{width_of}
 use Rattle.rows.specs.Stored.{sequence_of}
 use Rattle.collect.specs.Collects.{UnitIn}
 use Rattle.collect.proofs.HeaderPlaces.{unit-stands}
@@ -69,11 +72,14 @@ module _ {s : List ℕ} {q : ℕ} (A : Accepted s) (U : UnitIn s q) where
       let word : (eqb n 4 || eqb n 8) ≡ true = search (and_left, and_right) in
       ⊎_elim (λ e. inl (eqb-true n 4 e)) (λ e. inr (eqb-true n 8 e)) (or_either (eqb n 4) (eqb n 8) word)
 
-  pub limit-four : {n : ℕ} → n ≡ le_at 1 s (q + 20) → n ≡ 4 → 4294967295 ≡ 2 ^ (8 * (unit_here s q).word_size) - 1
-  limit-four {n} e is = let four : (unit_here s q).word_size ≡ 4 = word-here ∙ sym e ∙ is in rw four
+  -- .. and their largest numbers are those of an address of the size
+  pub word-size : {n : ℕ} → n ≡ le_at 1 s (q + 20) → (n ≡ 4) ⊎ (n ≡ 8)
+  word-size e = rw e word-is
 
-  pub limit-eight : {n : ℕ} → n ≡ le_at 1 s (q + 20) → (n ≡ 4 → ⊥) → 18446744073709551615 ≡ 2 ^ (8 * (unit_here s q).word_size) - 1
-  limit-eight {n} e other = ⊎_elim (λ four. absurd (other (e ∙ four))) (λ eight. let is : (unit_here s q).word_size ≡ 8 = word-here ∙ eight in rw is) word-is
+  pub word-limit : {n r : ℕ} (size : AddressSize) → n ≡ le_at 1 s (q + 20) → width_of size ≡ n → r ≡ largest (width_of size)
+      → r ≡ 2 ^ (8 * (unit_here s q).word_size) - 1
+  unfolding largest
+  word-limit size e wide is = let w : (unit_here s q).word_size ≡ width_of size = word-here ∙ sym e ∙ sym wide in rw w is
 
 -- ---- the sequence that a value asks for
 

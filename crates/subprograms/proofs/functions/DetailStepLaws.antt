@@ -21,34 +21,19 @@ use Rattle.imports.specs.Tree.{no_descendants, extract_subprogram_details}
 use Rattle.imports.specs.Import.{detail_context}
 use Rattle.dies.specs.declared.details.Details.{Details}
 use Rattle.dies.specs.declared.dies.Extracted.{Extracted}
-use Rattle.dies.specs.Details.{DetailsIn, list_room, Extracts, entries_from}
+use Rattle.dies.specs.Details.{DetailsIn, Extracts, entries_from}
 use Rattle.dies.proofs.CallLaws.{entry_depth-here}
 use Rattle.subprograms.specs.declared.model.ConversionStats.{ConversionStats as Stats}
 use Rattle.subprograms.specs.declared.model.ImportContext.{ImportContext}
 use Rattle.subprograms.specs.declared.model.ImportState.{ImportState}
 use Rattle.subprograms.specs.Stats.{stats_of, with_function}
 use Rattle.subprograms.specs.declared.model.Subprogram.{Subprogram}
-use Rattle.subprograms.specs.Contexts.{context_with, unit_list_room, ContextIn}
+use Rattle.subprograms.specs.Contexts.{context_with, ContextIn}
 use Rattle.subprograms.specs.Steps.{below_entry, ImportsDetails}
 
 -- what the walk is given
 abbrev pub details_of : (q : ImportContext) (s : Subprogram) (depth : ℕ) (r : AddressRange) → 10 + length s.name.now < 65536 → Details
-details_of q s depth r b = record {
-  tables = q.places.tables;
-  lists = q.lists;
-  name = s.name;
-  depth = depth;
-  unit = q.unit;
-  indices = q.places.indices;
-  range = r;
-  include_inlines = q.include_inlines;
-  include_call_sites = q.include_call_sites;
-  ranges = q.ranges;
-  stack = q.stack;
-  sites = q.sites;
-  with_lists = q.with_lists;
-  name_bound = b;
-}
+details_of q s depth r b = record { context = q.context; name = s.name; depth = depth; range = r; name_bound = b }
 
 module _ {main supplementary w : List ℕ} {q : ImportContext} {t : StoredFiles} (C : ContextIn main supplementary w q t) where
   pub context-accepted : Accepted main
@@ -57,9 +42,8 @@ module _ {main supplementary w : List ℕ} {q : ImportContext} {t : StoredFiles}
   -- the walk's tables stand in order
   pub details-in : (s : Subprogram) (depth : ℕ) (r : AddressRange) (b : 10 + length s.name.now < 65536)
       → DetailsIn main supplementary w (details_of q s depth r b)
-  unfolding unit_list_room list_room
   details-in s depth r b = let o = C.ordered in
-      let below : t.base ≤ q.ranges = omega (arith, o.table, o.indices, o.lines, o.sequences, o.buffer, o.text, o.spans) in record {
+      let below : t.base ≤ q.context.ranges = omega (arith, o.table, o.indices, o.lines, o.sequences, o.buffer, o.text, o.spans) in record {
         tables = C.tables;
         indices = omega (arith, o.indices, o.lines, o.sequences, o.buffer, o.text, o.spans);
         main-units = omega (arith, below, o.main-units);
@@ -73,12 +57,12 @@ module _ {main supplementary w : List ℕ} {q : ImportContext} {t : StoredFiles}
         listless = C.listless;
       }
 
-  depth-is : {p depth : ℕ} → EntryKnown main q.unit p → depth ≡ le_at 2 main (p + 11) → depth ≡ (entry_here main p).depth
+  depth-is : {p depth : ℕ} → EntryKnown main q.context.unit p → depth ≡ le_at 2 main (p + 11) → depth ≡ (entry_here main p).depth
   depth-is K read = read ∙ sym (entry_depth-here context-accepted K)
 
 module _ {main supplementary lists addresses w w' : List ℕ} {q : ImportContext} (s : Subprogram) {depth : ℕ} {name t t' u u' : List ℕ} {r : AddressRange}
     {b : 10 + length s.name.now < 65536} (p rows : ℕ) (st : ImportState) {below : ℕ} {files : StoredFiles}
-    (C : ContextIn main supplementary w q files) (K : EntryKnown main q.unit p) (read : depth ≡ le_at 2 main (p + 11))
+    (C : ContextIn main supplementary w q files) (K : EntryKnown main q.context.unit p) (read : depth ≡ le_at 2 main (p + 11))
     (same : entries_from main below ≡ entries_from main (p + 15)) where
   -- the walk is refused
   pub details-refused : {e : Refusal} → Extracts main supplementary lists addresses w w' (details_of q s depth r b) name below depth st.at st.warned t t' u u' (Err e)

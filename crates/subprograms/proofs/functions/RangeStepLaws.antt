@@ -103,7 +103,7 @@ module _ {main supplementary w w₁ : List ℕ} (lists addresses : List ℕ) {q 
         (D : ImportsDetails (extract_subprogram_details (detail_context (context_with main supplementary lists addresses w₁ q) r) (below_entry main p)) main supplementary q name r l.count
         w₁ t₂ u₁ l.state w₂ t₃ u₂ m r') where
       -- the file table stands below the walk's part
-      table_below : Clear l.state.table.base (extent l.state.table) ((q.ranges, walk_extent main supplementary q) ∷ [])
+      table_below : Clear l.state.table.base (extent l.state.table) ((q.context.ranges, walk_extent main supplementary q) ∷ [])
       table_below =
           let o = (lined-context z size).ordered in
           (inl (omega (arith, o.table, o.indices, o.lines, o.sequences, o.buffer, o.text, o.spans)), tt)

@@ -21,14 +21,14 @@ use Rattle.rnglists.specs.declared.lists.ListField.{ListField}
 use Rattle.rnglists.specs.declared.lists.ListRange.{ListRange}
 use Rattle.rnglists.specs.RangeLists.{ListRanges, faulty, and_before, decimal}
 use Rattle.rnglists.specs.Sizes.{width_of}
-use Rattle.rnglists.specs.Steps.{NextIs, FieldIs}
+use Rattle.rnglists.specs.Steps.{NextIs}
 use Rattle.imports.specs.Import.{State, rejected, import_ranges}
 use Rattle.imports.specs.Import as import
-use Rattle.ranges.specs.RangeTable.{list_at, list_of}
+use Rattle.ranges.specs.RangeTable.{list_at}
 use Rattle.subprograms.specs.declared.model.ImportState.{ImportState}
 use Rattle.subprograms.specs.declared.model.ImportContext.{ImportContext}
 use Rattle.subprograms.specs.Contexts.{ContextIn, context_with}
-use Rattle.subprograms.specs.Steps.{sheets, memory, Imports, RejectsList, import_one, import_failing, import_listed, below_entry}
+use Rattle.subprograms.specs.Steps.{sheets, memory, Imports, RejectsList, import_one, import_failing, import_listed, ranges_listed, below_entry}
 use Rattle.subprograms.proofs.ContextLaws.{context-same}
 use Rattle.subprograms.proofs.StepLaws.{grows_none, refused_as, imports_then, grows-refused, grows_as, imports-rejected, imports-context}
 use Rattle.subprograms.proofs.RangesLaws.{RangeOne, ranges-step, ranges-none, reason-put}
@@ -81,7 +81,7 @@ ListFrom main supplementary lists addresses q name p w l s =
     import_listed (context_with main supplementary lists addresses w q) (entry_here main p) (below_entry main p) name l s
 
 -- whoever imports the list from place `at` on has imported all
-pub record GoingList (main supplementary lists addresses : List ℕ) (q : ImportContext) (name : List ℕ) (p start : ℕ) (w₀ t₀ f₀ u₀ : List ℕ) (st₀ : ImportState)
+pub record GoingList (main supplementary lists addresses : List ℕ) (q : ImportContext) (name : List ℕ) (p : ℕ) (list : ListField) (w₀ t₀ f₀ u₀ : List ℕ) (st₀ : ImportState)
     (w t f u : List ℕ) (st : ImportState) (place size at base : ℕ) : Type 0 where
   pub context : ContextIn main supplementary w q st.table
   pub same : context_with main supplementary lists addresses w q ≡ context_with main supplementary lists addresses w₀ q
@@ -91,30 +91,27 @@ pub record GoingList (main supplementary lists addresses : List ℕ) (q : Import
   pub warnings-size : length u ≡ length u₀
   pub finish : (w' t' f' u' : List ℕ) (n : ℕ) (r : ImportState)
       → Imports (λ s. ListFrom main supplementary lists addresses q name p w₀ (list_at lists addresses place size at base) s) (sheets main supplementary) q (memory w t f u) st (memory w' t' f' u') n r
-      → Imports (λ s. ListFrom main supplementary lists addresses q name p w₀ (list_of main lists addresses start) s) (sheets main supplementary) q (memory w₀ t₀ f₀ u₀) st₀ (memory w' t' f' u') n r
+      → Imports (λ s. ListFrom main supplementary lists addresses q name p w₀ (ranges_listed lists addresses list) s) (sheets main supplementary) q (memory w₀ t₀ f₀ u₀) st₀ (memory w' t' f' u') n r
 
-module _ {main supplementary w₀ : List ℕ} {q : ImportContext} {p start : ℕ} {st₀ : ImportState} (lists addresses name t₀ f₀ u₀ : List ℕ)
+module _ {main supplementary w₀ : List ℕ} {q : ImportContext} {p : ℕ} {st₀ : ImportState} (lists addresses name t₀ f₀ u₀ : List ℕ)
     {list : ListField} where
-  pub list-start : ContextIn main supplementary w₀ q st₀.table → FieldIs main start list
-      → GoingList main supplementary lists addresses q name p start w₀ t₀ f₀ u₀ st₀ w₀ t₀ f₀ u₀ st₀ list.addresses (width_of list.size) list.offset list.base
-  list-start C F = record {
+  pub list-start : ContextIn main supplementary w₀ q st₀.table
+      → GoingList main supplementary lists addresses q name p list w₀ t₀ f₀ u₀ st₀ w₀ t₀ f₀ u₀ st₀ list.addresses (width_of list.size) list.offset list.base
+  list-start C = record {
     context = C;
     same = refl;
     work-size = refl;
     records-size = refl;
     files-size = refl;
     warnings-size = refl;
-    finish = λ w' t' f' u' n r I. grows_as (λ s. ap (λ (l : ListRanges). ListFrom main supplementary lists addresses q name p w₀ l s) (sym whole)) I;
+    finish = λ w' t' f' u' n r I. I;
   }
-    where
-      whole : list_at lists addresses list.addresses (width_of list.size) list.offset list.base ≡ list_of main lists addresses start
-      whole = λ i. list_at lists addresses (F.addresses i) (F.size i) (F.offset i) (F.base i)
 
-module _ {main supplementary lists addresses : List ℕ} {q : ImportContext} {name : List ℕ} {p start : ℕ} {w₀ t₀ f₀ u₀ : List ℕ} {st₀ : ImportState}
+module _ {main supplementary lists addresses : List ℕ} {q : ImportContext} {name : List ℕ} {p : ℕ} {list : ListField} {w₀ t₀ f₀ u₀ : List ℕ} {st₀ : ImportState}
     {w t f u : List ℕ} {st : ImportState}
-    {place size at base : ℕ} (G : GoingList main supplementary lists addresses q name p start w₀ t₀ f₀ u₀ st₀ w t f u st place size at base) where
+    {place size at base : ℕ} (G : GoingList main supplementary lists addresses q name p list w₀ t₀ f₀ u₀ st₀ w t f u st place size at base) where
   pub list_done : NextIs lists addresses place size at base (Ok None) → length t < top → length f < top → length u < top
-      → Imports (λ s. ListFrom main supplementary lists addresses q name p w₀ (list_of main lists addresses start) s) (sheets main supplementary) q (memory w₀ t₀ f₀ u₀) st₀ (memory w t f u) 0 st
+      → Imports (λ s. ListFrom main supplementary lists addresses q name p w₀ (ranges_listed lists addresses list) s) (sheets main supplementary) q (memory w₀ t₀ f₀ u₀) st₀ (memory w t f u) 0 st
   list_done N kt kf ku =
       G.finish w t f u 0 st
       (grows_as (λ s. ap (λ (l : ListRanges). ListFrom main supplementary lists addresses q name p w₀ l s) (sym N.is)
@@ -122,7 +119,7 @@ module _ {main supplementary lists addresses : List ℕ} {q : ImportContext} {na
       (grows_none G.context.files kt kf ku))
 
   pub list-failed : {e : Refusal} → NextIs lists addresses place size at base (Err e) → {n : ℕ} → n ≡ number_of e → {u' : List ℕ} {r : ImportState} → length t < top → length f < top → RejectsList st n u u' r
-      → Imports (λ s. ListFrom main supplementary lists addresses q name p w₀ (list_of main lists addresses start) s) (sheets main supplementary) q (memory w₀ t₀ f₀ u₀) st₀ (memory w t f u') 0 r
+      → Imports (λ s. ListFrom main supplementary lists addresses q name p w₀ (ranges_listed lists addresses list) s) (sheets main supplementary) q (memory w₀ t₀ f₀ u₀) st₀ (memory w t f u') 0 r
   list-failed {e} N {n} is {u'} {r} kt kf R =
       G.finish w t f u' 0 r
       (grows_as (λ s. ap (λ (l : ListRanges). ListFrom main supplementary lists addresses q name p w₀ l s) (sym N.is ∙ ap faulty (sym is))
@@ -147,13 +144,13 @@ module _ {main supplementary lists addresses : List ℕ} {q : ImportContext} {na
           >>= λ t. ListFrom main supplementary lists addresses q name p w₀ (list_at lists addresses place size x.next x.base) t) (sym G.same)
 
       pub list-refused : {r' : ImportState} → (n ≡ 0 → ⊥)
-          → Imports (λ s. ListFrom main supplementary lists addresses q name p w₀ (list_of main lists addresses start) s) (sheets main supplementary) q (memory w₀ t₀ f₀ u₀) st₀ (memory w' t' f' u') n r'
+          → Imports (λ s. ListFrom main supplementary lists addresses q name p w₀ (ranges_listed lists addresses list) s) (sheets main supplementary) q (memory w₀ t₀ f₀ u₀) st₀ (memory w' t' f' u') n r'
       list-refused h =
           refused_as h (G.finish w' t' f' u' n r (grows_as turn
           (grows-refused (λ s. ListFrom main supplementary lists addresses q name p w₀ (list_at lists addresses place size x.next x.base) s) h I)))
 
       pub list-turn : n ≡ 0 → length w' ≡ length w → length t' ≡ length t → length f' ≡ length f → length u' ≡ length u
-          → GoingList main supplementary lists addresses q name p start w₀ t₀ f₀ u₀ st₀ w' t' f' u' r place size x.next x.base
+          → GoingList main supplementary lists addresses q name p list w₀ t₀ f₀ u₀ st₀ w' t' f' u' r place size x.next x.base
       list-turn z sw st sf su = record {
         context = imports-context sw z G.context I;
         same = context-same G.context (I.kept z) lists addresses ∙ G.same;

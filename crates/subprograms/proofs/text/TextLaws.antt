@@ -12,6 +12,7 @@ use Rattle.tlv.specs.Model.{range_of}
 use Rattle.tlv.specs.Cursor.{step_at}
 use Rattle.tlv.specs.Checked.{Placed}
 use Rattle.tlv.proofs.PlacePromises.{placed-text}
+use Rattle.buffers.specs.declared.table.Stored.{Stored}
 use Rattle.buffers.specs.Table.{chunk, Kept}
 use Rattle.buffers.proofs.TableLaws.{kept_refl, kept-wide, kept_trans}
 use Rattle.access.specs.Places.{own_fields, unit_here}
@@ -21,7 +22,8 @@ use Rattle.access.proofs.UnitFacts.{unit-text}
 use Rattle.files.proofs.UnitLaws.{unit-next, unit-within}
 use Rattle.collect.specs.Collects.{UnitIn}
 use Rattle.collect.proofs.HeaderPlaces.{unit-stands}
-use Rattle.ranges.specs.RangeTable.{ranges_at, PutRange}
+use Rattle.buffers.specs.Table.{PutRange}
+use Rattle.ranges.specs.RangeTable.{ranges_at}
 use Rattle.ranges.proofs.RangeTableLaws.{ranges-length, ranges-nil, ranges-push}
 use Rattle.subprograms.specs.Text.{TextIndexed}
 
@@ -50,12 +52,12 @@ module _ {s : List ℕ} {place : ℕ} (h : Placed s 0) (U : UnitIn s place) wher
   }
 
 module _ {s : List ℕ} {place : ℕ} {w₀ w : List ℕ} {base p n : ℕ} (L : TextListing s place w₀ w base p n) where
-  pub listing-done : NextOwn s p 0x12 None → TextIndexed s w₀ w place base (record { base = base; count = n })
-  listing-done own =
+  pub listing-done : {r : Stored AddressRange} → r.base ≡ base → r.count ≡ n → NextOwn s p 0x12 None → TextIndexed s w₀ w place base r
+  listing-done based counted own =
       let none : payloads 0x12 (own_fields (fields (drop p s))) ≡ [] = sym own.is in
       let all : ranges_at w base n ≡ (unit_here s place).text =
       sym (append-nil (ranges_at w base n)) ∙ ap (λ (ps : List (List ℕ)). ranges_at w base n ++ map range_of ps) (sym none) ∙ L.left in
-      record { base_is = refl; table = all; count = sym (ranges-length w base n) ∙ ap length all; rest = L.rest }
+      record { base_is = based; table = rw (based, counted) all; count = counted ∙ sym (ranges-length w base n) ∙ ap length all; rest = rw counted L.rest }
 
   module _ {f : FieldSpan} (own : NextOwn s p 0x12 (Some f)) where
     long : f.len ≡ 16

@@ -18,7 +18,7 @@ use Rattle.tlv.proofs.CursorLaws.{fields-field}
 use Rattle.tlv.proofs.FieldLaws.{is-step, field-within}
 use Rattle.tlv.proofs.PlaceFacts.{placed-start, placed-next}
 use Rattle.tlv.proofs.PlacePromises.{placed-entry}
-use Rattle.tlv.proofs.TestLaws.{and_left, and_right}
+use Rattle.tlv.proofs.TestLaws.{and_left}
 use Rattle.buffers.specs.Buffer.{top}
 use Rattle.access.specs.Places.{entry_here, unit_here}
 use Rattle.access.proofs.IndexModel.{either}
@@ -68,10 +68,10 @@ unfolding unit_here unit_of entries_from
 entries-here {s} {q} U = rw (fields-field s q (step_at s q) 0x10 (q + 3) 18 (q + 21) refl U.is)
 
 module _ {main supplementary w : List ℕ} {q : ImportContext} {table : StoredFiles} (C : ContextIn main supplementary w q table) where
-  stands : UnitPlaced main q.unit
+  stands : UnitPlaced main q.context.unit
   stands = unit-stands (placed-start main C.tables.main-index.number C.tables.main-index.accepted) C.unit
 
-  pub unit-inside : q.unit + 21 ≤ length main
+  pub unit-inside : q.context.unit + 21 ≤ length main
   unit-inside = unit-within stands
 
 -- ---- the loop
@@ -79,7 +79,7 @@ module _ {main supplementary w : List ℕ} {q : ImportContext} {table : StoredFi
 -- what was done so far, and that the whole is this and then the entries that are left
 pub record Importing (main supplementary lists addresses : List ℕ) (q : ImportContext) (w₀ t₀ f₀ u₀ : List ℕ) (st₀ : ImportState) (w t f u : List ℕ) (st : ImportState) (place : ℕ) : Type 0 where
   pub placed : Placed main place
-  pub known : EntriesKnown main q.unit place
+  pub known : EntriesKnown main q.context.unit place
   pub context : ContextIn main supplementary w q st.table
   pub same : context_with main supplementary lists addresses w q ≡ context_with main supplementary lists addresses w₀ q
   pub size : length w ≡ length w₀
@@ -88,14 +88,14 @@ pub record Importing (main supplementary lists addresses : List ℕ) (q : Import
   pub warnings-size : length u ≡ length u₀
   pub before : State → Outcome State
   pub does : Imports before (sheets main supplementary) q (memory w₀ t₀ f₀ u₀) st₀ (memory w t f u) 0 st
-  pub left : (s : State) → import_unit_details (context_with main supplementary lists addresses w₀ q) (unit_here main q.unit).entries s
+  pub left : (s : State) → import_unit_details (context_with main supplementary lists addresses w₀ q) (unit_here main q.context.unit).entries s
       ≡ (before s >>= import_unit_details (context_with main supplementary lists addresses w₀ q) (entries_from main place))
 
 pub importing-start : {main supplementary w t f u : List ℕ} (lists addresses : List ℕ) {q : ImportContext} {st : ImportState} → ContextIn main supplementary w q st.table
-    → length t < top → length f < top → length u < top → Importing main supplementary lists addresses q w t f u st w t f u st (q.unit + 21)
+    → length t < top → length f < top → length u < top → Importing main supplementary lists addresses q w t f u st w t f u st (q.context.unit + 21)
 importing-start {main} {supplementary} {w} lists addresses {q} {st} C small tiny few = record {
   placed = unit-next (stands C);
-  known = known_start main q.unit (q.unit + 3) 18 (q.unit + 21) (stands C).is (unit-of C.unit);
+  known = known_start main q.context.unit (q.context.unit + 3) 18 (q.context.unit + 21) (stands C).is (unit-of C.unit);
   context = C;
   same = refl;
   size = refl;
@@ -104,24 +104,24 @@ importing-start {main} {supplementary} {w} lists addresses {q} {st} C small tiny
   warnings-size = refl;
   before = done;
   does = grows_none C.files small tiny few;
-  left = λ s. ap (λ (es : List Entry). import_unit_details (context_with main supplementary lists addresses w q) es s) (entries-here (stands C)) ∙ after-done (context_with main supplementary lists addresses w q) (entries_from main (q.unit + 21)) s;
+  left = λ s. ap (λ (es : List Entry). import_unit_details (context_with main supplementary lists addresses w q) es s) (entries-here (stands C)) ∙ after-done (context_with main supplementary lists addresses w q) (entries_from main (q.context.unit + 21)) s;
 }
 
 module _ {main supplementary lists addresses : List ℕ} {q : ImportContext} {w₀ t₀ f₀ u₀ : List ℕ} {st₀ : ImportState} {w t f u : List ℕ} {st : ImportState} {place : ℕ}
     (I : Importing main supplementary lists addresses q w₀ t₀ f₀ u₀ st₀ w t f u st place) where
   -- nothing is left
-  ended : entries_from main place ≡ [] → Imports (import_unit_details (context_with main supplementary lists addresses w₀ q) (unit_here main q.unit).entries) (sheets main supplementary) q (memory w₀ t₀ f₀ u₀) st₀ (memory w t f u) 0 st
+  ended : entries_from main place ≡ [] → Imports (import_unit_details (context_with main supplementary lists addresses w₀ q) (unit_here main q.context.unit).entries) (sheets main supplementary) q (memory w₀ t₀ f₀ u₀) st₀ (memory w t f u) 0 st
   ended e =
       grows_as
       (λ s. I.left s ∙ ap (λ (es : List Entry). I.before s >>= import_unit_details (context_with main supplementary lists addresses w₀ q) es) e ∙ after_none (context_with main supplementary lists addresses w₀ q) (I.before s))
       I.does
 
   pub importing-none : None ≡ field_from main place
-      → Imports (import_unit_details (context_with main supplementary lists addresses w₀ q) (unit_here main q.unit).entries) (sheets main supplementary) q (memory w₀ t₀ f₀ u₀) st₀ (memory w t f u) 0 st
+      → Imports (import_unit_details (context_with main supplementary lists addresses w₀ q) (unit_here main q.context.unit).entries) (sheets main supplementary) q (memory w₀ t₀ f₀ u₀) st₀ (memory w t f u) 0 st
   importing-none none = ended (from-none main place none)
 
   module _ {field : FieldSpan} (there : Some field ≡ field_from main place) where
-    pub importing-unit : field.tag ≡ 0x10 → Imports (import_unit_details (context_with main supplementary lists addresses w₀ q) (unit_here main q.unit).entries) (sheets main supplementary) q (memory w₀ t₀ f₀ u₀) st₀ (memory w t f u) 0 st
+    pub importing-unit : field.tag ≡ 0x10 → Imports (import_unit_details (context_with main supplementary lists addresses w₀ q) (unit_here main q.context.unit).entries) (sheets main supplementary) q (memory w₀ t₀ f₀ u₀) st₀ (memory w t f u) 0 st
     importing-unit is = ended (from-unit main place field there is)
 
     importing-other : (field.tag ≡ 0x10 → ⊥) → (field.tag ≡ 0x17 → ⊥) → Importing main supplementary lists addresses q w₀ t₀ f₀ u₀ st₀ w t f u st field.next
@@ -146,10 +146,10 @@ module _ {main supplementary lists addresses : List ℕ} {q : ImportContext} {w�
           let l = placed-entry main place (step_at main place) field.tag field.start field.len field.next I.placed refl (is-step main place field there) is in
           omega arith
 
-      pub entry-known : EntryKnown main q.unit place
+      pub entry-known : EntryKnown main q.context.unit place
       entry-known = known-here main place field there I.known is
 
-      pub entry-rest : (Placed main (place + 15)) × EntriesKnown main q.unit (place + 15)
+      pub entry-rest : (Placed main (place + 15)) × EntriesKnown main q.context.unit (place + 15)
       entry-rest = (rw next-is at (placed-next main place (step_at main place) field.tag field.start field.len field.next I.placed refl (is-step main place field there)), rw next-is at (known-entry main place field there I.known is))
 
       entries-are : entries_from main place ≡ entry_here main place ∷ entries_from main (place + 15)
@@ -163,7 +163,7 @@ module _ {main supplementary lists addresses : List ℕ} {q : ImportContext} {w�
         passed : Imports through (sheets main supplementary) q (memory w₀ t₀ f₀ u₀) st₀ (memory w' t' f' u') m st'
         passed = imports_then q refl I.does A
 
-        left_after : (s : State) → import_unit_details (context_with main supplementary lists addresses w₀ q) (unit_here main q.unit).entries s
+        left_after : (s : State) → import_unit_details (context_with main supplementary lists addresses w₀ q) (unit_here main q.context.unit).entries s
             ≡ (through s >>= import_unit_details (context_with main supplementary lists addresses w₀ q) (entries_from main (place + 15)))
         left_after s =
             let x = context_with main supplementary lists addresses w₀ q in
@@ -171,7 +171,7 @@ module _ {main supplementary lists addresses : List ℕ} {q : ImportContext} {w�
             ∙ ap (λ (y : import.ImportContext). (I.before s >>= import_entry y (entry_here main place) (below_entry main place)) >>= import_unit_details x (entries_from main (place + 15))) (sym I.same)
 
         pub importing-refused : {r' : ImportState} → (m ≡ 0 → ⊥)
-            → Imports (import_unit_details (context_with main supplementary lists addresses w₀ q) (unit_here main q.unit).entries) (sheets main supplementary) q (memory w₀ t₀ f₀ u₀) st₀ (memory w' t' f' u') m r'
+            → Imports (import_unit_details (context_with main supplementary lists addresses w₀ q) (unit_here main q.context.unit).entries) (sheets main supplementary) q (memory w₀ t₀ f₀ u₀) st₀ (memory w' t' f' u') m r'
         importing-refused z = refused_as z (grows_as left_after (grows-refused (import_unit_details (context_with main supplementary lists addresses w₀ q) (entries_from main (place + 15))) z passed))
 
         pub importing-entry : m ≡ 0 → length w' ≡ length w → length t' ≡ length t → length f' ≡ length f → length u' ≡ length u
@@ -197,9 +197,6 @@ module _ {main supplementary lists addresses : List ℕ} {q : ImportContext} {w�
     module _ {b : Bool} (test : b ≡ (eqb field.tag 0x17 && eqb (le_at 2 main (place + 13)) 0x2e)) where
       pub subprogram-entry : b ≡ true → field.tag ≡ 0x17
       subprogram-entry y = eqb-true field.tag 0x17 (and_left (eqb field.tag 0x17) (eqb (le_at 2 main (place + 13)) 0x2e) (sym test ∙ y))
-
-      pub subprogram-here : b ≡ true → le_at 2 main (place + 13) ≡ 0x2e
-      subprogram-here y = eqb-true (le_at 2 main (place + 13)) 0x2e (and_right (eqb field.tag 0x17) (eqb (le_at 2 main (place + 13)) 0x2e) (sym test ∙ y))
 
       -- none stands here
       pub importing-passed : (field.tag ≡ 0x10 → ⊥) → b ≡ false → Importing main supplementary lists addresses q w₀ t₀ f₀ u₀ st₀ w t f u st field.next

@@ -1,9 +1,6 @@
 -- `candidates::next_entry` meets its contract.
-use Rattle.subprograms.proofs.candidates.NextEntryLaws.{seeking-start, seeking-next}
+use Rattle.subprograms.proofs.candidates.NextEntryLaws.{seeking-next}
 use Rattle.subprograms.proofs.candidates.next_entry.Goals as goal
-
-pub loop-field-init : goal.loop-field-init
-loop-field-init c = search seeking-start
 
 pub loop-field-preserved : goal.loop-field-preserved
 loop-field-preserved c = seeking-next c.loop-field.invariant c.in-Some.ensures c.if-field-eq-UNIT_TAG.false c.if-field-eq-ENTRY_TAG.false

@@ -7,4 +7,4 @@ use Rattle.subprograms.specs.Steps.{lines_bytes}
 use Rattle.subprograms.proofs.function_lines.put_lines.Given as goal
 
 abbrev pub invariant-loop-i : goal.invariant-loop-i
-invariant-loop-i l = (l.i ≤ l.n) × Left l.at (lines_bytes (entries_of l.work l.from l.n)) l.initial.records l.place (lines_bytes (drop l.i (entries_of l.work l.from l.n))) l.records
+invariant-loop-i l = (l.i ≤ l.rows.count) × Left l.at (lines_bytes (entries_of l.work l.rows.base l.rows.count)) l.initial.records l.place (lines_bytes (drop l.i (entries_of l.work l.rows.base l.rows.count))) l.records
