@@ -63,7 +63,7 @@ pub record RoomsSmall (l : Layout) : Type 0 where
   pub third : 3 * l.third ≤ list_limit
 
 -- it is known which tags the main input does not have
--- Stays a clause: it speaks of the sheet and of its layout, which no type holds together.
+-- Stays a clause: it ties a sheet to its layout, and a type of both would be made for the three functions alone that ask it.
 pub record TagsKnown (main : List ℕ) (l : Layout) : Type 0 where
   pub encodings : l.with_encodings ≡ false → count_of encoding_tag main ≡ 0
   pub lists : l.with_lists ≡ false → count_of list_tag main ≡ 0

@@ -125,7 +125,7 @@ fn most_work(main: &[u8], sizes: Sizes) -> usize
 {
     let mut most = WORK_OF_PROGRAM_BYTE * sizes.program;
     let mut p = 0;
-    // Stays a loop: each field's own length moves the place, so nothing is counted.
+    // Stays a loop over fields: next_field says why.
     while let Some(field) = next_field(main, p) {
         if field.tag == UNIT_TAG {
             most = most.max(work_of_unit(main, p, sizes));

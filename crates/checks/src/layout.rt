@@ -32,8 +32,7 @@ const OPEN_LISTS: usize = 257;
 // The tables that serve all units stand first: the main input's units at 0, its entries, the supplementary one's units and entries, the file table with its
 // room for files. From `lines` on stands what belongs to one unit, in rooms: its lines, its executable ranges, what a unit that is reached by reference
 // needs, the open nodes' ranges, the open and the closed call sites; behind them the followed targets.
-// Stays bare: no program prints it.
-#[derive(Clone, Copy)]
+#[derive(Clone, Copy, Debug)]
 pub struct Layout {
     pub main_entries: usize,
     pub supplementary_units: usize,
@@ -67,8 +66,7 @@ pub struct UnitLayout {
 }
 
 // For each tag that needs a table, how many fields of it the input has.
-// Stays bare: no program prints it.
-#[derive(Clone, Copy)]
+#[derive(Clone, Copy, Debug)]
 pub struct Counts {
     pub units: usize,
     pub text: usize,
@@ -89,7 +87,7 @@ fn count_tags(s: &[u8]) -> [usize; 32]
 {
     let mut counts = [0usize; 32];
     let mut p = 0;
-    // Stays a loop: each field's own length moves the place; what is counted is what was found.
+    // Stays a loop over fields: next_field says why.
     while let Some(field) = next_field(s, p) {
         if field.tag < 32 {
             counts[field.tag as usize] += 1;

@@ -12,6 +12,3 @@ returns-in_err-m c = rw (handed _ _ c.from_residual.ensures.1) (both-first c.in_
 
 pub returns-in_err-s : goal.returns-in_err-s
 returns-in_err-s c = rw (handed _ _ c.from_residual-in_err-s.ensures.1) (both-second c.in_ok-m.ensures c.in_err-s.ensures)
-
-pub returns : goal.returns
-returns c = both-done c.in_ok-m.ensures c.in_ok-s.ensures

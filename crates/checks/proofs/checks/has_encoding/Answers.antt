@@ -5,9 +5,6 @@ use Rattle.files.proofs.UnitLaws.{unit-next, unit-within}
 use Rattle.checks.proofs.WorkLaws.{encoding-told}
 use Rattle.checks.proofs.checks.has_encoding.Goals as goal
 
-pub overflow_add-place : goal.overflow_add-place
-overflow_add-place c = omega (arith, unit-within c.requires, c.well_formed)
-
 pub next_before_rows-requires : goal.next_before_rows-requires
 next_before_rows-requires c = unit-next c.requires
 

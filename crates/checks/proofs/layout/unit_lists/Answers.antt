@@ -4,9 +4,6 @@ use Rattle.files.proofs.UnitLaws.{unit-within}
 use Rattle.checks.proofs.WorkLaws.{lists-here, known-listed}
 use Rattle.checks.proofs.layout.unit_lists.Goals as goal
 
-pub overflow_add-place : goal.overflow_add-place
-overflow_add-place c = omega (arith, unit-within c.requires.unit_placed, c.well_formed)
-
 pub returns-then-l : goal.returns-then-l
 returns-then-l c = lists-here c.requires.unit_placed c.list_count.ensures
 
