@@ -2,7 +2,7 @@
 use mathlib.Core.Path.{◌≡◌, refl, sym, subst, ap, ◌∙◌}
 use mathlib.Core.Bool.{Bool, true, false, cond}
 use mathlib.Core.List.{List, ◌++◌}
-use Prim.Native.Nat.{ℕ, ◌≤◌, ◌<◌}
+use Prim.Native.Nat.{ℕ, ◌≤◌}
 use native.Mathlib.Omega.{arith}
 use lib.Dec.{ltb}
 use lib.ListN.{length, drop, replicate}
@@ -20,40 +20,43 @@ use Rattle.imports.specs.Answer as answer
 use Rattle.imports.specs.Answer.{Inputs, After, written, outcome_of, answer_of, buffer_after, afterwards, after, after_dwarf}
 use Rattle.imports.specs.Demand.{Lent, Finished}
 use Rattle.imports.proofs.Demand.{demand, dwarf-demand}
-use Rattle.checks.specs.declared.options.Options.{Options}
 use Rattle.dwarf.specs.declared.model.Imported.{Imported}
+use Rattle.dwarf.specs.declared.model.Lengths.{Lengths}
 use Rattle.dwarf.specs.declared.run.Ran.{Ran}
-use Rattle.dwarf.specs.declared.lent.Inputs as lent
-use Rattle.dwarf.specs.Given.{Holds}
-use Rattle.dwarf.specs.Lent.{lent_of}
-use Rattle.dwarf.specs.Runs.{inputs_by, import_all, Written, Writes, fit_of}
+use Rattle.dwarf.specs.Sizes.{short_in}
+use Rattle.dwarf.specs.Runs.{import_all, Written, Writes, fit_of}
 use Rattle.dwarf.specs.Answers.{left, AgreeAll, ImportsBy, ImportsUnit, ImportsDwarf}
 
 -- ---- the refusal by the lengths
 
-module _ (run : Result Ran Refusal) (records files warnings : ℕ) where
-  pub fit_refused : {e : Refusal} → run ≡ Err e → Err e ≡ fit_of run records files warnings
+-- a run, but for the refusal of its lengths
+abbrev pub unless_short : Ran → Maybe Refusal → Result Ran Refusal
+unless_short r None = Ok r
+unless_short r (Some e) = Err e
+
+fit-short : (r : Ran) (lent : Lengths) → fit_of (Ok r) lent ≡ unless_short r (short_in r.lengths lent)
+unfolding fit_of
+fit-short r lent = go (ltb lent.records r.lengths.records) (ltb lent.files r.lengths.files) (ltb lent.warnings r.lengths.warnings)
+  where
+    go : (a b c : Bool) → cond a (Err Refusal.ShortRecords) (cond b (Err Refusal.ShortFiles) (cond c (Err Refusal.ShortWarnings) (Ok r)))
+        ≡ unless_short r (cond a (Some Refusal.ShortRecords) (cond b (Some Refusal.ShortFiles) (cond c (Some Refusal.ShortWarnings) None)))
+    go true b c = refl
+    go false true c = refl
+    go false false true = refl
+    go false false false = refl
+
+module _ (run : Result Ran Refusal) (lent : Lengths) where
+  pub fit_refused : {e : Refusal} → run ≡ Err e → Err e ≡ fit_of run lent
   unfolding fit_of
   fit_refused e = rw e
 
   module _ {r : Ran} (e : run ≡ Ok r) where
-    pub fit-records : records < r.records → Err Refusal.ShortRecords ≡ fit_of run records files warnings
-    unfolding fit_of
-    fit-records h = rw (e, lt-ltb records r.records h)
+    pub fit-told : (s : Maybe Refusal) → s ≡ short_in r.lengths lent → unless_short r s ≡ fit_of run lent
+    fit-told s is = sym (ap (λ x. fit_of x lent) e ∙ fit-short r lent ∙ ap (unless_short r) (sym is))
 
-    module _ (h : r.records ≤ records) where
-      pub fit-files : files < r.files → Err Refusal.ShortFiles ≡ fit_of run records files warnings
-      unfolding fit_of
-      fit-files k = rw (e, le-ltb records r.records h, lt-ltb files r.files k)
-
-      module _ (k : r.files ≤ files) where
-        pub fit-warnings : warnings < r.warnings → Err Refusal.ShortWarnings ≡ fit_of run records files warnings
-        unfolding fit_of
-        fit-warnings l = rw (e, le-ltb records r.records h, le-ltb files r.files k, lt-ltb warnings r.warnings l)
-
-        pub fit_all : r.warnings ≤ warnings → Ok r ≡ fit_of run records files warnings
-        unfolding fit_of
-        fit_all l = rw (e, le-ltb records r.records h, le-ltb files r.files k, le-ltb warnings r.warnings l)
+-- how long three buffers are
+abbrev pub lengths : List ℕ → List ℕ → List ℕ → Lengths
+lengths t f u = record { records = length t; files = length f; warnings = length u }
 
 -- ---- the outcome
 
@@ -97,17 +100,17 @@ module _ (i : Inputs) (o : Outcome State) where
     unfolding outcome_of ◌>>=◌ answer.fitting written
     outcome-is = rw S.is
 
-    outcome-told : outcome_of i o ≡ outcome_by (ltb (length t) r.records) (ltb (length f) r.files) (ltb (length u) r.warnings) (written S.state)
+    outcome-told : outcome_of i o ≡ outcome_by (ltb (length t) r.lengths.records) (ltb (length f) r.lengths.files) (ltb (length u) r.lengths.warnings) (written S.state)
     outcome-told = outcome-is ∙ (λ k. outcome_by (sym (longer_is S.records) k) (sym (longer_is S.files) k) (sym (longer_is S.warnings) k) (written S.state))
 
-    fitting-done : FittingBy t f u (fit_of (Ok r) (length t) (length f) (length u))
+    fitting-done : FittingBy t f u (fit_of (Ok r) (lengths t f u))
     unfolding fit_of
-    fitting-done = go (ltb (length t) r.records) refl (ltb (length f) r.files) refl (ltb (length u) r.warnings) refl
+    fitting-done = go (ltb (length t) r.lengths.records) refl (ltb (length f) r.lengths.files) refl (ltb (length u) r.lengths.warnings) refl
       where
-        told : {a b c : Bool} → ltb (length t) r.records ≡ a → ltb (length f) r.files ≡ b → ltb (length u) r.warnings ≡ c → outcome_of i o ≡ outcome_by a b c (written S.state)
+        told : {a b c : Bool} → ltb (length t) r.lengths.records ≡ a → ltb (length f) r.lengths.files ≡ b → ltb (length u) r.lengths.warnings ≡ c → outcome_of i o ≡ outcome_by a b c (written S.state)
         told ea eb ec = outcome-told ∙ (λ k. outcome_by (ea k) (eb k) (ec k) (written S.state))
 
-        go : (a : Bool) → ltb (length t) r.records ≡ a → (b : Bool) → ltb (length f) r.files ≡ b → (c : Bool) → ltb (length u) r.warnings ≡ c
+        go : (a : Bool) → ltb (length t) r.lengths.records ≡ a → (b : Bool) → ltb (length f) r.lengths.files ≡ b → (c : Bool) → ltb (length u) r.lengths.warnings ≡ c
             → FittingBy t f u (cond a (Err Refusal.ShortRecords) (cond b (Err Refusal.ShortFiles) (cond c (Err Refusal.ShortWarnings) (Ok r))))
         go true ea b eb c ec = told ea eb ec
         go false ea true eb c ec = told ea eb ec
@@ -120,13 +123,13 @@ module _ (i : Inputs) (o : Outcome State) where
           warnings = ltb-false _ _ (sym (longer_is S.warnings) ∙ ec);
         }
 
-  fitting-of : (t f u : List ℕ) (run : Result Ran Refusal) → Writes o i.records i.files i.warnings t f u run → FittingBy t f u (fit_of run (length t) (length f) (length u))
+  fitting-of : (t f u : List ℕ) (run : Result Ran Refusal) → Writes o i.records i.files i.warnings t f u run → FittingBy t f u (fit_of run (lengths t f u))
   unfolding fit_of outcome_of ◌>>=◌
   fitting-of t f u (Ok r) W = fitting-done W.is
   fitting-of t f u (Err e) W = rw W.is
 
-  pub fitted : {t f u : List ℕ} {run x : Result Ran Refusal} → Writes o i.records i.files i.warnings t f u run → x ≡ fit_of run (length t) (length f) (length u) → FittingBy t f u x
-  fitted {t} {f} {u} {run} W e = rw e (fitting-of t f u run W)
+  pub fitted : {t f u : List ℕ} {run x : Result Ran Refusal} {l : Lengths} → Writes o i.records i.files i.warnings t f u run → x ≡ fit_of run l → l ≡ lengths t f u → FittingBy t f u x
+  fitted {t} {f} {u} {run} W e is = rw (e, is) (fitting-of t f u run W)
 
 -- ---- what is there after the call
 
@@ -188,7 +191,7 @@ module _ (asked : Maybe ℕ) (i : Inputs) where
         ∙ sym (after_is i (import_all asked i) is))
 
     pub answers_done : {w t f u : List ℕ} {r : Ran} {x : Imported} → Fitting i (import_all asked i) t f u r
-        → x ≡ record { records = r.records; files = r.files; warnings = r.warnings; stats = r.stats } → w ≡ replicate (length i.work) 0
+        → x ≡ record { lengths = r.lengths; stats = r.stats } → w ≡ replicate (length i.work) 0
         → ImportsBy asked i w t f u (Ok x)
     unfolding answer_of buffer_after written
     answers_done {w} {t} {f} {u} {r} {x} F ex ew =
@@ -212,17 +215,11 @@ module _ (asked : Maybe ℕ) (i : Inputs) where
 
 -- ---- the entry points
 
--- what five slices hold, as the definitions have it
-pub held : {main supplementary program lists addresses : List ℕ} {r : lent.Inputs} → Holds main supplementary program lists addresses r → (o : Options) (w t f u : List ℕ)
-    → lent_of r o w t f u ≡ inputs_by main supplementary program lists addresses o w t f u
-held H o w t f u = λ k. inputs_by (H.main-is k) (H.supplementary-is k) (H.program-is k) (H.lists-is k) (H.addresses-is k) o w t f u
-
-module _ {main supplementary program lists addresses : List ℕ} {r : lent.Inputs} (H : Holds main supplementary program lists addresses r) (o : Options)
-    {w t f u w' t' f' u' : List ℕ} {x : Result Imported Refusal} where
-  pub of_unit : {n : ℕ} → ImportsBy (Some n) (lent_of r o w t f u) w' t' f' u' x → ImportsUnit (inputs_by main supplementary program lists addresses o w t f u) w' t' f' u' x
+module _ {i : Inputs} {w t f u : List ℕ} {x : Result Imported Refusal} where
+  pub of_unit : {n : ℕ} → ImportsBy (Some n) i w t f u x → ImportsUnit i w t f u x
   unfolding after
-  of_unit {n} I = let J = subst (λ (i : Inputs). ImportsBy (Some n) i w' t' f' u' x) (held H o w t f u) I in record { is = J.is; demand = J.demand }
+  of_unit I = record { is = I.is; demand = I.demand }
 
-  pub of_all : ImportsBy None (lent_of r o w t f u) w' t' f' u' x → ImportsDwarf (inputs_by main supplementary program lists addresses o w t f u) w' t' f' u' x
+  pub of_all : ImportsBy None i w t f u x → ImportsDwarf i w t f u x
   unfolding after_dwarf
-  of_all I = let J = subst (λ (i : Inputs). ImportsBy None i w' t' f' u' x) (held H o w t f u) I in record { is = J.is; demand = J.demand }
+  of_all I = record { is = I.is; demand = I.demand }

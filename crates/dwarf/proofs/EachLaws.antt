@@ -64,23 +64,23 @@ module _ {A : Type 0} where
   from_at (y ∷ xs) (suc k) x e h = from_at xs k x e (omega arith)
 
 module _ {main supplementary program lists w : List ℕ} {l : Layout} {x : Indexes} (T : TablesIn main supplementary program lists w l x) where
-  pub place_inside : (k p : ℕ) → k < x.main.unit_count → p ≡ le_at 8 w (x.main.units + 24 * k + 16) → UnitIn main p × (at (units main) k ≡ some (unit_here main p))
+  pub place_inside : (k p : ℕ) → k < x.main.units.count → p ≡ le_at 8 w (x.main.units.base + 24 * k + 16) → UnitIn main p × (at (units main) k ≡ some (unit_here main p))
   unfolding unit_of24 indexed_unit map_option
   place_inside k p h e =
       let I = T.of_main.index in
       let places = unit_places 0 (fields main) in
       let inside : k < length places = omega (arith, T.of_main.unit-count) in
-      let one : get_or (records unit_of24 24 w x.main.units x.main.unit_count) k (indexed_unit main 0) ≡ unit_of24 (chunk w (x.main.units + k * 24) 24) =
-      records-at unit_of24 24 w x.main.units x.main.unit_count k (indexed_unit main 0) h in
+      let one : get_or (records unit_of24 24 w x.main.units.base x.main.units.count) k (indexed_unit main 0) ≡ unit_of24 (chunk w (x.main.units.base + k * 24) 24) =
+      records-at unit_of24 24 w x.main.units.base x.main.units.count k (indexed_unit main 0) h in
       let two : get_or (map (indexed_unit main) places) k (indexed_unit main 0) ≡ indexed_unit main (get_or places k 0) = get_or_image (indexed_unit main) places k 0 (indexed_unit main 0) inside in
-      let same : unit_of24 (chunk w (x.main.units + k * 24) 24) ≡ indexed_unit main (get_or places k 0) =
+      let same : unit_of24 (chunk w (x.main.units.base + k * 24) 24) ≡ indexed_unit main (get_or places k 0) =
       sym one ∙ ap (λ (us : List IndexedUnit). get_or us k (indexed_unit main 0)) I.units ∙ two in
       let place_is : p ≡ get_or places k 0 =
-      e ∙ ap (λ (n : ℕ). le_at 8 w n) (omega arith) ∙ sym (le_at-chunk 8 w (x.main.units + k * 24) 24 16 (omega arith)) ∙ ap (λ (u : IndexedUnit). u.place) same in
+      e ∙ ap (λ (n : ℕ). le_at 8 w n) (omega arith) ∙ sym (le_at-chunk 8 w (x.main.units.base + k * 24) 24 16 (omega arith)) ∙ ap (λ (u : IndexedUnit). u.place) same in
       let stands : at places k ≡ some p = at-inside places k 0 inside ∙ ap some (sym place_is) in
       (record { number = k; is = stands }, units-at main k ∙ ap (map_option (unit_here main)) stands)
 
-  pub units-many : length (units main) ≡ x.main.unit_count
+  pub units-many : length (units main) ≡ x.main.units.count
   units-many = ap length (units-places main) ∙ length-map (unit_places 0 (fields main)) (unit_here main) ∙ sym T.of_main.unit-count
 
 -- ---- what the definition does
@@ -112,7 +112,7 @@ pub record ImportingUnits (main supplementary program lists addresses : List ℕ
     (w t f u : List ℕ) (st : ImportState) (k : ℕ) : Type 0 where
   pub begun : from ≤ k
   pub few : k ≤ to
-  pub within : to ≤ x.main.unit_count
+  pub within : to ≤ x.main.units.count
   pub fits : All (UnitEnough main supplementary program lists (length w)) (units_from main k to)
   pub tables : TablesIn main supplementary program lists w l x
   pub ready : Ready main supplementary w l st
@@ -125,7 +125,7 @@ pub record ImportingUnits (main supplementary program lists addresses : List ℕ
   pub left : (s : State) → import_units (dwarf_with main supplementary lists addresses) (units_from main from to) program inlines call_sites s
       ≡ (before s >>= import_units (dwarf_with main supplementary lists addresses) (units_from main k to) program inlines call_sites)
 
-pub units-start : {main supplementary program lists : List ℕ} (addresses : List ℕ) {l : Layout} {x : Indexes} (inlines call_sites : Bool) {from to : ℕ} {w t f u : List ℕ} {st : ImportState} → from ≤ to → to ≤ x.main.unit_count
+pub units-start : {main supplementary program lists : List ℕ} (addresses : List ℕ) {l : Layout} {x : Indexes} (inlines call_sites : Bool) {from to : ℕ} {w t f u : List ℕ} {st : ImportState} → from ≤ to → to ≤ x.main.units.count
     → All (UnitEnough main supplementary program lists (length w)) (units_from main from to) → TablesIn main supplementary program lists w l x → Ready main supplementary w l st → length t < top → length f < top → length u < top
     → ImportingUnits main supplementary program lists addresses l x inlines call_sites from to w t f u st w t f u st from
 units-start {main} {supplementary} {program} {lists} addresses inlines call_sites {from} {to} a b F T R small tiny few = record {
@@ -150,7 +150,7 @@ module _ {main supplementary program lists addresses : List ℕ} {l : Layout} {x
   whole = import_units (dwarf_with main supplementary lists addresses) (units_from main from to) program inlines call_sites
 
   -- the record of the next unit lies in the slice
-  pub record-inside : k < to → x.main.units + 24 * k + 24 ≤ length w
+  pub record-inside : k < to → x.main.units.base + 24 * k + 24 ≤ length w
   record-inside h = let a = I.tables.of_main.index.units-within in let b = I.within in omega arith
 
   pub units-end : to ≤ k → Grows whole (sheets main supplementary) (above_tables l (length w₀)) (memory w₀ t₀ f₀ u₀) st₀ (memory w t f u) 0 st
@@ -159,7 +159,7 @@ module _ {main supplementary program lists addresses : List ℕ} {l : Layout} {x
       grows_as (λ s. I.left s ∙ ap (λ (n : ℕ). I.before s >>= import_units (dwarf_with main supplementary lists addresses) (take n (drop k (units main))) program inlines call_sites) none
       ∙ after_none (dwarf_with main supplementary lists addresses) program inlines call_sites (I.before s)) I.does
 
-  module _ (h : k < to) {p : ℕ} (e : p ≡ le_at 8 w (x.main.units + 24 * k + 16)) where
+  module _ (h : k < to) {p : ℕ} (e : p ≡ le_at 8 w (x.main.units.base + 24 * k + 16)) where
     pub unit-in : UnitIn main p
     unit-in = (place_inside I.tables k p (let b = I.within in omega arith) e).0
 

@@ -82,7 +82,7 @@ module _ {main supplementary program lists : List ℕ} (w : List ℕ) {l : Layou
 -- ---- they stay
 
 index-but : {s w w' : List ℕ} {units entries : ℕ} {x : Index} {rs : List (ℕ × ℕ)} → IndexedAt s w units entries x → KeptBut w w' rs
-    → Clear x.units (x.unit_count * 24) rs → Clear x.entries (x.entry_count * 16) rs → length w' ≡ length w → IndexedAt s w' units entries x
+    → Clear x.units.base (x.units.count * 24) rs → Clear x.entries.base (x.entries.count * 16) rs → length w' ≡ length w → IndexedAt s w' units entries x
 index-but H K a b size = record { index = index-clear H.index K a b size; units-at = H.units-at; entries_at = H.entries_at; unit-count = H.unit-count; entry-count = H.entry-count }
 
 module _ {main supplementary program lists w : List ℕ} {l : Layout} {x : Indexes} (T : TablesIn main supplementary program lists w l x) where
@@ -93,7 +93,7 @@ module _ {main supplementary program lists w : List ℕ} {l : Layout} {x : Index
   accepted-supplementary = record { number = T.of-supplementary.index.number; is = T.of-supplementary.index.accepted }
 
   -- each table stands below the file table
-  pub units-below : x.main.units + 24 * x.main.unit_count ≤ l.files
+  pub units-below : x.main.units.base + 24 * x.main.units.count ≤ l.files
   units-below =
       let H = T.of_main in
       let a = T.laid.main-entries in
@@ -101,21 +101,21 @@ module _ {main supplementary program lists w : List ℕ} {l : Layout} {x : Index
       let c = supplementary-below T.laid in
       omega (arith, H.units-at, H.unit-count)
 
-  pub entries_within : x.main.entries + 16 * x.main.entry_count ≤ l.files
+  pub entries_within : x.main.entries.base + 16 * x.main.entries.count ≤ l.files
   entries_within =
       let H = T.of_main in
       let b = main-below T.laid in
       let c = supplementary-below T.laid in
       omega (arith, H.entries_at, H.entry-count)
 
-  pub other-units_below : x.supplementary.units + 24 * x.supplementary.unit_count ≤ l.files
+  pub other-units_below : x.supplementary.units.base + 24 * x.supplementary.units.count ≤ l.files
   other-units_below =
       let H = T.of-supplementary in
       let a = T.laid.supplementary-entries in
       let b = T.laid.files in
       omega (arith, H.units-at, H.unit-count)
 
-  pub other-entries_below : x.supplementary.entries + 16 * x.supplementary.entry_count ≤ l.files
+  pub other-entries_below : x.supplementary.entries.base + 16 * x.supplementary.entries.count ≤ l.files
   other-entries_below =
       let H = T.of-supplementary in
       let b = T.laid.files in
@@ -133,8 +133,8 @@ module _ {main supplementary program lists w : List ℕ} {l : Layout} {x : Index
       let d = other-entries_below in
       record {
         laid = T.laid;
-        of_main = index-but T.of_main K (below-files x.main.units (x.main.unit_count * 24) (omega arith))
-            (below-files x.main.entries (x.main.entry_count * 16) (omega arith)) size;
-        of-supplementary = index-but T.of-supplementary K (below-files x.supplementary.units (x.supplementary.unit_count * 24) (omega arith))
-            (below-files x.supplementary.entries (x.supplementary.entry_count * 16) (omega arith)) size;
+        of_main = index-but T.of_main K (below-files x.main.units.base (x.main.units.count * 24) (omega arith))
+            (below-files x.main.entries.base (x.main.entries.count * 16) (omega arith)) size;
+        of-supplementary = index-but T.of-supplementary K (below-files x.supplementary.units.base (x.supplementary.units.count * 24) (omega arith))
+            (below-files x.supplementary.entries.base (x.supplementary.entries.count * 16) (omega arith)) size;
       }

@@ -14,7 +14,7 @@ use Rattle.dwarf.specs.Runs.{import_all}
 
 -- an answer: a refusal's number is the papers'
 abbrev pub answer_given : Result Imported Refusal → Answer
-answer_given (Ok x) = record { refusal = 0; records = x.records; files = x.files; warnings = x.warnings; stats = stats_of x.stats }
+answer_given (Ok x) = record { refusal = 0; records = x.lengths.records; files = x.lengths.files; warnings = x.lengths.warnings; stats = stats_of x.stats }
 answer_given (Err e) = record { refusal = number_of e; records = 0; files = 0; warnings = 0; stats = no_stats }
 
 -- what a call leaves behind: the answer r, the work slice w, the output buffers t, f and u

@@ -4,3 +4,4 @@ pub mod Given
 pub mod Runs
 pub mod Lent
 pub mod Answers
+pub mod Sizes

@@ -13,6 +13,7 @@ use Rattle.subprograms.specs.declared.model.ImportState.{ImportState}
 use Rattle.subprograms.specs.Stats.{stats_of}
 use Rattle.checks.specs.declared.options.Options.{Options}
 use Rattle.checks.specs.Checks.{missing_of, chosen_units}
+use Rattle.dwarf.specs.declared.model.Lengths.{Lengths}
 use Rattle.dwarf.specs.declared.run.Ran.{Ran}
 use Rattle.dwarf.specs.declared.unit.Chosen.{Chosen}
 
@@ -72,9 +73,9 @@ start_state first = record { table = record { first = first; entries = [] }; rec
 
 -- the lengths and statistics of a state
 pub record LengthsOf (st : ImportState) (r : Ran) : Type 0 where
-  pub records : r.records ≡ st.at
-  pub files : r.files ≡ st.table.written
-  pub warnings : r.warnings ≡ st.warned
+  pub records : r.lengths.records ≡ st.at
+  pub files : r.lengths.files ≡ st.table.written
+  pub warnings : r.lengths.warnings ≡ st.warned
   pub stats : r.stats ≡ st.stats
   pub past : r.past ≡ st.past
 
@@ -82,10 +83,10 @@ pub record LengthsOf (st : ImportState) (r : Ran) : Type 0 where
 pub record Written (o : Outcome State) (t f u t' f' u' : List ℕ) (r : Ran) : Type 0 where
   pub state : State
   pub is : o ≡ done state
-  pub records : Put 0 (records_bytes state.records) t t' r.records
+  pub records : Put 0 (records_bytes state.records) t t' r.lengths.records
   pub past : r.past ≡ is_past 0 (length (records_bytes state.records))
-  pub files : Put 0 (files_bytes state.table.entries) f f' r.files
-  pub warnings : Put 0 (warnings_bytes state.warnings) u u' r.warnings
+  pub files : Put 0 (files_bytes state.table.entries) f f' r.lengths.files
+  pub warnings : Put 0 (warnings_bytes state.warnings) u u' r.lengths.warnings
   pub stats : stats_of r.stats ≡ state.stats
 
 -- the definition's outcome o was written to the output buffers, as far as they reach; or it is refused
@@ -99,10 +100,10 @@ pub record Writes (o : Outcome State) (t f u t' f' u' : List ℕ) (r : Result Ra
 -- ---- refusals 16 to 18
 
 -- a run whose output buffers have these lengths: it, or its refusal
-unfoldable pub fit_of : Result Ran Refusal → ℕ → ℕ → ℕ → Result Ran Refusal
-fit_of (Err e) records files warnings = Err e
-fit_of (Ok r) records files warnings =
-    cond (ltb records r.records) (Err Refusal.ShortRecords)
-    (cond (ltb files r.files) (Err Refusal.ShortFiles)
-    (cond (ltb warnings r.warnings) (Err Refusal.ShortWarnings)
+unfoldable pub fit_of : Result Ran Refusal → Lengths → Result Ran Refusal
+fit_of (Err e) lent = Err e
+fit_of (Ok r) lent =
+    cond (ltb lent.records r.lengths.records) (Err Refusal.ShortRecords)
+    (cond (ltb lent.files r.lengths.files) (Err Refusal.ShortFiles)
+    (cond (ltb lent.warnings r.lengths.warnings) (Err Refusal.ShortWarnings)
     (Ok r)))

@@ -1,11 +1,12 @@
 -- Contract. The tables of both inputs in the work slice, and the context of a unit that is made beside them.
 use Rattle.std.specs.Prelude.{◌≡◌, Bool, List, [], ◌∷◌, ℕ, ◌+◌, ◌-◌, ◌*◌, ◌≤◌, length}
 use Rattle.tlv.specs.Fields.{fields}
+use Rattle.tlv.specs.declared.model.FileIndex.{FileIndex}
+use Rattle.buffers.specs.declared.table.Stored.{Stored}
 use Rattle.buffers.specs.Table.{Kept, KeptBut}
 use Rattle.access.specs.Places.{unit_places}
 use Rattle.access.specs.Units.{unit_record}
 use Rattle.access.specs.Index.{entry_record}
-use Rattle.files.specs.declared.index.StoredIndices.{StoredIndices}
 use Rattle.files.specs.declared.store.StoredFiles.{StoredFiles}
 use Rattle.files.specs.Store.{extent, FilesIn}
 use Rattle.files.specs.Indices.{index_record}
@@ -27,10 +28,10 @@ use Rattle.dwarf.specs.declared.tables.Indexes.{Indexes}
 -- an input's units stand in a table at `units`, its entries in one at `entries`
 pub record IndexedAt (s w : List ℕ) (units entries : ℕ) (x : Index) : Type 0 where
   pub index : IndexIn s w x
-  pub units-at : x.units ≡ units
-  pub entries_at : x.entries ≡ entries
-  pub unit-count : x.unit_count ≡ length (unit_places 0 (fields s))
-  pub entry-count : x.entry_count ≡ entry_count s
+  pub units-at : x.units.base ≡ units
+  pub entries_at : x.entries.base ≡ entries
+  pub unit-count : x.units.count ≡ length (unit_places 0 (fields s))
+  pub entry-count : x.entries.count ≡ entry_count s
 
 -- they were written there
 pub record IndexesInput (s w w' : List ℕ) (units entries : ℕ) (r : Index) : Type 0 where
@@ -53,30 +54,30 @@ pub record IndexesInputs (main supplementary program lists w w' : List ℕ) (l :
 -- ---- a unit
 
 -- the unit's lines and its map stand in w, below the place of its executable ranges
-pub record LinesLaid (w : List ℕ) (l : Layout) (p : UnitLayout) (lines : StoredLines) (indices : StoredIndices) : Type 0 where
+pub record LinesLaid (w : List ℕ) (l : Layout) (p : UnitLayout) (lines : StoredLines) (indices : Stored FileIndex) : Type 0 where
   pub rows : RowsIn w lines
   pub from : l.lines ≤ indices.base
-  pub map : indices.base + indices.count * index_record ≤ lines.lines
-  pub sequences : lines.lines + lines.line_count * line_size ≤ lines.sequences
-  pub within : lines.buffer + entry_size + lines.line_count * entry_size ≤ p.text
+  pub map : indices.base + indices.count * index_record ≤ lines.lines.base
+  pub sequences : lines.lines.base + lines.lines.count * line_size ≤ lines.sequences.base
+  pub within : lines.buffer + entry_size + lines.lines.count * entry_size ≤ p.text
 
 -- the context of a unit was made behind its lines, which stay as they are
 pub record MakesContext (main supplementary lists addresses w w' : List ℕ) (l : Layout) (p : UnitLayout) (unit : ℕ) (lines : StoredLines)
-    (indices : StoredIndices) (inlines call_sites : Bool) (q : ImportContext) : Type 0 where
+    (indices : Stored FileIndex) (inlines call_sites : Bool) (q : ImportContext) : Type 0 where
   pub context : (t : StoredFiles) → l.files ≤ t.base → t.base + extent t ≤ l.lines → FilesIn main supplementary w t
       → ContextIn main supplementary w' q t
   -- it reads what is lent
   pub main-is : main_of q ≡ main
   pub supplementary-is : supplementary_of q ≡ supplementary
-  pub lists_is : q.lists.lists.now ≡ lists
-  pub addresses-is : q.lists.addresses.now ≡ addresses
-  pub unit-is : q.unit ≡ unit
+  pub lists_is : q.context.lists.lists.now ≡ lists
+  pub addresses-is : q.context.lists.addresses.now ≡ addresses
+  pub unit-is : q.context.unit ≡ unit
   pub lines-is : q.lines ≡ lines
-  pub indices-is : q.places.indices ≡ indices
-  pub inlines-is : q.include_inlines ≡ inlines
-  pub call_sites-is : q.include_call_sites ≡ call_sites
+  pub indices-is : q.context.indices ≡ indices
+  pub inlines-is : q.context.include_inlines ≡ inlines
+  pub call_sites-is : q.context.include_call_sites ≡ call_sites
   -- where what is written for the unit stands
-  pub spans-is : q.places.spans ≡ p.spans
-  pub room-is : q.places.room ≡ l.span_room
-  pub ranges-is : q.ranges ≡ p.ranges
+  pub spans-is : q.spans ≡ p.spans
+  pub room-is : q.room ≡ l.span_room
+  pub ranges-is : q.context.ranges ≡ p.ranges
   pub rest : Kept w w' p.text (p.spans - p.text)

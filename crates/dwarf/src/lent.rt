@@ -5,8 +5,7 @@ use files::sheets::Sheets;
 use rnglists::lists::RangeLists;
 
 // What is read: both inputs, the line program, the range lists and their addresses.
-// Stays bare: it holds whole sections, which no program prints.
-#[derive(Clone, Copy)]
+#[derive(Clone, Copy, Debug)]
 pub struct Inputs<'a> {
     pub sheets: Sheets<'a>,
     pub program: &'a [u8],

@@ -11,12 +11,14 @@ ghost use Rattle.dwarf.specs.Tables.{IndexesInput, IndexesInputs};
 ghost use Rattle.dwarf.specs.Given.{LaidOutFor};
 
 use crate::lent::Inputs;
+use access::index::index_entries;
+use access::units::index_units;
+use buffers::table::Stored;
 use checks::layout::Layout;
 use references::tables::Index;
 
 // The layout of the work slice, and the tables of both inputs that stand by it.
-// Stays bare: no program prints it.
-#[derive(Clone, Copy)]
+#[derive(Clone, Copy, Debug)]
 pub struct Indexes {
     pub layout: Layout,
     pub main: Index,
@@ -24,33 +26,34 @@ pub struct Indexes {
 }
 
 // The units and the entries of an input, in tables of the work slice.
+// Stays beside search_answers' index_sheet: where the tables end is promised here by the layout's places, there by the number of fields.
 fn index_input(s: &[u8], work: &mut [u8], units: usize, entries: usize) -> Index
     requires accepted { Accepted s.now }
-    requires s_len_bound { length s.now ≤ input_limit }
-    requires s_bound { units + unit_record * length (unit_places 0 (fields s.now)) ≤ entries }
-    requires s_in_bounds { entries + entry_record * length (payloads entry_tag (whole_fields (fields s.now))) ≤ length work.old }
+    requires small { length s.now ≤ input_limit }
+    requires units_fit { units + unit_record * length (unit_places 0 (fields s.now)) ≤ entries }
+    requires entries_fit { entries + entry_record * length (payloads entry_tag (whole_fields (fields s.now))) ≤ length work.old }
     ensures { IndexesInput s.now work.old work.new units entries result }
 {
+    let unit_count = index_units(s, work, units);
+    let entry_count = index_entries(s, work, entries);
     Index {
-        units,
-        unit_count: access::units::index_units(s, work, units),
-        entries,
-        entry_count: access::index::index_entries(s, work, entries),
+        units: Stored::new(units, unit_count),
+        entries: Stored::new(entries, entry_count),
     }
 }
 
 // The tables of both inputs are made, once for all units of an import.
-pub fn index_inputs(i: Inputs, layout: Layout, work: &mut [u8]) -> Indexes
-    requires accepted { (Accepted i.sheets.main.now) × (Accepted i.sheets.supplementary.now) }
-    requires main_len_bound { (length i.sheets.main.now ≤ input_limit) × (length i.sheets.supplementary.now ≤ input_limit) }
-    requires laid_out { LaidOutFor i layout }
-    requires files_in_bounds { layout.files ≤ length work.old }
-    ensures { IndexesInputs i.entry.sheets.main.now i.entry.sheets.supplementary.now i.entry.program.now
-        i.entry.lists.lists.now work.old work.new layout result }
+pub fn index_inputs(inputs: Inputs, layout: Layout, work: &mut [u8]) -> Indexes
+    requires accepted { (Accepted inputs.sheets.main.now) × (Accepted inputs.sheets.supplementary.now) }
+    requires small { (length inputs.sheets.main.now ≤ input_limit) × (length inputs.sheets.supplementary.now ≤ input_limit) }
+    requires laid_out { LaidOutFor inputs layout }
+    requires tables_fit { layout.files ≤ length work.old }
+    ensures { IndexesInputs inputs.entry.sheets.main.now inputs.entry.sheets.supplementary.now inputs.entry.program.now
+        inputs.entry.lists.lists.now work.old work.new layout result }
 {
-    let main = index_input(i.sheets.main, work, 0, layout.main_entries);
+    let main = index_input(inputs.sheets.main, work, 0, layout.main_entries);
     let supplementary = index_input(
-        i.sheets.supplementary,
+        inputs.sheets.supplementary,
         work,
         layout.supplementary_units,
         layout.supplementary_entries,

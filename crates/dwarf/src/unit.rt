@@ -17,19 +17,19 @@ use access::units::UNIT_RECORD;
 use checks::layout::{UnitLayout, place_unit};
 use checks::options::Options;
 use collect::collect::{CollectedLines, LineUnit, collect_lines};
-use declarations::declaring::Places;
+use dies::details::UnitContext;
 use references::tables::Tables;
 use subprograms::model::{ImportContext, ImportState, Outputs};
 use subprograms::text::index_text;
-use subprograms::units::import_unit_details;
 use tlv::bytes::Number;
 use tlv::refusal::Refusal;
 
 // Where in a record of the table of units the unit's place stands.
+// Stays a place in a record: `UnitSpan::read` reads three numbers, of which import_each needs this one.
 const UNIT_PLACE: usize = 16;
 
 // The units from number `from` to below `to`.
-// Stays a struct: the definition speaks of its two numbers.
+// Stays a struct: std's `Range` is no Copy value, and the contracts read both of its numbers besides the loop over it.
 #[derive(Clone, Copy, Debug)]
 pub struct Chosen {
     pub from: usize,
@@ -38,113 +38,116 @@ pub struct Chosen {
 
 // What is the same for every subprogram of a unit whose lines were collected.
 fn unit_context<'a>(
-    i: Inputs<'a>,
-    x: Indexes,
-    p: UnitLayout,
+    inputs: Inputs<'a>,
+    indexes: Indexes,
+    parts: UnitLayout,
     place: usize,
-    c: CollectedLines,
+    collected: CollectedLines,
     options: Options,
     work: &mut [u8],
 ) -> ImportContext<'a>
-    requires unit_in { UnitIn i.sheets.main.now place }
-    requires tables_in { TablesFor i work.old x }
-    requires unit_laid { UnitLaidFor i work.old x place p }
-    requires lines_laid { LinesLaid work.old x.layout p c.lines c.indices }
-    ensures { MakesContext i.entry.sheets.main.now i.entry.sheets.supplementary.now i.entry.lists.lists.now
-        i.entry.lists.addresses.now work.old work.new x.layout p place c.lines c.indices
+    requires unit_in { UnitIn inputs.sheets.main.now place }
+    requires tables_in { TablesFor inputs work.old indexes }
+    requires unit_laid { UnitLaidFor inputs work.old indexes place parts }
+    requires lines_laid { LinesLaid work.old indexes.layout parts collected.lines collected.indices }
+    ensures { MakesContext inputs.entry.sheets.main.now inputs.entry.sheets.supplementary.now inputs.entry.lists.lists.now
+        inputs.entry.lists.addresses.now work.old work.new indexes.layout parts place collected.lines collected.indices
         options.inlines options.call_sites result }
 {
-    let text = index_text(i.sheets.main, place, work, p.text);
+    let text = index_text(inputs.sheets.main, place, work, parts.text);
     let tables = Tables {
-        sheets: i.sheets,
-        main: x.main,
-        supplementary: x.supplementary,
-        keys: p.keys,
+        sheets: inputs.sheets,
+        main: indexes.main,
+        supplementary: indexes.supplementary,
+        keys: parts.keys,
     };
-    let places = Places {
+    let context = UnitContext {
         tables,
-        indices: c.indices,
-        spans: p.spans,
-        room: x.layout.span_room,
-    };
-    ImportContext {
-        places,
-        lists: i.lists,
+        lists: inputs.lists,
         unit: place,
-        lines: c.lines,
-        text,
-        ranges: p.ranges,
-        stack: p.stack,
-        sites: p.sites,
+        indices: collected.indices,
+        ranges: parts.ranges,
+        stack: parts.stack,
+        sites: parts.sites,
         include_inlines: options.inlines,
         include_call_sites: options.call_sites,
-        with_lists: x.layout.with_lists,
+        with_lists: indexes.layout.with_lists,
+    };
+    ImportContext {
+        context,
+        lines: collected.lines,
+        text,
+        spans: parts.spans,
+        room: indexes.layout.span_room,
     }
 }
 
 // The import of the unit at a place.
 fn import_at(
-    i: Inputs,
-    x: Indexes,
+    inputs: Inputs,
+    indexes: Indexes,
     place: usize,
     options: Options,
     work: &mut [u8],
-    t: &mut Outputs,
-    st: ImportState,
+    outputs: &mut Outputs,
+    state: ImportState,
 ) -> Result<ImportState, Refusal>
-    requires unit_in { UnitIn i.sheets.main.now place }
-    requires unit_enough { EnoughFor i work.old (unit_here i.sheets.main.now place) }
-    requires tables_in { TablesFor i work.old x }
-    requires ready { ReadyFor i work.old x st }
-    ensures is { let u = unit_here i.entry.sheets.main.now place in
-        GrowsTo (import_unit (dwarf_lent i.entry) u i.entry.program.now options.inlines options.call_sites)
-        i.entry x work.old t.old st work.new t.new result }
-    ensures same { SameOutputs t.old t.new }
+    requires unit_in { UnitIn inputs.sheets.main.now place }
+    requires unit_enough { EnoughFor inputs work.old (unit_here inputs.sheets.main.now place) }
+    requires tables_in { TablesFor inputs work.old indexes }
+    requires ready { ReadyFor inputs work.old indexes state }
+    ensures is { let u = unit_here inputs.entry.sheets.main.now place in
+        GrowsTo (import_unit (dwarf_lent inputs.entry) u inputs.entry.program.now options.inlines options.call_sites)
+        inputs.entry indexes work.old outputs.old state work.new outputs.new result }
+    ensures same { SameOutputs outputs.old outputs.new }
 {
-    let p = place_unit(i.sheets.main, place, x.layout);
-    let u = LineUnit {
-        sheets: i.sheets,
-        program: program_part(i.sheets.main, place, i.program),
+    let parts = place_unit(inputs.sheets.main, place, indexes.layout);
+    let lines = LineUnit {
+        sheets: inputs.sheets,
+        program: program_part(inputs.sheets.main, place, inputs.program),
         place,
-        free: x.layout.lines,
+        free: indexes.layout.lines,
     };
-    let c = collect_lines(u, work, t.files, t.warnings, st.table, st.warned)?;
-    let q = unit_context(i, x, p, place, c, options, work);
-    let begun = ImportState {
-        table: c.table,
-        at: st.at,
-        warned: c.warned,
-        stats: st.stats,
-        past: st.past,
-    };
-    import_unit_details(q, work, t, begun)
+    let collected = collect_lines(
+        lines,
+        work,
+        outputs.files,
+        outputs.warnings,
+        state.table,
+        state.warned,
+    )?;
+    let context = unit_context(inputs, indexes, parts, place, collected, options, work);
+    let mut begun = state;
+    begun.table = collected.table;
+    begun.warned = collected.warned;
+    context.import_unit_details(work, outputs, begun)
 }
 
 // The units that are asked for, one after another; the first that is refused ends it.
 pub fn import_each(
-    i: Inputs,
-    x: Indexes,
+    inputs: Inputs,
+    indexes: Indexes,
     chosen: Chosen,
     options: Options,
     work: &mut [u8],
-    t: &mut Outputs,
-    st: ImportState,
+    outputs: &mut Outputs,
+    state: ImportState,
 ) -> Result<ImportState, Refusal>
-    requires from_le_to { (chosen.from ≤ chosen.to) × (chosen.to ≤ x.main.unit_count) }
-    requires all { All (EnoughFor i work.old)
-        (take (chosen.to - chosen.from) (drop chosen.from (units i.sheets.main.now))) }
-    requires tables_in { TablesFor i work.old x }
-    requires ready { ReadyFor i work.old x st }
-    ensures is { let us = take (chosen.to - chosen.from) (drop chosen.from (units i.entry.sheets.main.now)) in
-        GrowsTo (import_units (dwarf_lent i.entry) us i.entry.program.now options.inlines options.call_sites)
-        i.entry x work.old t.old st work.new t.new result }
-    ensures same { SameOutputs t.old t.new }
+    requires from_le_to { (chosen.from ≤ chosen.to) × (chosen.to ≤ indexes.main.units.count) }
+    requires all { All (EnoughFor inputs work.old)
+        (take (chosen.to - chosen.from) (drop chosen.from (units inputs.sheets.main.now))) }
+    requires tables_in { TablesFor inputs work.old indexes }
+    requires ready { ReadyFor inputs work.old indexes state }
+    ensures is { let us = take (chosen.to - chosen.from) (drop chosen.from (units inputs.entry.sheets.main.now)) in
+        GrowsTo (import_units (dwarf_lent inputs.entry) us inputs.entry.program.now options.inlines options.call_sites)
+        inputs.entry indexes work.old outputs.old state work.new outputs.new result }
+    ensures same { SameOutputs outputs.old outputs.new }
 {
-    let units = x.main.units;
-    let mut r = st;
+    let units = indexes.main.units.base;
+    let mut reached = state;
     for k in chosen.from..chosen.to {
         let place = u64::read(work, units + UNIT_RECORD * k + UNIT_PLACE) as usize;
-        r = import_at(i, x, place, options, work, t, r)?;
+        reached = import_at(inputs, indexes, place, options, work, outputs, reached)?;
     }
-    Ok(r)
+    Ok(reached)
 }

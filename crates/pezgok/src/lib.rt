@@ -1,4 +1,6 @@
 // The import for callers from C and Rust: include/pezgok.h declares these functions.
+// Stays, in all of this crate, with numbers for answers and for refusals, slices and numbers lent to write an answer to, and parameters apart: the header
+// declares each function so, and each `tell` writes one kind of answer in that form.
 #![tactic(auto)]
 
 ghost use Rattle.std.specs.Prelude.{◌≡◌, []};
@@ -8,7 +10,9 @@ ghost use Rattle.dwarf.specs.Answers.{answer_given};
 ghost use Rattle.words.specs.Words.{refusal_word};
 ghost use Rattle.pezgok.specs.Exported.{answer_in, Exports, ExportsMeasure};
 
+use dwarf::lent::Inputs;
 use dwarf::model::Imported;
+use subprograms::model::Outputs;
 use tlv::refusal::Refusal;
 
 pub mod index;
@@ -28,9 +32,9 @@ pub fn tell(answer: Result<Imported, Refusal>, values: &mut [u64; 7]) -> u8
         }
         Ok(finished) => {
             *values = [
-                finished.records as u64,
-                finished.files as u64,
-                finished.warnings as u64,
+                finished.lengths.records as u64,
+                finished.lengths.files as u64,
+                finished.lengths.warnings as u64,
                 finished.stats.functions,
                 finished.stats.line_rows,
                 finished.stats.inline_nodes,
@@ -65,20 +69,20 @@ pub extern "C" fn pezgok_import<'a>(
         work.old records.old files.old warnings.old in
         Exports i work.new records.new files.new warnings.new values.new result }
 {
+    let inputs = Inputs::new(main, supplementary, program, lists, addresses);
+    let mut outputs = Outputs {
+        records,
+        files,
+        warnings,
+    };
     let answer = dwarf::import::import_unit(
-        main,
-        supplementary,
-        program,
-        lists,
-        addresses,
+        inputs,
         ordinal,
         inlines,
         call_sites,
         first_file,
         work,
-        records,
-        files,
-        warnings,
+        &mut outputs,
     );
     tell(answer, values)
 }
@@ -104,17 +108,9 @@ pub extern "C" fn pezgok_measure<'a>(
         work.old [] [] [] in
         ExportsMeasure i work.new values.new result }
 {
+    let inputs = Inputs::new(main, supplementary, program, lists, addresses);
     let answer = dwarf::import::measure_unit(
-        main,
-        supplementary,
-        program,
-        lists,
-        addresses,
-        ordinal,
-        inlines,
-        call_sites,
-        first_file,
-        work,
+        inputs, ordinal, inlines, call_sites, first_file, work,
     );
     tell(answer, values)
 }

@@ -3,6 +3,9 @@ ghost use Rattle.std.specs.Prelude.{[]};
 ghost use Rattle.dwarf.specs.Runs.{inputs_of};
 ghost use Rattle.pezgok.specs.Exported.{ExportsDwarf, ExportsMeasureDwarf};
 
+use dwarf::lent::Inputs;
+use subprograms::model::Outputs;
+
 // Imports all units of the main input in order and tells the answer.
 // Stays beside its twins, with its parameters apart and a number for an answer: include/pezgok.h declares each so.
 #[unsafe(no_mangle)]
@@ -26,19 +29,19 @@ pub extern "C" fn pezgok_import_dwarf<'a>(
         work.old records.old files.old warnings.old in
         ExportsDwarf i work.new records.new files.new warnings.new values.new result }
 {
+    let inputs = Inputs::new(main, supplementary, program, lists, addresses);
+    let mut outputs = Outputs {
+        records,
+        files,
+        warnings,
+    };
     let answer = dwarf::import::import_dwarf(
-        main,
-        supplementary,
-        program,
-        lists,
-        addresses,
+        inputs,
         inlines,
         call_sites,
         first_file,
         work,
-        records,
-        files,
-        warnings,
+        &mut outputs,
     );
     crate::tell(answer, values)
 }
@@ -63,16 +66,7 @@ pub extern "C" fn pezgok_measure_dwarf<'a>(
         work.old [] [] [] in
         ExportsMeasureDwarf i work.new values.new result }
 {
-    let answer = dwarf::import::measure_dwarf(
-        main,
-        supplementary,
-        program,
-        lists,
-        addresses,
-        inlines,
-        call_sites,
-        first_file,
-        work,
-    );
+    let inputs = Inputs::new(main, supplementary, program, lists, addresses);
+    let answer = dwarf::import::measure_dwarf(inputs, inlines, call_sites, first_file, work);
     crate::tell(answer, values)
 }

@@ -15,15 +15,10 @@ use Rattle.imports.specs.Import.{State, saturated}
 use Rattle.imports.specs.Answer.{Inputs, Answer, written}
 use Rattle.imports.specs.Sizes.{measured, measuring, measure, measure_dwarf, with_trays}
 use Rattle.imports.proofs.Sizing.{same-import, same-dwarf}
-use Rattle.checks.specs.declared.options.Options.{Options}
-use Rattle.dwarf.specs.declared.lent.Inputs as lent
 use Rattle.dwarf.specs.declared.model.Imported.{Imported}
 use Rattle.dwarf.specs.declared.run.Ran.{Ran}
-use Rattle.dwarf.specs.Given.{Holds}
-use Rattle.dwarf.specs.Lent.{unseen_of}
-use Rattle.dwarf.specs.Runs.{inputs_by, import_all, Writes}
+use Rattle.dwarf.specs.Runs.{import_all, Writes}
 use Rattle.dwarf.specs.Answers.{answer_given, MeasuresBy, MeasuresUnit, MeasuresDwarf}
-use Rattle.dwarf.proofs.AnswerLaws.{held}
 
 -- the place behind an output is its length, up to the largest place
 counted : {out t t' : List ℕ} {n : ℕ} → Put 0 out t t' n → n ≡ saturated (length out)
@@ -57,7 +52,7 @@ module _ (asked : Maybe ℕ) (i : Inputs) where
     unfolding measured written
     measures_past e ew = record { is = measure-is a b c W.is.is (rw (past_is e)) ew }
 
-    pub measures-done : {x : Imported} {w : List ℕ} → r.past ≡ false → x ≡ record { records = r.records; files = r.files; warnings = r.warnings; stats = r.stats }
+    pub measures-done : {x : Imported} {w : List ℕ} → r.past ≡ false → x ≡ record { lengths = r.lengths; stats = r.stats }
         → w ≡ replicate (length i.work) 0 → MeasuresBy asked i w (Ok x)
     unfolding measured written
     measures-done {x} e ex ew =
@@ -71,12 +66,11 @@ module _ (asked : Maybe ℕ) (i : Inputs) where
 
 -- ---- the entry points
 
-module _ {main supplementary program lists addresses : List ℕ} {r : lent.Inputs} (H : Holds main supplementary program lists addresses r) (o : Options)
-    {w w' : List ℕ} {x : Result Imported Refusal} where
-  pub of_unit : {n : ℕ} → MeasuresBy (Some n) (unseen_of r o w) w' x → MeasuresUnit (inputs_by main supplementary program lists addresses o w [] [] []) w' x
+module _ {i : Inputs} {w : List ℕ} {x : Result Imported Refusal} where
+  pub of_unit : {n : ℕ} → MeasuresBy (Some n) i w x → MeasuresUnit i w x
   unfolding measure
-  of_unit {n} M = let J = subst (λ (i : Inputs). MeasuresBy (Some n) i w' x) (held H o w [] [] []) M in record { is = J.is }
+  of_unit M = record { is = M.is }
 
-  pub of_all : MeasuresBy None (unseen_of r o w) w' x → MeasuresDwarf (inputs_by main supplementary program lists addresses o w [] [] []) w' x
+  pub of_all : MeasuresBy None i w x → MeasuresDwarf i w x
   unfolding measure_dwarf
-  of_all M = let J = subst (λ (i : Inputs). MeasuresBy None i w' x) (held H o w [] [] []) M in record { is = J.is }
+  of_all M = record { is = M.is }

@@ -14,6 +14,7 @@ use Rattle.access.specs.Places.{unit_places}
 use Rattle.access.specs.Units.{unit_of24, IndexedUnits}
 use Rattle.access.specs.Index.{Indexed}
 use Rattle.access.proofs.IndexLaws.{index-length}
+use Rattle.references.specs.declared.tables.Index.{Index}
 use Rattle.dies.specs.Details.{entry_count}
 use Rattle.dwarf.specs.Tables.{IndexesInput}
 
@@ -31,21 +32,21 @@ module _ {s w w₁ w₂ : List ℕ} {units entries n m : ℕ} (A : Accepted s) (
   rest : KeptBut w w₂ ((units, 24 * length (unit_places 0 (fields s))) ∷ (entries, 16 * entry_count s) ∷ [])
   rest = but_trans (but_of U.rest (here (omega arith) (omega (arith, units-are)))) (but_of E.rest (there (here (omega arith) (omega (arith, entries-are)))))
 
-  pub indexes-input : IndexesInput s w w₂ units entries (record { units = units; unit_count = n; entries = entries; entry_count = m })
-  indexes-input = record {
+  pub indexes-input : {r : Index} → r.units.base ≡ units → r.units.count ≡ n → r.entries.base ≡ entries → r.entries.count ≡ m → IndexesInput s w w₂ units entries r
+  indexes-input eu en ee em = record {
     here = record {
       index = record {
         number = A.number;
         accepted = A.is;
-        units = records-kept unit_of24 24 units n E.rest (inl (omega (arith, units-are))) ∙ U.table;
-        entries = E.table;
-        units-within = omega (arith, units-are, size);
-        entries-within = omega (arith, entries-are, size);
+        units = rw (eu, en) (records-kept unit_of24 24 units n E.rest (inl (omega (arith, units-are))) ∙ U.table);
+        entries = rw (ee, em) E.table;
+        units-within = omega (arith, eu, en, units-are, size);
+        entries-within = omega (arith, ee, em, entries-are, size);
       };
-      units-at = λ i. units;
-      entries_at = λ i. entries;
-      unit-count = units-are;
-      entry-count = entries-are;
+      units-at = eu;
+      entries_at = ee;
+      unit-count = en ∙ units-are;
+      entry-count = em ∙ entries-are;
     };
     rest = rest;
   }

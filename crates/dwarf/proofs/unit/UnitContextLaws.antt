@@ -6,10 +6,12 @@ use mathlib.Core.List.{List}
 use Prim.Native.Nat.{ℕ, ◌+◌, ◌-◌, ◌*◌, ◌/◌, ◌≤◌}
 use native.Mathlib.Omega.{arith}
 use lib.ListN.{length}
+use Rattle.tlv.specs.declared.model.AddressRange.{AddressRange}
+use Rattle.tlv.specs.declared.model.FileIndex.{FileIndex}
+use Rattle.buffers.specs.declared.table.Stored.{Stored}
 use Rattle.buffers.specs.Table.{Kept}
 use Rattle.buffers.proofs.TableLaws.{kept-wide, but_one, but_of, here}
 use Rattle.access.specs.Places.{unit_here}
-use Rattle.files.specs.declared.index.StoredIndices.{StoredIndices}
 use Rattle.files.specs.declared.sheets.Sheets.{Sheets}
 use Rattle.files.specs.declared.store.StoredFiles.{StoredFiles}
 use Rattle.files.specs.Store.{extent}
@@ -21,11 +23,10 @@ use Rattle.rnglists.specs.declared.lists.RangeLists.{RangeLists}
 use Rattle.collect.specs.Collects.{UnitIn}
 use Rattle.references.specs.Names.{SearchIn}
 use Rattle.references.proofs.KeyLaws.{keys-in_none}
-use Rattle.ranges.specs.declared.ranges.StoredRanges.{StoredRanges}
-use Rattle.dies.specs.Details.{third}
+use Rattle.dies.specs.Details.{third, list_room}
 use Rattle.subprograms.specs.declared.model.ImportContext.{ImportContext}
 use Rattle.subprograms.specs.Text.{TextIndexed}
-use Rattle.subprograms.specs.Contexts.{unit_list_room, Ordered}
+use Rattle.subprograms.specs.Contexts.{Ordered}
 use Rattle.subprograms.proofs.ContextLaws.{unit-of}
 use Rattle.checks.specs.declared.layout.Layout.{Layout}
 use Rattle.checks.specs.declared.layout.UnitLayout.{UnitLayout}
@@ -35,24 +36,24 @@ use Rattle.dwarf.specs.declared.tables.Indexes.{Indexes}
 use Rattle.dwarf.specs.Tables.{TablesIn, LinesLaid, MakesContext}
 use Rattle.dwarf.proofs.TablesLaws.{units-below, entries_within, other-units_below, other-entries_below, tables-kept}
 
-abbrev pub context_made : Sheets → RangeLists → Layout → UnitLayout → Indexes → ℕ → StoredLines → StoredIndices → Bool → Bool → StoredRanges → ImportContext
+abbrev pub context_made : Sheets → RangeLists → Layout → UnitLayout → Indexes → ℕ → StoredLines → Stored FileIndex → Bool → Bool → Stored AddressRange → ImportContext
 context_made sheets ranges l p x unit lines indices inlines call_sites text = record {
-  places = record {
+  context = record {
     tables = record { sheets = sheets; main = x.main; supplementary = x.supplementary; keys = p.keys };
+    lists = ranges;
+    unit = unit;
     indices = indices;
-    spans = p.spans;
-    room = l.span_room;
+    ranges = p.ranges;
+    stack = p.stack;
+    sites = p.sites;
+    include_inlines = inlines;
+    include_call_sites = call_sites;
+    with_lists = l.with_lists;
   };
-  lists = ranges;
-  unit = unit;
   lines = lines;
   text = text;
-  ranges = p.ranges;
-  stack = p.stack;
-  sites = p.sites;
-  include_inlines = inlines;
-  include_call_sites = call_sites;
-  with_lists = l.with_lists;
+  spans = p.spans;
+  room = l.span_room;
 }
 
 -- the executable ranges have room
@@ -60,7 +61,7 @@ pub text-room : {main supplementary program : List ℕ} {size unit : ℕ} {l : L
     → p.text + 16 * length (unit_here main unit).text ≤ size
 text-room P = let a = P.spans in let b = P.ranges in let c = P.stack in let d = P.sites in let e = P.keys in let g = P.room in omega arith
 
-module _ {main supplementary program lists w w₁ : List ℕ} {l : Layout} {p : UnitLayout} {x : Indexes} {unit : ℕ} {lines : StoredLines} {indices : StoredIndices} {text : StoredRanges}
+module _ {main supplementary program lists w w₁ : List ℕ} {l : Layout} {p : UnitLayout} {x : Indexes} {unit : ℕ} {lines : StoredLines} {indices : Stored FileIndex} {text : Stored AddressRange}
     (U : UnitIn main unit) (T : TablesIn main supplementary program lists w l x) (P : UnitLaid main supplementary program (length w) l unit p) (L : LinesLaid w l p lines indices)
     (X : TextIndexed main w w₁ unit p.text text) (size : length w₁ ≡ length w) where
   text-end : text.base + text.count * 16 ≤ p.spans
@@ -114,7 +115,7 @@ module _ {main supplementary program lists w w₁ : List ℕ} {l : Layout} {p : 
         lines = b;
         sequences = R.sequences;
         buffer = omega (arith, R.buffer);
-        sorted = rw (lines-kept lines.lines lines.line_count made-rest (inl (omega arith))) R.sorted;
+        sorted = rw (lines-kept lines.lines.base lines.lines.count made-rest (inl (omega arith))) R.sorted;
       }
 
   -- the file table stands below the lines
@@ -131,7 +132,7 @@ module _ {main supplementary program lists w w₁ : List ℕ} {l : Layout} {p : 
     third-same = ap (λ (s : List ℕ). length s / 3) lists_same ∙ sym T.laid.third-is
 
     made-ordered : {t : StoredFiles} → l.files ≤ t.base → t.base + extent t ≤ l.lines → Ordered main supplementary made t
-    unfolding unit_list_room
+    unfolding list_room
     made-ordered above h =
         let a = L.from in
         record {

@@ -20,7 +20,8 @@ use Rattle.buffers.proofs.BufferLaws.{◌then◌, put_as}
 use Rattle.buffers.proofs.RecordLaws.{records-kept}
 use Rattle.buffers.proofs.TableLaws.{but_one, but_of, but_trans, here}
 use Rattle.access.specs.Places.{unit_here}
-use Rattle.files.specs.declared.index.StoredIndices.{StoredIndices}
+use Rattle.tlv.specs.declared.model.FileIndex.{FileIndex}
+use Rattle.buffers.specs.declared.table.Stored.{Stored}
 use Rattle.files.specs.declared.store.StoredFiles.{StoredFiles}
 use Rattle.files.specs.Indices.{index_of, indices_of}
 use Rattle.files.specs.Store.{extent, table_of}
@@ -107,7 +108,7 @@ module _ {main supplementary program lists w : List ℕ} {l : Layout} {p : UnitL
       pub collected-low : KeptBut w w₁ (above_tables l (length w))
       collected-low = low
 
-      module _ {lines : StoredLines} {indices : StoredIndices} {t₁ : StoredFiles} {warned : ℕ}
+      module _ {lines : StoredLines} {indices : Stored FileIndex} {t₁ : StoredFiles} {warned : ℕ}
           (C : CollectedIn main supplementary part w w₁ f f₁ u u₁ place st.table st.warned l.lines lines indices t₁ warned) where
         grown-above : l.files ≤ t₁.base
         grown-above = let a = C.grown.base in let c = R.above in omega arith
@@ -148,12 +149,12 @@ module _ {main supplementary program lists w : List ℕ} {l : Layout} {p : UnitL
               let e = C.rows.sequences in
               let g = C.indices in
               λ i. record {
-                entries = lines-kept lines.lines lines.line_count M.rest (inl (omega arith)) i;
+                entries = lines-kept lines.lines.base lines.lines.count M.rest (inl (omega arith)) i;
                 files = records-kept index_of 5 indices.base indices.count M.rest (inl (omega arith)) i;
-                sequences = ranges-kept lines.sequences lines.sequence_count M.rest (inl (omega arith)) i;
+                sequences = ranges-kept lines.sequences.base lines.sequences.count M.rest (inl (omega arith)) i;
               }
 
-          lines_are : lines_in w₂ q.lines q.places.indices ≡ lines_in w₁ lines indices
+          lines_are : lines_in w₂ q.lines q.context.indices ≡ lines_in w₁ lines indices
           lines_are = (λ i. lines_in w₂ (M.lines-is i) (M.indices-is i)) ∙ lines_same
 
           -- the file table stands below the lines
@@ -167,7 +168,7 @@ module _ {main supplementary program lists w : List ℕ} {l : Layout} {p : UnitL
             -- the definition goes on from the context that was made
             imported : (rs : List Function) (ws : List Warning)
                 → import_unit (dwarf_with main supplementary lists addresses) (unit_here main place) program inlines call_sites (state_of main supplementary w st rs ws)
-                ≡ import_unit_details (context_with main supplementary lists addresses w₂ q) (unit_here main q.unit).entries
+                ≡ import_unit_details (context_with main supplementary lists addresses w₂ q) (unit_here main q.context.unit).entries
                 (record { table = table_of main supplementary w₂ t₁; records = rs; warnings = ws ++ C.new; stats = stats_of st.stats })
             unfolding import_unit ◌>>=◌
             imported rs ws =
@@ -189,7 +190,7 @@ module _ {main supplementary program lists w : List ℕ} {l : Layout} {p : UnitL
 
               abbrev Imported : List ℕ → List ℕ → List ℕ → List ℕ → List ℕ → ℕ → ImportState → Type 0
               Imported t w₃ t₃ f₃ u₃ n r =
-                  Imports (import_unit_details (context_with main supplementary lists addresses w₂ q) (unit_here main q.unit).entries) (sheets main supplementary) q
+                  Imports (import_unit_details (context_with main supplementary lists addresses w₂ q) (unit_here main q.context.unit).entries) (sheets main supplementary) q
                   (memory w₂ t f₁ u₁) begun (memory w₃ t₃ f₃ u₃) n r
 
               abbrev Done : List ℕ → List ℕ → List ℕ → List ℕ → List ℕ → ℕ → ImportState → Type 0
@@ -241,13 +242,13 @@ module _ {main supplementary program lists w : List ℕ} {l : Layout} {p : UnitL
 
                   -- .. by what the subprograms' import says of the context
                   pub unit-grows : (x : Result ImportState Refusal)
-                      → Imports (import_unit_details (context_now w₂ q) (unit_here (main_of q) q.unit).entries) (sheets (main_of q) (supplementary_of q)) q
+                      → Imports (import_unit_details (context_now w₂ q) (unit_here (main_of q) q.context.unit).entries) (sheets (main_of q) (supplementary_of q)) q
                       (memory w₂ t f₁ u₁) begun (memory w₃ t₃ f₃ u₃) (status_of x) (value_or begun x)
                       → Done t w₃ t₃ f₃ u₃ (status_of x) (value_or st x)
                   unit-grows x I =
                       unit-goes x
                       (four
-                      (λ a b c d. Imports (import_unit_details (context_with a b c d w₂ q) (unit_here a q.unit).entries) (sheets a b) q
+                      (λ a b c d. Imports (import_unit_details (context_with a b c d w₂ q) (unit_here a q.context.unit).entries) (sheets a b) q
                       (memory w₂ t f₁ u₁) begun (memory w₃ t₃ f₃ u₃) (status_of x) (value_or begun x))
                       M.main-is M.supplementary-is M.lists_is M.addresses-is I)
 

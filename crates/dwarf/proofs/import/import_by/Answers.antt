@@ -19,14 +19,14 @@ lent i o w t h = record {
 }
 
 pub returns-in-Err-clause-is : goal.returns-in-Err-clause-is
-returns-in-Err-clause-is c = let i = asked_of c.args.i c.args.options c.args.work.now c.args.t.now in
-    answers-refused c.args.options.ordinal i (lent c.args.i c.args.options c.args.work.now c.args.t.now c.requires) (fitted i (import_all c.args.options.ordinal i) c.run_cleared-ran.ensures.is c.in-Err.ensures)
+returns-in-Err-clause-is c = let i = asked_of c.args.inputs c.args.options c.args.work.now c.args.outputs.now in
+    answers-refused c.args.options.ordinal i (lent c.args.inputs c.args.options c.args.work.now c.args.outputs.now c.requires) (fitted i (import_all c.args.options.ordinal i) c.run_cleared-ran.ensures.is c.in-Err.ensures c.of.ensures)
     c.run_cleared-ran.ensures.cleared
-    (cleared c.args.t.now.records.now c.run_cleared-ran.ensures.same.records-len c.clear.ensures)
-    (cleared c.args.t.now.files.now c.run_cleared-ran.ensures.same.files-len c.clear-in-Err.ensures)
-    (cleared c.args.t.now.warnings.now c.run_cleared-ran.ensures.same.warnings-len c.clear-in-Err-2.ensures)
+    (cleared c.args.outputs.now.records.now c.run_cleared-ran.ensures.same.records-len c.fill.ensures.records)
+    (cleared c.args.outputs.now.files.now c.run_cleared-ran.ensures.same.files-len c.fill.ensures.files)
+    (cleared c.args.outputs.now.warnings.now c.run_cleared-ran.ensures.same.warnings-len c.fill.ensures.warnings)
 
 pub returns-in-Ok-clause-is : goal.returns-in-Ok-clause-is
-returns-in-Ok-clause-is c = let i = asked_of c.args.i c.args.options c.args.work.now c.args.t.now in
-    answers_done c.args.options.ordinal i (lent c.args.i c.args.options c.args.work.now c.args.t.now c.requires) (fitted i (import_all c.args.options.ordinal i) c.run_cleared-ran.ensures.is c.in-Ok.ensures)
-    c.finished.ensures c.run_cleared-ran.ensures.cleared
+returns-in-Ok-clause-is c = let i = asked_of c.args.inputs c.args.options c.args.work.now c.args.outputs.now in
+    answers_done c.args.options.ordinal i (lent c.args.inputs c.args.options c.args.work.now c.args.outputs.now c.requires) (fitted i (import_all c.args.options.ordinal i) c.run_cleared-ran.ensures.is c.in-Ok.ensures c.of.ensures)
+    c.from.ensures c.run_cleared-ran.ensures.cleared

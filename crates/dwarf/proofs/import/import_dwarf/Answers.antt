@@ -1,14 +1,6 @@
 -- `import::import_dwarf` meets its contract: what `import_by` promises of all units.
-use borrow.Author.Rules.{rules}
-use Rattle.std.specs.Prelude.{None}
-use Rattle.checks.specs.declared.options.Options.{Options}
 use Rattle.dwarf.proofs.AnswerLaws.{of_all}
 use Rattle.dwarf.proofs.import.import_dwarf.Goals as goal
 
-pub import_by-requires : goal.import_by-requires
-import_by-requires c = c.ranges.first_file.fits
-
-pub returns : goal.returns
-returns c =
-    let o : Options = record { ordinal = None; inlines = c.args.inlines; call_sites = c.args.call_sites; first_file = c.args.first_file } in
-    search (rules, of_all c.new-inputs.ensures o c.import_by.ensures.is)
+pub returns-clause-is : goal.returns-clause-is
+returns-clause-is c = of_all c.import_by.ensures.is

@@ -4,12 +4,12 @@ use Rattle.dwarf.specs.Lent.{unseen_of}
 use Rattle.dwarf.proofs.import.MeasureLaws.{measures-refused, measures_past, measures-done}
 use Rattle.dwarf.proofs.import.measure_by.Goals as goal
 
-pub returns-in_err-r : goal.returns-in_err-r
-returns-in_err-r c = rw (handed _ _ c.from_residual.ensures.1)
-    (measures-refused c.args.options.ordinal (unseen_of c.args.i c.args.options c.args.work.now) c.in_err-r.ensures.is c.in_err-r.ensures.cleared)
+pub returns-in_err-ran : goal.returns-in_err-ran
+returns-in_err-ran c = rw (handed _ _ c.from_residual.ensures.1)
+    (measures-refused c.args.options.ordinal (unseen_of c.args.inputs c.args.options c.args.work.now) c.in_err-ran.ensures.is c.in_err-ran.ensures.cleared)
 
-pub returns-then-r : goal.returns-then-r
-returns-then-r c = measures_past c.args.options.ordinal (unseen_of c.args.i c.args.options c.args.work.now) c.in_ok-r.ensures.is c.if-r.true c.in_ok-r.ensures.cleared
+pub returns-then-ran : goal.returns-then-ran
+returns-then-ran c = measures_past c.args.options.ordinal (unseen_of c.args.inputs c.args.options c.args.work.now) c.in_ok-ran.ensures.is c.if-ran.true c.in_ok-ran.ensures.cleared
 
 pub returns : goal.returns
-returns c = measures-done c.args.options.ordinal (unseen_of c.args.i c.args.options c.args.work.now) c.in_ok-r.ensures.is c.if-r.false c.finished.ensures c.in_ok-r.ensures.cleared
+returns c = measures-done c.args.options.ordinal (unseen_of c.args.inputs c.args.options c.args.work.now) c.in_ok-ran.ensures.is c.if-ran.false c.from.ensures c.in_ok-ran.ensures.cleared

@@ -12,9 +12,6 @@ next_before_rows-requires c = part-from c.requires.accepted c.requires.unit_in
 pub read-start-requires : goal.read-start-requires
 read-start-requires c = omega (arith, part-inside c.requires.accepted c.requires.unit_in c.in-Some.ensures)
 
-pub overflow_add-field : goal.overflow_add-field
-overflow_add-field c = omega (arith, part-inside c.requires.accepted c.requires.unit_in c.in-Some.ensures)
-
 pub read-requires : goal.read-requires
 read-requires c = omega (arith, part-inside c.requires.accepted c.requires.unit_in c.in-Some.ensures)
 

@@ -7,18 +7,12 @@ use Rattle.dwarf.proofs.run.RunLaws.{run-oversize, run-refused, run-accepted}
 use Rattle.dwarf.proofs.run.run_import.Goals as goal
 
 pub returns-then-is_oversize-clause-is : goal.returns-then-is_oversize-clause-is
-returns-then-is_oversize-clause-is c = run-oversize c.args.options (asked_of c.args.i c.args.options c.args.work.now c.args.t.now) refl c.is_oversize.ensures c.if-is_oversize.true
+returns-then-is_oversize-clause-is c = run-oversize c.args.options (asked_of c.args.inputs c.args.options c.args.work.now c.args.outputs.now) refl c.is_oversize.ensures c.if-is_oversize.true
 
 pub returns-in_err-number-clause-is : goal.returns-in_err-number-clause-is
 returns-in_err-number-clause-is c = rw (handed _ _ c.from_residual.ensures.1)
-    (run-refused c.args.options (asked_of c.args.i c.args.options c.args.work.now c.args.t.now) refl c.is_oversize.ensures c.if-is_oversize.false c.in_err-number.ensures)
-
-pub import_accepted-requires-clause-both_accepted : goal.import_accepted-requires-clause-both_accepted
-import_accepted-requires-clause-both_accepted c = c.in_ok-number.ensures.is
-
-pub import_accepted-requires-clause-not_oversize : goal.import_accepted-requires-clause-not_oversize
-import_accepted-requires-clause-not_oversize c = not-oversize c.args.i.sheets.main.now c.args.i.sheets.supplementary.now c.args.i.program.now c.args.i.lists.lists.now c.args.i.lists.addresses.now c.is_oversize.ensures c.if-is_oversize.false
+    (run-refused c.args.options (asked_of c.args.inputs c.args.options c.args.work.now c.args.outputs.now) refl c.is_oversize.ensures c.if-is_oversize.false c.in_err-number.ensures)
 
 pub returns-clause-is : goal.returns-clause-is
 returns-clause-is c =
-    run-accepted c.args.options (asked_of c.args.i c.args.options c.args.work.now c.args.t.now) refl c.is_oversize.ensures c.if-is_oversize.false c.in_ok-number.ensures c.import_accepted.ensures.is
+    run-accepted c.args.options (asked_of c.args.inputs c.args.options c.args.work.now c.args.outputs.now) refl c.is_oversize.ensures c.if-is_oversize.false c.in_ok-number.ensures c.import_accepted.ensures.is

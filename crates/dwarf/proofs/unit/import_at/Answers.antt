@@ -26,50 +26,40 @@ laid : {main supplementary program lists w : List ℕ} {l : Layout} {x : Indexes
     → UnitLaid main supplementary program (length w) l place p
 laid {place = place} T U E e = unit-laid T.laid (accepted-main T) (accepted-supplementary T) place (unit-of U) E e
 
-pub place_unit-p-requires-clause-unit_placed : goal.place_unit-p-requires-clause-unit_placed
-place_unit-p-requires-clause-unit_placed c = let A = accepted-main c.requires.tables_in in unit-stands (placed-start _ A.number A.is) c.requires.unit_in
+pub place_unit-parts-requires-clause-unit_placed : goal.place_unit-parts-requires-clause-unit_placed
+place_unit-parts-requires-clause-unit_placed c = let A = accepted-main c.requires.tables_in in unit-stands (placed-start _ A.number A.is) c.requires.unit_in
 
-pub place_unit-p-requires-clause-unit_of : goal.place_unit-p-requires-clause-unit_of
-place_unit-p-requires-clause-unit_of c = (unit-of c.requires.unit_in, c.requires.tables_in.laid.tags)
-
-pub program_part-requires-clause-accepted : goal.program_part-requires-clause-accepted
-program_part-requires-clause-accepted c = accepted-main c.requires.tables_in
+pub place_unit-parts-requires-clause-unit_of : goal.place_unit-parts-requires-clause-unit_of
+place_unit-parts-requires-clause-unit_of c = (unit-of c.requires.unit_in, c.requires.tables_in.laid.tags)
 
 pub collect_lines-requires-clause-placed : goal.collect_lines-requires-clause-placed
 collect_lines-requires-clause-placed c = let A = accepted-main c.requires.tables_in in placed-start _ A.number A.is
 
 pub collect_lines-requires-clause-lines_room : goal.collect_lines-requires-clause-lines_room
-collect_lines-requires-clause-lines_room c = lines-room c.requires.unit_in (laid c.requires.tables_in c.requires.unit_in c.requires.unit_enough c.place_unit-p.ensures) c.requires.tables_in c.requires.ready _ (part-short _ _ _ c.program_part.ensures)
+collect_lines-requires-clause-lines_room c = lines-room c.requires.unit_in (laid c.requires.tables_in c.requires.unit_in c.requires.unit_enough c.place_unit-parts.ensures) c.requires.tables_in c.requires.ready _ (part-short _ _ _ c.program_part.ensures)
 
-pub returns-in_err-c-clause-is : goal.returns-in_err-c-clause-is
-returns-in_err-c-clause-is c = rw (handed _ _ c.from_residual.ensures.1)
-    (unit-refused c.requires.unit_in (laid c.requires.tables_in c.requires.unit_in c.requires.unit_enough c.place_unit-p.ensures) c.requires.tables_in c.requires.ready _ (part-short _ _ _ c.program_part.ensures)
-    c.in_err-c.ensures c.program_part.ensures c.args.i.lists.addresses.now c.args.options.inlines c.args.options.call_sites)
+pub returns-in_err-collected-clause-is : goal.returns-in_err-collected-clause-is
+returns-in_err-collected-clause-is c = rw (handed _ _ c.from_residual.ensures.1)
+    (unit-refused c.requires.unit_in (laid c.requires.tables_in c.requires.unit_in c.requires.unit_enough c.place_unit-parts.ensures) c.requires.tables_in c.requires.ready _ (part-short _ _ _ c.program_part.ensures)
+    c.in_err-collected.ensures c.program_part.ensures c.args.inputs.lists.addresses.now c.args.options.inlines c.args.options.call_sites)
 
-pub unit_context-q-requires-clause-tables_in : goal.unit_context-q-requires-clause-tables_in
-unit_context-q-requires-clause-tables_in c =
-    tables-kept c.requires.tables_in (collected-low c.requires.unit_in (laid c.requires.tables_in c.requires.unit_in c.requires.unit_enough c.place_unit-p.ensures) c.requires.tables_in c.requires.ready _ (part-short _ _ _ c.program_part.ensures) c.in_ok-c.ensures)
+pub unit_context-context-requires-clause-tables_in : goal.unit_context-context-requires-clause-tables_in
+unit_context-context-requires-clause-tables_in c =
+    tables-kept c.requires.tables_in (collected-low c.requires.unit_in (laid c.requires.tables_in c.requires.unit_in c.requires.unit_enough c.place_unit-parts.ensures) c.requires.tables_in c.requires.ready _ (part-short _ _ _ c.program_part.ensures) c.in_ok-collected.ensures)
     c.collect_lines.auto.work
 
-pub unit_context-q-requires-clause-unit_laid : goal.unit_context-q-requires-clause-unit_laid
-unit_context-q-requires-clause-unit_laid c = rw c.collect_lines.auto.work (laid c.requires.tables_in c.requires.unit_in c.requires.unit_enough c.place_unit-p.ensures)
+pub unit_context-context-requires-clause-unit_laid : goal.unit_context-context-requires-clause-unit_laid
+unit_context-context-requires-clause-unit_laid c = rw c.collect_lines.auto.work (laid c.requires.tables_in c.requires.unit_in c.requires.unit_enough c.place_unit-parts.ensures)
 
-pub unit_context-q-requires-clause-lines_laid : goal.unit_context-q-requires-clause-lines_laid
-unit_context-q-requires-clause-lines_laid c = lines-laid c.requires.unit_in (laid c.requires.tables_in c.requires.unit_in c.requires.unit_enough c.place_unit-p.ensures) c.requires.tables_in c.requires.ready _ (part-short _ _ _ c.program_part.ensures) c.in_ok-c.ensures c.in_ok-c.ensures.is
-
-pub invariant_of-begun : goal.invariant_of-begun
-invariant_of-begun c =
-    record { within = (c.args.st.within.0, warned-fits c.requires.unit_in (laid c.requires.tables_in c.requires.unit_in c.requires.unit_enough c.place_unit-p.ensures) c.requires.tables_in c.requires.ready _ (part-short _ _ _ c.program_part.ensures) c.in_ok-c.ensures c.in_ok-c.ensures.is) }
+pub unit_context-context-requires-clause-lines_laid : goal.unit_context-context-requires-clause-lines_laid
+unit_context-context-requires-clause-lines_laid c = lines-laid c.requires.unit_in (laid c.requires.tables_in c.requires.unit_in c.requires.unit_enough c.place_unit-parts.ensures) c.requires.tables_in c.requires.ready _ (part-short _ _ _ c.program_part.ensures) c.in_ok-collected.ensures c.in_ok-collected.ensures.is
 
 pub import_unit_details-requires : goal.import_unit_details-requires
 import_unit_details-requires c = record {
-  context_in = context-holds c.requires.unit_in (laid c.requires.tables_in c.requires.unit_in c.requires.unit_enough c.place_unit-p.ensures) c.requires.tables_in c.requires.ready _ (part-short _ _ _ c.program_part.ensures) c.in_ok-c.ensures c.in_ok-c.ensures.is c.unit_context-q.ensures;
+  context_in = context-holds c.requires.unit_in (laid c.requires.tables_in c.requires.unit_in c.requires.unit_enough c.place_unit-parts.ensures) c.requires.tables_in c.requires.ready _ (part-short _ _ _ c.program_part.ensures) c.in_ok-collected.ensures c.in_ok-collected.ensures.is c.unit_context-context.ensures;
 }
-
-pub shape_of-work : goal.shape_of-work
-shape_of-work c = c.import_unit_details.auto.work ∙ c.unit_context-q.auto.work ∙ c.collect_lines.auto.work
 
 pub returns-clause-is : goal.returns-clause-is
 returns-clause-is c =
-    unit-grows c.requires.unit_in (laid c.requires.tables_in c.requires.unit_in c.requires.unit_enough c.place_unit-p.ensures) c.requires.tables_in c.requires.ready _ (part-short _ _ _ c.program_part.ensures) c.in_ok-c.ensures c.in_ok-c.ensures.is
-    c.unit_context-q.ensures c.program_part.ensures _ c.collect_lines.auto.work c.unit_context-q.auto.work _ c.import_unit_details.ensures.is
+    unit-grows c.requires.unit_in (laid c.requires.tables_in c.requires.unit_in c.requires.unit_enough c.place_unit-parts.ensures) c.requires.tables_in c.requires.ready _ (part-short _ _ _ c.program_part.ensures) c.in_ok-collected.ensures c.in_ok-collected.ensures.is
+    c.unit_context-context.ensures c.program_part.ensures _ c.collect_lines.auto.work c.unit_context-context.auto.work _ c.import_unit_details.ensures.is

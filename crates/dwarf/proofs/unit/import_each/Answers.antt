@@ -10,19 +10,10 @@ use Rattle.dwarf.proofs.unit.import_each.Goals as goal
 pub loop-k-init : goal.loop-k-init
 loop-k-init c = record {
   units = refl;
-  importing = units-start c.args.i.lists.addresses.now c.args.options.inlines c.args.options.call_sites c.requires.from_le_to.0 c.requires.from_le_to.1 c.requires.all c.requires.tables_in c.requires.ready
+  importing = units-start c.args.inputs.lists.addresses.now c.args.options.inlines c.args.options.call_sites c.requires.from_le_to.0 c.requires.from_le_to.1 c.requires.all c.requires.tables_in c.requires.ready
       (omega (arith, c.well_formed)) (omega (arith, c.well_formed)) (omega (arith, c.well_formed));
   same = outputs-start;
 }
-
-pub overflow_add-units : goal.overflow_add-units
-overflow_add-units c = omega (arith, record-inside c.loop-k.invariant.importing c.loop-k-test.true, c.loop-k.invariant.units)
-
-pub overflow_add-units-in-loop-k : goal.overflow_add-units-in-loop-k
-overflow_add-units-in-loop-k c = omega (arith, record-inside c.loop-k.invariant.importing c.loop-k-test.true, c.loop-k.invariant.units)
-
-pub read-place-requires : goal.read-place-requires
-read-place-requires c = omega (arith, record-inside c.loop-k.invariant.importing c.loop-k-test.true, c.loop-k.invariant.units)
 
 pub import_at-requires-clause-unit_in : goal.import_at-requires-clause-unit_in
 import_at-requires-clause-unit_in c = unit-in c.loop-k.invariant.importing c.loop-k-test.true (search rules)
@@ -30,26 +21,17 @@ import_at-requires-clause-unit_in c = unit-in c.loop-k.invariant.importing c.loo
 pub import_at-requires-clause-unit_enough : goal.import_at-requires-clause-unit_enough
 import_at-requires-clause-unit_enough c = unit-fits c.loop-k.invariant.importing c.loop-k-test.true (search rules)
 
-pub import_at-requires-clause-tables_in : goal.import_at-requires-clause-tables_in
-import_at-requires-clause-tables_in c = c.loop-k.invariant.importing.tables
-
-pub import_at-requires-clause-ready : goal.import_at-requires-clause-ready
-import_at-requires-clause-ready c = c.loop-k.invariant.importing.ready
-
-pub returns-in_err-r-clause-is : goal.returns-in_err-r-clause-is
-returns-in_err-r-clause-is c = rw (handed _ _ c.from_residual.ensures.1)
-    (units-refused c.loop-k.invariant.importing c.loop-k-test.true (search rules) c.in_err-r.ensures.is (numbered _))
+pub returns-in_err-reached-clause-is : goal.returns-in_err-reached-clause-is
+returns-in_err-reached-clause-is c = rw (handed _ _ c.from_residual.ensures.1)
+    (units-refused c.loop-k.invariant.importing c.loop-k-test.true (search rules) c.in_err-reached.ensures.is (numbered _))
 
 pub loop-k-preserved : goal.loop-k-preserved
 loop-k-preserved c = let S = c.import_at.ensures.same in record {
   units = c.loop-k.invariant.units;
-  importing = units-turn c.loop-k.invariant.importing c.loop-k-test.true (search rules) c.in_ok-r.ensures.is
+  importing = units-turn c.loop-k.invariant.importing c.loop-k-test.true (search rules) c.in_ok-reached.ensures.is
       c.import_at.auto.work S.records-len S.files-len S.warnings-len;
   same = outputs-then c.loop-k.invariant.same S;
 }
-
-pub shape_of-work : goal.shape_of-work
-shape_of-work c = c.loop-k.invariant.importing.size
 
 pub returns-clause-is : goal.returns-clause-is
 returns-clause-is c = units-end c.loop-k.invariant.importing c.loop-k-test.false

@@ -6,10 +6,10 @@ use Rattle.dwarf.proofs.unit.import_each.Given as goal
 
 abbrev pub invariant-loop-k : goal.invariant-loop-k
 invariant-loop-k l = record {
-  units : l.units ≡ l.x.main.units;
-  importing : ImportingUnits l.i.sheets.main.now l.i.sheets.supplementary.now l.i.program.now l.i.lists.lists.now l.i.lists.addresses.now l.x.layout l.x
+  units : l.units ≡ l.indexes.main.units.base;
+  importing : ImportingUnits l.inputs.sheets.main.now l.inputs.sheets.supplementary.now l.inputs.program.now l.inputs.lists.lists.now l.inputs.lists.addresses.now l.indexes.layout l.indexes
       l.options.inlines l.options.call_sites l.fn.chosen.from l.fn.chosen.to
-      l.initial.work l.initial.t.records.now l.initial.t.files.now l.initial.t.warnings.now l.initial.r
-      l.work l.t.records.now l.t.files.now l.t.warnings.now l.r l.k;
-  same : SameOutputs l.initial.t l.t;
+      l.initial.work l.initial.outputs.records.now l.initial.outputs.files.now l.initial.outputs.warnings.now l.initial.reached
+      l.work l.outputs.records.now l.outputs.files.now l.outputs.warnings.now l.reached l.k;
+  same : SameOutputs l.initial.outputs l.outputs;
 }

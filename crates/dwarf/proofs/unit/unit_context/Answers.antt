@@ -8,12 +8,6 @@ use Rattle.dwarf.proofs.unit.unit_context.Goals as goal
 pub index_text-text-requires-clause-placed : goal.index_text-text-requires-clause-placed
 index_text-text-requires-clause-placed c = let A = accepted-main c.requires.tables_in in placed-start _ A.number A.is
 
-pub index_text-text-requires-clause-unit_in : goal.index_text-text-requires-clause-unit_in
-index_text-text-requires-clause-unit_in c = c.requires.unit_in
-
-pub index_text-text-requires-clause-place_in_bounds : goal.index_text-text-requires-clause-place_in_bounds
-index_text-text-requires-clause-place_in_bounds c = text-room c.requires.unit_laid
-
 pub returns : goal.returns
 returns c = makes-context c.requires.unit_in c.requires.tables_in c.requires.unit_laid c.requires.lines_laid c.index_text-text.ensures c.index_text-text.auto.work
-    c.args.i.sheets c.args.i.lists refl refl refl refl c.args.options.inlines c.args.options.call_sites
+    c.args.inputs.sheets c.args.inputs.lists refl refl refl refl c.args.options.inlines c.args.options.call_sites
