@@ -33,6 +33,7 @@ fn write_left(out: &mut impl Write, rows: &[LineEntry], count: usize) -> io::Res
 }
 
 // Compacts the first n of the rows.
+// Stays an array and a count: what the compaction leaves behind the rows is written too.
 fn compact(out: &mut impl Write, mut rows: [LineEntry; 6], n: usize) -> io::Result<()>
     requires { n ≤ 6 }
 {

@@ -82,5 +82,5 @@ rows-still {w} {w'} {l} R F e =
       lines = R.lines;
       sequences = R.sequences;
       buffer = omega (arith, R.buffer);
-      sorted = rw (lines-kept l.lines l.line_count F.rest (inl (omega (arith, R.lines)))) R.sorted;
+      sorted = rw (lines-kept l.lines.base l.lines.count F.rest (inl (omega (arith, R.lines)))) R.sorted;
     }

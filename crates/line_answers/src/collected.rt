@@ -7,12 +7,21 @@ ghost use Rattle.line_answers.specs.Answers.{Room, HasRoom, CollectedRows};
 use access::access::unit_by_ordinal;
 use collect::collect::{CollectedLines, LineUnit, collect_lines};
 use files::sheets::Sheets;
-use files::store::{FILE_RECORD, JOINED_LIMIT, new_files};
+use files::store::{FILE_RECORD, JOINED_LIMIT, StoredFiles};
 use rows::line::ROW_ROOM;
 use tlv::refusal::Refusal;
 
 // The room for a byte of a program that gives rows: at most a row, and an offset of eight bytes in three.
 const BYTE_ROOM: usize = ROW_ROOM + 3;
+
+// The most fields of a sheet that are tried.
+const MOST_FIELDS: usize = 65536;
+
+// Above what a field takes: a file's record, a row's room, a directory's span or a place in the unit's map.
+const FIELD_ROOM: usize = 108;
+
+// Above what is taken where there is no field: one file's record, one place in the unit's map, a function's row.
+const HEAD_ROOM: usize = 82;
 
 // Collects the lines of a sheet's first unit, behind the file table; refused where the sheet is not accepted, has no unit, or the work has no room.
 pub fn collect_case<'a>(
@@ -68,7 +77,7 @@ fn collect_placed<'a>(
         main,
         supplementary: b"",
     };
-    let table = new_files(sheets, work, 0, room, 1, 0);
+    let table = StoredFiles::new(sheets, work, 0, room, 1, 0);
     let unit = LineUnit {
         sheets,
         program,
@@ -82,9 +91,9 @@ fn collect_placed<'a>(
 fn has_room(main: usize, program: usize, n: usize, work: usize) -> bool
     ensures { HasRoom main program n work result }
 {
-    if 65536 < n {
+    if MOST_FIELDS < n {
         return false;
     }
-    let need = n * 108 + (JOINED_LIMIT + 82);
-    main < 4294967296 && need <= work && program <= (work - need) / BYTE_ROOM
+    let need = n * FIELD_ROOM + (JOINED_LIMIT + HEAD_ROOM);
+    main <= u32::MAX as usize && need <= work && program <= (work - need) / BYTE_ROOM
 }

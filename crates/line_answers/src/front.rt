@@ -3,19 +3,20 @@ ghost use Rattle.std.specs.Prelude.{◌≡◌, true, ◌+◌, ◌*◌, ◌≤◌
 ghost use Rattle.rows.specs.Sizes.{entry_size, line_size};
 ghost use Rattle.rows.specs.Selects.{RowsBelow};
 
-use rows::line::{ENTRY_SIZE, LINE_SIZE};
+use crate::output::write_rows;
+use buffers::table::Stored;
+use rows::line::{ENTRY_SIZE, LINE_SIZE, SequencedLine};
 use rows::unit_lines::StoredLines;
 use std::io::{self, Write};
 use streams::split_number;
 use tlv::bytes::Number;
+use tlv::model::AddressRange;
 
 // A row in the table, and room for it among a function's rows.
 const STORED: usize = LINE_SIZE + ENTRY_SIZE;
 
 // A query: start (8 bytes), end (8), whether a sequence is asked for (1), its offset (8), how many rows at the front the loop passes over at once (4).
-const QUERY_END: usize = 8;
-
-const QUERY_SEQUENCE: usize = QUERY_END + 8;
+const QUERY_SEQUENCE: usize = 16;
 
 const QUERY_MOST: usize = QUERY_SEQUENCE + 9;
 
@@ -23,28 +24,30 @@ const QUERY_SIZE: usize = QUERY_MOST + 4;
 
 // Stores the `count` rows of a call as they come.
 fn store_rows(call: &[u8], count: usize, work: &mut [u8])
-    requires line_size_in_bounds { count * line_size ≤ length call.now }
-    requires line_size_in_bounds_2 { count * line_size ≤ length work.old }
+    requires in_call { count * line_size ≤ length call.now }
+    requires work_fits { count * line_size ≤ length work.old }
 {
     for i in 0..count {
         let p = i * LINE_SIZE;
-        let entry = rows::line::entry_at(call, p);
-        let sequence = rows::line::sequence_at(call, p + ENTRY_SIZE);
-        rows::line::put_line(work, p, entry, sequence);
+        let line = SequencedLine {
+            entry: rows::line::entry_at(call, p),
+            statement_sequence: rows::line::sequence_at(call, p + ENTRY_SIZE),
+        };
+        rows::line::put_line(work, p, line);
     }
 }
 
 // Whether the first `most` rows lie below a range.
-fn lie_below(work: &[u8], l: StoredLines, range: tlv::model::AddressRange, most: usize) -> bool
-    requires line_size_in_bounds { l.lines + l.line_count * line_size ≤ length work.now }
-    requires most_bound { most ≤ l.line_count }
+fn lie_below(work: &[u8], l: StoredLines, range: AddressRange, most: usize) -> bool
+    requires rows_within { l.lines.base + l.lines.count * line_size ≤ length work.now }
+    requires in_table { most ≤ l.lines.count }
     ensures { result ≡ true → RowsBelow work.now l range most }
 {
     (0..most).all(
         |i|
-            requires { l.lines + (i + 1) * line_size ≤ length work.now }
+            requires { l.lines.base + (i + 1) * line_size ≤ length work.now }
         {
-            let address = rows::line::address_at(work, l.lines + i * LINE_SIZE);
+            let address = rows::line::address_at(work, l.lines.base + i * LINE_SIZE);
             address < range.start && address < range.end
         },
     )
@@ -58,34 +61,33 @@ fn answer_query(
     l: StoredLines,
 ) -> io::Result<bool>
     requires query_len { QUERY_SIZE ≤ length query.now }
-    requires line_size_bound { l.lines + l.line_count * line_size ≤ l.buffer }
-    requires entry_size_in_bounds { l.buffer + l.line_count * entry_size ≤ length work.old }
+    requires rows_below_buffer { l.lines.base + l.lines.count * line_size ≤ l.buffer }
+    requires buffer_within { l.buffer + l.lines.count * entry_size ≤ length work.old }
 {
-    let range = tlv::model::AddressRange {
-        start: u64::read(query, 0),
-        end: u64::read(query, QUERY_END),
-    };
+    let range = AddressRange::read(query, 0);
     let asked = rows::line::sequence_at(query, QUERY_SEQUENCE);
     let wanted = u32::read(query, QUERY_MOST) as usize;
-    if l.line_count < wanted || !lie_below(work, l, range, wanted) {
+    if l.lines.count < wanted || !lie_below(work, l, range, wanted) {
         return Ok(false);
     }
     let own = rows::unit_lines::own_rows(work, l, range, asked, l.buffer, wanted);
     let past = own.past;
     write!(out, "\nplace {past}")?;
-    crate::write_rows(out, work, l.buffer, own.count)?;
+    write_rows(out, work, Stored::new(l.buffer, own.count))?;
     Ok(true)
 }
 
+// Answers each query of a call; false where one can't be answered.
 fn answer_queries(
     out: &mut impl Write,
     queries: &[u8],
     work: &mut [u8],
     l: StoredLines,
 ) -> io::Result<bool>
-    requires line_size_bound { l.lines + l.line_count * line_size ≤ l.buffer }
-    requires entry_size_in_bounds { l.buffer + l.line_count * entry_size ≤ length work.old }
+    requires rows_below_buffer { l.lines.base + l.lines.count * line_size ≤ l.buffer }
+    requires buffer_within { l.buffer + l.lines.count * entry_size ≤ length work.old }
 {
+    // Stays a `for` with a `return`: writing an answer may fail, which `?` hands on, and of a closure that writes the work slice nothing is known.
     for query in queries.chunks_exact(QUERY_SIZE) {
         if !answer_query(out, query, work, l)? {
             return Ok(false);
@@ -95,6 +97,7 @@ fn answer_queries(
 }
 
 // How many rows there are (4 bytes), the rows: address (8), file (4), line (4), whether a sequence is known (1), its offset (8); then the queries.
+// Stays with the output, the call and the work slice apart, as other kinds of calls have them: each is lent for one call, which is cut up on the way.
 pub fn answer_front(out: &mut impl Write, call: &[u8], work: &mut [u8]) -> io::Result<bool> {
     let Some((count, rest)) = split_number(call) else {
         return Ok(false);
@@ -109,10 +112,8 @@ pub fn answer_front(out: &mut impl Write, call: &[u8], work: &mut [u8]) -> io::R
     store_rows(rows, count, work);
     write!(out, "front {count}")?;
     let l = StoredLines {
-        lines: 0,
-        line_count: count,
-        sequences: 0,
-        sequence_count: 0,
+        lines: Stored::new(0, count),
+        sequences: Stored::new(0, 0),
         buffer: count * LINE_SIZE,
     };
     answer_queries(out, queries, work, l)

@@ -9,12 +9,25 @@ use crate::output::write_rows;
 use rows::unit_lines::StoredLines;
 use std::io::{self, Read, Write};
 use streams::{answer_all, answer_next, next_u8, split_parts, write_name, write_refused};
-use tlv::bytes::Number;
+use tlv::model::AddressRange;
 
 pub mod collected;
 mod front;
 pub mod output;
 mod texts;
+
+// The kinds of calls.
+const OPERAND_CALL: u8 = 1;
+
+const PROGRAM_CALL: u8 = 2;
+
+const PATH_CALL: u8 = 3;
+
+const JOIN_CALL: u8 = 4;
+
+const ROWS_CALL: u8 = 5;
+
+const FRONT_CALL: u8 = 6;
 
 // The longest call.
 const CALL_LIMIT: usize = 16384;
@@ -25,9 +38,7 @@ const WORK_SIZE: usize = 65536;
 const TRAY_SIZE: usize = 16384;
 
 // A query of rows: start (8 bytes), end (8), whether a sequence is asked for (1), its offset (8).
-const QUERY_END: usize = 8;
-
-const QUERY_SEQUENCE: usize = QUERY_END + 8;
+const QUERY_SEQUENCE: usize = 16;
 
 const QUERY_SIZE: usize = QUERY_SEQUENCE + 9;
 
@@ -42,10 +53,7 @@ fn answer_query(
     requires rows_in { RowsIn work.old l }
     ensures { RowsIn work.new l }
 {
-    let range = tlv::model::AddressRange {
-        start: u64::read(query, 0),
-        end: u64::read(query, QUERY_END),
-    };
+    let range = AddressRange::read(query, 0);
     let r = rows::unit_lines::for_range(
         work,
         l,
@@ -54,7 +62,7 @@ fn answer_query(
     );
     let invalid = u8::from(r.invalid);
     write!(out, "\nrows {invalid}")?;
-    write_rows(out, work, r.rows, r.count)
+    write_rows(out, work, r.rows)
 }
 
 fn answer_queries(
@@ -78,8 +86,8 @@ fn write_collected(
     files: &[u8],
     warnings: &[u8],
 ) -> io::Result<()> {
-    let lines = l.line_count;
-    let sequences = l.sequence_count;
+    let lines = l.lines.count;
+    let sequences = l.sequences.count;
     write!(out, "lines {lines} sequences {sequences}|")?;
     write_name(out, files)?;
     write!(out, "|")?;
@@ -126,15 +134,15 @@ fn collect_rows(
 // Stays a match: the kind is a byte of the input, and each kind has its own layout.
 fn answer(out: &mut impl Write, kind: u8, call: &[u8], work: &mut [u8]) -> io::Result<bool> {
     match kind {
-        1 => texts::answer_operand(out, call),
-        2 => texts::answer_program(out, call, work),
-        3 => {
+        OPERAND_CALL => texts::answer_operand(out, call),
+        PROGRAM_CALL => texts::answer_program(out, call, work),
+        PATH_CALL => {
             texts::answer_path(out, call)?;
             Ok(true)
         }
-        4 => texts::answer_join(out, call, work),
-        5 => answer_rows(out, call, work),
-        6 => front::answer_front(out, call, work),
+        JOIN_CALL => texts::answer_join(out, call, work),
+        ROWS_CALL => answer_rows(out, call, work),
+        FRONT_CALL => front::answer_front(out, call, work),
         _ => Ok(false),
     }
 }

@@ -2,9 +2,11 @@
 ghost use Rattle.std.specs.Prelude.{◌+◌, ◌*◌, ◌≤◌, length};
 ghost use Rattle.rows.specs.Sizes.{entry_size};
 
+use buffers::table::Stored;
 use rows::line::ENTRY_SIZE;
 use std::io::{self, Write};
 use tlv::bytes::Number;
+use tlv::model::LineEntry;
 
 // The numbers of a table, eight bytes each.
 pub fn write_offsets(out: &mut impl Write, table: &[u8]) -> io::Result<()> {
@@ -16,7 +18,7 @@ pub fn write_offsets(out: &mut impl Write, table: &[u8]) -> io::Result<()> {
     Ok(())
 }
 
-fn write_entry(out: &mut impl Write, entry: tlv::model::LineEntry) -> io::Result<()> {
+fn write_entry(out: &mut impl Write, entry: LineEntry) -> io::Result<()> {
     let address = entry.address;
     let file = entry.file.0;
     let line = entry.line;
@@ -24,12 +26,12 @@ fn write_entry(out: &mut impl Write, entry: tlv::model::LineEntry) -> io::Result
     write!(out, " {address:x}:{file}:{line}:{column}")
 }
 
-// The `count` rows that stand at a place.
-pub fn write_rows(out: &mut impl Write, work: &[u8], rows: usize, count: usize) -> io::Result<()>
-    requires { rows + count * entry_size ≤ length work.now }
+// The rows of a table.
+pub fn write_rows(out: &mut impl Write, work: &[u8], rows: Stored<LineEntry>) -> io::Result<()>
+    requires { rows.base + rows.count * entry_size ≤ length work.now }
 {
-    for i in 0..count {
-        write_entry(out, rows::line::entry_at(work, rows + i * ENTRY_SIZE))?;
+    for i in 0..rows.count {
+        write_entry(out, rows::line::entry_at(work, rows.base + i * ENTRY_SIZE))?;
     }
     Ok(())
 }

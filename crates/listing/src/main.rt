@@ -3,12 +3,15 @@
 
 ghost use Rattle.std.specs.Prelude.{◌≤◌, IfOk, length};
 
+use buffers::warning::WarningKind;
+use dwarf::import::import_unit;
+use dwarf::lent::Inputs;
 use lookup::model::{FUNCTION_SIZE, NODE_SIZE, RANGE_SIZE, ROW_SIZE, SITE_SIZE};
 use std::fs;
 use std::io::{self, Write};
 use std::rt::Files;
-use streams::{read_full, write_refused};
-use subprograms::model::ConversionStats;
+use streams::{read_full, write_refused_line};
+use subprograms::model::{ConversionStats, Outputs};
 use tlv::bytes::Number;
 use tlv::fields::next_field;
 use tlv::tags::{
@@ -119,19 +122,17 @@ fn write_file(out: &mut impl Write, p: &[u8], number: u64) -> io::Result<()> {
     writeln!(out)
 }
 
-// The first kind of a warning behind which two numbers stand, and their length.
-const FIRST_OF_NUMBERS: u8 = 3;
-
+// The length of the two numbers of a warning.
 const NUMBERS_SIZE: usize = 16;
 
-// 46: kind, then two numbers, or of kinds 1 and 2 the reason.
+// 46: kind, then two numbers, or of the first two kinds, malformed ranges, the reason.
 fn write_warning(out: &mut impl Write, p: &[u8]) -> io::Result<()> {
     let Some((&kind, rest)) = p.split_first() else {
         return Ok(());
     };
     out.write_all(b"warning ")?;
     write!(out, "{kind}")?;
-    if kind < FIRST_OF_NUMBERS {
+    if kind <= WarningKind::StoppedRanges.number() {
         write_text(out, rest)?;
     } else if NUMBERS_SIZE <= rest.len() {
         write!(out, " {:x} {:x}", u64::read(rest, 0), u64::read(rest, 8))?;
@@ -157,7 +158,7 @@ fn write_field(out: &mut impl Write, tag: u8, p: &[u8], number: u64) -> io::Resu
 fn write_fields(out: &mut impl Write, s: &[u8], first: u64) -> io::Result<()> {
     let mut number = first;
     let mut p = 0;
-    // Stays a loop: each field's own length moves the place, and only the numbers of the fields are counted beside it.
+    // Stays a loop over fields: next_field says why.
     while let Some(field) = next_field(s, p) {
         write_field(out, field.tag, &s[field.start..field.next], number)?;
         number = number.saturating_add(1);
@@ -173,51 +174,35 @@ fn write_stats(out: &mut impl Write, s: ConversionStats) -> io::Result<()> {
     writeln!(out, "{functions} {rows} {nodes} {rejected}")
 }
 
-// The part of a buffer that was written.
-fn written(buffer: &[u8], n: usize) -> &[u8] {
+// The first n bytes of a buffer, or all.
+fn front(buffer: &[u8], n: usize) -> &[u8] {
     &buffer[..n.min(buffer.len())]
 }
 
-// There is no file for a list section and none for an address table: both are empty.
-fn list<'a>(
-    out: &mut impl Write,
-    main: &'a [u8],
-    supplementary: &'a [u8],
-    program: &[u8],
-) -> io::Result<()> {
+// Imports unit 0, and lists what that gives.
+fn list(out: &mut impl Write, inputs: Inputs) -> io::Result<()> {
     let mut work = [0u8; WORK_SIZE];
     let mut records = [0u8; TRAY_SIZE];
     let mut files = [0u8; TRAY_SIZE];
     let mut warnings = [0u8; TRAY_SIZE];
-    match dwarf::import::import_unit(
-        main,
-        supplementary,
-        program,
-        b"",
-        b"",
-        0,
-        true,
-        true,
-        1,
-        &mut work,
-        &mut records,
-        &mut files,
-        &mut warnings,
-    ) {
-        Err(refusal) => {
-            write_refused(out, refusal)?;
-            writeln!(out)
-        }
+    let mut outputs = Outputs {
+        records: &mut records,
+        files: &mut files,
+        warnings: &mut warnings,
+    };
+    match import_unit(inputs, 0, true, true, 1, &mut work, &mut outputs) {
+        Err(refusal) => write_refused_line(out, refusal),
         Ok(done) => {
-            write_fields(out, written(&records, done.records), 0)?;
-            write_fields(out, written(&files, done.files), 1)?;
-            write_fields(out, written(&warnings, done.warnings), 0)?;
+            let written = done.lengths;
+            write_fields(out, front(outputs.records, written.records), 0)?;
+            write_fields(out, front(outputs.files, written.files), 1)?;
+            write_fields(out, front(outputs.warnings, written.warnings), 0)?;
             write_stats(out, done.stats)
         }
     }
 }
 
-// Reads the three files of the folder, and lists what their import gives.
+// Reads the three files of the folder, and lists what their import gives. There is no file for a list section and none for an address table: both are empty.
 fn list_files(rt: &impl Files, out: &mut impl Write) -> io::Result<()> {
     let mut main = [0u8; INPUT_LIMIT + 1];
     let mut supplementary = [0u8; INPUT_LIMIT + 1];
@@ -228,7 +213,8 @@ fn list_files(rt: &impl Files, out: &mut impl Write) -> io::Result<()> {
     if INPUT_LIMIT < m || INPUT_LIMIT < s || PROGRAM_LIMIT < l {
         return out.write_all(b"oversize\n");
     }
-    list(out, &main[..m], &supplementary[..s], &program[..l])
+    let inputs = Inputs::new(&main[..m], &supplementary[..s], &program[..l], b"", b"");
+    list(out, inputs)
 }
 
 fn main(rt: HostRuntime) -> io::Result<()> {

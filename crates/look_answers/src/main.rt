@@ -106,6 +106,7 @@ fn answer_window<F: FnOnce(&mut [u8]) -> Result<usize, Refusal>>(
     write_bytes(out, lent)
 }
 
+// What a query asks of a tray.
 fn answer_query(out: &mut impl Write, tray: &[u8], query: &[u8], list: &mut [u8]) -> io::Result<()>
     requires { QUERY_SIZE ≤ length query.now }
 {

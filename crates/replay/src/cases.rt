@@ -3,6 +3,7 @@
 ghost use Rattle.std.specs.Prelude.{◌<◌};
 
 use checks::options::Options;
+use dwarf::model::Lengths;
 use std::io;
 use streams::read_full;
 use subprograms::model::ConversionStats;
@@ -25,14 +26,6 @@ const CALL_SITES: u32 = 1;
 const ALL: u32 = 2;
 
 const SECTIONS: u32 = 3;
-
-// How long each of the output buffers is, or what was written to it.
-#[derive(Clone, Copy, Debug, PartialEq, Eq)]
-pub struct Lengths {
-    pub records: usize,
-    pub files: usize,
-    pub warnings: usize,
-}
 
 // The lengths of a list section and an address table.
 #[derive(Clone, Copy, Debug)]
@@ -95,8 +88,7 @@ fn case_of(head: &[u8; CASE_HEAD]) -> Case {
 
 pub fn answer_of(head: &[u8; ANSWER_HEAD]) -> Answer {
     Answer {
-        // Stays a number: it is a byte of the file of answers, and may be any.
-        refusal: u8::read(head, 0),
+        refusal: head[0],
         written: Lengths {
             records: u64::read(head, 1) as usize,
             files: u64::read(head, 9) as usize,
@@ -146,17 +138,17 @@ pub fn read_case(
     head: &[u8; CASE_HEAD],
     inputs: &mut [u8],
 ) -> io::Result<Option<Case>> {
-    let c = case_of(head);
-    let n = c.main as usize + c.supplementary as usize + c.program as usize;
+    let case = case_of(head);
+    let n = case.main as usize + case.supplementary as usize + case.program as usize;
     let Some(behind) = read_front(cases, inputs, n)? else {
         return Ok(None);
     };
     if !is_on(head, SECTIONS) {
-        return Ok(Some(c));
+        return Ok(Some(case));
     }
     let sections = read_sections(cases, behind)?;
     Ok(sections.map(|sections| Case {
         sections: Some(sections),
-        ..c
+        ..case
     }))
 }

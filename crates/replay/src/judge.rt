@@ -1,6 +1,6 @@
 // Holds what a pass or an import gave to a recorded answer.
-use crate::cases::{Answer, Lengths};
-use dwarf::model::Imported;
+use crate::cases::Answer;
+use dwarf::model::{Imported, Lengths};
 use std::fmt;
 use std::io::{self, Read};
 use streams::read_full;
@@ -46,116 +46,105 @@ fn holds_only(buffer: &[u8], b: u8) -> bool {
     buffer.iter().all(|&x| x == b)
 }
 
-// Whether a buffer begins with the n bytes that come next in the file of answers, and is as it was behind them.
-fn judge_buffer(
-    answers: &mut impl Read,
-    expected: &mut [u8],
-    buffer: &[u8],
-    n: usize,
-) -> io::Result<Option<Difference>> {
-    if expected.len() < n {
-        return Ok(Some(Difference::Cut));
-    }
-    if buffer.len() < n {
-        return Ok(Some(Difference::Lengths));
-    }
-    let recorded = &mut expected[..n];
-    if read_full(answers, recorded)? < n {
-        return Ok(Some(Difference::Cut));
-    }
-    let Some(past) = buffer.strip_prefix(recorded) else {
-        return Ok(Some(Difference::Bytes));
-    };
-    if !holds_only(past, FILLED) {
-        return Ok(Some(Difference::Past));
-    }
-    Ok(None)
+// The answer that is recorded of a case, the file of answers, in which its bytes come next, and room for as many of them as a buffer has.
+#[derive(Debug, Drop)]
+pub struct Recorded<'a, R> {
+    pub answer: Answer,
+    pub answers: &'a mut R,
+    pub room: &'a mut [u8],
 }
 
-// The three buffers of a finished import.
-fn judge_buffers(
-    answers: &mut impl Read,
-    a: Answer,
-    expected: &mut [u8],
-    t: &Outputs,
-) -> io::Result<Option<Difference>> {
-    if let Some(what) = judge_buffer(answers, expected, t.records, a.written.records)? {
-        return Ok(Some(what));
+impl<'a, R: Read> Recorded<'a, R> {
+    // Whether a buffer begins with the n bytes that come next, and is as it was behind them.
+    // Stays an Option, as all that judge: a difference is what is looked for and no failure, and each is handed on as it was found.
+    fn judge_buffer(&mut self, buffer: &[u8], n: usize) -> io::Result<Option<Difference>> {
+        if self.room.len() < n {
+            return Ok(Some(Difference::Cut));
+        }
+        if buffer.len() < n {
+            return Ok(Some(Difference::Lengths));
+        }
+        let bytes = &mut self.room[..n];
+        if read_full(self.answers, bytes)? < n {
+            return Ok(Some(Difference::Cut));
+        }
+        let Some(past) = buffer.strip_prefix(bytes) else {
+            return Ok(Some(Difference::Bytes));
+        };
+        if !holds_only(past, FILLED) {
+            return Ok(Some(Difference::Past));
+        }
+        Ok(None)
     }
-    if let Some(what) = judge_buffer(answers, expected, t.files, a.written.files)? {
-        return Ok(Some(what));
+
+    // The three buffers of a finished import.
+    fn judge_buffers(&mut self, outputs: &Outputs) -> io::Result<Option<Difference>> {
+        let written = self.answer.written;
+        if let Some(what) = self.judge_buffer(outputs.records, written.records)? {
+            return Ok(Some(what));
+        }
+        if let Some(what) = self.judge_buffer(outputs.files, written.files)? {
+            return Ok(Some(what));
+        }
+        self.judge_buffer(outputs.warnings, written.warnings)
     }
-    judge_buffer(answers, expected, t.warnings, a.written.warnings)
+
+    fn judge_finished(
+        &mut self,
+        given: Imported,
+        outputs: &Outputs,
+    ) -> io::Result<Option<Difference>> {
+        if self.answer.refusal != 0 {
+            return Ok(Some(Difference::Refusal));
+        }
+        if given.lengths != self.answer.written {
+            return Ok(Some(Difference::Lengths));
+        }
+        if given.stats != self.answer.stats {
+            return Ok(Some(Difference::Statistics));
+        }
+        self.judge_buffers(outputs)
+    }
+
+    // What an import gave; none where all is as recorded.
+    pub fn judge(
+        &mut self,
+        given: Result<Imported, Refusal>,
+        work: &[u8],
+        outputs: &Outputs,
+    ) -> io::Result<Option<Difference>> {
+        if !holds_only(work, 0) {
+            return Ok(Some(Difference::Work));
+        }
+        match given {
+            Err(refusal) => Ok(judge_refused(self.answer, refusal, outputs)),
+            Ok(finished) => self.judge_finished(finished, outputs),
+        }
+    }
 }
 
-// The lengths that an import or its pass says.
-fn lengths_of(said: Imported) -> Lengths {
-    Lengths {
-        records: said.records,
-        files: said.files,
-        warnings: said.warnings,
-    }
-}
-
-fn judge_finished(
-    answers: &mut impl Read,
-    a: Answer,
-    r: Imported,
-    expected: &mut [u8],
-    t: &Outputs,
-) -> io::Result<Option<Difference>> {
-    if a.refusal != 0 {
-        return Ok(Some(Difference::Refusal));
-    }
-    if lengths_of(r) != a.written {
-        return Ok(Some(Difference::Lengths));
-    }
-    if r.stats != a.stats {
-        return Ok(Some(Difference::Statistics));
-    }
-    judge_buffers(answers, a, expected, t)
-}
-
-fn judge_refused(a: Answer, n: u8, t: &Outputs) -> Option<Difference> {
-    if a.refusal != n {
+fn judge_refused(answer: Answer, refusal: Refusal, outputs: &Outputs) -> Option<Difference> {
+    if answer.refusal != refusal.number() {
         return Some(Difference::Refusal);
     }
-    if holds_only(t.records, 0) && holds_only(t.files, 0) && holds_only(t.warnings, 0) {
+    if holds_only(outputs.records, 0)
+        && holds_only(outputs.files, 0)
+        && holds_only(outputs.warnings, 0)
+    {
         return None;
     }
     Some(Difference::Fill)
 }
 
-// What an import gave; none where all is as recorded.
-pub fn judge(
-    answers: &mut impl Read,
-    a: Answer,
-    r: Result<Imported, Refusal>,
-    expected: &mut [u8],
-    work: &[u8],
-    t: &Outputs,
-) -> io::Result<Option<Difference>> {
-    if !holds_only(work, 0) {
-        return Ok(Some(Difference::Work));
-    }
-    match r {
-        Err(refusal) => Ok(judge_refused(a, refusal.number(), t)),
-        Ok(finished) => judge_finished(answers, a, finished, expected, t),
-    }
-}
-
 // Whether the lengths that the pass says are those of a recorded answer; where a buffer was too short, whether it says so of that one first.
-fn are_lengths(a: Answer, said: Imported, lent: Lengths) -> bool {
-    if a.refusal == 0 {
-        return lengths_of(said) == a.written;
+fn are_lengths(answer: Answer, said: Lengths, lent: Lengths) -> bool {
+    if answer.refusal == 0 {
+        return said == answer.written;
     }
-    if lent.records < said.records {
-        return a.refusal == Refusal::ShortRecords.number();
+    match said.short_in(lent) {
+        Some(refusal) => answer.refusal == refusal.number(),
+        None => false,
     }
-    if lent.files < said.files {
-        return a.refusal == Refusal::ShortFiles.number();
-    }
-    lent.warnings < said.warnings && a.refusal == Refusal::ShortWarnings.number()
 }
 
 // Whether it is the refusal of an output buffer's length.
@@ -167,12 +156,20 @@ fn is_short(refusal: Refusal) -> bool {
 }
 
 // Whether the pass says what is recorded, of an import into buffers of these lengths: the refusal where it is no buffer's, else the lengths and statistics.
-pub fn judge_pass(a: Answer, r: Result<Imported, Refusal>, work: &[u8], lent: Lengths) -> bool {
+pub fn judge_pass(
+    answer: Answer,
+    given: Result<Imported, Refusal>,
+    work: &[u8],
+    lent: Lengths,
+) -> bool {
     if !holds_only(work, 0) {
         return false;
     }
-    match r {
-        Err(refusal) => a.refusal == refusal.number() && !is_short(refusal),
-        Ok(said) => (a.refusal != 0 || said.stats == a.stats) && are_lengths(a, said, lent),
+    match given {
+        Err(refusal) => answer.refusal == refusal.number() && !is_short(refusal),
+        Ok(said) => {
+            (answer.refusal != 0 || said.stats == answer.stats)
+                && are_lengths(answer, said.lengths, lent)
+        }
     }
 }

@@ -6,7 +6,7 @@
 ghost use Rattle.std.specs.Prelude.{◌≡◌, length};
 
 use cases::{ANSWER_HEAD, Answer, CASE_HEAD, Case, answer_of, read_case};
-use judge::Difference;
+use judge::{Difference, Recorded};
 use runs::run_case;
 use std::fs;
 use std::io::{self, Read, Write};
@@ -28,7 +28,8 @@ const WORK_SIZE: usize = 98304;
 const CASE_LIMIT: u64 = 1000000;
 
 // What comes next in a file of cases: a case with its answer, the end, or one that is cut off or has no room.
-// Stays an enum: the end and a file that is cut off are told apart.
+// Stays an enum and no Option: the end and a file that is cut off are told apart.
+#[derive(Clone, Copy, Debug)]
 enum Next {
     Case(Case, Answer),
     End,
@@ -49,10 +50,10 @@ fn next_case(
     if read_full(answers, &mut answer)? < ANSWER_HEAD {
         return Ok(Next::Cut);
     }
-    let Some(c) = read_case(cases, &head, inputs)? else {
+    let Some(case) = read_case(cases, &head, inputs)? else {
         return Ok(Next::Cut);
     };
-    Ok(Next::Case(c, answer_of(&answer)))
+    Ok(Next::Case(case, answer_of(&answer)))
 }
 
 // Zeros for work. Its own function: a caller's proof sees only the length.
@@ -78,22 +79,28 @@ fn replay_cases(
     let mut records = [0u8; LARGE];
     let mut files = [0u8; LARGE];
     let mut warnings = [0u8; LARGE];
+    // Stays a `for` with a `return`: reading and writing may fail, which `?` hands on.
     for number in 0..CASE_LIMIT {
-        let (c, a) = match next_case(cases, answers, &mut inputs)? {
-            Next::Case(c, a) => (c, a),
+        let (case, answer) = match next_case(cases, answers, &mut inputs)? {
+            Next::Case(case, answer) => (case, answer),
             Next::End => return writeln!(out, " {number} cases, all as recorded"),
             Next::Cut => return write_difference(out, number, Difference::Cut),
         };
-        if WORK_SIZE < c.work {
+        if WORK_SIZE < case.work {
             return write_difference(out, number, Difference::Cut);
         }
-        let lent = &mut work[..c.work];
-        let mut t = Outputs {
-            records: &mut records[..c.lent.records.min(LARGE)],
-            files: &mut files[..c.lent.files.min(LARGE)],
-            warnings: &mut warnings[..c.lent.warnings.min(LARGE)],
+        let mut outputs = Outputs {
+            records: &mut records[..case.lent.records.min(LARGE)],
+            files: &mut files[..case.lent.files.min(LARGE)],
+            warnings: &mut warnings[..case.lent.warnings.min(LARGE)],
         };
-        if let Some(what) = run_case(answers, c, a, &inputs, &mut expected, lent, &mut t)? {
+        let mut recorded = Recorded {
+            answer,
+            answers: &mut *answers,
+            room: &mut expected,
+        };
+        let work = &mut work[..case.work];
+        if let Some(what) = run_case(&mut recorded, case, &inputs, work, &mut outputs)? {
             return write_difference(out, number, what);
         }
     }
@@ -108,10 +115,10 @@ fn replay(
     answers: &str,
 ) -> io::Result<()> {
     write!(out, "{name}")?;
-    let (Ok(mut c), Ok(mut a)) = (fs::open(rt, cases), fs::open(rt, answers)) else {
+    let (Ok(mut cases), Ok(mut answers)) = (fs::open(rt, cases), fs::open(rt, answers)) else {
         return writeln!(out, ": a file is missing");
     };
-    replay_cases(out, &mut c, &mut a)
+    replay_cases(out, &mut cases, &mut answers)
 }
 
 fn replay_all(rt: &impl Files, out: &mut impl Write) -> io::Result<()> {

@@ -1,137 +1,88 @@
 // Runs a case: the pass that writes no buffer, then the import.
-use crate::cases::{Answer, Case, Lengths};
-use crate::judge::{Difference, FILLED, judge, judge_pass};
+use crate::cases::Case;
+use crate::judge::{Difference, FILLED, Recorded, judge_pass};
+use dwarf::import::{import_dwarf, import_unit, measure_dwarf, measure_unit};
 use dwarf::lent::Inputs;
-use dwarf::model::Imported;
+use dwarf::model::{Imported, Lengths};
 use std::io::{self, Read};
 use subprograms::model::Outputs;
 use tlv::refusal::Refusal;
 
 // The pass of a case, with work filled.
 // Stays beside import_case: the pass lends no output buffer.
-fn measure_case(c: Case, i: Inputs, work: &mut [u8]) -> Result<Imported, Refusal> {
+fn measure_case(case: Case, inputs: Inputs, work: &mut [u8]) -> Result<Imported, Refusal> {
     work.fill(FILLED);
-    let o = c.options;
-    match o.ordinal {
-        None => dwarf::import::measure_dwarf(
-            i.sheets.main,
-            i.sheets.supplementary,
-            i.program,
-            i.lists.lists,
-            i.lists.addresses,
-            o.inlines,
-            o.call_sites,
-            o.first_file,
-            work,
-        ),
-        Some(ordinal) => dwarf::import::measure_unit(
-            i.sheets.main,
-            i.sheets.supplementary,
-            i.program,
-            i.lists.lists,
-            i.lists.addresses,
-            ordinal,
-            o.inlines,
-            o.call_sites,
-            o.first_file,
-            work,
-        ),
+    let asked = case.options;
+    let (inlines, call_sites, first_file) = (asked.inlines, asked.call_sites, asked.first_file);
+    match asked.ordinal {
+        None => measure_dwarf(inputs, inlines, call_sites, first_file, work),
+        Some(ordinal) => measure_unit(inputs, ordinal, inlines, call_sites, first_file, work),
     }
 }
 
 // The import of a case, with the buffers filled.
 // Stays beside measure_case: the import lends the output buffers too.
-fn import_case(c: Case, i: Inputs, work: &mut [u8], t: &mut Outputs) -> Result<Imported, Refusal> {
+fn import_case(
+    case: Case,
+    inputs: Inputs,
+    work: &mut [u8],
+    outputs: &mut Outputs,
+) -> Result<Imported, Refusal> {
     work.fill(FILLED);
-    t.records.fill(FILLED);
-    t.files.fill(FILLED);
-    t.warnings.fill(FILLED);
-    let o = c.options;
-    match o.ordinal {
-        None => dwarf::import::import_dwarf(
-            i.sheets.main,
-            i.sheets.supplementary,
-            i.program,
-            i.lists.lists,
-            i.lists.addresses,
-            o.inlines,
-            o.call_sites,
-            o.first_file,
-            work,
-            t.records,
-            t.files,
-            t.warnings,
-        ),
-        Some(ordinal) => dwarf::import::import_unit(
-            i.sheets.main,
-            i.sheets.supplementary,
-            i.program,
-            i.lists.lists,
-            i.lists.addresses,
-            ordinal,
-            o.inlines,
-            o.call_sites,
-            o.first_file,
-            work,
-            t.records,
-            t.files,
-            t.warnings,
+    outputs.fill(FILLED);
+    let asked = case.options;
+    let (inlines, call_sites, first_file) = (asked.inlines, asked.call_sites, asked.first_file);
+    match asked.ordinal {
+        None => import_dwarf(inputs, inlines, call_sites, first_file, work, outputs),
+        Some(ordinal) => import_unit(
+            inputs, ordinal, inlines, call_sites, first_file, work, outputs,
         ),
     }
 }
 
 // A case over its inputs and over buffers of its lengths: the pass, then the import.
-fn run_both(
-    answers: &mut impl Read,
-    c: Case,
-    a: Answer,
-    i: Inputs,
-    expected: &mut [u8],
+fn run_both<R: Read>(
+    recorded: &mut Recorded<R>,
+    case: Case,
+    inputs: Inputs,
     work: &mut [u8],
-    t: &mut Outputs,
+    outputs: &mut Outputs,
 ) -> io::Result<Option<Difference>> {
-    let said = measure_case(c, i, work);
-    let lent = Lengths {
-        records: t.records.len(),
-        files: t.files.len(),
-        warnings: t.warnings.len(),
-    };
-    if !judge_pass(a, said, work, lent) {
+    let said = measure_case(case, inputs, work);
+    if !judge_pass(recorded.answer, said, work, Lengths::of(outputs)) {
         return Ok(Some(Difference::Pass));
     }
-    let r = import_case(c, i, work, t);
-    judge(answers, a, r, expected, work, t)
+    let given = import_case(case, inputs, work, outputs);
+    recorded.judge(given, work, outputs)
 }
 
 // A case whose inputs were read, over those and over buffers of its lengths.
-pub fn run_case(
-    answers: &mut impl Read,
-    c: Case,
-    a: Answer,
-    inputs: &[u8],
-    expected: &mut [u8],
+pub fn run_case<R: Read>(
+    recorded: &mut Recorded<R>,
+    case: Case,
+    bytes: &[u8],
     work: &mut [u8],
-    t: &mut Outputs,
+    outputs: &mut Outputs,
 ) -> io::Result<Option<Difference>> {
-    let main = c.main as usize;
-    let second = main + c.supplementary as usize;
-    let third = second + c.program as usize;
-    let (fourth, end) = match c.sections {
+    let main = case.main as usize;
+    let second = main + case.supplementary as usize;
+    let third = second + case.program as usize;
+    let (fourth, end) = match case.sections {
         None => (third, third),
         Some(sections) => {
             let fourth = third + sections.lists as usize;
             (fourth, fourth + sections.addresses as usize)
         }
     };
-    if inputs.len() < end {
+    if bytes.len() < end {
         return Ok(Some(Difference::Cut));
     }
-    let i = Inputs::new(
-        &inputs[..main],
-        &inputs[main..second],
-        &inputs[second..third],
-        &inputs[third..fourth],
-        &inputs[fourth..end],
+    let inputs = Inputs::new(
+        &bytes[..main],
+        &bytes[main..second],
+        &bytes[second..third],
+        &bytes[third..fourth],
+        &bytes[fourth..end],
     );
-    run_both(answers, c, a, i, expected, work, t)
+    run_both(recorded, case, inputs, work, outputs)
 }

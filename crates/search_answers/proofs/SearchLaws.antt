@@ -23,6 +23,10 @@ use Rattle.files.specs.declared.sheets.Sheets.{Sheets}
 use Rattle.files.specs.declared.store.StoredFiles.{StoredFiles}
 use Rattle.files.proofs.FewLaws.{tags-few, possible-few, directories-few, files-few_in}
 use Rattle.files.specs.Interns.{map_extent}
+use Rattle.buffers.specs.declared.table.Stored.{Stored}
+use Rattle.access.specs.declared.index.EntryPlace.{EntryPlace}
+use Rattle.access.specs.declared.units.UnitSpan.{UnitSpan}
+use Rattle.tlv.specs.declared.model.FileIndex.{FileIndex}
 use Rattle.references.specs.declared.tables.Index.{Index}
 use Rattle.references.specs.declared.trails.Trail.{Trail}
 use Rattle.references.specs.Search.{Declaring}
@@ -50,16 +54,17 @@ pub entries_fit : (s : List ℕ) (n base w w' : ℕ) → Accepts s n → base + 
 entries_fit s n base w w' e h same = omega (arith, tags-few s n e)
 
 pub sheet-indexed : {s w w₁ w₂ : List ℕ} {base n a b : ℕ} → Accepts s n → base + n * 40 ≤ length w → IndexedUnits s w w₁ base a → Indexed s w₁ w₂ (base + n * 24) b
-    → IndexedSheet s w w₂ base n (record { units = base; unit_count = a; entries = base + n * 24; entry_count = b })
-sheet-indexed {s} {w} {w₁} {w₂} {base} {n} {a} {b} e h A B =
+    → {units : Stored UnitSpan} {entries : Stored EntryPlace} → units.base ≡ base → units.count ≡ a → entries.base ≡ base + n * 24 → entries.count ≡ b
+    → IndexedSheet s w w₂ base n (record { units = units; entries = entries })
+sheet-indexed {s} {w} {w₁} {w₂} {base} {n} {a} {b} e h A B ub uc eb ec =
     let units-few : a ≤ n = omega (arith, A.count, unit_places-length 0 (fields s), tags-few s n e) in
     let entries-few : b ≤ n = omega (arith, B.count, index-length 0 0 0 (fields s), tags-few s n e) in
     record {
       index = record {
         number = n;
         accepted = e;
-        units = records-kept unit_of24 24 base a B.rest (inl (omega arith)) ∙ A.table;
-        entries = B.table;
+        units = rw (ub, uc) (records-kept unit_of24 24 base a B.rest (inl (omega arith)) ∙ A.table);
+        entries = rw (eb, ec) B.table;
         units-within = omega (arith, A.size, B.size);
         entries-within = omega (arith, A.size, B.size);
       };
@@ -67,7 +72,7 @@ sheet-indexed {s} {w} {w₁} {w₂} {base} {n} {a} {b} e h A B =
       entries-above = omega arith;
       units-below = omega arith;
       entries_within = omega arith;
-      few = entries-few;
+      few = rw ec entries-few;
       rest = kept_trans (kept-wide base (n * 40) A.rest (omega arith) (omega arith)) (kept-wide base (n * 40) B.rest (omega arith) (omega arith));
       size = B.size ∙ A.size;
     }
@@ -83,14 +88,15 @@ pub tables-built : (sheets : Sheets) {w w₁ w₂ : List ℕ} {n m : ℕ} {a b :
     → Room (length sheets.main.now) (length sheets.supplementary.now) n m (length w)
     → IndexedSheet sheets.main.now w w₁ ((n + m) * 45 + (joined_limit + 45) + ((n + m) * 8 + 5)) n a
     → IndexedSheet sheets.supplementary.now w₁ w₂ ((n + m) * 45 + (joined_limit + 45) + ((n + m) * 8 + 5) + n * 40) m b
+    → {is : Stored FileIndex} → is.base ≡ (n + m) * 45 + (joined_limit + 45) → is.count ≡ 0
     → BuildsTables sheets w₂ (n + m + 1)
     (record {
       tables = record { sheets = sheets; main = a; supplementary = b; keys = (n + m) * 45 + (joined_limit + 45) + ((n + m) * 8 + 5) + n * 40 + m * 40 };
-      indices = record { base = (n + m) * 45 + (joined_limit + 45); count = 0 };
+      indices = is;
       spans = (n + m) * 45 + (joined_limit + 45);
       room = (n + m) * 8 + 5;
     })
-tables-built sheets {n = n} {m = m} e d R A B =
+tables-built sheets {n = n} {m = m} e d R A B is-base is-count =
     let s = sheets.main.now in
     let t = sheets.supplementary.now in
     record {

@@ -34,11 +34,11 @@ pub record HasRoom (main supplementary n m work : ℕ) (r : Bool) : Type 0 where
 -- the tables of a sheet of n fields were written, in the n * 40 bytes from base on
 pub record IndexedSheet (s w w' : List ℕ) (base n : ℕ) (r : Index) : Type 0 where
   pub index : IndexIn s w' r
-  pub units-above : base ≤ r.units
-  pub entries-above : base ≤ r.entries
-  pub units-below : r.units + unit_record * r.unit_count ≤ base + n * 40
-  pub entries_within : r.entries + entry_record * r.entry_count ≤ base + n * 40
-  pub few : r.entry_count ≤ n
+  pub units-above : base ≤ r.units.base
+  pub entries-above : base ≤ r.entries.base
+  pub units-below : r.units.base + unit_record * r.units.count ≤ base + n * 40
+  pub entries_within : r.entries.base + entry_record * r.entries.count ≤ base + n * 40
+  pub few : r.entries.count ≤ n
   pub rest : Kept w w' base (n * 40)
   pub size : length w' ≡ length w
 
@@ -51,10 +51,10 @@ pub record SearchesIn (main supplementary w : List ℕ) (d : Places) (files : �
   pub supplementary-small : length supplementary < 2 ^ 32
   pub table : files * file_record + joined_limit ≤ d.indices.base
   pub indices : d.indices.base + d.indices.count * index_record ≤ d.spans
-  pub main-units : d.spans + d.room ≤ d.tables.main.units
-  pub main-entries : d.spans + d.room ≤ d.tables.main.entries
-  pub supplementary-units : d.spans + d.room ≤ d.tables.supplementary.units
-  pub supplementary-entries : d.spans + d.room ≤ d.tables.supplementary.entries
+  pub main-units : d.spans + d.room ≤ d.tables.main.units.base
+  pub main-entries : d.spans + d.room ≤ d.tables.main.entries.base
+  pub supplementary-units : d.spans + d.room ≤ d.tables.supplementary.units.base
+  pub supplementary-entries : d.spans + d.room ≤ d.tables.supplementary.entries.base
   pub room-main : (q : ℕ) → UnitOf main q → map_extent main q ≤ d.room
   pub room-supplementary : (q : ℕ) → UnitOf supplementary q → map_extent supplementary q ≤ d.room
 

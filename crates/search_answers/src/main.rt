@@ -1,18 +1,14 @@
 // Reads calls of the searches from standard input and writes what they answer, with how many entries each read (oracle/README.md says how both stand).
 #![tactic(auto)]
 
-ghost use Rattle.std.specs.Prelude.{◌≤◌, length};
 ghost use Rattle.tlv.specs.Checked.{Accepts};
-ghost use Rattle.search_answers.specs.Searches.{Ready};
 
-use crate::output::{end_line, write_refused_line};
-use crate::searches::{Searches, answer_declaration, answer_name, answer_reference};
+use crate::output::answer_refused;
+use crate::searches::Searches;
 use crate::tables::{build_tables, has_room};
 use files::sheets::Sheets;
-use references::tables::target_at;
 use std::io::{self, Write};
 use streams::{answer_all, answer_next, split_parts};
-use tlv::bytes::Number;
 use tlv::grammar::check_input;
 
 pub mod output;
@@ -24,47 +20,6 @@ const CALL_LIMIT: usize = 16384;
 
 const WORK_SIZE: usize = 65536;
 
-// A query: its kind (1 byte), the offset of an entry in the section (8).
-const QUERY_SIZE: usize = 9;
-
-// Its kinds; any other asks for the declaration.
-const NAME_QUERY: u8 = 1;
-
-const REFERENCE_QUERY: u8 = 2;
-
-fn answer_query(out: &mut impl Write, query: &[u8], work: &mut [u8], s: Searches) -> io::Result<()>
-    requires query_len { 9 ≤ length query.now }
-    requires searches_in { Ready s work.old }
-    ensures { Ready s.entry work.new }
-{
-    let x = s.places.tables;
-    let offset = u64::read(query, 1);
-    let Ok(Some(entry)) = target_at(x.sheets.main, work, x.main, offset) else {
-        return write!(out, "no entry");
-    };
-    // Stays a match: the kind is a byte of the input, and each kind has a search of its own.
-    match query[0] {
-        NAME_QUERY => answer_name(out, work, s, entry),
-        REFERENCE_QUERY => answer_reference(out, work, s, entry),
-        _ => answer_declaration(out, work, s, entry),
-    }
-}
-
-fn answer_queries(
-    out: &mut impl Write,
-    queries: &[u8],
-    work: &mut [u8],
-    s: Searches,
-) -> io::Result<()>
-    requires { Ready s work.old }
-{
-    for query in queries.chunks_exact(QUERY_SIZE) {
-        answer_query(out, query, work, s)?;
-        end_line(out)?;
-    }
-    Ok(())
-}
-
 // The queries of two accepted sheets of n and m fields; false where the work has no room.
 fn answer_accepted(
     out: &mut impl Write,
@@ -74,8 +29,8 @@ fn answer_accepted(
     queries: &[u8],
     work: &mut [u8],
 ) -> io::Result<bool>
-    requires accepts { Accepts sheets.main.now n }
-    requires accepts_2 { Accepts sheets.supplementary.now m }
+    requires main_accepts { Accepts sheets.main.now n }
+    requires supplementary_accepts { Accepts sheets.supplementary.now m }
 {
     if !has_room(
         sheets.main.len(),
@@ -86,11 +41,11 @@ fn answer_accepted(
     ) {
         return Ok(false);
     }
-    let s = Searches {
+    let searches = Searches {
         places: build_tables(sheets, n, m, work),
         files: n + m + 1,
     };
-    answer_queries(out, queries, work, s)?;
+    searches.answer_queries(out, queries, work)?;
     Ok(true)
 }
 
@@ -103,11 +58,11 @@ fn answer_sheets(
 ) -> io::Result<bool> {
     let n = match check_input(main, 0) {
         Ok(n) => n as usize,
-        Err(refusal) => return write_refused_line(out, refusal),
+        Err(refusal) => return answer_refused(out, refusal),
     };
     let m = match check_input(supplementary, 0) {
         Ok(m) => m as usize,
-        Err(refusal) => return write_refused_line(out, refusal),
+        Err(refusal) => return answer_refused(out, refusal),
     };
     let sheets = Sheets {
         main,

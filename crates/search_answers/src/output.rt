@@ -1,8 +1,8 @@
 // What answers are written as.
-use declarations::declaration_lines::SearchedLine;
-use references::names::Searched;
+use declarations::declaring::Declared;
+use references::trails::Counted;
 use std::io::{self, Write};
-use streams::{write_name, write_refused};
+use streams::{write_name, write_refused, write_refused_line};
 use tlv::refusal::Refusal;
 
 pub fn end_line(out: &mut impl Write) -> io::Result<()> {
@@ -15,8 +15,8 @@ fn write_reads(out: &mut impl Write, reads: usize) -> io::Result<()> {
 }
 
 // What a name search has found, or its refusal.
-pub fn write_found(out: &mut impl Write, found: Searched<'_>) -> io::Result<()> {
-    match found.name {
+pub fn write_found(out: &mut impl Write, found: Counted<Result<&[u8], Refusal>>) -> io::Result<()> {
+    match found.answer {
         Ok(name) => {
             write!(out, "name ")?;
             write_name(out, name)?;
@@ -29,8 +29,11 @@ pub fn write_found(out: &mut impl Write, found: Searched<'_>) -> io::Result<()> 
 }
 
 // What a declaration search has found, or its refusal.
-pub fn write_declared(out: &mut impl Write, searched: SearchedLine) -> io::Result<()> {
-    match searched.answer {
+pub fn write_declared(
+    out: &mut impl Write,
+    declared: Counted<Result<Declared, Refusal>>,
+) -> io::Result<()> {
+    match declared.answer {
         Ok(declared) => {
             match declared.found {
                 Some(found) => {
@@ -47,11 +50,11 @@ pub fn write_declared(out: &mut impl Write, searched: SearchedLine) -> io::Resul
             write_refused(out, refusal)?;
         }
     }
-    write_reads(out, searched.reads)
+    write_reads(out, declared.reads)
 }
 
-pub fn write_refused_line(out: &mut impl Write, refusal: Refusal) -> io::Result<bool> {
-    write_refused(out, refusal)?;
-    end_line(out)?;
+// The answer to sheets of which one is refused: a line of its own.
+pub fn answer_refused(out: &mut impl Write, refusal: Refusal) -> io::Result<bool> {
+    write_refused_line(out, refusal)?;
     Ok(true)
 }

@@ -1,83 +1,123 @@
-// The three searches from an entry, each with how many entries it read.
+// The queries of two sheets: the three searches from an entry, each with how many entries it read.
+ghost use Rattle.std.specs.Prelude.{◌≤◌, length};
 ghost use Rattle.references.specs.Tables.{EntryKnown};
 ghost use Rattle.search_answers.specs.Searches.{Ready};
 
-use crate::output::{write_declared, write_found};
+use crate::output::{end_line, write_declared, write_found};
 use access::index::EntryPlace;
 use declarations::declaration_lines::resolve_declaration_line_counted;
 use declarations::declaring::{DeclaringState, Places};
-use files::store::new_files;
+use files::store::StoredFiles;
 use references::names::resolve_name_counted;
 use references::reference_names::resolve_reference_name_counted;
 use references::trails::Trail;
 use std::io::{self, Write};
+use tlv::bytes::Number;
 use tlv::constants::DW_AT_CALL_ORIGIN;
 
+// A query: its kind (1 byte), the offset of an entry in the section (8).
+const QUERY_SIZE: usize = 9;
+
+const QUERY_OFFSET: usize = 1;
+
+// Its kinds; any other asks for the declaration.
+const NAME_QUERY: u8 = 1;
+
+const REFERENCE_QUERY: u8 = 2;
+
 // Two sheets and where their tables stand in the work slice, and how many files there is room for.
-// Stays bare: it holds the sheets, which no program prints.
-#[derive(Clone, Copy)]
+#[derive(Clone, Copy, Debug)]
 pub struct Searches<'a> {
     pub places: Places<'a>,
     pub files: usize,
 }
 
-// The name of an entry.
-pub fn answer_name(
-    out: &mut impl Write,
-    work: &mut [u8],
-    s: Searches,
-    e: EntryPlace,
-) -> io::Result<()>
-    requires searches_in { Ready s work.old }
-    requires entry_known { EntryKnown s.places.tables.sheets.main.now e.unit e.place }
-    ensures { Ready s.entry work.new }
-{
-    let found = resolve_name_counted(work, s.places.tables, e.unit, e.place);
-    write_found(out, found)
-}
+impl<'a> Searches<'a> {
+    // The name of an entry.
+    fn answer_name(self, out: &mut impl Write, work: &mut [u8], entry: EntryPlace) -> io::Result<()>
+        requires searches_in { Ready self work.old }
+        requires entry_known { EntryKnown self.places.tables.sheets.main.now entry.unit entry.place }
+        ensures { Ready self.entry work.new }
+    {
+        write_found(out, resolve_name_counted(work, self.places.tables, entry))
+    }
 
-// The name that its call origin refers to.
-pub fn answer_reference(
-    out: &mut impl Write,
-    work: &mut [u8],
-    s: Searches,
-    e: EntryPlace,
-) -> io::Result<()>
-    requires searches_in { Ready s work.old }
-    requires entry_known { EntryKnown s.places.tables.sheets.main.now e.unit e.place }
-    ensures { Ready s.entry work.new }
-{
-    let x = s.places.tables;
-    let found = resolve_reference_name_counted(work, x, e.unit, e.place, DW_AT_CALL_ORIGIN);
-    write_found(out, found)
-}
+    // The name that its call origin refers to.
+    fn answer_reference(
+        self,
+        out: &mut impl Write,
+        work: &mut [u8],
+        entry: EntryPlace,
+    ) -> io::Result<()>
+        requires searches_in { Ready self work.old }
+        requires entry_known { EntryKnown self.places.tables.sheets.main.now entry.unit entry.place }
+        ensures { Ready self.entry work.new }
+    {
+        let tables = self.places.tables;
+        let found = resolve_reference_name_counted(work, tables, entry, DW_AT_CALL_ORIGIN);
+        write_found(out, found)
+    }
 
-// Its declaration, from an empty table of files on. What would be written to the trays is not asked for: a byte each stands for them.
-pub fn answer_declaration(
-    out: &mut impl Write,
-    work: &mut [u8],
-    s: Searches,
-    e: EntryPlace,
-) -> io::Result<()>
-    requires searches_in { Ready s work.old }
-    requires entry_known { EntryKnown s.places.tables.sheets.main.now e.unit e.place }
-    ensures { Ready s.entry work.new }
-{
-    let mut files_tray = [0u8; 1];
-    let mut warnings = [0u8; 1];
-    let from = DeclaringState {
-        trail: Trail::start(),
-        table: new_files(s.places.tables.sheets, work, 0, s.files, 1, 0),
-        warned: 0,
-    };
-    let searched = resolve_declaration_line_counted(
-        work,
-        &mut files_tray,
-        &mut warnings,
-        s.places,
-        e.unit,
-        e.place,
-        from,
-    );
-    write_declared(out, searched)
+    // Its declaration, from an empty table of files on. What would be written to the trays is not asked for: they are empty.
+    fn answer_declaration(
+        self,
+        out: &mut impl Write,
+        work: &mut [u8],
+        entry: EntryPlace,
+    ) -> io::Result<()>
+        requires searches_in { Ready self work.old }
+        requires entry_known { EntryKnown self.places.tables.sheets.main.now entry.unit entry.place }
+        ensures { Ready self.entry work.new }
+    {
+        let places = self.places;
+        let from = DeclaringState {
+            trail: Trail::start(),
+            table: StoredFiles::new(places.tables.sheets, work, 0, self.files, 1, 0),
+            warned: 0,
+        };
+        let declared = resolve_declaration_line_counted(
+            work,
+            &mut [],
+            &mut [],
+            places,
+            entry,
+            from,
+        );
+        write_declared(out, declared)
+    }
+
+    // What a query asks of the entry at its offset.
+    fn answer_query(self, out: &mut impl Write, query: &[u8], work: &mut [u8]) -> io::Result<()>
+        requires query_len { QUERY_SIZE ≤ length query.now }
+        requires searches_in { Ready self work.old }
+        ensures { Ready self.entry work.new }
+    {
+        let tables = self.places.tables;
+        let offset = u64::read(query, QUERY_OFFSET);
+        let Ok(Some(entry)) = tables.main.target_at(tables.sheets.main, work, offset) else {
+            return write!(out, "no entry");
+        };
+        // Stays a match: the kind is a byte of the input, and each kind has a search of its own.
+        match query[0] {
+            NAME_QUERY => self.answer_name(out, work, entry),
+            REFERENCE_QUERY => self.answer_reference(out, work, entry),
+            _ => self.answer_declaration(out, work, entry),
+        }
+    }
+
+    // A line for each query.
+    pub fn answer_queries(
+        self,
+        out: &mut impl Write,
+        queries: &[u8],
+        work: &mut [u8],
+    ) -> io::Result<()>
+        requires { Ready self work.old }
+    {
+        for query in queries.chunks_exact(QUERY_SIZE) {
+            self.answer_query(out, query, work)?;
+            end_line(out)?;
+        }
+        Ok(())
+    }
 }

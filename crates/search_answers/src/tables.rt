@@ -4,8 +4,9 @@ ghost use Rattle.tlv.specs.Checked.{Accepts};
 ghost use Rattle.search_answers.specs.Searches.{Room, HasRoom, IndexedSheet, BuildsTables};
 
 use access::units::UNIT_RECORD;
+use buffers::table::Stored;
 use declarations::declaring::Places;
-use files::index::{INDEX_RECORD, StoredIndices};
+use files::index::INDEX_RECORD;
 use files::sheets::Sheets;
 use files::spans::SPAN_RECORD;
 use files::store::{FILE_RECORD, JOINED_LIMIT};
@@ -25,7 +26,7 @@ const SUPPLEMENTARY_FIELD: usize = 123;
 const FIELD_TABLES: usize = 40;
 
 // What the file table takes besides a record for each file: the longest joined path, and a record more.
-const TABLE_BESIDES: usize = JOINED_LIMIT + 45;
+const TABLE_BESIDES: usize = JOINED_LIMIT + FILE_RECORD;
 
 // What all tables take besides so much for each field.
 const ROOM_BESIDES: usize = JOINED_LIMIT + 54;
@@ -42,28 +43,27 @@ pub fn has_room(main: usize, supplementary: usize, n: usize, m: usize, work: usi
 }
 
 // Writes the tables of a sheet of n fields, the entries behind the units.
+// Stays beside dwarf's index_input: that has its places from a layout, this makes them from n; alike are two calls and the struct of what they answer.
 fn index_sheet(s: &[u8], n: usize, work: &mut [u8], base: usize) -> Index
     requires accepts { Accepts s.now n }
-    requires s_len_bound { length s.now < 2 ^ 32 }
-    requires n_in_bounds { base + n * 40 ≤ length work.old }
+    requires small { length s.now < 2 ^ 32 }
+    requires tables_fit { base + n * 40 ≤ length work.old }
     ensures { IndexedSheet s.now work.old work.new base n result }
 {
     let entries = base + n * UNIT_RECORD;
     let unit_count = access::units::index_units(s, work, base);
     let entry_count = access::index::index_entries(s, work, entries);
     Index {
-        units: base,
-        unit_count,
-        entries,
-        entry_count,
+        units: Stored::new(base, unit_count),
+        entries: Stored::new(entries, entry_count),
     }
 }
 
 // Writes the tables of both sheets, which have n and m fields. Below them is room for a file table of n + m + 1 files and for a unit's directories and map,
 // above them for the followed targets. No files of the unit where a search starts are known.
 pub fn build_tables<'a>(sheets: Sheets<'a>, n: usize, m: usize, work: &mut [u8]) -> Places<'a>
-    requires accepts { Accepts sheets.main.now n }
-    requires accepts_2 { Accepts sheets.supplementary.now m }
+    requires main_accepts { Accepts sheets.main.now n }
+    requires supplementary_accepts { Accepts sheets.supplementary.now m }
     requires room { Room (length sheets.main.now) (length sheets.supplementary.now) n m (length work.old) }
     ensures { BuildsTables sheets.entry work.new (n + m + 1) result }
 {
@@ -81,10 +81,7 @@ pub fn build_tables<'a>(sheets: Sheets<'a>, n: usize, m: usize, work: &mut [u8])
             supplementary,
             keys,
         },
-        indices: StoredIndices {
-            base: spans,
-            count: 0,
-        },
+        indices: Stored::new(spans, 0),
         spans,
         room,
     }

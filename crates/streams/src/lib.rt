@@ -94,6 +94,7 @@ pub fn split_parts(call: &[u8]) -> Option<(&[u8], &[u8], &[u8])>
 }
 
 // Answers the next call by `answer`, which says false of a call that is none of its own; false where no call was answered, with a message.
+// Stays a bool in the Result, here and in the programs: false ends the calls, with a message, and is no failure of reading or writing.
 pub fn answer_next<R: Read, W: Write, F: FnOnce(&mut W, &[u8]) -> io::Result<bool>>(
     input: &mut R,
     out: &mut W,
@@ -122,6 +123,7 @@ pub fn answer_all<R: Read, F: FnMut(&mut R) -> io::Result<bool>>(
     ensures { IfOk result (λ u. AnswersAll R.remaining F.FnMut next input.old input.new) }
 {
     let count = next_u32(input)?;
+    // Stays a `for` with a `return`: answering a call may fail, which `?` hands on.
     for _ in 0..count {
         if !next(input)? {
             return Ok(());
@@ -134,6 +136,12 @@ pub fn answer_all<R: Read, F: FnMut(&mut R) -> io::Result<bool>>(
 pub fn write_refused(out: &mut impl Write, refusal: Refusal) -> io::Result<()> {
     out.write_all(b"refused ")?;
     write!(out, "{}", refusal.number())
+}
+
+// The same, as a line.
+pub fn write_refused_line(out: &mut impl Write, refusal: Refusal) -> io::Result<()> {
+    write_refused(out, refusal)?;
+    writeln!(out)
 }
 
 // Whether a byte of a name or a path is written as it is.

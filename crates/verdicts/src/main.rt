@@ -2,7 +2,7 @@
 #![tactic(auto)]
 
 use std::io::{self, Read, Write};
-use streams::{answer_all, next_u8, next_u32, read_full, write_refused};
+use streams::{answer_all, next_u8, next_u32, read_full, write_refused_line};
 use tlv::grammar::check_input;
 use tlv::refusal::Refusal;
 
@@ -29,10 +29,7 @@ fn write_verdict(out: &mut impl Write, input: &[u8], program: usize) -> io::Resu
         Ok(n) => writeln!(out, "accepted {n}"),
         Err(Refusal::PastLimit) => writeln!(out, "past limit"),
         Err(Refusal::Misshapen) => writeln!(out, "misshapen"),
-        Err(refusal) => {
-            write_refused(out, refusal)?;
-            writeln!(out)
-        }
+        Err(refusal) => write_refused_line(out, refusal),
     }
 }
 

@@ -38,16 +38,16 @@ row_more w base n i a v h e g b =
 
 -- row i lies below a range
 pub record Below (w : List ℕ) (l : StoredLines) (range : AddressRange) (i : ℕ) : Type 0 where
-  pub start : (line_at w (l.lines + i * line_size)).entry.address < range.start
-  pub end : (line_at w (l.lines + i * line_size)).entry.address < range.end
+  pub start : (line_at w (l.lines.base + i * line_size)).entry.address < range.start
+  pub end : (line_at w (l.lines.base + i * line_size)).entry.address < range.end
 
-pub all_below : (w : List ℕ) (l : StoredLines) (range : AddressRange) (n : ℕ) → n ≤ l.line_count
+pub all_below : (w : List ℕ) (l : StoredLines) (range : AddressRange) (n : ℕ) → n ≤ l.lines.count
     → ((i : ℕ) → i < n → Below w l range i) → RowsBelow w l range n
 all_below w l range zero h f = record { start = omega arith; end = omega arith }
 all_below w l range (suc n) h f =
     let B = all_below w l range n (omega arith) (λ i k. f i (omega arith)) in
     let row = f n (omega arith) in
     record {
-      start = row_more w l.lines l.line_count n range.start _ (omega arith) refl row.start B.start;
-      end = row_more w l.lines l.line_count n range.end _ (omega arith) refl row.end B.end;
+      start = row_more w l.lines.base l.lines.count n range.start _ (omega arith) refl row.start B.start;
+      end = row_more w l.lines.base l.lines.count n range.end _ (omega arith) refl row.end B.end;
     }

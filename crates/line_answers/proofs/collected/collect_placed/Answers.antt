@@ -3,9 +3,8 @@ use Rattle.tlv.proofs.PlaceFacts.{placed-start}
 use Rattle.line_answers.proofs.AnswerLaws.{possible-room, lines-room, collected-rows}
 use Rattle.line_answers.proofs.collected.collect_placed.Goals as goal
 
-pub new_files-table-requires-clause-supplementary_len_bound :
-    goal.new_files-table-requires-clause-supplementary_len_bound
-new_files-table-requires-clause-supplementary_len_bound c = search possible-room
+pub new-table-requires-clause-files_few : goal.new-table-requires-clause-files_few
+new-table-requires-clause-files_few c = search possible-room
 
 pub collect_lines-requires-clause-placed : goal.collect_lines-requires-clause-placed
 collect_lines-requires-clause-placed c = search placed-start

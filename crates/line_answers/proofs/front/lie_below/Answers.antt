@@ -18,5 +18,5 @@ returns c =
     (λ x q k. (search rules, record { start = search (rules, tests); end = search (rules, tests) })) (λ x q k. tt) in
     λ e.
     let all = rw e at A in
-    all_below _ _ _ c.args.most c.requires.most_bound (λ i h. subst (λ k. Below c.args.work.now c.args.l c.args.range k) (get_or-range_with_len 0 c.args.most i 0 h ∙ from_zero i)
+    all_below _ _ _ c.args.most c.requires.in_table (λ i h. subst (λ k. Below c.args.work.now c.args.l c.args.range k) (get_or-range_with_len 0 c.args.most i 0 h ∙ from_zero i)
     (all i 0 (omega arith) (rw (length-range_with_len 0 c.args.most) h)))
