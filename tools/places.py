@@ -12,7 +12,7 @@ import sys
 
 SOURCES = {f: open(f, encoding="utf8").read() for f in sorted(glob.glob("crates/*/src/*.rt"))}
 NONE_OR_REFUSAL = r"(Missing|Absent|End|Cut|Past|PastLimit|Failed|Unnamed|Misshapen|Full|Nothing|NoFunction|Refused|Fault|Short\w*|Misshapen\w*)"
-BY_HAND = r"(same_\w+|is_same\w*|lesser|larger|smaller|fill\w*|wide|holds_only|write_hex|write_decimal|flag_of|refusal_number|initial)"
+BY_HAND = r"(same_\w+|is_same\w*|lesser|larger|smaller|fill_\w+|wide|holds_only|write_hex|write_decimal|flag_of|refusal_number|initial)"
 
 
 def lines(pattern):
@@ -27,7 +27,7 @@ def enums():
     """Enums of which a case says that there is no value, or that the work was refused."""
     for file, text in SOURCES.items():
         for found in re.finditer(r"^(?:pub )?enum (\w+) \{\n(.*?)^\}", text, re.M | re.S):
-            cases = re.findall(r"^    (\w+)", found.group(2), re.M)
+            cases = re.findall(r"^    (\w+)(?! = )\b", found.group(2), re.M)
             if any(re.fullmatch(NONE_OR_REFUSAL, case) for case in cases):
                 yield file, text[: found.start()].count("\n") + 1, found.group(1) + ": " + " ".join(cases)
 
@@ -59,22 +59,28 @@ def twins():
             if max(len(words), len(others)) <= 1.5 * min(len(words), len(others)):
                 match = difflib.SequenceMatcher(None, words, others, autojunk=False)
                 if 0.8 <= match.quick_ratio() and 0.8 <= match.ratio():
-                    # Both are to say why they stay: where the other says nothing, it is the place.
-                    place = (file, number) if stays(other_file, other) else (other_file, other)
+                    # Both are to say why they stay, or one of them names the other: where the other says nothing, it is the place.
+                    named = stays(file, number, rf"\b{other_name}\b") or stays(other_file, other) and not stays(other_file, other, rf"\b{name}\b")
+                    place = (file, number) if named else (other_file, other)
                     yield *place, f"{name}, {file.split('/')[1]}:{number} ~ {other_name}, {other_file.split('/')[1]}:{other}"
+
+
+def blocks(words):
+    """Each block that begins with one of the words: its file, line, first row and body."""
+    for file, text in SOURCES.items():
+        rows = text.split("\n")
+        for number, row in enumerate(rows, 1):
+            found = re.match(rf"( +)({words})\b", row)
+            if found:
+                end = next(k for k in range(number, len(rows)) if rows[k].startswith(found.group(1) + "}"))
+                yield file, number, row.strip(), "\n".join(rows[number:end])
 
 
 def loops(by_hand):
     """Loops that are no `for`; by hand: those that step a number by one."""
-    for file, text in SOURCES.items():
-        rows = text.split("\n")
-        for number, row in enumerate(rows, 1):
-            found = re.match(r"( +)(while|loop)\b", row)
-            if found:
-                end = next(k for k in range(number, len(rows)) if rows[k].startswith(found.group(1) + "}"))
-                steps = re.search(r"^ +[a-z_.]+ [+-]= (1|[A-Z_]+|\d+);", "\n".join(rows[number:end]), re.M)
-                if bool(steps) == by_hand:
-                    yield file, number, row.strip()
+    for file, number, row, body in blocks("while|loop"):
+        if bool(re.search(r"^ +[a-z_.]+ [+-]= (1|[A-Z_]+|\d+);", body, re.M)) == by_hand:
+            yield file, number, row
 
 
 def parameters(least):
@@ -117,8 +123,10 @@ def groups():
 
 
 def place_and_count():
-    """Functions that are told a table by a place and a count, a parameter each."""
+    """Functions that are told a table in a slice by a place and a count, a parameter each."""
     for file, number, name, given, _ in functions():
+        if "[u8]" not in given:
+            continue
         names = [parameter.split(":")[0] for parameter in each_parameter(given) if parameter.endswith(": usize")]
         for place, count in zip(names, names[1:]):
             if re.fullmatch(r"p|q|at|to|base|from|offsets|start|stack|sites|units|entries|text", place) and re.fullmatch(r"n|m|k|count|rows|room|left|\w+_count", count):
@@ -127,14 +135,9 @@ def place_and_count():
 
 def searches():
     """`for` loops that end early with an answer: any, all, find or position by hand."""
-    for file, text in SOURCES.items():
-        rows = text.split("\n")
-        for number, row in enumerate(rows, 1):
-            found = re.match(r"( +)for\b", row)
-            if found:
-                end = next(k for k in range(number, len(rows)) if rows[k].startswith(found.group(1) + "}"))
-                if re.search(r"^ +return (true|false|None|Some\(|\w+;)", "\n".join(rows[number:end]), re.M):
-                    yield file, number, row.strip()
+    for file, number, row, body in blocks("for"):
+        if re.search(r"^ +return\b", body, re.M):
+            yield file, number, row
 
 
 def facts():
@@ -157,7 +160,8 @@ def facts():
         if len(users) < 3:
             continue
         if "." not in home:
-            yield *next((place for place in at[home, fact] if stays(*place)), at[home, fact][0]), f"{fact}: {len(users)}"
+            given = sorted(at[home, fact], key=lambda place: (not stays(*place, "with its clause"), not stays(*place)))
+            yield *given[0], f"{fact}: {len(users)}"
             continue
         crate, module = home.split(".specs.")
         file = f"crates/{crate}/specs/{module.replace('.', '/')}.antt"
@@ -168,16 +172,16 @@ def facts():
 
 KINDS = {
     "1-enums": enums,
-    "1-numbers": lambda: lines(r"(Fault|Refused)\([0-9A-Z_]+\)"),
+    "1-numbers": lambda: lines(r"(Fault|Refused|Err)\(([0-9]+|[A-Z_]{2,})\)"),
     "1-status": lambda: lines(r"\b(status|refusal): (&mut )?u8"),
     "1-tests": lambda: lines(r"status (!=|==) 0"),
-    "1-arms": lambda: lines(r"(Fault|Refused)\(([a-z]+)\) =>"),
+    "1-arms": lambda: lines(r"(Fault|Refused)\(([a-z]+)\) =>|Err\(([a-z]+)\) => (return )?Err\(\3\)"),
     "2-widths": lambda: lines(r"fn (read|set|put)_u(8|16|32|64)\b"),
     "2-twins": twins,
     "3-counting": lambda: loops(True),
     "3-others": lambda: loops(False),
     "3-searches": searches,
-    "4-derives": lambda: lines(r"derive\(Clone, Copy\)\]"),
+    "4-derives": lambda: lines(r"derive\((Clone, Copy|Drop)\)\]"),
     "4-fields": lambda: lines(r"^ +([a-z_0-9]+): \1,$"),
     "4-by-hand": lambda: lines(r"^ *(pub )?(pub\(crate\) )?fn " + BY_HAND + r"\b"),
     "4-largest": lambda: lines(r"18446744073709551615|4294967295"),
@@ -191,10 +195,11 @@ KINDS = {
 }
 
 
-def stays(file, number):
-    """A line beside the place, in it or up to five lines above, says why it stays."""
-    rows = SOURCES[file].split("\n")[max(0, number - 6) : number]
-    return any(re.search("(//|--) Stays", row) for row in rows)
+def stays(file, number, word=""):
+    """A line beside the place, in it or up to five lines above with no empty one between, says why it stays; the word is one of the line's."""
+    above = SOURCES[file].split("\n")[max(0, number - 6) : number]
+    rows = list(itertools.takewhile(str.strip, reversed(above)))
+    return any(re.search("(//|--) Stays.*" + word, row) for row in rows)
 
 
 def main():
