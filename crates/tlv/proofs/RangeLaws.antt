@@ -1,12 +1,11 @@
 -- A range that is read at a place: it is that of the 16 bytes there, and of all that stands from there on.
-use mathlib.Core.Path.{◌≡◌, ◌∙◌}
+use mathlib.Core.Path.{◌≡◌}
 use mathlib.Core.List.{List}
 use Prim.Native.Nat.{ℕ, ◌+◌}
 use native.Mathlib.Nat.{add-zero}
 use native.Mathlib.Omega.{arith}
 use lib.ListN.{take, drop}
 use lib.Seq.{drop-drop}
-use Rattle.tlv.specs.declared.model.AddressRange.{AddressRange}
 use Rattle.tlv.specs.Bytes.{le_at}
 use Rattle.tlv.specs.Model.{range_of}
 use Rattle.tlv.proofs.WidthLaws.{le_at-part}

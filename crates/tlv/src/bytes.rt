@@ -4,6 +4,9 @@ ghost use Rattle.std.proofs.Common.{rules};
 ghost use Rattle.tlv.specs.Bytes.{le_at};
 
 // An unsigned number that stands in `width` bytes.
+// Stays a clause, here and at each record that is read or written at a place: a type of a slice and a place would be made anew for each.
+// Stays halves by hand: by `from_le_bytes` a u64 is a list of eight reads over ten lines, or a part made an array by `try_from`, whose promise a lemma would
+// take apart; neither is faster.
 pub trait Number {
     // How many bytes it takes.
     ghost WIDTH: { ℕ };

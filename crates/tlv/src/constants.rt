@@ -1,4 +1,6 @@
 // DWARF's own numbers, under gimli's names.
+// Stays numbers, no enum: an attribute's name and an entry's tag may be any number, and these few are asked for.
+
 pub const DW_TAG_INLINED_SUBROUTINE: u16 = 0x1d;
 
 pub const DW_TAG_SUBPROGRAM: u16 = 0x2e;

@@ -6,6 +6,7 @@ use crate::bytes::Number;
 use crate::tags::FIELD_HEAD;
 
 // A whole field: its payload is the `len` bytes from `start` on, and `next` is past it.
+// Stays a start and a length, no slice: of spans of files and directories those are made that are kept as numbers (files' `Span`).
 #[derive(Clone, Copy, Debug)]
 pub struct FieldSpan {
     pub tag: u8,
@@ -16,6 +17,7 @@ pub struct FieldSpan {
 
 impl FieldSpan {
     // Its payload, in the bytes that it stands in.
+    // Stays beside files' `Span::of`: a walk cuts the payload of the field that it has; a Span is made of it only where a place is kept.
     pub fn payload(self, s: &[u8]) -> &[u8]
         requires { self.start + self.len ≤ length s.now }
         ensures { result.now ≡ take self.len (drop self.start s.now) }
@@ -25,7 +27,7 @@ impl FieldSpan {
 }
 
 // The field at a place; none at the end, nor where a field runs past it.
-// Stays a step that loops take: an iterator was tried on one walk: three lines shorter, but its invariant has two facts more, and there is one type more.
+// Stays a step that loops take. An iterator was tried on one walk: three lines shorter, but with one type more and two facts more in the invariant.
 pub fn next_field(s: &[u8], p: usize) -> Option<FieldSpan>
     ensures { result ≡ field_from s.now p }
 {

@@ -20,7 +20,7 @@ use crate::tags::{
     FILE_ZERO_TAG, HEADER_TAG, LIST_TAG, PART_TAG, RANGE_TAG, ROW_TAG, TEXT_TAG, UNIT_TAG,
 };
 
-const FIELD_LIMIT: u64 = 65536;
+pub const FIELD_LIMIT: u64 = 65536;
 
 const UNIT_LIMIT: u64 = 256;
 
@@ -31,6 +31,7 @@ const REASON_LIMIT: usize = 4096;
 const DEPTH_LIMIT: u16 = 1024;
 
 // What the fields so far leave to check the next one against.
+// Stays 0 for no tag before the first field, no Option: the definition has it so, and what may follow is asked of one number.
 #[derive(Clone, Copy, Debug, Default)]
 pub struct Context {
     pub previous: u8, // the tag of the last field, 0 before the first
@@ -46,7 +47,7 @@ pub struct Context {
 }
 
 // Whether a field's payload has its tag's shape.
-// Stays a tag and a payload, here and in the functions below: next_field has the payload's place, and a struct of both would be made anew for each field.
+// Stays a tag and a payload, here, below, and in lookup and symbols: next_field has the payload's place; a struct of both would be made anew for each.
 #[tactic(auto, unfolding(crate::specs::Grammar::payload_shaped))]
 pub fn payload_shaped(c: Context, tag: u8, payload: &[u8]) -> bool
     ensures { result ≡ payload_shaped c tag payload.now }

@@ -26,14 +26,14 @@ impl AddressRange {
         }
     }
 
-    // Whether it holds an address.
+    // Whether it holds an address: the Rust's `contains`, whose test that the range is valid these two imply.
     pub fn holds(self, address: u64) -> bool
         ensures { result ≡ (leb self.start address && ltb address self.end) }
     {
         self.start <= address && address < self.end
     }
 
-    // Whether it begins and ends within another.
+    // Whether it begins and ends within another; neither need be valid, as the Rust's `contains_range` asks.
     pub fn is_inside(self, outer: AddressRange) -> bool
         ensures { result ≡ (leb outer.start self.start && leb self.end outer.end) }
     {
@@ -75,6 +75,7 @@ impl From<u8> for DebugSource {
     fn from(byte: u8) -> DebugSource
         ensures { result ≡ source_of_byte byte }
     {
+        // Stays a match: the byte is a record's own, which was written by `as u8`.
         match byte {
             0 => DebugSource::Main,
             _ => DebugSource::Supplementary,

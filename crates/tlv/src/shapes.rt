@@ -7,7 +7,7 @@ ghost use Rattle.tlv.specs.Grammar.{failure_shaped, list_shaped};
 
 use crate::bytes::Number;
 use crate::grammar::Context;
-use crate::kinds::{ADDRESS_KIND, FAILED_KIND, TEXT_KIND, UNSIGNED_KIND};
+use crate::kinds::{ADDRESS_KIND, FAILED_KIND, FAILED_ROW, TEXT_KIND, UNSIGNED_KIND};
 use crate::tags::{ENTRY_DEPTH, ENTRY_WHOLE, FIELD_HEAD, RANGE_TAG};
 
 // Where the numbers of a unit stand in its payload behind its offset, and the payload's length: its word size is at the end.
@@ -15,7 +15,7 @@ pub const UNIT_LENGTH: usize = 8;
 
 pub const UNIT_VERSION: usize = UNIT_LENGTH + 8;
 
-const UNIT_WORD: usize = UNIT_VERSION + 1;
+pub const UNIT_WORD: usize = UNIT_VERSION + 1;
 
 const UNIT_FIELD: usize = UNIT_WORD + 1;
 
@@ -57,8 +57,14 @@ pub const OWN_DEPTH: usize = ENTRY_DEPTH - FIELD_HEAD;
 
 const ENTRY_FIELD: usize = ENTRY_WHOLE - FIELD_HEAD;
 
-// The field of a line encoding: where the default statement flag stands, and the length of its payload.
-const ENCODING_FLAG: usize = 2;
+// Where a line encoding's numbers stand in its payload, behind the minimum instruction length, of a byte each; and the payload's length.
+pub const ENCODING_OPERATIONS: usize = 1;
+
+pub const ENCODING_FLAG: usize = 2;
+
+pub const ENCODING_LINE_BASE: usize = 3;
+
+pub const ENCODING_LINE_RANGE: usize = 4;
 
 pub const ENCODING_FIELD: usize = 5;
 
@@ -79,8 +85,10 @@ const LIST_FIELD: usize = LIST_SIZE + 1;
 
 const LIST_VERSION: u8 = 5;
 
-// Where a row field's line, column and kind stand in its payload: the kind at its end.
-pub const ROW_LINE: usize = 16;
+// Where a row field's file, line, column and kind stand in its payload, behind its address: the kind at its end.
+pub const ROW_FILE: usize = 8;
+
+pub const ROW_LINE: usize = ROW_FILE + 8;
 
 pub const ROW_COLUMN: usize = ROW_LINE + 8;
 
@@ -204,7 +212,7 @@ pub fn row_shaped(c: Context, payload: &[u8]) -> bool
     if payload.len() != ROW_FIELD {
         return false;
     }
-    u8::read(payload, ROW_KIND) <= 2
+    u8::read(payload, ROW_KIND) <= FAILED_ROW
 }
 
 // 17 entry: offset, depth, tag. Offsets rise and stay below the unit's length; a depth is at most one more than that before.

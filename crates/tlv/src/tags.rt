@@ -1,4 +1,6 @@
 // The tags of the fields of a sheet, in the order in which a unit has them, where a unit and an entry have their numbers, and the tags of a tray.
+// Stays numbers, no enum: a field's tag may be any byte until it is judged, and a walk asks for the few that it needs.
+
 pub const UNIT_TAG: u8 = 0x10;
 
 pub const COMPILATION_TAG: u8 = 0x11; // the compilation directory
@@ -37,8 +39,10 @@ pub const UNIT_OFFSET: usize = FIELD_HEAD;
 
 pub const UNIT_WHOLE: usize = FIELD_HEAD + 18;
 
-// The same of an entry: its depth behind its offset, DWARF's tag behind that.
-pub const ENTRY_DEPTH: usize = FIELD_HEAD + 8;
+// The same of an entry: its offset in its unit, its depth behind that, then DWARF's tag, and the whole field.
+pub const ENTRY_OFFSET: usize = FIELD_HEAD;
+
+pub const ENTRY_DEPTH: usize = ENTRY_OFFSET + 8;
 
 pub const ENTRY_KIND: usize = ENTRY_DEPTH + 2;
 
