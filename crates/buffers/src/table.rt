@@ -1,4 +1,4 @@
-// Tables of records in the work slice: where one stands, a record copied, bytes set to 0. `numbers` has the writes and `tlv::bytes` the reads.
+// Tables of records in the work slice: where one stands, a range written, a record copied, bytes set to 0. `numbers` has the writes and `tlv::bytes` the reads.
 ghost use Rattle.std.specs.Prelude.{◌≡◌, ◌⊎◌, ◌+◌, ◌≤◌, ◌<◌, length};
 ghost use Rattle.buffers.specs.Table.{Wrote, PutRange, CopiedBytes, Zeroed};
 
@@ -8,6 +8,8 @@ use tlv::bytes::Number;
 use tlv::model::AddressRange;
 
 // A table in the work slice: where its first record stands, and how many it has. Each is of one `R`.
+// Stays a place and a count, no slice or Vec: the import has no heap, and its tables lie side by side in one lent slice. That a table lies in it is a
+// clause of each function that is lent both, since most of them write the slice.
 #[derive(Clone, Copy, Debug)]
 pub struct Stored<R> {
     pub base: usize,
@@ -41,7 +43,7 @@ pub fn put_range_at(w: &mut [u8], p: usize, range: AddressRange)
 const WORD: usize = 8;
 
 // Eight bytes are read before any of them is written: the two places may lie anyhow.
-// Stays a copy by hand, as the two below: `copy_within` calls C's `memmove` for each record: 5 to 9 nanoseconds for 12 to 27 bytes, where these take 1.4 to 3.
+// Stays a copy by hand, as the two below: `copy_within` calls C's `memmove` for each record: 5 to 9 nanoseconds for 16 to 26 bytes, where these take 1.4 to 3.
 fn copy_word(w: &mut [u8], from: usize, to: usize)
     requires from_in_bounds { from + 8 ≤ length w.old }
     requires target_in_bounds { to + 8 ≤ length w.old }
@@ -52,7 +54,7 @@ fn copy_word(w: &mut [u8], from: usize, to: usize)
 }
 
 // Copies whole words, as many as the size has. Returns how many bytes they are.
-// Stays with its clauses: they are of the lent slice and of two places in it, which a struct would hold for one call only.
+// Stays with its clauses, as the two below: they are of the lent slice and of two places in it, which a struct would hold for one call only.
 fn copy_words(w: &mut [u8], from: usize, to: usize, size: usize) -> usize
     requires from_in_bounds { from + size ≤ length w.old }
     requires target_in_bounds { to + size ≤ length w.old }

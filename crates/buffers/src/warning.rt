@@ -23,6 +23,7 @@ pub enum WarningKind {
 
 impl WarningKind {
     // Its number in the table.
+    // Stays beside tlv's Refusal::number: each is the cast of its own enum, under its own definition.
     pub fn number(self) -> u8
         ensures { result ≡ number_of self }
     {
