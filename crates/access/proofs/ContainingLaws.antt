@@ -2,8 +2,8 @@
 use mathlib.Core.Path.{◌≡◌, refl, sym, ap, ◌∙◌}
 use mathlib.Core.Bool.{Bool, true, false, cond, ◌&&◌}
 use mathlib.Core.List.{List, [], ◌∷◌, map}
-use mathlib.Core.Option.{Option, none, some}
-use Prim.Native.Nat.{ℕ, ◌+◌, ◌-◌, ◌*◌, ◌≤◌, ◌<◌}
+use mathlib.Core.Option.{none, some}
+use Prim.Native.Nat.{ℕ, zero, suc, ◌+◌, ◌-◌, ◌*◌, ◌≤◌, ◌<◌}
 use native.Mathlib.Omega.{arith}
 use lib.Dec.{leb, ltb}
 use lib.ListN.{drop}
@@ -16,7 +16,7 @@ use Rattle.buffers.specs.Table.{chunk, records}
 use Rattle.buffers.proofs.RecordLaws.{records-rest_none, records-rest_cons}
 use Rattle.access.specs.Places.{unit_here, unit_places}
 use Rattle.access.specs.declared.units.UnitSpan.{UnitSpan}
-use Rattle.access.specs.Units.{indexed_unit, unit_of24, spans, within, containing}
+use Rattle.access.specs.Units.{IndexedUnit, indexed_unit, unit_of24, spans, within, containing}
 use Rattle.access.proofs.UnitPlaceLaws.{units-places}
 
 -- ---- the test
@@ -37,24 +37,35 @@ module _ (target o n : ℕ) where
       (λ l. rw (in_unit h l, lt-ltb (target - o) n l))
       (λ l. rw (behind-unit h l, le-ltb (target - o) n l))
 
--- ---- a turn of the search: x is what is looked for, and no unit before number i of the table has the target in it
+-- ---- the search: what the test says of unit i of a table, and what `find` over the numbers of its units gives
 
-module _ (w : List ℕ) (base n target : ℕ) (x : Option ℕ) (i : ℕ) (inv : x ≡ containing target (drop i (records unit_of24 24 w base n))) where
-  pub containing-none : n ≤ i → none ≡ x
+module _ (w : List ℕ) (base n target : ℕ) where
+  abbrev pub unit_at : ℕ → IndexedUnit
+  unit_at i = unit_of24 (chunk w (base + i * 24) 24)
+
+  abbrev pub Says : Bool → ℕ → Type 0
+  Says b i = within target (unit_at i).offset (unit_at i).length ≡ b
+
+  past : (i : ℕ) → i ≤ n → ((k : ℕ) → k < i → Says false k)
+      → containing target (records unit_of24 24 w base n) ≡ containing target (drop i (records unit_of24 24 w base n))
+  unfolding first
+  past zero h f = refl
+  past (suc i) h f =
+      let next : i + 1 ≡ suc i = omega arith in
+      past i (omega arith) (λ k l. f k (omega arith))
+      ∙ rw (records-rest_cons unit_of24 24 w base n i (omega arith), f i (omega arith))
+      (ap (λ (k : ℕ). containing target (drop k (records unit_of24 24 w base n))) next)
+
+  pub containing-none : ((k : ℕ) → 0 ≤ k → k < n → Says false k) → none ≡ containing target (records unit_of24 24 w base n)
   unfolding first map_option
-  containing-none h = sym (inv ∙ rw (records-rest_none unit_of24 24 w base n i h))
+  containing-none f = sym (past n (omega arith) (λ k h. f k (omega arith) h) ∙ rw (records-rest_none unit_of24 24 w base n n (omega arith)) refl)
 
-  module _ (u : UnitSpan) (h : i < n) (eu : spans u ≡ unit_of24 (chunk w (base + i * 24) 24)) where
-    turn : x ≡ containing target (spans u ∷ drop (i + 1) (records unit_of24 24 w base n))
-    turn = inv ∙ rw (records-rest_cons unit_of24 24 w base n i h, eu)
-
-    pub containing-past : within target u.offset u.length ≡ false → x ≡ containing target (drop (i + 1) (records unit_of24 24 w base n))
-    unfolding first
-    containing-past e = rw e at turn
-
-    pub containing-here : within target u.offset u.length ≡ true → some u.place ≡ x
-    unfolding first map_option
-    containing-here e = sym (rw e at turn)
+  pub containing-here : (i : ℕ) → (0 ≤ i) × (i < n) × Says true i × ((k : ℕ) → 0 ≤ k → k < i → Says false k)
+      → (u : UnitSpan) → spans u ≡ unit_at i → some u.place ≡ containing target (records unit_of24 24 w base n)
+  unfolding first map_option
+  containing-here i (low, h, f, before) u is =
+      ap (λ (x : IndexedUnit). some x.place) is
+      ∙ sym (past i (omega arith) (λ k l. before k (omega arith) l) ∙ rw (records-rest_cons unit_of24 24 w base n i h, f) refl)
 
 -- ---- what is found
 

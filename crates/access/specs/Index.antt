@@ -20,12 +20,12 @@ indexed_of r = record { offset = le_at 8 r 0; place = le_at 4 r 8; unit = le_at 
 
 -- a record was written at p
 pub record PutEntry (w w' : List ℕ) (p offset place unit : ℕ) : Type 0 where
-  pub entry : indexed_of (chunk w' p 16) ≡ record { offset = offset; place = place; unit = unit }
-  pub rest : Kept w w' p 16
+  pub entry : indexed_of (chunk w' p entry_record) ≡ record { offset = offset; place = place; unit = unit }
+  pub rest : Kept w w' p entry_record
 
 -- the r entries of a sheet were written from base on
 pub record Indexed (s w w' : List ℕ) (base r : ℕ) : Type 0 where
-  pub table : records indexed_of 16 w' base r ≡ entry_index 0 0 0 (fields s)
+  pub table : records indexed_of entry_record w' base r ≡ entry_index 0 0 0 (fields s)
   pub count : r ≡ length (entry_index 0 0 0 (fields s))
   pub rest : Kept w w' base (entry_record * r)
   pub size : length w' ≡ length w

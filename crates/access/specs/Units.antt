@@ -32,12 +32,12 @@ spans u = record { offset = u.offset; length = u.length; place = u.place }
 
 -- a record was written at p
 pub record PutUnit (w w' : List ℕ) (p offset size place : ℕ) : Type 0 where
-  pub unit : unit_of24 (chunk w' p 24) ≡ record { offset = offset; length = size; place = place }
-  pub rest : Kept w w' p 24
+  pub unit : unit_of24 (chunk w' p unit_record) ≡ record { offset = offset; length = size; place = place }
+  pub rest : Kept w w' p unit_record
 
 -- the r units of a sheet were written from base on
 pub record IndexedUnits (s w w' : List ℕ) (base r : ℕ) : Type 0 where
-  pub table : records unit_of24 24 w' base r ≡ map (indexed_unit s) (unit_places 0 (fields s))
+  pub table : records unit_of24 unit_record w' base r ≡ map (indexed_unit s) (unit_places 0 (fields s))
   pub count : r ≡ length (unit_places 0 (fields s))
   pub rest : Kept w w' base (unit_record * r)
   pub size : length w' ≡ length w

@@ -79,7 +79,7 @@ pub fn next_row(s: &[u8], p: usize) -> Option<FieldSpan>
 pub enum Value {
     Unsigned(u64),
     FileNumber(u64),
-    // Stays a start and a length: a text is told by its place in the sheet, which a slice would lose.
+    // Stays a start and a length: a slice would give the type a lifetime, for which nine of its ten kinds have no use.
     Text { start: usize, len: usize },
     UnitReference(u64),
     SectionReference(u64),

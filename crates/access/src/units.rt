@@ -14,10 +14,15 @@ use tlv::fields::next_field;
 use tlv::shapes::UNIT_LENGTH;
 use tlv::tags::UNIT_TAG;
 
-// Bytes of a record of the table.
-pub const UNIT_RECORD: usize = 24;
+// Where a unit's length and place stand in its record, behind its offset, and the bytes of a record.
+const SPAN_LENGTH: usize = 8;
+
+const UNIT_PLACE: usize = SPAN_LENGTH + 8;
+
+pub const UNIT_RECORD: usize = UNIT_PLACE + 8;
 
 // What the table says of a unit: its offset in the section, its length, and the place of its field.
+// Stays an offset and a length: they are of DWARF's section, which is not lent, so there is no slice.
 #[derive(Clone, Copy, Debug)]
 pub struct UnitSpan {
     pub offset: u64,
@@ -29,23 +34,23 @@ impl UnitSpan {
     // A record of the table: offset, length and place, of 8 bytes each.
     // Stays beside the `write` of other records: each has fields of its own.
     fn write(self, work: &mut [u8], p: usize)
-        requires { p + 24 ≤ length work.old }
+        requires { p + unit_record ≤ length work.old }
         ensures { PutUnit work.old work.new p self.offset self.length self.place }
     {
         self.offset.write(work, p);
-        self.length.write(work, p + 8);
-        (self.place as u64).write(work, p + 16);
+        self.length.write(work, p + SPAN_LENGTH);
+        (self.place as u64).write(work, p + UNIT_PLACE);
     }
 
     // The record at a place.
-    fn read(work: &[u8], p: usize) -> UnitSpan
-        requires { p + 24 ≤ length work.now }
-        ensures { spans result ≡ unit_of24 (chunk work.now p 24) }
+    pub fn read(work: &[u8], p: usize) -> UnitSpan
+        requires { p + unit_record ≤ length work.now }
+        ensures { spans result ≡ unit_of24 (chunk work.now p unit_record) }
     {
         UnitSpan {
             offset: u64::read(work, p),
-            length: u64::read(work, p + 8),
-            place: u64::read(work, p + 16) as usize,
+            length: u64::read(work, p + SPAN_LENGTH),
+            place: u64::read(work, p + UNIT_PLACE) as usize,
         }
     }
 
@@ -57,12 +62,13 @@ impl UnitSpan {
     }
 }
 
-// Writes a record for each field 10 of an accepted sheet, and returns their number.
+// Writes a record for each field 10 of an accepted sheet, and returns the table.
 // Stays apart from `index_entries`: an entry's record needs the unit that was met last, which this walk would carry for nothing.
-pub fn index_units(s: &[u8], work: &mut [u8], base: usize) -> usize
+pub fn index_units(s: &[u8], work: &mut [u8], base: usize) -> Stored<UnitSpan>
     requires placed { Placed s.now 0 }
-    requires s_in_bounds { base + unit_record * length (unit_places 0 (fields s.now)) ≤ length work.old }
-    ensures { IndexedUnits s.now work.old work.new base result }
+    requires records_fit { base + unit_record * length (unit_places 0 (fields s.now)) ≤ length work.old }
+    ensures based { result.base ≡ base }
+    ensures indexed { IndexedUnits s.now work.old work.new base result.count }
 {
     let mut p: usize = 0;
     let mut n: usize = 0;
@@ -79,20 +85,16 @@ pub fn index_units(s: &[u8], work: &mut [u8], base: usize) -> usize
         }
         p = field.next;
     }
-    n
+    Stored::new(base, n)
 }
 
 // The place of the first unit of a table that has the offset target in it.
 pub fn unit_containing_offset(work: &[u8], units: Stored<UnitSpan>, target: u64) -> Option<usize>
     requires in_bounds { units.base + unit_record * units.count ≤ length work.now }
-    ensures { place_of result ≡ containing target (records unit_of24 24 work.now units.base units.count) }
+    ensures { place_of result ≡ containing target (records unit_of24 unit_record work.now units.base units.count) }
 {
-    // Stays a loop: `find` gives the number and the record would be read again for its place, and of `find_map` std's lemmas say nothing.
-    for i in 0..units.count {
-        let unit = UnitSpan::read(work, units.base + i * UNIT_RECORD);
-        if unit.holds(target) {
-            return Some(unit.place);
-        }
-    }
-    None
+    let i = (0..units.count).find(|&i| {
+        UnitSpan::read(work, units.base + i * UNIT_RECORD).holds(target)
+    })?;
+    Some(UnitSpan::read(work, units.base + i * UNIT_RECORD).place)
 }

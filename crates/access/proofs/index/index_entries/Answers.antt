@@ -5,8 +5,8 @@ use lib.ListN.{length}
 use Rattle.access.proofs.IndexLaws.{indexing-start, indexing_end, unit-read, entry_read, sum_fits, entry-room, turn-unit, turn-entry, turn-other}
 use Rattle.access.proofs.index.index_entries.Goals as goal
 
-pub returns : goal.returns
-returns c = search (indexing_end, c.in_default.ensures)
+pub returns-clause-indexed : goal.returns-clause-indexed
+returns-clause-indexed c = search (indexing_end, c.in_default.ensures, c.new.ensures.counted)
 
 pub read-offset-requires : goal.read-offset-requires
 read-offset-requires c = search (unit-read, c.in-Some.ensures)
@@ -30,8 +30,8 @@ overflow_add-offset c = let small : c.read-own.result < 2 ^ 64 = omega arith in
     let sum : c.loop-field.offset + c.read-own.result < 2 ^ 64 = search (sum_fits, c.in-Some.ensures) in
     omega arith
 
-pub put_entry-requires-clause-record_fits : goal.put_entry-requires-clause-record_fits
-put_entry-requires-clause-record_fits c = let room : c.args.base + c.loop-field.n * 16 + 16 ≤ length c.loop-field.work = search (entry-room, c.in-Some.ensures) in
+pub write-requires-clause-record_fits : goal.write-requires-clause-record_fits
+write-requires-clause-record_fits c = let room : c.args.base + c.loop-field.n * 16 + 16 ≤ length c.loop-field.work = search (entry-room, c.in-Some.ensures) in
     omega arith
 
 pub overflow_add-n : goal.overflow_add-n

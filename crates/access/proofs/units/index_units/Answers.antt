@@ -5,8 +5,8 @@ use lib.ListN.{length}
 use Rattle.access.proofs.UnitsLaws.{listing_start, listing-end, offset_read, length-read, unit-room, turn-listed, turn-passed}
 use Rattle.access.proofs.units.index_units.Goals as goal
 
-pub returns : goal.returns
-returns c = search (listing-end, c.in_default.ensures)
+pub returns-clause-indexed : goal.returns-clause-indexed
+returns-clause-indexed c = search (listing-end, c.in_default.ensures, c.new.ensures.counted)
 
 pub read-requires : goal.read-requires
 read-requires c = search (offset_read, c.in-Some.ensures)
