@@ -11,7 +11,8 @@ use lib.ListN.{length, get_or, take, drop, length-drop, drop_of_length-le}
 use lib.Seq.{drop-drop}
 use Rattle.tlv.specs.Outcome.{Outcome, refused, done, ◌>>=◌}
 use Rattle.tlv.proofs.OutcomeLaws.{done-is, refused-not}
-use Rattle.std.specs.Prelude.{Result, Ok, Err}
+use Rattle.std.specs.Prelude.{Result, Ok, Err, slice_range}
+use Rattle.std.proofs.lemmas.List.{length-take-le}
 use Rattle.tlv.specs.declared.refusal.Refusal.{Refusal}
 use Rattle.line_program.specs.declared.operand.Operand.{Operand}
 use Rattle.line_program.specs.declared.operand.Skipped.{Skipped}
@@ -93,14 +94,17 @@ module _ {s : List ℕ} {at : ℕ} where
         unfolding ◌>>=◌
         read-past Q = record { is = rw (parts_at, body_at, ← Q.is) refl; within = tt }
 
-        pub read-all : {next : ℕ} → SkipsTo s (o.next + 1) (Ok next) (taken s (o.value - 1) (o.next + 1))
-            → ReadsExtended s at (Ok (record { opcode = get_or s o.next 0; from = o.next + 1; next = next }))
+        pub read-all : {x : Extended} → SkipsTo s (o.next + 1) (Ok x.next) (taken s (o.value - 1) (o.next + 1)) → x.opcode ≡ get_or s o.next 0
+            → x.operand.now ≡ slice_range s (o.next + 1) x.next → ReadsExtended s at (Ok x)
         unfolding ◌>>=◌
-        read-all {next} Q =
-            let z : next - (o.next + 1) ≡ o.value - 1 = omega (arith, taken-end s (o.value - 1) (o.next + 1) next (omega arith) Q.within.1 Q.is) in
+        read-all {x} Q opcode operand =
+            let n = x.next - (o.next + 1) in
+            let z : n ≡ o.value - 1 = omega (arith, taken-end s (o.value - 1) (o.next + 1) x.next (omega arith) Q.within.1 Q.is) in
+            let left = length-drop (o.next + 1) s in
+            let size : length x.operand.now ≡ n = ap length operand ∙ length-take-le n (drop (o.next + 1) s) (omega (arith, left, Q.within.1)) in
             record {
-              is = rw (parts_at, body_at, ← Q.is, z) refl;
-              within = (omega (arith, R.within.0), Q.within.0, Q.within.1);
+              is = rw (parts_at, body_at, ← Q.is, opcode, operand, z) refl;
+              within = (omega (arith, R.within.0, size, Q.within.0), Q.within.1);
             }
 
 -- of an instruction that is read it is passed on whether it ends the sequence
@@ -137,11 +141,11 @@ module _ {s : List ℕ} {at : ℕ} where
   module _ {x : Extended} (R : ReadsExtended s at (Ok x)) where
     pub extended-end : x.opcode ≡ 1 → Passes s at (Ok (Skipped.Ended x.next)) (extended (length s) (drop at s))
     unfolding ◌>>=◌
-    extended-end e = record { is = rw (extended-read, ← R.is, eq-eqb x.opcode 1 e) refl; within = (omega (arith, R.within.0, R.within.1), R.within.2) }
+    extended-end e = record { is = rw (extended-read, ← R.is, eq-eqb x.opcode 1 e) refl; within = (omega (arith, R.within.0), R.within.1) }
 
     pub extended-to : (x.opcode ≡ 1 → ⊥) → Passes s at (Ok (Skipped.To x.next)) (extended (length s) (drop at s))
     unfolding ◌>>=◌
-    extended-to n = record { is = rw (extended-read, ← R.is, ne_eqb x.opcode 1 n) refl; within = (omega (arith, R.within.0, R.within.1), R.within.2) }
+    extended-to n = record { is = rw (extended-read, ← R.is, ne_eqb x.opcode 1 n) refl; within = (omega (arith, R.within.0), R.within.1) }
 
 -- ---- a standard instruction
 

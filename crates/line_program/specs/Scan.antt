@@ -1,6 +1,6 @@
 -- Contract. What the functions of a line program promise: a place stands for the bytes from there on.
 use Rattle.std.specs.Prelude.{ℕ, Result, Ok, Err, Option, Some, None, ◌+◌, ◌*◌, ◌/◌, ◌^◌, ◌≤◌, ◌<◌, ◌≡◌, true, false}
-use Rattle.std.specs.Prelude.{◌-◌, List, [], ◌∷◌, length, take, drop, cond, eqb, slice_range}
+use Rattle.std.specs.Prelude.{◌-◌, List, [], ◌∷◌, length, take, drop, cond, eqb}
 use Rattle.tlv.specs.Bytes.{le}
 use Rattle.tlv.specs.Refusals.{number_of}
 use Rattle.tlv.specs.Outcome.{Outcome, refused, done, ◌>>=◌}
@@ -46,11 +46,11 @@ read_extended whole s = uleb s >>= λ o. cond (eqb o.value 0) (refused 9) (exten
 
 -- what one that the code hands out means
 abbrev pub extended_in : List ℕ → Result Extended Refusal → Outcome ExtendedParts
-extended_in s (Ok x) = done (record { opcode = x.opcode; operand = slice_range s x.from x.next; rest = drop x.next s })
+extended_in s (Ok x) = done (record { opcode = x.opcode; operand = x.operand.now; rest = drop x.next s })
 extended_in s (Err e) = refused (number_of e)
 
 abbrev pub ExtendedWithin : List ℕ → ℕ → Result Extended Refusal → Type 0
-ExtendedWithin s at (Ok x) = (at + 2 ≤ x.from) × (x.from ≤ x.next) × (x.next ≤ length s)
+ExtendedWithin s at (Ok x) = (at + 2 + length x.operand.now ≤ x.next) × (x.next ≤ length s)
 ExtendedWithin s at (Err e) = Unit {0}
 
 pub record ReadsExtended (s : List ℕ) (at : ℕ) (r : Result Extended Refusal) : Type 0 where

@@ -14,6 +14,7 @@ pub const OFFSET_RECORD: usize = 8;
 pub const SEQUENCE_LEAST: usize = 3;
 
 // What a line header says of its place and its opcodes; the opcode lengths are a slice of their own.
+// Stays without its opcode lengths, as the functions below: one call alone takes both of a payload, and skip_standard takes the lengths alone.
 #[derive(Clone, Copy, Debug, PartialEq, Eq, Hash)]
 pub struct Header {
     pub offset: u64,
@@ -24,6 +25,7 @@ pub struct Header {
 }
 
 // The standard opcodes, by the Standard's names.
+// Stays numbers, no enum: a byte means one of these only below the base of its header, and `match` takes it as it is.
 pub const DW_LNS_COPY: u8 = 1;
 
 pub const DW_LNS_ADVANCE_PC: u8 = 2;
@@ -53,16 +55,16 @@ pub const DW_LNE_END_SEQUENCE: u8 = 1;
 
 pub const DW_LNE_SET_ADDRESS: u8 = 2;
 
-// An extended instruction: its opcode, and from where to below where its operand stands, which ends it.
+// An extended instruction: its opcode, its operand and the place after it.
 #[derive(Clone, Copy, Debug, PartialEq, Eq, Hash)]
-pub struct Extended {
+pub struct Extended<'a> {
     pub opcode: u8,
-    pub from: usize,
+    pub operand: &'a [u8],
     pub next: usize,
 }
 
 // What follows the zero byte of an extended instruction: a length, and so many bytes, of which the first is the opcode.
-pub fn read_extended(program: &[u8], at: usize) -> Result<Extended, Refusal>
+pub fn read_extended(program: &[u8], at: usize) -> Result<Extended<'_>, Refusal>
     ensures { ReadsExtended program.now at result }
 {
     let length = read_line_uleb(program, at)?;
@@ -75,7 +77,11 @@ pub fn read_extended(program: &[u8], at: usize) -> Result<Extended, Refusal>
     let opcode = program[length.next];
     let from = length.next + 1;
     let next = take_line_bytes(program, length.value - 1, from)?;
-    Ok(Extended { opcode, from, next })
+    Ok(Extended {
+        opcode,
+        operand: &program[from..next],
+        next,
+    })
 }
 
 // Passes over what follows the zero byte of an extended instruction.
@@ -98,6 +104,7 @@ pub fn operand_count(lengths: &[u8], opcode: u8) -> u8
 }
 
 // Passes over what follows a standard opcode.
+// Stays beside machine's step_standard, with the same opcodes: this passes over what the header counts, that reads the operands that each opcode has.
 fn skip_standard(program: &[u8], lengths: &[u8], opcode: u8, at: usize) -> Result<usize, Refusal>
     requires { (at ≤ length program.now) × (0 < opcode) }
     ensures { SkipsTo program.now at result (skip_operands (kinds_by lengths.now opcode) (drop at program.now)) }
@@ -116,6 +123,7 @@ fn skip_standard(program: &[u8], lengths: &[u8], opcode: u8, at: usize) -> Resul
 }
 
 // Passes over the instruction at a place.
+// Stays with program, lengths and opcode base apart, as those below and line_answers' scan: skip_standard and the operands take fewer of them.
 pub fn skip_instruction(
     program: &[u8],
     lengths: &[u8],
@@ -140,6 +148,8 @@ pub fn skip_instruction(
 }
 
 // Writes where each sequence of a program begins, eight bytes each, from base on.
+// Stays a count, as line_sequence_offsets: whoever gave the place makes the `Stored`, and the contract says the count alone. Stays a clause, as in
+// line_sequence_offsets and scan_program: it is of the lent slice, which is written.
 pub fn scan_line_sequence_offsets(
     program: &[u8],
     lengths: &[u8],

@@ -25,6 +25,7 @@ pub enum Skipped {
 }
 
 // The unsigned operand at a place.
+// Stays beside machine's read_line_sleb: the tenth byte and the last one's value differ, so one for both would take a trait of two with laws.
 pub fn read_line_uleb(program: &[u8], at: usize) -> Result<Operand, Refusal>
     ensures { Reads program.now at result }
 {
@@ -105,7 +106,7 @@ impl TenthByte for Signed {
 }
 
 // Passes over the operand at a place.
-// Stays beside read_line_uleb: for speed it makes no value.
+// Stays beside read_line_uleb: it passes over both kinds of operand by one trait; the value of each is made by a rule of its own.
 fn skip_operand<B: TenthByte>(program: &[u8], at: usize) -> Result<usize, Refusal>
     ensures { SkipsTo program.now at result (skip_operand B.kind (drop at program.now)) }
 {
