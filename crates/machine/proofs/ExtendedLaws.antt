@@ -1,5 +1,6 @@
 -- Extended instructions, and any instruction: one law for each way through a function.
-use Rattle.std.proofs.Common.{Result, Ok, Err, Some, None, ◌≡◌, ℕ, ◌-◌, ◌<◌, ◌≤◌, Bool, true, false, cond, eqb, List, [], ◌∷◌, slice_range, length, take, drop, refl, ◌∙◌, arith, le-ltb, lt-ltb, eq-eqb, ne_eqb}
+use Rattle.std.proofs.Common.{Result, Ok, Err, Some, None, ◌≡◌, ℕ, ◌-◌, ◌<◌, ◌≤◌, Bool, true, false, cond, eqb, List, [], ◌∷◌, length, take, drop, refl, ◌∙◌, arith, le-ltb, lt-ltb, eq-eqb, ne_eqb}
+use Rattle.tlv.specs.Bytes.{le}
 use Rattle.tlv.specs.Outcome.{Outcome, refused, done, ◌>>=◌}
 use Rattle.tlv.specs.declared.refusal.Refusal.{Refusal}
 use Rattle.tlv.specs.Refusals.{as_outcome}
@@ -10,33 +11,37 @@ use Rattle.line_program.specs.Program.{uleb, take_line_bytes}
 use Rattle.machine.specs.declared.registers.Encoding.{Encoding}
 use Rattle.machine.specs.declared.registers.Registers.{Registers}
 use Rattle.machine.specs.declared.steps.Stepped.{Stepped}
+use Rattle.machine.specs.declared.machine.Emitted.{Emitted}
 use Rattle.machine.specs.Machine.{special, set_address, Read, read_standard, extended_instruction, read_extended_body, read_extended, read_instruction}
 use Rattle.machine.specs.Machine.{move_to, execute}
 use Rattle.machine.specs.Steps.{opcodes_with, machine_of, turn, Turns, Executes}
 use Rattle.machine.proofs.RegisterLaws.{move_past}
-use Rattle.machine.proofs.AddressLaws.{span}
 use Rattle.machine.proofs.StepLaws.{quiet_of, quiet-turn, quiet-within}
 
 -- what follows a later place follows an earlier one
 pub turns-earlier : {e : Encoding} {r : Registers} {s : List ℕ} {at : ℕ} {x : Outcome Read} (early : ℕ) (q : Result Stepped Refusal) → early ≤ at
     → Turns e r s at q x → Turns e r s early q x
 turns-earlier early (Ok (Stepped.Quiet r next)) h T = record { is = T.is; within = (omega (arith, T.within.0), T.within.1) }
-turns-earlier early (Ok (Stepped.Plain r next)) h T = record { is = T.is; within = (omega (arith, T.within.0), T.within.1) }
-turns-earlier early (Ok (Stepped.Ended r next)) h T = record { is = T.is; within = (omega (arith, T.within.0), T.within.1) }
+turns-earlier early (Ok (Stepped.Row (Emitted.Plain r next))) h T = record { is = T.is; within = (omega (arith, T.within.0), T.within.1) }
+turns-earlier early (Ok (Stepped.Row (Emitted.Ended r next))) h T = record { is = T.is; within = (omega (arith, T.within.0), T.within.1) }
 turns-earlier early (Err f) h T = record { is = T.is; within = tt }
 
 -- ---- an address
 
-module _ {e : Encoding} {r : Registers} {s : List ℕ} {from : ℕ} (next : ℕ) where
-  pub address-past : OffsetIs None (span s from next)
-      → Turns e r s from (Err Refusal.LineAddress) (done (record { instruction = set_address (span s from next); rest = drop next s }))
+module _ {e : Encoding} {r : Registers} {n next : ℕ} where
+  pub address-past : OffsetIs None n → Executes e r (set_address n) next (Err Refusal.LineAddress)
   unfolding turn execute ◌>>=◌
-  address-past past = record { is = rw (← move_past r (span s from next) past); within = tt }
+  address-past past = record { turns = λ s h. record { is = rw (← move_past r n past); within = tt } }
 
-  pub address-steps : {a : ℕ} (m : Result Registers Refusal) → OffsetIs (Some a) (span s from next) → from ≤ next → next ≤ length s → as_outcome m ≡ move_to a r
-      → Turns e r s from (quiet_of m next) (done (record { instruction = set_address (span s from next); rest = drop next s }))
+  pub address-steps : {a : ℕ} (m : Result Registers Refusal) → OffsetIs (Some a) n → as_outcome m ≡ move_to a r
+      → Executes e r (set_address n) next (quiet_of m next)
   unfolding turn execute ◌>>=◌
-  address-steps m O h k moves = record { is = quiet-turn s next m ∙ rw (moves, O.0); within = quiet-within s next from m h k }
+  address-steps m O moves = record {
+    turns = λ s h. record {
+      is = quiet-turn s next m ∙ rw (moves, O.0);
+      within = quiet-within s next next m (omega arith) h;
+    };
+  }
 
 -- ---- what follows a zero byte
 
@@ -75,21 +80,21 @@ module _ {s : List ℕ} {at : ℕ} where
   extended-fault R = record { is = rw (extended-read, ← R.is) refl; within = tt }
 
   module _ {x : Extended} (R : ReadsExtended s at (Ok x)) where
-    read_is : read_extended (length s) (drop at s) ≡ done (record { instruction = extended_instruction x.opcode (slice_range s x.from x.next); rest = drop x.next s })
+    read_is : read_extended (length s) (drop at s) ≡ done (record { instruction = extended_instruction x.opcode x.operand.now; rest = drop x.next s })
     unfolding ◌>>=◌
     read_is = rw (extended-read, ← R.is) refl
 
     within : (at ≤ x.next) × (x.next ≤ length s)
-    within = (omega (arith, R.within.0, R.within.1), R.within.2)
+    within = (omega (arith, R.within.0), R.within.1)
 
-    pub extended-end : {e : Encoding} {r : Registers} → x.opcode ≡ 1 → Extends e r s at (Ok (Stepped.Ended r x.next))
+    pub extended-end : {e : Encoding} {r : Registers} → x.opcode ≡ 1 → Extends e r s at (Ok (Stepped.Row (Emitted.Ended r x.next)))
     unfolding turn execute extended_instruction ◌>>=◌
     extended-end one = record { is = rw (read_is, one); within = within }
 
     pub extended-address : {e : Encoding} {r : Registers} {q : Result Stepped Refusal} → x.opcode ≡ 2
-        → Turns e r s x.from q (done (record { instruction = set_address (span s x.from x.next); rest = drop x.next s })) → Extends e r s at q
+        → Executes e r (set_address (le x.operand.now)) x.next q → Extends e r s at q
     unfolding extended_instruction
-    extended-address {e} {r} {q} two T = turns-earlier {at = x.from} at q (omega (arith, R.within.0)) (rw (read_is, two) T)
+    extended-address {e} {r} {q} two X = turns-earlier {at = x.next} at q (omega (arith, R.within.0)) (rw (read_is, two) (X.turns s R.within.1))
 
     pub extended-other : {e : Encoding} {r : Registers} → (x.opcode ≡ 1 → ⊥) → (x.opcode ≡ 2 → ⊥) → Extends e r s at (Ok (Stepped.Quiet r x.next))
     unfolding turn execute extended_instruction ◌>>=◌

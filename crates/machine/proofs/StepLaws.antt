@@ -13,6 +13,7 @@ use Rattle.line_program.specs.Program.{skip_operands, sleb}
 use Rattle.machine.specs.declared.registers.Encoding.{Encoding}
 use Rattle.machine.specs.declared.registers.Registers.{Registers}
 use Rattle.machine.specs.declared.steps.Stepped.{Stepped}
+use Rattle.machine.specs.declared.machine.Emitted.{Emitted}
 use Rattle.machine.specs.Machine.{Instruction, special, advance_pc, advance_line, set_file, set_column, const_add_pc, Read, read_unsigned}
 use Rattle.machine.specs.Machine.{read_signed, read_half, Executed, move_to, advance, add_line, add_special_line, quiet, appends, execute}
 use Rattle.machine.specs.Steps.{line_encoding, signed_value, ReadsSigned, Turn, turn, turn_of, TurnWithin, Turns, Executes}
@@ -25,7 +26,7 @@ quiet_of (Ok r) next = Ok (Stepped.Quiet r next)
 quiet_of (Err f) next = Err f
 
 abbrev pub plain_of : Result Registers Refusal → ℕ → Result Stepped Refusal
-plain_of (Ok r) next = Ok (Stepped.Plain r next)
+plain_of (Ok r) next = Ok (Stepped.Row (Emitted.Plain r next))
 plain_of (Err f) next = Err f
 
 abbrev turned : List ℕ → Executed → Outcome Turn

@@ -1,7 +1,6 @@
 -- Contract. What the functions of the row machine promise.
 use Rattle.std.specs.Prelude.{Result, Ok, Err, Option, Some, None, ◌≡◌, ℕ, ◌+◌, ◌-◌, ◌%◌, ◌^◌, ◌<◌, ◌≤◌, List}
-use Rattle.std.specs.Prelude.{[], ◌∷◌, length, drop, replicate, slice_index, slice_range}
-use Rattle.tlv.specs.Bytes.{le}
+use Rattle.std.specs.Prelude.{[], ◌∷◌, length, drop, replicate, slice_index}
 use Rattle.tlv.specs.Outcome.{Outcome, refused, done, ◌>>=◌}
 use Rattle.tlv.specs.Model.{LineEncoding, LineRow}
 use Rattle.tlv.specs.declared.refusal.Refusal.{Refusal}
@@ -14,7 +13,7 @@ use Rattle.machine.specs.declared.registers.Encoding.{Encoding}
 use Rattle.machine.specs.declared.registers.Registers.{Registers}
 use Rattle.machine.specs.declared.steps.Stepped.{Stepped}
 use Rattle.machine.specs.declared.machine.Emitted.{Emitted}
-use Rattle.machine.specs.Machine.{Machine, initial, appended_row, Instruction, set_address, other, Read, read_instruction, execute, rest_rows}
+use Rattle.machine.specs.Machine.{Machine, initial, appended_row, Instruction, other, Read, read_instruction, execute, rest_rows}
 
 abbrev pub line_encoding : Encoding → LineEncoding
 line_encoding e = record {
@@ -59,14 +58,14 @@ turn e r x =
 -- what an instruction that the code hands out means
 abbrev pub turn_of : List ℕ → Result Stepped Refusal → Outcome Turn
 turn_of s (Ok (Stepped.Quiet r next)) = done (record { registers = r; rows = []; rest = drop next s })
-turn_of s (Ok (Stepped.Plain r next)) = done (record { registers = r; rows = appended_row r 0 ∷ []; rest = drop next s })
-turn_of s (Ok (Stepped.Ended r next)) = done (record { registers = initial; rows = appended_row r 1 ∷ []; rest = drop next s })
+turn_of s (Ok (Stepped.Row (Emitted.Plain r next))) = done (record { registers = r; rows = appended_row r 0 ∷ []; rest = drop next s })
+turn_of s (Ok (Stepped.Row (Emitted.Ended r next))) = done (record { registers = initial; rows = appended_row r 1 ∷ []; rest = drop next s })
 turn_of s (Err e) = refused (number_of e)
 
 abbrev pub TurnWithin : List ℕ → ℕ → Result Stepped Refusal → Type 0
 TurnWithin s at (Ok (Stepped.Quiet r next)) = (at ≤ next) × (next ≤ length s)
-TurnWithin s at (Ok (Stepped.Plain r next)) = (at ≤ next) × (next ≤ length s)
-TurnWithin s at (Ok (Stepped.Ended r next)) = (at ≤ next) × (next ≤ length s)
+TurnWithin s at (Ok (Stepped.Row (Emitted.Plain r next))) = (at ≤ next) × (next ≤ length s)
+TurnWithin s at (Ok (Stepped.Row (Emitted.Ended r next))) = (at ≤ next) × (next ≤ length s)
 TurnWithin s at (Err e) = Unit {0}
 
 -- q is what executing x does, x being read from the bytes of s from `at` on
@@ -81,10 +80,6 @@ pub record Executes (e : Encoding) (r : Registers) (i : Instruction) (next : ℕ
 -- the instruction at a place
 abbrev pub read_at : Encoding → List ℕ → List ℕ → ℕ → Outcome Read
 read_at e lengths s at = read_instruction (machine_of e lengths (length s)) (slice_index s at) (drop (at + 1) s)
-
--- a set_address whose operand stands from one place to below another, where it ends
-abbrev pub read_address : List ℕ → ℕ → ℕ → Outcome Read
-read_address s from next = done (record { instruction = set_address (le (slice_range s from next)); rest = drop next s })
 
 -- n unsigned operands that nothing is done with
 abbrev pub read_over : ℕ → List ℕ → Outcome Read

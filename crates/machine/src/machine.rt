@@ -9,6 +9,7 @@ use crate::steps::Stepped;
 use tlv::refusal::Refusal;
 
 // A row of a program, plain or an end of sequence, with the registers that it shows and the place after its instruction.
+// Stays an enum and no flag beside registers and place, as line_program's Skipped: whoever takes the row says what an end means to it.
 #[derive(Clone, Copy, Debug)]
 pub enum Emitted {
     Plain { registers: Registers, next: usize },
@@ -54,7 +55,7 @@ impl LineProgram<'_> {
     }
 
     // The next row of the program, from a place on; none at the program's end.
-    // Stays a clause: the place moves with each instruction, so a type of a program and a place in it would be made anew at each step.
+    // Stays a clause, as those in steps.rt: the place moves with each instruction, so a type of a program and a place would be made anew each time.
     pub fn next_row(self, r: Registers, at: usize) -> Result<Option<Emitted>, Refusal>
         requires { at ≤ length self.program.now }
         ensures { Emits (machine_of self.entry.encoding self.entry.lengths.now (length self.entry.program.now))
@@ -72,12 +73,7 @@ impl LineProgram<'_> {
                     registers = moved;
                     p = next;
                 }
-                Stepped::Plain { registers, next } => {
-                    return Ok(Some(Emitted::Plain { registers, next }));
-                }
-                Stepped::Ended { registers, next } => {
-                    return Ok(Some(Emitted::Ended { registers, next }));
-                }
+                Stepped::Row(emitted) => return Ok(Some(emitted)),
             }
         }
         Ok(None)

@@ -20,6 +20,7 @@ fn signed_value(value: u64, scale: u64, byte: u64) -> u64
 }
 
 // The signed operand at a place, modulo 2^64.
+// Stays beside line_program's read_line_uleb: the tenth byte and the last one's value differ, so one for both would take a trait of two with laws.
 pub fn read_line_sleb(program: &[u8], at: usize) -> Result<Operand, Refusal>
     ensures { ReadsSigned program.now at result }
 {
@@ -57,14 +58,13 @@ pub fn read_line_sleb(program: &[u8], at: usize) -> Result<Operand, Refusal>
     }
 }
 
-// The number whose bytes stand from one place to below another, lowest first.
-pub fn address_operand(program: &[u8], from: usize, to: usize) -> Option<u64>
-    requires { (from ≤ to) × (to ≤ length program.now) }
-    ensures { OffsetIs result (le (take (to - from) (drop from program.now))) }
+// The number of some bytes, lowest first; none past the last number.
+pub fn address_operand(bytes: &[u8]) -> Option<u64>
+    ensures { OffsetIs result (le bytes.now) }
 {
     let mut value: u64 = 0;
-    for p in (from..to).rev() {
-        value = value.checked_mul(256)? + u64::from(program[p]);
+    for byte in bytes.iter().rev() {
+        value = value.checked_mul(256)? + u64::from(*byte);
     }
     Some(value)
 }

@@ -3,6 +3,7 @@ ghost use Rattle.std.specs.Prelude.{◌-◌, ◌<◌, ◌≤◌, length, drop};
 ghost use Rattle.machine.specs.Machine.{special, advance_pc, set_file, set_column, const_add_pc, read_unsigned, read_signed, read_half, read_standard};
 ghost use Rattle.machine.specs.Steps.{opcodes_with, Executes, read_over, Turns};
 
+use crate::machine::Emitted;
 use crate::operands::read_line_sleb;
 use crate::program::LineProgram;
 use crate::registers::Registers;
@@ -19,14 +20,12 @@ use tlv::refusal::Refusal;
 // The last special opcode: const_add_pc advances the address as it does.
 const LAST_OPCODE: u8 = 255;
 
-// An instruction that was executed, with the registers and the place after it: it appends no row, a plain one or, before the registers begin anew, an end of
-// sequence.
-// Stays beside Emitted: a step may show no row, what is handed out always does.
+// An instruction that was executed: it appends no row, and leaves the registers and the place after it, or it appends one; after an end of sequence the
+// registers begin anew.
 #[derive(Clone, Copy, Debug)]
 pub enum Stepped {
     Quiet { registers: Registers, next: usize },
-    Plain { registers: Registers, next: usize },
-    Ended { registers: Registers, next: usize },
+    Row(Emitted),
 }
 
 impl LineProgram<'_> {
@@ -42,7 +41,7 @@ impl LineProgram<'_> {
     {
         let adjusted = opcode - self.encoding.opcode_base;
         let registers = self.advance_special(self.add_special_line(r, adjusted), adjusted)?;
-        Ok(Stepped::Plain { registers, next })
+        Ok(Stepped::Row(Emitted::Plain { registers, next }))
     }
 
     // DW_LNS_advance_pc.
@@ -71,7 +70,7 @@ impl LineProgram<'_> {
     }
 
     // DW_LNS_set_file.
-    // Stays apart from step_set_column: they differ in the field alone, and with a closure that sets it both calls are as long as these.
+    // Stays apart from step_set_column: they differ in the field alone; one for both would take a closure, and a law that says which field it sets.
     fn step_set_file(self, r: Registers, at: usize) -> Result<Stepped, Refusal>
         ensures { Turns self.entry.encoding r self.entry.program.now at result
             (read_unsigned set_file (drop at self.entry.program.now)) }
@@ -87,7 +86,7 @@ impl LineProgram<'_> {
     }
 
     // DW_LNS_set_column.
-    // Stays apart from step_set_file: they differ in the field alone, and with a closure that sets it both calls are as long as these.
+    // Stays apart from step_set_file: they differ in the field alone; one for both would take a closure, and a law that says which field it sets.
     fn step_set_column(self, r: Registers, at: usize) -> Result<Stepped, Refusal>
         ensures { Turns self.entry.encoding r self.entry.program.now at result
             (read_unsigned set_column (drop at self.entry.program.now)) }
@@ -137,6 +136,7 @@ impl LineProgram<'_> {
     }
 
     // A standard opcode.
+    // Stays beside line_program's skip_standard, with the same opcodes: this reads the operands that each opcode has, that passes over what the header counts.
     pub(crate) fn step_standard(
         self,
         r: Registers,
@@ -149,10 +149,10 @@ impl LineProgram<'_> {
     {
         // Stays a match: the Standard's own table.
         match opcode {
-            DW_LNS_COPY => Ok(Stepped::Plain {
+            DW_LNS_COPY => Ok(Stepped::Row(Emitted::Plain {
                 registers: r,
                 next: at,
-            }),
+            })),
             DW_LNS_ADVANCE_PC => self.step_advance_pc(r, at),
             DW_LNS_ADVANCE_LINE => self.step_advance_line(r, at),
             DW_LNS_SET_FILE => self.step_set_file(r, at),

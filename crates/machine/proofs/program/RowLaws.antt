@@ -175,15 +175,10 @@ module _ {e : Encoding} {ls s : List ℕ} {r : Registers} {at : ℕ} {q : Regist
     pub running-less : {v : Registers} {next : ℕ} → Does (Ok (Stepped.Quiet v next)) → length s - next < length s - p
     running-less T = omega (arith, T.within.0)
 
-    pub running-plain : {v : Registers} {next : ℕ} → Does (Ok (Stepped.Plain v next))
-        → Emits (machine_of e ls (length s)) s r at (Ok (Some (Emitted.Plain v next)))
+    pub running-row : (w : Emitted) → Does (Ok (Stepped.Row w)) → Emits (machine_of e ls (length s)) s r at (Ok (Some w))
     unfolding ◌>>=◌
-    running-plain T = record { is = turned T; within = (omega (arith, R.from, T.within.0), T.within.1) }
-
-    pub running-ended : {v : Registers} {next : ℕ} → Does (Ok (Stepped.Ended v next))
-        → Emits (machine_of e ls (length s)) s r at (Ok (Some (Emitted.Ended v next)))
-    unfolding ◌>>=◌
-    running-ended T = record { is = turned T; within = (omega (arith, R.from, T.within.0), T.within.1) }
+    running-row (Emitted.Plain v next) T = record { is = turned T; within = (omega (arith, R.from, T.within.0), T.within.1) }
+    running-row (Emitted.Ended v next) T = record { is = turned T; within = (omega (arith, R.from, T.within.0), T.within.1) }
 
     pub running-fault : {f : Refusal} → Does (Err f) → Emits (machine_of e ls (length s)) s r at (Err f)
     unfolding ◌>>=◌

@@ -7,6 +7,7 @@ use Rattle.line_program.specs.Standard.{standard_operands, operands_of}
 use Rattle.machine.specs.declared.registers.Encoding.{Encoding}
 use Rattle.machine.specs.declared.registers.Registers.{Registers}
 use Rattle.machine.specs.declared.steps.Stepped.{Stepped}
+use Rattle.machine.specs.declared.machine.Emitted.{Emitted}
 use Rattle.machine.specs.Machine.{advance_pc, set_file, set_column, const_add_pc, read_unsigned, read_signed, read_half, read_standard, execute}
 use Rattle.machine.specs.Steps.{opcodes_with, turn, Turns, Executes, read_over}
 
@@ -100,6 +101,7 @@ module _ (e : Encoding) (r : Registers) (s ls : List ℕ) (o at : ℕ) (q : Resu
       )
       (rw is at T))
 
-pub standard-copy : (e : Encoding) (r : Registers) (s ls : List ℕ) (o at : ℕ) → o ≡ 1 → at ≤ length s → Standard e r s ls o at (Ok (Stepped.Plain r at))
+pub standard-copy : (e : Encoding) (r : Registers) (s ls : List ℕ) (o at : ℕ) → o ≡ 1 → at ≤ length s
+    → Standard e r s ls o at (Ok (Stepped.Row (Emitted.Plain r at)))
 unfolding read_standard turn execute ◌>>=◌
 standard-copy e r s ls o at is h = rw is (record { is = refl; within = (omega arith, h) })

@@ -1,9 +1,7 @@
--- `operands::address_operand` meets its contract: the bytes from here to the end, highest first.
-use Rattle.machine.proofs.AddressLaws.{Gathering}
+-- `operands::address_operand` meets its contract: the bytes that were passed make the value.
+use Rattle.std.proofs.Common.{◌≡◌, ◌^◌, ◌<◌, length}
+use Rattle.machine.proofs.AddressLaws.{highest}
 use Rattle.machine.proofs.operands.address_operand.Given as goal
 
-abbrev pub invariant-loop-p : goal.invariant-loop-p
-invariant-loop-p l = Gathering l.program l.from l.to l.p l.value
-
-abbrev pub decreases-loop-p : goal.decreases-loop-p
-decreases-loop-p l = l.p
+abbrev pub invariant-loop-byte : goal.invariant-loop-byte
+invariant-loop-byte l = (l.value ≡ highest l.bytes (length l.yielded)) × (l.value < 2 ^ 64)

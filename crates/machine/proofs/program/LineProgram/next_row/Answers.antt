@@ -1,6 +1,6 @@
 -- `LineProgram::next_row` meets its contract: the loop's invariant: the rows from here on are those that were asked for.
 use Rattle.tlv.proofs.AnswerLaws.{handed}
-use Rattle.machine.proofs.program.RowLaws.{running-less, running-quiet, running-plain, running-ended, running-fault, running-end}
+use Rattle.machine.proofs.program.RowLaws.{running-less, running-quiet, running-row, running-fault, running-end}
 use Rattle.machine.proofs.program.LineProgram.next_row.Goals as goal
 
 pub loop-p-smaller : goal.loop-p-smaller
@@ -9,11 +9,8 @@ loop-p-smaller c = running-less c.loop-p.invariant c.loop-p-test.true (rw c.in-Q
 pub loop-p-preserved : goal.loop-p-preserved
 loop-p-preserved c = running-quiet c.loop-p.invariant c.loop-p-test.true (rw c.in-Quiet.is at c.in_ok-moved.ensures)
 
-pub returns-in-Plain : goal.returns-in-Plain
-returns-in-Plain c = running-plain c.loop-p.invariant c.loop-p-test.true (rw c.in-Plain.is at c.in_ok-moved.ensures)
-
-pub returns-in-Ended : goal.returns-in-Ended
-returns-in-Ended c = running-ended c.loop-p.invariant c.loop-p-test.true (rw c.in-Ended.is at c.in_ok-moved.ensures)
+pub returns-in-Row : goal.returns-in-Row
+returns-in-Row c = running-row c.loop-p.invariant c.loop-p-test.true _ (rw c.in-Row.is at c.in_ok-moved.ensures)
 
 pub returns-in_err-moved : goal.returns-in_err-moved
 returns-in_err-moved c = rw (handed _ _ c.from_residual.ensures.1) (running-fault c.loop-p.invariant c.loop-p-test.true c.in_err-moved.ensures)
