@@ -39,6 +39,7 @@ pub enum ListEntry {
 }
 
 // An entry that was read, and the place after it.
+// Stays beside line_program's Operand: one type over both would be written Operand<u64> wherever line programs are read, for this one other use.
 #[derive(Clone, Copy, Debug)]
 pub struct EntryRead {
     pub entry: ListEntry,
@@ -75,7 +76,7 @@ fn read_kind(lists: &[u8], at: usize, size: AddressSize, kind: u8) -> Result<Ent
     requires { at ≤ length lists.now }
     ensures { ReadsKind lists.now at (width_of size) kind result }
 {
-    // Stays a match: each kind has operands of its own.
+    // Stays a match: the Standard's own table. Three kinds have two numbers alike; a reader of both would hand a pair that each arm takes apart.
     match kind {
         DW_RLE_END_OF_LIST => Ok(ListEntry::EndOfList.until(at)),
         DW_RLE_BASE_ADDRESSX => {

@@ -67,22 +67,6 @@ pub struct ListRange {
     pub base: u64,
 }
 
-// The address of an index, counted from a byte place of the table on.
-fn address_at(table: &[u8], place: u64, index: u64, size: AddressSize) -> Result<u64, Refusal>
-    ensures { FindsAddress table.now place (width_of size) index result }
-{
-    let len = table.len() as u64;
-    if len < place {
-        return Err(Refusal::NoAddress);
-    }
-    let room = len - place;
-    let width = size.width() as u64;
-    if room / width <= index {
-        return Err(Refusal::NoAddress);
-    }
-    Ok(size.read(table, (place + index * width) as usize))
-}
-
 // A range between two addresses of a size whose largest one is `top`.
 fn bounded(top: u64, start: u64, end: u64) -> Result<Meant, Refusal>
     ensures { SaysBounded top start end result }
@@ -140,42 +124,66 @@ fn offset_pair(top: u64, base: u64, first: u64, second: u64) -> Result<Meant, Re
     bounded(top, start, base + second)
 }
 
-// What an entry says, from a base address.
-fn meaning_of(
-    addresses: &[u8],
+// A table of addresses, with the byte place from which indices count and the size of an address.
+#[derive(Clone, Copy, Debug)]
+struct AddressTable<'a> {
+    bytes: &'a [u8],
     place: u64,
     size: AddressSize,
-    base: u64,
-    entry: ListEntry,
-) -> Result<Meant, Refusal>
-    ensures { Says addresses.now place (width_of size) base entry result }
-{
-    let top = size.largest();
-    // Stays a match: each kind says a thing of its own.
-    match entry {
-        ListEntry::EndOfList => Ok(Meant::End),
-        ListEntry::BaseAddressx(index) => {
-            let base = address_at(addresses, place, index, size)?;
-            Ok(Meant::Base(base))
+}
+
+impl AddressTable<'_> {
+    // The address of an index.
+    fn at(self, index: u64) -> Result<u64, Refusal>
+        ensures { FindsAddress self.entry.bytes.now self.entry.place (width_of self.entry.size) index result }
+    {
+        let len = self.bytes.len() as u64;
+        if len < self.place {
+            return Err(Refusal::NoAddress);
         }
-        ListEntry::StartxEndx(start, end) => {
-            let start = address_at(addresses, place, start, size)?;
-            let end = address_at(addresses, place, end, size)?;
-            bounded(top, start, end)
+        let room = len - self.place;
+        let width = self.size.width() as u64;
+        if room / width <= index {
+            return Err(Refusal::NoAddress);
         }
-        ListEntry::StartxLength(start, length) => {
-            let start = address_at(addresses, place, start, size)?;
-            bounded_length(top, start, length)
+        Ok(
+            self.size
+                .read(self.bytes, (self.place + index * width) as usize),
+        )
+    }
+
+    // What an entry says, from a base address.
+    fn meaning_of(self, base: u64, entry: ListEntry) -> Result<Meant, Refusal>
+        ensures { Says self.entry.bytes.now self.entry.place (width_of self.entry.size) base entry result }
+    {
+        let top = self.size.largest();
+        // Stays a match: each kind says a thing of its own.
+        match entry {
+            ListEntry::EndOfList => Ok(Meant::End),
+            ListEntry::BaseAddressx(index) => {
+                let base = self.at(index)?;
+                Ok(Meant::Base(base))
+            }
+            ListEntry::StartxEndx(start, end) => {
+                let start = self.at(start)?;
+                let end = self.at(end)?;
+                bounded(top, start, end)
+            }
+            ListEntry::StartxLength(start, length) => {
+                let start = self.at(start)?;
+                bounded_length(top, start, length)
+            }
+            ListEntry::OffsetPair(start, end) => offset_pair(top, base, start, end),
+            ListEntry::BaseAddress(base) => Ok(Meant::Base(base)),
+            ListEntry::StartEnd(start, end) => bounded(top, start, end),
+            ListEntry::StartLength(start, length) => bounded_length(top, start, length),
         }
-        ListEntry::OffsetPair(start, end) => offset_pair(top, base, start, end),
-        ListEntry::BaseAddress(base) => Ok(Meant::Base(base)),
-        ListEntry::StartEnd(start, end) => bounded(top, start, end),
-        ListEntry::StartLength(start, length) => bounded_length(top, start, length),
     }
 }
 
-impl<'a> RangeLists<'a> {
+impl RangeLists<'_> {
     // The next range of the list at a place, from a base address; none at the list's end.
+    // Stays with place, size, `at` and base apart, though ListField has them: `at` and base move with each range, and a field would be made anew.
     pub fn next_range(
         self,
         place: u64,
@@ -185,12 +193,17 @@ impl<'a> RangeLists<'a> {
     ) -> Result<Option<ListRange>, Refusal>
         ensures { NextIs self.entry.lists.now self.entry.addresses.now place (width_of size) at base result }
     {
+        let table = AddressTable {
+            bytes: self.addresses,
+            place,
+            size,
+        };
         let mut p = at;
         let mut base = base;
         // Stays a loop: each entry's own length moves the place.
         loop {
             let read = read_entry(self.lists, p, size)?;
-            match meaning_of(self.addresses, place, size, base, read.entry)? {
+            match table.meaning_of(base, read.entry)? {
                 Meant::End => {
                     return Ok(None);
                 }

@@ -14,6 +14,7 @@ pub enum AddressSize {
 
 impl AddressSize {
     // The size of so many bytes.
+    // Stays no From or TryFrom: it takes 4 and 8 alone, which its clause says; a From would take any byte, and a TryFrom could fail.
     pub fn of(width: u8) -> AddressSize
         requires { (width ≡ 4) ⊎ (width ≡ 8) }
         ensures { width_of result ≡ width }

@@ -1,7 +1,7 @@
--- `lists::meaning_of` meets its contract: at each kind the definition's clause.
+-- `AddressTable::meaning_of` meets its contract: at each kind the definition's clause.
 use Rattle.tlv.proofs.AnswerLaws.{handed}
 use Rattle.rnglists.proofs.lists.MeaningLaws.{says-end, says-base, says-pair, says-between, says-length, past-base, past-start, past-length, found-base, found-length, past_end, found-end}
-use Rattle.rnglists.proofs.lists.meaning_of.Goals as goal
+use Rattle.rnglists.proofs.lists.AddressTable.meaning_of.Goals as goal
 
 pub returns-in_err-base-in-BaseAddressx : goal.returns-in_err-base-in-BaseAddressx
 returns-in_err-base-in-BaseAddressx c = rw (handed _ _ c.from_residual.ensures.1, c.in-BaseAddressx.is) (past-base c.in_err-base-in-BaseAddressx.ensures)
