@@ -21,6 +21,7 @@ use Rattle.tlv.specs.Checked.{Placed}
 use Rattle.tlv.specs.Model.{CompilationUnit, LineHeader, HeaderFile, file_of}
 use Rattle.tlv.proofs.PlacePromises.{placed-file, placed-file-string}
 use Rattle.tlv.specs.declared.model.DebugSource.{DebugSource}
+use Rattle.buffers.specs.declared.table.Stored.{Stored}
 use Rattle.buffers.specs.Buffer.{top}
 use Rattle.buffers.specs.Table.{chunk, KeptBut}
 use Rattle.buffers.proofs.TableLaws.{but_refl, but_trans}
@@ -33,11 +34,11 @@ use Rattle.lines.specs.Files.{FileTable, FileIndices, intern_file, Indexed, inte
 use Rattle.files.specs.declared.spans.Span.{Span}
 use Rattle.files.specs.declared.spans.FileUnit.{FileUnit}
 use Rattle.files.specs.declared.store.StoredFiles.{StoredFiles}
-use Rattle.files.specs.Pieces.{source_in, span_in, header_here, UnitPlaced, FileUnitIn}
+use Rattle.files.specs.Pieces.{source_in, span_in, header_here, UnitPlaced, FileUnitIn, FileSpanIn}
 use Rattle.files.specs.Possible.{with_zero}
 use Rattle.files.specs.Store.{extent, table_of, FilesIn, Grown}
 use Rattle.files.specs.Indices.{index_of, indices_of}
-use Rattle.files.specs.Interns.{FileSpanIn, OfUnit, InternsAt, MapRoom, with_indices, InternsFiles}
+use Rattle.files.specs.Interns.{OfUnit, InternsAt, MapRoom, with_indices, InternsFiles}
 use Rattle.files.proofs.UnitLaws.{unit-next, unit-within}
 use Rattle.files.proofs.RoomLaws.{source-small}
 use Rattle.files.proofs.GrownLaws.{unit_kept, grown-none, grown-trans}
@@ -145,14 +146,15 @@ interning-start {main} {supplementary} {w} {files} {t} {s} {u} {base} {n} F U P 
 
 module _ {main supplementary w₀ w files₀ files : List ℕ} {t₀ t : StoredFiles} {s : List ℕ} {u : FileUnit} {base n₀ n p : ℕ}
     (J : Interning main supplementary w₀ w files₀ files t₀ t s u base n₀ n p) where
-  pub interning_over : NextOwn s p 0x15 None → InternsFiles main supplementary w₀ w files₀ files t₀ s u base n₀ (Ok (record { table = t; count = n }))
-  interning_over own =
+  pub interning_over : {m : Stored FileIndex} → m.base ≡ base → m.count ≡ n → NextOwn s p 0x15 None
+      → InternsFiles main supplementary w₀ w files₀ files t₀ s u base n₀ (Ok (record { table = t; map = m }))
+  interning_over from many own =
       let none_left : length (files_from s p) ≡ 0 = ap length (files-over own) in
       let count = J.count in
       let few = J.few in
       record {
-        is = sym (J.left ∙ rw (files-over own) (intern_over (unit_here s u.place) (header_here s u.place) (table_of main supplementary w t) (indices_of w base n)));
-        after = (J.grown, omega arith);
+        is = rw many (sym (J.left ∙ rw (files-over own) (intern_over (unit_here s u.place) (header_here s u.place) (table_of main supplementary w t) (indices_of w base n))));
+        after = (J.grown, (from, omega arith));
         rest = J.rest;
       }
 

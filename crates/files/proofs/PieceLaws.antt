@@ -7,16 +7,16 @@ use Prim.Native.Nat.{ℕ, zero, suc, ◌+◌, ◌-◌, ◌*◌, ◌≤◌, ◌<�
 use native.Mathlib.Nat.{not-suc-le-zero, le_of_suc-le-suc}
 use native.Mathlib.Omega.{arith}
 use borrow.Author.Tests.{lt-ltb, le-ltb, leb-true, leb-false, eq-eqb, ne_eqb}
-use lib.Dec.{eqb, leb, ltb}
+use lib.Dec.{eqb, leb}
 use lib.ListN.{length, take, drop, get_or, length-take, length-drop}
 use lib.Seq.{take-take}
-use Rattle.std.specs.Prelude.{Option, Some, None, Result, Ok, Err}
+use Rattle.std.specs.Prelude.{Option, Some, None, SomeIff, Result, Ok, Err}
 use Rattle.tlv.specs.declared.refusal.Refusal.{Refusal}
-use Rattle.tlv.specs.Outcome.{refused, done, ◌>>=◌}
+use Rattle.tlv.specs.Outcome.{Outcome, refused, done, ◌>>=◌}
 use Rattle.tlv.specs.Lists.{at, map_option, is_empty}
 use Rattle.tlv.specs.Bytes.{le_at}
 use Rattle.tlv.specs.Model.{HeaderFile, directory_of, file_of}
-use Rattle.tlv.proofs.TestLaws.{by_test}
+use Rattle.tlv.proofs.TestLaws.{by_test, by_less}
 use Rattle.tlv.proofs.ListLaws.{at-image}
 use Rattle.tlv.proofs.WidthLaws.{drop_part}
 use Rattle.tlv.proofs.ShapeLaws.{number_at, number-first}
@@ -31,7 +31,7 @@ use Rattle.files.specs.declared.spans.Span.{Span}
 use Rattle.files.specs.declared.spans.FileUnit.{FileUnit}
 use Rattle.files.specs.declared.pieces.FilePieces.{FilePieces}
 use Rattle.files.specs.declared.pieces.PathParts.{PathParts}
-use Rattle.files.specs.Pieces.{span_in, file_in, SpanIn, span_of, spanned_of, header_here, DirectoryIn, FileUnitIn, PartsIn, Reads, Before, relative_entry}
+use Rattle.files.specs.Pieces.{span_in, file_in, SpanIn, span_of, spanned_of, header_here, counted_from, DirectoryIn, FileUnitIn, PartsIn, Reads, Before, relative_entry}
 use Rattle.files.specs.Pieces.{Relative, Pieced}
 use Rattle.files.proofs.DirectoryLaws.{spanned-length}
 
@@ -101,6 +101,18 @@ module _ (s : List ℕ) (path : Span) (P : SpanIn s path) where
         base-in = record { within = omega arith; short = omega arith };
       })
 
+-- ---- the place of a number
+
+module _ (version n : ℕ) {old : Bool} (eo : old ≡ leb version 4) where
+  pub counted-before : old ≡ true → (r : Option ℕ) → SomeIff r (1 ≤ n) (n - 1) → r ≡ counted_from version n
+  unfolding counted_from
+  counted-before o None h = rw (sym eo ∙ o, eq-eqb n 0 (by_less (n ≡ 0) 0 n (λ l. absurd (h l)) (λ l. omega arith)))
+  counted-before o (Some k) h = rw (sym eo ∙ o, ne_eqb n 0 (λ z. absurd (omega (arith, h.0, z))), h.1)
+
+  pub counted-after : old ≡ false → Some n ≡ counted_from version n
+  unfolding counted_from
+  counted-after o = rw (sym eo ∙ o)
+
 -- ---- a directory of the table
 
 module _ {A : Type 0} where
@@ -161,27 +173,31 @@ module _ {s w : List ℕ} {u : FileUnit} (U : FileUnitIn s w u) where
 
   -- ---- the directory of a number
 
-  module _ (n : ℕ) {old : Bool} (eo : old ≡ leb u.version 4) where
-    before_five : old ≡ true → ltb u.version 5 ≡ true
-    before_five o = lt-ltb u.version 5 (omega (arith, leb-true u.version 4 (sym eo ∙ o)))
+  -- what is read for a place, or for none
+  abbrev read_counted : Option ℕ → Outcome (List ℕ)
+  read_counted None = done []
+  read_counted (Some k) = read_directory (at (unit_here s u.place).directories k)
 
-    from_five : old ≡ false → ltb u.version 5 ≡ false
-    from_five o = le-ltb u.version 5 (omega (arith, leb-false u.version 4 (sym eo ∙ o)))
+  counted_is : (n : ℕ) → named_directory (unit_here s u.place) u.version n ≡ read_counted (counted_from u.version n)
+  unfolding named_directory counted_from
+  counted_is n = go (leb u.version 4) (eqb n 0) refl refl
+    where
+      go : (b c : Bool) → leb u.version 4 ≡ b → eqb n 0 ≡ c → named_directory (unit_here s u.place) u.version n ≡ read_counted (counted_from u.version n)
+      go true c e z = rw (e, lt-ltb u.version 5 (omega (arith, leb-true u.version 4 e)), z) (sides c)
+        where
+          sides : (c : Bool) → cond c (done []) (read_counted (Some (n - 1))) ≡ read_counted (cond c None (Some (n - 1)))
+          sides true = refl
+          sides false = refl
+      go false c e z = rw (e, le-ltb u.version 5 (omega (arith, leb-false u.version 4 e)))
 
-    pub named-zero : old ≡ true → n ≡ 0 → Reads s (Ok (record { start = 0; len = 0 })) (named_directory (unit_here s u.place) (header_here s u.place).version n)
-    unfolding named_directory chunk
-    named-zero o e = record { is = rw (← U.version, before_five o, eq-eqb n 0 e); within = no_span-in s }
+  module _ (n : ℕ) where
+    pub named-none : None ≡ counted_from u.version n → Reads s (Ok (record { start = 0; len = 0 })) (named_directory (unit_here s u.place) (header_here s u.place).version n)
+    unfolding chunk
+    named-none e = record { is = rw (← U.version, counted_is n, ← e); within = no_span-in s }
 
-    module _ (r : Result Span Refusal) where
-      pub named-old : old ≡ true → (n ≡ 0 → ⊥) → Reads s r (read_directory (at (unit_here s u.place).directories (n - 1)))
-          → Reads s r (named_directory (unit_here s u.place) (header_here s u.place).version n)
-      unfolding named_directory
-      named-old o e R = rw (← U.version, before_five o, ne_eqb n 0 e) R
-
-      pub named_new : old ≡ false → Reads s r (read_directory (at (unit_here s u.place).directories n))
-          → Reads s r (named_directory (unit_here s u.place) (header_here s u.place).version n)
-      unfolding named_directory
-      named_new o R = rw (← U.version, from_five o) R
+    pub named-some : (k : ℕ) (r : Result Span Refusal) → Some k ≡ counted_from u.version n → Reads s r (read_directory (at (unit_here s u.place).directories k))
+        → Reads s r (named_directory (unit_here s u.place) (header_here s u.place).version n)
+    named-some k r e R = rw (← U.version, counted_is n, ← e) R
 
 -- ---- the compilation directory before it
 

@@ -104,21 +104,22 @@ module _ {s : List ℕ} {p : ℕ} (U : UnitPlaced s p) where
       → base + 8 * length (payloads 0x14 (own_fields (fields (drop (p + 21) s)))) ≤ length w
   directories-room base w h = let e = directories-count in omega arith
 
-  pub described : {w w' : List ℕ} {base n : ℕ} (source : DebugSource) (v : ℕ) {a : Span} {ds : Stored Span} → ds.base ≡ base → ds.count ≡ n → v ≡ version_in s (p + 21) → CompilationIn s (p + 21) a → DirectoriesIn s w w' (p + 21) base n
+  pub described : {w w' : List ℕ} {base : ℕ} (source : DebugSource) (v : ℕ) {a : Span} {ds : Stored Span} → ds.base ≡ base → v ≡ version_in s (p + 21)
+      → CompilationIn s (p + 21) a → DirectoriesIn s w w' (p + 21) base ds.count
       → Described s w w' source p base (record { source = source; place = p; version = v; compilation = a; directories = ds })
   unfolding header_here version_in
-  described {w} {w'} {base} {n} source v {a} {ds} eb en ev C D = record {
+  described {w} {w'} {base} source v {a} {ds} eb ev C D = record {
     unit = record {
       version = rw (unit-header s p (step_at s p) 0x10 (p + 3) 18 (p + 21) refl U.is) ev;
       compilation = rw (unit-directory s p (step_at s p) 0x10 (p + 3) 18 (p + 21) refl U.is) C.is;
-      directories = rw (eb, en) (ap (map directory_of) D.is ∙ sym directories-are);
+      directories = rw eb (ap (map directory_of) D.is ∙ sym directories-are);
       string = C.string;
-      spans = rw (eb, en) D.spans;
-      within = rw (eb, en) D.within;
+      spans = rw eb D.spans;
+      within = rw eb D.within;
     };
     source-is = refl;
     place = refl;
     directories = eb;
-    count = en ∙ sym (spanned-length s w' base n) ∙ ap length D.is ∙ sym directories-count;
-    rest = rw en D.rest;
+    count = sym (spanned-length s w' base ds.count) ∙ ap length D.is ∙ sym directories-count;
+    rest = D.rest;
   }

@@ -4,7 +4,6 @@ use Rattle.std.proofs.Math.Option.{none, some}
 use Rattle.tlv.specs.declared.refusal.Refusal.{Refusal}
 use Rattle.tlv.specs.Refusals as refusals
 use Rattle.tlv.specs.Outcome.{Outcome, refused, done, ◌>>=◌}
-use Rattle.tlv.specs.Limits.{string_limit}
 use Rattle.tlv.specs.Lists.{Any}
 use Rattle.tlv.specs.Model.{CompilationUnit, LineHeader, HeaderFile, file_of}
 use Rattle.buffers.specs.Table.{chunk, Kept, KeptBut}
@@ -25,12 +24,6 @@ use Rattle.files.specs.Indices.{index_of, indices_of, index_record}
 -- the room of a unit's directories and of its map from file numbers
 abbrev pub map_extent : List ℕ → ℕ → ℕ
 map_extent s q = span_record * length (unit_here s q).directories + index_record * (1 + length (unit_here s q).files)
-
--- the payload of a file: a flag, a number and a string
-pub record FileSpanIn (s : List ℕ) (a : Span) : Type 0 where
-  pub within : a.start + a.len ≤ length s
-  pub numbered : 9 ≤ a.len
-  pub short : a.len ≤ 9 + string_limit
 
 -- the files of a unit are ones that an import can meet
 -- Stays a clause: that a file is among others can have two proofs, so no ghost field may hold it.
@@ -87,12 +80,14 @@ pub record MapRoom (s w : List ℕ) (t : StoredFiles) (u : FileUnit) (base : ℕ
   pub map : base + index_record * (1 + length (unit_here s u.place).files) ≤ length w
 
 abbrev pub indexed_of : List ℕ → List ℕ → List ℕ → ℕ → Result InternedFiles Refusal → Outcome Indexed
-indexed_of main supplementary w base (Ok r) = done (record { table = table_of main supplementary w r.table; indices = indices_of w base r.count })
+indexed_of main supplementary w base (Ok r) = done (record { table = table_of main supplementary w r.table; indices = indices_of w base r.map.count })
 indexed_of main supplementary w base (Err e) = refused (refusals.number_of e)
 
-abbrev pub IndexedAfter : List ℕ → List ℕ → List ℕ → List ℕ → List ℕ → List ℕ → StoredFiles → ℕ → Result InternedFiles Refusal → Type 0
-IndexedAfter main supplementary w w' files files' t m (Ok r) = Grown main supplementary w w' files files' t r.table × (r.count ≤ m)
-IndexedAfter main supplementary w w' files files' t m (Err e) = Unit
+-- the table has grown, and the map stands at base and has at most m numbers
+abbrev pub IndexedAfter : List ℕ → List ℕ → List ℕ → List ℕ → List ℕ → List ℕ → StoredFiles → ℕ → ℕ → Result InternedFiles Refusal → Type 0
+IndexedAfter main supplementary w w' files files' t base m (Ok r) =
+    Grown main supplementary w w' files files' t r.table × ((r.map.base ≡ base) × (r.map.count ≤ m))
+IndexedAfter main supplementary w w' files files' t base m (Err e) = Unit
 
 -- a map, before what was indexed
 abbrev pub with_indices : FileIndices → Indexed → Outcome Indexed
@@ -104,11 +99,11 @@ pub record InternsFiles (main supplementary w w' files files' : List ℕ) (t : S
   pub is : indexed_of main supplementary w' base r
       ≡ (intern_files (unit_here s u.place) (header_here s u.place) (table_of main supplementary w t) (unit_here s u.place).files >>= with_indices
       (indices_of w base n))
-  pub after : IndexedAfter main supplementary w w' files files' t (1 + length (unit_here s u.place).files) r
+  pub after : IndexedAfter main supplementary w w' files files' t base (1 + length (unit_here s u.place).files) r
   pub rest : KeptBut w w' ((t.base, extent t) ∷ (base, index_record * (1 + length (unit_here s u.place).files)) ∷ [])
 
 pub record InternsHeader (main supplementary w w' files files' : List ℕ) (t : StoredFiles) (s : List ℕ) (u : FileUnit) (base : ℕ)
     (r : Result InternedFiles Refusal) : Type 0 where
   pub is : indexed_of main supplementary w' base r ≡ intern_header_files (unit_here s u.place) (header_here s u.place) (table_of main supplementary w t)
-  pub after : IndexedAfter main supplementary w w' files files' t (1 + length (unit_here s u.place).files) r
+  pub after : IndexedAfter main supplementary w w' files files' t base (1 + length (unit_here s u.place).files) r
   pub rest : KeptBut w w' ((t.base, extent t) ∷ (base, index_record * (1 + length (unit_here s u.place).files)) ∷ [])

@@ -1,5 +1,6 @@
 -- Contract. A file by the pieces of a sheet that its path is joined from.
-use Rattle.std.specs.Prelude.{Option, Some, None, Result, Ok, Err, ℕ, ◌+◌, ◌*◌, ◌≤◌, ◌<◌, ◌^◌, ◌≡◌, cond, List, [], ◌++◌, map, length, drop, replicate}
+use Rattle.std.specs.Prelude.{Option, Some, None, Result, Ok, Err}
+use Rattle.std.specs.Prelude.{ℕ, ◌+◌, ◌-◌, ◌*◌, ◌≤◌, ◌<◌, ◌^◌, ◌≡◌, cond, List, [], ◌++◌, map, length, drop, replicate, leb, eqb}
 use Rattle.std.proofs.Math.Option.{none, some}
 use Rattle.std.proofs.Math.Option as math
 use Rattle.tlv.specs.Tags.{compilation_tag, directory_tag, header_tag, unit_tag, unit_whole, field_head}
@@ -77,6 +78,10 @@ or_header (some h) = h
 unfoldable pub header_here : List ℕ → ℕ → LineHeader
 header_here s p = or_header (unit_here s p).header
 
+-- the place, counted from 0, of the file or directory of a number: before version 5 they are numbered from 1, and 0 is none
+unfoldable pub counted_from : ℕ → ℕ → Option ℕ
+counted_from version n = cond (leb version 4) (cond (eqb n 0) None (Some (n - 1))) (Some n)
+
 -- bytes of a span of a sheet in a table of spans: the start 4, the length 4
 abbrev pub span_record : ℕ
 span_record = 8
@@ -141,6 +146,13 @@ pub record Described (s w w' : List ℕ) (source : DebugSource) (p base : ℕ) (
   pub rest : Kept w w' base (r.directories.count * 8)
 
 -- ---- the pieces of a header's file
+
+-- the payload of a file: a flag, a number and a string
+-- Stays a clause, for the reason at SpanIn: a span is made for one call, and where one is read from the work slice no sheet is at hand.
+pub record FileSpanIn (s : List ℕ) (a : Span) : Type 0 where
+  pub within : a.start + a.len ≤ length s
+  pub numbered : 9 ≤ a.len
+  pub short : a.len ≤ 9 + string_limit
 
 abbrev pub named_of : List ℕ → Result (Option FilePieces) Refusal → Outcome (math.Option FileEntry)
 named_of s (Ok None) = done none

@@ -17,10 +17,9 @@ use Rattle.lines.specs.Files.{FileTable, FileIndices, file_index, place_of, get}
 use Rattle.files.specs.declared.spans.FileUnit.{FileUnit}
 use Rattle.files.specs.declared.store.StoredFiles.{StoredFiles}
 use Rattle.files.specs.declared.index.FileNumber.{FileNumber}
-use Rattle.files.specs.Pieces.{span_in, header_here}
+use Rattle.files.specs.Pieces.{span_in, header_here, FileSpanIn}
 use Rattle.files.specs.Store.{extent, table_of, FilesIn}
 use Rattle.files.specs.Indices.{number_of}
-use Rattle.files.specs.Interns.{FileSpanIn}
 
 -- the number of a header's file in the table
 abbrev pub number_in : FileTable → Outcome (math.Option FileEntry) → math.Option FileIndex

@@ -1,10 +1,10 @@
 // The files of a unit's header.
 ghost use Rattle.std.specs.Prelude.{◌≡◌, ◌+◌, ◌≤◌, length};
 ghost use Rattle.access.specs.Places.{unit_here};
-ghost use Rattle.files.specs.Pieces.{header_here, UnitPlaced, FileUnitIn};
+ghost use Rattle.files.specs.Pieces.{header_here, UnitPlaced, FileUnitIn, FileSpanIn};
 ghost use Rattle.files.specs.Sheets.{sheet_in};
 ghost use Rattle.files.specs.Store.{extent, FilesIn};
-ghost use Rattle.files.specs.Interns.{FileSpanIn, Listed, OfUnit, InternsAt, MapRoom, InternsFiles, InternsHeader};
+ghost use Rattle.files.specs.Interns.{Listed, OfUnit, InternsAt, MapRoom, InternsFiles, InternsHeader};
 
 use crate::index::{INDEX_RECORD, put_index};
 use crate::sheets::Sheets;
@@ -16,17 +16,17 @@ use tlv::model::FileIndex;
 use tlv::refusal::Refusal;
 use tlv::tags::{FILE_TAG, UNIT_WHOLE};
 
-// The table with a header's files in it, and how many numbers the unit's map has.
+// The table with a header's files in it, and the unit's map.
 #[derive(Clone, Copy, Debug)]
 pub struct InternedFiles {
     pub table: StoredFiles,
-    pub count: usize,
+    pub map: Stored<FileIndex>,
 }
 
 impl StoredFiles {
     // Interns a file of a unit's header, and writes its number at a place of the unit's map.
-    // Stays with sheets, unit and what is written apart, as those below: FilesIn and add_file speak of the sheets with no unit, and one that
-    // held them would be taken apart for both.
+    // Stays with sheets, unit and what is written apart, as those below, intern_file and look_up_nth: FilesIn and add_file speak of the sheets with no
+    // unit, and one that held them would be taken apart for both.
     fn intern_at(
         self,
         sheets: Sheets,
@@ -85,7 +85,10 @@ impl StoredFiles {
             count += 1;
             p = field.next;
         }
-        Ok(InternedFiles { table, count })
+        Ok(InternedFiles {
+            table,
+            map: Stored::new(map.base, count),
+        })
     }
 
     // Interns the files of a unit's header in order, and writes the unit's map at base.

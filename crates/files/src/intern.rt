@@ -4,10 +4,10 @@ ghost use Rattle.tlv.specs.Tags.{file_tag};
 ghost use Rattle.tlv.specs.Checked.{Placed};
 ghost use Rattle.access.specs.Places.{unit_here};
 ghost use Rattle.access.specs.Access.{NextOwn};
-ghost use Rattle.files.specs.Pieces.{header_here, FileUnitIn, Pieced};
+ghost use Rattle.files.specs.Pieces.{header_here, FileUnitIn, FileSpanIn, Pieced};
 ghost use Rattle.files.specs.Sheets.{sheet_in};
 ghost use Rattle.files.specs.Store.{FilesIn};
-ghost use Rattle.files.specs.Interns.{FileSpanIn, Listed, OfUnit, Interns};
+ghost use Rattle.files.specs.Interns.{Listed, OfUnit, Interns};
 
 use crate::sheets::Sheets;
 use crate::spans::{FileUnit, Span};
@@ -16,6 +16,7 @@ use tlv::refusal::Refusal;
 
 impl StoredFiles {
     // Interns a file of a unit's header; one that has no path adds nothing.
+    // Stays with sheets, unit and what is written apart: intern_at of the headers says why.
     pub fn intern_file(
         self,
         sheets: Sheets,

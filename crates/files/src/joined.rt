@@ -8,6 +8,7 @@ ghost use Rattle.files.specs.Pieces.{Separated};
 ghost use Rattle.files.specs.Joined.{component_at};
 
 // How many slashes, 0 or 1, joining puts between a path and a component.
+// Stays a number, 0 or 1, as below, no bool: the length of the path and the places in it are sums with it.
 fn separator(path: &[u8], component: &[u8]) -> usize
     ensures { Separated path.now component.now result }
 {

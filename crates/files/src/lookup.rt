@@ -19,6 +19,7 @@ use tlv::model::FileIndex;
 use tlv::tags::{FILE_TAG, UNIT_WHOLE};
 
 // The n-th field of a file, from a place on.
+// Stays beside access' unit_by_ordinal: that walks by next_field and gives a place, this by next_before_rows and gives the field.
 fn nth_file(s: &[u8], p: usize, n: u64) -> Option<FieldSpan>
     requires { Placed s.now p }
     ensures { NthFile s.now p n result }
@@ -90,13 +91,7 @@ impl StoredFiles {
             (sheet_in sheets.entry unit.source) unit number result }
     {
         let s = sheets.of(unit.source);
-        let n = number.0;
-        if unit.counts_from_one() {
-            if n == 0 {
-                return None;
-            }
-            return self.look_up_nth(sheets, s, unit, n - 1, work);
-        }
+        let n = unit.counted(number.0)?;
         self.look_up_nth(sheets, s, unit, n, work)
     }
 }

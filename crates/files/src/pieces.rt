@@ -1,11 +1,11 @@
 // A file by the pieces of a sheet that its path is joined from (the Rust's intern_file, without its Vec).
 ghost use Rattle.std.specs.Prelude.{◌≡◌, ◌+◌, ◌*◌, ◌≤◌, ◌<◌, length};
 ghost use Rattle.tlv.specs.Lists.{at};
-ghost use Rattle.tlv.specs.Limits.{string_limit, joined_limit};
+ghost use Rattle.tlv.specs.Limits.{joined_limit};
 ghost use Rattle.access.specs.Places.{unit_here};
 ghost use Rattle.paths.specs.Paths.{read_directory, named_directory};
 ghost use Rattle.paths.specs.Join.{Laid};
-ghost use Rattle.files.specs.Pieces.{file_in, SpanIn, PiecesIn, header_here, FileUnitIn, PartsIn, Reads, Before, Relative, Pieced};
+ghost use Rattle.files.specs.Pieces.{file_in, SpanIn, PiecesIn, header_here, FileUnitIn, FileSpanIn, PartsIn, Reads, Before, Relative, Pieced};
 
 use crate::spans::{FileUnit, SPAN_RECORD, Span};
 use tlv::bytes::Number;
@@ -85,13 +85,10 @@ impl FileUnit {
         ensures { Reads s.now result (named_directory (unit_here s.now self.place)
             (header_here s.now self.place).version number) }
     {
-        if self.counts_from_one() {
-            if number == 0 {
-                return Ok(Span::default());
-            }
-            return self.directory_at(s, work, number - 1);
-        }
-        self.directory_at(s, work, number)
+        let Some(index) = self.counted(number) else {
+            return Ok(Span::default());
+        };
+        self.directory_at(s, work, index)
     }
 
     // The pieces of a file with a relative path, by the number of its directory.
@@ -124,9 +121,7 @@ impl FileUnit {
         file: Span,
     ) -> Result<Option<FilePieces>, Refusal>
         requires file_unit_in { FileUnitIn s.now work.now self }
-        requires within { file.start + file.len ≤ length s.now }
-        requires numbered { 9 ≤ file.len }
-        requires short { file.len ≤ 9 + string_limit }
+        requires file_span_in { FileSpanIn s.now file }
         ensures { Pieced s.now self file result }
     {
         if u8::read(s, file.start) == 1 {

@@ -4,7 +4,7 @@ ghost use Rattle.buffers.specs.Table.{chunk};
 ghost use Rattle.lines.specs.Files.{same_file};
 ghost use Rattle.files.specs.Pieces.{file_in, PiecesIn, PiecesSmall};
 ghost use Rattle.files.specs.Hash.{hash_of};
-ghost use Rattle.files.specs.Store.{pieces_of, source_of, stored_file, StoredAt, PutPieces, PutFile};
+ghost use Rattle.files.specs.Store.{file_body, pieces_of, source_of, stored_file, StoredAt, PutPieces, PutFile};
 
 use crate::joined::is_joined;
 use crate::pieces::FilePieces;
@@ -22,9 +22,10 @@ const HASH_AT: usize = SOURCE_AT + 1;
 pub const LINK_AT: usize = HASH_AT + 4;
 
 // The source of the record at a place.
+// Stays a clause, as those below: it is of the place of one record, and a type of the slice and that place would be made anew for each.
 fn source_at(work: &[u8], p: usize) -> DebugSource
-    requires { p + 41 ≤ length work.now }
-    ensures { result ≡ source_of (chunk work.now p 41) }
+    requires { p + file_body ≤ length work.now }
+    ensures { result ≡ source_of (chunk work.now p file_body) }
 {
     DebugSource::from(u8::read(work, p + SOURCE_AT))
 }
@@ -32,8 +33,8 @@ fn source_at(work: &[u8], p: usize) -> DebugSource
 impl FilePieces {
     // The pieces of the record at a place.
     fn read(work: &[u8], p: usize) -> FilePieces
-        requires { p + 41 ≤ length work.now }
-        ensures { result ≡ pieces_of (chunk work.now p 41) }
+        requires { p + file_body ≤ length work.now }
+        ensures { result ≡ pieces_of (chunk work.now p file_body) }
     {
         FilePieces {
             compilation: Span::read(work, p),
@@ -45,7 +46,7 @@ impl FilePieces {
 
     // Writes the pieces of a record.
     fn write(self, work: &mut [u8], at: usize)
-        requires record_fits { at + 41 ≤ length work.old }
+        requires record_fits { at + file_body ≤ length work.old }
         requires pieces_small { PiecesSmall self }
         ensures { PutPieces work.old work.new at self }
     {
@@ -84,7 +85,7 @@ pub fn is_file(
     requires stored_at { StoredAt sheets.main.now sheets.supplementary.now work.now p }
     requires hashed { hash ≡ hash_of (record { directory = directory.now; basename = base.now }) }
     ensures { result ≡ same_file (record { directory = directory.now; basename = base.now })
-        (stored_file sheets.entry.main.now sheets.entry.supplementary.now (chunk work.now p 41)) }
+        (stored_file sheets.entry.main.now sheets.entry.supplementary.now (chunk work.now p file_body)) }
 {
     if u32::read(work, p + HASH_AT) != hash {
         return false;
@@ -102,7 +103,7 @@ pub fn put_record(
     hash: u32,
     link: u32,
 )
-    requires record_fits { at + 41 ≤ length work.old }
+    requires record_fits { at + file_body ≤ length work.old }
     requires pieces_small { PiecesSmall pieces }
     ensures { PutFile work.old work.new at source pieces hash link }
 {

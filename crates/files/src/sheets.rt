@@ -15,6 +15,7 @@ pub struct Sheets<'a> {
 
 impl<'a> Sheets<'a> {
     // The sheet of a source.
+    // Stays beside references' Tables::index: a pair for both by source would have no ghost field, which these sheets have.
     pub fn of(self, source: DebugSource) -> &'a [u8]
         ensures { result.now ≡ source_in self.entry.main.now self.entry.supplementary.now source }
     {

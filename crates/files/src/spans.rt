@@ -6,7 +6,7 @@ ghost use Rattle.tlv.specs.Fields.{fields, payloads};
 ghost use Rattle.tlv.specs.Checked.{Placed};
 ghost use Rattle.buffers.specs.Table.{chunk};
 ghost use Rattle.access.specs.Places.{own_fields, unit_here};
-ghost use Rattle.files.specs.Pieces.{PutSpan, span_in, span_of, UnitPlaced, version_in, DirectoriesIn, CompilationIn, span_record, Described};
+ghost use Rattle.files.specs.Pieces.{PutSpan, span_in, span_of, UnitPlaced, version_in, DirectoriesIn, CompilationIn, span_record, Described, counted_from};
 ghost use Rattle.files.specs.Sheets.{sheet_in};
 
 use crate::sheets::Sheets;
@@ -23,6 +23,7 @@ use tlv::tags::{COMPILATION_TAG, DIRECTORY_TAG, HEADER_TAG, UNIT_WHOLE};
 pub const SPAN_RECORD: usize = 8;
 
 // A stretch of a sheet; the default one is empty.
+// Stays a start and a length, no slice: spans are kept as numbers in records of the work slice.
 #[derive(Clone, Copy, Debug, Default)]
 pub struct Span {
     pub start: usize,
@@ -84,12 +85,13 @@ pub struct FileUnit {
     pub directories: Stored<Span>,
 }
 
-// Writes the spans of the directories of the unit whose fields follow place p, and returns their number.
-fn index_directories(s: &[u8], p: usize, work: &mut [u8], base: usize) -> usize
+// Writes the spans of the directories of the unit whose fields follow place p, and returns their table.
+fn index_directories(s: &[u8], p: usize, work: &mut [u8], base: usize) -> Stored<Span>
     requires placed { Placed s.now p }
     requires sheet_small { length s.now < 2 ^ 32 }
     requires spans_fit { base + span_record * length (payloads directory_tag (own_fields (fields (drop p s.now)))) ≤ length work.old }
-    ensures { DirectoriesIn s.now work.old work.new p base result }
+    ensures based { result.base ≡ base }
+    ensures directories_in { DirectoriesIn s.now work.old work.new p base result.count }
 {
     let mut at = p;
     let mut n: usize = 0;
@@ -99,10 +101,11 @@ fn index_directories(s: &[u8], p: usize, work: &mut [u8], base: usize) -> usize
         n += 1;
         at = field.next;
     }
-    n
+    Stored::new(base, n)
 }
 
 // The compilation directory of the unit whose fields follow place p; an empty span where it has none.
+// Stays an empty span, as for a directory that is none, no Option: joining passes over an empty part, so both are one.
 fn compilation_span(s: &[u8], p: usize) -> Span
     requires { Placed s.now p }
     ensures { CompilationIn s.now p result }
@@ -114,6 +117,7 @@ fn compilation_span(s: &[u8], p: usize) -> Span
 }
 
 // The version of the line header of the unit whose fields follow place p; 0 where it has none.
+// Stays 0 for none, as the definition's empty header has it: a unit with no header has no files to count.
 fn header_version(s: &[u8], p: usize) -> u8
     requires { Placed s.now p }
     ensures { result ≡ version_in s.now p }
@@ -142,13 +146,13 @@ impl FileUnit {
         let p = place + UNIT_WHOLE;
         let version = header_version(s, p);
         let compilation = compilation_span(s, p);
-        let count = index_directories(s, p, work, base);
+        let directories = index_directories(s, p, work, base);
         FileUnit {
             source,
             place,
             version,
             compilation,
-            directories: Stored::new(base, count),
+            directories,
         }
     }
 
@@ -157,5 +161,15 @@ impl FileUnit {
         ensures { result ≡ leb self.version 4 }
     {
         self.version <= 4
+    }
+
+    // The place, counted from 0, of the unit's file or directory of a number: before version 5 number 0 is none.
+    pub fn counted(self, number: u64) -> Option<u64>
+        ensures { result ≡ counted_from self.version number }
+    {
+        if self.counts_from_one() {
+            return number.checked_sub(1);
+        }
+        Some(number)
     }
 }

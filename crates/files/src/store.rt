@@ -34,6 +34,7 @@ pub const JOINED_LIMIT: usize = 3 * STRING_LIMIT + 2;
 
 // The table: the number of its first file, where it stands in the work slice, how many files it has room for and has,
 // and how many bytes were written to the files tray.
+// Stays a table with chains of its own, no HashMap: the import has no heap, and its tables lie in the lent work slice.
 #[derive(Clone, Copy, Debug)]
 pub struct StoredFiles {
     pub first: u32,
@@ -51,6 +52,7 @@ pub struct AddedFile {
 }
 
 // The length of a directory that was laid, and the hash of its file.
+// Stays a length alone: the directory is laid at the table's scratch, which all that are given this have.
 #[derive(Clone, Copy, Debug)]
 pub struct LaidHash {
     pub len: usize,
@@ -94,6 +96,8 @@ impl StoredFiles {
     }
 
     // The place of the file of a directory and a name, which has the hash.
+    // Stays with directory, name and hash apart, as records' is_file: a struct of them would be made for one look-up, and taken apart at each record;
+    // and beside references' is_visited, another table of chains: one walk would take where chains and links stand, a record's size, and a test.
     pub fn find_file(
         self,
         sheets: Sheets,
@@ -142,6 +146,7 @@ impl StoredFiles {
     }
 
     // Writes the record of a file that is not in the table, at the table's end, and makes it the first of its chain.
+    // Stays with source and pieces apart, as those below and put_record: laid_number and lay take the sheet itself, and no source.
     fn link_file(self, work: &mut [u8], source: DebugSource, pieces: FilePieces, hash: u32)
         requires has_room { (self.count < self.room) × (self.room < 2 ^ 32) }
         requires table_within { self.base + extent self ≤ length work.old }

@@ -60,7 +60,8 @@ module _ {w w₁ : List ℕ} {t : StoredFiles} {s : List ℕ} {u : FileUnit} {ba
   room_after = record { table = M.table; directories = M.directories; map = rw size M.map }
 
   module _ {main supplementary : List ℕ} (F : FilesIn main supplementary w t) where
-    grown-from : (w₂ files files₂ : List ℕ) (m : ℕ) (r : Result InternedFiles Refusal) → IndexedAfter main supplementary w₁ w₂ files files₂ t m r → IndexedAfter main supplementary w w₂ files files₂ t m r
+    grown-from : (w₂ files files₂ : List ℕ) (m : ℕ) (r : Result InternedFiles Refusal) → IndexedAfter main supplementary w₁ w₂ files files₂ t base m r
+        → IndexedAfter main supplementary w w₂ files files₂ t base m r
     grown-from w₂ files files₂ m (Err e) a = tt
     grown-from w₂ files files₂ m (Ok x) a = (grown-after F (but_one P.rest) table-clear a.0, a.1)
 

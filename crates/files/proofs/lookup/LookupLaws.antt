@@ -2,10 +2,11 @@
 use Prim.Native.Nat.{ℕ, zero, suc, ◌+◌, ◌-◌, ◌<◌}
 use native.Mathlib.Omega.{arith}
 use mathlib.Core.Path.{◌≡◌, refl, sym, ap, ◌∙◌}
-use mathlib.Core.Bool.{Bool, true, false, cond}
+use mathlib.Core.Bool.{Bool, true, false}
 use mathlib.Core.List.{List, [], ◌∷◌, map}
 use mathlib.Core.Option.{Option, none, some}
 use lib.Dec.{leb}
+use borrow.Author.Tests.{ne_eqb}
 use lib.ListN.{length, drop}
 use Rattle.tlv.specs.declared.model.FileIndex.{FileIndex}
 use Rattle.std.specs.Prelude.{Some, None, Result, Ok, Err}
@@ -29,13 +30,13 @@ use Rattle.access.specs.Access.{NextOwn}
 use Rattle.access.proofs.OwnLaws.{own-placed}
 use Rattle.access.proofs.UnitFacts.{unit-files}
 use Rattle.paths.specs.Paths.{file_entry}
-use Rattle.lines.specs.Files.{FileTable, FileIndices, file_index, place_of, get}
+use Rattle.lines.specs.Files.{FileTable, file_index, place_of, get}
 use Rattle.files.specs.declared.index.FileNumber.{FileNumber}
 use Rattle.files.specs.declared.pieces.FilePieces.{FilePieces}
 use Rattle.files.specs.declared.spans.FileUnit.{FileUnit}
 use Rattle.files.specs.declared.store.StoredFiles.{StoredFiles}
 use Rattle.files.specs.declared.store.LaidHash.{LaidHash}
-use Rattle.files.specs.Pieces.{span_in, file_in, header_here, UnitPlaced, FileUnitIn, named_of, Pieced}
+use Rattle.files.specs.Pieces.{span_in, file_in, header_here, counted_from, UnitPlaced, FileUnitIn, named_of, Pieced}
 use Rattle.files.specs.Store.{scratch_from, extent, entries_of, table_of, FilesIn, LaidAt, found_of}
 use Rattle.files.specs.Indices.{number_of}
 use Rattle.files.specs.Reached.{number_in, reached_indices, own_file, NthFile, Found, nth_number, LookedUp}
@@ -163,44 +164,29 @@ module _ {s : List ℕ} {u : FileUnit} {n : ℕ} {f : FieldSpan} (U : UnitPlaced
 
 -- ---- the number of one of DWARF's
 
-reached-is : (u : CompilationUnit) (h : LineHeader) (t : FileTable) (k : ℕ) (b : Bool) → leb h.version 4 ≡ b
-    → get (reached_indices u h t) k ≡ get (cond b (none ∷ map (λ f. number_in t (file_entry u h f)) u.files) (map (λ f. number_in t (file_entry u h f)) u.files)) k
-unfolding reached_indices
-reached-is u h t k b e = rw e
+-- the number of the file at a place, or of none
+abbrev counted_number : CompilationUnit → LineHeader → FileTable → std.Option ℕ → Option FileIndex
+counted_number u h t None = none
+counted_number u h t (Some k) = nth_number u h t k
 
-get-next : (is : FileIndices) (n : ℕ) → (n ≡ 0 → ⊥) → get (none ∷ is) n ≡ get is (n - 1)
-unfolding get
-get-next is zero h = absurd (h refl)
-get-next is (suc n) h = let z : suc n - 1 ≡ n = omega arith in rw z
+reached-is : (u : CompilationUnit) (h : LineHeader) (t : FileTable) (n : ℕ) → get (reached_indices u h t) n ≡ counted_number u h t (counted_from h.version n)
+unfolding reached_indices counted_from nth_number get
+reached-is u h t n = go (leb h.version 4) n refl
+  where
+    go : (b : Bool) (n : ℕ) → leb h.version 4 ≡ b → get (reached_indices u h t) n ≡ counted_number u h t (counted_from h.version n)
+    go true zero e = rw e
+    go true (suc n) e = let z : suc n - 1 ≡ n = omega arith in rw (e, ne_eqb (suc n) 0 (λ z. absurd (omega arith)), z)
+    go false n e = rw e
 
-module _ {main supplementary w : List ℕ} {t : StoredFiles} {s : List ℕ} {u : FileUnit} {number : FileNumber} (U : FileUnitIn s w u) {old : Bool} (eo : old ≡ leb u.version 4) where
-  pub looked-zero : FilesIn main supplementary w t → old ≡ true → number.0 ≡ 0 → LookedUp main supplementary w w t s u number None
-  unfolding get
-  looked-zero F o z = record {
-    is = sym (reached-is (unit_here s u.place) (header_here s u.place) (table_of main supplementary w t) number.0 true (rw (← U.version) (sym eo ∙ o)) ∙ rw z);
-    same = refl;
-    holds = F;
-    rest = kept_refl w t.base (extent t);
-  }
+module _ {w s : List ℕ} {u : FileUnit} (U : FileUnitIn s w u) where
+  looked-is : (T : FileTable) (n : ℕ) {o : std.Option ℕ} → o ≡ counted_from u.version n
+      → get (reached_indices (unit_here s u.place) (header_here s u.place) T) n ≡ counted_number (unit_here s u.place) (header_here s u.place) T o
+  looked-is T n e = rw (e, U.version) (reached-is (unit_here s u.place) (header_here s u.place) T n)
+
+  pub looked-none : {main supplementary : List ℕ} {t : StoredFiles} {number : FileNumber} → FilesIn main supplementary w t → None ≡ counted_from u.version number.0 → LookedUp main supplementary w w t s u number None
+  looked-none {main} {supplementary} {t} {number} F e = record { is = sym (looked-is (table_of main supplementary w t) number.0 e); same = refl; holds = F; rest = kept_refl w t.base (extent t) }
 
   -- looked up in the sheet of the unit's source
-  module _ {w' s' : List ℕ} {r : std.Option FileIndex} (e : s' ≡ s) where
-    pub looked-before : old ≡ true → (number.0 ≡ 0 → ⊥)
-        → Found main supplementary w w' t (nth_number (unit_here s' u.place) (header_here s' u.place) (table_of main supplementary w t) (number.0 - 1)) r → LookedUp main supplementary w w' t s u number r
-    unfolding nth_number
-    looked-before o ne A = record {
-      is = (rw e at A.is) ∙ sym (reached-is (unit_here s u.place) (header_here s u.place) (table_of main supplementary w t) number.0 true (rw (← U.version) (sym eo ∙ o)) ∙ get-next _ number.0 ne);
-      same = A.same;
-      holds = A.holds;
-      rest = A.rest;
-    }
-
-    pub looked-from : old ≡ false → Found main supplementary w w' t (nth_number (unit_here s' u.place) (header_here s' u.place) (table_of main supplementary w t) number.0) r
-        → LookedUp main supplementary w w' t s u number r
-    unfolding nth_number
-    looked-from o A = record {
-      is = (rw e at A.is) ∙ sym (reached-is (unit_here s u.place) (header_here s u.place) (table_of main supplementary w t) number.0 false (rw (← U.version) (sym eo ∙ o)));
-      same = A.same;
-      holds = A.holds;
-      rest = A.rest;
-    }
+  pub looked-some : {main supplementary w' s' : List ℕ} {t : StoredFiles} {number : FileNumber} {r : std.Option FileIndex} (k : ℕ) → s' ≡ s → Some k ≡ counted_from u.version number.0
+      → Found main supplementary w w' t (nth_number (unit_here s' u.place) (header_here s' u.place) (table_of main supplementary w t) k) r → LookedUp main supplementary w w' t s u number r
+  looked-some {main} {supplementary} {t = t} {number = number} k e c A = record { is = (rw e at A.is) ∙ sym (looked-is (table_of main supplementary w t) number.0 c); same = A.same; holds = A.holds; rest = A.rest }

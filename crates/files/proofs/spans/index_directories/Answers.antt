@@ -23,8 +23,8 @@ overflow_add-n c = let room : c.args.base + c.loop-field.n * 8 + 8 ≤ length c.
 pub loop-field-preserved : goal.loop-field-preserved
 loop-field-preserved c = search (listing_step, (rw c.from.ensures at c.write.ensures), c.in-Some.ensures)
 
-pub returns : goal.returns
-returns c = search (listing-done, c.in_default.ensures)
+pub returns-clause-directories_in : goal.returns-clause-directories_in
+returns-clause-directories_in c = rw c.new.ensures.counted (search (listing-done, c.in_default.ensures))
 
 pub loop-field-init : goal.loop-field-init
 loop-field-init c = search listing_start

@@ -8,12 +8,13 @@ compilation_span-compilation-requires c = rw c.of-s.ensures (unit-next c.require
 pub header_version-version-requires : goal.header_version-version-requires
 header_version-version-requires c = rw c.of-s.ensures (unit-next c.requires.unit_placed)
 
-pub index_directories-count-requires-clause-placed : goal.index_directories-count-requires-clause-placed
-index_directories-count-requires-clause-placed c = rw c.of-s.ensures (unit-next c.requires.unit_placed)
+pub index_directories-directories-requires-clause-placed : goal.index_directories-directories-requires-clause-placed
+index_directories-directories-requires-clause-placed c = rw c.of-s.ensures (unit-next c.requires.unit_placed)
 
-pub index_directories-count-requires-clause-spans_fit : goal.index_directories-count-requires-clause-spans_fit
-index_directories-count-requires-clause-spans_fit c = rw c.of-s.ensures (directories-room c.requires.unit_placed _ _ c.requires.spans_fit)
+pub index_directories-directories-requires-clause-spans_fit : goal.index_directories-directories-requires-clause-spans_fit
+index_directories-directories-requires-clause-spans_fit c = rw c.of-s.ensures (directories-room c.requires.unit_placed _ _ c.requires.spans_fit)
 
 pub returns : goal.returns
-returns c = described c.requires.unit_placed c.args.source _ c.new.ensures.based c.new.ensures.counted (rw c.of-s.ensures at c.header_version-version.ensures)
-    (rw c.of-s.ensures at c.compilation_span-compilation.ensures) (rw c.of-s.ensures at c.index_directories-count.ensures)
+returns c = described c.requires.unit_placed c.args.source _ c.index_directories-directories.ensures.based
+    (rw c.of-s.ensures at c.header_version-version.ensures) (rw c.of-s.ensures at c.compilation_span-compilation.ensures)
+    (rw c.of-s.ensures at c.index_directories-directories.ensures.directories_in)

@@ -30,4 +30,4 @@ pub returns-in_err-added : goal.returns-in_err-added
 returns-in_err-added c = rw (handed _ _ c.from_residual.ensures.1) (interning-refused c.loop-field.invariant (rw c.of-s.ensures at c.in-Some.ensures) (rw c.from-file.ensures at c.in_err-added.ensures))
 
 pub returns : goal.returns
-returns c = search (interning_over, (rw c.of-s.ensures at c.in_default.ensures))
+returns c = interning_over c.loop-field.invariant c.new.ensures.based c.new.ensures.counted (rw c.of-s.ensures at c.in_default.ensures)
